@@ -1,0 +1,87 @@
+use crate::{Boxed, List, Span, Text};
+use std::alloc::{AllocError, Global};
+
+/// A type that contains itself through a `List` and a `Boxed`.
+#[derive(Debug, PartialEq, Eq, Drop)]
+struct Tree {
+    name: Text,
+    span: Span,
+    first: Option<Boxed<Tree>>,
+    others: List<Tree>,
+}
+
+fn leaf(alloc: Global, name: &str) -> Result<Tree, AllocError> {
+    Ok(Tree {
+        name: Text::from_str(alloc, name)?,
+        span: Span { from: 0, to: 1 },
+        first: None,
+        others: List::new(alloc),
+    })
+}
+
+/// A node over three leaves, one in the box and two in the list.
+fn four_nodes(alloc: Global, last: &str) -> Result<Tree, AllocError> {
+    let mut node = leaf(alloc, "a")?;
+    node.first = Some(Boxed::new(alloc, leaf(alloc, "b")?)?);
+    let mut others = List::new(alloc);
+    others.push(leaf(alloc, "c")?)?;
+    others.push(leaf(alloc, last)?)?;
+    node.others = others;
+    Ok(node)
+}
+
+/// Whether a name stands in the tree, by recursion through the box and the list.
+fn has_name(tree: &Tree, name: &str) -> bool {
+    if tree.name.as_str() == name {
+        return true;
+    }
+    if let Some(first) = &tree.first {
+        if has_name(first.get(), name) {
+            return true;
+        }
+    }
+    for other in tree.others.as_slice() {
+        if has_name(other, name) {
+            return true;
+        }
+    }
+    false
+}
+
+#[test]
+fn trees_hold_themselves(rt: HostRuntime) {
+    match (
+        four_nodes(rt.alloc(), "d"),
+        four_nodes(rt.alloc(), "d"),
+        four_nodes(rt.alloc(), "e"),
+    ) {
+        (Ok(one), Ok(same), Ok(other)) => {
+            assert!(rt; one == same);
+            assert!(rt; one != other);
+            assert!(rt; has_name(&one, "b") && has_name(&one, "d"));
+            assert!(rt; !has_name(&one, "e") && has_name(&other, "e"));
+            assert_eq!(rt; one.others.len(), 2);
+            assert!(rt; !one.others.is_empty());
+        }
+        _ => assert!(rt; false),
+    }
+}
+
+/// Whether a list, a box and a text equal their copies.
+fn copies_agree(alloc: Global) -> Result<bool, AllocError> {
+    let mut list: List<u32> = List::new(alloc);
+    list.push(7)?;
+    let list_copy = list.clone()?;
+    let boxed = Boxed::new(alloc, 8_u32)?;
+    let box_copy = boxed.clone()?;
+    let text = Text::from_str(alloc, "née")?;
+    let text_copy = text.clone()?;
+    let from_string = Text::from_string(String::from_str(alloc, "née")?);
+    let same = list == list_copy && boxed == box_copy && text == text_copy && text == from_string;
+    Ok(same && text.as_str().len() == 4 && boxed.into_inner() == 8)
+}
+
+#[test]
+fn copies_are_equal(rt: HostRuntime) {
+    assert!(rt; copies_agree(rt.alloc()) == Ok(true));
+}
