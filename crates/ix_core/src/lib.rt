@@ -1,0 +1,23 @@
+//! The plain form of a program: what the checker judges and the machine runs.
+//!
+//! What goes in: nothing; these are the types that the checker, the machine and their texts share, and the definitions over them.
+//! The contract: one definition of each notion, cited by every crate above.
+//! It stands on `ix_num` for arithmetic and on `ix_text` for texts and lists.
+//! It never looks at a source's tokens or tree.
+#![tactic(auto)]
+
+mod claim;
+mod code;
+mod error;
+mod fact;
+mod op;
+mod outcome;
+mod program;
+
+pub use claim::{Base, Claim, Name, Off, Type_};
+pub use code::{Block, Cond, Item};
+pub use error::{Detail, Error, Subject};
+pub use fact::{Fact, Path, PathClaim, PathOff, Profile};
+pub use op::{Arg, CallOp, Literal, Op, OpKind, Test, UnaryNum};
+pub use outcome::{Outcome, Value};
+pub use program::{Class, Field, Local, Method, Program};

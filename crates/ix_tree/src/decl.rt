@@ -1,0 +1,54 @@
+//! Declarations: of variables (JLS 8.3, 8.4.1, 14.4), methods and constructors (JLS 8.4, 8.8), classes (JLS 8.1) and whole sources (JLS 7.3).
+
+use crate::annot::{Ident, Mods, TypeTree};
+use crate::expr::{Expr, Init};
+use crate::stmt::Stmt;
+use ix_text::{List, Span};
+
+/// The declaration of one field, parameter or local.
+#[derive(Drop)]
+pub struct LocalDecl {
+    /// The modifiers. An annotation here is on an int or on the elements of an array.
+    pub mods: Mods,
+    pub ty: TypeTree,
+    pub name: Ident,
+    pub init: Option<Init>,
+}
+
+/// The declaration of a method or a constructor.
+#[derive(Drop)]
+pub struct MethodDecl {
+    pub mods: Mods,
+    /// The type of the result; none for `void` and for a constructor.
+    pub result: Option<TypeTree>,
+    pub constructor: bool,
+    pub name: Ident,
+    pub params: List<LocalDecl>,
+    /// The arguments of `super(..)`, where a constructor has that line.
+    pub parent_args: Option<List<Expr>>,
+    pub body: List<Stmt>,
+    pub span: Span,
+}
+
+/// A member of a class; a field's declaration gives one for each declarator.
+#[derive(Drop)]
+pub enum Member {
+    Field(LocalDecl),
+    Method(MethodDecl),
+}
+
+/// The declaration of a class.
+#[derive(Drop)]
+pub struct ClassDecl {
+    pub name: Ident,
+    /// The class that it extends.
+    pub parent: Option<Ident>,
+    pub members: List<Member>,
+    pub span: Span,
+}
+
+/// A whole source. Package and import lines leave no node.
+#[derive(Drop)]
+pub struct Unit {
+    pub classes: List<ClassDecl>,
+}
