@@ -1,0 +1,92 @@
+//! The tokens that are still to be read, and the rules for single tokens.
+ghost use Rattle.std.specs.Prelude.{◌≡◌, ◌≢◌, ◌<◌, length, OnOk};
+ghost use Rattle.ix_parser.specs.Descent as spec;
+ghost use Rattle.ix_parser.specs.Descent.{Reads};
+
+use crate::error::Stop;
+use ix_lexer::{Token, TokenKind};
+use ix_text::{Span, Text};
+use ix_tree::Ident;
+use std::alloc::Global;
+use std::marker::Model;
+
+/// The tokens that are still to be read, of which rules take the first ones.
+#[derive(Drop)]
+pub(crate) struct Cursor<'a> {
+    rest: &'a [Token],
+}
+
+impl<'a> Model for Cursor<'a> {
+    ghost use Rattle.std.specs.Prelude.{List};
+    ghost use Rattle.ix_lexer.specs.declared.token.Token.{Token};
+
+    ghost Value = { List Token };
+
+    ghost view = { λ cursor. cursor.rest.now };
+}
+
+impl<'a> Cursor<'a> {
+    pub(crate) fn new(rest: &'a [Token]) -> Cursor<'a>
+        ensures { result ≡ rest.now }
+    {
+        Cursor { rest }
+    }
+
+    /// How many tokens are left.
+    pub(crate) fn left(&self) -> usize
+        ensures { result ≡ length self.now }
+    {
+        self.rest.len()
+    }
+
+    /// Whether the next token is the keyword or sign of that number.
+    pub(crate) fn sees(&self, fixed: u8) -> bool
+        ensures { result ≡ spec.sees fixed self.now }
+    {
+        match self.rest {
+            [] => false,
+            [token, ..] => match token.kind {
+                TokenKind::Fixed(number) => number == fixed,
+                _ => false,
+            },
+        }
+    }
+
+    /// Takes the keyword or sign of that number.
+    pub(crate) fn expect(&mut self, fixed: u8) -> Result<Span, Stop>
+        ensures reads { Reads (spec.fixed fixed self.old) result self.new }
+        ensures shorter { OnOk result (length self.new < length self.old) }
+    {
+        match self.rest {
+            [] => Err(Stop::Syntax),
+            [token, later @ ..] => match token.kind {
+                TokenKind::Fixed(number) if number == fixed => {
+                    self.rest = later;
+                    Ok(token.span)
+                }
+                _ => Err(Stop::Syntax),
+            },
+        }
+    }
+
+    /// Takes an identifier.
+    pub(crate) fn ident(&mut self, alloc: Global) -> Result<Ident, Stop>
+        ensures reads { Reads (spec.ident self.old) result self.new }
+        ensures shorter { OnOk result (length self.new < length self.old) }
+    {
+        match self.rest {
+            [] => Err(Stop::Syntax),
+            [token, later @ ..] => match &token.kind {
+                TokenKind::Ident(text) => {
+                    let text = Text::from_str(alloc, text.as_str())?;
+                    self.rest = later;
+                    Ok(Ident {
+                        text,
+                        span: token.span,
+                    })
+                }
+                _ => Err(Stop::Syntax),
+            },
+        }
+    }
+}

@@ -1,0 +1,42 @@
+//! Why tokens have no tree.
+
+use std::alloc::{AllocError, AllocFailed};
+
+/// Why tokens have no tree.
+#[derive(Clone, Copy, Debug, PartialEq, Eq)]
+pub enum ParseError {
+    /// The tokens are no source of the language. The number is that of the token at which reading stopped, from 0, or the number of tokens
+    /// where it stopped at their end.
+    Syntax(u32),
+    /// Want of memory.
+    Memory,
+}
+
+/// Why a rule read no node: the next token doesn't go on with the rule, or want of memory.
+#[derive(Clone, Copy, Debug, PartialEq, Eq)]
+pub(crate) enum Stop {
+    Syntax,
+    Memory,
+}
+
+impl From<AllocError> for Stop {
+    ghost use Rattle.std.specs.Prelude.{◌≡◌};
+    ghost use Rattle.ix_parser.specs.declared.error.Stop.TheVariants.{Memory};
+
+    ghost from_gives = { λ _ stop. stop ≡ Memory };
+
+    fn from(_error: AllocError) -> Stop {
+        Stop::Memory
+    }
+}
+
+impl<T: Drop> From<AllocFailed<T>> for Stop {
+    ghost use Rattle.std.specs.Prelude.{◌≡◌};
+    ghost use Rattle.ix_parser.specs.declared.error.Stop.TheVariants.{Memory};
+
+    ghost from_gives = { λ _ stop. stop ≡ Memory };
+
+    fn from(_error: AllocFailed<T>) -> Stop {
+        Stop::Memory
+    }
+}
