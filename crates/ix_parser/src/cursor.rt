@@ -5,8 +5,8 @@ ghost use Rattle.ix_parser.specs.Descent.{Reads};
 
 use crate::error::Stop;
 use ix_lexer::{Token, TokenKind};
-use ix_text::{Span, Text};
-use ix_tree::Ident;
+use ix_text::{List, Span, Text};
+use ix_tree::{AnnotArg, AnnotValue, Ident};
 use std::alloc::Global;
 use std::marker::Model;
 
@@ -88,5 +88,38 @@ impl<'a> Cursor<'a> {
                 _ => Err(Stop::Syntax),
             },
         }
+    }
+
+    /// Takes a string, which is the one argument of an annotation.
+    pub(crate) fn string_arg(&mut self, alloc: Global) -> Result<AnnotArg, Stop>
+        ensures reads { Reads (spec.string_arg self.old) result self.new }
+        ensures shorter { OnOk result (length self.new < length self.old) }
+    {
+        match self.rest {
+            [] => Err(Stop::Syntax),
+            [token, later @ ..] => match &token.kind {
+                TokenKind::Str(text) => {
+                    let mut texts = List::new(alloc);
+                    texts.push(Text::from_str(alloc, text.as_str())?)?;
+                    self.rest = later;
+                    Ok(AnnotArg {
+                        name: None,
+                        value: AnnotValue::Texts(texts),
+                        span: token.span,
+                    })
+                }
+                _ => Err(Stop::Syntax),
+            },
+        }
+    }
+}
+
+/// The piece of text from the first of two places to the end of the second.
+pub(crate) fn across(first: Span, last: Span) -> Span
+    ensures { result ≡ spec.across first last }
+{
+    Span {
+        from: first.from,
+        to: last.to,
     }
 }

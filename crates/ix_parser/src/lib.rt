@@ -3,5 +3,8 @@
 
 mod cursor;
 mod error;
+mod members;
+mod statements;
+mod types;
 
 pub use error::ParseError;

@@ -1,0 +1,14 @@
+use Rattle.std.proofs.Common.{◌≤◌, length}
+use Rattle.ix_lexer.specs.declared.fixed.TheConstants.{CLASS}
+use Rattle.ix_parser.specs.Descent as spec
+use Rattle.ix_parser.proofs.Repetitions.{Leads}
+use Rattle.ix_parser.proofs.members.classes.Given as goal
+
+abbrev pub invariant-reading : goal.invariant-reading
+invariant-reading l = record {
+  leads : Leads (spec.sees CLASS) spec.class_decl l.classes l.cursor (spec.classes l.initial.cursor);
+  no_longer : length l.cursor ≤ length l.initial.cursor;
+}
+
+abbrev pub decreases-reading : goal.decreases-reading
+decreases-reading l = length l.cursor

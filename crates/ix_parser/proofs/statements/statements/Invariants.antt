@@ -1,0 +1,13 @@
+use Rattle.std.proofs.Common.{◌≤◌, length}
+use Rattle.ix_parser.specs.Descent as spec
+use Rattle.ix_parser.proofs.Repetitions.{Leads}
+use Rattle.ix_parser.proofs.statements.statements.Given as goal
+
+abbrev pub invariant-reading : goal.invariant-reading
+invariant-reading l = record {
+  leads : Leads spec.starts_statement spec.statement l.statements l.cursor (spec.statements l.initial.cursor);
+  no_longer : length l.cursor ≤ length l.initial.cursor;
+}
+
+abbrev pub decreases-reading : goal.decreases-reading
+decreases-reading l = length l.cursor
