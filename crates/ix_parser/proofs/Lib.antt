@@ -1,1 +1,2 @@
 mod Repetitions
+mod Complete

@@ -22,6 +22,7 @@ use Rattle.ix_tree.specs.declared.expr.ExprKind.TheVariants.{Name, Index}
 use Rattle.ix_tree.specs.declared.expr.Init.TheVariants.{Value}
 use Rattle.ix_tree.specs.declared.stmt.Stmt.{Stmt}
 use Rattle.ix_tree.specs.declared.stmt.StmtKind.TheVariants.{Local, Return}
+use Rattle.ix_parser.specs.Nodes.{across, mods_with, int_type, name_expr}
 use Rattle.ix_parser.specs.declared.error.Stop.{Stop}
 use Rattle.ix_parser.specs.declared.error.Stop.TheVariants.{Syntax, Memory}
 
@@ -92,20 +93,6 @@ more starts item (suc turns) items tokens =
 
 abbrev pub many : {A : Type 0} → (List Token → Bool) → Parser A → List A → Parser (List A)
 many starts item items tokens = more starts item (suc (length tokens)) items tokens
-
--- ---- nodes
-
-abbrev pub across : Span → Span → Span
-across first last = record { from = first.from; to = last.to }
-
-abbrev pub mods_with : Bool → List Annot → Mods
-mods_with is_static annots = record { is_static = is_static; is_final = false; is_private = false; annots = annots }
-
-abbrev pub int_type : ℕ → Span → TypeTree
-int_type depth span = record { base = Int; annots = []; depth = depth; span = span }
-
-abbrev pub name_expr : Ident → Expr
-name_expr name = record { kind = Name name; span = name.span }
 
 -- ---- rules
 

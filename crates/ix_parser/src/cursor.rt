@@ -1,6 +1,7 @@
 //! The tokens that are still to be read, and the rules for single tokens.
 ghost use Rattle.std.specs.Prelude.{◌≡◌, ◌≢◌, ◌<◌, length, OnOk};
 ghost use Rattle.ix_parser.specs.Descent as spec;
+ghost use Rattle.ix_parser.specs.Nodes as nodes;
 ghost use Rattle.ix_parser.specs.Descent.{Reads};
 
 use crate::error::Stop;
@@ -116,7 +117,7 @@ impl<'a> Cursor<'a> {
 
 /// The piece of text from the first of two places to the end of the second.
 pub(crate) fn across(first: Span, last: Span) -> Span
-    ensures { result ≡ spec.across first last }
+    ensures { result ≡ nodes.across first last }
 {
     Span {
         from: first.from,

@@ -1,6 +1,7 @@
 //! Expressions, statements and blocks.
 ghost use Rattle.std.specs.Prelude.{◌≡◌, ◌≢◌, ◌<◌, ◌≤◌, length, OnOk, IfOk};
 ghost use Rattle.ix_parser.specs.Descent as spec;
+ghost use Rattle.ix_parser.specs.Nodes as nodes;
 ghost use Rattle.ix_parser.specs.Descent.{Reads};
 
 use crate::cursor::{Cursor, across};
@@ -15,7 +16,7 @@ use std::alloc::Global;
 
 /// The expression that a name is.
 fn name_expr(name: Ident) -> Expr
-    ensures { result ≡ spec.name_expr name }
+    ensures { result ≡ nodes.name_expr name }
 {
     let span = name.span;
     Expr {

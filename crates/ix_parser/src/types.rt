@@ -1,6 +1,7 @@
 //! Annotations, types and parameters.
 ghost use Rattle.std.specs.Prelude.{◌≡◌, ◌≢◌, ◌<◌, ◌≤◌, length, OnOk};
 ghost use Rattle.ix_parser.specs.Descent as spec;
+ghost use Rattle.ix_parser.specs.Nodes as nodes;
 ghost use Rattle.ix_parser.specs.Descent.{Reads};
 
 use crate::cursor::{Cursor, across};
@@ -88,7 +89,7 @@ fn param(alloc: Global, cursor: &mut Cursor<'_>) -> Result<LocalDecl, Stop>
 
 /// The modifiers of a declaration with these annotations that is static or without modifier.
 pub(crate) fn plain_mods(is_static: bool, annots: List<Annot>) -> Mods
-    ensures { result ≡ spec.mods_with is_static annots }
+    ensures { result ≡ nodes.mods_with is_static annots }
 {
     Mods {
         is_static,
