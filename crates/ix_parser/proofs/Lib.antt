@@ -1,2 +1,4 @@
 mod Repetitions
 mod Complete
+mod Sound
+mod OneTree
