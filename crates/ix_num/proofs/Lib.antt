@@ -1,1 +1,3 @@
 pub mod LowBits
+pub mod Ends
+pub mod Casts
