@@ -1,3 +1,4 @@
 pub mod LowBits
 pub mod Ends
 pub mod Casts
+pub mod Members

@@ -3,7 +3,8 @@
 ghost use Rattle.std.specs.Prelude.{◌≡◌, ◌↔◌, ◌⊎◌, ◌<◌, ℤ, neg_ℤ, ◌≤ℤ◌, IsTrue, IfSome};
 ghost use Rattle.ix_num.specs.Ints.{IsInt, greatest_int};
 ghost use Rattle.ix_num.specs.Arithmetic.{exact_of, java_of, flip_of, shift_distance};
-ghost use Rattle.ix_num.specs.Intervals.{Includes, IsWithin, IsEmpty, IsIntRange, all_ints, includes, is_empty, meet_of, hull_of, neg_of, not_of};
+ghost use Rattle.ix_num.specs.Intervals.{Includes, IsWithin, IsEmpty, IsIntRange, all_ints, includes, is_empty, normal, meet_of, hull_of, neg_of, not_of};
+ghost use Rattle.ix_num.specs.declared.interval.Interval.{Interval};
 ghost use Rattle.ix_num.specs.OpRanges.{op_range, add_range, sub_range, mul_range, quotients_by, div_range, remainder_limit, rem_range, and_range, or_range, xor_range, shr_range, ushr_range, greatest_after, hull_of_two, has_divisor, is_single, shifted_by, remainders_within};
 
 use crate::arith::Arith;
@@ -39,37 +40,52 @@ impl Interval {
         self.lo <= n && n <= self.hi
     }
 
+    /// Whether each number of `self` is in `other`.
+    pub fn is_within(self, other: Interval) -> bool
+        ensures { IsTrue result ↔ IsWithin self other }
+    {
+        self.is_empty() || (other.lo <= self.lo && self.hi <= other.hi)
+    }
+
     /// All numbers that are in both.
     pub fn meet(self, other: Interval) -> Interval
         ensures value { result ≡ meet_of self other }
+        ensures common { (n : ℤ) → Includes result n ↔ (Includes self n × Includes other n) }
+        ensures monotone { (i j : Interval) → IsWithin i self → IsWithin j other → IsWithin (meet_of i j) result }
     {
-        let common = Interval {
-            lo: self.lo.max(other.lo),
-            hi: self.hi.min(other.hi),
-        };
-        if common.is_empty() {
+        let lo = self.lo.max(other.lo);
+        let hi = self.hi.min(other.hi);
+        Interval { lo, hi }.normal()
+    }
+
+    /// The same numbers, and `EMPTY` where there are none.
+    fn normal(self) -> Interval
+        ensures { result ≡ normal self }
+    {
+        if self.is_empty() {
             Interval::EMPTY
         } else {
-            common
+            self
         }
     }
 
     /// All numbers from the least of the two to the greatest: the least interval that encloses both.
     pub fn hull(self, other: Interval) -> Interval
         ensures value { result ≡ hull_of self other }
+        ensures left { IsWithin self result }
+        ensures right { IsWithin other result }
+        ensures least { (i : Interval) → IsWithin self i → IsWithin other i → IsWithin result i }
+        ensures monotone { (i j : Interval) → IsWithin i self → IsWithin j other → IsWithin (hull_of i j) result }
     {
-        if self.is_empty() && other.is_empty() {
-            return Interval::EMPTY;
-        }
         if self.is_empty() {
-            return other;
-        }
-        if other.is_empty() {
-            return self;
-        }
-        Interval {
-            lo: self.lo.min(other.lo),
-            hi: self.hi.max(other.hi),
+            other.normal()
+        } else if other.is_empty() {
+            self
+        } else {
+            Interval {
+                lo: self.lo.min(other.lo),
+                hi: self.hi.max(other.hi),
+            }
         }
     }
 
@@ -77,6 +93,8 @@ impl Interval {
     pub fn neg(self) -> Interval
         requires { IsWithin self all_ints }
         ensures value { result ≡ neg_of self }
+        ensures negated { (n : ℤ) → Includes result n ↔ Includes self (neg_ℤ n) }
+        ensures monotone { (i : Interval) → IsWithin i self → IsWithin (neg_of i) result }
     {
         if self.is_empty() {
             return Interval::EMPTY;
@@ -90,6 +108,8 @@ impl Interval {
     /// All flipped numbers: `~n`, which is `-n - 1`, of each n.
     pub fn not(self) -> Interval
         ensures value { result ≡ not_of self }
+        ensures flipped { (n : ℤ) → Includes result n ↔ Includes self (flip_of n) }
+        ensures monotone { (i : Interval) → IsWithin i self → IsWithin (not_of i) result }
     {
         if self.is_empty() {
             return Interval::EMPTY;
