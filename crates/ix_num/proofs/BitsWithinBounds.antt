@@ -1,13 +1,13 @@
 -- What the bit operations, the shifts and the remainder give lies within bounds.
-use Rattle.std.proofs.Common.{◌≡◌, ℕ, suc, ℤ, pos, negsuc, neg_ℤ, ◌+◌, ◌-◌, ◌*◌, ◌/◌, ◌%◌, ◌^◌, ◌≤◌, ◌<◌, ◌≤ℤ◌, ◌<ℤ◌, ◌-ℤ◌, int_rem, unsigned_abs, bit_and, bit_or, bit_xor, arith, to_z, of_z, ◌+ℤ◌, ⊎_elim, subst}
+use Rattle.std.proofs.Common.{◌≡◌, ℕ, suc, ℤ, pos, negsuc, neg_ℤ, ◌+◌, ◌-◌, ◌/◌, ◌^◌, ◌≤◌, ◌<◌, ◌≤ℤ◌, int_rem, unsigned_abs, bit_and, bit_or, bit_xor, arith, to_z, of_z, ◌+ℤ◌, ⊎_elim, subst}
 use Rattle.std.specs.Int.{w32, int_min, int_max, int_shr, int_bit_and, int_bit_or, int_bit_xor}
 use Rattle.std.proofs.lemmas.Nat.{mod_below, and_le_l, and_le_r, or_of_32, xor_of_32, or_lt, xor_lt, le_or_l, le_or_r, shr_le, pow_pos, shr_below}
 use Rattle.std.proofs.lemmas.Bool.{cases_lt}
 use Rattle.std.proofs.Math.Nat.{pow-le-pow_right, mod-le}
 use Rattle.ix_num.specs.OpRanges.{greatest_after}
 use Rattle.std.proofs.lemmas.Int.{ints, clamps, to_z_pos}
-use Rattle.ix_num.specs.Ints.{IsInt, least_int, greatest_int}
-use Rattle.ix_num.specs.Intervals.{Includes, interval, all_ints}
+use Rattle.ix_num.specs.Ints.{IsInt, greatest_int}
+use Rattle.ix_num.specs.Intervals.{Includes, interval}
 use Rattle.ix_num.proofs.LowBits.{signed_high}
 use Rattle.ix_num.proofs.QuotientsKeepOrder.{div_dividend}
 

@@ -6,3 +6,5 @@ pub mod ProductsKeepOrder
 pub mod QuotientsKeepOrder
 pub mod BitsWithinBounds
 pub mod RowsInclude
+pub mod RowsAreMonotone
+pub mod OpRangeLaws

@@ -1,6 +1,6 @@
 -- Each row of the table includes every result of operands that its intervals include.
-use Rattle.std.proofs.Common.{◌≡◌, ◌⊎◌, inl, inr, true, false, refl, ℕ, suc, zero, ℤ, pos, negsuc, neg_ℤ, ◌+ℤ◌, ◌-ℤ◌, ◌*ℤ◌, ◌-◌, nat_lt, ◌≤ℤ◌, ◌<ℤ◌, ◌&&◌, not, ◌<◌, ◌≤◌, ◌/◌, ◌%◌, ◌^◌, int_div, int_rem, int_lt, int_le, unsigned_abs, IfSome, arith, sym, ◌∙◌, to_z, of_z, subst, Some, None}
-use Rattle.std.specs.Int.{w32, int_min, int_max, int_shr, int_bit_and, int_bit_or, int_bit_xor}
+use Rattle.std.proofs.Common.{◌≡◌, ◌⊎◌, inl, inr, true, false, ℕ, suc, zero, ℤ, pos, negsuc, ◌+ℤ◌, ◌*ℤ◌, ◌-◌, nat_lt, ◌≤ℤ◌, ◌<ℤ◌, ◌<◌, ◌≤◌, ◌/◌, ◌^◌, int_div, int_rem, int_lt, int_le, unsigned_abs, IfSome, arith, to_z, of_z, subst}
+use Rattle.std.specs.Int.{w32, int_shr, int_bit_and, int_bit_or, int_bit_xor}
 use Rattle.std.specs.Ordering.{int_eq}
 use Rattle.std.proofs.lemmas.Int.{ints, clamps, by_lt_z, SFits-int_wrap}
 use Rattle.std.proofs.lemmas.Bool.{and_from, not_from_false, false_from_ne_true, cond-true, cases_Bool, both_ways, ltb-true}
@@ -8,9 +8,9 @@ use Rattle.std.proofs.lemmas.Bool.Decides.{Decides-int_eq}
 use Rattle.ix_num.specs.declared.interval.Interval.{Interval}
 use Rattle.ix_num.specs.declared.arith.Arith.{Arith}
 use Rattle.ix_num.specs.declared.arith.Arith.TheVariants.{Add, Sub, Mul, Div, Rem, And, Or, Xor, Shl, Shr, Ushr}
-use Rattle.ix_num.specs.Ints.{IsInt, least_int, greatest_int}
+use Rattle.ix_num.specs.Ints.{IsInt}
 use Rattle.ix_num.specs.Arithmetic.{exact_of, shift_distance, wrap_of}
-use Rattle.ix_num.specs.Intervals.{Includes, IsWithin, IsIntRange, interval, no_numbers, includes, hull_of, all_ints}
+use Rattle.ix_num.specs.Intervals.{Includes, IsWithin, IsIntRange, hull_of}
 use Rattle.ix_num.specs.OpRanges.{hull_of_two, mul_range, has_divisor, quotients_by, div_range, rem_range, remainder_limit, and_range, or_range, xor_range, shr_range, ushr_range, row_of, is_natural, is_single}
 use Rattle.ix_num.proofs.Members.{hull_left, hull_right}
 use Rattle.ix_num.proofs.ProductsKeepOrder.{product_between_left, product_between_right}
@@ -37,7 +37,10 @@ mul_includes x y m n p q =
 
 -- ---- `/`
 
-test_false : (a b : ℤ) → b ≤ℤ a → int_lt a b ≡ false
+pub test_true : (a b : ℤ) → a ≤ℤ b → int_le a b ≡ true
+test_true a b h = grind (arith, ints)
+
+pub test_false : (a b : ℤ) → b ≤ℤ a → int_lt a b ≡ false
 test_false a b h = grind (arith, ints)
 
 pub has_divisor_from : (y : Interval) (d : ℤ) → Includes y d → (d ≡ pos 0 → ⊥) → has_divisor y d ≡ true
@@ -87,13 +90,13 @@ module _ (x y : Interval) where
 between_divisors_positive : (h x : Interval) (n k m : ℕ) → 0 < n → n ≤ k → k ≤ m → TakesQuotients h x (pos n) → TakesQuotients h x (pos m) → TakesQuotients h x (pos k)
 between_divisors_positive h x n k m some from to p q = record {
   low = between_two h _ _ _ p.low q.low (quotient_between_positive x.lo n k m some from to);
-  high = between_two h _ _ _ p.high q.high (quotient_between_positive x.hi n k m some from to)
+  high = between_two h _ _ _ p.high q.high (quotient_between_positive x.hi n k m some from to);
 }
 
 between_divisors_negative : (h x : Interval) (n k m : ℕ) → n ≤ k → k ≤ m → TakesQuotients h x (negsuc n) → TakesQuotients h x (negsuc m) → TakesQuotients h x (negsuc k)
 between_divisors_negative h x n k m from to p q = record {
   low = between_two h _ _ _ p.low q.low (quotient_between_negative x.lo n k m from to);
-  high = between_two h _ _ _ p.high q.high (quotient_between_negative x.hi n k m from to)
+  high = between_two h _ _ _ p.high q.high (quotient_between_negative x.hi n k m from to);
 }
 
 -- the number of a natural, and of a negative number
@@ -108,34 +111,34 @@ positive_covered x y k p =
     let h = div_range x y in
     let top = as_natural y.hi (omega (arith, ints, p.to)) in
     let by_top : TakesQuotients h x (pos (unsigned_abs y.hi)) =
-        subst (λ d. TakesQuotients h x d) top (high_divisor x y (has_divisor_from y y.hi (record { from = omega (arith, ints, p.from, p.to); to = omega (arith, ints) }) (λ e. absurd (omega (arith, ints, p.to, e))))) in
+    subst (λ d. TakesQuotients h x d) top (high_divisor x y (has_divisor_from y y.hi (record { from = omega (arith, ints, p.from, p.to); to = omega (arith, ints) }) (λ e. absurd (omega (arith, ints, p.to, e))))) in
     let below_top : suc k ≤ unsigned_abs y.hi = omega (arith, ints, p.to) in
     by_lt_z (pos 0) y.lo
     (λ positive.
-      let bottom = as_natural y.lo (omega (arith, ints)) in
-      let by_bottom : TakesQuotients h x (pos (unsigned_abs y.lo)) =
-          subst (λ d. TakesQuotients h x d) bottom (low_divisor x y (has_divisor_from y y.lo (record { from = omega (arith, ints); to = omega (arith, ints, p.from, p.to) }) (λ e. absurd (omega (arith, ints, e))))) in
-      between_divisors_positive h x (unsigned_abs y.lo) (suc k) (unsigned_abs y.hi) (omega (arith, ints)) (omega (arith, ints, p.from)) below_top by_bottom by_top)
+    let bottom = as_natural y.lo (omega (arith, ints)) in
+    let by_bottom : TakesQuotients h x (pos (unsigned_abs y.lo)) =
+    subst (λ d. TakesQuotients h x d) bottom (low_divisor x y (has_divisor_from y y.lo (record { from = omega (arith, ints); to = omega (arith, ints, p.from, p.to) }) (λ e. absurd (omega (arith, ints, e))))) in
+    between_divisors_positive h x (unsigned_abs y.lo) (suc k) (unsigned_abs y.hi) (omega (arith, ints)) (omega (arith, ints, p.from)) below_top by_bottom by_top)
     (λ not_positive.
-      let by_one = one_divisor x y (has_divisor_from y (pos 1) (record { from = omega (arith, ints); to = omega (arith, ints, p.to) }) (λ e. absurd (omega (arith, ints, e)))) in
-      between_divisors_positive h x 1 (suc k) (unsigned_abs y.hi) (omega arith) (omega arith) below_top by_one by_top)
+    let by_one = one_divisor x y (has_divisor_from y (pos 1) (record { from = omega (arith, ints); to = omega (arith, ints, p.to) }) (λ e. absurd (omega (arith, ints, e)))) in
+    between_divisors_positive h x 1 (suc k) (unsigned_abs y.hi) (omega arith) (omega arith) below_top by_one by_top)
 
 negative_covered : (x y : Interval) (k : ℕ) → Includes y (negsuc k) → TakesQuotients (div_range x y) x (negsuc k)
 negative_covered x y k p =
     let h = div_range x y in
     let bottom = as_negative y.lo (omega (arith, ints, p.from)) in
     let by_bottom : TakesQuotients h x (negsuc (unsigned_abs y.lo - 1)) =
-        subst (λ d. TakesQuotients h x d) bottom (low_divisor x y (has_divisor_from y y.lo (record { from = omega (arith, ints); to = omega (arith, ints, p.from, p.to) }) (λ e. absurd (omega (arith, ints, p.from, e))))) in
+    subst (λ d. TakesQuotients h x d) bottom (low_divisor x y (has_divisor_from y y.lo (record { from = omega (arith, ints); to = omega (arith, ints, p.from, p.to) }) (λ e. absurd (omega (arith, ints, p.from, e))))) in
     let above_bottom : k ≤ unsigned_abs y.lo - 1 = omega (arith, ints, p.from) in
     by_lt_z y.hi (pos 0)
     (λ negative.
-      let top = as_negative y.hi negative in
-      let by_top : TakesQuotients h x (negsuc (unsigned_abs y.hi - 1)) =
-          subst (λ d. TakesQuotients h x d) top (high_divisor x y (has_divisor_from y y.hi (record { from = omega (arith, ints, p.from, p.to); to = omega (arith, ints) }) (λ e. absurd (omega (arith, ints, e))))) in
-      between_divisors_negative h x (unsigned_abs y.hi - 1) k (unsigned_abs y.lo - 1) (omega (arith, ints, p.to)) above_bottom by_top by_bottom)
+    let top = as_negative y.hi negative in
+    let by_top : TakesQuotients h x (negsuc (unsigned_abs y.hi - 1)) =
+    subst (λ d. TakesQuotients h x d) top (high_divisor x y (has_divisor_from y y.hi (record { from = omega (arith, ints, p.from, p.to); to = omega (arith, ints) }) (λ e. absurd (omega (arith, ints, e))))) in
+    between_divisors_negative h x (unsigned_abs y.hi - 1) k (unsigned_abs y.lo - 1) (omega (arith, ints, p.to)) above_bottom by_top by_bottom)
     (λ not_negative.
-      let by_minus_one = minus_one_divisor x y (has_divisor_from y (negsuc 0) (record { from = omega (arith, ints, p.from); to = omega (arith, ints) }) (λ e. absurd (omega (arith, ints, e)))) in
-      between_divisors_negative h x 0 k (unsigned_abs y.lo - 1) (omega arith) above_bottom by_minus_one by_bottom)
+    let by_minus_one = minus_one_divisor x y (has_divisor_from y (negsuc 0) (record { from = omega (arith, ints, p.from); to = omega (arith, ints) }) (λ e. absurd (omega (arith, ints, e)))) in
+    between_divisors_negative h x 0 k (unsigned_abs y.lo - 1) (omega arith) above_bottom by_minus_one by_bottom)
 
 pub div_includes : (x y : Interval) (m n : ℤ) → Includes x m → Includes y n → IfSome (exact_of Div m n) (Includes (div_range x y))
 div_includes x y m (pos zero) p q = tt
@@ -176,18 +179,21 @@ and_includes x y m n r s p q =
     let left = member_is_int x m r p in
     let right = member_is_int y n s q in
     elim (cases_natural x) [
-      inl e ↦
-        let a = and_left_bounds m n (omega (arith, ints, e.1, p.from)) left.to in
-        elim (cases_natural y) [
-          inl f ↦
-            let b = and_right_bounds m n (omega (arith, ints, f.1, q.from)) right.to in
-            rw (e.0, f.0) (record { from = a.from; to = omega (arith, ints, clamps, a.to, b.to, p.to, q.to) })
-        | inr f ↦ rw (e.0, f.0) (record { from = a.from; to = omega (arith, ints, a.to, p.to) }) ]
-    | inr e ↦ elim (cases_natural y) [
-          inl f ↦
+      | inl e ↦
+          let a = and_left_bounds m n (omega (arith, ints, e.1, p.from)) left.to in
+          elim (cases_natural y) [
+            | inl f ↦
+                let b = and_right_bounds m n (omega (arith, ints, f.1, q.from)) right.to in
+                rw (e.0, f.0) (record { from = a.from; to = omega (arith, ints, clamps, a.to, b.to, p.to, q.to) })
+            | inr f ↦ rw (e.0, f.0) (record { from = a.from; to = omega (arith, ints, a.to, p.to) })
+          ]
+      | inr e ↦ elim (cases_natural y) [
+        | inl f ↦
             let b = and_right_bounds m n (omega (arith, ints, f.1, q.from)) right.to in
             rw (e.0, f.0) (record { from = b.from; to = omega (arith, ints, b.to, q.to) })
-        | inr f ↦ let int = and_is_int m n left right in rw (e.0, f.0) (record { from = int.from; to = int.to }) ] ]
+        | inr f ↦ let int = and_is_int m n left right in rw (e.0, f.0) (record { from = int.from; to = int.to })
+      ]
+    ]
 
 pub or_includes : (x y : Interval) (m n : ℤ) → IsIntRange x → IsIntRange y → Includes x m → Includes y n → Includes (or_range x y) (int_bit_or w32 m n)
 or_includes x y m n r s p q =
@@ -195,12 +201,14 @@ or_includes x y m n r s p q =
     let right = member_is_int y n s q in
     let int = or_is_int m n left right in
     elim (cases_natural x) [
-      inl e ↦ elim (cases_natural y) [
-          inl f ↦
+      | inl e ↦ elim (cases_natural y) [
+        | inl f ↦
             let a = or_bounds m n (omega (arith, ints, e.1, p.from)) left.to (omega (arith, ints, f.1, q.from)) right.to in
             rw (e.0, f.0) (record { from = omega (arith, ints, clamps, a.from, p.from, q.from); to = a.to })
-        | inr f ↦ rw (e.0, f.0) (record { from = int.from; to = int.to }) ]
-    | inr e ↦ rw (e.0) (record { from = int.from; to = int.to }) ]
+        | inr f ↦ rw (e.0, f.0) (record { from = int.from; to = int.to })
+      ]
+      | inr e ↦ rw (e.0) (record { from = int.from; to = int.to })
+    ]
 
 pub xor_includes : (x y : Interval) (m n : ℤ) → IsIntRange x → IsIntRange y → Includes x m → Includes y n → Includes (xor_range x y) (int_bit_xor w32 m n)
 xor_includes x y m n r s p q =
@@ -208,28 +216,32 @@ xor_includes x y m n r s p q =
     let right = member_is_int y n s q in
     let int = xor_is_int m n left right in
     elim (cases_natural x) [
-      inl e ↦ elim (cases_natural y) [
-          inl f ↦ rw (e.0, f.0) (xor_bounds m n (omega (arith, ints, e.1, p.from)) left.to (omega (arith, ints, f.1, q.from)) right.to)
-        | inr f ↦ rw (e.0, f.0) (record { from = int.from; to = int.to }) ]
-    | inr e ↦ rw (e.0) (record { from = int.from; to = int.to }) ]
+      | inl e ↦ elim (cases_natural y) [
+        | inl f ↦ rw (e.0, f.0) (xor_bounds m n (omega (arith, ints, e.1, p.from)) left.to (omega (arith, ints, f.1, q.from)) right.to)
+        | inr f ↦ rw (e.0, f.0) (record { from = int.from; to = int.to })
+      ]
+      | inr e ↦ rw (e.0) (record { from = int.from; to = int.to })
+    ]
 
 -- ---- `<< >> >>>`
 
 pub cases_single : (y : Interval) → ((is_single y ≡ true) × (y.lo ≡ y.hi)) ⊎ ((is_single y ≡ false) × (y.lo ≡ y.hi → ⊥))
 cases_single y =
     elim (cases_Bool (is_single y)) [
-      inl e ↦ inl (e, (Decides-int_eq y.lo y.hi).0 e)
-    | inr e ↦ inr (e, λ same. both_ways (is_single y) e ((Decides-int_eq y.lo y.hi).1 same)) ]
+      | inl e ↦ inl (e, (Decides-int_eq y.lo y.hi).0 e)
+      | inr e ↦ inr (e, λ same. both_ways (is_single y) e ((Decides-int_eq y.lo y.hi).1 same))
+    ]
 
 pub shr_includes : (x y : Interval) (m n : ℤ) → Includes x m → Includes y n → Includes (shr_range x y) (int_shr m (shift_distance n))
 shr_includes x y m n p q =
     elim (cases_single y) [
-      inl e ↦
-        let is : n ≡ y.lo = omega (arith, ints, e.1, q.from, q.to) in
-        rw (e.0, is) (record { from = shr_up x.lo m (shift_distance y.lo) p.from; to = shr_up m x.hi (shift_distance y.lo) p.to })
-    | inr e ↦
-        let a = shr_bounds m (shift_distance n) in
-        rw (e.0) (record { from = omega (arith, ints, clamps, a.from, p.from); to = omega (arith, ints, clamps, a.to, p.to) }) ]
+      | inl e ↦
+          let is : n ≡ y.lo = omega (arith, ints, e.1, q.from, q.to) in
+          rw (e.0, is) (record { from = shr_up x.lo m (shift_distance y.lo) p.from; to = shr_up m x.hi (shift_distance y.lo) p.to })
+      | inr e ↦
+          let a = shr_bounds m (shift_distance n) in
+          rw (e.0) (record { from = omega (arith, ints, clamps, a.from, p.from); to = omega (arith, ints, clamps, a.to, p.to) })
+    ]
 
 pub distance_below : (n : ℤ) → shift_distance n < 32
 distance_below n = omega arith
@@ -239,16 +251,19 @@ ushr_includes x y m n r p q =
     let left = member_is_int x m r p in
     let int = ushr_is_int m (shift_distance n) left in
     elim (cases_natural x) [
-      inl e ↦
-        let is = ushr_natural m (shift_distance n) (omega (arith, ints, e.1, p.from)) left.to in
-        rw (e.0, is) (shr_includes x y m n p q)
-    | inr e ↦ elim (cases_single y) [
-        inl f ↦
-          let is : n ≡ y.lo = omega (arith, ints, f.1, q.from, q.to) in
-          elim (cases_Bool (nat_lt 0 (shift_distance y.lo))) [
-            inl g ↦ rw (e.0, f.0, g, is) (ushr_bounds m (shift_distance y.lo) left (ltb-true 0 (shift_distance y.lo) g) (distance_below y.lo))
-          | inr g ↦ rw (e.0, f.0, g) (record { from = int.from; to = int.to }) ]
-      | inr f ↦ rw (e.0, f.0) (record { from = int.from; to = int.to }) ] ]
+      | inl e ↦
+          let is = ushr_natural m (shift_distance n) (omega (arith, ints, e.1, p.from)) left.to in
+          rw (e.0, is) (shr_includes x y m n p q)
+      | inr e ↦ elim (cases_single y) [
+        | inl f ↦
+            let is : n ≡ y.lo = omega (arith, ints, f.1, q.from, q.to) in
+            elim (cases_Bool (nat_lt 0 (shift_distance y.lo))) [
+              | inl g ↦ rw (e.0, f.0, g, is) (ushr_bounds m (shift_distance y.lo) left (ltb-true 0 (shift_distance y.lo) g) (distance_below y.lo))
+              | inr g ↦ rw (e.0, f.0, g) (record { from = int.from; to = int.to })
+            ]
+        | inr f ↦ rw (e.0, f.0) (record { from = int.from; to = int.to })
+      ]
+    ]
 
 -- ---- all rows
 

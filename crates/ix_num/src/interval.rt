@@ -5,7 +5,7 @@ ghost use Rattle.ix_num.specs.Ints.{IsInt, greatest_int};
 ghost use Rattle.ix_num.specs.Arithmetic.{exact_of, java_of, flip_of, shift_distance};
 ghost use Rattle.ix_num.specs.Intervals.{Includes, IsWithin, IsEmpty, IsIntRange, all_ints, includes, is_empty, normal, meet_of, hull_of, neg_of, not_of};
 ghost use Rattle.ix_num.specs.declared.interval.Interval.{Interval};
-ghost use Rattle.ix_num.specs.OpRanges.{op_range, add_range, sub_range, mul_range, quotients_by, div_range, remainder_limit, rem_range, and_range, or_range, xor_range, shr_range, ushr_range, greatest_after, hull_of_two, has_divisor, is_single, shifted_by, remainders_within};
+ghost use Rattle.ix_num.specs.OpRanges.{op_range, row_of, add_range, sub_range, mul_range, quotients_by, div_range, remainder_limit, rem_range, and_range, or_range, xor_range, shr_range, ushr_range, greatest_after, hull_of_two, has_divisor, is_single, shifted_by, remainders_within};
 
 use crate::arith::Arith;
 
@@ -120,15 +120,32 @@ impl Interval {
         }
     }
 
-    /// The interval of what `op` gives of an operand in `x` and one in `y`, by the row of `op`.
+    /// The interval of what `op` gives of an operand in `x` and one in `y`, by the row of `op`: it includes every exact result,
+    /// Java's result wherever the exact one is an int, and grows with its operands. It is empty where an operand is.
     pub fn of_op(op: Arith, x: Interval, y: Interval) -> Interval
         requires left { IsWithin x all_ints }
         requires right { IsWithin y all_ints }
         ensures range { result ≡ op_range op x y }
+        ensures exact { (m n : ℤ) → Includes x m → Includes y n → IfSome (exact_of op m n) (Includes result) }
+
+        // Java's result is the exact one where that is an int.
+        ensures java { (m n : ℤ) → Includes x m → Includes y n
+            → IfSome (exact_of op m n) (λ e. IsInt e → IfSome (java_of op m n) (Includes result)) }
+
+        ensures monotone { (i j : Interval) → IsWithin i x → IsWithin j y → IsWithin (op_range op i j) result }
     {
         if x.is_empty() || y.is_empty() {
             return Interval::EMPTY;
         }
+        Interval::row(op, x, y)
+    }
+
+    /// The row of `op`, at operands that are not empty.
+    fn row(op: Arith, x: Interval, y: Interval) -> Interval
+        requires left { IsIntRange x }
+        requires right { IsIntRange y }
+        ensures { result ≡ row_of op x y }
+    {
         match op {
             Arith::Add => x.add(y),
             Arith::Sub => x.sub(y),
