@@ -368,3 +368,6 @@ fn greatest_after(distance: u32) -> i64
 {
     (1 << (32 - distance)) - 1
 }
+
+#[cfg(test)]
+mod tests;
