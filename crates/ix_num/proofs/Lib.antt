@@ -1,1 +1,10 @@
 pub mod LowBits
+pub mod Ends
+pub mod Casts
+pub mod Members
+pub mod ProductsKeepOrder
+pub mod QuotientsKeepOrder
+pub mod BitsWithinBounds
+pub mod RowsInclude
+pub mod RowsAreMonotone
+pub mod OpRangeLaws

@@ -78,3 +78,6 @@ pub fn java_not(x: i32) -> i32
 {
     -1 - x
 }
+
+#[cfg(test)]
+mod tests;
