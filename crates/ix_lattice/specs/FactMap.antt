@@ -1,5 +1,5 @@
 -- Maps of facts, judged by what a look-up at each key finds.
-use Rattle.std.specs.Prelude.{◌≡◌, ℕ, ◌+◌, List, [], ◌∷◌, Bool, false, cond, ◌||◌, Option, Some, None}
+use Rattle.std.specs.Prelude.{◌≡◌, ℕ, ◌+◌, List, [], ◌∷◌, Bool, true, false, cond, ◌||◌, ◌⊎◌, Option, Some, None}
 use Rattle.std.specs.declared.cmp.Ordering.{Ordering}
 use Rattle.std.specs.Ordering.{is_eq, eq_by_cmp}
 use Rattle.std.specs.Map.{lookup}
@@ -34,3 +34,8 @@ rank_unseen eq rank seen (fact ∷ facts) = cond (seen fact.0) (rank_unseen eq r
 -- Of each key of the map, 1 and the rank of its value: to drop a key or to weaken a value lowers it.
 abbrev pub facts_rank : {K V : Type 0} → (K → K → Ordering) → (V → ℕ) → List (K × V) → ℕ
 facts_rank cmp rank facts = rank_unseen (eq_by_cmp cmp) rank (λ _. false) facts
+
+-- one of the keys is equal to this one
+abbrev pub IsAmong : {K : Type 0} → (K → K → Bool) → List K → K → Type 0
+IsAmong eq [] key = ⊥
+IsAmong eq (other ∷ keys) key = (eq other key ≡ true) ⊎ IsAmong eq keys key

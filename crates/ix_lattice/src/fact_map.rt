@@ -53,12 +53,12 @@ impl<K: Copy + Ord, V: Lattice> FactMap<K, V> {
         ensures unchanged { OnErr result (self.new ≡ self.old) }
     {
         match search(&self.entries, &key) {
-            Ok(at) => self.entries[at] = (key, value),
-            Err(at) => {
-                self.entries.insert(at, (key, value))?;
+            Ok(at) => {
+                self.entries[at] = (key, value);
+                Ok(())
             }
+            Err(at) => Ok(self.entries.insert(at, (key, value))?),
         }
-        Ok(())
     }
 }
 
