@@ -1,0 +1,10 @@
+pub mod Lattice
+pub mod Flat
+pub mod FlatLaws
+pub mod Pair
+pub mod PairLaws
+pub mod FactMap
+pub mod LookUps
+pub mod FactRank
+pub mod FactMapLaws
+pub mod Entries
