@@ -1,7 +1,10 @@
 //! Source text into tokens, as JLS 3.5 has them: input elements, each the longest that can be read from its place.
 #![tactic(auto)]
 
+mod elements;
 pub mod fixed;
+mod kinds;
+mod numbers;
 mod token;
 
 pub use token::{LexError, Token, TokenKind};

@@ -1,4 +1,4 @@
-use crate::{Boxed, List, Span, Text};
+use crate::{Boxed, LineMap, List, Span, Text};
 use std::alloc::{AllocError, Global};
 
 /// A type that contains itself through a `List` and a `Boxed`.
@@ -84,4 +84,67 @@ fn copies_agree(alloc: Global) -> Result<bool, AllocError> {
 #[test]
 fn copies_are_equal(rt: HostRuntime) {
     assert!(rt; copies_agree(rt.alloc()) == Ok(true));
+}
+
+/// Texts, places in them, and the line and column of each.
+const PLACES: [(&[u8], u32, (u32, u32)); 16] = [
+    (b"", 0, (1, 1)),
+    (b"a", 1, (1, 2)),
+    (b"a\nb", 1, (1, 2)),
+    (b"a\nb", 2, (2, 1)),
+    (b"a\r\nb", 2, (1, 3)),
+    (b"a\r\nb", 3, (2, 1)),
+    (b"a\rb", 1, (1, 2)),
+    (b"a\rb", 2, (2, 1)),
+    (b"a\n\rb\n", 2, (2, 1)),
+    (b"a\n\rb\n", 3, (3, 1)),
+    (b"a\n\rb\n", 5, (4, 1)),
+    (b"\r\r\n\n", 2, (2, 2)),
+    (b"\r\r\n\n", 4, (4, 1)),
+    (b"\xC3\xA9\xE2\x82\xAC\xF0\x9D\x84\x9Ex\r", 1, (1, 2)),
+    (b"\xC3\xA9\xE2\x82\xAC\xF0\x9D\x84\x9Ex\r", 9, (1, 4)),
+    (b"\xC3\xA9\xE2\x82\xAC\xF0\x9D\x84\x9Ex\r", 11, (2, 1)),
+];
+
+fn place_in(alloc: Global, text: &[u8], at: u32) -> Option<(u32, u32)> {
+    if text.len() < 1000 && at as usize <= text.len() {
+        LineMap::new(alloc, text).ok().map(|lines| lines.place(at))
+    } else {
+        None
+    }
+}
+
+#[test]
+fn places_have_lines_and_columns(rt: HostRuntime) {
+    for (text, at, place) in PLACES {
+        assert!(rt; place_in(rt.alloc(), text, at) == Some(place));
+    }
+}
+
+/// A line of 150 characters of two bytes, and one of 200 of one byte: longer than some blocks of the map.
+fn two_long_lines(alloc: Global) -> Result<Vec<u8>, AllocError> {
+    let mut text = Vec::new(alloc);
+    for _ in 0..150 {
+        text.push(0xC3)?;
+        text.push(0xA9)?;
+    }
+    text.push(b'\n')?;
+    for _ in 0..200 {
+        text.push(b'x')?;
+    }
+    Ok(text)
+}
+
+#[test]
+fn long_lines_have_columns(rt: HostRuntime) {
+    match two_long_lines(rt.alloc()) {
+        Ok(text) => {
+            assert!(rt; place_in(rt.alloc(), &text, 63) == Some((1, 33)));
+            assert!(rt; place_in(rt.alloc(), &text, 64) == Some((1, 33)));
+            assert!(rt; place_in(rt.alloc(), &text, 300) == Some((1, 151)));
+            assert!(rt; place_in(rt.alloc(), &text, 301) == Some((2, 1)));
+            assert!(rt; place_in(rt.alloc(), &text, 501) == Some((2, 201)));
+        }
+        Err(_) => assert!(rt; false),
+    }
 }

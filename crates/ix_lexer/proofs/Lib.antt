@@ -1,0 +1,5 @@
+pub mod DigitsFromTheFront
+pub mod Scans
+pub mod LongestElement
+pub mod OneReading
+pub mod OneAnswer
