@@ -1,0 +1,2 @@
+mod EachDecoded
+mod SourceSteps

@@ -1,0 +1,5 @@
+pub mod Form
+pub mod Conditions
+pub mod Rules
+pub mod Counts
+pub mod Decoding

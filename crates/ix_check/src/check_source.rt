@@ -1,0 +1,52 @@
+//! The check of a whole source.
+ghost use Rattle.std.specs.Prelude.{◌≡◌, ◌≢◌, Some, None, MatchResult};
+ghost use Rattle.ix_check.specs.Decoding.{Decodes};
+ghost use Rattle.ix_check.specs.Counts as counts;
+ghost use Rattle.ix_check.specs.Rules.{errors_of};
+ghost use Rattle.ix_check.specs.declared.error.UnitError.TheVariants.{Memory};
+
+use crate::conditions::is_judged;
+use crate::decode::form;
+use crate::error::UnitError;
+use crate::form::Value;
+use crate::rules::value_errors;
+use ix_core::Error;
+use ix_tree::Unit;
+use std::alloc::Global;
+
+/// The errors of the source, by place and rule. `Unbuilt` comes exactly where the source isn't of the first form or isn't judged.
+pub fn check_unit(alloc: Global, unit: &Unit) -> Result<Vec<Error>, UnitError>
+    ensures { MatchResult result (λ errors. errors_of unit.now ≡ Some errors.items) (λ error. error ≢ Memory → errors_of unit.now ≡ None) }
+{
+    let form = form(alloc, unit)?;
+    if !is_judged(alloc, &form)? {
+        return Err(UnitError::Unbuilt);
+    }
+    let params = form.params.as_slice();
+    let locals = form.locals.as_slice();
+    Ok(value_errors(alloc, params, locals, &form.value)?)
+}
+
+/// What an accepted source is counted by.
+#[derive(Clone, Copy, Debug, PartialEq, Eq)]
+pub struct Counts {
+    /// The methods and constructors that are written in it.
+    pub methods: u32,
+    /// The array access expressions.
+    pub accesses: u32,
+}
+
+/// The counts of a source of the first form. `Unbuilt` comes exactly where the source isn't of that form.
+pub fn count_unit(alloc: Global, unit: &Unit) -> Result<Counts, UnitError>
+    ensures { Decodes (counts.counts_of unit.now) result }
+{
+    let form = form(alloc, unit)?;
+    let accesses = match form.value {
+        Value::Variable(_) => 0,
+        Value::Access(_, _, _) => 1,
+    };
+    Ok(Counts {
+        methods: 1,
+        accesses,
+    })
+}
