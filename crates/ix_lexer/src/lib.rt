@@ -4,7 +4,9 @@
 mod elements;
 pub mod fixed;
 mod kinds;
+mod lexer;
 mod numbers;
 mod token;
 
+pub use lexer::lex;
 pub use token::{LexError, Token, TokenKind};
