@@ -3,3 +3,6 @@ pub mod Scans
 pub mod LongestElement
 pub mod OneReading
 pub mod OneAnswer
+pub mod ReadingSteps
+pub mod WholeText
+pub mod TokensInOrder

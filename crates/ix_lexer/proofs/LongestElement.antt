@@ -1,5 +1,5 @@
 -- `element_at` finds the longest element at the front of a text.
-use Rattle.std.proofs.Common.{◌≡◌, ℕ, zero, suc, ◌+◌, ◌<◌, ◌≤◌, ◌==◌, ◌&&◌, ◌||◌, not, nat_lt, Bool, true, false, List, [], ◌∷◌, ◌++◌, length, get_or, Option, Some, None, refl, sym, ap, subst, ◌∙◌, append_assoc, length-append, arith, lit<, inl, inr}
+use Rattle.std.proofs.Common.{◌≡◌, ℕ, zero, suc, ◌+◌, ◌<◌, ◌≤◌, ◌==◌, ◌&&◌, ◌||◌, not, nat_lt, nat_le, Bool, true, false, List, [], ◌∷◌, ◌++◌, length, get_or, Option, Some, None, refl, sym, ap, subst, ◌∙◌, append_assoc, length-append, arith, lit<, inl, inr}
 use Rattle.std.specs.List.{list_all, prefix_len, Contains}
 use Rattle.std.specs.Char.{is_ascii_digit, is_ascii_alphabetic}
 use Rattle.std.proofs.lemmas.Bool.{and_parts, or_cases, ne_eqb, ltb-true, agree_below_at, eqb-false, leb-true}
@@ -10,7 +10,7 @@ use Rattle.ix_lexer.specs.declared.elements.Element.TheVariants as element
 use Rattle.ix_lexer.specs.Characters.{Text, first, starts_identifier, continues_identifier, is_white_space}
 use Rattle.ix_lexer.specs.Elements.{IsElement, signs, white_space, line_comment, open_comment, word, number, open_string}
 use Rattle.ix_lexer.specs.Elements.{comment as comment_element, quoted as quoted_element, sign as sign_element}
-use Rattle.ix_lexer.specs.Scan.{Found, stays_in_line, closing_quote, comment_end, begins, longest, sign, comment, quoted, behind_slash, element_at}
+use Rattle.ix_lexer.specs.Scan.{Found, stays_in_line, closing_quote, comment_end, longest, sign, comment, quoted, behind_slash, element_at}
 use Rattle.ix_lexer.proofs.Scans.{chosen, not_true, run_at_least, run_of, quote_found, quote_closes, comment_found, comment_ends, begins_itself, begins_front, longest_takes, longest_is}
 
 -- ---- the classes of first characters do not meet
@@ -22,9 +22,7 @@ starts_ascii : (c : ℕ) → c < 128 → starts_identifier c ≡ ascii_start c
 starts_ascii c h = ap (λ b. b || c == 95 || c == 36) (is_xid_start-ascii c h)
 
 digit_low : (c : ℕ) → is_ascii_digit c ≡ true → c < 128
-digit_low c h =
-    let last : c ≤ 57 = leb-true c 57 (and_parts _ _ h).1 in
-    omega arith
+digit_low c h = omega (arith, leb-true c 57 (and_parts (nat_le 48 c) (nat_le c 57) h).1)
 
 digit_starts_none : (c : ℕ) → is_ascii_digit c ≡ true → starts_identifier c ≡ false
 digit_starts_none c h =

@@ -1,5 +1,5 @@
 -- The input elements of JLS 3.5: which texts are white space or a comment, and which are what a token is written with.
-use Rattle.std.specs.Prelude.{◌≡◌, Bool, true, false, ◌&&◌, ◌||◌, not, ◌==◌, ℕ, List, [], ◌∷◌, ◌++◌, codes}
+use Rattle.std.specs.Prelude.{◌≡◌, Bool, true, false, ◌&&◌, ◌||◌, not, ◌==◌, ℕ, [], ◌∷◌, ◌++◌, codes}
 use Rattle.std.specs.List.{list_all, Contains}
 use Rattle.std.specs.Char.{is_ascii_digit}
 use Rattle.std.specs.Str.{byte}

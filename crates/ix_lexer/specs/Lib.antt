@@ -5,3 +5,4 @@ pub mod Fixed
 pub mod Characters
 pub mod Spans
 pub mod Scan
+pub mod Steps

@@ -1,4 +1,4 @@
-use Rattle.std.proofs.Common.{◌≡◌, ◌==◌, true, false, arith, ◌∙◌, sym, eq-eqb}
+use Rattle.std.proofs.Common.{arith, ◌∙◌, sym, eq-eqb}
 use Rattle.std.proofs.lemmas.Bool.{ne_eqb}
 use Rattle.ix_lexer.specs.Characters.{first}
 use Rattle.ix_lexer.proofs.DigitsFromTheFront.{digits_is, no_digits}
