@@ -1,1 +1,4 @@
 mod FilesHeld
+mod PrefixesTaken
+mod PartsRead
+mod Verdicts

@@ -1,0 +1,18 @@
+use Rattle.std.proofs.Common.{◌≡◌, ℕ, List, length, take, rules, arith}
+use Rattle.std.proofs.lemmas.List.{length-take-le}
+use Rattle.ix_tool.proofs.PartsRead.{take-part, left-part}
+use Rattle.ix_tool.proofs.reading.read_rest.Goals as goal
+
+pub reading-preserved : goal.reading-preserved
+reading-preserved g c =
+    let part : List ℕ = take c.in-Ok.n c.read.new.buf in
+    let long : length part ≡ c.in-Ok.n = length-take-le _ _ (omega (arith, c.in-Ok.ensures.within)) in
+    record {
+      files = search rules;
+      opened = search rules;
+      keeps_sure = search rules;
+      opened_sure = search rules;
+      read = λ all known. take-part _ _ _ part _ all known c.reading.invariant.left c.in-Ok.ensures.moved (c.reading.invariant.read all known) c.in-Ok-extend_from_slice.ensures.items;
+      left = left-part _ _ _ _ part _ c.reading.invariant.left (rw long c.in-Ok.ensures.left) c.in-Ok-extend_from_slice.ensures.items;
+      faults = search rules;
+    }

@@ -1,0 +1,7 @@
+-- How much of a file is read.
+use Rattle.std.specs.Prelude.{◌≡◌, ◌<◌, ◌⊎◌, ℕ, List, length, take}
+use Rattle.ix_tool.specs.Answer.{most_bytes}
+
+-- The bytes that were read are all of them, or more than are judged and the first of all.
+abbrev pub IsAllOrPast : List ℕ → List ℕ → Type 0
+IsAllOrPast all read = (read ≡ all) ⊎ ((most_bytes < length read) × (take (length read) all ≡ read))

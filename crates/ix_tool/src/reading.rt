@@ -1,0 +1,62 @@
+//! Reading a file of a source.
+ghost use Rattle.std.specs.Prelude.{◌≡◌, ◌≢◌, ℕ, ◌<◌, ◌≤◌, ◌⊎◌, Option, Some, List, length, take, IfOk, OnOk, IsErrOf};
+ghost use Rattle.ix_tool.specs.Outside.{Files, bytes_under, Rose};
+ghost use Rattle.ix_tool.specs.Reading.{IsAllOrPast};
+
+use crate::source::{OpenError, Source};
+use std::alloc::Global;
+
+/// The most bytes that are read before reading stops; it stops once one more was read.
+pub(crate) const MOST_BYTES: usize = 65536;
+
+/// How many bytes are asked for at once.
+const BUFFER: usize = 4096;
+
+/// Why a file was not read: a fault of the source, or want of memory.
+#[derive(Clone, Copy, Debug, PartialEq, Eq)]
+pub(crate) enum ReadError {
+    Failed,
+    Memory,
+}
+
+/// Reads the opened file to its end, or past the most bytes. Each turn reads one byte at least, so there are at most 65,537.
+fn read_rest<S: Source>(alloc: Global, files: &mut S) -> Result<Vec<u8>, ReadError>
+    requires { S.IsOpened files.old }
+    ensures bytes { IfOk result (λ read. (all : List ℕ) → S.left files.old ≡ Some all → IsAllOrPast all read.items) }
+    ensures never { S.IsOpenedSure files.old → result ≢ Err ReadError.Failed }
+    ensures falls { S.faults files.old ≤ S.faults files.new }
+    ensures rose { IsErrOf result ReadError.Failed → Rose (S.faults files.old) (S.faults files.new) }
+    ensures ok { OnOk result (S.faults files.new ≡ S.faults files.old) }
+{
+    let mut bytes = Vec::new(alloc);
+    let mut buf = [0; BUFFER];
+    'reading: while bytes.len() <= MOST_BYTES {
+        let n = match files.read(&mut buf) {
+            Ok(n) => n,
+            Err(_) => return Err(ReadError::Failed),
+        };
+        if n == 0 {
+            return Ok(bytes);
+        }
+        match bytes.extend_from_slice(&buf[..n]) {
+            Ok(()) => {}
+            Err(_) => return Err(ReadError::Memory),
+        }
+    }
+    Ok(bytes)
+}
+
+/// Reads the file of that name to its end, or past the most bytes.
+pub(crate) fn read_file<S: Source>(alloc: Global, files: &mut S, name: &str) -> Result<Vec<u8>, ReadError>
+    ensures bytes { IfOk result (λ read. (held : Files) → S.files files.old ≡ Some held → IsAllOrPast (bytes_under name.now held) read.items) }
+    ensures never { S.IsSure files.old name.now → result ≢ Err ReadError.Failed }
+    ensures falls { S.faults files.old ≤ S.faults files.new }
+    ensures rose { IsErrOf result ReadError.Failed → Rose (S.faults files.old) (S.faults files.new) }
+    ensures ok { OnOk result (S.faults files.new ≡ S.faults files.old) }
+{
+    match files.open(name) {
+        Ok(()) => read_rest(alloc, files),
+        Err(OpenError::Failed) => Err(ReadError::Failed),
+        Err(OpenError::Memory) => Err(ReadError::Memory),
+    }
+}

@@ -1,0 +1,132 @@
+//! The top call.
+ghost use Rattle.std.specs.Prelude.{◌≡◌, ◌≢◌, true, false, ℕ, ◌<◌, ◌≤◌, ◌⊎◌, Option, Some, None, List, IfOk, string_bytes};
+ghost use Rattle.ix_tool.specs.Outside.{Files, bytes_under, Rose};
+ghost use Rattle.ix_tool.specs.Command.{command_of, words_of};
+ghost use Rattle.ix_tool.specs.Statuses.{is_answer};
+ghost use Rattle.ix_tool.specs.Answer.{Answer, Answers, shown, out_of_memory};
+ghost use Rattle.ix_tool.specs.Ends.{Took, TookPrefix, bytes_of, IsAnswer, IsReadFault, texts, EndsWell, EndsUnread, TookUnread, TookPart, TookWanted, TookNothing};
+
+use crate::command::command;
+use crate::reading::{ReadError, read_file};
+use crate::reply::{Reply, reply_on, usage_reply};
+use crate::sink::{Sink, WriteError};
+use crate::source::Source;
+use crate::status::Status;
+use crate::writing::write_all;
+use std::alloc::{AllocError, Global};
+
+/// The reply to the words: the answer on what was read, or the line on a file that was not read.
+fn reply_to<S: Source>(alloc: Global, words: &[String], files: &mut S) -> Result<Reply, AllocError>
+    ensures falls { S.faults files.old ≤ S.faults files.new }
+    ensures reply { IfOk result (λ reply.
+        (IsAnswer (S.files files.old) (command_of (words_of words.now)) (shown reply) × (S.faults files.new ≡ S.faults files.old))
+        ⊎ IsReadFault (S.IsSure files.old) (S.faults files.old) (S.faults files.new) (command_of (words_of words.now)) (shown reply)) }
+
+    // No other answer is right, where the source tells its files.
+    ensures only { (held : Files) → S.files files.old ≡ Some held
+        → (answer : Answer) → Answers (command_of (words_of words.now)) (bytes_of (command_of (words_of words.now)) held) answer
+        → IfOk result (λ reply. IsReadFault (S.IsSure files.old) (S.faults files.old) (S.faults files.new) (command_of (words_of words.now)) (shown reply) ⊎ (shown reply ≡ answer)) }
+{
+    let Some(name) = command(words) else {
+        return usage_reply(alloc);
+    };
+    match read_file(alloc, files, name) {
+        Ok(bytes) => reply_on(alloc, name, &bytes),
+        Err(ReadError::Failed) => Ok(Reply {
+            status: Status::ReadFault,
+            out: String::new(alloc),
+            err: format!(in alloc; "{name}: read failed\n")?,
+        }),
+        Err(ReadError::Memory) => Err(AllocError),
+    }
+}
+
+/// Says that memory was wanting, where that can be written.
+fn wanting<E: Sink>(err: &mut E) -> Status
+    ensures status { result ≡ Status.Memory }
+    ensures err { TookPrefix out_of_memory (E.taken err.old) (E.taken err.new) }
+    ensures falls { E.faults err.old ≤ E.faults err.new }
+{
+    let _ = write_all(err, b"out of memory\n");
+    Status::Memory
+}
+
+/// Writes a reply.
+fn deliver<K: Sink, E: Sink>(reply: &Reply, out: &mut K, err: &mut E) -> Status
+    ensures whole { result ≢ Status.WriteFault → result ≢ Status.Memory
+        → (result ≡ reply.now.status) × Took (string_bytes reply.now.out) (K.taken out.old) (K.taken out.new) × Took (string_bytes reply.now.err) (E.taken err.old) (E.taken err.new)
+        × (K.faults out.new ≡ K.faults out.old) × (E.faults err.new ≡ E.faults err.old) }
+    ensures fault { result ≡ Status.WriteFault → reply.now.status ≢ Status.WriteFault
+        → Rose (K.faults out.old) (K.faults out.new) ⊎ Rose (E.faults err.old) (E.faults err.new) }
+    ensures out { TookPrefix (string_bytes reply.now.out) (K.taken out.old) (K.taken out.new) }
+    ensures err { TookPrefix (string_bytes reply.now.err) (E.taken err.old) (E.taken err.new)
+        ⊎ ((result ≡ Status.Memory) × TookPrefix out_of_memory (E.taken err.old) (E.taken err.new)) }
+    ensures falls_out { K.faults out.old ≤ K.faults out.new }
+    ensures falls_err { E.faults err.old ≤ E.faults err.new }
+{
+    match write_all(out, reply.out.as_bytes()) {
+        Ok(()) => match write_all(err, reply.err.as_bytes()) {
+            Ok(()) => reply.status,
+            Err(WriteError::Failed) => Status::WriteFault,
+            Err(WriteError::Memory) => Status::Memory,
+        },
+        Err(WriteError::Failed) => Status::WriteFault,
+        Err(WriteError::Memory) => wanting(err),
+    }
+}
+
+/// Reads the file that the words name through `files`, and answers through `out` and `err`.
+///
+/// `Usage` comes exactly where the words are no command. `ReadFault` comes only where the count of `files` rose in this call and the named
+/// file wasn't sure when it began, `WriteFault` only where the count of `out` or `err` rose in this call, and `Memory` for want of memory.
+/// `Done`, `Rejected` and `Unbuilt` come exactly where the answer on the bytes that were read has that status.
+pub fn run_tool<S: Source, K: Sink, E: Sink>(
+    alloc: Global,
+    words: &[String],
+    files: &mut S,
+    out: &mut K,
+    err: &mut E,
+) -> Status
+    // Without a fault and with memory enough, status and texts are the answer, whatever answer is right.
+    ensures exact { (held : Files) → S.files files.old ≡ Some held
+        → (Rose (S.faults files.old) (S.faults files.new) → ⊥)
+        → (Rose (K.faults out.old) (K.faults out.new) → ⊥)
+        → (Rose (E.faults err.old) (E.faults err.new) → ⊥)
+        → result ≢ Status.Memory
+        → (answer : Answer) → Answers (command_of (words_of words.now)) (bytes_of (command_of (words_of words.now)) held) answer
+        → (result ≡ answer.status)
+        × Took answer.out (K.taken out.old) (K.taken out.new)
+        × Took answer.err (E.taken err.old) (E.taken err.new) }
+
+    // A status that speaks of no fault is right of the bytes that were read.
+    ensures answer { is_answer result ≡ true
+        → EndsWell (S.files files.old) (command_of (words_of words.now)) result (texts (K.taken out.old) (E.taken err.old)) (texts (K.taken out.new) (E.taken err.new)) }
+
+    // A read fault comes by its cause, and the whole line says so.
+    ensures read_fault { result ≡ Status.ReadFault
+        → EndsUnread (S.IsSure files.old) (S.faults files.old) (S.faults files.new) (command_of (words_of words.now)) (texts (K.taken out.old) (E.taken err.old)) (texts (K.taken out.new) (E.taken err.new)) }
+
+    // A write fault comes by its cause, and each sink took a prefix of its text.
+    ensures write_fault { result ≡ Status.WriteFault
+        → (Rose (K.faults out.old) (K.faults out.new) ⊎ Rose (E.faults err.old) (E.faults err.new))
+        × (TookPart (S.files files.old) (command_of (words_of words.now)) (texts (K.taken out.old) (E.taken err.old)) (texts (K.taken out.new) (E.taken err.new))
+        ⊎ TookUnread (S.faults files.old) (S.faults files.new) (command_of (words_of words.now)) (texts (K.taken out.old) (E.taken err.old)) (texts (K.taken out.new) (E.taken err.new))) }
+
+    // Where memory is wanting, each sink took a prefix of one of its texts.
+    ensures memory { result ≡ Status.Memory
+        → TookPart (S.files files.old) (command_of (words_of words.now)) (texts (K.taken out.old) (E.taken err.old)) (texts (K.taken out.new) (E.taken err.new))
+        ⊎ (TookUnread (S.faults files.old) (S.faults files.new) (command_of (words_of words.now)) (texts (K.taken out.old) (E.taken err.old)) (texts (K.taken out.new) (E.taken err.new))
+        ⊎ (TookWanted (S.files files.old) (command_of (words_of words.now)) (texts (K.taken out.old) (E.taken err.old)) (texts (K.taken out.new) (E.taken err.new))
+        ⊎ TookNothing (texts (K.taken out.old) (E.taken err.old)) (texts (K.taken out.new) (E.taken err.new)))) }
+
+    // A count that rose shows in the status.
+    ensures files { S.faults files.old < S.faults files.new → is_answer result ≡ false }
+    ensures sinks { (K.faults out.old < K.faults out.new) ⊎ (E.faults err.old < E.faults err.new)
+        → (result ≡ Status.WriteFault) ⊎ (result ≡ Status.Memory) }
+    ensures falls { (S.faults files.old ≤ S.faults files.new) × (K.faults out.old ≤ K.faults out.new) × (E.faults err.old ≤ E.faults err.new) }
+{
+    match reply_to(alloc, words, files) {
+        Ok(reply) => deliver(&reply, out, err),
+        Err(_) => wanting(err),
+    }
+}
