@@ -15,6 +15,9 @@ mod reply;
 mod sink;
 mod source;
 mod status;
+#[cfg(test)]
+mod tests;
+mod sure;
 mod tool;
 mod writing;
 
@@ -23,4 +26,5 @@ pub use memory_source::{MemSource, SureSource};
 pub use sink::{Sink, WriteError};
 pub use source::{Failed, OpenError, Source};
 pub use status::Status;
+pub use sure::run_sure;
 pub use tool::run_tool;

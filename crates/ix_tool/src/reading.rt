@@ -47,7 +47,11 @@ fn read_rest<S: Source>(alloc: Global, files: &mut S) -> Result<Vec<u8>, ReadErr
 }
 
 /// Reads the file of that name to its end, or past the most bytes.
-pub(crate) fn read_file<S: Source>(alloc: Global, files: &mut S, name: &str) -> Result<Vec<u8>, ReadError>
+pub(crate) fn read_file<S: Source>(
+    alloc: Global,
+    files: &mut S,
+    name: &str,
+) -> Result<Vec<u8>, ReadError>
     ensures bytes { IfOk result (λ read. (held : Files) → S.files files.old ≡ Some held → IsAllOrPast (bytes_under name.now held) read.items) }
     ensures never { S.IsSure files.old name.now → result ≢ Err ReadError.Failed }
     ensures falls { S.faults files.old ≤ S.faults files.new }

@@ -20,9 +20,6 @@ use ix_text::LineMap;
 use ix_tree::Unit;
 use std::alloc::{AllocError, Global};
 
-
-
-
 /// A status with the texts of both sinks.
 #[derive(Drop)]
 pub(crate) struct Reply {
@@ -81,7 +78,12 @@ fn judge(alloc: Global, bytes: &[u8]) -> Result<Judgement, UnitError>
 }
 
 /// The reply on a source that is judged.
-fn verdict_reply(alloc: Global, name: &str, bytes: &[u8], judgement: &Judgement) -> Result<Reply, AllocError>
+fn verdict_reply(
+    alloc: Global,
+    name: &str,
+    bytes: &[u8],
+    judgement: &Judgement,
+) -> Result<Reply, AllocError>
     requires { length bytes.now ≤ 65536 }
     ensures { IfOk result (λ reply. shown reply ≡ verdict name.now bytes.now judgement.now.counts judgement.now.errors.items) }
 {
@@ -135,6 +137,8 @@ pub(crate) fn usage_reply(alloc: Global) -> Result<Reply, AllocError>
     Ok(Reply {
         status: Status::Usage,
         out: String::new(alloc),
-        err: format!(in alloc; "usage: indexcheck check FILE | run FILE CLASS.METHOD -- INPUTS | bench N\n")?,
+        err: format!(in alloc;
+            "usage: indexcheck check FILE | run FILE CLASS.METHOD -- INPUTS | bench N\n"
+        )?,
     })
 }

@@ -1,0 +1,25 @@
+//! The top call over files and sinks in memory that never fail.
+ghost use Rattle.std.specs.Prelude.{◌≡◌, ◌≢◌, Some};
+ghost use Rattle.ix_tool.specs.Outside.{Files};
+ghost use Rattle.ix_tool.specs.Command.{command_of, words_of};
+ghost use Rattle.ix_tool.specs.Answer.{Answer, Answers};
+ghost use Rattle.ix_tool.specs.Ends.{Took, bytes_of};
+
+use crate::memory_sink::SureSink;
+use crate::memory_source::SureSource;
+use crate::sink::Sink;
+use crate::source::Source;
+use crate::status::Status;
+use crate::tool::run_tool;
+use std::alloc::Global;
+
+/// `run_tool` where no call of a file or a sink can fail: with memory enough, the answer.
+pub fn run_sure(alloc: Global, words: &[String], files: &mut SureSource, out: &mut SureSink, err: &mut SureSink) -> Status
+    ensures exact { (held : Files) → ⟦<SureSource as Source>⟧.files files.old ≡ Some held → result ≢ Status.Memory
+        → (answer : Answer) → Answers (command_of (words_of words.now)) (bytes_of (command_of (words_of words.now)) held) answer
+        → (result ≡ answer.status)
+        × Took answer.out (⟦<SureSink as Sink>⟧.taken out.old) (⟦<SureSink as Sink>⟧.taken out.new)
+        × Took answer.err (⟦<SureSink as Sink>⟧.taken err.old) (⟦<SureSink as Sink>⟧.taken err.new) }
+{
+    run_tool(alloc, words, files, out, err)
+}

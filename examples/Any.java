@@ -1,0 +1,1 @@
+class A { static int get(int[] a, int i) { return a[i]; } }
