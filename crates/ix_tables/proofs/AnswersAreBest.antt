@@ -1,12 +1,12 @@
 -- No stronger answer than that of the low table holds: for each pair of classes two ints whose result is outside the next class.
-use Rattle.std.proofs.Common.{◌≡◌, ◌&&◌, Bool, true, false, not, refl, ℤ, pos, negsuc, ◌≤ℤ◌, int_le, Option, Some, None, IfSome, IsSomeAnd, arith}
+use Rattle.std.proofs.Common.{◌≡◌, ◌&&◌, Bool, true, false, not, refl, ℤ, pos, negsuc, int_le, Option, Some, None, IfSome, IsSomeAnd, arith}
 use Rattle.std.specs.Int.{int_wrap}
 use Rattle.std.proofs.lemmas.Int.{ints}
 use Rattle.std.proofs.lemmas.Bool.{and_parts, both_ways, not-true}
 use Rattle.ix_num.specs.declared.arith.Arith.{Arith}
 use Rattle.ix_num.specs.declared.arith.Arith.TheVariants.{Add, Sub, Mul, Div, Rem, And, Or, Xor, Shl, Shr, Ushr}
 use Rattle.ix_num.specs.Ints.{IsInt, least_int, greatest_int}
-use Rattle.ix_num.specs.Arithmetic.{exact_of, java_of}
+use Rattle.ix_num.specs.Arithmetic.{exact_of}
 use Rattle.ix_tables.specs.declared.low.Low.{Low}
 use Rattle.ix_tables.specs.declared.low.Low.TheVariants.{Unknown, MinusOne, Zero, One}
 use Rattle.ix_tables.specs.LowClasses.{AtLeast, next_stronger}

@@ -1,8 +1,8 @@
 -- Each answer of the low table holds of all numbers of the two classes.
-use Rattle.std.proofs.Common.{◌≡◌, ◌⊎◌, inl, inr, refl, ℕ, suc, zero, ℤ, pos, negsuc, neg_ℤ, ◌+ℤ◌, ◌-ℤ◌, ◌*ℤ◌, ◌≤ℤ◌, ◌<ℤ◌, ◌-◌, ◌/◌, ◌%◌, ◌^◌, ◌<◌, ◌≤◌, int_div, int_rem, unsigned_abs, bit_and, bit_or, IfSome, arith, to_z, of_z, ap, ◌∙◌}
-use Rattle.std.specs.Int.{w32, int_min, int_max, int_shr, int_bit_and, int_bit_or, int_bit_xor}
-use Rattle.std.proofs.lemmas.Int.{ints, clamps, by_lt_z}
-use Rattle.std.proofs.lemmas.Nat.{le_or_l, le_or_r, or_of_32, and_mask}
+use Rattle.std.proofs.Common.{◌≡◌, ℕ, suc, zero, ℤ, pos, negsuc, ◌+ℤ◌, ◌-ℤ◌, ◌*ℤ◌, ◌≤ℤ◌, ◌-◌, ◌/◌, ◌^◌, ◌<◌, ◌≤◌, int_div, int_rem, unsigned_abs, IfSome, arith, to_z, of_z}
+use Rattle.std.specs.Int.{w32, int_min, int_shr, int_bit_and, int_bit_or, int_bit_xor}
+use Rattle.std.proofs.lemmas.Int.{ints, clamps}
+use Rattle.std.proofs.lemmas.Nat.{le_or_l, le_or_r, or_of_32}
 use Rattle.ix_num.specs.declared.arith.Arith.{Arith}
 use Rattle.ix_num.specs.declared.arith.Arith.TheVariants.{Add, Sub, Mul, Div, Rem, And, Or, Xor, Shl, Shr, Ushr}
 use Rattle.ix_num.specs.Ints.{IsInt, greatest_int}

@@ -1,8 +1,6 @@
 -- A test of every operator and every class, by one computation.
 use Rattle.std.proofs.Common.{◌≡◌, ◌&&◌, Bool, true}
 use Rattle.std.proofs.lemmas.Bool.{and_parts}
-use Rattle.ix_num.specs.declared.arith.Arith.{Arith}
-use Rattle.ix_num.specs.declared.arith.Arith.TheVariants.{Add, Sub, Mul, Div, Rem, And, Or, Xor, Shl, Shr, Ushr}
 use Rattle.ix_tables.specs.declared.low.Low.{Low}
 use Rattle.ix_tables.specs.declared.low.Low.TheVariants.{Unknown, MinusOne, Zero, One}
 

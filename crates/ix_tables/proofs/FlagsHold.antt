@@ -1,5 +1,5 @@
 -- The flag of each answer of the low table: a sum or a product may wrap out of the answer's class, and no other operator may.
-use Rattle.std.proofs.Common.{◌≡◌, ◌&&◌, ◌||◌, not, inl, inr, Bool, true, false, refl, ℤ, pos, negsuc, ◌≤ℤ◌, Option, Some, None, IfSome, arith}
+use Rattle.std.proofs.Common.{◌≡◌, ◌&&◌, ◌||◌, not, inl, inr, Bool, true, false, refl, ℤ, pos, ◌≤ℤ◌, Option, Some, None, IfSome, arith}
 use Rattle.std.specs.Int.{int_wrap}
 use Rattle.std.specs.Option.{option_map}
 use Rattle.std.proofs.lemmas.Int.{ints}

@@ -1,3 +1,5 @@
+pub mod ClassOrder
+pub mod MissingKeys
 pub mod AnswersHold
 pub mod EachCase
 pub mod AnswersAreBest

@@ -1,6 +1,6 @@
 //! The low table: the class of a result, from the classes of the operands.
 
-ghost use Rattle.std.specs.Prelude.{◌≡◌, All};
+ghost use Rattle.std.specs.Prelude.{◌≡◌, All, count_by};
 ghost use Rattle.ix_num.specs.declared.arith.Arith.{Arith};
 ghost use Rattle.ix_tables.specs.declared.low.Low.{Low};
 ghost use Rattle.ix_tables.specs.LowTable.{low_of, needs_fits_of};
@@ -36,6 +36,7 @@ pub fn low_table() -> CaseTable<80>
     ensures sound_rows { All IsSoundRow result.rows }
     ensures best_rows { All IsBestRow result.rows }
     ensures fits { All HasFitsFlagRow result.rows }
+    ensures twelve_need_fits { count_by (λ r. r.4) result.rows ≡ 12 }
 {
     CaseTable {
         rows: rows! {

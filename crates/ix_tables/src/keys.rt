@@ -1,6 +1,6 @@
 //! The keys of the error rules.
 
-ghost use Rattle.std.specs.Prelude.{◌≡◌, ◌↔◌, IsTrue, IsNone, map, nat_eq, option_map, length};
+ghost use Rattle.std.specs.Prelude.{◌≡◌, ◌≢◌, ◌↔◌, ℕ, List, All, IsTrue, IsNone, map, nat_eq, option_map};
 ghost use Rattle.std.specs.Str.{bytes_eq};
 ghost use Rattle.ix_tables.specs.Keys.{key_in, all_differ, rule_keys};
 
@@ -49,6 +49,7 @@ impl KeyTable<17> {
     /// The key of a rule: `None` exactly where no row has its number.
     pub fn key(&self, rule: u8) -> Option<&'static str>
         ensures value { option_map (λ s. s.now) result ≡ key_in (map (λ r. (r.0, r.1.now)) self.now.rows) rule }
+        ensures none { IsNone result ↔ All (λ (r : ℕ × List ℕ). r.0 ≢ rule) (map (λ r. (r.0, r.1.now)) self.now.rows) }
     {
         key_among(&self.rows, rule)
     }

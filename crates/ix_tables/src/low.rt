@@ -11,8 +11,34 @@ pub enum Low {
 }
 
 impl Low {
-    ghost use Rattle.std.specs.Prelude.{◌≡◌};
+    ghost use Rattle.std.specs.Prelude.{◌≡◌, ◌↔◌, IsTrue};
+    ghost use Rattle.ix_tables.specs.declared.low.Low.{Low};
+    ghost use Rattle.ix_tables.specs.LowClasses.{AtLeast, LowBelow, class_of};
     ghost use Rattle.ix_tables.specs.Rows.{class_place};
+
+    /// The strongest class that `n` is of.
+    pub fn of_number(n: i64) -> Low
+        ensures value { result ≡ class_of n }
+        ensures holds { AtLeast result n }
+        ensures strongest { (x : Low) → AtLeast x n → LowBelow result x }
+    {
+        if n >= 1 {
+            Low::One
+        } else if n == 0 {
+            Low::Zero
+        } else if n == -1 {
+            Low::MinusOne
+        } else {
+            Low::Unknown
+        }
+    }
+
+    /// Whether each number of `self` is of `other`.
+    pub fn is_below(self, other: Low) -> bool
+        ensures { IsTrue result ↔ LowBelow self other }
+    {
+        self.place() >= other.place()
+    }
 
     /// Its place in the list of classes, from 0.
     pub(crate) fn place(self) -> u8

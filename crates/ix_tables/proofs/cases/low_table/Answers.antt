@@ -26,3 +26,6 @@ returns-clause-best_rows c = all_low_rows IsBestRow best_row
 
 pub returns-clause-fits : goal.returns-clause-fits
 returns-clause-fits c = all_low_rows HasFitsFlagRow flag_row
+
+pub returns-clause-twelve_need_fits : goal.returns-clause-twelve_need_fits
+returns-clause-twelve_need_fits c = refl
