@@ -40,39 +40,30 @@ pub fn low_table() -> CaseTable<80>
 {
     CaseTable {
         rows: rows! {
-            Add true:
-                MinusOne Zero MinusOne, MinusOne One Zero,
+            Add true: MinusOne Zero MinusOne, MinusOne One Zero,
                 Zero MinusOne MinusOne, Zero Zero Zero, Zero One One,
                 One MinusOne Zero, One Zero One, One One One;
-            Mul true:
-                Zero Zero Zero, Zero One Zero,
+            Mul true: Zero Zero Zero, Zero One Zero,
                 One Zero Zero, One One One;
-            Div false:
-                MinusOne Zero MinusOne, MinusOne One MinusOne,
+            Div false: MinusOne Zero MinusOne, MinusOne One MinusOne,
                 Zero Zero Zero, Zero One Zero,
                 One Zero Zero, One One Zero;
-            Rem false:
-                MinusOne Unknown MinusOne, MinusOne MinusOne MinusOne, MinusOne Zero MinusOne, MinusOne One MinusOne,
+            Rem false: MinusOne Unknown MinusOne, MinusOne MinusOne MinusOne, MinusOne Zero MinusOne, MinusOne One MinusOne,
                 Zero Unknown Zero, Zero MinusOne Zero, Zero Zero Zero, Zero One Zero,
                 One Unknown Zero, One MinusOne Zero, One Zero Zero, One One Zero;
-            And false:
-                Unknown Zero Zero, Unknown One Zero,
+            And false: Unknown Zero Zero, Unknown One Zero,
                 MinusOne MinusOne MinusOne, MinusOne Zero Zero, MinusOne One Zero,
                 Zero Unknown Zero, Zero MinusOne Zero, Zero Zero Zero, Zero One Zero,
                 One Unknown Zero, One MinusOne Zero, One Zero Zero, One One Zero;
-            Or false:
-                MinusOne MinusOne MinusOne, MinusOne Zero MinusOne, MinusOne One MinusOne,
+            Or false: MinusOne MinusOne MinusOne, MinusOne Zero MinusOne, MinusOne One MinusOne,
                 Zero MinusOne MinusOne, Zero Zero Zero, Zero One One,
                 One MinusOne MinusOne, One Zero One, One One One;
-            Xor false:
-                Zero Zero Zero, Zero One Zero,
+            Xor false: Zero Zero Zero, Zero One Zero,
                 One Zero Zero, One One Zero;
-            Shr false:
-                MinusOne Unknown MinusOne, MinusOne MinusOne MinusOne, MinusOne Zero MinusOne, MinusOne One MinusOne,
+            Shr false: MinusOne Unknown MinusOne, MinusOne MinusOne MinusOne, MinusOne Zero MinusOne, MinusOne One MinusOne,
                 Zero Unknown Zero, Zero MinusOne Zero, Zero Zero Zero, Zero One Zero,
                 One Unknown Zero, One MinusOne Zero, One Zero Zero, One One Zero;
-            Ushr false:
-                MinusOne Unknown MinusOne, MinusOne MinusOne MinusOne, MinusOne Zero MinusOne, MinusOne One MinusOne,
+            Ushr false: MinusOne Unknown MinusOne, MinusOne MinusOne MinusOne, MinusOne Zero MinusOne, MinusOne One MinusOne,
                 Zero Unknown Zero, Zero MinusOne Zero, Zero Zero Zero, Zero One Zero,
                 One Unknown Zero, One MinusOne Zero, One Zero Zero, One One Zero;
         },
@@ -130,5 +121,56 @@ fn operator_place(op: Arith) -> u8
         Arith::Shl => 8,
         Arith::Shr => 9,
         Arith::Ushr => 10,
+    }
+}
+
+#[cfg(test)]
+mod tests {
+    use super::*;
+
+    // Cases worked out apart from this code: the operator, the operands, the answer, the flag.
+    #[test]
+    fn looks_up(rt: HostRuntime) {
+        let rows = [
+            (Arith::Add, Low::One, Low::One, Low::One, true),
+            (
+                Arith::Add,
+                Low::MinusOne,
+                Low::MinusOne,
+                Low::Unknown,
+                false,
+            ),
+            (Arith::Sub, Low::One, Low::MinusOne, Low::Unknown, false),
+            (Arith::Mul, Low::One, Low::Zero, Low::Zero, true),
+            (Arith::Mul, Low::MinusOne, Low::One, Low::Unknown, false),
+            (Arith::Div, Low::Zero, Low::MinusOne, Low::Unknown, false),
+            (Arith::Div, Low::One, Low::One, Low::Zero, false),
+            (Arith::Rem, Low::One, Low::Unknown, Low::Zero, false),
+            (
+                Arith::And,
+                Low::MinusOne,
+                Low::MinusOne,
+                Low::MinusOne,
+                false,
+            ),
+            (Arith::And, Low::Unknown, Low::Zero, Low::Zero, false),
+            (Arith::Or, Low::Zero, Low::One, Low::One, false),
+            (Arith::Or, Low::One, Low::MinusOne, Low::MinusOne, false),
+            (Arith::Xor, Low::One, Low::One, Low::Zero, false),
+            (Arith::Shl, Low::One, Low::One, Low::Unknown, false),
+            (
+                Arith::Shr,
+                Low::MinusOne,
+                Low::Unknown,
+                Low::MinusOne,
+                false,
+            ),
+            (Arith::Ushr, Low::Unknown, Low::One, Low::Unknown, false),
+        ];
+        let table = low_table();
+        for (op, x, y, answer, fits) in rows {
+            assert_eq!(rt; table.find(op, x, y), answer, "{op:?} {x:?} {y:?}");
+            assert_eq!(rt; table.needs_fits(op, x, y), fits, "{op:?} {x:?} {y:?}");
+        }
     }
 }

@@ -52,3 +52,23 @@ impl Low {
         }
     }
 }
+
+#[cfg(test)]
+mod tests {
+    use super::*;
+
+    #[test]
+    fn classes_of_numbers(rt: HostRuntime) {
+        let rows = [
+            (-2, Low::Unknown),
+            (-1, Low::MinusOne),
+            (0, Low::Zero),
+            (1, Low::One),
+            (2147483648, Low::One),
+        ];
+        for (n, class) in rows {
+            assert_eq!(rt; Low::of_number(n), class, "{n}");
+        }
+        assert!(rt; Low::One.is_below(Low::Zero) && !Low::Unknown.is_below(Low::MinusOne));
+    }
+}
