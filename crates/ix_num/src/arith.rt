@@ -4,7 +4,7 @@ ghost use Rattle.std.specs.Prelude.{◌≡◌, ◌↔◌, IsNone, neg_ℤ};
 ghost use Rattle.ix_num.specs.Arithmetic.{wrap_of, exact_of, java_of, flip_of, DividesByZero};
 
 /// An operator on two ints: `+ - * / % & | ^ << >> >>>` (JLS 15.17 to 15.19, 15.22.1).
-#[derive(Clone, Copy, Debug, PartialEq, Eq)]
+#[derive(Clone, Copy, Debug, PartialEq, Eq, PartialOrd, Ord)]
 pub enum Arith {
     Add,
     Sub,

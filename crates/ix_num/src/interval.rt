@@ -1,6 +1,6 @@
 //! Intervals of whole numbers.
 
-ghost use Rattle.std.specs.Prelude.{◌≡◌, ◌↔◌, ◌⊎◌, ◌<◌, ℤ, neg_ℤ, ◌≤ℤ◌, IsTrue, IfSome};
+ghost use Rattle.std.specs.Prelude.{◌≡◌, ◌↔◌, ◌<◌, ℤ, neg_ℤ, ◌≤ℤ◌, IsTrue, IfSome};
 ghost use Rattle.ix_num.specs.Ints.{IsInt, greatest_int};
 ghost use Rattle.ix_num.specs.Arithmetic.{exact_of, java_of, flip_of, shift_distance};
 ghost use Rattle.ix_num.specs.Intervals.{Includes, IsWithin, IsEmpty, IsIntRange, all_ints, includes, is_empty, normal, meet_of, hull_of, neg_of, not_of};
@@ -28,14 +28,16 @@ impl Interval {
 
     /// Whether it includes no number.
     pub fn is_empty(self) -> bool
-        ensures { result ≡ is_empty self }
+        ensures value { result ≡ is_empty self }
+        ensures empty { IsTrue result ↔ IsEmpty self }
     {
         self.lo > self.hi
     }
 
     /// Whether `n` lies between the ends.
     pub fn includes(self, n: i64) -> bool
-        ensures { result ≡ includes self n }
+        ensures value { result ≡ includes self n }
+        ensures member { IsTrue result ↔ Includes self n }
     {
         self.lo <= n && n <= self.hi
     }
@@ -51,7 +53,8 @@ impl Interval {
     pub fn meet(self, other: Interval) -> Interval
         ensures value { result ≡ meet_of self other }
         ensures common { (n : ℤ) → Includes result n ↔ (Includes self n × Includes other n) }
-        ensures monotone { (i j : Interval) → IsWithin i self → IsWithin j other → IsWithin (meet_of i j) result }
+        ensures monotone { (i j : Interval) → IsWithin i self → IsWithin j other
+            → IsWithin (meet_of i j) result }
     {
         let lo = self.lo.max(other.lo);
         let hi = self.hi.min(other.hi);
@@ -75,7 +78,8 @@ impl Interval {
         ensures left { IsWithin self result }
         ensures right { IsWithin other result }
         ensures least { (i : Interval) → IsWithin self i → IsWithin other i → IsWithin result i }
-        ensures monotone { (i j : Interval) → IsWithin i self → IsWithin j other → IsWithin (hull_of i j) result }
+        ensures monotone { (i j : Interval) → IsWithin i self → IsWithin j other
+            → IsWithin (hull_of i j) result }
     {
         if self.is_empty() {
             other.normal()
@@ -126,13 +130,15 @@ impl Interval {
         requires left { IsWithin x all_ints }
         requires right { IsWithin y all_ints }
         ensures range { result ≡ op_range op x y }
-        ensures exact { (m n : ℤ) → Includes x m → Includes y n → IfSome (exact_of op m n) (Includes result) }
+        ensures exact { (m n : ℤ) → Includes x m → Includes y n
+            → IfSome (exact_of op m n) (Includes result) }
 
         // Java's result is the exact one where that is an int.
         ensures java { (m n : ℤ) → Includes x m → Includes y n
             → IfSome (exact_of op m n) (λ e. IsInt e → IfSome (java_of op m n) (Includes result)) }
 
-        ensures monotone { (i j : Interval) → IsWithin i x → IsWithin j y → IsWithin (op_range op i j) result }
+        ensures monotone { (i j : Interval) → IsWithin i x → IsWithin j y
+            → IsWithin (op_range op i j) result }
     {
         if x.is_empty() || y.is_empty() {
             return Interval::EMPTY;

@@ -10,13 +10,13 @@ use Rattle.ix_num.proofs.interval.Interval.hull.Goals as goal
 
 pub returns-then-is_empty-clause-least : goal.returns-then-is_empty-clause-least
 returns-then-is_empty-clause-least c =
-    let empty : is_empty c.args.self ≡ true = sym c.is_empty.ensures ∙ c.if-is_empty.true in
+    let empty : is_empty c.args.self ≡ true = sym c.is_empty.ensures.value ∙ c.if-is_empty.true in
     let value : c.normal.result ≡ hull_of c.args.self c.args.other = c.normal.ensures ∙ sym (cond-true (is_empty c.args.self) _ _ empty) in
     rw value (hull_least c.args.self c.args.other)
 
 pub returns-then-is_empty-clause-monotone : goal.returns-then-is_empty-clause-monotone
 returns-then-is_empty-clause-monotone c =
-    let empty : is_empty c.args.self ≡ true = sym c.is_empty.ensures ∙ c.if-is_empty.true in
+    let empty : is_empty c.args.self ≡ true = sym c.is_empty.ensures.value ∙ c.if-is_empty.true in
     let value : c.normal.result ≡ hull_of c.args.self c.args.other = c.normal.ensures ∙ sym (cond-true (is_empty c.args.self) _ _ empty) in
     rw value (λ i j. hull_monotone i j c.args.self c.args.other)
 
@@ -24,15 +24,15 @@ pub returns-then-is_empty-2-clause-monotone : goal.returns-then-is_empty-2-claus
 returns-then-is_empty-2-clause-monotone c =
     let x = c.args.self in
     let y = c.args.other in
-    let some : is_empty x ≡ false = sym c.is_empty.ensures ∙ c.if-is_empty.false in
-    let empty : is_empty y ≡ true = sym c.is_empty-else-is_empty.ensures ∙ c.if-is_empty-2.true in
+    let some : is_empty x ≡ false = sym c.is_empty.ensures.value ∙ c.if-is_empty.false in
+    let empty : is_empty y ≡ true = sym c.is_empty-else-is_empty.ensures.value ∙ c.if-is_empty-2.true in
     let value : hull_of x y ≡ x = rw (some, empty) in
     λ i j p q. rw value at (hull_monotone i j x y p q)
 
 value : (c : goal.After-max) → ◌≡◌ {A = Interval} (record { lo = to_z w64 (of_z w64 c.min.result); hi = to_z w64 (of_z w64 c.max.result) }) (hull_of c.args.self c.args.other)
 value c =
-    let some : is_empty c.args.self ≡ false = sym c.is_empty.ensures ∙ c.if-is_empty.false in
-    let filled : is_empty c.args.other ≡ false = sym c.is_empty-else-is_empty.ensures ∙ c.if-is_empty-2.false in
+    let some : is_empty c.args.self ≡ false = sym c.is_empty.ensures.value ∙ c.if-is_empty.false in
+    let filled : is_empty c.args.other ≡ false = sym c.is_empty-else-is_empty.ensures.value ∙ c.if-is_empty-2.false in
     rw (some, filled) (same_ends (omega (arith, ints, clamps, c.min.ensures.value)) (omega (arith, ints, clamps, c.max.ensures.value)))
 
 pub returns-else-is_empty-2-clause-least : goal.returns-else-is_empty-2-clause-least

@@ -10,13 +10,13 @@ use Rattle.ix_num.proofs.interval.Interval.neg.Goals as goal
 pub returns-then-is_empty-clause-monotone : goal.returns-then-is_empty-clause-monotone
 returns-then-is_empty-clause-monotone c =
     let x = c.args.self in
-    let is = neg_if_empty x (sym c.is_empty.ensures ∙ c.if-is_empty.true) in
+    let is = neg_if_empty x (sym c.is_empty.ensures.value ∙ c.if-is_empty.true) in
     λ i p. rw is at (neg_monotone i x p)
 
 value : (c : goal.After-struct_told-2-1) → ◌≡◌ {A = Interval} (record { lo = to_z w64 (of_z w64 (pos 0 -ℤ to_z w64 (of_z w64 c.args.self.hi))); hi = to_z w64 (of_z w64 (pos 0 -ℤ to_z w64 (of_z w64 c.args.self.lo))) }) (neg_of c.args.self)
 value c =
     let x = c.args.self in
-    let some : is_empty x ≡ false = sym c.is_empty.ensures ∙ c.if-is_empty.false in
+    let some : is_empty x ≡ false = sym c.is_empty.ensures.value ∙ c.if-is_empty.false in
     let filled : x.lo ≤ℤ x.hi = grind (arith, ints) in
     let low = c.requires.each x.lo (low_end x (omega (arith, ints, filled))) in
     let high = c.requires.each x.hi (high_end x (omega (arith, ints, filled))) in

@@ -10,16 +10,16 @@ returns-then-is_empty-clause-monotone c =
     let a = c.args in
     elim c.then-is_empty.branch [
       | then-is_empty-via-then-is_empty w ↦
-          λ i j p q. rw (op_range_empty_left a.op a.x a.y (sym c.is_empty.ensures ∙ w.if-is_empty.true)) at (op_range_monotone a.op i j a.x a.y c.requires.left c.requires.right p q)
+          λ i j p q. rw (op_range_empty_left a.op a.x a.y (sym c.is_empty.ensures.value ∙ w.if-is_empty.true)) at (op_range_monotone a.op i j a.x a.y c.requires.left c.requires.right p q)
       | then-is_empty-via-else-is_empty+then-is_empty-2 w ↦
-          λ i j p q. rw (op_range_empty_right a.op a.x a.y (sym w.is_empty-else-is_empty.ensures ∙ w.if-is_empty-2.true)) at (op_range_monotone a.op i j a.x a.y c.requires.left c.requires.right p q)
+          λ i j p q. rw (op_range_empty_right a.op a.x a.y (sym w.is_empty-else-is_empty.ensures.value ∙ w.if-is_empty-2.true)) at (op_range_monotone a.op i j a.x a.y c.requires.left c.requires.right p q)
     ]
 
 value : (c : goal.After-row) → c.row.result ≡ op_range c.args.op c.args.x c.args.y
 value c =
     let a = c.args in
-    let some : is_empty a.x ≡ false = sym c.is_empty.ensures ∙ c.if-is_empty.false in
-    let filled : is_empty a.y ≡ false = sym c.is_empty-else-is_empty.ensures ∙ c.if-is_empty-2.false in
+    let some : is_empty a.x ≡ false = sym c.is_empty.ensures.value ∙ c.if-is_empty.false in
+    let filled : is_empty a.y ≡ false = sym c.is_empty-else-is_empty.ensures.value ∙ c.if-is_empty-2.false in
     c.row.ensures ∙ sym (op_range_some a.op a.x a.y some filled)
 
 pub returns-clause-exact : goal.returns-clause-exact

@@ -1,0 +1,5 @@
+pub mod LowClasses
+pub mod LowTable
+pub mod TableLaws
+pub mod Rows
+pub mod Keys
