@@ -1,0 +1,6 @@
+pub mod Solutions
+pub mod Readers
+pub mod Waiting
+pub mod Chain
+pub mod ChainLaws
+pub use Rattle.ix_lattice.specs.Lattice
