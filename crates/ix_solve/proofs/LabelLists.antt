@@ -2,7 +2,7 @@
 use Rattle.std.proofs.Common.{◌≡◌, ℕ, zero, suc, List, [], ◌∷◌, ◌++◌, length, set, slice_get, Some, arith, refl, subst}
 use Rattle.std.specs.List.{AllZip}
 use Rattle.ix_lattice.specs.Lattice.{LatticeLaws, IsJoin}
-use Rattle.ix_solve.specs.Solutions.{IsBottom, AreBottom, IsLeast}
+use Rattle.ix_solve.specs.Solutions.{IsBottom, AreBottom, IsLeast, IsMonotone}
 
 module _ {V : Type 0} (Below : V → V → Type 0) where
   -- a label is changed to one that is still below the other's
@@ -32,7 +32,7 @@ module _ {V : Type 0} (Below : V → V → Type 0) where
   zip_bottom (x ∷ a) (q ∷ b) all same = (all.0 q, zip_bottom a b all.1 (omega arith))
 
 module _ {V : Type 0} {Below : V → V → Type 0} {rank : V → ℕ} (laws : LatticeLaws Below rank) {size : ℕ} {Says : ℕ → List V → V → Type 0}
-    (monotone : (at : ℕ) (a b : List V) (v w : V) → AllZip Below a b → Says at a v → Says at b w → Below v w) where
+    (monotone : IsMonotone Below Says) where
   -- least labels stay so where one is joined with what its equation says
   pub least_set : (a : List V) (at : ℕ) (label value join : V) → IsLeast Below size Says a → slice_get a at ≡ Some label → Says at a value → IsJoin Below label value join → IsLeast Below size Says (set a at join)
   least_set a at label value join least found says is other solution =

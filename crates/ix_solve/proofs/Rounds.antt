@@ -1,11 +1,10 @@
 -- What a round over the equations keeps.
 use Rattle.std.proofs.Common.{◌≡◌, ℕ, ◌+◌, ◌<◌, ◌≤◌, Bool, true, false, cond, List, length, get_or, set, slice_get, Some, arith, length-set, sym, ap, ◌∙◌, subst, ⊎_elim, sum_by, refl}
-use Rattle.std.specs.List.{AllZip}
 use Rattle.std.proofs.lemmas.List.Sums.{sum_by-set}
 use Rattle.std.proofs.lemmas.Option.{slice_get_read}
 use Rattle.std.proofs.lemmas.Bool.{cases_lt, false≢true}
 use Rattle.ix_lattice.specs.Lattice.{LatticeLaws, IsJoin, falls_strictly}
-use Rattle.ix_solve.specs.Solutions.{IsLeast}
+use Rattle.ix_solve.specs.Solutions.{IsLeast, IsMonotone}
 use Rattle.ix_solve.proofs.LabelLists.{least_set}
 
 -- the equations before `at` have been applied, to labels that were `first` when the round began
@@ -16,7 +15,7 @@ pub record SoFar {V : Type 0} (Below : V → V → Type 0) (rank : V → ℕ) (s
   pub quiet : rose ≡ false → (k : ℕ) (label : V) → k < at → slice_get now k ≡ Some label → (value : V) × Says k now value × Below value label
 
 module _ {V : Type 0} {Below : V → V → Type 0} {rank : V → ℕ} (laws : LatticeLaws Below rank) {size : ℕ} {Says : ℕ → List V → V → Type 0}
-    (monotone : (at : ℕ) (a b : List V) (v w : V) → AllZip Below a b → Says at a v → Says at b w → Below v w) where
+    (monotone : IsMonotone Below Says) where
   -- the label rises to the join
   pub raised : (at : ℕ) (rose : Bool) (first a : List V) (label value join : V) → at < length a → label ≡ get_or a at label → Says at a value → IsJoin Below label value join → ¬ Below value label
       → SoFar Below rank size Says at rose first a → SoFar Below rank size Says (at + 1) true first (set a at join)

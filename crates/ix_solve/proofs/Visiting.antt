@@ -1,12 +1,11 @@
 -- What the visits of waiting nodes keep.
 use Rattle.std.proofs.Common.{◌≡◌, ℕ, ◌+◌, ◌<◌, ◌≤◌, List, ◌∷◌, length, set, slice_get, Some, arith, length-set, length-append, sym, ap, ◌∙◌, subst, ⊎_elim, ◌⊎◌, inl, inr, Contains}
-use Rattle.std.specs.List.{AllZip}
 use Rattle.std.proofs.lemmas.Bool.{cases_eq}
 use Rattle.std.proofs.lemmas.List.Elements.{Contains-append_left, All-contains}
 use Rattle.std.proofs.lemmas.Option.{slice_get_within}
 use Rattle.ix_lattice.specs.Lattice.{LatticeLaws, IsJoin, falls_strictly}
-use Rattle.ix_solve.specs.Solutions.{IsLeast}
-use Rattle.ix_solve.specs.Readers.{AgreeWhereRead}
+use Rattle.ix_solve.specs.Solutions.{IsLeast, IsMonotone}
+use Rattle.ix_solve.specs.Readers.{AgreeWhereRead, DependsOnRead}
 use Rattle.ix_solve.specs.Waiting.{AddsEach}
 use Rattle.ix_solve.proofs.LabelLists.{least_set}
 use Rattle.ix_solve.proofs.NodeLists.{contains_cases, contains_or_not, slice_get-set_same, slice_get-set_other}
@@ -39,8 +38,8 @@ module _ {V : Type 0} {Below : V → V → Type 0} {rank : V → ℕ} (laws : La
   strict_join label value join is apart = falls_strictly laws label join is.left (λ back. apart (laws.transitive _ _ _ is.right back))
 
 module _ {V : Type 0} {Below : V → V → Type 0} {rank : V → ℕ} (laws : LatticeLaws Below rank) {readers : List (List ℕ)} {Visits : ℕ → List V → V → Type 0}
-    (monotone : (at : ℕ) (a b : List V) (v w : V) → AllZip Below a b → Visits at a v → Visits at b w → Below v w)
-    (depends : (at : ℕ) (a b : List V) (v : V) → at < length readers → AgreeWhereRead readers at a b → Visits at a v → Visits at b v) where
+    (monotone : IsMonotone Below Visits)
+    (depends : DependsOnRead readers Visits) where
   -- the label is above what the visit answered
   pub visited_kept : (before steps at : ℕ) (first a : List V) (old waiting : List ℕ) (label value : V) → old ≡ at ∷ waiting → slice_get a at ≡ Some label → Visits at a value → Below value label
       → Working Below rank readers Visits before steps first a old → Working Below rank readers Visits before (steps + 1) first a waiting

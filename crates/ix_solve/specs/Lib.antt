@@ -3,4 +3,3 @@ pub mod Readers
 pub mod Waiting
 pub mod Chain
 pub mod ChainLaws
-pub use Rattle.ix_lattice.specs.Lattice

@@ -12,6 +12,10 @@ abbrev pub AreBottom : {V : Type 0} → (V → V → Type 0) → List V → Type
 AreBottom Below [] = Unit {0}
 AreBottom Below (label ∷ labels) = IsBottom Below label × AreBottom Below labels
 
+-- of higher labels an equation says what is no lower
+abbrev pub IsMonotone : {V : Type 0} → (V → V → Type 0) → (ℕ → List V → V → Type 0) → Type 0
+IsMonotone {V} Below Says = (at : ℕ) (a b : List V) (v w : V) → AllZip Below a b → Says at a v → Says at b w → Below v w
+
 module _ {V : Type 0} (Below : V → V → Type 0) (size : ℕ) (Says : ℕ → List V → V → Type 0) where
   -- There is a label for each equation, and it is above what its equation says of the labels: a post-fixed
   -- point of the equations (Nielson, Nielson and Hankin, Principles of Program Analysis, A.4).

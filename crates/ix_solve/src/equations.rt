@@ -1,8 +1,7 @@
 //! Equations over a lattice, and their least solution by rounds.
 
 ghost use Rattle.std.specs.Prelude.{◌≡◌, ℕ, ◌<◌, List, length, IfOk, true, false, sum_by, vec_len};
-ghost use Rattle.std.specs.List.{AllZip};
-ghost use Rattle.ix_solve.specs.Solutions.{IsBottom, IsSolution, IsLeast};
+ghost use Rattle.ix_solve.specs.Solutions.{IsBottom, IsMonotone, IsSolution, IsLeast};
 
 use ix_lattice::Lattice;
 use std::alloc::{AllocError, Global};
@@ -36,13 +35,15 @@ pub trait Equations {
         ensures value { IfOk result (Applies self.now at labels.now) };
 
     /// Of higher labels an equation says what is no lower.
-    ghost monotone: { (e : Self) (at : ℕ) (a b : List Self.Value) (v w : Self.Value) → AllZip Self.Value.Below a b → Applies e at a v → Applies e at b w → Self.Value.Below v w };
+    ghost monotone: { (equations : Self) → IsMonotone Self.Value.Below (Applies equations) };
 }
 
 /// The least labels, one for each equation, that are above what the equations say of them.
 pub fn solve<E: Equations>(alloc: Global, equations: &E) -> Result<Vec<E::Value>, AllocError>
-    ensures solution { IfOk result (λ labels. IsSolution E.Value.Below (E.size equations.now) (E.Applies equations.now) labels.items) }
-    ensures least { IfOk result (λ labels. IsLeast E.Value.Below (E.size equations.now) (E.Applies equations.now) labels.items) }
+    ensures solution { IfOk result (λ labels.
+        IsSolution E.Value.Below (E.size equations.now) (E.Applies equations.now) labels.items) }
+    ensures least { IfOk result (λ labels.
+        IsLeast E.Value.Below (E.size equations.now) (E.Applies equations.now) labels.items) }
 {
     let mut labels = all_least(alloc, equations)?;
     while round(alloc, equations, &mut labels)? {}
@@ -51,7 +52,8 @@ pub fn solve<E: Equations>(alloc: Global, equations: &E) -> Result<Vec<E::Value>
 
 fn all_least<E: Equations>(alloc: Global, equations: &E) -> Result<Vec<E::Value>, AllocError>
     ensures len { IfOk result (λ labels. vec_len labels ≡ E.size equations.now) }
-    ensures least { IfOk result (λ labels. IsLeast E.Value.Below (E.size equations.now) (E.Applies equations.now) labels.items) }
+    ensures least { IfOk result (λ labels.
+        IsLeast E.Value.Below (E.size equations.now) (E.Applies equations.now) labels.items) }
 {
     let mut labels = Vec::new(alloc);
     for _ in 0..equations.len() {
@@ -69,9 +71,12 @@ fn round<E: Equations>(
     requires len { vec_len labels.old ≡ E.size equations.now }
     requires least { IsLeast E.Value.Below (E.size equations.now) (E.Applies equations.now) labels.old.items }
     ensures len { IfOk result (λ _. vec_len labels.new ≡ E.size equations.now) }
-    ensures least { IfOk result (λ _. IsLeast E.Value.Below (E.size equations.now) (E.Applies equations.now) labels.new.items) }
-    ensures quiet { IfOk result (λ rose. rose ≡ false → IsSolution E.Value.Below (E.size equations.now) (E.Applies equations.now) labels.new.items) }
-    ensures falls { IfOk result (λ rose. rose ≡ true → sum_by E.Value.rank labels.new.items < sum_by E.Value.rank labels.old.items) }
+    ensures least { IfOk result (λ _.
+        IsLeast E.Value.Below (E.size equations.now) (E.Applies equations.now) labels.new.items) }
+    ensures quiet { IfOk result (λ rose. rose ≡ false →
+        IsSolution E.Value.Below (E.size equations.now) (E.Applies equations.now) labels.new.items) }
+    ensures falls { IfOk result (λ rose. rose ≡ true →
+        sum_by E.Value.rank labels.new.items < sum_by E.Value.rank labels.old.items) }
 {
     let mut rose = false;
     for at in 0..equations.len() {

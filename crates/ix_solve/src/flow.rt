@@ -1,9 +1,8 @@
 //! Problems on a flow graph, and their least solution by a worklist.
 
 ghost use Rattle.std.specs.Prelude.{◌≡◌, ℕ, ◌+◌, ◌<◌, ◌≤◌, List, length, slice_get, Some, IfOk, vec_len};
-ghost use Rattle.std.specs.List.{AllZip};
-ghost use Rattle.ix_solve.specs.Solutions.{IsBottom, IsSolution, IsLeast, AreBottom};
-ghost use Rattle.ix_solve.specs.Readers.{AreReadersInRange, AgreeWhereRead, readings};
+ghost use Rattle.ix_solve.specs.Solutions.{IsBottom, AreBottom, IsMonotone, IsSolution, IsLeast};
+ghost use Rattle.ix_solve.specs.Readers.{AreReadersInRange, DependsOnRead, VisitsAtMost};
 
 use crate::steps::Steps;
 use crate::worklist::Worklist;
@@ -46,13 +45,13 @@ pub trait FlowProblem {
         requires at { at < length (readers_of self.now) }
         requires labels { length labels.now ≡ length (readers_of self.now) }
         ensures value { IfOk result (Visits self.now at labels.now) }
-        ensures step { IfOk result (λ _. steps.new ≡ steps.old + 1) };
+        ensures step { steps.new ≡ steps.old + 1 };
 
     /// Of higher labels a visit answers what is no lower.
-    ghost monotone: { (p : Self) (at : ℕ) (a b : List Self.Value) (v w : Self.Value) → AllZip Self.Value.Below a b → Visits p at a v → Visits p at b w → Self.Value.Below v w };
+    ghost monotone: { (problem : Self) → IsMonotone Self.Value.Below (Visits problem) };
 
     /// A visit depends only on labels that have the node among their readers.
-    ghost depends: { (p : Self) (at : ℕ) (a b : List Self.Value) (v : Self.Value) → at < length (readers_of p) → AgreeWhereRead (readers_of p) at a b → Visits p at a v → Visits p at b v };
+    ghost depends: { (problem : Self) → DependsOnRead (readers_of problem) (Visits problem) };
 }
 
 /// The least labels, one for each node, that are above what visits answer of them. Each node is visited
@@ -62,12 +61,15 @@ pub fn solve_graph<G: FlowProblem, L: Ledger>(
     problem: &G,
     steps: &mut Steps<L>,
 ) -> Result<Vec<G::Value>, AllocError>
-    ensures solution { IfOk result (λ labels. IsSolution G.Value.Below (length (G.readers_of problem.now)) (G.Visits problem.now) labels.items) }
-    ensures least { IfOk result (λ labels. IsLeast G.Value.Below (length (G.readers_of problem.now)) (G.Visits problem.now) labels.items) }
+    ensures solution { IfOk result (λ labels.
+        IsSolution G.Value.Below (length (G.readers_of problem.now)) (G.Visits problem.now) labels.items) }
+    ensures least { IfOk result (λ labels.
+        IsLeast G.Value.Below (length (G.readers_of problem.now)) (G.Visits problem.now) labels.items) }
 
     // Visits: at least one for each node, and at most one more for each reading of a label that rose.
     ensures at_least { IfOk result (λ _. steps.old + length (G.readers_of problem.now) ≤ steps.new) }
-    ensures at_most { IfOk result (λ labels. (bottom : G.Value) → IsBottom G.Value.Below bottom → steps.new ≤ steps.old + length (G.readers_of problem.now) + readings G.Value.rank (G.Value.rank bottom) (G.readers_of problem.now) labels.items) }
+    ensures at_most { IfOk result (λ labels. VisitsAtMost G.Value.Below G.Value.rank
+        (G.readers_of problem.now) steps.old steps.new labels.items) }
 {
     let mut labels = all_least(alloc, problem)?;
     let mut waiting = Worklist::of_all(alloc, labels.len())?;
