@@ -26,7 +26,8 @@ pub record JoinsFacts {K V : Type 0} (cmp : K → K → Ordering) (Below : V →
   pub common : (key : K) (v w : V) → fact_at cmp a key ≡ Some v → fact_at cmp b key ≡ Some w → (u : V) × (fact_at cmp joined key ≡ Some u) × IsJoin Below v w u
   pub only : (key : K) (u : V) → fact_at cmp joined key ≡ Some u → (v : V) × (w : V) × (fact_at cmp a key ≡ Some v) × (fact_at cmp b key ≡ Some w) × IsJoin Below v w u
 
--- of each key that is not seen yet, 1 and the rank of its value
+-- Of each key that is not seen yet, 1 and the rank of its value. A clause may speak of any list of facts, so a
+-- key may stand in it again: what a look-up does not find does not count.
 abbrev pub rank_unseen : {K V : Type 0} → (K → K → Bool) → (V → ℕ) → (K → Bool) → List (K × V) → ℕ
 rank_unseen eq rank seen [] = 0
 rank_unseen eq rank seen (fact ∷ facts) = cond (seen fact.0) (rank_unseen eq rank seen facts) (1 + rank fact.1 + rank_unseen eq rank (λ key. eq fact.0 key || seen key) facts)

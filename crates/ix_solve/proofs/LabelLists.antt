@@ -1,0 +1,42 @@
+-- Lists of labels, compared label by label.
+use Rattle.std.proofs.Common.{◌≡◌, ℕ, zero, suc, List, [], ◌∷◌, ◌++◌, length, set, slice_get, Some, arith, refl, subst}
+use Rattle.std.specs.List.{AllZip}
+use Rattle.ix_lattice.specs.Lattice.{LatticeLaws, IsJoin}
+use Rattle.ix_solve.specs.Solutions.{IsBottom, AreBottom, IsLeast, IsMonotone}
+
+module _ {V : Type 0} (Below : V → V → Type 0) where
+  -- a label is changed to one that is still below the other's
+  pub zip_set : (a b : List V) (i : ℕ) (y m : V) → AllZip Below a b → slice_get b i ≡ Some m → Below y m → AllZip Below (set a i y) b
+  zip_set [] [] i y m zip at below = zip
+  zip_set [] (q ∷ b) i y m zip at below = absurd zip
+  zip_set (x ∷ a) [] i y m zip at below = absurd zip
+  zip_set (x ∷ a) (q ∷ b) zero y m zip at below = let is : m ≡ q = cc in (subst (Below y) is below, zip.1)
+  zip_set (x ∷ a) (q ∷ b) (suc i) y m zip at below = (zip.0, zip_set a b i y m zip.1 at below)
+
+  -- at each place the other has a label that is above
+  pub zip_at : (a b : List V) (i : ℕ) (x : V) → AllZip Below a b → slice_get a i ≡ Some x → (m : V) × (slice_get b i ≡ Some m) × Below x m
+  zip_at [] b i x zip at = cc
+  zip_at (w ∷ a) [] i x zip at = absurd zip
+  zip_at (w ∷ a) (q ∷ b) zero x zip at = let is : w ≡ x = cc in (q, refl, subst (λ t. Below t q) is zip.0)
+  zip_at (w ∷ a) (q ∷ b) (suc i) x zip at = zip_at a b i x zip.1 at
+
+  pub AreBottom-push : (labels : List V) (label : V) → AreBottom Below labels → IsBottom Below label → AreBottom Below (labels ++ label ∷ [])
+  AreBottom-push [] label all bottom = (bottom, tt)
+  AreBottom-push (x ∷ labels) label all bottom = (all.0, AreBottom-push labels label all.1 bottom)
+
+  -- labels below every value are below all other labels
+  pub zip_bottom : (a b : List V) → AreBottom Below a → length a ≡ length b → AllZip Below a b
+  zip_bottom [] [] all same = tt
+  zip_bottom [] (q ∷ b) all same = absurd (omega arith)
+  zip_bottom (x ∷ a) [] all same = absurd (omega arith)
+  zip_bottom (x ∷ a) (q ∷ b) all same = (all.0 q, zip_bottom a b all.1 (omega arith))
+
+module _ {V : Type 0} {Below : V → V → Type 0} {rank : V → ℕ} (laws : LatticeLaws Below rank) {size : ℕ} {Says : ℕ → List V → V → Type 0}
+    (monotone : IsMonotone Below Says) where
+  -- least labels stay so where one is joined with what its equation says
+  pub least_set : (a : List V) (at : ℕ) (label value join : V) → IsLeast Below size Says a → slice_get a at ≡ Some label → Says at a value → IsJoin Below label value join → IsLeast Below size Says (set a at join)
+  least_set a at label value join least found says is other solution =
+      let zip = least other solution in
+      let theirs = zip_at Below a other at label zip found in
+      let above = solution.above at theirs.0 theirs.1 in
+      zip_set Below a other at join theirs.0 zip theirs.1 (is.least theirs.0 theirs.2 (laws.transitive _ _ _ (monotone at a other value above.0 zip says above.1) above.2))

@@ -1,0 +1,96 @@
+//! Problems on a flow graph, and their least solution by a worklist.
+
+ghost use Rattle.std.specs.Prelude.{◌≡◌, ℕ, ◌+◌, ◌<◌, ◌≤◌, List, length, slice_get, Some, IfOk, vec_len};
+ghost use Rattle.ix_solve.specs.Solutions.{IsBottom, AreBottom, IsMonotone, IsSolution, IsLeast};
+ghost use Rattle.ix_solve.specs.Readers.{AreReadersInRange, DependsOnRead, VisitsAtMost};
+
+use crate::steps::Steps;
+use crate::worklist::Worklist;
+use ix_lattice::Lattice;
+use std::alloc::{AllocError, Global};
+use std::sync::ledger::Ledger;
+
+/// A graph whose nodes, numbers from 0 on, read each other's labels.
+pub trait FlowProblem {
+    type Value: Lattice;
+
+    /// Of each node, the nodes that read its label.
+    ghost readers_of: { Self → List (List ℕ) };
+
+    /// What a visit of a node may answer at labels.
+    ghost Visits: { Self → ℕ → List Self.Value → Self.Value → Type 0 };
+
+    /// How many nodes there are.
+    fn len(&self) -> usize
+        ensures len { result ≡ length (readers_of self.now) }
+        ensures readers_in_range { AreReadersInRange (readers_of self.now) };
+
+    /// A value below every value. It takes no memory.
+    fn least(&self) -> Self::Value
+        ensures bottom { IsBottom Self.Value.Below result };
+
+    /// The nodes that read the label of node `at`. Each is below `len`.
+    fn readers(&self, at: usize) -> &[u32]
+        requires at { at < length (readers_of self.now) }
+        ensures readers { slice_get (readers_of self.now) at ≡ Some result.now };
+
+    /// What the label of node `at` must be above, or want of memory. It ticks once.
+    fn visit<L: Ledger>(
+        &self,
+        alloc: Global,
+        at: usize,
+        labels: &[Self::Value],
+        steps: &mut Steps<L>,
+    ) -> Result<Self::Value, AllocError>
+        requires at { at < length (readers_of self.now) }
+        requires labels { length labels.now ≡ length (readers_of self.now) }
+        ensures value { IfOk result (Visits self.now at labels.now) }
+        ensures step { steps.new ≡ steps.old + 1 };
+
+    /// Of higher labels a visit answers what is no lower.
+    ghost monotone: { (problem : Self) → IsMonotone Self.Value.Below (Visits problem) };
+
+    /// A visit depends only on labels that have the node among their readers.
+    ghost depends: { (problem : Self) → DependsOnRead (readers_of problem) (Visits problem) };
+}
+
+/// The least labels, one for each node, that are above what visits answer of them. Each node is visited
+/// at least once, and then only where a label that it reads has risen.
+pub fn solve_graph<G: FlowProblem, L: Ledger>(
+    alloc: Global,
+    problem: &G,
+    steps: &mut Steps<L>,
+) -> Result<Vec<G::Value>, AllocError>
+    ensures solution { IfOk result (λ labels.
+        IsSolution G.Value.Below (length (G.readers_of problem.now)) (G.Visits problem.now) labels.items) }
+    ensures least { IfOk result (λ labels.
+        IsLeast G.Value.Below (length (G.readers_of problem.now)) (G.Visits problem.now) labels.items) }
+
+    // Visits: at least one for each node, and at most one more for each reading of a label that rose.
+    ensures at_least { IfOk result (λ _. steps.old + length (G.readers_of problem.now) ≤ steps.new) }
+    ensures at_most { IfOk result (λ labels. VisitsAtMost G.Value.Below G.Value.rank
+        (G.readers_of problem.now) steps.old steps.new labels.items) }
+{
+    let mut labels = all_least(alloc, problem)?;
+    let mut waiting = Worklist::of_all(alloc, labels.len())?;
+    while let Some(at) = waiting.take_first() {
+        let value = problem.visit(alloc, at, &labels, steps)?;
+        if !value.leq(&labels[at]) {
+            waiting.add_all(problem.readers(at))?;
+            labels[at] = labels[at].join(alloc, &value)?;
+        }
+    }
+    Ok(labels)
+}
+
+fn all_least<G: FlowProblem>(alloc: Global, problem: &G) -> Result<Vec<G::Value>, AllocError>
+    ensures len { IfOk result (λ labels. vec_len labels ≡ length (G.readers_of problem.now)) }
+    ensures bottom { IfOk result (λ labels. AreBottom G.Value.Below labels.items) }
+    ensures readers { AreReadersInRange (G.readers_of problem.now) }
+{
+    let mut labels = Vec::new(alloc);
+    for _ in 0..problem.len() {
+        labels.push(problem.least())?;
+    }
+    Ok(labels)
+}
