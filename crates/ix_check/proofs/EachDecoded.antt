@@ -1,5 +1,5 @@
 -- How a loop decodes each element of a list.
-use Rattle.std.proofs.Common.{◌≡◌, ℕ, suc, ◌+◌, add-one, ◌<◌, List, [], ◌∷◌, ◌++◌, length, drop, get_or, Option, Some, None, option_map, option_and_then, refl, sym, ap, ◌∙◌, append_assoc, append-nil, arith}
+use Rattle.std.proofs.Common.{◌≡◌, ℕ, suc, ◌+◌, add-one, ◌<◌, List, [], ◌∷◌, ◌++◌, length, drop, get_or, Option, Some, None, option_map, option_and_then, refl, sym, ap, ◌∙◌, append_assoc}
 use Rattle.std.proofs.Math.Seq.{drop-cons}
 use Rattle.ix_check.specs.Form.{each_of}
 
@@ -18,10 +18,10 @@ module _ {A B : Type 0} (decode : A → Option B) where
   decoded_one xs values added index x value before within is decoded added_is =
       rw (add-one, added_is) (sym (join values value (each_of decode (drop (suc index) xs)))
       ∙ (let cut = drop-cons xs index x within in
-        ap (λ o. option_map (λ more. values ++ more) (option_and_then (λ y. option_map (λ ys. y ∷ ys) (each_of decode (drop (suc index) xs))) o)) (sym decoded)
-        ∙ ap (λ y. option_map (λ more. values ++ more) (option_and_then (λ y. option_map (λ ys. y ∷ ys) (each_of decode (drop (suc index) xs))) (decode y))) is
-        ∙ ap (λ l. option_map (λ more. values ++ more) (each_of decode l)) (sym cut)
-        ∙ before))
+      ap (λ o. option_map (λ more. values ++ more) (option_and_then (λ y. option_map (λ ys. y ∷ ys) (each_of decode (drop (suc index) xs))) o)) (sym decoded)
+      ∙ ap (λ y. option_map (λ more. values ++ more) (option_and_then (λ y. option_map (λ ys. y ∷ ys) (each_of decode (drop (suc index) xs))) (decode y))) is
+      ∙ ap (λ l. option_map (λ more. values ++ more) (each_of decode l)) (sym cut)
+      ∙ before))
 
   pub decoded_none : (xs : List A) (values : List B) (index : ℕ) (x : A) → Decoded decode xs values index → index < length xs → x ≡ get_or xs index x
       → decode x ≡ None → each_of decode xs ≡ None

@@ -1,5 +1,5 @@
 -- One local less in scope.
-use Rattle.std.proofs.Common.{◌≡◌, ℕ, zero, suc, ◌-◌, ◌<◌, ◌≤◌, List, length, get_or, Some, slice_get, true, false, bytes_eq, refl, sym, ap, ◌∙◌, arith, sub-one}
+use Rattle.std.proofs.Common.{◌≡◌, ℕ, zero, suc, ◌-◌, ◌<◌, ◌≤◌, List, length, get_or, Some, true, false, bytes_eq, refl, sym, ap, ◌∙◌, arith, sub-one}
 use Rattle.std.proofs.lemmas.Option.{slice_get-get_or}
 use Rattle.ix_check.specs.Conditions.{source, source_through}
 use Rattle.ix_check.specs.declared.form.Local.{Local}

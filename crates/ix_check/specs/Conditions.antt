@@ -1,5 +1,5 @@
 -- Which sources of the first form are judged: those whose names differ, are in scope and name what they should, within the limits.
-use Rattle.std.specs.Prelude.{◌≡◌, ℕ, zero, suc, ◌+◌, Bool, true, false, not, ◌&&◌, ◌||◌, ◌==◌, nat_le, nat_lt, if◌then◌else◌, List, [], ◌∷◌, ◌++◌, Option, Some, None, option_and_then, is_some, bytes_eq, decimal, length, map, slice_get, sum_by}
+use Rattle.std.specs.Prelude.{ℕ, zero, suc, ◌+◌, Bool, true, false, not, ◌&&◌, ◌||◌, nat_le, if◌then◌else◌, List, [], ◌∷◌, ◌++◌, Option, Some, None, is_some, bytes_eq, decimal, length, map, slice_get, sum_by}
 use Rattle.std.specs.List.{list_all, list_any}
 use Rattle.ix_check.specs.declared.form.Form.{Form}
 use Rattle.ix_check.specs.declared.form.Local.{Local}

@@ -1,13 +1,12 @@
 -- What a source of the first form says: one class with one static method, whose locals copy ints and whose value is a variable or one
 -- array access. A tree that shows none has another form.
-use Rattle.std.specs.Prelude.{◌≡◌, ℕ, Bool, true, false, not, ◌&&◌, ◌||◌, ◌==◌, if◌then◌else◌, List, [], ◌∷◌, ◌++◌, Option, Some, None, option_map, option_and_then, is_none, bytes_eq, codes, length, take, slice_get, ◌-◌}
+use Rattle.std.specs.Prelude.{ℕ, Bool, true, false, not, ◌&&◌, ◌==◌, if◌then◌else◌, List, [], ◌∷◌, Option, Some, None, option_map, option_and_then, is_none, bytes_eq, codes, length, take, slice_get, ◌-◌}
 use Rattle.ix_tree.specs.declared.annot.Annot.{Annot}
 use Rattle.ix_tree.specs.declared.annot.AnnotArg.{AnnotArg}
 use Rattle.ix_tree.specs.declared.annot.AnnotValue.{AnnotValue}
 use Rattle.ix_tree.specs.declared.annot.AnnotValue.TheVariants.{Texts, Number}
 use Rattle.ix_tree.specs.declared.annot.BaseTree.{BaseTree}
 use Rattle.ix_tree.specs.declared.annot.BaseTree.TheVariants as base
-use Rattle.ix_tree.specs.declared.annot.Ident.{Ident}
 use Rattle.ix_tree.specs.declared.annot.Mods.{Mods}
 use Rattle.ix_tree.specs.declared.annot.TypeTree.{TypeTree}
 use Rattle.ix_tree.specs.declared.decl.ClassDecl.{ClassDecl}
@@ -86,8 +85,8 @@ abbrev pub param_of : LocalDecl → Option Param
 param_of decl =
     if is_plain false decl.mods && is_none decl.init
     then if is_int 0 decl.ty then param_with decl.name.text false (each_of mark_of decl.mods.annots)
-      else if is_int 1 decl.ty && is_empty decl.mods.annots then param_with decl.name.text true (Some [])
-      else None
+    else if is_int 1 decl.ty && is_empty decl.mods.annots then param_with decl.name.text true (Some [])
+    else None
     else None
 
 -- ---- expressions and statements

@@ -1,7 +1,7 @@
 -- The two rules of an array access, for sources of the first form (Checker Framework manual, Index Checker, "Lower bounds" and "Upper
 -- bounds"): an index needs a claim that it is at least 0, and one that it is below the array's length. It has those of the parameter that
 -- it is a copy of.
-use Rattle.std.specs.Prelude.{ℕ, Bool, true, false, not, if◌then◌else◌, List, [], ◌∷◌, ◌++◌, Option, Some, None, option_map, option_and_then, bytes_eq, length, slice_get}
+use Rattle.std.specs.Prelude.{ℕ, Bool, true, false, if◌then◌else◌, List, [], ◌∷◌, ◌++◌, Option, Some, None, option_and_then, bytes_eq, length, slice_get}
 use Rattle.std.specs.List.{list_any}
 use Rattle.ix_text.specs.declared.span.Span.{Span}
 use Rattle.ix_core.specs.declared.error.Error.{Error}

@@ -202,8 +202,10 @@ pub(crate) fn is_judged(alloc: Global, form: &Form) -> Result<bool, AllocError>
     if params.len() > MOST_PARAMS || locals.len() > MOST_LOCALS {
         return Ok(false);
     }
-    Ok(all_differ(&names(alloc, form)?)
-        && are_params_fit(alloc, params)?
-        && are_in_scope(params, locals)
-        && is_value_in_scope(params, locals, &form.value))
+    Ok(
+        all_differ(&names(alloc, form)?)
+            && are_params_fit(alloc, params)?
+            && are_in_scope(params, locals)
+            && is_value_in_scope(params, locals, &form.value),
+    )
 }

@@ -73,7 +73,12 @@ fn error_at(rule: u8, span: Span) -> Error
 }
 
 /// The errors of an access with an index at that place, which has these annotations, into the array parameter of that number.
-fn access_errors(alloc: Global, marks: &[Mark], array: usize, span: Span) -> Result<Vec<Error>, AllocError>
+fn access_errors(
+    alloc: Global,
+    marks: &[Mark],
+    array: usize,
+    span: Span,
+) -> Result<Vec<Error>, AllocError>
     requires { array < 2 ^ 63 }
     ensures { IfOk result (λ errors. errors.items ≡ spec.access_errors marks.now array span) }
 {
@@ -101,7 +106,12 @@ fn marks_at(params: &[Param], number: Option<usize>) -> &[Mark]
 }
 
 /// The errors of a value, by place and rule.
-pub(crate) fn value_errors(alloc: Global, params: &[Param], locals: &[Local], value: &Value) -> Result<Vec<Error>, AllocError>
+pub(crate) fn value_errors(
+    alloc: Global,
+    params: &[Param],
+    locals: &[Local],
+    value: &Value,
+) -> Result<Vec<Error>, AllocError>
     ensures { IfOk result (λ errors. errors.items ≡ spec.value_errors params.now locals.now value.now) }
 {
     let Value::Access(array, index, span) = value else {

@@ -1,11 +1,10 @@
 -- What the grammar derives is read.
-use Rattle.std.proofs.Common.{◌≡◌, ℕ, zero, suc, ◌+◌, ◌<◌, ◌≤◌, Bool, true, false, not, ◌==◌, ◌||◌, List, [], ◌∷◌, ◌++◌, length, Ok, Err, refl, sym, ap, subst, ◌∙◌, append_assoc, append-nil, arith, length-append}
+use Rattle.std.proofs.Common.{◌≡◌, ℕ, zero, suc, ◌<◌, ◌≤◌, Bool, true, false, not, ◌==◌, List, [], ◌∷◌, ◌++◌, length, Ok, refl, sym, ap, ◌∙◌, append_assoc, append-nil, arith, length-append}
 use Rattle.std.proofs.lemmas.Bool.{eqb-true}
-use Rattle.ix_text.specs.declared.span.Span.{Span}
 use Rattle.ix_lexer.specs.declared.token.Token.{Token}
 use Rattle.ix_lexer.specs.declared.token.TokenKind.{TokenKind}
 use Rattle.ix_lexer.specs.declared.token.TokenKind.TheVariants as k
-use Rattle.ix_lexer.specs.declared.fixed.TheConstants.{CLASS, INT, RETURN, STATIC, OPEN_PAREN, CLOSE_PAREN, OPEN_BRACE, CLOSE_BRACE, OPEN_BRACKET, CLOSE_BRACKET, SEMICOLON, COMMA, AT, ASSIGN}
+use Rattle.ix_lexer.specs.declared.fixed.TheConstants.{CLASS, INT, STATIC, OPEN_PAREN, CLOSE_PAREN, OPEN_BRACE, CLOSE_BRACE, OPEN_BRACKET, SEMICOLON, COMMA, AT, ASSIGN}
 use Rattle.ix_tree.specs.declared.annot.Annot.{Annot}
 use Rattle.ix_tree.specs.declared.annot.TypeTree.{TypeTree}
 use Rattle.ix_tree.specs.declared.decl.ClassDecl.{ClassDecl}
@@ -13,7 +12,7 @@ use Rattle.ix_tree.specs.declared.decl.LocalDecl.{LocalDecl}
 use Rattle.ix_tree.specs.declared.decl.Member.{Member}
 use Rattle.ix_tree.specs.declared.expr.Expr.{Expr}
 use Rattle.ix_tree.specs.declared.stmt.Stmt.{Stmt}
-use Rattle.ix_parser.specs.Descent.{Outcome, Parser, and_then, is_fixed, sees, more, many, annot, annot_args, annots, brackets, type_tree, param, next_param, params, indexed, expr, local, returned, statement, starts_statement, statements, block, method_params, method, members, class_decl, classes}
+use Rattle.ix_parser.specs.Descent.{Parser, is_fixed, sees, more, many, annot, annot_args, annots, brackets, type_tree, param, next_param, params, indexed, expr, local, returned, statement, starts_statement, statements, block, method_params, method, members, class_decl, classes}
 use Rattle.ix_parser.specs.Grammar.{sign, name_token, string_token, IsEach, none, one_more, IsAnnot, bare, with_text, IsType, int, int_array, IsParam, IsNextParam, next, IsParams, no_param, some_params, IsExpr, variable, element, IsStatement, IsMethod, IsClass, class}
 use Rattle.ix_parser.specs.Grammar as g
 
@@ -158,8 +157,13 @@ statement_whole : {tokens : List Token} {node : Stmt} → IsStatement tokens nod
 unfolding statement local returned
 statement_whole (g.local {type_tokens} {tokens} {ty} {value} name assign end t e) later =
     let after : List Token = name_token name ∷ sign ASSIGN assign ∷ (tokens ++ sign SEMICOLON end ∷ later) in
-    rw (append_assoc type_tokens (name_token name ∷ sign ASSIGN assign ∷ (tokens ++ sign SEMICOLON end ∷ [])) later, append_assoc tokens (sign SEMICOLON end ∷ []) later,
-      type_begins t after, type_whole t after refl, expr_whole e (sign SEMICOLON end ∷ later) refl) refl
+    rw (
+      append_assoc type_tokens (name_token name ∷ sign ASSIGN assign ∷ (tokens ++ sign SEMICOLON end ∷ [])) later,
+      append_assoc tokens (sign SEMICOLON end ∷ []) later,
+      type_begins t after,
+      type_whole t after refl,
+      expr_whole e (sign SEMICOLON end ∷ later) refl,
+    ) refl
 statement_whole (g.returned {tokens} start end e) later =
     rw (append_assoc tokens (sign SEMICOLON end ∷ []) later, expr_whole e (sign SEMICOLON end ∷ later) refl) refl
 
@@ -185,10 +189,14 @@ method_whole (g.method {type_tokens} {param_tokens} {tokens} start name left rig
     let at_close : List Token = sign CLOSE_BRACE close ∷ later in
     let at_right : List Token = sign CLOSE_PAREN right ∷ sign OPEN_BRACE open_at ∷ (tokens ++ at_close) in
     let at_name : List Token = name_token name ∷ sign OPEN_PAREN left ∷ (param_tokens ++ at_right) in
-    rw (append_assoc type_tokens (name_token name ∷ sign OPEN_PAREN left ∷ (param_tokens ++ sign CLOSE_PAREN right ∷ sign OPEN_BRACE open_at ∷ (tokens ++ sign CLOSE_BRACE close ∷ []))) later,
+    rw (
+      append_assoc type_tokens (name_token name ∷ sign OPEN_PAREN left ∷ (param_tokens ++ sign CLOSE_PAREN right ∷ sign OPEN_BRACE open_at ∷ (tokens ++ sign CLOSE_BRACE close ∷ []))) later,
       append_assoc param_tokens (sign CLOSE_PAREN right ∷ sign OPEN_BRACE open_at ∷ (tokens ++ sign CLOSE_BRACE close ∷ [])) later,
       append_assoc tokens (sign CLOSE_BRACE close ∷ []) later,
-      type_whole t at_name refl, params_whole ps at_right refl, each_many statements_repeat ss at_close refl refl []) refl
+      type_whole t at_name refl,
+      params_whole ps at_right refl,
+      each_many statements_repeat ss at_close refl refl [],
+    ) refl
 
 method_begins : {tokens : List Token} {node : Member} → IsMethod tokens node → (later : List Token) → sees STATIC (tokens ++ later) ≡ true
 method_begins (g.method start name left right open_at close t ps ss) later = refl

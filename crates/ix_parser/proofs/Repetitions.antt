@@ -1,5 +1,5 @@
 -- How a loop of the code follows a repetition of the descent.
-use Rattle.std.proofs.Common.{◌≡◌, ℕ, zero, suc, ◌+◌, ◌<◌, Bool, true, false, List, [], ◌∷◌, ◌++◌, length, Result, Ok, Err, ◌≢◌, refl, sym, ◌∙◌, arith}
+use Rattle.std.proofs.Common.{◌≡◌, ℕ, zero, suc, ◌<◌, Bool, true, false, List, [], ◌∷◌, ◌++◌, length, Result, Ok, Err, ◌≢◌, sym, arith}
 use Rattle.ix_lexer.specs.declared.token.Token.{Token}
 use Rattle.ix_parser.specs.declared.error.Stop.{Stop}
 use Rattle.ix_parser.specs.declared.error.Stop.TheVariants.{Memory}

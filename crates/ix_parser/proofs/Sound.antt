@@ -1,5 +1,5 @@
 -- What is read is derived by the grammar.
-use Rattle.std.proofs.Common.{◌≡◌, ℕ, zero, suc, ◌+◌, Bool, true, false, ◌==◌, ◌||◌, if◌then◌else◌, cond, List, [], ◌∷◌, ◌++◌, length, Option, Some, None, Result, Ok, Err, refl, sym, ap, subst, ◌∙◌, append_assoc, append-nil, ◌⊎◌, inl, inr}
+use Rattle.std.proofs.Common.{◌≡◌, ℕ, zero, suc, Bool, true, false, cond, List, [], ◌∷◌, ◌++◌, length, Some, None, Ok, Err, refl, sym, ap, subst, ◌∙◌, append_assoc, append-nil, ◌⊎◌, inl, inr}
 use Rattle.std.proofs.lemmas.Bool.{eqb-true}
 use Rattle.ix_text.specs.declared.span.Span.{Span}
 use Rattle.ix_lexer.specs.declared.token.Token.{Token}
@@ -117,7 +117,12 @@ module _ {A : Type 0} (Item : List Token → A → Type 0) (starts : List Token 
           rest.4 ∙ append_assoc items (b.0.0 ∷ []) rest.1,
         ))
     | inr w ↦ (let same = ok_same _ _ w.1 in (
-          [], [], ap (λ (p : List A × List Token). p.1) same, none, sym (ap (λ (p : List A × List Token). p.0) same) ∙ sym (append-nil items)))
+      [],
+      [],
+      ap (λ (p : List A × List Token). p.1) same,
+      none,
+      sym (ap (λ (p : List A × List Token). p.0) same) ∙ sym (append-nil items),
+    ))
   ]
 
   pub many_read : (tokens later : List Token) (items nodes : List A) → many starts item items tokens ≡ ok (nodes, later) → Each tokens items nodes later
@@ -164,11 +169,11 @@ annot_sound tokens later node h =
           let all : List Token = sign AT b.0.0 ∷ name_token c.0.0 ∷ left in (
             all,
             then_fixed later AT tokens b.0.1 (name_token c.0.0 ∷ left) b.0.0 b.1
-              (then_ident later b.0.1 c.0.1 left c.0.0 c.1
-              (then_fixed later OPEN_PAREN c.0.1 d.0.1 string d.0.0 d.1
-              (text.2 ∙ ap (λ x. string_token text.0 text.1 ∷ x) (then_fixed later CLOSE_PAREN e.0.1 f.0.1 [] f.0.0 f.1 (ap rest_of_pair same))))),
+                (then_ident later b.0.1 c.0.1 left c.0.0 c.1
+                (then_fixed later OPEN_PAREN c.0.1 d.0.1 string d.0.0 d.1
+                (text.2 ∙ ap (λ x. string_token text.0 text.1 ∷ x) (then_fixed later CLOSE_PAREN e.0.1 f.0.1 [] f.0.0 f.1 (ap rest_of_pair same))))),
             subst (λ (x : Annot). IsAnnot all x) (ap (λ (arg : AnnotArg). record { name = c.0.0; args = arg ∷ []; span = record { from = b.0.0.from; to = f.0.0.to } }) (sym text.3) ∙ ap first_of_pair same)
-              (with_text b.0.0 c.0.0 d.0.0 text.0 text.1 f.0.0),
+                (with_text b.0.0 c.0.0 d.0.0 text.0 text.1 f.0.0),
           ))
       | inr w ↦ (let same = ok_same _ _ w.1 in
           let all : List Token = sign AT b.0.0 ∷ name_token c.0.0 ∷ [] in (
@@ -189,8 +194,8 @@ type_sound tokens later node h =
           let all : List Token = sign INT b.0.0 ∷ sign OPEN_BRACKET d.0.0 ∷ sign CLOSE_BRACKET e.0.0 ∷ [] in (
             all,
             then_fixed later INT tokens b.0.1 (sign OPEN_BRACKET d.0.0 ∷ sign CLOSE_BRACKET e.0.0 ∷ []) b.0.0 b.1
-              (then_fixed later OPEN_BRACKET b.0.1 d.0.1 (sign CLOSE_BRACKET e.0.0 ∷ []) d.0.0 d.1
-              (then_fixed later CLOSE_BRACKET d.0.1 e.0.1 [] e.0.0 e.1 (ap rest_of_pair same))),
+                (then_fixed later OPEN_BRACKET b.0.1 d.0.1 (sign CLOSE_BRACKET e.0.0 ∷ []) d.0.0 d.1
+                (then_fixed later CLOSE_BRACKET d.0.1 e.0.1 [] e.0.0 e.1 (ap rest_of_pair same))),
             subst (λ (x : TypeTree). IsType all x) (ap first_of_pair same) (int_array b.0.0 d.0.0 e.0.0),
           ))
       | inr w ↦ (let same = ok_same _ _ w.1 in
@@ -250,9 +255,9 @@ expr_sound tokens later node h =
           let all : List Token = name_token b.0.0 ∷ sign OPEN_BRACKET d.0.0 ∷ name_token e.0.0 ∷ sign CLOSE_BRACKET f.0.0 ∷ [] in (
             all,
             then_ident later tokens b.0.1 (sign OPEN_BRACKET d.0.0 ∷ name_token e.0.0 ∷ sign CLOSE_BRACKET f.0.0 ∷ []) b.0.0 b.1
-              (then_fixed later OPEN_BRACKET b.0.1 d.0.1 (name_token e.0.0 ∷ sign CLOSE_BRACKET f.0.0 ∷ []) d.0.0 d.1
-              (then_ident later d.0.1 e.0.1 (sign CLOSE_BRACKET f.0.0 ∷ []) e.0.0 e.1
-              (then_fixed later CLOSE_BRACKET e.0.1 f.0.1 [] f.0.0 f.1 (ap rest_of_pair same)))),
+                (then_fixed later OPEN_BRACKET b.0.1 d.0.1 (name_token e.0.0 ∷ sign CLOSE_BRACKET f.0.0 ∷ []) d.0.0 d.1
+                (then_ident later d.0.1 e.0.1 (sign CLOSE_BRACKET f.0.0 ∷ []) e.0.0 e.1
+                (then_fixed later CLOSE_BRACKET e.0.1 f.0.1 [] f.0.0 f.1 (ap rest_of_pair same)))),
             subst (λ (x : Expr). IsExpr all x) (ap first_of_pair same) (element b.0.0 d.0.0 e.0.0 f.0.0),
           ))
       | inr w ↦ (let same = ok_same _ _ w.1 in
@@ -279,10 +284,10 @@ local_sound tokens later node h =
     let all : List Token = ty.0 ++ name_token c.0.0 ∷ at_assign in (
       all,
       then_front later tokens b.0.1 ty.0 (name_token c.0.0 ∷ at_assign) ty.1
-        (then_ident later b.0.1 c.0.1 at_assign c.0.0 c.1
-        (then_fixed later ASSIGN c.0.1 d.0.1 (value.0 ++ end) d.0.0 d.1
-        (then_front later d.0.1 e.0.1 value.0 end value.1
-        (then_fixed later SEMICOLON e.0.1 f.0.1 [] f.0.0 f.1 (ap rest_of_pair same))))),
+          (then_ident later b.0.1 c.0.1 at_assign c.0.0 c.1
+          (then_fixed later ASSIGN c.0.1 d.0.1 (value.0 ++ end) d.0.0 d.1
+          (then_front later d.0.1 e.0.1 value.0 end value.1
+          (then_fixed later SEMICOLON e.0.1 f.0.1 [] f.0.0 f.1 (ap rest_of_pair same))))),
       subst (λ (x : Stmt). IsStatement all x) (ap first_of_pair same) (g.local c.0.0 d.0.0 f.0.0 ty.2 value.2),
     )
 
@@ -298,7 +303,7 @@ returned_sound tokens later node h =
     let all : List Token = sign RETURN b.0.0 ∷ (value.0 ++ end) in (
       all,
       then_fixed later RETURN tokens b.0.1 (value.0 ++ end) b.0.0 b.1
-        (then_front later b.0.1 e.0.1 value.0 end value.1 (then_fixed later SEMICOLON e.0.1 f.0.1 [] f.0.0 f.1 (ap rest_of_pair same))),
+          (then_front later b.0.1 e.0.1 value.0 end value.1 (then_fixed later SEMICOLON e.0.1 f.0.1 [] f.0.0 f.1 (ap rest_of_pair same))),
       subst (λ (x : Stmt). IsStatement all x) (ap first_of_pair same) (g.returned b.0.0 f.0.0 value.2),
     )
 
@@ -348,19 +353,19 @@ method_sound tokens later node h =
     let all : List Token = sign STATIC b.0.0 ∷ (ty.0 ++ at_name) in (
       all,
       then_fixed later STATIC tokens b.0.1 (ty.0 ++ at_name) b.0.0 b.1
-        (then_front later b.0.1 c.0.1 ty.0 at_name ty.1
-        (then_ident later c.0.1 d.0.1 (sign OPEN_PAREN i.0.0 ∷ (items.0 ++ at_right)) d.0.0 d.1
-        (then_fixed later OPEN_PAREN d.0.1 i.0.1 (items.0 ++ at_right) i.0.0 i.1
-        (then_front later i.0.1 j.0.1 items.0 at_right items.1
-        (then_fixed later CLOSE_PAREN j.0.1 l.0.1 (sign OPEN_BRACE m.0.0 ∷ (body.0 ++ close)) l.0.0 l.1
-        (ap rest_of_pair in_parens ∙ then_fixed later OPEN_BRACE e.0.1 m.0.1 (body.0 ++ close) m.0.0 m.1
-        (then_front later m.0.1 n.0.1 body.0 close body.1
-        (then_fixed later CLOSE_BRACE n.0.1 o.0.1 [] o.0.0 o.1 (ap rest_of_pair in_braces ∙ ap rest_of_pair same))))))))),
+          (then_front later b.0.1 c.0.1 ty.0 at_name ty.1
+          (then_ident later c.0.1 d.0.1 (sign OPEN_PAREN i.0.0 ∷ (items.0 ++ at_right)) d.0.0 d.1
+          (then_fixed later OPEN_PAREN d.0.1 i.0.1 (items.0 ++ at_right) i.0.0 i.1
+          (then_front later i.0.1 j.0.1 items.0 at_right items.1
+          (then_fixed later CLOSE_PAREN j.0.1 l.0.1 (sign OPEN_BRACE m.0.0 ∷ (body.0 ++ close)) l.0.0 l.1
+          (ap rest_of_pair in_parens ∙ then_fixed later OPEN_BRACE e.0.1 m.0.1 (body.0 ++ close) m.0.0 m.1
+          (then_front later m.0.1 n.0.1 body.0 close body.1
+          (then_fixed later CLOSE_BRACE n.0.1 o.0.1 [] o.0.0 o.1 (ap rest_of_pair in_braces ∙ ap rest_of_pair same))))))))),
       subst (λ (x : Member). IsMethod all x)
-        (ap (λ (x : List LocalDecl). method_node b.0.0 c.0.0 d.0.0 x (n.0.0, o.0.0)) (ap first_of_pair in_parens)
-        ∙ ap (λ (x : List Stmt × Span). method_node b.0.0 c.0.0 d.0.0 e.0.0 x) (ap first_of_pair in_braces)
-        ∙ ap first_of_pair same)
-        (g.method b.0.0 d.0.0 i.0.0 l.0.0 m.0.0 o.0.0 ty.2 items.2 body.2),
+          (ap (λ (x : List LocalDecl). method_node b.0.0 c.0.0 d.0.0 x (n.0.0, o.0.0)) (ap first_of_pair in_parens)
+          ∙ ap (λ (x : List Stmt × Span). method_node b.0.0 c.0.0 d.0.0 e.0.0 x) (ap first_of_pair in_braces)
+          ∙ ap first_of_pair same)
+          (g.method b.0.0 d.0.0 i.0.0 l.0.0 m.0.0 o.0.0 ty.2 items.2 body.2),
     )
 
 class_sound : Sound IsClass class_decl
@@ -377,10 +382,10 @@ class_sound tokens later node h =
     let all : List Token = sign CLASS b.0.0 ∷ name_token c.0.0 ∷ sign OPEN_BRACE d.0.0 ∷ (body.0 ++ close) in (
       all,
       then_fixed later CLASS tokens b.0.1 (name_token c.0.0 ∷ sign OPEN_BRACE d.0.0 ∷ (body.0 ++ close)) b.0.0 b.1
-        (then_ident later b.0.1 c.0.1 (sign OPEN_BRACE d.0.0 ∷ (body.0 ++ close)) c.0.0 c.1
-        (then_fixed later OPEN_BRACE c.0.1 d.0.1 (body.0 ++ close) d.0.0 d.1
-        (then_front later d.0.1 e.0.1 body.0 close body.1
-        (then_fixed later CLOSE_BRACE e.0.1 f.0.1 [] f.0.0 f.1 (ap rest_of_pair same))))),
+          (then_ident later b.0.1 c.0.1 (sign OPEN_BRACE d.0.0 ∷ (body.0 ++ close)) c.0.0 c.1
+          (then_fixed later OPEN_BRACE c.0.1 d.0.1 (body.0 ++ close) d.0.0 d.1
+          (then_front later d.0.1 e.0.1 body.0 close body.1
+          (then_fixed later CLOSE_BRACE e.0.1 f.0.1 [] f.0.0 f.1 (ap rest_of_pair same))))),
       subst (λ (x : ClassDecl). IsClass all x) (ap first_of_pair same) (class b.0.0 c.0.0 d.0.0 f.0.0 body.2),
     )
 

@@ -1,6 +1,6 @@
 -- A descent over a list of tokens with one token in hand, as functions on lists. The code follows them step by step; that they read
 -- exactly what the grammar derives is proved of them.
-use Rattle.std.specs.Prelude.{◌≡◌, ◌≢◌, ℕ, zero, suc, ◌+◌, Bool, true, false, if◌then◌else◌, ◌==◌, ◌||◌, List, [], ◌∷◌, ◌++◌, length, Option, Some, None, Result, Ok, Err}
+use Rattle.std.specs.Prelude.{◌≡◌, ◌≢◌, ℕ, zero, suc, Bool, true, false, if◌then◌else◌, ◌==◌, ◌||◌, List, [], ◌∷◌, ◌++◌, length, Option, Some, None, Result, Ok, Err}
 use Rattle.ix_text.specs.declared.span.Span.{Span}
 use Rattle.ix_lexer.specs.declared.token.Token.{Token}
 use Rattle.ix_lexer.specs.declared.token.TokenKind.{TokenKind}
@@ -10,21 +10,19 @@ use Rattle.ix_tree.specs.declared.annot.Ident.{Ident}
 use Rattle.ix_tree.specs.declared.annot.Annot.{Annot}
 use Rattle.ix_tree.specs.declared.annot.AnnotArg.{AnnotArg}
 use Rattle.ix_tree.specs.declared.annot.AnnotValue.TheVariants.{Texts}
-use Rattle.ix_tree.specs.declared.annot.BaseTree.TheVariants.{Int}
-use Rattle.ix_tree.specs.declared.annot.Mods.{Mods}
 use Rattle.ix_tree.specs.declared.annot.TypeTree.{TypeTree}
 use Rattle.ix_tree.specs.declared.decl.ClassDecl.{ClassDecl}
 use Rattle.ix_tree.specs.declared.decl.LocalDecl.{LocalDecl}
 use Rattle.ix_tree.specs.declared.decl.Member.{Member}
 use Rattle.ix_tree.specs.declared.decl.Member.TheVariants.{Method}
 use Rattle.ix_tree.specs.declared.expr.Expr.{Expr}
-use Rattle.ix_tree.specs.declared.expr.ExprKind.TheVariants.{Name, Index}
+use Rattle.ix_tree.specs.declared.expr.ExprKind.TheVariants.{Index}
 use Rattle.ix_tree.specs.declared.expr.Init.TheVariants.{Value}
 use Rattle.ix_tree.specs.declared.stmt.Stmt.{Stmt}
 use Rattle.ix_tree.specs.declared.stmt.StmtKind.TheVariants.{Local, Return}
 use Rattle.ix_parser.specs.Nodes.{across, mods_with, int_type, name_expr}
 use Rattle.ix_parser.specs.declared.error.Stop.{Stop}
-use Rattle.ix_parser.specs.declared.error.Stop.TheVariants.{Syntax, Memory}
+use Rattle.ix_parser.specs.declared.error.Stop.TheVariants.{Memory}
 
 -- what a rule gives: a node with the tokens behind it, or the tokens at which it stopped
 abbrev pub Outcome : Type 0 → Type 0
@@ -101,9 +99,9 @@ unfoldable pub annot_args : Span → Ident → Parser Annot
 annot_args at name tokens =
     if sees OPEN_PAREN tokens
     then and_then (fixed OPEN_PAREN tokens) (λ open_at.
-        λ later. and_then (string_arg later) (λ arg.
-        λ later. and_then (fixed CLOSE_PAREN later) (λ close.
-        λ later. Ok (record { name = name; args = arg ∷ []; span = across at close }, later))))
+    λ later. and_then (string_arg later) (λ arg.
+    λ later. and_then (fixed CLOSE_PAREN later) (λ close.
+    λ later. Ok (record { name = name; args = arg ∷ []; span = across at close }, later))))
     else Ok (record { name = name; args = []; span = across at name.span }, tokens)
 
 unfoldable pub annot : Parser Annot
@@ -117,8 +115,8 @@ unfoldable pub brackets : Span → Parser TypeTree
 brackets base tokens =
     if sees OPEN_BRACKET tokens
     then and_then (fixed OPEN_BRACKET tokens) (λ open_at.
-        λ later. and_then (fixed CLOSE_BRACKET later) (λ close.
-        λ later. Ok (int_type 1 (across base close), later)))
+    λ later. and_then (fixed CLOSE_BRACKET later) (λ close.
+    λ later. Ok (int_type 1 (across base close), later)))
     else Ok (int_type 0 base, tokens)
 
 unfoldable pub type_tree : Parser TypeTree
@@ -146,9 +144,9 @@ unfoldable pub indexed : Ident → Parser Expr
 indexed name tokens =
     if sees OPEN_BRACKET tokens
     then and_then (fixed OPEN_BRACKET tokens) (λ open_at.
-        λ later. and_then (ident later) (λ index.
-        λ later. and_then (fixed CLOSE_BRACKET later) (λ close.
-        λ later. Ok (record { kind = Index (name_expr name) (name_expr index); span = across name.span close }, later))))
+    λ later. and_then (ident later) (λ index.
+    λ later. and_then (fixed CLOSE_BRACKET later) (λ close.
+    λ later. Ok (record { kind = Index (name_expr name) (name_expr index); span = across name.span close }, later))))
     else Ok (name_expr name, tokens)
 
 unfoldable pub expr : Parser Expr
@@ -162,10 +160,13 @@ local tokens =
     λ later. and_then (fixed ASSIGN later) (λ assign.
     λ later. and_then (expr later) (λ value.
     λ later. and_then (fixed SEMICOLON later) (λ end.
-    λ later. Ok (record {
-      kind = Local (record { mods = mods_with false []; ty = ty; name = name; init = Some (Value value) } ∷ []);
-      span = across ty.span end;
-    }, later))))))
+    λ later. Ok (
+      record {
+        kind = Local (record { mods = mods_with false []; ty = ty; name = name; init = Some (Value value) } ∷ []);
+        span = across ty.span end;
+      },
+      later,
+    ))))))
 
 -- Return = "return" Expr ";"
 unfoldable pub returned : Parser Stmt
@@ -207,16 +208,19 @@ method tokens =
     λ later. and_then (ident later) (λ name.
     λ later. and_then (method_params later) (λ items.
     λ later. and_then (block later) (λ body.
-    λ later. Ok (Method (record {
-      mods = mods_with true [];
-      result = Some ty;
-      constructor = false;
-      name = name;
-      params = items;
-      parent_args = None;
-      body = body.0;
-      span = across start body.1;
-    }), later))))))
+    λ later. Ok (
+      Method (record {
+        mods = mods_with true [];
+        result = Some ty;
+        constructor = false;
+        name = name;
+        params = items;
+        parent_args = None;
+        body = body.0;
+        span = across start body.1;
+      }),
+      later,
+    ))))))
 
 unfoldable pub members : Parser (List Member)
 members = many (sees STATIC) method []

@@ -1,16 +1,13 @@
 -- The grammar, as a relation between lists of tokens and the nodes that they are: one case per alternative, which splits the list.
 -- After JLS 8.1, 8.4, 8.4.1, 9.7, 14.4, 14.17, 15.10.3 and 15.14.1, for the sources that are read so far.
-use Rattle.std.specs.Prelude.{ℕ, List, [], ◌∷◌, ◌++◌, Option, Some, None, Bool, true, false}
+use Rattle.std.specs.Prelude.{ℕ, List, [], ◌∷◌, ◌++◌, Some, None, true, false}
 use Rattle.ix_text.specs.declared.span.Span.{Span}
 use Rattle.ix_lexer.specs.declared.token.Token.{Token}
 use Rattle.ix_lexer.specs.declared.token.TokenKind.TheVariants as k
 use Rattle.ix_lexer.specs.declared.fixed.TheConstants.{CLASS, INT, RETURN, STATIC, OPEN_PAREN, CLOSE_PAREN, OPEN_BRACE, CLOSE_BRACE, OPEN_BRACKET, CLOSE_BRACKET, SEMICOLON, COMMA, AT, ASSIGN}
 use Rattle.ix_tree.specs.declared.annot.Ident.{Ident}
 use Rattle.ix_tree.specs.declared.annot.Annot.{Annot}
-use Rattle.ix_tree.specs.declared.annot.AnnotArg.{AnnotArg}
 use Rattle.ix_tree.specs.declared.annot.AnnotValue.TheVariants.{Texts}
-use Rattle.ix_tree.specs.declared.annot.BaseTree.TheVariants.{Int}
-use Rattle.ix_tree.specs.declared.annot.Mods.{Mods}
 use Rattle.ix_tree.specs.declared.annot.TypeTree.{TypeTree}
 use Rattle.ix_tree.specs.declared.decl.ClassDecl.{ClassDecl}
 use Rattle.ix_tree.specs.declared.decl.LocalDecl.{LocalDecl}
@@ -18,7 +15,7 @@ use Rattle.ix_tree.specs.declared.decl.Member.{Member}
 use Rattle.ix_tree.specs.declared.decl.Member.TheVariants.{Method}
 use Rattle.ix_tree.specs.declared.decl.Unit.{Unit as Source}
 use Rattle.ix_tree.specs.declared.expr.Expr.{Expr}
-use Rattle.ix_tree.specs.declared.expr.ExprKind.TheVariants.{Name, Index}
+use Rattle.ix_tree.specs.declared.expr.ExprKind.TheVariants.{Index}
 use Rattle.ix_tree.specs.declared.expr.Init.TheVariants.{Value}
 use Rattle.ix_tree.specs.declared.stmt.Stmt.{Stmt}
 use Rattle.ix_tree.specs.declared.stmt.StmtKind.TheVariants.{Local, Return}
@@ -51,7 +48,7 @@ pub data IsAnnot : List Token → Annot → Type 0 where
       → IsAnnot (sign AT at ∷ name_token name ∷ []) (record { name = name; args = []; span = across at name.span })
   with_text : (at : Span) (name : Ident) (left : Span) (text : List ℕ) (span right : Span)
       → IsAnnot (sign AT at ∷ name_token name ∷ sign OPEN_PAREN left ∷ string_token text span ∷ sign CLOSE_PAREN right ∷ [])
-        (record { name = name; args = record { name = None; value = Texts (text ∷ []); span = span } ∷ []; span = across at right })
+      (record { name = name; args = record { name = None; value = Texts (text ∷ []); span = span } ∷ []; span = across at right })
 
 -- Type = "int" | "int" "[" "]"
 pub data IsType : List Token → TypeTree → Type 0 where
@@ -80,16 +77,16 @@ pub data IsExpr : List Token → Expr → Type 0 where
   variable : (name : Ident) → IsExpr (name_token name ∷ []) (name_expr name)
   element : (array : Ident) (left : Span) (place : Ident) (right : Span)
       → IsExpr (name_token array ∷ sign OPEN_BRACKET left ∷ name_token place ∷ sign CLOSE_BRACKET right ∷ [])
-        (record { kind = Index (name_expr array) (name_expr place); span = across array.span right })
+      (record { kind = Index (name_expr array) (name_expr place); span = across array.span right })
 
 -- Statement = Type Ident "=" Expr ";" | "return" Expr ";"
 pub data IsStatement : List Token → Stmt → Type 0 where
   local : {type_tokens tokens : List Token} {ty : TypeTree} {value : Expr} (name : Ident) (assign end : Span) → IsType type_tokens ty → IsExpr tokens value
       → IsStatement (type_tokens ++ name_token name ∷ sign ASSIGN assign ∷ (tokens ++ sign SEMICOLON end ∷ []))
-        (record {
-          kind = Local (record { mods = mods_with false []; ty = ty; name = name; init = Some (Value value) } ∷ []);
-          span = across ty.span end;
-        })
+      (record {
+        kind = Local (record { mods = mods_with false []; ty = ty; name = name; init = Some (Value value) } ∷ []);
+        span = across ty.span end;
+      })
   returned : {tokens : List Token} {value : Expr} (start end : Span) → IsExpr tokens value
       → IsStatement (sign RETURN start ∷ (tokens ++ sign SEMICOLON end ∷ [])) (record { kind = Return (Some value); span = across start end })
 
@@ -100,23 +97,23 @@ pub data IsMethod : List Token → Member → Type 0 where
   method : {type_tokens param_tokens tokens : List Token} {ty : TypeTree} {items : List LocalDecl} {body : List Stmt} (start : Span) (name : Ident) (left right open_at close : Span)
       → IsType type_tokens ty → IsParams param_tokens items → IsEach IsStatement tokens body
       → IsMethod
-        (sign STATIC start ∷ (type_tokens ++ name_token name ∷ sign OPEN_PAREN left ∷ (param_tokens ++ sign CLOSE_PAREN right ∷ sign OPEN_BRACE open_at ∷ (tokens ++ sign CLOSE_BRACE close ∷ []))))
-        (Method (record {
-          mods = mods_with true [];
-          result = Some ty;
-          constructor = false;
-          name = name;
-          params = items;
-          parent_args = None;
-          body = body;
-          span = across start close;
-        }))
+      (sign STATIC start ∷ (type_tokens ++ name_token name ∷ sign OPEN_PAREN left ∷ (param_tokens ++ sign CLOSE_PAREN right ∷ sign OPEN_BRACE open_at ∷ (tokens ++ sign CLOSE_BRACE close ∷ []))))
+      (Method (record {
+        mods = mods_with true [];
+        result = Some ty;
+        constructor = false;
+        name = name;
+        params = items;
+        parent_args = None;
+        body = body;
+        span = across start close;
+      }))
 
 -- Class = "class" Ident "{" {Method} "}"
 pub data IsClass : List Token → ClassDecl → Type 0 where
   class : {tokens : List Token} {members : List Member} (start : Span) (name : Ident) (open_at close : Span) → IsEach IsMethod tokens members
       → IsClass (sign CLASS start ∷ name_token name ∷ sign OPEN_BRACE open_at ∷ (tokens ++ sign CLOSE_BRACE close ∷ []))
-        (record { name = name; parent = None; members = members; span = across start close })
+      (record { name = name; parent = None; members = members; span = across start close })
 
 -- The tokens are this source: {Class}.
 abbrev pub Derives : List Token → Source → Type 0

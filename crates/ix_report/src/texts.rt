@@ -25,7 +25,13 @@ fn key(rule: u8) -> &'static str
 }
 
 /// The line of an error.
-fn error_line(alloc: Global, lines: &LineMap, end: u32, file: &str, error: &Error) -> Result<String, AllocError>
+fn error_line(
+    alloc: Global,
+    lines: &LineMap,
+    end: u32,
+    file: &str,
+    error: &Error,
+) -> Result<String, AllocError>
     requires { end ≡ length lines.now }
     ensures { IfOk result (λ text. string_bytes text ≡ spec.error_line file.now lines.now error.now) }
 {
@@ -36,7 +42,13 @@ fn error_line(alloc: Global, lines: &LineMap, end: u32, file: &str, error: &Erro
 
 /// The lines of a rejected source: one for each of its errors, in their order, and one with their number. `lines` are those of the
 /// source, which has `end` bytes; an error past its end is placed at the end.
-pub fn rejected(alloc: Global, lines: &LineMap, end: u32, file: &str, errors: &[Error]) -> Result<String, AllocError>
+pub fn rejected(
+    alloc: Global,
+    lines: &LineMap,
+    end: u32,
+    file: &str,
+    errors: &[Error],
+) -> Result<String, AllocError>
     requires { end ≡ length lines.now }
     ensures { IfOk result (λ text. string_bytes text ≡ spec.rejected file.now lines.now errors.now) }
 {

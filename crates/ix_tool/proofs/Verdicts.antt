@@ -1,5 +1,5 @@
 -- What is right of one answer, and that no other is right.
-use Rattle.std.proofs.Common.{◌≡◌, ◌≢◌, ℕ, ◌<◌, ◌≤◌, ◌⊎◌, inl, inr, List, [], ◌∷◌, ◌++◌, Option, Some, None, length, take, ap, sym, subst, ◌∙◌, refl, arith, true, false, Bool}
+use Rattle.std.proofs.Common.{◌≡◌, ◌≢◌, ℕ, ◌<◌, inl, inr, List, [], ◌∷◌, Option, Some, None, length, take, ap, sym, subst, ◌∙◌, refl, arith, true, false}
 use Rattle.std.proofs.lemmas.List.{length-take}
 use Rattle.ix_core.specs.declared.error.Error.{Error}
 use Rattle.ix_check.specs.declared.check_source.Counts.{Counts}
@@ -10,7 +10,7 @@ use Rattle.ix_tool.specs.Answer.{Answer, Answers, IsBuilt, IsVerdict, judged, no
 use Rattle.ix_tool.specs.Reading.{IsAllOrPast}
 use Rattle.ix_tool.specs.Ends.{IsAnswer, bytes_of}
 use Rattle.ix_tool.specs.declared.status.Status.{Status}
-use Rattle.ix_tool.specs.declared.status.Status.TheVariants.{Done, Rejected, Usage, Unbuilt, ReadFault, WriteFault, Memory}
+use Rattle.ix_tool.specs.declared.status.Status.TheVariants.{Done, Rejected}
 
 -- ---- the verdict
 

@@ -15,9 +15,9 @@ mod reply;
 mod sink;
 mod source;
 mod status;
+mod sure;
 #[cfg(test)]
 mod tests;
-mod sure;
 mod tool;
 mod writing;
 

@@ -14,7 +14,13 @@ use crate::tool::run_tool;
 use std::alloc::Global;
 
 /// `run_tool` where no call of a file or a sink can fail: with memory enough, the answer.
-pub fn run_sure(alloc: Global, words: &[String], files: &mut SureSource, out: &mut SureSink, err: &mut SureSink) -> Status
+pub fn run_sure(
+    alloc: Global,
+    words: &[String],
+    files: &mut SureSource,
+    out: &mut SureSink,
+    err: &mut SureSink,
+) -> Status
     ensures exact { (held : Files) → ⟦<SureSource as Source>⟧.files files.old ≡ Some held → result ≢ Status.Memory
         → (answer : Answer) → Answers (command_of (words_of words.now)) (bytes_of (command_of (words_of words.now)) held) answer
         → (result ≡ answer.status)

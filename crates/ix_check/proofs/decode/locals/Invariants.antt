@@ -1,4 +1,3 @@
-use Rattle.std.proofs.Common.{◌≡◌}
 use Rattle.ix_check.specs.Form as spec
 use Rattle.ix_check.proofs.EachDecoded.{Decoded}
 use Rattle.ix_check.proofs.decode.locals.Given as goal

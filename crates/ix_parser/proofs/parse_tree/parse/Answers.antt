@@ -1,4 +1,4 @@
-use Rattle.std.proofs.Common.{rules, ap, sym, ◌∙◌, List}
+use Rattle.std.proofs.Common.{rules, ap, ◌∙◌, List}
 use Rattle.ix_tree.specs.declared.decl.ClassDecl.{ClassDecl}
 use Rattle.ix_tree.specs.declared.decl.Unit.{Unit as Source}
 use Rattle.ix_parser.proofs.OneTree.{tree_same, tree_whole, tree_read, tree_found}

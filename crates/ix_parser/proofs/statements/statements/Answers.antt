@@ -1,4 +1,4 @@
-use Rattle.std.proofs.Common.{rules, ◌≤◌, length, arith}
+use Rattle.std.proofs.Common.{rules}
 use Rattle.ix_parser.specs.Descent as spec
 use Rattle.ix_parser.proofs.Repetitions.{leads_on, leads_off, reads_stop}
 use Rattle.ix_parser.proofs.statements.statements.Goals as goal

@@ -1,6 +1,6 @@
-use Rattle.std.proofs.Common.{rules, ◌∙◌, arith}
+use Rattle.std.proofs.Common.{rules, ◌∙◌}
 use Rattle.std.proofs.lemmas.Result.{IfOk-weaker}
-use Rattle.ix_tool.proofs.Verdicts.{verdict_along, past-not_built, past-only, judged-only, unbuilt-only}
+use Rattle.ix_tool.proofs.Verdicts.{verdict_along, past-not_built, judged-only, unbuilt-only}
 use Rattle.ix_tool.specs.Answer.{judged, not_built}
 use Rattle.ix_tool.proofs.reply.reply_on.Goals as goal
 

@@ -1,4 +1,4 @@
-use Rattle.std.proofs.Common.{rules, ◌∙◌, sym, ap}
+use Rattle.std.proofs.Common.{rules, sym}
 use Rattle.ix_tool.proofs.Verdicts.{verdict-rejected}
 use Rattle.ix_tool.proofs.reply.verdict_reply.Goals as goal
 

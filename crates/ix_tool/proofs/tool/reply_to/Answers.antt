@@ -1,6 +1,5 @@
-use Rattle.std.proofs.Common.{inl, inr, refl, sym, ap, ◌∙◌}
+use Rattle.std.proofs.Common.{inl, inr, refl, sym}
 use Rattle.std.proofs.lemmas.Result.{IfOk-weaker}
-use Rattle.ix_tool.specs.Answer.{shown}
 use Rattle.ix_tool.proofs.Verdicts.{IsAnswer-read, Answers-read}
 use Rattle.ix_tool.proofs.tool.reply_to.Goals as goal
 
