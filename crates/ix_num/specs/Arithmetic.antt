@@ -4,8 +4,8 @@ use Rattle.std.specs.Int.{w32, int_wrap, cast_unsigned, cast_signed, int_bit_and
 use Rattle.ix_num.specs.declared.arith.Arith.{Arith}
 use Rattle.ix_num.specs.declared.arith.Arith.TheVariants.{Add, Sub, Mul, Div, Rem, And, Or, Xor, Shl, Shr, Ushr}
 
--- The int with the same low 32 bits. JLS 4.2.2: "the integer operators do not indicate overflow"; 15.18.2: "the result is the
--- low-order bits of the mathematical sum".
+-- The int with the same low 32 bits. JLS 4.2.2: "the integer operators do not indicate overflow or underflow in any way"; 15.18.2:
+-- where a sum overflows "the result is the low-order bits of the mathematical sum".
 abbrev pub wrap_of : ℤ → ℤ
 wrap_of n = int_wrap w32 n
 

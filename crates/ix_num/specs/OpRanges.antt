@@ -1,5 +1,6 @@
 -- The interval of what an operator gives, from the intervals of its operands: one row for each operator.
--- Miné, "Static Inference of Numeric Invariants by Abstract Interpretation" (2017), section 4.5, calls them the interval operators.
+-- Intervals as what is known of a number: Cousot and Cousot, "Static determination of dynamic properties of programs" (1976). The
+-- rows are this project's own.
 use Rattle.std.specs.Prelude.{Bool, ◌&&◌, ◌||◌, not, if◌then◌else◌, ℕ, ◌-◌, ◌^◌, nat_lt, ℤ, pos, negsuc, ◌+ℤ◌, ◌*ℤ◌, ◌-ℤ◌, neg_ℤ, int_lt, int_le, int_div, unsigned_abs}
 use Rattle.std.specs.Int.{int_min, int_max, int_shr}
 use Rattle.std.specs.Ordering.{int_eq}
