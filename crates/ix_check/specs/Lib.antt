@@ -2,4 +2,5 @@ pub mod Form
 pub mod Conditions
 pub mod Rules
 pub mod Counts
+pub mod Plain
 pub mod Decoding

@@ -42,8 +42,8 @@ pub fn count_unit(alloc: Global, unit: &Unit) -> Result<Counts, UnitError>
 {
     let form = form(alloc, unit)?;
     let accesses = match form.value {
-        Value::Variable(_) => 0,
-        Value::Access(_, _, _) => 1,
+        Value::Variable(_, _) => 0,
+        Value::Access(_, _, _, _) => 1,
     };
     Ok(Counts {
         methods: 1,

@@ -104,7 +104,7 @@ fn marks_at(params: &[Param], number: Option<usize>) -> &[Mark]
 pub(crate) fn value_errors(alloc: Global, params: &[Param], locals: &[Local], value: &Value) -> Result<Vec<Error>, AllocError>
     ensures { IfOk result (λ errors. errors.items ≡ spec.value_errors params.now locals.now value.now) }
 {
-    let Value::Access(array, index, span) = value else {
+    let Value::Access(array, index, span, _) = value else {
         return Ok(Vec::new(alloc));
     };
     let marks = marks_at(params, source(params, locals, locals.len(), index));
