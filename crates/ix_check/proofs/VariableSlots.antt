@@ -43,7 +43,7 @@ bytes_same xs = (bytes_eq-Decides xs xs).1 refl
 
 -- ---- names that differ
 
-front_differs : (xs ys : List (List ℕ)) → all_differ (xs ++ ys) ≡ true → all_differ xs ≡ true
+pub front_differs : (xs ys : List (List ℕ)) → all_differ (xs ++ ys) ≡ true → all_differ xs ≡ true
 front_differs [] ys h = refl
 front_differs (x ∷ xs) ys h =
     let parts = both_true _ _ h in
@@ -51,7 +51,7 @@ front_differs (x ∷ xs) ys h =
     rw (apart, front_differs xs ys parts.1) refl
 
 -- a name of the first list is none of the second
-across_differs : (xs ys : List (List ℕ)) (name : List ℕ) → all_differ (xs ++ ys) ≡ true → is_among name xs ≡ true → is_among name ys ≡ false
+pub across_differs : (xs ys : List (List ℕ)) (name : List ℕ) → all_differ (xs ++ ys) ≡ true → is_among name xs ≡ true → is_among name ys ≡ false
 across_differs [] ys name h among = cc
 across_differs (x ∷ xs) ys name h among =
     let parts = both_true _ _ h in

@@ -3,4 +3,5 @@ pub mod Conditions
 pub mod Rules
 pub mod Counts
 pub mod Plain
+pub mod Promise
 pub mod Decoding
