@@ -1,2 +1,7 @@
 mod EachDecoded
 mod SourceSteps
+mod VariableSlots
+mod EntryInputs
+mod MarkClaims
+mod PlainRuns
+mod AcceptedIsSafe

@@ -47,8 +47,8 @@ are_in_scope params locals scope (local ∷ rest) = is_some (source params local
 
 -- the value's variables are in scope, and its array is an array
 abbrev pub is_value_in_scope : List Param → List Local → Value → Bool
-is_value_in_scope params locals (Variable name) = is_some (source params locals (length locals) name)
-is_value_in_scope params locals (Access array index span) =
+is_value_in_scope params locals (Variable name span) = is_some (source params locals (length locals) name)
+is_value_in_scope params locals (Access array index span whole) =
     is_some (param_named true 0 params array) && is_some (source params locals (length locals) index)
 
 -- ---- annotations

@@ -8,8 +8,8 @@ use Rattle.ix_check.specs.declared.form.Value.TheVariants.{Variable, Access}
 use Rattle.ix_check.specs.Form.{form_of}
 
 abbrev pub accesses_in : Value → ℕ
-accesses_in (Variable name) = 0
-accesses_in (Access array index span) = 1
+accesses_in (Variable name span) = 0
+accesses_in (Access array index span whole) = 1
 
 abbrev pub counts_in : Form → Counts
 counts_in form = record { methods = 1; accesses = accesses_in form.value }

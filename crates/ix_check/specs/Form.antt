@@ -1,12 +1,14 @@
 -- What a source of the first form says: one class with one static method, whose locals copy ints and whose value is a variable or one
 -- array access. A tree that shows none has another form.
-use Rattle.std.specs.Prelude.{ℕ, Bool, true, false, not, ◌&&◌, ◌==◌, if◌then◌else◌, List, [], ◌∷◌, Option, Some, None, option_map, option_and_then, is_none, bytes_eq, codes, length, take, slice_get, ◌-◌}
+use Rattle.std.specs.Prelude.{◌≡◌, ℕ, Bool, true, false, not, ◌&&◌, ◌||◌, ◌==◌, if◌then◌else◌, List, [], ◌∷◌, ◌++◌, Option, Some, None, option_map, option_and_then, is_none, bytes_eq, codes, length, take, slice_get, ◌-◌}
+use Rattle.ix_text.specs.declared.span.Span.{Span}
 use Rattle.ix_tree.specs.declared.annot.Annot.{Annot}
 use Rattle.ix_tree.specs.declared.annot.AnnotArg.{AnnotArg}
 use Rattle.ix_tree.specs.declared.annot.AnnotValue.{AnnotValue}
 use Rattle.ix_tree.specs.declared.annot.AnnotValue.TheVariants.{Texts, Number}
 use Rattle.ix_tree.specs.declared.annot.BaseTree.{BaseTree}
 use Rattle.ix_tree.specs.declared.annot.BaseTree.TheVariants as base
+use Rattle.ix_tree.specs.declared.annot.Ident.{Ident}
 use Rattle.ix_tree.specs.declared.annot.Mods.{Mods}
 use Rattle.ix_tree.specs.declared.annot.TypeTree.{TypeTree}
 use Rattle.ix_tree.specs.declared.decl.ClassDecl.{ClassDecl}
@@ -85,44 +87,47 @@ abbrev pub param_of : LocalDecl → Option Param
 param_of decl =
     if is_plain false decl.mods && is_none decl.init
     then if is_int 0 decl.ty then param_with decl.name.text false (each_of mark_of decl.mods.annots)
-    else if is_int 1 decl.ty && is_empty decl.mods.annots then param_with decl.name.text true (Some [])
-    else None
+      else if is_int 1 decl.ty && is_empty decl.mods.annots then param_with decl.name.text true (Some [])
+      else None
     else None
 
 -- ---- expressions and statements
 
-abbrev pub name_in : ExprKind-F ExprKind Init Expr → Option (List ℕ)
-name_in (ExprKind-F.Name name) = Some name.text
+abbrev pub name_in : ExprKind-F ExprKind Init Expr → Option Ident
+name_in (ExprKind-F.Name name) = Some name
 name_in _ = None
 
-abbrev pub name_of : Expr → Option (List ℕ)
+abbrev pub name_of : Expr → Option Ident
 name_of expr = name_in (out-ExprKind expr.kind)
 
-abbrev pub access_of : Expr → Expr → Option Value
-access_of array index = option_and_then (λ a. option_map (λ i. Access a i index.span) (name_of index)) (name_of array)
+abbrev pub access_of : Expr → Expr → Span → Option Value
+access_of array index whole = option_and_then (λ a. option_map (λ i. Access a.text i.text index.span whole) (name_of index)) (name_of array)
 
-abbrev pub value_in : ExprKind-F ExprKind Init Expr → Option Value
-value_in (ExprKind-F.Name name) = Some (Variable name.text)
-value_in (ExprKind-F.Index array index) = access_of array index
-value_in _ = None
+abbrev pub value_in : Span → ExprKind-F ExprKind Init Expr → Option Value
+value_in span (ExprKind-F.Name name) = Some (Variable name.text span)
+value_in span (ExprKind-F.Index array index) = access_of array index span
+value_in span _ = None
 
 abbrev pub value_of : Expr → Option Value
-value_of expr = value_in (out-ExprKind expr.kind)
+value_of expr = value_in expr.span (out-ExprKind expr.kind)
 
-abbrev pub init_in : Init-F ExprKind Init Expr → Option (List ℕ)
+abbrev pub init_in : Init-F ExprKind Init Expr → Option Ident
 init_in (Init-F.Value expr) = name_of expr
 init_in (Init-F.Items items span) = None
 
-abbrev pub init_of : Init → Option (List ℕ)
+abbrev pub init_of : Init → Option Ident
 init_of init = init_in (out-Init init)
 
-abbrev pub decl_init : LocalDecl → Option (List ℕ)
+abbrev pub decl_init : LocalDecl → Option Ident
 decl_init decl = option_and_then init_of decl.init
+
+abbrev pub local_with : Ident → Ident → Local
+local_with name init = record { name = name.text; name_span = name.span; init = init.text; init_span = init.span }
 
 abbrev pub local_of_decl : LocalDecl → Option Local
 local_of_decl decl =
     if is_plain false decl.mods && (is_empty decl.mods.annots && is_int 0 decl.ty)
-    then option_map (λ text. record { name = decl.name.text; init = text }) (decl_init decl)
+    then option_map (local_with decl.name) (decl_init decl)
     else None
 
 abbrev pub local_in : StmtKind-F StmtKind Stmt → Option Local
@@ -151,26 +156,35 @@ abbrev pub is_int_result : Option TypeTree → Bool
 is_int_result (Some ty) = is_int 0 ty
 is_int_result None = false
 
-abbrev pub form_with : List ℕ → List ℕ → List Param → List Local × Value → Form
-form_with class method params body = record { class = class; method = method; params = params; locals = body.0; value = body.1 }
+abbrev pub form_with : Ident → MethodDecl → List Param → List Local × Value → Form
+form_with class decl params body = record {
+  class = class.text;
+  class_span = class.span;
+  method = decl.name.text;
+  method_span = decl.name.span;
+  end = decl.span.to;
+  params = params;
+  locals = body.0;
+  value = body.1;
+}
 
 -- static int, and no more
 abbrev pub is_plain_head : MethodDecl → Bool
 is_plain_head decl =
     is_plain true decl.mods && (is_empty decl.mods.annots && (is_int_result decl.result && (not decl.constructor && is_none decl.parent_args)))
 
-abbrev pub method_form : List ℕ → MethodDecl → Option Form
+abbrev pub method_form : Ident → MethodDecl → Option Form
 method_form class decl =
     if is_plain_head decl
-    then option_and_then (λ params. option_map (form_with class decl.name.text params) (body_of decl.body)) (each_of param_of decl.params)
+    then option_and_then (λ params. option_map (form_with class decl params) (body_of decl.body)) (each_of param_of decl.params)
     else None
 
-abbrev pub member_form : List ℕ → Member → Option Form
+abbrev pub member_form : Ident → Member → Option Form
 member_form class (Method decl) = method_form class decl
 member_form class (Field decl) = None
 
 abbrev pub class_form : ClassDecl → Option Form
-class_form class = if is_none class.parent then option_and_then (member_form class.name.text) (only class.members) else None
+class_form class = if is_none class.parent then option_and_then (member_form class.name) (only class.members) else None
 
 -- what the source says, where it has the first form
 abbrev pub form_of : Source → Option Form

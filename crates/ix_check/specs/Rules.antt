@@ -53,8 +53,8 @@ array_errors marks span None = []
 array_errors marks span (Some array) = access_errors marks array span
 
 abbrev pub value_errors : List Param → List Local → Value → List Error
-value_errors params locals (Variable name) = []
-value_errors params locals (Access array index span) =
+value_errors params locals (Variable name span) = []
+value_errors params locals (Access array index span whole) =
     array_errors (marks_at params (source params locals (length locals) index)) span (param_named true 0 params array)
 
 -- the errors of a source of the first form, where it is judged

@@ -63,8 +63,8 @@ fn is_value_in_scope(params: &[Param], locals: &[Local], value: &Value) -> bool
     ensures { result ≡ spec.is_value_in_scope params.now locals.now value.now }
 {
     match value {
-        Value::Variable(name) => source(params, locals, locals.len(), name).is_some(),
-        Value::Access(array, index, _) => {
+        Value::Variable(name, _) => source(params, locals, locals.len(), name).is_some(),
+        Value::Access(array, index, _, _) => {
             param_named(params, array, true).is_some()
                 && source(params, locals, locals.len(), index).is_some()
         }

@@ -5,9 +5,9 @@ ghost use Rattle.ix_check.specs.Decoding.{Decodes};
 
 use crate::error::UnitError;
 use crate::form::{Form, Local, Mark, Param, Value};
-use ix_text::{List, Text};
+use ix_text::{List, Span, Text};
 use ix_tree::{
-    Annot, AnnotArg, AnnotValue, BaseTree, ClassDecl, Expr, ExprKind, Init, LocalDecl, Member,
+    Annot, AnnotArg, AnnotValue, BaseTree, ClassDecl, Expr, ExprKind, Ident, Init, LocalDecl, Member,
     MethodDecl, Mods, Stmt, StmtKind, TypeTree, Unit,
 };
 use std::alloc::{AllocError, Global};
@@ -131,24 +131,25 @@ fn params(alloc: Global, decls: &[LocalDecl]) -> Result<List<Param>, UnitError>
 }
 
 /// The name that an expression is.
-fn name(expr: &Expr) -> Option<&Text>
-    ensures { option_map (λ text. text.now) result ≡ spec.name_of expr.now }
+fn name(expr: &Expr) -> Option<&Ident>
+    ensures { option_map (λ name. name.now) result ≡ spec.name_of expr.now }
 {
     match &expr.kind {
-        ExprKind::Name(name) => Some(&name.text),
+        ExprKind::Name(name) => Some(name),
         _ => None,
     }
 }
 
-/// The access that an array and an index make.
-fn access(alloc: Global, array: &Expr, index: &Expr) -> Result<Value, UnitError>
-    ensures { Decodes (spec.access_of array.now index.now) result }
+/// The access that an array and an index make, which stands there as a whole.
+fn access(alloc: Global, array: &Expr, index: &Expr, whole: Span) -> Result<Value, UnitError>
+    ensures { Decodes (spec.access_of array.now index.now whole) result }
 {
     match (name(array), name(index)) {
         (Some(array), Some(name)) => Ok(Value::Access(
-            copied(alloc, array)?,
-            copied(alloc, name)?,
+            copied(alloc, &array.text)?,
+            copied(alloc, &name.text)?,
             index.span,
+            whole,
         )),
         _ => Err(UnitError::Unbuilt),
     }
@@ -159,15 +160,15 @@ fn value(alloc: Global, expr: &Expr) -> Result<Value, UnitError>
     ensures { Decodes (spec.value_of expr.now) result }
 {
     match &expr.kind {
-        ExprKind::Name(name) => Ok(Value::Variable(copied(alloc, &name.text)?)),
-        ExprKind::Index(array, index) => access(alloc, array.get(), index.get()),
+        ExprKind::Name(name) => Ok(Value::Variable(copied(alloc, &name.text)?, expr.span)),
+        ExprKind::Index(array, index) => access(alloc, array.get(), index.get(), expr.span),
         _ => Err(UnitError::Unbuilt),
     }
 }
 
 /// The name that an initialiser is.
-fn init_name(init: &Init) -> Option<&Text>
-    ensures { option_map (λ text. text.now) result ≡ spec.init_of init.now }
+fn init_name(init: &Init) -> Option<&Ident>
+    ensures { option_map (λ name. name.now) result ≡ spec.init_of init.now }
 {
     match init {
         Init::Value(expr) => name(expr),
@@ -176,8 +177,8 @@ fn init_name(init: &Init) -> Option<&Text>
 }
 
 /// The name of the initialiser of a declaration.
-fn decl_init(decl: &LocalDecl) -> Option<&Text>
-    ensures { option_map (λ text. text.now) result ≡ spec.decl_init decl.now }
+fn decl_init(decl: &LocalDecl) -> Option<&Ident>
+    ensures { option_map (λ name. name.now) result ≡ spec.decl_init decl.now }
 {
     match &decl.init {
         Some(init) => init_name(init),
@@ -195,7 +196,9 @@ fn local_decl(alloc: Global, decl: &LocalDecl) -> Result<Local, UnitError>
     match decl_init(decl) {
         Some(init) => Ok(Local {
             name: copied(alloc, &decl.name.text)?,
-            init: copied(alloc, init)?,
+            name_span: decl.name.span,
+            init: copied(alloc, &init.text)?,
+            init_span: init.span,
         }),
         None => Err(UnitError::Unbuilt),
     }
@@ -270,7 +273,7 @@ fn is_plain_head(decl: &MethodDecl) -> bool
 }
 
 /// What a method of that class says.
-fn method(alloc: Global, class: &Text, decl: &MethodDecl) -> Result<Form, UnitError>
+fn method(alloc: Global, class: &Ident, decl: &MethodDecl) -> Result<Form, UnitError>
     ensures { Decodes (spec.method_form class.now decl.now) result }
 {
     if !is_plain_head(decl) {
@@ -279,8 +282,11 @@ fn method(alloc: Global, class: &Text, decl: &MethodDecl) -> Result<Form, UnitEr
     let params = params(alloc, decl.params.as_slice())?;
     let (locals, value) = body(alloc, decl.body.as_slice())?;
     Ok(Form {
-        class: copied(alloc, class)?,
+        class: copied(alloc, &class.text)?,
+        class_span: class.span,
         method: copied(alloc, &decl.name.text)?,
+        method_span: decl.name.span,
+        end: decl.span.to,
         params,
         locals,
         value,
@@ -295,7 +301,7 @@ fn class(alloc: Global, decl: &ClassDecl) -> Result<Form, UnitError>
         return Err(UnitError::Unbuilt);
     }
     match decl.members.as_slice() {
-        [Member::Method(method_decl)] => method(alloc, &decl.name.text, method_decl),
+        [Member::Method(method_decl)] => method(alloc, &decl.name, method_decl),
         _ => Err(UnitError::Unbuilt),
     }
 }

@@ -13,5 +13,5 @@ mod error;
 mod form;
 mod rules;
 
-pub use check_source::{Counts, check_unit, count_unit};
+pub use check_source::{Counts, accepted_is_safe, check_unit, count_unit};
 pub use error::UnitError;

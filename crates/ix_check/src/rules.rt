@@ -114,7 +114,7 @@ pub(crate) fn value_errors(
 ) -> Result<Vec<Error>, AllocError>
     ensures { IfOk result (λ errors. errors.items ≡ spec.value_errors params.now locals.now value.now) }
 {
-    let Value::Access(array, index, span) = value else {
+    let Value::Access(array, index, span, _) = value else {
         return Ok(Vec::new(alloc));
     };
     let marks = marks_at(params, source(params, locals, locals.len(), index));

@@ -8,7 +8,10 @@ use Rattle.ix_tool.specs.Outside.{Files, bytes_under}
 use Rattle.ix_tool.specs.Statuses.{is_answer}
 use Rattle.ix_tool.specs.Answer.{Answer, Answers, IsBuilt, IsVerdict, judged, not_built, verdict, unbuilt, usage, most_bytes}
 use Rattle.ix_tool.specs.Reading.{IsAllOrPast}
-use Rattle.ix_tool.specs.Ends.{IsAnswer, bytes_of}
+use Rattle.ix_tool.specs.Ends.{IsAnswer, bytes_of, SafeBytes, ReadSafely}
+use Rattle.ix_tree.specs.declared.decl.Unit.{Unit as Source}
+use Rattle.ix_check.specs.Rules.{errors_of}
+use Rattle.ix_check.specs.Promise.{IsSafe}
 use Rattle.ix_tool.specs.declared.status.Status.{Status}
 use Rattle.ix_tool.specs.declared.status.Status.TheVariants.{Done, Rejected}
 
@@ -102,3 +105,29 @@ IsAnswer-is_answer files command answer right = is_answer-Answers command right.
 -- a status of an answer is no fault and no want of memory
 pub is_answer-other : (result other : Status) → is_answer result ≡ true → is_answer other ≡ false → result ≡ other → ⊥
 is_answer-other result other so not_so same = cc (ap is_answer same)
+
+-- ---- what is accepted
+
+verdict_safe : ((source : Source) → errors_of source ≡ Some [] → IsSafe source) → (file bytes : List ℕ) (counts : Counts) (errors : List Error) → IsBuilt bytes counts errors
+    → (verdict file bytes counts errors).status ≡ Done → SafeBytes bytes
+verdict_safe law file bytes counts [] built done = record {
+  tokens = built.tokens;
+  lexed = built.lexed;
+  source = built.source;
+  parsed = built.parsed;
+  safe = law built.source built.judged;
+}
+verdict_safe law file bytes counts (error ∷ errors) built done = absurd (cc)
+
+IsVerdict-safe : ((source : Source) → errors_of source ≡ Some [] → IsSafe source) → (file bytes : List ℕ) (answer : Answer) → IsVerdict file bytes answer → answer.status ≡ Done → SafeBytes bytes
+IsVerdict-safe law file bytes _ (judged {counts} {errors} built) done = verdict_safe law file bytes counts errors built done
+IsVerdict-safe law file bytes _ (not_built none) done = absurd (cc)
+
+Answers-safe : ((source : Source) → errors_of source ≡ Some [] → IsSafe source) → (command : Option (List ℕ)) (bytes : List ℕ) (answer : Answer) → Answers command bytes answer → answer.status ≡ Done → SafeBytes bytes
+Answers-safe law None bytes answer right done = let status : answer.status ≡ Usage = ap (λ (a : Answer). a.status) right in absurd (cc)
+Answers-safe law (Some file) bytes answer right done = IsVerdict-safe law file bytes answer right done
+
+-- an answer that accepts is of bytes that are safe
+pub IsAnswer-safe : ((source : Source) → errors_of source ≡ Some [] → IsSafe source) → (files : Option Files) (command : Option (List ℕ)) (answer : Answer) → IsAnswer files command answer → answer.status ≡ Done
+    → ReadSafely files command
+IsAnswer-safe law files command answer right done = (right.0, right.1, Answers-safe law command right.0 answer right.2 done)

@@ -1,5 +1,10 @@
 -- How a call of the tool ends.
 use Rattle.std.specs.Prelude.{◌≡◌, ℕ, List, [], Option, Some, None, take}
+use Rattle.ix_lexer.specs.declared.token.Token.{Token}
+use Rattle.ix_lexer.specs.Tokens.{Tokens}
+use Rattle.ix_tree.specs.declared.decl.Unit.{Unit as Source}
+use Rattle.ix_parser.specs.Grammar.{Derives}
+use Rattle.ix_check.specs.Promise.{IsSafe}
 use Rattle.ix_tool.specs.Outside.{Files, bytes_under, Rose, with_more}
 use Rattle.ix_tool.specs.Answer.{Answer, Answers, read_failed, out_of_memory}
 use Rattle.ix_tool.specs.declared.status.Status.{Status}
@@ -87,3 +92,15 @@ pub record TookWanted (files : Option Files) (command : Option (List ℕ)) (old 
 pub record TookNothing (old new : Texts) : Type 0 where
   pub out : new.out ≡ old.out
   pub err : TookPrefix out_of_memory old.err new.err
+
+-- The bytes are a source no run of whose program indexes outside an array or makes one of negative length.
+pub record SafeBytes (bytes : List ℕ) : Type 0 where
+  pub tokens : List Token
+  pub lexed : Tokens bytes tokens
+  pub source : Source
+  pub parsed : Derives tokens source
+  pub safe : IsSafe source
+
+-- Bytes that were read are safe.
+abbrev pub ReadSafely : Option Files → Option (List ℕ) → Type 0
+ReadSafely files command = (bytes : List ℕ) × AreRead files command bytes × SafeBytes bytes

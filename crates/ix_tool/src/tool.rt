@@ -4,7 +4,7 @@ ghost use Rattle.ix_tool.specs.Outside.{Files, bytes_under, Rose};
 ghost use Rattle.ix_tool.specs.Command.{command_of, words_of};
 ghost use Rattle.ix_tool.specs.Statuses.{is_answer};
 ghost use Rattle.ix_tool.specs.Answer.{Answer, Answers, shown, out_of_memory};
-ghost use Rattle.ix_tool.specs.Ends.{Took, TookPrefix, bytes_of, IsAnswer, IsReadFault, texts, EndsWell, EndsUnread, TookUnread, TookPart, TookWanted, TookNothing};
+ghost use Rattle.ix_tool.specs.Ends.{Took, TookPrefix, bytes_of, IsAnswer, IsReadFault, texts, EndsWell, ReadSafely, EndsUnread, TookUnread, TookPart, TookWanted, TookNothing};
 
 use crate::command::command;
 use crate::reading::{ReadError, read_file};
@@ -13,6 +13,7 @@ use crate::sink::{Sink, WriteError};
 use crate::source::Source;
 use crate::status::Status;
 use crate::writing::write_all;
+use ix_check::accepted_is_safe;
 use std::alloc::{AllocError, Global};
 
 /// The reply to the words: the answer on what was read, or the line on a file that was not read.
@@ -79,7 +80,8 @@ fn deliver<K: Sink, E: Sink>(reply: &Reply, out: &mut K, err: &mut E) -> Status
 ///
 /// `Usage` comes exactly where the words are no command. `ReadFault` comes only where the count of `files` rose in this call and the named
 /// file wasn't sure when it began, `WriteFault` only where the count of `out` or `err` rose in this call, and `Memory` for want of memory.
-/// `Done`, `Rejected` and `Unbuilt` come exactly where the answer on the bytes that were read has that status.
+/// `Done` promises besides that no run of the source's program, for any inputs that meet the entry's annotations and any number of steps,
+/// indexes outside an array or makes one of negative length. `Done`, `Rejected` and `Unbuilt` come exactly where the answer on the bytes that were read has that status.
 pub fn run_tool<S: Source, K: Sink, E: Sink>(
     alloc: Global,
     words: &[String],
@@ -101,6 +103,9 @@ pub fn run_tool<S: Source, K: Sink, E: Sink>(
     // A status that speaks of no fault is right of the bytes that were read.
     ensures answer { is_answer result ≡ true
         → EndsWell (S.files files.old) (command_of (words_of words.now)) result (texts (K.taken out.old) (E.taken err.old)) (texts (K.taken out.new) (E.taken err.new)) }
+
+    // What is accepted is safe: the bytes that were read are a source no run of which indexes outside an array.
+    ensures safe { result ≡ Status.Done → ReadSafely (S.files files.old) (command_of (words_of words.now)) }
 
     // A read fault comes by its cause, and the whole line says so.
     ensures read_fault { result ≡ Status.ReadFault
@@ -125,6 +130,7 @@ pub fn run_tool<S: Source, K: Sink, E: Sink>(
         → (result ≡ Status.WriteFault) ⊎ (result ≡ Status.Memory) }
     ensures falls { (S.faults files.old ≤ S.faults files.new) × (K.faults out.old ≤ K.faults out.new) × (E.faults err.old ≤ E.faults err.new) }
 {
+    accepted_is_safe();
     match reply_to(alloc, words, files) {
         Ok(reply) => deliver(&reply, out, err),
         Err(_) => wanting(err),

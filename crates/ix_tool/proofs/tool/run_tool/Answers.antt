@@ -3,7 +3,7 @@ use Rattle.ix_tool.specs.Answer.{Answer, shown}
 use Rattle.ix_tool.specs.Statuses.{is_answer}
 use Rattle.ix_tool.specs.declared.status.Status.TheVariants.{WriteFault}
 use Rattle.ix_tool.proofs.PrefixesTaken.{TookPrefix-none}
-use Rattle.ix_tool.proofs.Verdicts.{IsAnswer-is_answer, is_answer-Answers, is_answer-other}
+use Rattle.ix_tool.proofs.Verdicts.{IsAnswer-is_answer, IsAnswer-safe, is_answer-Answers, is_answer-other}
 use Rattle.ix_tool.proofs.tool.run_tool.Goals as goal
 
 pub returns-in-Ok-clause-answer : goal.returns-in-Ok-clause-answer
@@ -78,3 +78,9 @@ returns-in-Ok-clause-exact g c = λ held told calm_files calm_out calm_err enoug
           let whole = c.deliver.ensures.whole (λ fault. elim (c.deliver.ensures.fault fault no_fault) [ inl rose ↦ calm_out rose | inr rose ↦ calm_err rose ]) enough in
           (whole.0 ∙ ap (λ (a : Answer). a.status) same, rw (ap (λ (a : Answer). a.out) same) at whole.1, rw (ap (λ (a : Answer). a.err) same) at whole.2)
     ]
+
+pub returns-in-Ok-clause-safe : goal.returns-in-Ok-clause-safe
+returns-in-Ok-clause-safe g c = λ done.
+    let ok : is_answer c.deliver.result ≡ true = ap is_answer done in
+    let ends = returns-in-Ok-clause-answer g c ok in
+    IsAnswer-safe c.accepted_is_safe.ensures _ _ ends.answer ends.right (sym ends.status ∙ done)
