@@ -90,9 +90,9 @@ named_found number (first ∷ params) (suc place) param at is small = elim (eith
       ∙ subst (λ (n : ℕ). array_named (number + 1) params (number_text n) ≡ Some n) e rest)
 ]
   where
-  skip : {A : Type 0} (a b : Bool) (x y : A) → b ≡ false → cond (a && b) x y ≡ y
-  skip true b x y h = rw h refl
-  skip false b x y h = refl
+    skip : {A : Type 0} (a b : Bool) (x y : A) → b ≡ false → cond (a && b) x y ≡ y
+    skip true b x y h = rw h refl
+    skip false b x y h = refl
 
 -- the number of an array parameter names it
 pub array_found : (params : List Param) (place : ℕ) (param : Param) → slice_get params place ≡ Some param → param.is_array ≡ true → place < 1000
@@ -106,7 +106,7 @@ upper_true : (params : List Param) (array : ℕ) (text : List ℕ) (v : ℤ) (nu
     → AreTrue (upper_claim (array_named 0 params text)) v numbers → v <ℤ numbers (name.Param array)
 upper_true params array text v numbers found same h =
     let claim : AreTrue (upper_claim (Some array)) v numbers =
-        subst (λ (o : Option ℕ). AreTrue (upper_claim o) v numbers) (subst (λ (t : List ℕ). array_named 0 params t ≡ Some array) (same_bytes (number_text array) text same) found) h in
+    subst (λ (o : Option ℕ). AreTrue (upper_claim o) v numbers) (subst (λ (t : List ℕ). array_named 0 params t ≡ Some array) (same_bytes (number_text array) text same) found) h in
     omega (arith, ints, claim.0)
 
 mark_high : (params : List Param) (array : ℕ) (mark : Mark) (v : ℤ) (numbers : Name → ℤ) → array_named 0 params (number_text array) ≡ Some array → claims_high (number_text array) mark ≡ true

@@ -162,7 +162,7 @@ module _ (form : Form) (inputs : List Input) (limits : Limits) where
       let before : State = at (Do record { kind = Load target array index int_array; span = span; parts = [] } ∷ items) slots in
       let done = load_done array index target number size n span.from slots at_array at_index count low high in
       let next : step limits world before ≡ at items (set_slot slots target (value_at (array_at heap number) (unsigned_abs n))) =
-          ap (λ (d : Done). moved limits world (done_then d (code_then (items_code items) Empty)) before) done in
+      ap (λ (d : Done). moved limits world (done_then d (code_then (items_code items) Empty)) before) done in
       returns_well slot whole (set_slot slots target (value_at (array_at heap number) (unsigned_abs n))) steps (subst (λ (s : State). IsBad (run limits world steps s).ended) next bad)
 
   -- what the slots hold when so many locals are copied
@@ -178,9 +178,9 @@ module _ (form : Form) (inputs : List Input) (limits : Limits) where
   count_room : (scope : ℕ) (local : Local) (rest : List Local) → Rest scope (local ∷ rest) → length form.params + scope < slot_count form form.value
   count_room scope local rest tail = room form.value
     where
-    room : (value : Value) → length form.params + scope < slot_count form value
-    room (Variable name span) = omega (arith, tail.1)
-    room (Access array index span whole) = omega (arith, tail.1)
+      room : (value : Value) → length form.params + scope < slot_count form value
+      room (Variable name span) = omega (arith, tail.1)
+      room (Access array index span whole) = omega (arith, tail.1)
 
   -- the value of a variable that has a source
   slot_value : (scope : ℕ) (slots : List Held) (name : List ℕ) (parameter : ℕ) → Copied first_slots slots form.params form.locals scope → source form.params form.locals scope name ≡ Some parameter
@@ -225,13 +225,13 @@ module _ (form : Form) (inputs : List Input) (limits : Limits) where
     first_size : length first_slots ≡ slot_count form form.value
     first_size = sized form.value
       where
-      sized : (value : Value) → length (slots_with (slot_count form value) (input_values 0 inputs)) ≡ slot_count form value
-      sized (Variable name span) =
-          length-append (input_values 0 inputs) (replicate (slot_count form (Variable name span) - length (input_values 0 inputs)) (Num (pos 0)))
-          ∙ omega (arith, counted, copies_length (slot_count form (Variable name span) - length (input_values 0 inputs)) (Num (pos 0)))
-      sized (Access array index span whole) =
-          length-append (input_values 0 inputs) (replicate (slot_count form (Access array index span whole) - length (input_values 0 inputs)) (Num (pos 0)))
-          ∙ omega (arith, counted, copies_length (slot_count form (Access array index span whole) - length (input_values 0 inputs)) (Num (pos 0)))
+        sized : (value : Value) → length (slots_with (slot_count form value) (input_values 0 inputs)) ≡ slot_count form value
+        sized (Variable name span) =
+            length-append (input_values 0 inputs) (replicate (slot_count form (Variable name span) - length (input_values 0 inputs)) (Num (pos 0)))
+            ∙ omega (arith, counted, copies_length (slot_count form (Variable name span) - length (input_values 0 inputs)) (Num (pos 0)))
+        sized (Access array index span whole) =
+            length-append (input_values 0 inputs) (replicate (slot_count form (Access array index span whole) - length (input_values 0 inputs)) (Num (pos 0)))
+            ∙ omega (arith, counted, copies_length (slot_count form (Access array index span whole) - length (input_values 0 inputs)) (Num (pos 0)))
 
     first_value : (place : ℕ) → place < length form.params → value_at first_slots place ≡ value_at (input_values 0 inputs) place
     first_value place within =
@@ -272,21 +272,21 @@ module _ (form : Form) (inputs : List Input) (limits : Limits) where
         let array_within = slice_get_within form.params array_found_is.0 array_is.0 array_is.1 in
         let index_within = slice_get_within form.params source_is.0 index_is.0 index_is.1 in
         let errors : access_errors index_is.0.marks array_found_is.0 span ≡ [] =
-            sym (ap (λ (o : Option ℕ). array_errors (marks_at form.params (source form.params form.locals (length form.locals) index)) span o) array_found_is.1
-            ∙ ap (λ (o : Option ℕ). access_errors (marks_at form.params o) array_found_is.0 span) source_is.1
-            ∙ ap (λ (o : Option Param). access_errors (marks_in o) array_found_is.0 span) index_is.1) ∙ none in
+        sym (ap (λ (o : Option ℕ). array_errors (marks_at form.params (source form.params form.locals (length form.locals) index)) span o) array_found_is.1
+        ∙ ap (λ (o : Option ℕ). access_errors (marks_at form.params o) array_found_is.0 span) source_is.1
+        ∙ ap (λ (o : Option Param). access_errors (marks_in o) array_found_is.0 span) index_is.1) ∙ none in
         let claims = claims_shown index_is.0.marks array_found_is.0 span errors in
         let met = met_at inputs form.params 0 form.params (input_numbers inputs) source_is.0 index_is.0 (Whole whole_is.0) meets index_is.1 whole_is.1 in
         let low = low_met form.params index_is.0.marks whole_is.0 (input_numbers inputs) claims.0 met in
         let names_it = array_found form.params array_found_is.0 array_is.0 array_is.1 array_is.2 (omega (arith, array_within, few)) in
         let high = high_met form.params array_found_is.0 index_is.0.marks whole_is.0 (input_numbers inputs) names_it claims.1 met in
         let size : length (array_at heap (0 + on_heap.0)) ≡ length ints_are.0 =
-            ap (λ (n : ℕ). length (array_at heap n)) (zero-add on_heap.0) ∙ (ap (λ (l : List Held). length l) on_heap.2 ∙ numbers_length ints_are.0) in
+        ap (λ (n : ℕ). length (array_at heap n)) (zero-add on_heap.0) ∙ (ap (λ (l : List Held). length l) on_heap.2 ∙ numbers_length ints_are.0) in
         let below : whole_is.0 <ℤ pos (length ints_are.0) = subst (λ (o : Option Input). whole_is.0 <ℤ number_in o) ints_are.1 high in
         let array_value : value_at slots (slot_at_end form array) ≡ At (0 + on_heap.0) =
-            ap (value_at slots) (array_slot array array_found_is.0 array_found_is.1) ∙ (ready.params array_found_is.0 array_within ∙ (first_value array_found_is.0 array_within ∙ on_heap.1)) in
+        ap (value_at slots) (array_slot array array_found_is.0 array_found_is.1) ∙ (ready.params array_found_is.0 array_within ∙ (first_value array_found_is.0 array_within ∙ on_heap.1)) in
         let index_value : value_at slots (slot_at_end form index) ≡ Num whole_is.0 =
-            slot_value (length form.locals) slots index source_is.0 ready.copied source_is.1 ∙ (first_value source_is.0 index_within ∙ whole_value 0 inputs source_is.0 whole_is.0 whole_is.1) in
+        slot_value (length form.locals) slots index source_is.0 ready.copied source_is.1 ∙ (first_value source_is.0 index_within ∙ whole_value 0 inputs source_is.0 whole_is.0 whole_is.1) in
         access_well (slot_at_end form array) (slot_at_end form index) (temporary form) (0 + on_heap.0) (length ints_are.0) (temporary form) whole_is.0 span whole slots array_value index_value size low below
 
     value_ends : (few : length form.params ≤ 32) (meets : Meets (plain_method form) inputs) (value : Value)
@@ -300,7 +300,7 @@ module _ (form : Form) (inputs : List Input) (limits : Limits) where
         → value_errors form.params form.locals form.value ≡ [] → (steps : ℕ) → IsBad (run limits world steps (start world 0 inputs)).ended → ⊥
     run_ends few meets in_scope none =
         copies_well (return_items form form.value) 0 form.locals first_slots ((λ place. ap (slice_get form.locals) (zero-add place)), sym (zero-add (length form.locals))) first_ready
-          (value_ends few meets form.value in_scope none)
+        (value_ends few meets form.value in_scope none)
 
 -- ---- the promise
 

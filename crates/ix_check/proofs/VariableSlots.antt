@@ -104,9 +104,9 @@ named_at is_array number (param ∷ params) name found h = elim (chosen (bytes_e
   | inr w ↦ (let rest = named_at is_array (number + 1) params name found w.1 in (rest.0, suc rest.1, rest.2 ∙ omega arith, rest.3, rest.4))
 ]
   where
-  kind : (wanted is : Bool) → cond wanted is (not is) ≡ true → is ≡ wanted
-  kind true is h = h
-  kind false is h = not_false is h
+    kind : (wanted is : Bool) → cond wanted is (not is) ≡ true → is ≡ wanted
+    kind true is h = h
+    kind false is h = not_false is h
 
 -- ---- variables
 
@@ -172,7 +172,7 @@ copied_start start params locals differ name parameter h =
     (parameter, named_slot false 0 params name parameter differ h, rw add-zero (found_within false params name parameter h), refl)
 
 module _ (start slots : List Held) (params : List Param) (locals : List Local) (scope : ℕ) (local : Local) (value : Held)
-  (at : slice_get locals scope ≡ Some local) (room : length params + scope < length slots) (before : Copied start slots params locals scope) where
+    (at : slice_get locals scope ≡ Some local) (room : length params + scope < length slots) (before : Copied start slots params locals scope) where
   abbrev after : List Held
   after = slice_set slots (length params + scope) value
 
@@ -186,9 +186,9 @@ module _ (start slots : List Held) (params : List Param) (locals : List Local) (
       set_here slots (length params + scope) value room ∙ copy parameter (let from : source params locals scope local.init ≡ Some parameter = rw (at, same) at h in from),
     )
     | inr other ↦ (let old = before name parameter (let from : source params locals scope name ≡ Some parameter = rw (at, other) at h in from) in (
-        old.0,
-        rw (at, other) old.1,
-        omega (arith, old.2),
-        set_other slots (length params + scope) old.0 value (λ same. omega (arith, old.2, same)) ∙ old.3,
-      ))
+      old.0,
+      rw (at, other) old.1,
+      omega (arith, old.2),
+      set_other slots (length params + scope) old.0 value (λ same. omega (arith, old.2, same)) ∙ old.3,
+    ))
   ]

@@ -87,8 +87,8 @@ abbrev pub param_of : LocalDecl → Option Param
 param_of decl =
     if is_plain false decl.mods && is_none decl.init
     then if is_int 0 decl.ty then param_with decl.name.text false (each_of mark_of decl.mods.annots)
-      else if is_int 1 decl.ty && is_empty decl.mods.annots then param_with decl.name.text true (Some [])
-      else None
+    else if is_int 1 decl.ty && is_empty decl.mods.annots then param_with decl.name.text true (Some [])
+    else None
     else None
 
 -- ---- expressions and statements

@@ -69,5 +69,4 @@ pub fn count_unit(alloc: Global, unit: &Unit) -> Result<Counts, UnitError>
 /// A law, which runs nothing: a source whose errors are none is safe.
 pub fn accepted_is_safe()
     ensures { (source : Source) → errors_of source ≡ Some [] → IsSafe source }
-{
-}
+{}

@@ -7,8 +7,8 @@ use crate::error::UnitError;
 use crate::form::{Form, Local, Mark, Param, Value};
 use ix_text::{List, Span, Text};
 use ix_tree::{
-    Annot, AnnotArg, AnnotValue, BaseTree, ClassDecl, Expr, ExprKind, Ident, Init, LocalDecl, Member,
-    MethodDecl, Mods, Stmt, StmtKind, TypeTree, Unit,
+    Annot, AnnotArg, AnnotValue, BaseTree, ClassDecl, Expr, ExprKind, Ident, Init, LocalDecl,
+    Member, MethodDecl, Mods, Stmt, StmtKind, TypeTree, Unit,
 };
 use std::alloc::{AllocError, Global};
 

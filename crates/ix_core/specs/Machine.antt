@@ -138,16 +138,16 @@ operate limits world (op.NewArray target ty size) place slots heap = new_array l
 operate limits world (op.Fill target ty entries) place slots heap = filled limits place ty (map (value_at slots) entries) target slots heap
 operate limits world (op.Load target array index ty) place slots heap =
     through place (value_at slots array) (λ number. within place (number_of heap (value_at slots index)) (array_at heap number)
-      (Did (set_slot slots target (value_at (array_at heap number) (unsigned_abs (number_of heap (value_at slots index))))) heap))
+    (Did (set_slot slots target (value_at (array_at heap number) (unsigned_abs (number_of heap (value_at slots index))))) heap))
 operate limits world (op.Store array index value ty) place slots heap =
     through place (value_at slots array) (λ number. within place (number_of heap (value_at slots index)) (array_at heap number)
-      (Did slots (write_at heap number (unsigned_abs (number_of heap (value_at slots index))) (value_at slots value))))
+    (Did slots (write_at heap number (unsigned_abs (number_of heap (value_at slots index))) (value_at slots value))))
 operate limits world (op.ReadField target object field) place slots heap =
     through place (value_at slots object) (λ number. with_field place (world.place field) (fields_at heap number)
-      (Did (set_slot slots target (value_at (fields_at heap number) (world.place field))) heap))
+    (Did (set_slot slots target (value_at (fields_at heap number) (world.place field))) heap))
 operate limits world (op.WriteField object field value) place slots heap =
     through place (value_at slots object) (λ number. with_field place (world.place field) (fields_at heap number)
-      (Did slots (write_at heap number (world.place field) (value_at slots value))))
+    (Did slots (write_at heap number (world.place field) (value_at slots value))))
 operate limits world (op.Print value) place slots heap = Printed (value_at slots value)
 operate limits world (op.NewObject call) place slots heap = Did slots heap
 operate limits world (op.StaticCall call) place slots heap = Did slots heap
