@@ -1,1 +1,3 @@
 pub mod RepeatedClaims
+pub mod Translated
+mod ModelRows
