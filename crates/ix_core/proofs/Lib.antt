@@ -1,3 +1,4 @@
+pub mod GoodIsSafe
 pub mod RepeatedClaims
 pub mod Translated
 mod ModelRows

@@ -1,5 +1,5 @@
 -- The machine computes: small programs, run by the definitions alone.
-use Rattle.std.proofs.Common.{◌≡◌, ℕ, ℤ, pos, negsuc, Bool, true, false, List, [], ◌∷◌, Option, Some, None, refl}
+use Rattle.std.proofs.Common.{◌≡◌, ℕ, pos, negsuc, Bool, true, false, List, [], ◌∷◌, Option, Some, None, refl}
 use Rattle.ix_text.specs.declared.span.Span.{Span}
 use Rattle.ix_num.specs.declared.arith.Arith.TheVariants.{Add}
 use Rattle.ix_num.specs.Arithmetic.{wrap_of}
@@ -13,8 +13,8 @@ use Rattle.ix_core.specs.declared.op.OpKind.{OpKind}
 use Rattle.ix_core.specs.declared.op.OpKind.TheVariants as op
 use Rattle.ix_core.specs.declared.program.Method.{Method}
 use Rattle.ix_core.specs.declared.program.Program.{Program}
-use Rattle.ix_core.specs.Heap.{Held, Num, Null}
-use Rattle.ix_core.specs.Machine.{Ending, Ended, Outside, Negative, NullUsed, Thrown, State, Limits, run}
+use Rattle.ix_core.specs.Heap.{Num}
+use Rattle.ix_core.specs.Machine.{Ending, Ended, Outside, Negative, NullUsed, Thrown, Limits, run}
 use Rattle.ix_core.specs.Safe.{Input, Whole, Ints, start}
 use Rattle.ix_core.specs.World.{no_method, world_of}
 

@@ -6,3 +6,5 @@ pub mod World
 pub mod Tasks
 pub mod Machine
 pub mod Safe
+pub mod Objects
+pub mod Waits

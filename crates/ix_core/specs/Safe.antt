@@ -1,5 +1,5 @@
 -- The promise: no run of a program indexes outside an array or makes one of negative length.
-use Rattle.std.specs.Prelude.{◌≡◌, ◌≤ℤ◌, ℕ, zero, suc, ◌+◌, ℤ, pos, negsuc, Bool, true, false, List, [], ◌∷◌, ◌++◌, length, map, slice_get, Option, None, Some}
+use Rattle.std.specs.Prelude.{◌≡◌, ◌≤ℤ◌, ℕ, ◌+◌, ℤ, pos, negsuc, Bool, true, false, List, [], ◌∷◌, length, map, slice_get, Option, None, Some}
 use Rattle.ix_core.specs.declared.claim.Base.TheVariants as base
 use Rattle.ix_core.specs.declared.claim.Claim.{Claim}
 use Rattle.ix_core.specs.declared.claim.Name.{Name}
@@ -12,10 +12,10 @@ use Rattle.ix_core.specs.declared.program.Local.{Local as Variable}
 use Rattle.ix_core.specs.declared.program.Method.{Method}
 use Rattle.ix_core.specs.declared.program.Program.{Program}
 use Rattle.ix_core.specs.Claims.{AreTrue}
-use Rattle.ix_core.specs.Heap.{Held, Num, Truth, Null, At, Heap, ArrayOf, value_at, number_of}
+use Rattle.ix_core.specs.Heap.{Held, Num, Truth, At, Heap, ArrayOf}
 use Rattle.ix_core.specs.Machine.{Ending, Outside, Negative, Limits, State, frame, slots_with, run}
 use Rattle.ix_core.specs.Tasks.{Empty, code_then}
-use Rattle.ix_core.specs.World.{World, world_of, method_at, body_of}
+use Rattle.ix_core.specs.World.{World, world_of, body_of}
 
 -- ---- entries and their inputs
 
