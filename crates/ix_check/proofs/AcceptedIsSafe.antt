@@ -1,11 +1,11 @@
 -- A source that has no error is safe.
-use Rattle.std.proofs.Common.{◌≡◌, Bool, true, false, cond, List, [], ◌∷◌, Option, Some, None, option_map, option_and_then, refl, sym, ap, subst, ◌∙◌}
+use Rattle.std.proofs.Common.{◌≡◌, Bool, true, false, cond, List, [], Option, Some, None, option_map, option_and_then, refl, ap, ◌∙◌}
 use Rattle.ix_core.specs.declared.error.Error.{Error}
 use Rattle.ix_tree.specs.declared.decl.Unit.{Unit as Source}
 use Rattle.ix_check.specs.declared.form.Form.{Form}
 use Rattle.ix_check.specs.Conditions.{is_judged}
 use Rattle.ix_check.specs.Form.{form_of}
-use Rattle.ix_check.specs.Plain.{plain_of, plain_program}
+use Rattle.ix_check.specs.Plain.{plain_program}
 use Rattle.ix_check.specs.Promise.{IsSafe}
 use Rattle.ix_check.specs.Rules.{judged, errors_of, value_errors}
 use Rattle.ix_check.proofs.PlainRuns.{form_safe}

@@ -1,18 +1,7 @@
 -- What the inputs of a run are in the slots and on the heap, and which claims they meet.
-use Rattle.std.proofs.Common.{◌≡◌, ◌≢◌, ℕ, zero, suc, ◌+◌, add-one, add-zero, zero-add, ◌<◌, ◌≤◌, ◌==◌, ℤ, pos, ◌≤ℤ◌, ◌<ℤ◌, ◌+ℤ◌, Bool, true, false, not, ◌&&◌, ◌||◌, cond, List, [], ◌∷◌, ◌++◌, length, map, filter, Option, Some, None, slice_get, bytes_eq, refl, sym, ap, subst, ◌∙◌, arith, ◌⊎◌, inl, inr}
-use Rattle.std.specs.List.{list_any}
-use Rattle.std.proofs.lemmas.Fmt.{decimal_injective}
-use Rattle.std.proofs.lemmas.Option.{slice_get_within}
-use Rattle.ix_core.specs.declared.claim.Base.TheVariants as base
-use Rattle.ix_core.specs.declared.claim.Claim.{Claim}
-use Rattle.ix_core.specs.declared.claim.Claim.TheVariants.{Range, Low, Length, Same, Less, Upper, Search, Negative}
-use Rattle.ix_core.specs.declared.claim.Name.{Name}
-use Rattle.ix_core.specs.declared.claim.Name.TheVariants as name
-use Rattle.ix_core.specs.declared.claim.Off.TheVariants.{Nothing}
-use Rattle.ix_core.specs.declared.claim.Type_.{Type_}
-use Rattle.ix_core.specs.declared.claim.Type_.TheVariants as type
-use Rattle.ix_core.specs.Heap.{Held, Num, Truth, Null, At, Heap, value_at, array_at}
-use Rattle.ix_core.specs.Safe.{Input, Whole, Flag, Ints, IsInt, HasType, HaveTypes, MeetEach, input_number, number_in, input_values, input_heap}
+use Rattle.std.proofs.Common.{◌≡◌, ℕ, zero, suc, ◌+◌, add-zero, ℤ, Bool, true, false, cond, List, [], ◌∷◌, length, map, Some, slice_get, refl, sym, ap, subst, ◌∙◌, arith}
+use Rattle.ix_core.specs.Heap.{Num, At, value_at, array_at}
+use Rattle.ix_core.specs.Safe.{Input, Whole, Flag, Ints, HasType, HaveTypes, input_values, input_heap}
 use Rattle.ix_check.specs.declared.form.Param.{Param}
 use Rattle.ix_check.specs.Plain.{type_of, int_type, int_array}
 use Rattle.ix_check.proofs.VariableSlots.{some_same}

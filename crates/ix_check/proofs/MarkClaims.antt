@@ -1,16 +1,13 @@
 -- What follows from the claims of a parameter's annotations.
-use Rattle.std.proofs.Common.{◌≡◌, ◌≢◌, ℕ, zero, suc, ◌+◌, add-one, add-zero, zero-add, ◌<◌, ◌≤◌, ◌^◌, ◌==◌, ℤ, pos, ◌≤ℤ◌, ◌<ℤ◌, ◌+ℤ◌, Bool, true, false, not, ◌&&◌, ◌||◌, cond, List, [], ◌∷◌, ◌++◌, length, map, filter, decimal, Option, Some, None, slice_get, bytes_eq, refl, sym, ap, subst, ◌∙◌, arith, ◌⊎◌, inl, inr}
+use Rattle.std.proofs.Common.{◌≡◌, ℕ, zero, suc, ◌+◌, add-zero, ◌<◌, ℤ, pos, ◌≤ℤ◌, ◌<ℤ◌, Bool, true, false, ◌&&◌, ◌||◌, cond, List, [], ◌∷◌, ◌++◌, map, decimal, Option, Some, slice_get, bytes_eq, refl, sym, subst, ◌∙◌, arith, ◌⊎◌, inl, inr}
 use Rattle.std.specs.List.{list_any}
 use Rattle.std.proofs.lemmas.Fmt.{decimal_injective}
 use Rattle.std.proofs.lemmas.Int.{ints}
 use Rattle.ix_core.specs.declared.claim.Claim.{Claim}
-use Rattle.ix_core.specs.declared.claim.Claim.TheVariants.{Low, Upper}
 use Rattle.ix_core.specs.declared.claim.Name.{Name}
 use Rattle.ix_core.specs.declared.claim.Name.TheVariants as name
-use Rattle.ix_core.specs.declared.claim.Off.TheVariants.{Nothing}
 use Rattle.ix_core.specs.declared.error.Error.{Error}
-use Rattle.ix_core.specs.Claims.{True, AreTrue}
-use Rattle.ix_core.specs.SameClaims.{distinct}
+use Rattle.ix_core.specs.Claims.{AreTrue}
 use Rattle.ix_core.specs.Safe.{Input, MeetEach, input_number}
 use Rattle.ix_core.proofs.RepeatedClaims.{distinct_true}
 use Rattle.ix_text.specs.declared.span.Span.{Span}
@@ -18,9 +15,9 @@ use Rattle.ix_check.specs.declared.form.Mark.{Mark}
 use Rattle.ix_check.specs.declared.form.Mark.TheVariants.{NonNegative, LtLengthOf, IndexFor}
 use Rattle.ix_check.specs.declared.form.Param.{Param}
 use Rattle.ix_check.specs.Conditions.{number_text}
-use Rattle.ix_check.specs.Rules.{claims_low, claims_high, unless, access_errors, error_at}
+use Rattle.ix_check.specs.Rules.{claims_low, claims_high, unless, access_errors}
 use Rattle.ix_check.specs.Plain.{array_named, upper_claim, mark_claims, all_claims, param_variables, type_of}
-use Rattle.ix_check.proofs.VariableSlots.{both_true, same_bytes, bytes_same, some_same}
+use Rattle.ix_check.proofs.VariableSlots.{same_bytes, bytes_same, some_same}
 
 -- ---- no errors
 

@@ -1,5 +1,5 @@
 -- The runs of the plain form of a source that is judged and has no error.
-use Rattle.std.proofs.Common.{◌≡◌, ◌≢◌, ℕ, zero, suc, ◌+◌, ◌-◌, add-one, add-zero, zero-add, ◌<◌, ◌≤◌, ℤ, pos, ◌≤ℤ◌, ◌<ℤ◌, int_le, int_lt, unsigned_abs, Bool, true, false, ◌&&◌, cond, List, [], ◌∷◌, ◌++◌, length, map, replicate, Option, Some, None, is_some, unwrap_or, bytes_eq, ◌⊎◌, inl, inr, slice_get, slice_set, refl, sym, ap, subst, ◌∙◌, arith, length-append}
+use Rattle.std.proofs.Common.{◌≡◌, ℕ, zero, suc, ◌+◌, ◌-◌, add-zero, zero-add, ◌<◌, ◌≤◌, ℤ, pos, ◌≤ℤ◌, ◌<ℤ◌, int_le, int_lt, unsigned_abs, Bool, true, false, List, [], ◌∷◌, ◌++◌, length, map, replicate, Option, Some, None, is_some, bytes_eq, ◌⊎◌, inl, inr, slice_get, refl, sym, ap, subst, ◌∙◌, arith, length-append}
 use Rattle.std.proofs.lemmas.Int.{ints}
 use Rattle.std.proofs.lemmas.Bool.{leb-true}
 use Rattle.std.proofs.lemmas.Option.{slice_get_within}
@@ -10,11 +10,11 @@ use Rattle.ix_core.specs.declared.op.OpKind.TheVariants.{Load}
 use Rattle.ix_core.specs.declared.fact.Profile.{Profile}
 use Rattle.ix_core.specs.declared.program.Method.{Method}
 use Rattle.ix_core.specs.declared.program.Program.{Program}
-use Rattle.ix_core.specs.Code.{Code, items_code}
-use Rattle.ix_core.specs.Heap.{Held, Num, Truth, Null, At, Heap, value_at, array_at, number_of, is_within}
+use Rattle.ix_core.specs.Code.{items_code}
+use Rattle.ix_core.specs.Heap.{Held, Num, At, Heap, value_at, array_at, is_within}
 use Rattle.ix_core.specs.Machine.{Ending, Ended, State, Limits, Done, Did, frame, operate, done_then, moved, step_from, step, run, set_slot, slots_with}
-use Rattle.ix_core.specs.Safe.{Input, Whole, Flag, Ints, HaveTypes, Meets, number_in, input_values, input_heap, input_numbers, start, IsBad, Begins, Safe}
-use Rattle.ix_core.specs.Tasks.{Tasks, Empty, code_then}
+use Rattle.ix_core.specs.Safe.{Input, Whole, HaveTypes, Meets, number_in, input_values, input_heap, input_numbers, start, IsBad, Safe}
+use Rattle.ix_core.specs.Tasks.{Empty, code_then}
 use Rattle.ix_core.specs.World.{World, world_of}
 use Rattle.ix_text.specs.declared.span.Span.{Span}
 use Rattle.ix_check.specs.declared.form.Form.{Form}
@@ -22,10 +22,10 @@ use Rattle.ix_check.specs.declared.form.Local.{Local}
 use Rattle.ix_check.specs.declared.form.Param.{Param}
 use Rattle.ix_check.specs.declared.form.Value.{Value}
 use Rattle.ix_check.specs.declared.form.Value.TheVariants.{Variable, Access}
-use Rattle.ix_check.specs.Conditions.{all_differ, names, param_named, source, source_through, number_text, is_judged, is_value_in_scope}
+use Rattle.ix_check.specs.Conditions.{all_differ, names, param_named, source, source_through, is_judged, is_value_in_scope}
 use Rattle.ix_check.specs.Rules.{marks_in, marks_at, access_errors, array_errors, value_errors}
-use Rattle.ix_check.specs.Plain.{slot_of, slot_or_first, type_of, copies_from, return_items, slot_at_end, temporary, slot_count, plain_method, default_constructor, plain_program, param_variables, int_array, all_claims}
-use Rattle.ix_check.proofs.VariableSlots.{front_differs, across_differs, Copied, Holds, copied_start, copied_more, set_here, set_other, set_length, named_at, named_slot, named_among, param_in_scope, param_names, local_names, both_true, some_same}
+use Rattle.ix_check.specs.Plain.{slot_of, slot_or_first, type_of, copies_from, return_items, slot_at_end, temporary, slot_count, plain_method, default_constructor, plain_program, int_array}
+use Rattle.ix_check.proofs.VariableSlots.{front_differs, across_differs, Copied, copied_start, copied_more, set_other, set_length, named_at, named_slot, named_among, param_in_scope, param_names, local_names, both_true, some_same}
 use Rattle.ix_check.proofs.EntryInputs.{whole_at, ints_at, types_count, values_count, whole_value, ints_value}
 use Rattle.ix_check.proofs.MarkClaims.{claims_shown, low_met, high_met, array_found, met_at}
 

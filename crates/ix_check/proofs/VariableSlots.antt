@@ -1,13 +1,12 @@
 -- Where the plain form keeps the variables of a source that is judged.
-use Rattle.std.proofs.Common.{◌≡◌, ◌≢◌, ℕ, zero, suc, ◌+◌, add-one, add-zero, ◌<◌, ◌≤◌, Bool, true, false, not, ◌&&◌, ◌||◌, cond, List, [], ◌∷◌, ◌++◌, length, map, Option, Some, None, slice_get, slice_set, pos, bytes_eq, refl, sym, ap, subst, ◌∙◌, arith, ◌⊎◌, inl, inr}
-use Rattle.std.specs.List.{list_any}
+use Rattle.std.proofs.Common.{◌≡◌, ◌≢◌, ℕ, zero, suc, ◌+◌, add-zero, ◌<◌, Bool, true, false, not, ◌&&◌, ◌||◌, cond, List, [], ◌∷◌, ◌++◌, length, map, Option, Some, None, slice_get, slice_set, bytes_eq, refl, sym, ap, subst, ◌∙◌, arith, ◌⊎◌, inl, inr}
 use Rattle.std.proofs.lemmas.List.Folds.{list_any-append}
 use Rattle.std.proofs.lemmas.Option.{slice_get_within}
 use Rattle.std.proofs.lemmas.Slice.Eq.{bytes_eq-Decides}
 use Rattle.ix_check.specs.declared.form.Local.{Local}
 use Rattle.ix_check.specs.declared.form.Param.{Param}
-use Rattle.ix_check.specs.Conditions.{is_among, all_differ, param_named, source, source_through}
-use Rattle.ix_core.specs.Heap.{Held, Num, value_at}
+use Rattle.ix_check.specs.Conditions.{is_among, all_differ, param_named, source}
+use Rattle.ix_core.specs.Heap.{Held, value_at}
 use Rattle.ix_check.specs.Plain.{param_slot, slot_of, slot_through}
 
 -- ---- tests

@@ -1,6 +1,6 @@
 -- What a source of the first form says: one class with one static method, whose locals copy ints and whose value is a variable or one
 -- array access. A tree that shows none has another form.
-use Rattle.std.specs.Prelude.{◌≡◌, ℕ, Bool, true, false, not, ◌&&◌, ◌||◌, ◌==◌, if◌then◌else◌, List, [], ◌∷◌, ◌++◌, Option, Some, None, option_map, option_and_then, is_none, bytes_eq, codes, length, take, slice_get, ◌-◌}
+use Rattle.std.specs.Prelude.{ℕ, Bool, true, false, not, ◌&&◌, ◌==◌, if◌then◌else◌, List, [], ◌∷◌, Option, Some, None, option_map, option_and_then, is_none, bytes_eq, codes, length, take, slice_get, ◌-◌}
 use Rattle.ix_text.specs.declared.span.Span.{Span}
 use Rattle.ix_tree.specs.declared.annot.Annot.{Annot}
 use Rattle.ix_tree.specs.declared.annot.AnnotArg.{AnnotArg}
