@@ -6,5 +6,6 @@ pub mod ProductsKeepOrder
 pub mod QuotientsKeepOrder
 pub mod BitsWithinBounds
 pub mod RowsInclude
+pub mod ExactInts
 pub mod RowsAreMonotone
 pub mod OpRangeLaws

@@ -1,5 +1,5 @@
 -- Java's arithmetic on ints, on whole numbers without a width: what an operator gives exactly, and what Java keeps of it.
-use Rattle.std.specs.Prelude.{◌≡◌, ◌⊎◌, ℕ, suc, zero, ◌^◌, ◌%◌, ◌/◌, ℤ, pos, negsuc, ◌+ℤ◌, ◌*ℤ◌, ◌-ℤ◌, neg_ℤ, Option, Some, None, int_div, int_rem, option_map}
+use Rattle.std.specs.Prelude.{◌≡◌, ◌⊎◌, Bool, true, false, ℕ, suc, zero, ◌^◌, ◌%◌, ◌/◌, ℤ, pos, negsuc, ◌+ℤ◌, ◌*ℤ◌, ◌-ℤ◌, neg_ℤ, Option, Some, None, int_div, int_rem, option_map}
 use Rattle.std.specs.Int.{w32, int_wrap, cast_unsigned, cast_signed, int_bit_and, int_bit_or, int_bit_xor, int_shr}
 use Rattle.ix_num.specs.declared.arith.Arith.{Arith}
 use Rattle.ix_num.specs.declared.arith.Arith.TheVariants.{Add, Sub, Mul, Div, Rem, And, Or, Xor, Shl, Shr, Ushr}
@@ -50,3 +50,11 @@ java_of op x y = option_map wrap_of (exact_of op x y)
 pub record DividesByZero (op : Arith) (y : ℤ) : Type 0 where
   pub operator : (op ≡ Div) ⊎ (op ≡ Rem)
   pub divisor : y ≡ pos 0
+
+-- the operators whose result is an int without more: all but `+ - * /`
+abbrev pub gives_ints : Arith → Bool
+gives_ints Add = false
+gives_ints Sub = false
+gives_ints Mul = false
+gives_ints Div = false
+gives_ints _ = true

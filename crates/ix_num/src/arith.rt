@@ -1,7 +1,8 @@
 //! Java's operators on two ints, and its two operators on one.
 
-ghost use Rattle.std.specs.Prelude.{◌≡◌, ◌↔◌, IsNone, neg_ℤ};
-ghost use Rattle.ix_num.specs.Arithmetic.{wrap_of, exact_of, java_of, flip_of, DividesByZero};
+ghost use Rattle.std.specs.Prelude.{◌≡◌, ◌↔◌, IsNone, IfSome, IsTrue, neg_ℤ};
+ghost use Rattle.ix_num.specs.Ints.{IsInt};
+ghost use Rattle.ix_num.specs.Arithmetic.{wrap_of, exact_of, java_of, flip_of, DividesByZero, gives_ints};
 
 /// An operator on two ints: `+ - * / % & | ^ << >> >>>` (JLS 15.17 to 15.19, 15.22.1).
 #[derive(Clone, Copy, Debug, PartialEq, Eq, PartialOrd, Ord)]
@@ -36,6 +37,7 @@ pub fn wrap(n: i128) -> i32
 pub fn exact(op: Arith, x: i32, y: i32) -> Option<i128>
     ensures value { result ≡ exact_of op x y }
     ensures none { IsNone result ↔ DividesByZero op y }
+    ensures int { IsTrue (gives_ints op) → IfSome result IsInt }
 {
     match op {
         Arith::Add => Some(x as i128 + y as i128),
