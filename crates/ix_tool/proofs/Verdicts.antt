@@ -13,7 +13,7 @@ use Rattle.ix_tree.specs.declared.decl.Unit.{Unit as Source}
 use Rattle.ix_check.specs.Rules.{errors_of}
 use Rattle.ix_check.specs.Promise.{IsSafe}
 use Rattle.ix_tool.specs.declared.status.Status.{Status}
-use Rattle.ix_tool.specs.declared.status.Status.TheVariants.{Done, Rejected}
+use Rattle.ix_tool.specs.declared.status.Status.TheVariants.{Done, Rejected, Usage}
 
 -- ---- the verdict
 

@@ -1,4 +1,4 @@
-use Rattle.std.proofs.Common.{inl, inr, refl, ap, sym, ◌∙◌}
+use Rattle.std.proofs.Common.{◌≡◌, true, inl, inr, refl, ap, sym, ◌∙◌}
 use Rattle.ix_tool.specs.Answer.{Answer, shown}
 use Rattle.ix_tool.specs.Statuses.{is_answer}
 use Rattle.ix_tool.specs.declared.status.Status.TheVariants.{WriteFault}
