@@ -5,3 +5,4 @@ mod EntryInputs
 mod MarkClaims
 mod PlainRuns
 mod AcceptedIsSafe
+mod RuleRows
