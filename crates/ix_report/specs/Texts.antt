@@ -1,7 +1,8 @@
 -- The texts of answers, as bytes. A line ends with LF, which is 10.
-use Rattle.std.specs.Prelude.{ℕ, min, List, [], ◌∷◌, ◌++◌, length, codes, decimal, if◌then◌else◌, ◌==◌}
+use Rattle.std.specs.Prelude.{ℕ, min, List, [], ◌∷◌, ◌++◌, length, codes, decimal, unwrap_or}
 use Rattle.ix_text.specs.Lines.{place}
 use Rattle.ix_core.specs.declared.error.Error.{Error}
+use Rattle.ix_tables.specs.Keys.{key_in, rule_keys}
 
 abbrev pub line : List ℕ → List ℕ
 line text = text ++ 10 ∷ []
@@ -11,7 +12,7 @@ accepted methods accesses = codes "accepted: " ++ decimal methods ++ codes " met
 
 -- what users know a rule by
 abbrev pub key : ℕ → List ℕ
-key rule = if rule == 1 then codes "access.low" else if rule == 2 then codes "access.high" else []
+key rule = unwrap_or (key_in rule_keys rule) []
 
 abbrev pub placed : List ℕ → ℕ × ℕ → List ℕ
 placed file at = file ++ codes ":" ++ decimal at.0 ++ codes ":" ++ decimal at.1

@@ -3,6 +3,7 @@ ghost use Rattle.std.specs.Prelude.{◌≡◌, length, IfOk, string_bytes};
 ghost use Rattle.ix_report.specs.Texts as spec;
 
 use ix_core::Error;
+use ix_tables::key_table;
 use ix_text::LineMap;
 use std::alloc::{AllocError, Global};
 
@@ -13,15 +14,11 @@ pub fn accepted(alloc: Global, methods: u32, accesses: u32) -> Result<String, Al
     format!(in alloc; "accepted: {methods} methods, {accesses} accesses\n")
 }
 
-/// What users know a rule by; nothing for a rule that isn't built yet.
+/// What users know a rule by; nothing for a number that no rule has.
 fn key(rule: u8) -> &'static str
     ensures { result.now ≡ spec.key rule }
 {
-    match rule {
-        1 => "access.low",
-        2 => "access.high",
-        _ => "",
-    }
+    key_table().key(rule).unwrap_or("")
 }
 
 /// The line of an error.
