@@ -1,1 +1,9 @@
 pub mod RepeatedClaims
+pub mod Tests
+pub mod Gives
+pub mod BoundsHold
+pub mod Worse
+pub mod BoundsMonotone
+pub mod FactLists
+pub mod Frame
+pub mod ClosureLaws

@@ -6,3 +6,11 @@ pub mod World
 pub mod Tasks
 pub mod Machine
 pub mod Safe
+pub mod Numbers
+pub mod Facts
+pub mod Bounds
+pub mod Forget
+pub mod Closure
+pub mod Exact
+pub mod AfterOperation
+pub mod Finish
