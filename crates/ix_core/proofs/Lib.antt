@@ -7,3 +7,5 @@ pub mod BoundsMonotone
 pub mod FactLists
 pub mod Frame
 pub mod ClosureLaws
+pub mod RuleForms
+pub mod ExactLaws
