@@ -9,3 +9,6 @@ pub mod Frame
 pub mod ClosureLaws
 pub mod RuleForms
 pub mod ExactLaws
+pub mod ClassLaws
+pub mod OperatorBounds
+pub mod RulesHold
