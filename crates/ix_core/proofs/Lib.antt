@@ -12,3 +12,6 @@ pub mod ExactLaws
 pub mod ClassLaws
 pub mod OperatorBounds
 pub mod RulesHold
+pub mod OperationsHold
+pub mod RulesMonotone
+pub mod OperationsMonotone

@@ -7,7 +7,7 @@ use Rattle.std.proofs.Math.Nat.{div-le_self, div-lt_self, div-mul-le_self, lt-di
 use Rattle.ix_num.specs.declared.arith.Arith.TheVariants.{Add, Sub, Mul, Div, Rem, And, Or, Xor, Shl, Shr, Ushr}
 use Rattle.ix_num.specs.Ints.{least_int, greatest_int, IsInt}
 use Rattle.ix_num.specs.Arithmetic.{exact_of, shift_distance}
-use Rattle.ix_num.proofs.BitsWithinBounds.{and_left_bounds, and_right_bounds, shr_bounds, ushr_natural, remainder_bounds}
+use Rattle.ix_num.proofs.BitsWithinBounds.{and_is_int, ushr_is_int, and_left_bounds, and_right_bounds, shr_bounds, ushr_natural, remainder_bounds}
 
 -- ---- `*`
 
@@ -109,7 +109,34 @@ and_at_most_left y z e h k i = let j : int_bit_and w32 y z ≡ e = cc in let b =
 pub and_at_most_right : (y z e : ℤ) → pos 0 ≤ℤ z → z ≤ℤ greatest_int → exact_of And y z ≡ Some e → e ≤ℤ z
 and_at_most_right y z e h k i = let j : int_bit_and w32 y z ≡ e = cc in let b = and_right_bounds y z h k in omega (arith, ints, b.to)
 
--- ---- these results are ints already
+-- ---- the results of `% & >> >>>` are ints
 
-pub exact_int : (e : ℤ) → least_int ≤ℤ e → e ≤ℤ greatest_int → IsInt e
-exact_int e from to = record { from = from; to = to }
+pub remainder_is_int : (y z e : ℤ) → IsInt y → exact_of Rem y z ≡ Some e → IsInt e
+remainder_is_int y (pos zero) e int i = absurd cc
+remainder_is_int y (pos (suc d)) e int i =
+    let j : int_rem y (pos (suc d)) ≡ e = cc in
+    let b = remainder_bounds y (pos (suc d)) (pos d) (λ x. absurd (omega (arith, ints))) (omega (arith, ints)) in
+    record { from = omega (arith, ints, clamps, b.from, int.from); to = omega (arith, ints, clamps, b.to, int.to) }
+remainder_is_int y (negsuc d) e int i =
+    let j : int_rem y (negsuc d) ≡ e = cc in
+    let b = remainder_bounds y (negsuc d) (pos d) (λ x. absurd (omega (arith, ints))) (omega (arith, ints)) in
+    record { from = omega (arith, ints, clamps, b.from, int.from); to = omega (arith, ints, clamps, b.to, int.to) }
+
+pub and_result_is_int : (y z e : ℤ) → IsInt y → IsInt z → exact_of And y z ≡ Some e → IsInt e
+and_result_is_int y z e p q i = let j : int_bit_and w32 y z ≡ e = cc in subst IsInt j (and_is_int y z p q)
+
+pub shr_is_int : (y z e : ℤ) → IsInt y → exact_of Shr y z ≡ Some e → IsInt e
+shr_is_int y z e p i =
+    let j : int_shr y (shift_distance z) ≡ e = cc in
+    let b = shr_bounds y (shift_distance z) in
+    record { from = omega (arith, ints, clamps, b.from, p.from); to = omega (arith, ints, clamps, b.to, p.to) }
+
+pub ushr_result_is_int : (y z e : ℤ) → IsInt y → exact_of Ushr y z ≡ Some e → IsInt e
+ushr_result_is_int y z e p i = let j : cast_signed w32 (cast_unsigned w32 y / 2 ^ shift_distance z) ≡ e = cc in subst IsInt j (ushr_is_int y (shift_distance z) p)
+
+-- and a quotient of numbers that are not negative is not negative
+pub quotient_natural : (y z e : ℤ) → pos 0 ≤ℤ y → pos 0 ≤ℤ z → exact_of Div y z ≡ Some e → pos 0 ≤ℤ e
+quotient_natural y (pos zero) e h k i = absurd cc
+quotient_natural (pos a) (pos (suc d)) e h k i = let j : int_div (pos a) (pos (suc d)) ≡ e = cc in omega (arith, ints)
+quotient_natural (negsuc a) (pos (suc d)) e h k i = absurd (omega (arith, ints))
+quotient_natural y (negsuc d) e h k i = absurd (omega (arith, ints))

@@ -1,7 +1,7 @@
 -- What an operation gives of its target: a rule for each operation. The facts of the rules are those that do not name the target, in all their
 -- orders. Checker Framework manual, Index Checker and Constant Value Checker; Kellogg et al., "Lightweight Verification of Array Indexing",
 -- ISSTA 2018, sections 4 and 5. Their form as facts is this project's own.
-use Rattle.std.specs.Prelude.{◌≡◌, ℕ, zero, suc, cond, Bool, true, false, ◌&&◌, ◌||◌, nat_lt, ℤ, pos, negsuc, ◌+ℤ◌, ◌-ℤ◌, int_le, List, [], ◌∷◌, ◌++◌, length, Option, Some, None}
+use Rattle.std.specs.Prelude.{◌≡◌, ℕ, zero, suc, cond, Bool, true, false, ◌&&◌, ◌||◌, nat_lt, ℤ, pos, negsuc, ◌+ℤ◌, ◌-ℤ◌, ◌≤ℤ◌, int_le, List, [], ◌∷◌, ◌++◌, length, Option, Some, None}
 use Rattle.std.specs.Int.{int_min, int_max}
 use Rattle.ix_num.specs.declared.arith.Arith.{Arith}
 use Rattle.ix_num.specs.declared.arith.Arith.TheVariants.{Add, Sub, Mul, Div, Rem, And, Or, Xor, Shl, Shr, Ushr}
@@ -278,3 +278,9 @@ module _ (facts : List Fact) where
   new_facts profile (op.Fill t ty entries) = LenRng (Slot t) (pos (length entries)) (pos (length entries)) ∷ Same (Slot t) (Slot t) ∷ []
   new_facts profile (op.Load t a i ty) = if_so (holds_arrays ty) (Same (Slot t) (Slot t) ∷ []) ++ loaded_facts (Slot t) (loaded_claims ty)
   new_facts profile _ = []
+
+-- The exact interval of an operation, if it has one, is not empty. Where it is empty no step of the operation goes on, and the store is unreachable.
+abbrev pub HasExact : List Fact → OpKind → Type 0
+HasExact facts (op.Num t arith y z) = (exact_range facts arith (Slot y) (Slot z)).lo ≤ℤ (exact_range facts arith (Slot y) (Slot z)).hi
+HasExact facts (op.Unary t unary y) = (exact_unary facts unary (Slot y)).lo ≤ℤ (exact_unary facts unary (Slot y)).hi
+HasExact facts _ = Unit {0}
