@@ -15,3 +15,4 @@ pub mod RulesHold
 pub mod OperationsHold
 pub mod RulesMonotone
 pub mod OperationsMonotone
+pub mod FinishLaws

@@ -14,3 +14,4 @@ pub mod Closure
 pub mod Exact
 pub mod AfterOperation
 pub mod Finish
+pub mod After
