@@ -16,3 +16,4 @@ pub mod OperationsHold
 pub mod RulesMonotone
 pub mod OperationsMonotone
 pub mod FinishLaws
+pub mod AfterLaws

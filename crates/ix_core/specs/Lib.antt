@@ -15,3 +15,6 @@ pub mod Exact
 pub mod AfterOperation
 pub mod Finish
 pub mod After
+pub mod AfterTest
+pub mod Assume
+pub mod Round
