@@ -17,3 +17,6 @@ pub mod RulesMonotone
 pub mod OperationsMonotone
 pub mod FinishLaws
 pub mod AfterLaws
+pub mod TestLaws
+pub mod ClaimLaws
+pub mod RoundLaws

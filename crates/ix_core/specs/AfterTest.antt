@@ -100,6 +100,10 @@ IsSo (Apart p q) v = v.int p ≢ v.int q
 IsSo (Equal p q) v = v.int p ≡ v.int q
 IsSo (OneArray a b) v = v.size a ≡ v.size b
 
+abbrev pub AllSo : List Outcome → Numbers → Type 0
+AllSo [] v = Unit {0}
+AllSo (outcome ∷ outcomes) v = IsSo outcome v × AllSo outcomes v
+
 -- equal ints are lengths of the same arrays and answers of the same searches
 abbrev pub shared_by : Path → Path → Fact → List Fact
 shared_by y z (IsLen p a) = if_so (is_path p y) (IsLen z a ∷ []) ++ if_so (is_path p z) (IsLen y a ∷ [])
