@@ -20,3 +20,4 @@ pub mod AfterLaws
 pub mod TestLaws
 pub mod ClaimLaws
 pub mod RoundLaws
+pub mod BoundLaws

@@ -18,3 +18,4 @@ pub mod After
 pub mod AfterTest
 pub mod Assume
 pub mod Round
+pub mod Laws
