@@ -80,12 +80,12 @@ module _ (w : Numbers) (facts new : List Fact) (h : AllHold facts w) (k : AllHol
   array_holds : (t : Path) → AllHold (finish_array facts new t) w
   array_holds t = finish_array_holds w facts new h k t
 
-  finished_by_holds : (ty : Type_) (t : Path) → AllHold (finished_by ty facts new t) w
+  pub finished_by_holds : (ty : Type_) (t : Path) → AllHold (finished_by ty facts new t) w
   finished_by_holds ty t =
       all_hold_app w (if_so (is_int ty) (finish_int facts new t)) (if_so (is_array ty) (finish_array facts new t))
       (if_so_holds w (is_int ty) (finish_int facts new t) (λ x. int_holds t)) (if_so_holds w (is_array ty) (finish_array facts new t) (λ x. array_holds t))
 
-  finished_holds : (kind : OpKind) → AllHold (finished facts new kind) w
+  pub finished_holds : (kind : OpKind) → AllHold (finished facts new kind) w
   finished_holds (op.Const t (literal.Int n)) = int_holds (Slot t)
   finished_holds (op.Const t (literal.Bool answer)) = tt
   finished_holds (op.Const t (literal.NullOf ty)) = if_so_holds w (is_array ty) (finish_array facts new (Slot t)) (λ x. array_holds (Slot t))
@@ -141,10 +141,10 @@ module _ (strong weak new weak_new : List Fact) (s : Stronger strong weak) (n : 
   if_array : (test : Bool) (t : Path) → Stronger (if_so test (finish_array strong new t)) (if_so test (finish_array weak weak_new t))
   if_array test t = stronger_if test test (finish_array strong new t) (finish_array weak weak_new t) (λ x. x) (λ x. array_mono t)
 
-  finished_by_mono : (ty : Type_) (t : Path) → Stronger (finished_by ty strong new t) (finished_by ty weak weak_new t)
+  pub finished_by_mono : (ty : Type_) (t : Path) → Stronger (finished_by ty strong new t) (finished_by ty weak weak_new t)
   finished_by_mono ty t = stronger_app _ _ _ _ (if_int (is_int ty) t) (if_array (is_array ty) t)
 
-  finished_mono : (kind : OpKind) → Stronger (finished strong new kind) (finished weak weak_new kind)
+  pub finished_mono : (kind : OpKind) → Stronger (finished strong new kind) (finished weak weak_new kind)
   finished_mono (op.Const t (literal.Int n)) = int_mono (Slot t)
   finished_mono (op.Const t (literal.Bool answer)) = stronger_none []
   finished_mono (op.Const t (literal.NullOf ty)) = if_array (is_array ty) (Slot t)

@@ -21,3 +21,4 @@ pub mod TestLaws
 pub mod ClaimLaws
 pub mod RoundLaws
 pub mod BoundLaws
+pub mod SystemLaws

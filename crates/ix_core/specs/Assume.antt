@@ -7,7 +7,7 @@ use Rattle.ix_core.specs.declared.fact.PathOff.TheVariants.{Nothing}
 use Rattle.ix_core.specs.declared.fact.PathClaim.{PathClaim}
 use Rattle.ix_core.specs.declared.fact.PathClaim.TheVariants as claim
 use Rattle.ix_core.specs.declared.fact.Fact.{Fact}
-use Rattle.ix_core.specs.declared.fact.Fact.TheVariants.{Rng, LenRng, Low, Same, Less, Search, Neg, Upper}
+use Rattle.ix_core.specs.declared.fact.Fact.TheVariants.{Rng, LenRng, Low, Same, IsLen, Less, Search, Neg, Upper}
 use Rattle.ix_core.specs.Numbers.{Numbers}
 use Rattle.ix_core.specs.Facts.{Holds}
 use Rattle.ix_core.specs.Bounds
@@ -38,6 +38,10 @@ claim_facts (claim.Search a) p = Search p a ∷ Upper p a Nothing (pos 0) ∷ []
 claim_facts (claim.Negative a) p = Neg p a ∷ Rng p least_int (negsuc 0) ∷ []
 
 -- ---- which claims are proved
+
+abbrev pub is_length : Path → Path → Fact → Bool
+is_length p a (IsLen q b) = is_path q p && is_path b a
+is_length p a _ = false
 
 abbrev pub is_search : Path → Path → Fact → Bool
 is_search p a (Search q b) = is_path q p && is_path b a

@@ -19,3 +19,4 @@ pub mod AfterTest
 pub mod Assume
 pub mod Round
 pub mod Laws
+pub mod Systems
