@@ -22,3 +22,4 @@ pub mod ClaimLaws
 pub mod RoundLaws
 pub mod BoundLaws
 pub mod SystemLaws
+pub mod Samples
