@@ -148,8 +148,8 @@ module _ (w : Numbers) (facts : List Fact) (h : AllHold facts w) where
       let d = limit_holds w facts h z in
       let flip : w.int t ≡ w.int z +ℤ w.int y = omega (arith, ints) in
       let rest = all_hold_app w (each_path (after.sum_array facts t y z) (named_arrays facts)) (each (after.sum_beside facts t y z) facts ++ each (after.sum_beside facts t z y) facts)
-              (each_path_holds w (after.sum_array facts t y z) (sum_array_holds t y z e) (named_arrays facts))
-              (all_hold_app w (each (after.sum_beside facts t y z) facts) (each (after.sum_beside facts t z y) facts) (each_holds w (after.sum_beside facts t y z) (sum_beside_holds t y z e) facts h) (each_holds w (after.sum_beside facts t z y) (sum_beside_holds t z y flip) facts h)) in
+      (each_path_holds w (after.sum_array facts t y z) (sum_array_holds t y z e) (named_arrays facts))
+      (all_hold_app w (each (after.sum_beside facts t y z) facts) (each (after.sum_beside facts t z y) facts) (each_holds w (after.sum_beside facts t y z) (sum_beside_holds t y z e) facts h) (each_holds w (after.sum_beside facts t z y) (sum_beside_holds t z y flip) facts h)) in
       (e, (omega (arith, ints), (omega (arith, ints), (omega (arith, ints), (omega (arith, ints), rest)))))
 
   difference_array_holds : (t y z : Path) → w.int t ≡ w.int y -ℤ w.int z → (a : Path) → AllHold (after.difference_array facts t y z a) w

@@ -1,6 +1,6 @@
 -- Bounds and the facts after an operation, computed by the definitions on small stores. The stores and what is expected of them come from an
 -- independent program that follows the same rules.
-use Rattle.std.specs.Prelude.{◌≡◌, Bool, true, false, not, ◌&&◌, ◌||◌, ℤ, pos, negsuc, int_le, List, [], ◌∷◌, Option, Some, None, refl}
+use Rattle.std.specs.Prelude.{◌≡◌, Bool, true, false, not, ◌&&◌, ◌||◌, ℤ, pos, negsuc, int_le, List, [], ◌∷◌, ◌++◌, Option, Some, None, refl}
 use Rattle.ix_num.specs.Ints.{least_int, greatest_int}
 use Rattle.ix_num.specs.declared.arith.Arith.TheVariants as arith
 use Rattle.ix_core.specs.declared.claim.Base.TheVariants as base
@@ -17,7 +17,9 @@ use Rattle.ix_core.specs.declared.op.UnaryNum.TheVariants as unary
 use Rattle.ix_core.specs.Facts.{in_orders}
 use Rattle.ix_core.specs.Bounds
 use Rattle.ix_core.specs.Bounds.{is_path, is_offset}
+use Rattle.ix_core.specs.Closure.{kept}
 use Rattle.ix_core.specs.After.{after_facts}
+use Rattle.ix_core.specs.AfterTest.{below_facts}
 
 abbrev int : Type_
 int = type.Plain base.Int
@@ -225,3 +227,42 @@ after_14 : same_facts (after_facts stored_14 Ideal (op.Num 3 arith.Shr 1 2)) (Is
 unfolding stored_14
 after_14 = refl
 
+-- ---- the facts of a test: ranges by their ends, since those of one path are met
+
+abbrev no_ranges : List Fact → List Fact
+no_ranges [] = []
+no_ranges (Rng p l h ∷ facts) = no_ranges facts
+no_ranges (LenRng a l h ∷ facts) = no_ranges facts
+no_ranges (fact ∷ facts) = fact ∷ no_ranges facts
+
+-- (Slot 1) < (Slot 0) + 1
+below_15 : List Fact
+below_15 = (IsLen (Slot 0) (Slot 6) ∷ Search (Slot 1) (Slot 5) ∷ Rng (Slot 0) (negsuc 0) (pos 0) ∷ LenRng (Slot 5) (pos 6) (pos 8) ∷ Same (Slot 6) (Slot 6) ∷ Low (Slot 0) (negsuc 0) ∷ []) ++ kept (below_facts (in_orders (IsLen (Slot 0) (Slot 6) ∷ Search (Slot 1) (Slot 5) ∷ Rng (Slot 0) (negsuc 0) (pos 0) ∷ LenRng (Slot 5) (pos 6) (pos 8) ∷ Same (Slot 6) (Slot 6) ∷ Low (Slot 0) (negsuc 0) ∷ [])) (Slot 1) (Slot 0) (pos 1))
+
+told_15 : (Bounds.own_low below_15 (Slot 0) ≡ negsuc 0) × (Bounds.range_high below_15 (Slot 0) ≡ pos 0) × (Bounds.length_low below_15 (Slot 5) ≡ pos 6) × (Bounds.length_high below_15 (Slot 5) ≡ pos 8) × (Bounds.own_low below_15 (Slot 1) ≡ negsuc 2147483647) × (Bounds.range_high below_15 (Slot 1) ≡ pos 0) × (Bounds.length_low below_15 (Slot 6) ≡ pos 0) × (Bounds.length_high below_15 (Slot 6) ≡ pos 0) × (same_facts (no_ranges below_15) (IsLen (Slot 0) (Slot 6) ∷ Search (Slot 1) (Slot 5) ∷ Same (Slot 6) (Slot 6) ∷ Low (Slot 0) (negsuc 0) ∷ Less (Slot 1) (Slot 0) (pos 1) ∷ Upper (Slot 1) (Slot 6) Nothing (negsuc 0) ∷ []) ≡ true)
+unfolding below_15
+told_15 = (refl, refl, refl, refl, refl, refl, refl, refl, refl)
+
+-- (Slot 2) < (Slot 0) + 1
+below_16 : List Fact
+below_16 = (IsLen (Slot 2) (Slot 5) ∷ Rng (Slot 0) (pos 5) (pos 6) ∷ Same (Slot 5) (Slot 6) ∷ Same (Slot 5) (Slot 5) ∷ Same (Slot 6) (Slot 6) ∷ IsLen (Slot 2) (Slot 6) ∷ Low (Slot 0) (pos 1) ∷ []) ++ kept (below_facts (in_orders (IsLen (Slot 2) (Slot 5) ∷ Rng (Slot 0) (pos 5) (pos 6) ∷ Same (Slot 5) (Slot 6) ∷ Same (Slot 5) (Slot 5) ∷ Same (Slot 6) (Slot 6) ∷ IsLen (Slot 2) (Slot 6) ∷ Low (Slot 0) (pos 1) ∷ [])) (Slot 2) (Slot 0) (pos 1))
+
+told_16 : (Bounds.own_low below_16 (Slot 0) ≡ pos 5) × (Bounds.range_high below_16 (Slot 0) ≡ pos 6) × (Bounds.own_low below_16 (Slot 2) ≡ negsuc 2147483647) × (Bounds.range_high below_16 (Slot 2) ≡ pos 6) × (Bounds.length_low below_16 (Slot 5) ≡ pos 0) × (Bounds.length_high below_16 (Slot 5) ≡ pos 6) × (Bounds.length_low below_16 (Slot 6) ≡ pos 0) × (Bounds.length_high below_16 (Slot 6) ≡ pos 6) × (same_facts (no_ranges below_16) (IsLen (Slot 2) (Slot 5) ∷ Same (Slot 5) (Slot 6) ∷ Same (Slot 5) (Slot 5) ∷ Same (Slot 6) (Slot 6) ∷ IsLen (Slot 2) (Slot 6) ∷ Low (Slot 0) (pos 1) ∷ Less (Slot 2) (Slot 0) (pos 1) ∷ []) ≡ true)
+unfolding below_16
+told_16 = (refl, refl, refl, refl, refl, refl, refl, refl, refl)
+
+-- (Slot 1) < (Slot 0) + 1
+below_17 : List Fact
+below_17 = (Less (Slot 1) (Slot 0) (negsuc 2) ∷ Upper (Slot 2) (Slot 6) (Minus (Slot 1)) (negsuc 5) ∷ IsLen (Slot 0) (Slot 5) ∷ Less (Slot 2) (Slot 0) (pos 1) ∷ Same (Slot 5) (Slot 5) ∷ []) ++ kept (below_facts (in_orders (Less (Slot 1) (Slot 0) (negsuc 2) ∷ Upper (Slot 2) (Slot 6) (Minus (Slot 1)) (negsuc 5) ∷ IsLen (Slot 0) (Slot 5) ∷ Less (Slot 2) (Slot 0) (pos 1) ∷ Same (Slot 5) (Slot 5) ∷ [])) (Slot 1) (Slot 0) (pos 1))
+
+told_17 : (Bounds.own_low below_17 (Slot 1) ≡ negsuc 2147483647) × (Bounds.range_high below_17 (Slot 1) ≡ pos 2147483647) × (Bounds.own_low below_17 (Slot 0) ≡ negsuc 2147483647) × (Bounds.range_high below_17 (Slot 0) ≡ pos 2147483647) × (Bounds.length_low below_17 (Slot 5) ≡ pos 0) × (Bounds.length_high below_17 (Slot 5) ≡ pos 2147483647) × (same_facts (no_ranges below_17) (Less (Slot 1) (Slot 0) (negsuc 2) ∷ Upper (Slot 2) (Slot 6) (Minus (Slot 1)) (negsuc 5) ∷ IsLen (Slot 0) (Slot 5) ∷ Less (Slot 2) (Slot 0) (pos 1) ∷ Same (Slot 5) (Slot 5) ∷ Upper (Slot 1) (Slot 5) Nothing (negsuc 0) ∷ []) ≡ true)
+unfolding below_17
+told_17 = (refl, refl, refl, refl, refl, refl, refl)
+
+-- (Slot 1) < (Slot 0) + 1
+below_18 : List Fact
+below_18 = (Less (Slot 0) (Slot 1) (negsuc 0) ∷ Same (Slot 5) (Slot 6) ∷ Upper (Slot 0) (Slot 6) Nothing (negsuc 2) ∷ Same (Slot 5) (Slot 5) ∷ Same (Slot 6) (Slot 6) ∷ []) ++ kept (below_facts (in_orders (Less (Slot 0) (Slot 1) (negsuc 0) ∷ Same (Slot 5) (Slot 6) ∷ Upper (Slot 0) (Slot 6) Nothing (negsuc 2) ∷ Same (Slot 5) (Slot 5) ∷ Same (Slot 6) (Slot 6) ∷ [])) (Slot 1) (Slot 0) (pos 1))
+
+told_18 : (Bounds.own_low below_18 (Slot 1) ≡ negsuc 2147483643) × (Bounds.range_high below_18 (Slot 1) ≡ pos 2147483645) × (Bounds.own_low below_18 (Slot 0) ≡ negsuc 2147483645) × (Bounds.range_high below_18 (Slot 0) ≡ pos 2147483643) × (same_facts (no_ranges below_18) (Less (Slot 0) (Slot 1) (negsuc 2) ∷ Same (Slot 5) (Slot 6) ∷ Upper (Slot 0) (Slot 6) Nothing (negsuc 0) ∷ Same (Slot 5) (Slot 5) ∷ Same (Slot 6) (Slot 6) ∷ Less (Slot 1) (Slot 0) (pos 1) ∷ Upper (Slot 1) (Slot 6) Nothing (negsuc 2) ∷ []) ≡ true)
+unfolding below_18
+told_18 = (refl, refl, refl, refl, refl)

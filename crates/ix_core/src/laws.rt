@@ -26,8 +26,7 @@ ghost use Rattle.ix_core.specs.Laws.{BoundsHold, BoundsNoWeaker, Alike};
 pub fn bounds_laws()
     ensures sound { (facts : List Fact) (v : Numbers) → AllHold facts v → BoundsHold (in_orders facts) v }
     ensures monotone { (strong weak : List Fact) → Stronger strong weak → BoundsNoWeaker (in_orders strong) (in_orders weak) }
-{
-}
+{}
 
 /// The closed list of facts: it holds where they do, it is the greatest closed list that says them, and the common part of closed lists is closed.
 pub fn closing_laws()
@@ -39,8 +38,7 @@ pub fn closing_laws()
     ensures reachable { (facts : List Fact) (v : Numbers) → AllHold facts v → ¬ Contradicts facts }
     ensures kept_sound { (facts : List Fact) (v : Numbers) → AllHold facts v → AllHold (kept facts) v }
     ensures kept_monotone { (strong weak : List Fact) → Stronger strong weak → Stronger (kept strong) (kept weak) }
-{
-}
+{}
 
 /// Operations other than calls and accesses to fields. In the profile `ideal` only steps count whose exact result is an int. Where the stronger
 /// facts give an empty exact interval, no step from a state that they hold in goes on.
@@ -50,8 +48,7 @@ pub fn operation_laws()
     ensures exact { (profile : Profile) (kind : OpKind) (facts : List Fact) (w : Numbers) → AllHold facts w → Results profile kind w w → HasExact facts kind }
     ensures copy_sound { (facts : List Fact) (w : Numbers) (ty : Type_) (t s : Path) → Alike w t s → AllHold facts w → AllHold (copy_facts facts ty t s) w }
     ensures copy_monotone { (strong weak : List Fact) (ty : Type_) (t s : Path) → Stronger strong weak → Stronger (copy_facts strong ty t s) (copy_facts weak ty t s) }
-{
-}
+{}
 
 /// Tests: what a comparison that is true tells, one that is false, and the facts of each outcome.
 pub fn test_laws()
@@ -59,16 +56,14 @@ pub fn test_laws()
     ensures opposite { (rel : Rel) (x y : ℤ) → (Compares rel x y → ⊥) → Compares (opposite rel) x y }
     ensures sound { (facts : List Fact) (v : Numbers) (outcome : Outcome) → AllHold facts v → IsSo outcome v → AllHold (outcome_facts (in_orders facts) outcome) v }
     ensures monotone { (strong weak : List Fact) (outcome : Outcome) → Stronger strong weak → Stronger (outcome_facts (in_orders strong) outcome) (outcome_facts (in_orders weak) outcome) }
-{
-}
+{}
 
 /// Claims that are assumed and claims that are proved.
 pub fn claim_laws()
     ensures assumed { (v : Numbers) (claim : PathClaim) (p : Path) → ClaimHolds claim p v → AllHold (claim_facts claim p) v }
     ensures sound { (facts : List Fact) (v : Numbers) (claim : PathClaim) (p : Path) → AllHold facts v → proves (in_orders facts) claim p ≡ true → ClaimHolds claim p v }
     ensures monotone { (strong weak : List Fact) (claim : PathClaim) (p : Path) → Stronger strong weak → proves (in_orders weak) claim p ≡ true → proves (in_orders strong) claim p ≡ true }
-{
-}
+{}
 
 /// Forgets and rounding.
 pub fn forget_laws()
@@ -77,8 +72,7 @@ pub fn forget_laws()
     ensures rounded_weaker { (marks : List ℤ) (scope : ℕ) (facts : List Fact) → Stronger facts (rounded marks scope facts) }
     ensures rounded_sound { (marks : List ℤ) (scope : ℕ) (facts : List Fact) (v : Numbers) → AllHold facts v → AllHold (rounded marks scope facts) v }
     ensures rounded_monotone { (marks : List ℤ) (scope : ℕ) (strong weak : List Fact) → Stronger strong weak → Stronger (rounded marks scope strong) (rounded marks scope weak) }
-{
-}
+{}
 
 /// The answers of a system: a table holds where its facts do and says no less of stronger facts; so `after` of every system is sound and monotone.
 pub fn system_laws()
@@ -86,5 +80,4 @@ pub fn system_laws()
     ensures table_monotone { (strong weak table other : List Fact) → Stronger strong weak → IsTable strong table → IsTable weak other → (f : Fact) → Said other f → Said table f }
     ensures after_sound { (own : Fact → Bool) (known table : List Fact) (profile : Profile) (kind : OpKind) (v w : Numbers) → TargetApart kind → Step profile kind v w → Stronger (without (of_target kind) known) (without (of_target kind) table) → AllHold (without (of_target kind) known) v → AllHold (system_after own known table profile kind) w }
     ensures after_monotone { (own : Fact → Bool) → IsByKey own → (known more table other : List Fact) (profile : Profile) (kind : OpKind) → Stronger known more → Stronger table other → HasExact (beside_target kind known) kind → Stronger (system_after own known table profile kind) (system_after own more other profile kind) }
-{
-}
+{}

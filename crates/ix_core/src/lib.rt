@@ -24,7 +24,9 @@ pub use error::{Detail, Error, Subject};
 pub use fact::{Fact, Path, PathClaim, PathOff, Profile};
 pub use know::Know;
 pub use landmarks::Landmarks;
-pub use laws::{bounds_laws, claim_laws, closing_laws, forget_laws, operation_laws, system_laws, test_laws};
+pub use laws::{
+    bounds_laws, claim_laws, closing_laws, forget_laws, operation_laws, system_laws, test_laws,
+};
 pub use op::{Arg, CallOp, Literal, Op, OpKind, Test, UnaryNum};
 pub use outcome::{Outcome, Value};
 pub use program::{Class, Field, Local, Method, Program};

@@ -26,12 +26,25 @@ pub trait System: Lattice {
     ghost own: { Fact → Bool };
 
     /// The table after an operation, by what is known: the condition is that each fact of the table that doesn't name the target is known.
-    fn after<K: Know>(&self, alloc: Global, op: &Op, know: &K, profile: Profile) -> Result<Self, AllocError>
+    fn after<K: Know>(
+        &self,
+        alloc: Global,
+        op: &Op,
+        know: &K,
+        profile: Profile,
+    ) -> Result<Self, AllocError>
         requires known { Stronger (without (of_target op.now.kind) (K.known know.now)) (without (of_target op.now.kind) (known self.now)) }
         ensures facts { IfOk result (λ table. IsTable (system_after own (K.known know.now) (known self.now) profile op.now.kind) (known table)) };
 
     /// The table after the value of one path was given to another.
-    fn copy<K: Know>(&self, alloc: Global, target: &Path, source: &Path, ty: &Type_, know: &K) -> Result<Self, AllocError>
+    fn copy<K: Know>(
+        &self,
+        alloc: Global,
+        target: &Path,
+        source: &Path,
+        ty: &Type_,
+        know: &K,
+    ) -> Result<Self, AllocError>
         requires known { Stronger (without (of_path target.now) (K.known know.now)) (without (of_path target.now) (known self.now)) }
         ensures facts { IfOk result (λ table. IsTable (system_copy own (K.known know.now) (known self.now) ty.now target.now source.now) (known table)) };
 
