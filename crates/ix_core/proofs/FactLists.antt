@@ -1,16 +1,12 @@
 -- Lists of facts: their members, what holds of all, and which lists are stronger.
-use Rattle.std.specs.Prelude.{◌≡◌, Bool, true, false, ℤ, ◌≤ℤ◌, List, [], ◌∷◌, ◌++◌, ◌⊎◌, Option, Some, None, refl}
-use Rattle.std.proofs.Common.{arith, inl, inr, sym, ap, ◌∙◌, subst, ⊎_elim}
-use Rattle.std.proofs.lemmas.Bool.{false≢true}
+use Rattle.std.specs.Prelude.{List, [], ◌∷◌, ◌++◌, ◌⊎◌, refl}
+use Rattle.std.proofs.Common.{arith, inl, inr, sym, subst, ⊎_elim}
 use Rattle.std.proofs.lemmas.Int.{ints}
-use Rattle.ix_core.specs.declared.fact.Path.{Path}
 use Rattle.ix_core.specs.declared.fact.PathOff.TheVariants.{Nothing, Plus, Minus}
 use Rattle.ix_core.specs.declared.fact.Fact.{Fact}
 use Rattle.ix_core.specs.declared.fact.Fact.TheVariants.{Rng, LenRng, Low, Same, IsLen, Less, Sum, Search, Neg, Upper}
 use Rattle.ix_core.specs.Numbers.{Numbers}
 use Rattle.ix_core.specs.Facts.{Holds, AllHold, IsIn, Covers, Stronger, orders, in_orders, rng, len_rng, low, same, is_len, less, sum, search, neg, upper}
-use Rattle.ix_core.specs.Forget.{names, without}
-use Rattle.ix_core.proofs.Tests.{by_test}
 
 -- ---- what covers
 

@@ -1,13 +1,12 @@
 -- Rounded facts are weaker than the facts, and of stronger facts stronger.
-use Rattle.std.specs.Prelude.{◌≡◌, ℕ, Bool, true, false, ℤ, ◌≤ℤ◌, int_le, List, [], ◌∷◌, ◌++◌, Option, Some, None}
+use Rattle.std.specs.Prelude.{ℕ, ℤ, ◌≤ℤ◌, int_le, List, [], ◌∷◌, Option, Some, None}
 use Rattle.std.specs.Int.{int_min, int_max}
-use Rattle.std.proofs.Common.{arith, inl, inr, ⊎_elim, subst}
+use Rattle.std.proofs.Common.{arith}
 use Rattle.std.proofs.lemmas.Int.{ints}
-use Rattle.ix_core.specs.declared.fact.Path.{Path}
 use Rattle.ix_core.specs.declared.fact.Fact.{Fact}
 use Rattle.ix_core.specs.declared.fact.Fact.TheVariants.{Rng, LenRng, Low, Same, IsLen, Less, Sum, Search, Neg, Upper}
-use Rattle.ix_core.specs.Facts.{IsIn, Covers, Stronger, rng, len_rng, low, same, is_len, less, sum, search, neg, upper}
-use Rattle.ix_core.specs.Bounds.{best, when}
+use Rattle.ix_core.specs.Facts.{Covers, Stronger, rng, len_rng, low, same, is_len, less, sum, search, neg, upper}
+use Rattle.ix_core.specs.Bounds.{when}
 use Rattle.ix_core.specs.Exact.{each, if_some}
 use Rattle.ix_core.specs.Forget.{without}
 use Rattle.ix_core.specs.Round.{mark_below, mark_above, if_both, rounded_fact, is_beyond, rounded}

@@ -1,18 +1,16 @@
 -- The laws of a system of facts: what its tables say holds where the facts do, and is stronger where they are.
-use Rattle.std.specs.Prelude.{◌≡◌, Bool, true, false, cond, ℤ, pos, List, [], ◌∷◌, ◌++◌}
-use Rattle.std.specs.Int.{int_min, int_max}
+use Rattle.std.specs.Prelude.{◌≡◌, Bool, true, pos, List, [], ◌∷◌, ◌++◌}
 use Rattle.std.proofs.Common.{arith, inl, inr, sym, ◌∙◌, subst, ⊎_elim}
 use Rattle.std.proofs.lemmas.Bool.{false≢true}
 use Rattle.std.proofs.lemmas.Int.{ints, clamps}
 use Rattle.ix_num.specs.Ints.{least_int, greatest_int}
-use Rattle.ix_core.specs.declared.fact.Path.{Path}
 use Rattle.ix_core.specs.declared.fact.PathOff.TheVariants.{Nothing, Plus, Minus}
 use Rattle.ix_core.specs.declared.fact.Fact.{Fact}
 use Rattle.ix_core.specs.declared.fact.Fact.TheVariants.{Rng, LenRng, Low, Same, IsLen, Less, Sum, Search, Neg, Upper}
 use Rattle.ix_core.specs.declared.fact.Profile.{Profile}
 use Rattle.ix_core.specs.declared.op.OpKind.{OpKind}
 use Rattle.ix_core.specs.Numbers.{Numbers}
-use Rattle.ix_core.specs.Facts.{Holds, AllHold, IsIn, Covers, Stronger, orders, in_orders, rng, len_rng}
+use Rattle.ix_core.specs.Facts.{Holds, AllHold, IsIn, Stronger, orders, in_orders, rng, len_rng}
 use Rattle.ix_core.specs.Closure.{Default, Said, kept}
 use Rattle.ix_core.specs.Forget.{without}
 use Rattle.ix_core.specs.AfterOperation.{HasExact, new_facts}
@@ -21,7 +19,7 @@ use Rattle.ix_core.specs.Systems.{Merges, given, weaker, any_int, any_size, met,
 use Rattle.ix_core.proofs.AfterLaws.{results_now, finished_holds, finished_mono}
 use Rattle.ix_core.proofs.BoundsHold.{in_orders_hold}
 use Rattle.ix_core.proofs.ClosureLaws.{kept_hold, kept_stronger}
-use Rattle.ix_core.proofs.FactLists.{covers_holds, in_holds, in_either, all_hold_app, all_hold_each, stronger_hold, stronger_app, stronger_none, stronger_cons, in_orders_stronger}
+use Rattle.ix_core.proofs.FactLists.{covers_holds, in_holds, in_either, all_hold_app, all_hold_each, stronger_hold, stronger_app, in_orders_stronger}
 use Rattle.ix_core.proofs.Frame.{without_stays, without_stronger}
 use Rattle.ix_core.proofs.OperationsHold.{new_facts_hold}
 use Rattle.ix_core.proofs.OperationsMonotone.{new_facts_mono}

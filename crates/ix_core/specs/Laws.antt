@@ -1,5 +1,5 @@
 -- What the definitions of facts and rules promise: in each state in which facts hold their bounds hold, and stronger facts have no weaker ones.
-use Rattle.std.specs.Prelude.{◌≡◌, Bool, true, ℤ, ◌≤ℤ◌, List, Option, Some}
+use Rattle.std.specs.Prelude.{◌≡◌, true, ℤ, ◌≤ℤ◌, List, Some}
 use Rattle.ix_core.specs.declared.fact.Path.{Path}
 use Rattle.ix_core.specs.declared.fact.PathOff.{PathOff}
 use Rattle.ix_core.specs.declared.fact.Fact.{Fact}

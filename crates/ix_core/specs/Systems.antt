@@ -1,5 +1,5 @@
 -- What a system of facts answers: the part of the rules that is of its own kinds, before anything is closed.
-use Rattle.std.specs.Prelude.{◌≡◌, Bool, true, false, cond, ℤ, pos, negsuc, ◌^◌, ◌≤ℤ◌, ◌<ℤ◌, List, [], ◌∷◌, ◌++◌}
+use Rattle.std.specs.Prelude.{◌≡◌, Bool, cond, ℤ, pos, negsuc, ◌^◌, ◌≤ℤ◌, ◌<ℤ◌, List, [], ◌∷◌, ◌++◌}
 use Rattle.std.specs.Int.{int_min, int_max}
 use Rattle.ix_num.specs.Ints.{least_int, greatest_int}
 use Rattle.ix_core.specs.declared.claim.Type_.{Type_}
@@ -9,7 +9,7 @@ use Rattle.ix_core.specs.declared.fact.Fact.{Fact}
 use Rattle.ix_core.specs.declared.fact.Fact.TheVariants.{Rng, LenRng, Same, Sum, Upper}
 use Rattle.ix_core.specs.declared.fact.Profile.{Profile}
 use Rattle.ix_core.specs.declared.op.OpKind.{OpKind}
-use Rattle.ix_core.specs.Facts.{IsIn, Covers, Stronger, in_orders}
+use Rattle.ix_core.specs.Facts.{IsIn, Covers, in_orders}
 use Rattle.ix_core.specs.Closure.{Said, kept}
 use Rattle.ix_core.specs.Forget.{of_path, without}
 use Rattle.ix_core.specs.Exact.{each}
