@@ -2,3 +2,27 @@ pub mod GoodIsSafe
 pub mod RepeatedClaims
 pub mod Translated
 mod ModelRows
+pub mod Tests
+pub mod Gives
+pub mod BoundsHold
+pub mod Worse
+pub mod BoundsMonotone
+pub mod FactLists
+pub mod Frame
+pub mod ClosureLaws
+pub mod RuleForms
+pub mod ExactLaws
+pub mod ClassLaws
+pub mod OperatorBounds
+pub mod RulesHold
+pub mod OperationsHold
+pub mod RulesMonotone
+pub mod OperationsMonotone
+pub mod FinishLaws
+pub mod AfterLaws
+pub mod TestLaws
+pub mod ClaimLaws
+pub mod RoundLaws
+pub mod BoundLaws
+pub mod SystemLaws
+pub mod Samples

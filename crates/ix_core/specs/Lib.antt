@@ -8,3 +8,17 @@ pub mod Machine
 pub mod Safe
 pub mod Objects
 pub mod Waits
+pub mod Numbers
+pub mod Facts
+pub mod Bounds
+pub mod Forget
+pub mod Closure
+pub mod Exact
+pub mod AfterOperation
+pub mod Finish
+pub mod After
+pub mod AfterTest
+pub mod Assume
+pub mod Round
+pub mod Laws
+pub mod Systems

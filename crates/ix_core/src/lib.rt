@@ -10,14 +10,24 @@ mod claim;
 mod code;
 mod error;
 mod fact;
+mod know;
+mod landmarks;
+mod laws;
 mod op;
 mod outcome;
 mod program;
+mod system;
 
 pub use claim::{Base, Claim, Name, Off, Type_};
 pub use code::{Block, Cond, Item};
 pub use error::{Detail, Error, Subject};
 pub use fact::{Fact, Path, PathClaim, PathOff, Profile};
+pub use know::Know;
+pub use landmarks::Landmarks;
+pub use laws::{
+    bounds_laws, claim_laws, closing_laws, forget_laws, operation_laws, system_laws, test_laws,
+};
 pub use op::{Arg, CallOp, Literal, Op, OpKind, Test, UnaryNum};
 pub use outcome::{Outcome, Value};
 pub use program::{Class, Field, Local, Method, Program};
+pub use system::System;

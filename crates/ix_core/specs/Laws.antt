@@ -1,0 +1,33 @@
+-- What the definitions of facts and rules promise: in each state in which facts hold their bounds hold, and stronger facts have no weaker ones.
+use Rattle.std.specs.Prelude.{◌≡◌, true, ℤ, ◌≤ℤ◌, List, Some}
+use Rattle.ix_core.specs.declared.fact.Path.{Path}
+use Rattle.ix_core.specs.declared.fact.PathOff.{PathOff}
+use Rattle.ix_core.specs.declared.fact.Fact.{Fact}
+use Rattle.ix_core.specs.declared.fact.Fact.TheVariants.{Less, Upper}
+use Rattle.ix_core.specs.Numbers.{Numbers}
+use Rattle.ix_core.specs.Facts.{Holds}
+use Rattle.ix_core.specs.Bounds.{are_same, length_low, length_high, lower_bound, upper_limit, upper_bound, less_bound}
+
+-- each bound that the facts give is true of the numbers
+pub record BoundsHold (facts : List Fact) (v : Numbers) : Type 0 where
+  pub lower : (p : Path) → lower_bound facts p ≤ℤ v.int p
+  pub limit : (p : Path) → v.int p ≤ℤ upper_limit facts p
+  pub length_from : (a : Path) → length_low facts a ≤ℤ v.size a
+  pub length_to : (a : Path) → v.size a ≤ℤ length_high facts a
+  pub upper : (p a : Path) (o : PathOff) (c : ℤ) → upper_bound facts p a o ≡ Some c → Holds (Upper p a o c) v
+  pub less : (p q : Path) → Holds (Less p q (less_bound facts p q)) v
+  pub same : (a b : Path) → are_same facts a b ≡ true → v.size a ≡ v.size b
+
+-- each bound of the first facts is at least as good as that of the second
+pub record BoundsNoWeaker (strong weak : List Fact) : Type 0 where
+  pub lower : (p : Path) → lower_bound weak p ≤ℤ lower_bound strong p
+  pub limit : (p : Path) → upper_limit strong p ≤ℤ upper_limit weak p
+  pub length_from : (a : Path) → length_low weak a ≤ℤ length_low strong a
+  pub length_to : (a : Path) → length_high strong a ≤ℤ length_high weak a
+  pub upper : (p a : Path) (o : PathOff) (c : ℤ) → upper_bound weak p a o ≡ Some c → (d : ℤ) × (upper_bound strong p a o ≡ Some d) × (c ≤ℤ d)
+  pub less : (p q : Path) → less_bound strong p q ≤ℤ less_bound weak p q
+  pub same : (a b : Path) → are_same weak a b ≡ true → are_same strong a b ≡ true
+
+-- two paths with the same numbers
+abbrev pub Alike : Numbers → Path → Path → Type 0
+Alike v t s = (v.int t ≡ v.int s) × (v.size t ≡ v.size s)
