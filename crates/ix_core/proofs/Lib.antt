@@ -23,3 +23,4 @@ pub mod RoundLaws
 pub mod BoundLaws
 pub mod SystemLaws
 pub mod Samples
+pub mod ShiftedWays

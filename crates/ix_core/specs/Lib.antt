@@ -20,3 +20,4 @@ pub mod Assume
 pub mod Round
 pub mod Laws
 pub mod Systems
+pub mod MethodLandmarks
