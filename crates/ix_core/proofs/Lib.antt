@@ -26,3 +26,4 @@ pub mod RoundLaws
 pub mod BoundLaws
 pub mod SystemLaws
 pub mod Samples
+pub mod ShiftedWays

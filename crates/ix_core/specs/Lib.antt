@@ -22,3 +22,4 @@ pub mod Assume
 pub mod Round
 pub mod Laws
 pub mod Systems
+pub mod MethodLandmarks
