@@ -154,3 +154,79 @@ module _ (facts : List Fact) (p a : Path) where
   of_minus r q c e =
       let x = attained (Bounds.stored_upper_by facts p a (Minus q)) c facts e in
       in_shifted (Minus r) (Bounds.through facts c (Bounds.stored_less facts q r)) x.0 x.1 (minus_one r q c x.0 x.2)
+
+  -- ---- and nothing else is counted
+
+  -- A way to the bound n: the stored bound itself; one of a q that p is below; one at an offset +q above +r, or -q that r is above.
+  pub data Way (o : PathOff) (n : ℤ) : Type 0 where
+    itself : (c : ℤ) → Bounds.stored_upper facts p a o ≡ Some c → n ≤ℤ c → Way o n
+    greater : (q : Path) (c d : ℤ) → Bounds.stored_upper facts q a o ≡ Some c → Bounds.stored_less facts p q ≡ Some d → n ≤ℤ (c -ℤ d +ℤ pos 1) → Way o n
+    plus : (r q : Path) (c d : ℤ) → o ≡ Plus r → Bounds.stored_upper facts p a (Plus q) ≡ Some c → Bounds.stored_less facts r q ≡ Some d → n ≤ℤ (c -ℤ d +ℤ pos 1) → Way o n
+    minus : (r q : Path) (c d : ℤ) → o ≡ Minus r → Bounds.stored_upper facts p a (Minus q) ≡ Some c → Bounds.stored_less facts q r ≡ Some d → n ≤ℤ (c -ℤ d +ℤ pos 1) → Way o n
+
+  of_map : (c n : ℤ) (o : Option ℤ) → Bounds.through facts c o ≡ Some n → (d : ℤ) × (o ≡ Some d) × (n ≡ c -ℤ d +ℤ pos 1)
+  of_map c n None e = absurd cc
+  of_map c n (Some d) e = let i : c -ℤ d +ℤ pos 1 ≡ n = cc in (d, refl, sym i)
+
+  some_above : (d : ℤ) (o : Option ℤ) → Worse Up (Some d) o → (c : ℤ) × (o ≡ Some c) × (d ≤ℤ c)
+  some_above d None w = absurd w
+  some_above d (Some c) w = (c, refl, w)
+
+  -- a fact gives its own bound to the stored one of its path
+  stored_here : (r b : Path) (x o : PathOff) (d : ℤ) → IsIn (Upper r b x d) facts → Bounds.are_same facts b a ≡ true → is_offset x o ≡ true → (c : ℤ) × (Bounds.stored_upper facts r a o ≡ Some c) × (d ≤ℤ c)
+  stored_here r b x o d i t u =
+      let here : Worse Up (Some d) (Bounds.stored_upper_by facts r a o (Upper r b x d)) = rw (path_itself r, t, u) (no_worse (Some d)) in
+      some_above d (Bounds.stored_upper facts r a o) (worse_in Up int_max up_laws (Bounds.stored_upper_by facts r a o) (Some d) (Upper r b x d) facts i here)
+
+  moved_way : (r b : Path) (x o : PathOff) (d n : ℤ) → IsIn (Upper r b x d) facts → Bounds.are_same facts b a ≡ true → is_path r p ≡ true → Bounds.offset_moved facts d x o ≡ Some n → Way o n
+  moved_way r b (Plus q) (Plus s) d n i t u e =
+      let z = of_map d n (Bounds.stored_less facts s q) e in
+      let k = stored_here r b (Plus q) (Plus q) d i t (path_itself q) in
+      let m = path_true r p u in
+      plus s q k.0 z.0 refl (subst (λ y. Bounds.stored_upper facts y a (Plus q) ≡ Some k.0) m k.1) z.1 (omega (arith, ints, z.2, k.2))
+  moved_way r b (Minus q) (Minus s) d n i t u e =
+      let z = of_map d n (Bounds.stored_less facts q s) e in
+      let k = stored_here r b (Minus q) (Minus q) d i t (path_itself q) in
+      let m = path_true r p u in
+      minus s q k.0 z.0 refl (subst (λ y. Bounds.stored_upper facts y a (Minus q) ≡ Some k.0) m k.1) z.1 (omega (arith, ints, z.2, k.2))
+  moved_way r b Nothing _ d n i t u e = absurd cc
+  moved_way r b (Plus q) Nothing d n i t u e = absurd cc
+  moved_way r b (Plus q) (Minus s) d n i t u e = absurd cc
+  moved_way r b (Minus q) Nothing d n i t u e = absurd cc
+  moved_way r b (Minus q) (Plus s) d n i t u e = absurd cc
+
+  fact_way : (o : PathOff) (n : ℤ) (f : Fact) → IsIn f facts → Bounds.shifted_by facts p a o f ≡ Some n → Way o n
+  fact_way o n (Upper r b x d) i e =
+      let t = of_when (Bounds.are_same facts b a) (best int_max (when (is_offset x o) (Bounds.through facts d (Bounds.stored_less facts p r))) (when (is_path r p) (Bounds.offset_moved facts d x o))) n e in
+      ⊎_elim
+      (λ y.
+      let u = of_when (is_offset x o) (Bounds.through facts d (Bounds.stored_less facts p r)) n y in
+      let z = of_map d n (Bounds.stored_less facts p r) u.1 in
+      let k = stored_here r b x o d i t.0 u.0 in
+      greater r k.0 z.0 k.1 z.1 (omega (arith, ints, z.2, k.2)))
+      (λ y. let u = of_when (is_path r p) (Bounds.offset_moved facts d x o) n y in moved_way r b x o d n i t.0 u.0 u.1)
+      (either (when (is_offset x o) (Bounds.through facts d (Bounds.stored_less facts p r))) (when (is_path r p) (Bounds.offset_moved facts d x o)) n t.1)
+  fact_way Nothing n (IsLen r b) i e =
+      let t = of_when (is_path b a) (Bounds.through facts (negsuc 0) (Bounds.stored_less facts p r)) n e in
+      let z = of_map (negsuc 0) n (Bounds.stored_less facts p r) t.1 in
+      let here : Worse Up (Some (negsuc 0)) (Bounds.stored_upper_by facts r a Nothing (IsLen r b)) = rw (path_itself r, t.0) (no_worse (Some (negsuc 0))) in
+      let k = some_above (negsuc 0) (Bounds.stored_upper facts r a Nothing) (worse_in Up int_max up_laws (Bounds.stored_upper_by facts r a Nothing) (Some (negsuc 0)) (IsLen r b) facts i here) in
+      greater r k.0 z.0 k.1 z.1 (omega (arith, ints, z.2, k.2))
+  fact_way (Plus _) n (IsLen r b) i e = absurd cc
+  fact_way (Minus _) n (IsLen r b) i e = absurd cc
+  fact_way _ n (Rng _ _ _) i e = absurd cc
+  fact_way _ n (LenRng _ _ _) i e = absurd cc
+  fact_way _ n (Low _ _) i e = absurd cc
+  fact_way _ n (Same _ _) i e = absurd cc
+  fact_way _ n (Less _ _ _) i e = absurd cc
+  fact_way _ n (Sum _ _ _) i e = absurd cc
+  fact_way _ n (Search _ _) i e = absurd cc
+  fact_way _ n (Neg _ _) i e = absurd cc
+
+  -- The shifted bound is at most one of the ways.
+  pub shifted_way : (o : PathOff) (n : ℤ) → Bounds.shifted_upper facts p a o ≡ Some n → Way o n
+  shifted_way o n e =
+      ⊎_elim
+      (λ x. itself n x (omega (arith, ints)))
+      (λ x. let y = attained (Bounds.shifted_by facts p a o) n facts x in fact_way o n y.0 y.1 y.2)
+      (either (Bounds.stored_upper facts p a o) (greatest (Bounds.shifted_by facts p a o) facts) n e)

@@ -5,6 +5,8 @@ use Rattle.std.proofs.lemmas.Bool.{false≢true}
 use Rattle.std.proofs.lemmas.Int.{ints, clamps}
 use Rattle.ix_num.specs.Ints.{least_int, greatest_int}
 use Rattle.ix_core.specs.declared.fact.PathOff.TheVariants.{Nothing, Plus, Minus}
+use Rattle.ix_core.specs.declared.claim.Type_.{Type_}
+use Rattle.ix_core.specs.declared.fact.Path.{Path}
 use Rattle.ix_core.specs.declared.fact.Fact.{Fact}
 use Rattle.ix_core.specs.declared.fact.Fact.TheVariants.{Rng, LenRng, Low, Same, IsLen, Less, Sum, Search, Neg, Upper}
 use Rattle.ix_core.specs.declared.fact.Profile.{Profile}
@@ -12,17 +14,19 @@ use Rattle.ix_core.specs.declared.op.OpKind.{OpKind}
 use Rattle.ix_core.specs.Numbers.{Numbers}
 use Rattle.ix_core.specs.Facts.{Holds, AllHold, IsIn, Stronger, orders, in_orders, rng, len_rng}
 use Rattle.ix_core.specs.Closure.{Default, Said, kept}
-use Rattle.ix_core.specs.Forget.{without}
-use Rattle.ix_core.specs.AfterOperation.{HasExact, new_facts}
-use Rattle.ix_core.specs.After.{of_target, Step, TargetApart, finished, beside_target, kept_new}
-use Rattle.ix_core.specs.Systems.{Merges, given, weaker, any_int, any_size, met, len_met, turned, sum_turned, upper_turned, IsTable, only_own, IsByKey, system_after}
-use Rattle.ix_core.proofs.AfterLaws.{results_now, finished_holds, finished_mono}
+use Rattle.ix_core.specs.Forget.{of_path, without, SameBut}
+use Rattle.ix_core.specs.AfterOperation.{HasExact, copied, new_facts}
+use Rattle.ix_core.specs.After.{of_target, Step, TargetApart, finished_by, finished, beside_target, kept_new}
+use Rattle.ix_core.specs.Systems.{Merges, given, weaker, any_int, any_size, met, len_met, turned, sum_turned, upper_turned, IsTable, only_own, IsByKey, system_after, system_copy}
+use Rattle.ix_core.proofs.AfterLaws.{results_now, finished_by_holds, finished_by_mono, finished_holds, finished_mono}
 use Rattle.ix_core.proofs.BoundsHold.{in_orders_hold}
 use Rattle.ix_core.proofs.ClosureLaws.{kept_hold, kept_stronger}
 use Rattle.ix_core.proofs.FactLists.{covers_holds, in_holds, in_either, all_hold_app, all_hold_each, stronger_hold, stronger_app, in_orders_stronger}
 use Rattle.ix_core.proofs.Frame.{without_stays, without_stronger}
 use Rattle.ix_core.proofs.OperationsHold.{new_facts_hold}
 use Rattle.ix_core.proofs.OperationsMonotone.{new_facts_mono}
+use Rattle.ix_core.proofs.RulesHold.{Alike, copied_hold}
+use Rattle.ix_core.proofs.RulesMonotone.{copied_mono}
 use Rattle.ix_core.proofs.Tests.{by_test}
 
 -- ---- tables
@@ -137,3 +141,26 @@ system_mono own key known more table other profile kind s t some =
     let new = kept_stronger _ _ (new_facts_mono (beside_target kind known) (beside_target kind more) beside profile kind some) in
     let rest = kept_stronger _ _ (finished_mono (beside_target kind known) (beside_target kind more) (kept_new (beside_target kind known) profile kind) (kept_new (beside_target kind more) profile kind) beside new kind) in
     stronger_app _ _ _ _ (without_stronger (of_target kind) table other t) (own_stronger own key _ _ (stronger_app _ _ _ _ new rest))
+
+-- ---- after a copy, rounded, forgotten and added
+
+pub system_copy_sound : (own : Fact → Bool) (known table : List Fact) (ty : Type_) (t s : Path) (v w : Numbers) → Alike w t s → SameBut (of_path t) v w
+    → Stronger (without (of_path t) known) (without (of_path t) table) → AllHold (without (of_path t) known) v → AllHold (system_copy own known table ty t s) w
+system_copy_sound own known table ty t s v w alike same met_by h =
+    let old = without_stays (of_path t) v w same known h in
+    let beside = in_orders (without (of_path t) known) in
+    let k = in_orders_hold w (without (of_path t) known) old in
+    let new = kept_hold w (copied beside ty t s) (copied_hold w t s alike beside k ty) in
+    let rest = kept_hold w (finished_by ty beside (kept (copied beside ty t s)) t) (finished_by_holds w beside (kept (copied beside ty t s)) k new ty t) in
+    all_hold_app w (without (of_path t) table) (only_own own (kept (copied beside ty t s) ++ kept (finished_by ty beside (kept (copied beside ty t s)) t)))
+    (stronger_hold w (without (of_path t) known) (without (of_path t) table) met_by old)
+    (only_own_holds own w (kept (copied beside ty t s) ++ kept (finished_by ty beside (kept (copied beside ty t s)) t)) (all_hold_app w (kept (copied beside ty t s)) (kept (finished_by ty beside (kept (copied beside ty t s)) t)) new rest))
+
+pub system_copy_mono : (own : Fact → Bool) → IsByKey own → (known more table other : List Fact) (ty : Type_) (t s : Path) → Stronger known more → Stronger table other
+    → Stronger (system_copy own known table ty t s) (system_copy own more other ty t s)
+system_copy_mono own key known more table other ty t p s u =
+    let left = without_stronger (of_path t) known more s in
+    let beside = in_orders_stronger (without (of_path t) known) (without (of_path t) more) left in
+    let new = kept_stronger _ _ (copied_mono (in_orders (without (of_path t) known)) (in_orders (without (of_path t) more)) beside ty t p) in
+    let rest = kept_stronger _ _ (finished_by_mono (in_orders (without (of_path t) known)) (in_orders (without (of_path t) more)) (kept (copied (in_orders (without (of_path t) known)) ty t p)) (kept (copied (in_orders (without (of_path t) more)) ty t p)) beside new ty t) in
+    stronger_app _ _ _ _ (without_stronger (of_path t) table other u) (own_stronger own key _ _ (stronger_app _ _ _ _ new rest))

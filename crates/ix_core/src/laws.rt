@@ -12,10 +12,10 @@ ghost use Rattle.ix_core.specs.declared.fact.Profile.{Profile};
 ghost use Rattle.ix_core.specs.declared.op.OpKind.{OpKind};
 ghost use Rattle.ix_core.specs.Numbers.{Numbers};
 ghost use Rattle.ix_core.specs.Facts.{Holds, AllHold, IsIn, Stronger, in_orders};
-ghost use Rattle.ix_core.specs.Forget.{without, SameBut};
+ghost use Rattle.ix_core.specs.Forget.{of_path, without, SameBut};
 ghost use Rattle.ix_core.specs.Closure.{Said, Closed, Contradicts, IsClosedOf, IsCommon, kept};
 ghost use Rattle.ix_core.specs.AfterOperation.{HasExact, Results};
-ghost use Rattle.ix_core.specs.Systems.{IsTable, IsByKey, system_after};
+ghost use Rattle.ix_core.specs.Systems.{IsTable, IsByKey, system_after, system_copy};
 ghost use Rattle.ix_core.specs.After.{of_target, Step, TargetApart, beside_target, after_facts, copy_facts};
 ghost use Rattle.ix_core.specs.AfterTest.{Outcome, IsSo, AllSo, int_outcomes, opposite, outcome_facts};
 ghost use Rattle.ix_core.specs.Assume.{ClaimHolds, claim_facts, proves};
@@ -74,10 +74,13 @@ pub fn forget_laws()
     ensures rounded_monotone { (marks : List ℤ) (scope : ℕ) (strong weak : List Fact) → Stronger strong weak → Stronger (rounded marks scope strong) (rounded marks scope weak) }
 {}
 
-/// The answers of a system: a table holds where its facts do and says no less of stronger facts; so `after` of every system is sound and monotone.
+/// The answers of a system: a table holds where its facts do and says no less of stronger facts; so `after` and `copy` of every
+/// system are sound and monotone.
 pub fn system_laws()
     ensures table_sound { (facts table : List Fact) (v : Numbers) → IsTable facts table → AllHold facts v → AllHold table v }
     ensures table_monotone { (strong weak table other : List Fact) → Stronger strong weak → IsTable strong table → IsTable weak other → (f : Fact) → Said other f → Said table f }
     ensures after_sound { (own : Fact → Bool) (known table : List Fact) (profile : Profile) (kind : OpKind) (v w : Numbers) → TargetApart kind → Step profile kind v w → Stronger (without (of_target kind) known) (without (of_target kind) table) → AllHold (without (of_target kind) known) v → AllHold (system_after own known table profile kind) w }
     ensures after_monotone { (own : Fact → Bool) → IsByKey own → (known more table other : List Fact) (profile : Profile) (kind : OpKind) → Stronger known more → Stronger table other → HasExact (beside_target kind known) kind → Stronger (system_after own known table profile kind) (system_after own more other profile kind) }
+    ensures copy_sound { (own : Fact → Bool) (known table : List Fact) (ty : Type_) (t s : Path) (v w : Numbers) → Alike w t s → SameBut (of_path t) v w → Stronger (without (of_path t) known) (without (of_path t) table) → AllHold (without (of_path t) known) v → AllHold (system_copy own known table ty t s) w }
+    ensures copy_monotone { (own : Fact → Bool) → IsByKey own → (known more table other : List Fact) (ty : Type_) (t s : Path) → Stronger known more → Stronger table other → Stronger (system_copy own known table ty t s) (system_copy own more other ty t s) }
 {}
