@@ -2,7 +2,7 @@
 //!
 //! What goes in: nothing; these are the types that the checker, the machine and their texts share, and the definitions over them.
 //! The contract: one definition of each notion, cited by every crate above.
-//! It stands on `ix_num` for arithmetic and on `ix_text` for texts and lists.
+//! It stands on `ix_num` for arithmetic, on `ix_tables` for the low table, on `ix_lattice` for orders and on `ix_text` for texts and lists.
 //! It never looks at a source's tokens or tree.
 #![tactic(auto)]
 
