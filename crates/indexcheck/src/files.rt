@@ -2,7 +2,7 @@
 ghost use Rattle.std.specs.Prelude.{◌≡◌, ◌+◌, ◌-◌, ◌^◌, ◌<◌, ◌⊎◌, ℕ, List, None};
 ghost use Rattle.ix_tool.specs.Outside.{Rose};
 
-use ix_tool::{Failed, OpenError, Source};
+use ix_tool::{Failed, OpenError, Reads, Source};
 use std::fs::{self, File};
 use std::io::{ErrorKind, Read};
 
@@ -12,14 +12,18 @@ pub(crate) struct FileSource<'a> {
     rt: &'a HostRuntime,
     opened: Option<File>,
     faults: u64,
+    reads: Reads,
 }
 
 impl<'a> FileSource<'a> {
-    pub(crate) fn new(rt: &'a HostRuntime) -> FileSource<'a> {
+    pub(crate) fn new(rt: &'a HostRuntime) -> FileSource<'a>
+        ensures reads { ⟦<FileSource<'a> as Source>⟧.reads result ≡ 0 }
+    {
         FileSource {
             rt,
             opened: None,
             faults: 0,
+            reads: Reads::none(),
         }
     }
 }
@@ -44,6 +48,8 @@ impl<'a> Source for FileSource<'a> {
 
     ghost faults = { λ source. source.faults };
 
+    ghost reads = { λ source. source.reads.count };
+
     fn open(&mut self, name: &str) -> Result<(), OpenError> {
         match fs::open(self.rt, name) {
             Ok(file) => {
@@ -61,6 +67,7 @@ impl<'a> Source for FileSource<'a> {
     }
 
     fn read(&mut self, buf: &mut [u8]) -> Result<usize, Failed> {
+        self.reads = self.reads.and_one();
         let read = match &mut self.opened {
             Some(file) => file.read(buf).ok(),
             None => None,

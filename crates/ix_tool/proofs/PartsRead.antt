@@ -1,7 +1,7 @@
 -- What was read of a file, part by part.
-use Rattle.std.proofs.Common.{◌≡◌, ℕ, List, ◌++◌, Option, Some, None, length, take, drop, ap, subst, ◌∙◌, option_map, length-append}
+use Rattle.std.proofs.Common.{◌≡◌, ◌≤◌, arith, ℕ, List, ◌++◌, Option, Some, None, length, take, drop, ap, subst, ◌∙◌, option_map, length-append}
 use Rattle.std.proofs.Math.Seq.{take-add}
-use Rattle.std.proofs.lemmas.List.{drop-drop}
+use Rattle.std.proofs.lemmas.List.{drop-drop, length-take}
 use Rattle.ix_tool.specs.Outside.{TellsFirst}
 
 -- the bytes before and the next part are the first bytes of all
@@ -23,3 +23,7 @@ pub left-part : (left next last : Option (List ℕ)) (before part after : List �
 left-part None next last before part after is cut more = cut ∙ ap (option_map (drop (length part))) is
 left-part (Some all) next last before part after is cut more =
     rw (more, length-append before part) (cut ∙ (ap (option_map (drop (length part))) is ∙ ap Some (drop-drop (length part) (length before) all)))
+
+-- the first bytes of all are no more than all
+pub part-short : (all part : List ℕ) → take (length part) all ≡ part → length part ≤ length all
+part-short all part first = omega (arith, length-take (length part) all, ap length first)

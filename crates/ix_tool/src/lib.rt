@@ -11,6 +11,7 @@ mod faults;
 mod memory_sink;
 mod memory_source;
 mod reading;
+mod reads;
 mod reply;
 mod sink;
 mod source;
@@ -23,6 +24,7 @@ mod writing;
 
 pub use memory_sink::{MemSink, SureSink};
 pub use memory_source::{MemSource, SureSource};
+pub use reads::Reads;
 pub use sink::{Sink, WriteError};
 pub use source::{Failed, OpenError, Source};
 pub use status::Status;

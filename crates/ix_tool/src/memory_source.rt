@@ -3,6 +3,7 @@ ghost use Rattle.std.specs.Prelude.{◌≡◌, ℕ, ◌+◌, ◌^◌, ◌<◌, �
 ghost use Rattle.ix_tool.specs.Outside.{held, bytes_at, NoneToCome};
 
 use crate::faults::{after_call, is_to_fail, raised};
+use crate::reads::Reads;
 use crate::source::{Failed, OpenError, Source};
 use ix_text::{List, Text};
 
@@ -60,6 +61,7 @@ pub struct MemSource {
     place: usize,
     at: usize,
     faults: u64,
+    reads: Reads,
 }
 
 impl MemSource {
@@ -68,6 +70,7 @@ impl MemSource {
         ensures files { ⟦<MemSource as Source>⟧.files result ≡ Some files }
         ensures sure { (name : List ℕ) → IsSome (held files name) → NoneToCome fails 0 → ⟦<MemSource as Source>⟧.IsSure result name }
         ensures faults { ⟦<MemSource as Source>⟧.faults result ≡ 0 }
+        ensures reads { ⟦<MemSource as Source>⟧.reads result ≡ 0 }
     {
         MemSource {
             files,
@@ -77,6 +80,7 @@ impl MemSource {
             place: 0,
             at: 0,
             faults: 0,
+            reads: Reads::none(),
         }
     }
 }
@@ -93,6 +97,8 @@ impl Source for MemSource {
     ghost IsOpenedSure = { λ source. (source.opened ≡ true) × NoneToCome source.fails source.calls };
 
     ghost faults = { λ source. source.faults };
+
+    ghost reads = { λ source. source.reads.count };
 
     fn open(&mut self, name: &str) -> Result<(), OpenError> {
         let fails = is_to_fail(self.fails.as_slice(), self.calls);
@@ -116,6 +122,7 @@ impl Source for MemSource {
     }
 
     fn read(&mut self, buf: &mut [u8]) -> Result<usize, Failed> {
+        self.reads = self.reads.and_one();
         let fails = is_to_fail(self.fails.as_slice(), self.calls);
         self.calls = after_call(self.calls);
         if fails {
@@ -136,6 +143,7 @@ pub struct SureSource {
     opened: bool,
     place: usize,
     at: usize,
+    reads: Reads,
 }
 
 impl SureSource {
@@ -144,12 +152,14 @@ impl SureSource {
         ensures files { ⟦<SureSource as Source>⟧.files result ≡ Some files }
         ensures sure { (name : List ℕ) → ⟦<SureSource as Source>⟧.IsSure result name }
         ensures faults { ⟦<SureSource as Source>⟧.faults result ≡ 0 }
+        ensures reads { ⟦<SureSource as Source>⟧.reads result ≡ 0 }
     {
         SureSource {
             files,
             opened: false,
             place: 0,
             at: 0,
+            reads: Reads::none(),
         }
     }
 }
@@ -167,6 +177,8 @@ impl Source for SureSource {
 
     ghost faults = { λ _. 0 };
 
+    ghost reads = { λ source. source.reads.count };
+
     fn open(&mut self, name: &str) -> Result<(), OpenError> {
         self.place = match place_of(self.files.as_slice(), name) {
             None => self.files.len(),
@@ -178,6 +190,7 @@ impl Source for SureSource {
     }
 
     fn read(&mut self, buf: &mut [u8]) -> Result<usize, Failed> {
+        self.reads = self.reads.and_one();
         let n = fill(buf, left_of(self.files.as_slice(), self.place, self.at));
         self.at += n;
         Ok(n)

@@ -1,7 +1,7 @@
 //! Reading a file of a source.
-ghost use Rattle.std.specs.Prelude.{◌≡◌, ◌≢◌, ℕ, ◌<◌, ◌≤◌, ◌⊎◌, Option, Some, List, length, take, IfOk, OnOk, IsErrOf};
+ghost use Rattle.std.specs.Prelude.{◌≡◌, ◌≢◌, ℕ, ◌+◌, ◌<◌, ◌≤◌, ◌⊎◌, Option, Some, List, length, take, IfOk, OnOk, IsErrOf};
 ghost use Rattle.ix_tool.specs.Outside.{Files, bytes_under, Rose};
-ghost use Rattle.ix_tool.specs.Reading.{IsAllOrPast};
+ghost use Rattle.ix_tool.specs.Reading.{IsAllOrPast, most_turns};
 
 use crate::source::{OpenError, Source};
 use std::alloc::Global;
@@ -19,7 +19,7 @@ pub(crate) enum ReadError {
     Memory,
 }
 
-/// Reads the opened file to its end, or past the most bytes. Each turn reads one byte at least, so there are at most 65,537.
+/// Reads the opened file to its end, or past the most bytes. Each turn takes one byte at least until the end, so there are at most 65,537.
 fn read_rest<S: Source>(alloc: Global, files: &mut S) -> Result<Vec<u8>, ReadError>
     requires { S.IsOpened files.old }
     ensures bytes { IfOk result (λ read. (all : List ℕ) → S.left files.old ≡ Some all → IsAllOrPast all read.items) }
@@ -27,6 +27,9 @@ fn read_rest<S: Source>(alloc: Global, files: &mut S) -> Result<Vec<u8>, ReadErr
     ensures falls { S.faults files.old ≤ S.faults files.new }
     ensures rose { IsErrOf result ReadError.Failed → Rose (S.faults files.old) (S.faults files.new) }
     ensures ok { OnOk result (S.faults files.new ≡ S.faults files.old) }
+    ensures counted { S.reads files.old ≤ S.reads files.new }
+    ensures turns { S.reads files.new ≤ S.reads files.old + most_turns }
+    ensures each_takes { (all : List ℕ) → S.left files.old ≡ Some all → S.reads files.new ≤ S.reads files.old + length all + 1 }
 {
     let mut bytes = Vec::new(alloc);
     let mut buf = [0; BUFFER];
@@ -57,6 +60,9 @@ pub(crate) fn read_file<S: Source>(
     ensures falls { S.faults files.old ≤ S.faults files.new }
     ensures rose { IsErrOf result ReadError.Failed → Rose (S.faults files.old) (S.faults files.new) }
     ensures ok { OnOk result (S.faults files.new ≡ S.faults files.old) }
+    ensures counted { S.reads files.old ≤ S.reads files.new }
+    ensures turns { S.reads files.new ≤ S.reads files.old + most_turns }
+    ensures each_takes { (held : Files) → S.files files.old ≡ Some held → S.reads files.new ≤ S.reads files.old + length (bytes_under name.now held) + 1 }
 {
     match files.open(name) {
         Ok(()) => read_rest(alloc, files),

@@ -1,5 +1,5 @@
 //! Where the tool reads from: files that are opened by name and read front to back.
-ghost use Rattle.std.specs.Prelude.{◌≡◌, ◌≢◌, ℕ, ◌<◌, ◌≤◌, Option, List, [], length, take, drop, option_map, IfOk, OnOk, OnErr, IsErrOf};
+ghost use Rattle.std.specs.Prelude.{◌≡◌, ◌≢◌, ℕ, ◌+◌, ◌<◌, ◌≤◌, Option, List, [], length, take, drop, option_map, IfOk, OnOk, OnErr, IsErrOf};
 ghost use Rattle.ix_tool.specs.Outside.{Files, bytes_under, Rose, TellsFirst};
 
 /// A fault of a source.
@@ -33,8 +33,11 @@ pub trait Source {
     /// The count of faults: it never falls, and stays at 2^64 - 1 once it is there.
     ghost faults: { Self → ℕ };
 
-    /// Makes the named file the opened one, with all its bytes left; a name that isn't held has none. `Failed` comes only where the count
-    /// rose, and never for a sure name; after `Memory` and after `Ok` the count is as it was.
+    /// How many times it was read from: each call of `read` is one, whatever it answers.
+    ghost reads: { Self → ℕ };
+
+    /// Makes the named file the opened one, with all its bytes left; a name that isn't held has none. `Failed` comes only where the count of
+    /// faults rose, and never for a sure name; after `Memory` and after `Ok` that count is as it was. To open is not to read.
     fn open(&mut self, name: &str) -> Result<(), OpenError>
         ensures files { files self.new ≡ files self.old }
         ensures left { OnOk result (left self.new ≡ option_map (bytes_under name.now) (files self.old)) }
@@ -45,10 +48,11 @@ pub trait Source {
         ensures falls { faults self.old ≤ faults self.new }
         ensures rose { IsErrOf result OpenError.Failed → Rose (faults self.old) (faults self.new) }
         ensures ok { OnOk result (faults self.new ≡ faults self.old) }
-        ensures memory { IsErrOf result OpenError.Memory → faults self.new ≡ faults self.old };
+        ensures memory { IsErrOf result OpenError.Memory → faults self.new ≡ faults self.old }
+        ensures reads { reads self.new ≡ reads self.old };
 
     /// Moves the next bytes of the opened file into the front of `buf` and answers how many, 0 only at the end. `Failed` comes only where
-    /// the count rose, and never while the opened file is sure. The file stays opened, and sure where it was.
+    /// the count of faults rose, and never while the opened file is sure. The file stays opened, and sure where it was.
     fn read(&mut self, buf: &mut [u8]) -> Result<usize, Failed>
         requires opened { IsOpened self.old }
         requires room { 0 < length buf.old }
@@ -63,5 +67,6 @@ pub trait Source {
         ensures never { IsOpenedSure self.old → result ≢ Err record {} }
         ensures falls { faults self.old ≤ faults self.new }
         ensures rose { OnErr result (Rose (faults self.old) (faults self.new)) }
-        ensures ok { OnOk result (faults self.new ≡ faults self.old) };
+        ensures ok { OnOk result (faults self.new ≡ faults self.old) }
+        ensures reads { reads self.new ≡ reads self.old + 1 };
 }

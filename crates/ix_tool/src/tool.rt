@@ -1,8 +1,9 @@
 //! The top call.
-ghost use Rattle.std.specs.Prelude.{◌≡◌, ◌≢◌, true, false, ℕ, ◌<◌, ◌≤◌, ◌⊎◌, Option, Some, None, List, IfOk, string_bytes};
+ghost use Rattle.std.specs.Prelude.{◌≡◌, ◌≢◌, true, false, ℕ, ◌+◌, ◌<◌, ◌≤◌, ◌⊎◌, Option, Some, None, List, length, IfOk, string_bytes};
 ghost use Rattle.ix_tool.specs.Outside.{Files, bytes_under, Rose};
 ghost use Rattle.ix_tool.specs.Command.{command_of, words_of};
 ghost use Rattle.ix_tool.specs.Statuses.{is_answer};
+ghost use Rattle.ix_tool.specs.Reading.{most_turns};
 ghost use Rattle.ix_tool.specs.Answer.{Answer, Answers, shown, out_of_memory};
 ghost use Rattle.ix_tool.specs.Ends.{Took, TookPrefix, bytes_of, IsAnswer, IsReadFault, texts, EndsWell, ReadSafely, EndsUnread, TookUnread, TookPart, TookWanted, TookNothing};
 
@@ -27,6 +28,11 @@ fn reply_to<S: Source>(alloc: Global, words: &[String], files: &mut S) -> Result
     ensures only { (held : Files) → S.files files.old ≡ Some held
         → (answer : Answer) → Answers (command_of (words_of words.now)) (bytes_of (command_of (words_of words.now)) held) answer
         → IfOk result (λ reply. IsReadFault (S.IsSure files.old) (S.faults files.old) (S.faults files.new) (command_of (words_of words.now)) (shown reply) ⊎ (shown reply ≡ answer)) }
+    ensures counted { S.reads files.old ≤ S.reads files.new }
+    ensures turns { S.reads files.new ≤ S.reads files.old + most_turns }
+    ensures each_takes { (held : Files) → S.files files.old ≡ Some held
+        → S.reads files.new ≤ S.reads files.old + length (bytes_of (command_of (words_of words.now)) held) + 1 }
+    ensures unread { command_of (words_of words.now) ≡ None → S.reads files.new ≡ S.reads files.old }
 {
     let Some(name) = command(words) else {
         return usage_reply(alloc);
@@ -78,10 +84,13 @@ fn deliver<K: Sink, E: Sink>(reply: &Reply, out: &mut K, err: &mut E) -> Status
 
 /// Reads the file that the words name through `files`, and answers through `out` and `err`.
 ///
-/// `Usage` comes exactly where the words are no command. `ReadFault` comes only where the count of `files` rose in this call and the named
-/// file wasn't sure when it began, `WriteFault` only where the count of `out` or `err` rose in this call, and `Memory` for want of memory.
+/// `Usage` comes exactly where the words are no command. `ReadFault` comes only where the count of faults of `files` rose in this call and the
+/// named file wasn't sure when it began, `WriteFault` only where that of `out` or `err` rose in this call, and `Memory` for want of memory.
 /// `Done` promises besides that no run of the source's program, for any inputs that meet the entry's annotations and any number of steps,
 /// indexes outside an array or makes one of negative length. `Done`, `Rejected` and `Unbuilt` come exactly where the answer on the bytes that were read has that status.
+///
+/// Whatever the source, `files` is read at most 65,537 times in this call. Each of these turns takes at least one byte until the end: where
+/// the source tells its files, there is at most one turn more than the named file has bytes. Words that are no command read nothing.
 pub fn run_tool<S: Source, K: Sink, E: Sink>(
     alloc: Global,
     words: &[String],
@@ -124,11 +133,18 @@ pub fn run_tool<S: Source, K: Sink, E: Sink>(
         ⊎ (TookWanted (S.files files.old) (command_of (words_of words.now)) (texts (K.taken out.old) (E.taken err.old)) (texts (K.taken out.new) (E.taken err.new))
         ⊎ TookNothing (texts (K.taken out.old) (E.taken err.old)) (texts (K.taken out.new) (E.taken err.new)))) }
 
-    // A count that rose shows in the status.
+    // A count of faults that rose shows in the status.
     ensures files { S.faults files.old < S.faults files.new → is_answer result ≡ false }
     ensures sinks { (K.faults out.old < K.faults out.new) ⊎ (E.faults err.old < E.faults err.new)
         → (result ≡ Status.WriteFault) ⊎ (result ≡ Status.Memory) }
     ensures falls { (S.faults files.old ≤ S.faults files.new) × (K.faults out.old ≤ K.faults out.new) × (E.faults err.old ≤ E.faults err.new) }
+
+    // How often the source is read in this call: a bounded number of turns, each of which takes a byte until the end.
+    ensures counted { S.reads files.old ≤ S.reads files.new }
+    ensures turns { S.reads files.new ≤ S.reads files.old + most_turns }
+    ensures each_takes { (held : Files) → S.files files.old ≡ Some held
+        → S.reads files.new ≤ S.reads files.old + length (bytes_of (command_of (words_of words.now)) held) + 1 }
+    ensures unread { command_of (words_of words.now) ≡ None → S.reads files.new ≡ S.reads files.old }
 {
     accepted_is_safe();
     match reply_to(alloc, words, files) {

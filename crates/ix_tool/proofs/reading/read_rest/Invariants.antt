@@ -1,4 +1,5 @@
-use Rattle.std.proofs.Common.{◌≡◌, ◌-◌, ℕ, List, take, drop, length, option_map, Some}
+use Rattle.std.proofs.Common.{◌≡◌, ◌≤◌, ◌+◌, ◌-◌, ℕ, List, take, drop, length, option_map, Some}
+use Rattle.ix_tool.specs.Reading.{most_turns}
 use Rattle.ix_tool.proofs.reading.read_rest.Given as goal
 
 abbrev pub invariant-reading : goal.invariant-reading
@@ -10,6 +11,9 @@ invariant-reading g l = record {
   read : (all : List ℕ) → g.S.Source.left l.initial.files ≡ Some all → take (length l.bytes.items) all ≡ l.bytes.items;
   left : g.S.Source.left l.files ≡ option_map (drop (length l.bytes.items)) (g.S.Source.left l.initial.files);
   faults : g.S.Source.faults l.files ≡ g.S.Source.faults l.initial.files;
+  counted : g.S.Source.reads l.initial.files ≤ g.S.Source.reads l.files;
+  turns : g.S.Source.reads l.files ≤ g.S.Source.reads l.initial.files + most_turns;
+  each_takes : g.S.Source.reads l.files ≤ g.S.Source.reads l.initial.files + length l.bytes.items;
 }
 
 abbrev pub decreases-reading : goal.decreases-reading
