@@ -20,6 +20,7 @@ impl MemSink {
     pub fn new(alloc: Global, fails: List<u64>) -> MemSink
         ensures taken { ⟦<MemSink as Sink>⟧.taken result ≡ Some [] }
         ensures faults { ⟦<MemSink as Sink>⟧.faults result ≡ 0 }
+        ensures fails { result.fails ≡ fails }
     {
         MemSink {
             bytes: Vec::new(alloc),

@@ -1,5 +1,5 @@
 //! Sources in memory, which tell everything.
-ghost use Rattle.std.specs.Prelude.{◌≡◌, ℕ, ◌+◌, ◌^◌, ◌<◌, ◌≤◌, Option, Some, None, List, true, [], length, take, drop, IsSome, MatchOption, slice_get, option_map};
+ghost use Rattle.std.specs.Prelude.{◌≡◌, ◌↔◌, ℕ, ◌+◌, ◌^◌, ◌<◌, ◌≤◌, Option, Some, None, List, true, [], length, take, drop, IsSome, MatchOption, slice_get, option_map};
 ghost use Rattle.ix_tool.specs.Outside.{held, bytes_at, NoneToCome};
 
 use crate::faults::{after_call, is_to_fail, raised};
@@ -68,7 +68,7 @@ impl MemSource {
     /// The source of these files. The calls of `open` and `read` are counted together from 0, and those whose numbers are in `fails` fail.
     pub fn new(files: List<(Text, List<u8>)>, fails: List<u64>) -> MemSource
         ensures files { ⟦<MemSource as Source>⟧.files result ≡ Some files }
-        ensures sure { (name : List ℕ) → IsSome (held files name) → NoneToCome fails 0 → ⟦<MemSource as Source>⟧.IsSure result name }
+        ensures sure { (name : List ℕ) → ⟦<MemSource as Source>⟧.IsSure result name ↔ (IsSome (held files name) × NoneToCome fails 0) }
         ensures faults { ⟦<MemSource as Source>⟧.faults result ≡ 0 }
         ensures reads { ⟦<MemSource as Source>⟧.reads result ≡ 0 }
     {
