@@ -33,15 +33,16 @@ bounds_hold facts v h =
       same = are_same_holds v (in_orders facts) k;
     }
 
+pub bounds_no_weaker : (strong weak : List Fact) → Stronger strong weak → BoundsNoWeaker strong weak
+bounds_no_weaker strong weak k = record {
+  lower = lower_mono strong weak k;
+  limit = limit_mono strong weak k;
+  length_from = length_low_mono strong weak k;
+  length_to = length_high_mono strong weak k;
+  upper = λ p a o c e. better_some (upper_bound weak p a o) (upper_bound strong p a o) c (upper_mono strong weak k p a o) e;
+  less = less_mono strong weak k;
+  same = are_same_mono strong weak k;
+}
+
 pub bounds_monotone : (strong weak : List Fact) → Stronger strong weak → BoundsNoWeaker (in_orders strong) (in_orders weak)
-bounds_monotone strong weak s =
-    let k = in_orders_stronger strong weak s in
-    record {
-      lower = lower_mono (in_orders strong) (in_orders weak) k;
-      limit = limit_mono (in_orders strong) (in_orders weak) k;
-      length_from = length_low_mono (in_orders strong) (in_orders weak) k;
-      length_to = length_high_mono (in_orders strong) (in_orders weak) k;
-      upper = λ p a o c e. better_some (upper_bound (in_orders weak) p a o) (upper_bound (in_orders strong) p a o) c (upper_mono (in_orders strong) (in_orders weak) k p a o) e;
-      less = less_mono (in_orders strong) (in_orders weak) k;
-      same = are_same_mono (in_orders strong) (in_orders weak) k;
-    }
+bounds_monotone strong weak s = bounds_no_weaker (in_orders strong) (in_orders weak) (in_orders_stronger strong weak s)

@@ -27,3 +27,6 @@ pub mod BoundLaws
 pub mod SystemLaws
 pub mod Samples
 pub mod ShiftedWays
+pub mod FormLaws
+pub mod RunningBest
+pub mod MachineSteps

@@ -16,6 +16,7 @@ use Rattle.ix_core.specs.declared.fact.Fact.TheVariants.{Rng, LenRng, Low, Same,
 use Rattle.ix_core.specs.Facts.{IsIn}
 use Rattle.ix_core.specs.Bounds
 use Rattle.ix_core.specs.Bounds.{is_path, is_offset, when, best, best_of, greatest}
+use Rattle.ix_core.specs.Laws.{Way, itself, greater, plus, minus}
 use Rattle.ix_core.proofs.Tests.{path_true, offset_true, by_test}
 use Rattle.ix_core.proofs.Worse.{Up, up_laws, Worse, worse_left, worse_right, worse_in}
 
@@ -157,13 +158,6 @@ module _ (facts : List Fact) (p a : Path) where
 
   -- ---- and nothing else is counted
 
-  -- A way to the bound n: the stored bound itself; one of a q that p is below; one at an offset +q above +r, or -q that r is above.
-  pub data Way (o : PathOff) (n : ℤ) : Type 0 where
-    itself : (c : ℤ) → Bounds.stored_upper facts p a o ≡ Some c → n ≤ℤ c → Way o n
-    greater : (q : Path) (c d : ℤ) → Bounds.stored_upper facts q a o ≡ Some c → Bounds.stored_less facts p q ≡ Some d → n ≤ℤ (c -ℤ d +ℤ pos 1) → Way o n
-    plus : (r q : Path) (c d : ℤ) → o ≡ Plus r → Bounds.stored_upper facts p a (Plus q) ≡ Some c → Bounds.stored_less facts r q ≡ Some d → n ≤ℤ (c -ℤ d +ℤ pos 1) → Way o n
-    minus : (r q : Path) (c d : ℤ) → o ≡ Minus r → Bounds.stored_upper facts p a (Minus q) ≡ Some c → Bounds.stored_less facts q r ≡ Some d → n ≤ℤ (c -ℤ d +ℤ pos 1) → Way o n
-
   of_map : (c n : ℤ) (o : Option ℤ) → Bounds.through facts c o ≡ Some n → (d : ℤ) × (o ≡ Some d) × (n ≡ c -ℤ d +ℤ pos 1)
   of_map c n None e = absurd cc
   of_map c n (Some d) e = let i : c -ℤ d +ℤ pos 1 ≡ n = cc in (d, refl, sym i)
@@ -178,7 +172,7 @@ module _ (facts : List Fact) (p a : Path) where
       let here : Worse Up (Some d) (Bounds.stored_upper_by facts r a o (Upper r b x d)) = rw (path_itself r, t, u) (no_worse (Some d)) in
       some_above d (Bounds.stored_upper facts r a o) (worse_in Up int_max up_laws (Bounds.stored_upper_by facts r a o) (Some d) (Upper r b x d) facts i here)
 
-  moved_way : (r b : Path) (x o : PathOff) (d n : ℤ) → IsIn (Upper r b x d) facts → Bounds.are_same facts b a ≡ true → is_path r p ≡ true → Bounds.offset_moved facts d x o ≡ Some n → Way o n
+  moved_way : (r b : Path) (x o : PathOff) (d n : ℤ) → IsIn (Upper r b x d) facts → Bounds.are_same facts b a ≡ true → is_path r p ≡ true → Bounds.offset_moved facts d x o ≡ Some n → Way facts p a o n
   moved_way r b (Plus q) (Plus s) d n i t u e =
       let z = of_map d n (Bounds.stored_less facts s q) e in
       let k = stored_here r b (Plus q) (Plus q) d i t (path_itself q) in
@@ -195,7 +189,7 @@ module _ (facts : List Fact) (p a : Path) where
   moved_way r b (Minus q) Nothing d n i t u e = absurd cc
   moved_way r b (Minus q) (Plus s) d n i t u e = absurd cc
 
-  fact_way : (o : PathOff) (n : ℤ) (f : Fact) → IsIn f facts → Bounds.shifted_by facts p a o f ≡ Some n → Way o n
+  fact_way : (o : PathOff) (n : ℤ) (f : Fact) → IsIn f facts → Bounds.shifted_by facts p a o f ≡ Some n → Way facts p a o n
   fact_way o n (Upper r b x d) i e =
       let t = of_when (Bounds.are_same facts b a) (best int_max (when (is_offset x o) (Bounds.through facts d (Bounds.stored_less facts p r))) (when (is_path r p) (Bounds.offset_moved facts d x o))) n e in
       ⊎_elim
@@ -224,9 +218,34 @@ module _ (facts : List Fact) (p a : Path) where
   fact_way _ n (Neg _ _) i e = absurd cc
 
   -- The shifted bound is at most one of the ways.
-  pub shifted_way : (o : PathOff) (n : ℤ) → Bounds.shifted_upper facts p a o ≡ Some n → Way o n
+  pub shifted_way : (o : PathOff) (n : ℤ) → Bounds.shifted_upper facts p a o ≡ Some n → Way facts p a o n
   shifted_way o n e =
       ⊎_elim
       (λ x. itself n x (omega (arith, ints)))
       (λ x. let y = attained (Bounds.shifted_by facts p a o) n facts x in fact_way o n y.0 y.1 y.2)
       (either (Bounds.stored_upper facts p a o) (greatest (Bounds.shifted_by facts p a o) facts) n e)
+
+  -- the bound of each way is counted
+  above : (n m : ℤ) (o : Option ℤ) → n ≤ℤ m → Worse Up (Some m) o → (c : ℤ) × (o ≡ Some c) × (n ≤ℤ c)
+  above n m None h w = absurd w
+  above n m (Some c) h w = (c, refl, omega (arith, ints))
+
+  through_some : (c d : ℤ) (l : Option ℤ) → l ≡ Some d → Bounds.through facts c l ≡ Some (c -ℤ d +ℤ pos 1)
+  through_some c d None e = absurd cc
+  through_some c d (Some x) e = let i : x ≡ d = cc in ap (λ z. Some (c -ℤ z +ℤ pos 1)) i
+
+  pub way_counts : (o : PathOff) (n : ℤ) → Way facts p a o n → (m : ℤ) × (Bounds.shifted_upper facts p a o ≡ Some m) × (n ≤ℤ m)
+  way_counts o n (itself c e h) =
+      above n c (Bounds.shifted_upper facts p a o) h
+      (worse_left Up int_max up_laws (Some c) (Bounds.stored_upper facts p a o) (greatest (Bounds.shifted_by facts p a o) facts) (subst (Worse Up (Some c)) (sym e) (no_worse (Some c))))
+  way_counts o n (greater q c d e f h) =
+      above n (c -ℤ d +ℤ pos 1) (Bounds.shifted_upper facts p a o) h
+      (subst (λ z. Worse Up z (Bounds.shifted_upper facts p a o)) (through_some c d (Bounds.stored_less facts p q) f) (of_greater q o c e))
+  way_counts o n (plus r q c d i e f h) =
+      above n (c -ℤ d +ℤ pos 1) (Bounds.shifted_upper facts p a o) h
+      (subst (λ y. Worse Up (Some (c -ℤ d +ℤ pos 1)) (Bounds.shifted_upper facts p a y)) (sym i)
+      (subst (λ z. Worse Up z (Bounds.shifted_upper facts p a (Plus r))) (through_some c d (Bounds.stored_less facts r q) f) (of_plus r q c e)))
+  way_counts o n (minus r q c d i e f h) =
+      above n (c -ℤ d +ℤ pos 1) (Bounds.shifted_upper facts p a o) h
+      (subst (λ y. Worse Up (Some (c -ℤ d +ℤ pos 1)) (Bounds.shifted_upper facts p a y)) (sym i)
+      (subst (λ z. Worse Up z (Bounds.shifted_upper facts p a (Minus r))) (through_some c d (Bounds.stored_less facts q r) f) (of_minus r q c e)))

@@ -1,12 +1,14 @@
 -- What the definitions of facts and rules promise: in each state in which facts hold their bounds hold, and stronger facts have no weaker ones.
-use Rattle.std.specs.Prelude.{◌≡◌, true, ℤ, ◌≤ℤ◌, List, Some}
+use Rattle.std.specs.Prelude.{◌≡◌, ◌⊎◌, true, ℤ, pos, ◌+ℤ◌, ◌-ℤ◌, ◌≤ℤ◌, List, Some}
 use Rattle.ix_core.specs.declared.fact.Path.{Path}
 use Rattle.ix_core.specs.declared.fact.PathOff.{PathOff}
+use Rattle.ix_core.specs.declared.fact.PathOff.TheVariants.{Plus, Minus}
 use Rattle.ix_core.specs.declared.fact.Fact.{Fact}
 use Rattle.ix_core.specs.declared.fact.Fact.TheVariants.{Less, Upper}
 use Rattle.ix_core.specs.Numbers.{Numbers}
-use Rattle.ix_core.specs.Facts.{Holds}
-use Rattle.ix_core.specs.Bounds.{are_same, length_low, length_high, lower_bound, upper_limit, upper_bound, less_bound}
+use Rattle.ix_core.specs.Facts.{Holds, IsIn, Covers, Stronger}
+use Rattle.ix_core.specs.Bounds.{are_same, length_low, length_high, lower_bound, upper_limit, stored_upper, stored_less, upper_bound, less_bound}
+use Rattle.ix_core.specs.Closure.{Default, Follows}
 
 -- each bound that the facts give is true of the numbers
 pub record BoundsHold (facts : List Fact) (v : Numbers) : Type 0 where
@@ -31,3 +33,23 @@ pub record BoundsNoWeaker (strong weak : List Fact) : Type 0 where
 -- two paths with the same numbers
 abbrev pub Alike : Numbers → Path → Path → Type 0
 Alike v t s = (v.int t ≡ v.int s) × (v.size t ≡ v.size s)
+
+-- each bound of the two lists of facts is the same
+abbrev pub SameBounds : List Fact → List Fact → Type 0
+SameBounds facts others = BoundsNoWeaker facts others × BoundsNoWeaker others facts
+
+-- each list of facts is at least as strong as the other
+abbrev pub AsStrong : List Fact → List Fact → Type 0
+AsStrong facts others = Stronger facts others × Stronger others facts
+
+-- All that follows is said by a fact as it stands, in no other order, or is said of every path.
+abbrev pub ClosedAsItStands : List Fact → Type 0
+ClosedAsItStands facts = (f : Fact) → Follows facts f → Default f ⊎ ((g : Fact) × IsIn g facts × Covers g f)
+
+-- A way to the bound n of `p + o + n < a.length` by one step: the stored bound itself; the stored bound of an int q that p is below; the stored
+-- bound at an offset +q that +r is below, or at an offset -q where q is below r.
+pub data Way (facts : List Fact) (p a : Path) (o : PathOff) (n : ℤ) : Type 0 where
+  itself : (c : ℤ) → stored_upper facts p a o ≡ Some c → n ≤ℤ c → Way facts p a o n
+  greater : (q : Path) (c d : ℤ) → stored_upper facts q a o ≡ Some c → stored_less facts p q ≡ Some d → n ≤ℤ (c -ℤ d +ℤ pos 1) → Way facts p a o n
+  plus : (r q : Path) (c d : ℤ) → o ≡ Plus r → stored_upper facts p a (Plus q) ≡ Some c → stored_less facts r q ≡ Some d → n ≤ℤ (c -ℤ d +ℤ pos 1) → Way facts p a o n
+  minus : (r q : Path) (c d : ℤ) → o ≡ Minus r → stored_upper facts p a (Minus q) ≡ Some c → stored_less facts q r ≡ Some d → n ≤ℤ (c -ℤ d +ℤ pos 1) → Way facts p a o n

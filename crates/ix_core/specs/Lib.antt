@@ -23,3 +23,5 @@ pub mod Round
 pub mod Laws
 pub mod Systems
 pub mod MethodLandmarks
+pub mod Small
+pub mod MachineSteps

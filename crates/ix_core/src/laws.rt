@@ -1,31 +1,44 @@
 //! The laws of facts and rules, as contracts of functions that do nothing: sound, that what is derived is true wherever the facts are; and
 //! monotone, that stronger facts derive no less.
 
-ghost use Rattle.std.specs.Prelude.{◌≡◌, Bool, true, ℕ, ℤ, List};
+ghost use Rattle.std.specs.Prelude.{◌≡◌, Bool, true, ℕ, ℤ, ◌≤ℤ◌, List, Some};
 ghost use Rattle.ix_num.specs.Comparisons.{Compares};
 ghost use Rattle.ix_num.specs.declared.rel.Rel.{Rel};
 ghost use Rattle.ix_core.specs.declared.claim.Type_.{Type_};
 ghost use Rattle.ix_core.specs.declared.fact.Path.{Path};
+ghost use Rattle.ix_core.specs.declared.fact.PathOff.{PathOff};
 ghost use Rattle.ix_core.specs.declared.fact.PathClaim.{PathClaim};
 ghost use Rattle.ix_core.specs.declared.fact.Fact.{Fact};
 ghost use Rattle.ix_core.specs.declared.fact.Profile.{Profile};
 ghost use Rattle.ix_core.specs.declared.op.OpKind.{OpKind};
 ghost use Rattle.ix_core.specs.Numbers.{Numbers};
-ghost use Rattle.ix_core.specs.Facts.{Holds, AllHold, IsIn, Stronger, in_orders};
+ghost use Rattle.ix_core.specs.Facts.{Holds, AllHold, IsIn, Covers, Stronger, in_orders};
 ghost use Rattle.ix_core.specs.Forget.{of_path, without, SameBut};
 ghost use Rattle.ix_core.specs.Closure.{Said, Closed, Contradicts, IsClosedOf, IsCommon, kept};
-ghost use Rattle.ix_core.specs.AfterOperation.{HasExact, Results};
-ghost use Rattle.ix_core.specs.Systems.{IsTable, IsByKey, system_after, system_copy};
+ghost use Rattle.ix_core.specs.Bounds.{shifted_upper};
+ghost use Rattle.ix_core.specs.AfterOperation.{HasExact, Results, new_facts};
+ghost use Rattle.ix_core.specs.Systems.{IsTable, IsByKey, system_after, system_copy, system_rounded, system_added};
 ghost use Rattle.ix_core.specs.After.{of_target, Step, TargetApart, beside_target, after_facts, copy_facts};
 ghost use Rattle.ix_core.specs.AfterTest.{Outcome, IsSo, AllSo, int_outcomes, opposite, outcome_facts};
 ghost use Rattle.ix_core.specs.Assume.{ClaimHolds, claim_facts, proves};
 ghost use Rattle.ix_core.specs.Round.{rounded};
-ghost use Rattle.ix_core.specs.Laws.{BoundsHold, BoundsNoWeaker, Alike};
+ghost use Rattle.ix_core.specs.Laws.{BoundsHold, BoundsNoWeaker, Alike, SameBounds, AsStrong, ClosedAsItStands, Way};
 
 /// The derived bounds.
 pub fn bounds_laws()
     ensures sound { (facts : List Fact) (v : Numbers) → AllHold facts v → BoundsHold (in_orders facts) v }
     ensures monotone { (strong weak : List Fact) → Stronger strong weak → BoundsNoWeaker (in_orders strong) (in_orders weak) }
+{}
+
+/// The forms in which bounds and rules are written. Of facts that are closed as they stand, to read each in all its orders gives nothing more. The
+/// shifted bound, which goes over facts, is the greatest of its ways, which go over all ints and offsets.
+pub fn form_laws()
+    ensures bounds { (facts : List Fact) → ClosedAsItStands facts → SameBounds (in_orders facts) facts }
+    ensures operations { (facts : List Fact) (profile : Profile) (kind : OpKind) → ClosedAsItStands facts → HasExact (in_orders facts) kind → AsStrong (new_facts (in_orders facts) profile kind) (new_facts facts profile kind) }
+    ensures tests { (facts : List Fact) (outcome : Outcome) → ClosedAsItStands facts → AsStrong (outcome_facts (in_orders facts) outcome) (outcome_facts facts outcome) }
+    ensures claims { (facts : List Fact) (claim : PathClaim) (p : Path) → ClosedAsItStands facts → proves (in_orders facts) claim p ≡ proves facts claim p }
+    ensures ways { (facts : List Fact) (p a : Path) (o : PathOff) (n : ℤ) → Way facts p a o n → (m : ℤ) × (shifted_upper facts p a o ≡ Some m) × (n ≤ℤ m) }
+    ensures no_other { (facts : List Fact) (p a : Path) (o : PathOff) (n : ℤ) → shifted_upper facts p a o ≡ Some n → Way facts p a o n }
 {}
 
 /// The closed list of facts: it holds where they do, it is the greatest closed list that says them, and the common part of closed lists is closed.
@@ -74,8 +87,8 @@ pub fn forget_laws()
     ensures rounded_monotone { (marks : List ℤ) (scope : ℕ) (strong weak : List Fact) → Stronger strong weak → Stronger (rounded marks scope strong) (rounded marks scope weak) }
 {}
 
-/// The answers of a system: a table holds where its facts do and says no less of stronger facts; so `after` and `copy` of every
-/// system are sound and monotone.
+/// The answers of a system: a table holds where its facts do and says no less of stronger facts; so each answer of every system is sound
+/// and monotone.
 pub fn system_laws()
     ensures table_sound { (facts table : List Fact) (v : Numbers) → IsTable facts table → AllHold facts v → AllHold table v }
     ensures table_monotone { (strong weak table other : List Fact) → Stronger strong weak → IsTable strong table → IsTable weak other → (f : Fact) → Said other f → Said table f }
@@ -83,4 +96,10 @@ pub fn system_laws()
     ensures after_monotone { (own : Fact → Bool) → IsByKey own → (known more table other : List Fact) (profile : Profile) (kind : OpKind) → Stronger known more → Stronger table other → HasExact (beside_target kind known) kind → Stronger (system_after own known table profile kind) (system_after own more other profile kind) }
     ensures copy_sound { (own : Fact → Bool) (known table : List Fact) (ty : Type_) (t s : Path) (v w : Numbers) → Alike w t s → SameBut (of_path t) v w → Stronger (without (of_path t) known) (without (of_path t) table) → AllHold (without (of_path t) known) v → AllHold (system_copy own known table ty t s) w }
     ensures copy_monotone { (own : Fact → Bool) → IsByKey own → (known more table other : List Fact) (ty : Type_) (t s : Path) → Stronger known more → Stronger table other → Stronger (system_copy own known table ty t s) (system_copy own more other ty t s) }
+    ensures round_sound { (marks : List ℤ) (table : List Fact) (v : Numbers) → AllHold table v → AllHold (system_rounded marks table) v }
+    ensures round_monotone { (marks : List ℤ) (table other : List Fact) → Stronger table other → Stronger (system_rounded marks table) (system_rounded marks other) }
+    ensures forget_sound { (p : Path) (table : List Fact) (v w : Numbers) → SameBut (of_path p) v w → AllHold table v → AllHold (without (of_path p) table) w }
+    ensures forget_monotone { (p : Path) (table other : List Fact) → Stronger table other → Stronger (without (of_path p) table) (without (of_path p) other) }
+    ensures add_sound { (own : Fact → Bool) (table : List Fact) (fact : Fact) (v : Numbers) → AllHold table v → Holds fact v → AllHold (system_added own table fact) v }
+    ensures add_monotone { (own : Fact → Bool) → IsByKey own → (table other : List Fact) (strong weak : Fact) → Stronger table other → Covers strong weak → Stronger (system_added own table strong) (system_added own other weak) }
 {}
