@@ -30,3 +30,4 @@ pub mod ShiftedWays
 pub mod FormLaws
 pub mod RunningBest
 pub mod MachineSteps
+pub mod BoundSteps

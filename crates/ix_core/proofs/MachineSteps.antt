@@ -8,14 +8,17 @@ use Rattle.std.proofs.lemmas.List.{length-set, set_past, get_or-set_same, get_or
 use Rattle.std.proofs.lemmas.Option.{unwrap_or-slice_get}
 use Rattle.std.proofs.Math.Seq.{get_or-append_seam}
 use Rattle.ix_num.specs.Ints.{IsInt}
+use Rattle.ix_num.specs.declared.arith.Arith.{Arith}
 use Rattle.ix_num.specs.Arithmetic.{exact_of, wrap_of}
 use Rattle.ix_num.proofs.OpRangeLaws.{wrap_of_int}
 use Rattle.ix_core.specs.declared.claim.Type_.{Type_}
 use Rattle.ix_core.specs.declared.fact.Path.{Path}
 use Rattle.ix_core.specs.declared.fact.Path.TheVariants.{Slot, FieldOf}
 use Rattle.ix_core.specs.declared.fact.Profile.{Profile}
-use Rattle.ix_core.specs.declared.fact.Profile.TheVariants.{Int32}
+use Rattle.ix_core.specs.declared.fact.Profile.TheVariants.{Ideal, Int32}
+use Rattle.ix_core.specs.declared.op.Literal.{Literal}
 use Rattle.ix_core.specs.declared.op.Literal.TheVariants as literal
+use Rattle.ix_core.specs.declared.op.UnaryNum.{UnaryNum}
 use Rattle.ix_core.specs.declared.op.OpKind.{OpKind}
 use Rattle.ix_core.specs.declared.op.OpKind.TheVariants as op
 use Rattle.ix_core.specs.Heap.{Held, Num, Truth, Null, At, Thing, Heap, Kind, ObjectOf, ArrayOf, nothing, value_at, thing_at, array_at, fields_at, array_cells, object_cells, number_of, cell_default, cells_used, is_within, with_cells, write_at}
@@ -23,7 +26,8 @@ use Rattle.ix_core.specs.Machine.{Limits, Ending, Done, Did, Wrapped, Printed, S
 use Rattle.ix_core.specs.World.{World}
 use Rattle.ix_core.specs.Numbers.{Numbers, HasInts, field_of, held_at, size_of, numbers_of}
 use Rattle.ix_core.specs.Forget.{of_slot, SameBut}
-use Rattle.ix_core.specs.AfterOperation.{Computed, Results}
+use Rattle.ix_core.specs.AfterOperation.{Computed, Results, loaded_claims}
+use Rattle.ix_core.specs.Claims.{AreTrue}
 use Rattle.ix_core.specs.After.{of_target, Step}
 use Rattle.ix_core.specs.MachineSteps.{HasTarget, LoadsMet, IsOn, AllOn}
 use Rattle.ix_core.proofs.Tests.{by_test}
@@ -268,7 +272,7 @@ module _ (profile : Profile) (limits : Limits) (world : World) (at : ℕ) (slots
   free : (kind : OpKind) → ((p : Path) → of_target kind p ≡ true) → Results profile kind (numbers_of world.place slots heap before) (numbers_of world.place later after behind) → IsStep kind
   free kind all results = stays_of kind (λ p e. absurd (false≢true (sym e ∙ all p))) results
 
-  const_step : (t : ℕ) (value : Rattle.ix_core.specs.declared.op.Literal.Literal) → t < length slots → Does (op.Const t value) → IsStep (op.Const t value)
+  const_step : (t : ℕ) (value : Literal) → t < length slots → Does (op.Const t value) → IsStep (op.Const t value)
   unfolding Does
   const_step t (literal.Int n) h e =
       let d = of_did later after _ _ e in
@@ -287,3 +291,170 @@ module _ (profile : Profile) (limits : Limits) (world : World) (at : ℕ) (slots
       let x = target_is world.place slots heap t (value_at slots s) later h d.0 in
       stays_of (op.Copy t s ty) (assigned world.place slots heap t (value_at slots s) later after d.0 d.1)
       (subst (λ a. number_of a (value_at later t) ≡ number_of heap (value_at slots s)) d.1 (ap (number_of heap) x), subst (λ a. size_of a (value_at later t) ≡ size_of heap (value_at slots s)) d.1 (ap (size_of heap) x))
+
+  num_step : (t : ℕ) (arith_op : Arith) (y z : ℕ) → t < length slots → Does (op.Num t arith_op y z) → IsStep (op.Num t arith_op y z)
+  unfolding Does
+  num_step t arith_op y z h e =
+      let exact = exact_of arith_op (number_of heap (value_at slots y)) (number_of heap (value_at slots z)) in
+      let d = of_computed at exact t slots heap later after e in
+      stays_of (op.Num t arith_op y z) (assigned world.place slots heap t (Num d.0) later after d.3 d.4)
+      (value_kept profile exact d.0 (number_of after (value_at later t)) d.1 d.2 (ap (number_of after) (target_is world.place slots heap t (Num d.0) later h d.3)))
+
+  unary_step : (t : ℕ) (unary : UnaryNum) (y : ℕ) → t < length slots → Does (op.Unary t unary y) → IsStep (op.Unary t unary y)
+  unfolding Does
+  unary_step t unary y h e =
+      let exact = unary_of unary (number_of heap (value_at slots y)) in
+      let d = of_kept later after (is_int exact) _ _ _ e in
+      stays_of (op.Unary t unary y) (assigned world.place slots heap t (Num exact) later after d.1 d.2)
+      (value_kept profile (Some exact) exact (number_of after (value_at later t)) refl d.0 (ap (number_of after) (target_is world.place slots heap t (Num exact) later h d.1)))
+
+  length_step : (t a : ℕ) → t < length slots → Does (op.Length t a) → IsStep (op.Length t a)
+  unfolding Does
+  length_step t a h e =
+      let x = of_through later after at (value_at slots a) (λ number. Did (set_slot slots t (Num (pos (length (array_at heap number))))) heap) e in
+      let d = of_did later after _ _ x.2 in
+      stays_of (op.Length t a) (assigned world.place slots heap t (Num (pos (length (array_at heap x.0)))) later after d.0 d.1)
+      (ap (number_of after) (target_is world.place slots heap t (Num (pos (length (array_at heap x.0)))) later h d.0) ∙ ap (size_of heap) (sym x.1))
+
+  new_step : (t : ℕ) (ty : Type_) (n : ℕ) → t < length slots → AllOn slots heap → Does (op.NewArray t ty n) → IsStep (op.NewArray t ty n)
+  unfolding Does
+  new_step t ty n h all e =
+      let d = of_new limits at ty (number_of heap (value_at slots n)) t slots heap later after e in
+      let thing : Thing = record { kind = ArrayOf ty; cells = replicate d.0 (cell_default ty) } in
+      stays_of (op.NewArray t ty n) (made world.place slots heap thing t later after d.2 d.3 all)
+      (made_size world.place slots heap thing t later after d.2 d.3 h ∙ (ap pos (length-replicate d.0 (cell_default ty)) ∙ sym d.1))
+
+  fill_step : (t : ℕ) (ty : Type_) (entries : List ℕ) → t < length slots → AllOn slots heap → Does (op.Fill t ty entries) → IsStep (op.Fill t ty entries)
+  unfolding Does
+  fill_step t ty entries h all e =
+      let values = map (value_at slots) entries in
+      let d = of_did later after _ _ (of_limit later after (limits.cells (cells_used heap + (length values + 1))) _ _ e) in
+      let thing : Thing = record { kind = ArrayOf ty; cells = values } in
+      stays_of (op.Fill t ty entries) (made world.place slots heap thing t later after d.0 d.1 all)
+      (made_size world.place slots heap thing t later after d.0 d.1 h ∙ ap pos (length-map entries (value_at slots)))
+
+  load_step : (t a i : ℕ) (ty : Type_) → t < length slots → LoadsMet (op.Load t a i ty) slots heap → Does (op.Load t a i ty) → IsStep (op.Load t a i ty)
+  unfolding Does
+  load_step t a i ty h met e =
+      let index = number_of heap (value_at slots i) in
+      let x = of_through later after at (value_at slots a)
+      (λ number. within at index (array_at heap number) (Did (set_slot slots t (value_at (array_at heap number) (unsigned_abs index))) heap)) e in
+      let w = of_within later after (is_within index (length (array_at heap x.0))) _ _ x.2 in
+      let d = of_did later after _ _ w.1 in
+      let loaded = value_at (array_at heap x.0) (unsigned_abs index) in
+      let same : number_of after (value_at later t) ≡ number_of heap loaded =
+      subst (λ o. number_of o (value_at later t) ≡ number_of heap loaded) d.1 (ap (number_of heap) (target_is world.place slots heap t loaded later h d.0)) in
+      stays_of (op.Load t a i ty) (assigned world.place slots heap t loaded later after d.0 d.1) (subst (λ n. AreTrue (loaded_claims ty) n (λ name. pos 0)) (sym same) (met x.0 x.1))
+
+  store_step : (a i v : ℕ) (ty : Type_) → Does (op.Store a i v ty) → IsStep (op.Store a i v ty)
+  unfolding Does
+  store_step a i v ty e =
+      let index = number_of heap (value_at slots i) in
+      let x = of_through later after at (value_at slots a)
+      (λ number. within at index (array_at heap number) (Did slots (write_at heap number (unsigned_abs index) (value_at slots v)))) e in
+      let w = of_within later after (is_within index (length (array_at heap x.0))) _ _ x.2 in
+      let d = of_did later after _ _ w.1 in
+      stays_of (op.Store a i v ty)
+      (λ p none. subst (λ l. Stays world.place slots heap l after p) d.0
+      (subst (λ o. Stays world.place slots heap slots o p) d.1 (stored_stays world.place slots heap x.0 (unsigned_abs index) index (value_at slots v) w.0 p)))
+      tt
+
+  pub did_step : (kind : OpKind) → HasTarget kind slots → LoadsMet kind slots heap → AllOn slots heap → operate limits world kind at slots heap ≡ Did later after
+      → Step profile kind (numbers_of world.place slots heap before) (numbers_of world.place later after behind)
+  unfolding IsStep Does
+  did_step (op.Const t value) h met all e = const_step t value h e
+  did_step (op.Copy t s ty) h met all e = copy_step t s ty h e
+  did_step (op.Num t arith_op y z) h met all e = num_step t arith_op y z h e
+  did_step (op.Unary t unary y) h met all e = unary_step t unary y h e
+  did_step (op.Length t a) h met all e = length_step t a h e
+  did_step (op.NewArray t ty n) h met all e = new_step t ty n h all e
+  did_step (op.Fill t ty entries) h met all e = fill_step t ty entries h all e
+  did_step (op.Load t a i ty) h met all e = load_step t a i ty h met e
+  did_step (op.Store a i v ty) h met all e = store_step a i v ty e
+  did_step (op.Print value) h met all e = absurd cc
+  did_step (op.ReadField t o f) h met all e = free (op.ReadField t o f) (λ p. refl) tt
+  did_step (op.WriteField o f v) h met all e = free (op.WriteField o f v) (λ p. refl) tt
+  did_step (op.NewObject call) h met all e = free (op.NewObject call) (λ p. refl) tt
+  did_step (op.StaticCall call) h met all e = free (op.StaticCall call) (λ p. refl) tt
+  did_step (op.InstanceCall call) h met all e = free (op.InstanceCall call) (λ p. refl) tt
+  did_step (op.SuperCall call) h met all e = free (op.SuperCall call) (λ p. refl) tt
+
+-- ---- a result that wrapped
+
+module _ (later : List Held) (after : Heap) where
+  wrapped_kept : (t : Bool) (slots others : List Held) (heap : Heap) → (if t then Did slots heap else Wrapped others heap) ≡ Wrapped later after → (others ≡ later) × (heap ≡ after)
+  wrapped_kept true slots others heap e = absurd cc
+  wrapped_kept false slots others heap e = (cc, cc)
+
+  not_through : (at : ℕ) (held : Held) (next : ℕ → Done) → ((number : ℕ) → next number ≡ Wrapped later after → ⊥) → through at held next ≡ Wrapped later after → ⊥
+  not_through at (Num n) next none e = cc
+  not_through at (Truth answer) next none e = cc
+  not_through at Null next none e = cc
+  not_through at (At number) next none e = none number e
+
+  not_within : (t : Bool) (done : Done) (ending : Ending) → (done ≡ Wrapped later after → ⊥) → (if t then done else Stopped ending) ≡ Wrapped later after → ⊥
+  not_within true done ending none e = none e
+  not_within false done ending none e = cc
+
+  not_limit : (t : Bool) (slots : List Held) (heap : Heap) (ending : Ending) → (if t then Stopped ending else Did slots heap) ≡ Wrapped later after → ⊥
+  not_limit true slots heap ending e = cc
+  not_limit false slots heap ending e = cc
+
+  not_did : (slots : List Held) (heap : Heap) → Did slots heap ≡ Wrapped later after → ⊥
+  not_did slots heap e = cc
+
+  not_new : (limits : Limits) (at : ℕ) (ty : Type_) (n : ℤ) (t : ℕ) (slots : List Held) (heap : Heap) → new_array limits at ty n t slots heap ≡ Wrapped later after → ⊥
+  not_new limits at ty (negsuc n) t slots heap e = cc
+  not_new limits at ty (pos size) t slots heap e = not_limit (limits.cells (cells_used heap + (size + 1))) _ _ _ e
+
+  wrapped_computed : (at : ℕ) (exact : Option ℤ) (t : ℕ) (slots : List Held) (heap : Heap) → computed at exact t slots heap ≡ Wrapped later after
+      → (n : ℤ) × (exact ≡ Some n) × (set_slot slots t (Num (wrap_of n)) ≡ later) × (heap ≡ after)
+  wrapped_computed at None t slots heap e = absurd cc
+  wrapped_computed at (Some n) t slots heap e = let k = wrapped_kept (is_int n) _ _ _ e in (n, refl, k.0, k.1)
+
+not_ideal : {A : Type 0} → Int32 ≡ Ideal → A
+not_ideal e = absurd cc
+
+module _ (limits : Limits) (world : World) (at : ℕ) (slots : List Held) (heap : Heap) (later : List Held) (after : Heap) (before : HasInts world.place slots heap) (behind : HasInts world.place later after) where
+  wrapped_num : (t : ℕ) (arith_op : Arith) (y z : ℕ) → t < length slots → operate limits world (op.Num t arith_op y z) at slots heap ≡ Wrapped later after
+      → Step Int32 (op.Num t arith_op y z) (numbers_of world.place slots heap before) (numbers_of world.place later after behind)
+  wrapped_num t arith_op y z h e =
+      let exact = exact_of arith_op (number_of heap (value_at slots y)) (number_of heap (value_at slots z)) in
+      let d = wrapped_computed later after at exact t slots heap e in
+      step_of world.place slots heap Int32 (op.Num t arith_op y z) before later after behind (assigned world.place slots heap t (Num (wrap_of d.0)) later after d.2 d.3)
+      (record { result = d.0; is = d.1; kept = ap (number_of after) (target_is world.place slots heap t (Num (wrap_of d.0)) later h d.2); unwrapped = λ p. not_ideal p })
+
+  wrapped_unary : (t : ℕ) (unary : UnaryNum) (y : ℕ) → t < length slots → operate limits world (op.Unary t unary y) at slots heap ≡ Wrapped later after
+      → Step Int32 (op.Unary t unary y) (numbers_of world.place slots heap before) (numbers_of world.place later after behind)
+  wrapped_unary t unary y h e =
+      let exact = unary_of unary (number_of heap (value_at slots y)) in
+      let d = wrapped_kept later after (is_int exact) _ _ _ e in
+      step_of world.place slots heap Int32 (op.Unary t unary y) before later after behind (assigned world.place slots heap t (Num (wrap_of exact)) later after d.0 d.1)
+      (record { result = exact; is = refl; kept = ap (number_of after) (target_is world.place slots heap t (Num (wrap_of exact)) later h d.0); unwrapped = λ p. not_ideal p })
+
+  pub wrapped_step : (kind : OpKind) → HasTarget kind slots → operate limits world kind at slots heap ≡ Wrapped later after
+      → Step Int32 kind (numbers_of world.place slots heap before) (numbers_of world.place later after behind)
+  wrapped_step (op.Num t arith_op y z) h e = wrapped_num t arith_op y z h e
+  wrapped_step (op.Unary t unary y) h e = wrapped_unary t unary y h e
+  wrapped_step (op.Const t value) h e = absurd cc
+  wrapped_step (op.Copy t s ty) h e = absurd cc
+  wrapped_step (op.Length t a) h e = absurd (not_through later after at (value_at slots a) _ (λ number. not_did later after _ _) e)
+  wrapped_step (op.NewArray t ty n) h e = absurd (not_new later after limits at ty (number_of heap (value_at slots n)) t slots heap e)
+  wrapped_step (op.Fill t ty entries) h e = absurd (not_limit later after (limits.cells (cells_used heap + (length (map (value_at slots) entries) + 1))) _ _ _ e)
+  wrapped_step (op.Load t a i ty) h e =
+      absurd (not_through later after at (value_at slots a) _ (λ number. not_within later after (is_within (number_of heap (value_at slots i)) (length (array_at heap number))) _ _ (not_did later after _ _)) e)
+  wrapped_step (op.Store a i v ty) h e =
+      absurd (not_through later after at (value_at slots a) _ (λ number. not_within later after (is_within (number_of heap (value_at slots i)) (length (array_at heap number))) _ _ (not_did later after _ _)) e)
+  wrapped_step (op.ReadField t o f) h e =
+      absurd (not_through later after at (value_at slots o) _ (λ number. not_within later after (nat_lt (world.place f) (length (fields_at heap number))) _ _ (not_did later after _ _)) e)
+  wrapped_step (op.WriteField o f v) h e =
+      absurd (not_through later after at (value_at slots o) _ (λ number. not_within later after (nat_lt (world.place f) (length (fields_at heap number))) _ _ (not_did later after _ _)) e)
+  wrapped_step (op.Print value) h e = absurd cc
+  wrapped_step (op.NewObject call) h e = absurd cc
+  wrapped_step (op.StaticCall call) h e = absurd cc
+  wrapped_step (op.InstanceCall call) h e = absurd cc
+  wrapped_step (op.SuperCall call) h e = absurd cc
+
+-- `Print` changes no number, and no other operation prints
+printed_stays : (profile : Profile) (value : ℕ) (v : Numbers) → Step profile (op.Print value) v v
+printed_stays profile value v = record { others = λ p e. (refl, refl); results = tt }

@@ -14,6 +14,11 @@ pub record IsLimit (n : ℤ) : Type 0 where
   pub above : negsuc (2 ^ 38) <ℤ n
   pub below : n <ℤ pos (2 ^ 38)
 
+-- a bound of any kind
+pub record IsBound (n : ℤ) : Type 0 where
+  pub above : negsuc (2 ^ 40) <ℤ n
+  pub below : n <ℤ pos (2 ^ 40)
+
 -- the ends of the fact's range, if it has one, are small
 abbrev pub HasSmallEnds : Fact → Type 0
 HasSmallEnds (Rng p l h) = IsEnd l × IsEnd h

@@ -1,10 +1,13 @@
-use Rattle.std.proofs.Common.{◌≡◌, drop, pos}
+use Rattle.std.proofs.Common.{◌≡◌, drop}
+use Rattle.std.specs.Prelude.{IfSome}
+use Rattle.std.specs.Int.{int_min, int_max}
+use Rattle.ix_num.specs.Ints.{IsInt}
 use Rattle.ix_core.specs.Bounds as spec
-use Rattle.ix_core.specs.Small.{IsEnd}
+use Rattle.ix_core.specs.Small.{IsEnd, IsLimit, IsBound}
 use Rattle.ix_core.proofs.bounds.length_low.Given as goal
 
 abbrev pub invariant-loop-fact : goal.invariant-loop-fact
 invariant-loop-fact l = record {
-  bound : spec.at_least l.low (spec.greatest (spec.length_low_by l.a) (drop l.fact-index l.facts)) ≡ spec.length_low l.facts l.a;
-  small : IsEnd l.low;
+  bound : spec.at_least l.bound (spec.greatest (spec.length_low_by l.p) (drop l.fact-index l.facts)) ≡ spec.length_low l.facts l.p;
+  small : IsEnd l.bound;
 }
