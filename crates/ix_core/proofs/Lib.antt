@@ -31,3 +31,5 @@ pub mod FormLaws
 pub mod RunningBest
 pub mod MachineSteps
 pub mod BoundSteps
+pub mod MachineStates
+pub mod MachineTests

@@ -37,26 +37,32 @@ use Rattle.ix_core.proofs.Tests.{by_test}
 value_is : (held : List Held) (k : ℕ) → value_at held k ≡ get_or held k (Num (pos 0))
 value_is held k = unwrap_or-slice_get held k (Num (pos 0))
 
-thing_is : (heap : Heap) (k : ℕ) → thing_at heap k ≡ get_or heap k nothing
+pub thing_is : (heap : Heap) (k : ℕ) → thing_at heap k ≡ get_or heap k nothing
 thing_is heap k = unwrap_or-slice_get heap k nothing
 
-value_set : (slots : List Held) (t : ℕ) (x : Held) → t < length slots → value_at (set_slot slots t x) t ≡ x
+pub value_set : (slots : List Held) (t : ℕ) (x : Held) → t < length slots → value_at (set_slot slots t x) t ≡ x
 value_set slots t x h = value_is (set_slot slots t x) t ∙ get_or-set_same slots t x (Num (pos 0)) h
 
-differ : (s t : ℕ) → (s == t) ≡ false → s ≢ t
+pub differ : (s t : ℕ) → (s == t) ≡ false → s ≢ t
 differ s t e = grind (arith, nat_tests)
 
-equal : (s t : ℕ) → (s == t) ≡ true → s ≡ t
+pub equal : (s t : ℕ) → (s == t) ≡ true → s ≡ t
 equal s t e = grind (arith, nat_tests)
 
-value_other : (slots : List Held) (t s : ℕ) (x : Held) → (s == t) ≡ false → value_at (set_slot slots t x) s ≡ value_at slots s
+pub value_other : (slots : List Held) (t s : ℕ) (x : Held) → (s == t) ≡ false → value_at (set_slot slots t x) s ≡ value_at slots s
 value_other slots t s x e = value_is (set_slot slots t x) s ∙ (get_or-set_other slots t s x (Num (pos 0)) (differ s t e) ∙ sym (value_is slots s))
 
-grown_old : (heap : Heap) (thing : Thing) (k : ℕ) → k < length heap → thing_at (heap ++ thing ∷ []) k ≡ thing_at heap k
+pub grown_old : (heap : Heap) (thing : Thing) (k : ℕ) → k < length heap → thing_at (heap ++ thing ∷ []) k ≡ thing_at heap k
 grown_old heap thing k h = thing_is (heap ++ thing ∷ []) k ∙ (get_or_append_left heap (thing ∷ []) nothing k h ∙ sym (thing_is heap k))
 
-grown_new : (heap : Heap) (thing : Thing) → thing_at (heap ++ thing ∷ []) (length heap) ≡ thing
+pub grown_new : (heap : Heap) (thing : Thing) → thing_at (heap ++ thing ∷ []) (length heap) ≡ thing
 grown_new heap thing = thing_is (heap ++ thing ∷ []) (length heap) ∙ get_or-append_seam heap thing [] nothing
+
+pub thing_set : (heap : Heap) (n : ℕ) (thing : Thing) → n < length heap → thing_at (slice_set heap n thing) n ≡ thing
+thing_set heap n thing h = thing_is (slice_set heap n thing) n ∙ get_or-set_same heap n thing nothing h
+
+pub thing_other : (heap : Heap) (n k : ℕ) (thing : Thing) → (k == n) ≡ false → thing_at (slice_set heap n thing) k ≡ thing_at heap k
+thing_other heap n k thing e = thing_is (slice_set heap n thing) k ∙ (get_or-set_other heap n k thing nothing (differ k n e) ∙ sym (thing_is heap k))
 
 -- what is the same of a thing and the one in its place is the same of every thing
 written_same : {A : Type 0} (of : Thing → A) (heap : Heap) (number : ℕ) (thing : Thing) → of thing ≡ of (thing_at heap number) → (k : ℕ) → of (thing_at (slice_set heap number thing) k) ≡ of (thing_at heap k)

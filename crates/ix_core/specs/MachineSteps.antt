@@ -16,6 +16,7 @@ use Rattle.ix_core.specs.declared.fact.PathClaim.{PathClaim}
 use Rattle.ix_core.specs.declared.fact.PathClaim.TheVariants as path_claim
 use Rattle.ix_core.specs.declared.fact.PathOff.{PathOff}
 use Rattle.ix_core.specs.declared.fact.PathOff.TheVariants.{Nothing, Plus, Minus}
+use Rattle.ix_core.specs.declared.op.Literal.TheVariants as literal
 use Rattle.ix_core.specs.declared.op.OpKind.{OpKind}
 use Rattle.ix_core.specs.declared.op.OpKind.TheVariants as op
 use Rattle.ix_core.specs.declared.program.Method.{Method}
@@ -54,6 +55,23 @@ IsOn heap _ = Unit {0}
 pub record AllOn (slots : List Held) (heap : Heap) : Type 0 where
   pub held : (slot : ℕ) → IsOn heap (value_at slots slot)
   pub within : (number place : ℕ) → IsOn heap (value_at (thing_at heap number).cells place)
+
+-- an int that is held is one of Java
+abbrev pub IsIntHeld : Held → Type 0
+IsIntHeld (Num n) = IsInt n
+IsIntHeld _ = Unit {0}
+
+-- The ints of slots, cells and fields are ints, and no thing has more cells than the greatest int: each step keeps it.
+pub record KeepsInts (slots : List Held) (heap : Heap) : Type 0 where
+  pub held : (slot : ℕ) → IsIntHeld (value_at slots slot)
+  pub within : (number place : ℕ) → IsIntHeld (value_at (thing_at heap number).cells place)
+  pub sizes : (number : ℕ) → length (thing_at heap number).cells ≤ 2147483647
+
+-- the numbers in an operation are ints: of a program that is formed each literal is one, and no array initialiser is longer than its source
+abbrev pub IntsOnly : OpKind → Type 0
+IntsOnly (op.Const t (literal.Int n)) = IsInt n
+IntsOnly (op.Fill t ty entries) = length entries ≤ 2147483647
+IntsOnly _ = Unit {0}
 
 -- ---- tests
 
