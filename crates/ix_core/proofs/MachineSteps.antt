@@ -34,7 +34,7 @@ use Rattle.ix_core.proofs.Tests.{by_test}
 
 -- ---- lists
 
-value_is : (held : List Held) (k : ℕ) → value_at held k ≡ get_or held k (Num (pos 0))
+pub value_is : (held : List Held) (k : ℕ) → value_at held k ≡ get_or held k (Num (pos 0))
 value_is held k = unwrap_or-slice_get held k (Num (pos 0))
 
 pub thing_is : (heap : Heap) (k : ℕ) → thing_at heap k ≡ get_or heap k nothing
@@ -212,7 +212,7 @@ module _ (later : List Held) (after : Heap) where
   of_kept true slots others heap e = (refl, cc, cc)
   of_kept false slots others heap e = absurd cc
 
-int_is : (n : ℤ) → is_int n ≡ true → IsInt n
+pub int_is : (n : ℤ) → is_int n ≡ true → IsInt n
 int_is n e =
     let both = and_parts (int_le (negsuc 2147483647) n) (int_le n (pos 2147483647)) e in
     let a = both.0 in
@@ -350,7 +350,7 @@ module _ (profile : Profile) (limits : Limits) (world : World) (at : ℕ) (slots
       let loaded = value_at (array_at heap x.0) (unsigned_abs index) in
       let same : number_of after (value_at later t) ≡ number_of heap loaded =
       subst (λ o. number_of o (value_at later t) ≡ number_of heap loaded) d.1 (ap (number_of heap) (target_is world.place slots heap t loaded later h d.0)) in
-      stays_of (op.Load t a i ty) (assigned world.place slots heap t loaded later after d.0 d.1) (subst (λ n. AreTrue (loaded_claims ty) n (λ name. pos 0)) (sym same) (met x.0 x.1))
+      stays_of (op.Load t a i ty) (assigned world.place slots heap t loaded later after d.0 d.1) (subst (λ n. AreTrue (loaded_claims ty) n (λ name. pos 0)) (sym same) (met x.0 x.1 w.0))
 
   store_step : (a i v : ℕ) (ty : Type_) → Does (op.Store a i v ty) → IsStep (op.Store a i v ty)
   unfolding Does
@@ -462,5 +462,5 @@ module _ (limits : Limits) (world : World) (at : ℕ) (slots : List Held) (heap 
   wrapped_step (op.SuperCall call) h e = absurd cc
 
 -- `Print` changes no number, and no other operation prints
-printed_stays : (profile : Profile) (value : ℕ) (v : Numbers) → Step profile (op.Print value) v v
+pub printed_stays : (profile : Profile) (value : ℕ) (v : Numbers) → Step profile (op.Print value) v v
 printed_stays profile value v = record { others = λ p e. (refl, refl); results = tt }

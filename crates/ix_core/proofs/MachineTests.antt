@@ -12,19 +12,24 @@ use Rattle.ix_core.specs.declared.claim.Base.TheVariants as base
 use Rattle.ix_core.specs.declared.claim.Claim.{Claim}
 use Rattle.ix_core.specs.declared.claim.Claim.TheVariants as claim
 use Rattle.ix_core.specs.declared.claim.Name.{Name}
+use Rattle.ix_core.specs.declared.claim.Name.TheVariants.{Param, Local, FieldNamed}
 use Rattle.ix_core.specs.declared.claim.Off.TheVariants as off
 use Rattle.ix_core.specs.declared.claim.Type_.{Type_}
 use Rattle.ix_core.specs.declared.claim.Type_.TheVariants as type
 use Rattle.ix_core.specs.declared.fact.Path.{Path}
 use Rattle.ix_core.specs.declared.fact.Path.TheVariants.{Slot, FieldOf}
+use Rattle.ix_core.specs.declared.program.Method.{Method}
 use Rattle.ix_core.specs.Claims.{True}
+use Rattle.ix_core.specs.World.{World}
+use Rattle.ix_core.specs.Objects.{field_numbers}
+use Rattle.ix_core.specs.Waits.{number_through, param_numbers}
 use Rattle.ix_core.specs.Heap.{Held, Num, Truth, Null, At, Heap, value_at}
 use Rattle.ix_core.specs.Heap.{number_of}
 use Rattle.ix_core.specs.Machine.{is_same, int_test, same_test, test_of}
 use Rattle.ix_core.specs.Numbers.{HasInts, held_at, size_of, numbers_of, field_of}
 use Rattle.ix_core.specs.AfterTest.{AllSo, int_outcomes, array_outcomes, opposite, when_true, when_false}
 use Rattle.ix_core.specs.Assume.{ClaimHolds}
-use Rattle.ix_core.specs.MachineSteps.{FitsType, on_paths, IsNoInt, FitsClaim}
+use Rattle.ix_core.specs.MachineSteps.{FitsType, on_paths, own_path, IsDeclared, IsNoInt, FitsClaim}
 use Rattle.ix_core.proofs.MachineSteps.{equal}
 use Rattle.ix_core.proofs.TestLaws.{int_outcomes_so}
 
@@ -186,3 +191,21 @@ module _ (place : ℕ → ℕ) (slots : List Held) (heap : Heap) (keeps : HasInt
   claim_true (claim.Upper array (off.Minus name) constant) fits h = let e = sized (path array) fits in omega (arith, ints)
   claim_true (claim.Search array) fits h = let e = sized (path array) fits in (omega (arith, ints), omega (arith, ints))
   claim_true (claim.Negative array) fits h = let e = sized (path array) fits in (omega (arith, ints), omega (arith, ints))
+
+-- ---- the numbers of names
+
+through_is : (world : World) (heap : Heap) (held : Held) (field : ℕ) → number_through world heap held field ≡ number_of heap (field_of world.place heap field held)
+through_is world heap (At number) field = refl
+through_is world heap (Num n) field = refl
+through_is world heap (Truth answer) field = refl
+through_is world heap Null field = refl
+
+pub parameter_is : (world : World) (method : Method) (slots : List Held) (heap : Heap) (keeps : HasInts world.place slots heap) (name : Name) → IsDeclared name
+    → param_numbers world method slots heap name ≡ (numbers_of world.place slots heap keeps).int (own_path method name)
+parameter_is world method slots heap keeps (Param number) is = refl
+parameter_is world method slots heap keeps (Local number) is = absurd is
+parameter_is world method slots heap keeps (FieldNamed field) is = through_is world heap (value_at slots 0) field
+
+pub field_is : (world : World) (slots : List Held) (heap : Heap) (keeps : HasInts world.place slots heap) (slot object field : ℕ) → value_at slots slot ≡ At object
+    → field_numbers world heap object (FieldNamed field) ≡ (numbers_of world.place slots heap keeps).int (FieldOf slot field)
+field_is world slots heap keeps slot object field e = ap (λ held. number_of heap (field_of world.place heap field held)) (sym e)

@@ -1,5 +1,5 @@
 -- What ties the machine to the rules: its operations as steps between the numbers of paths, its tests as outcomes, and its claims as claims on paths.
-use Rattle.std.specs.Prelude.{◌≡◌, ℕ, ◌+◌, ◌<◌, ◌≤◌, ℤ, pos, unsigned_abs, List, length}
+use Rattle.std.specs.Prelude.{◌≡◌, ◌⊎◌, ℕ, ◌<◌, ◌≤◌, pos, unsigned_abs, true, List, [], length}
 use Rattle.ix_num.specs.Ints.{IsInt}
 use Rattle.ix_core.specs.declared.claim.Base.TheVariants as base
 use Rattle.ix_core.specs.declared.claim.Claim.{Claim}
@@ -21,8 +21,8 @@ use Rattle.ix_core.specs.declared.op.OpKind.{OpKind}
 use Rattle.ix_core.specs.declared.op.OpKind.TheVariants as op
 use Rattle.ix_core.specs.declared.program.Method.{Method}
 use Rattle.ix_core.specs.Claims.{AreTrue}
-use Rattle.ix_core.specs.Heap.{Held, Num, Truth, Null, At, Heap, value_at, thing_at, array_at, number_of}
-use Rattle.ix_core.specs.Objects.{param_slot}
+use Rattle.ix_core.specs.Heap.{Held, Num, Truth, Null, At, Heap, value_at, thing_at, array_at, number_of, is_within}
+use Rattle.ix_core.specs.Objects.{param_slot, kind_claims}
 use Rattle.ix_core.specs.AfterOperation.{loaded_claims}
 
 -- ---- operations
@@ -40,12 +40,19 @@ HasTarget (op.Fill t ty entries) slots = t < length slots
 HasTarget (op.Load t a i ty) slots = t < length slots
 HasTarget _ slots = Unit {0}
 
--- What is loaded meets the claims on elements of the operation's type. The heap keeps that cells meet the claims of the type that their array was
--- made with (`HeapKeeps`); that this type has the same claims is a matter of types.
+-- What is loaded meets the claims on elements of the operation's type.
 abbrev pub LoadsMet : OpKind → List Held → Heap → Type 0
-LoadsMet (op.Load t a i ty) slots heap = (number : ℕ) → value_at slots a ≡ At number
+LoadsMet (op.Load t a i ty) slots heap = (number : ℕ) → value_at slots a ≡ At number → is_within (number_of heap (value_at slots i)) (length (array_at heap number)) ≡ true
     → AreTrue (loaded_claims ty) (number_of heap (value_at (array_at heap number) (unsigned_abs (number_of heap (value_at slots i))))) (λ name. pos 0)
 LoadsMet _ slots heap = Unit {0}
+
+abbrev pub IsNumber : Held → Type 0
+IsNumber (Num n) = Unit {0}
+IsNumber _ = ⊥
+
+-- An array of ints was made with the claims on elements that the type has. Types say so.
+abbrev pub HoldsElements : Type_ → Heap → ℕ → Type 0
+HoldsElements ty heap number = (loaded_claims ty ≡ []) ⊎ ((kind_claims (thing_at heap number).kind ≡ loaded_claims ty) × ((place : ℕ) → IsNumber (value_at (array_at heap number) place)))
 
 -- no reference to nowhere
 abbrev pub IsOn : Heap → Held → Type 0
@@ -77,8 +84,7 @@ IntsOnly _ = Unit {0}
 
 -- the value is one of a type of ints or arrays; of others nothing is said
 abbrev pub FitsType : Type_ → Held → Type 0
-FitsType (type.Plain base.Int) (Num n) = Unit {0}
-FitsType (type.Plain base.Int) _ = ⊥
+FitsType (type.Plain base.Int) held = IsNumber held
 FitsType (type.Array of depth element) Null = Unit {0}
 FitsType (type.Array of depth element) (At number) = Unit {0}
 FitsType (type.Array of depth element) _ = ⊥
@@ -107,6 +113,11 @@ abbrev pub own_path : Method → Name → Path
 own_path method (Param number) = Slot (param_slot method number)
 own_path method (Local number) = Slot number
 own_path method (FieldNamed field) = FieldOf 0 field
+
+-- A claim on a parameter names parameters, and one on a field names fields.
+abbrev pub IsDeclared : Name → Type 0
+IsDeclared (Local number) = ⊥
+IsDeclared _ = Unit {0}
 
 -- what is held is no int
 abbrev pub IsNoInt : Held → Type 0

@@ -1,17 +1,31 @@
 //! The laws of facts and rules, as contracts of functions that do nothing: sound, that what is derived is true wherever the facts are; and
 //! monotone, that stronger facts derive no less.
 
-ghost use Rattle.std.specs.Prelude.{◌≡◌, Bool, true, ℕ, ℤ, ◌≤ℤ◌, List, Some};
+ghost use Rattle.std.specs.Prelude.{◌≡◌, Bool, true, false, ℕ, ℤ, ◌≤ℤ◌, List, Some};
 ghost use Rattle.ix_num.specs.Comparisons.{Compares};
 ghost use Rattle.ix_num.specs.declared.rel.Rel.{Rel};
+ghost use Rattle.ix_core.specs.declared.claim.Claim.{Claim};
+ghost use Rattle.ix_core.specs.declared.claim.Name.{Name};
+ghost use Rattle.ix_core.specs.declared.claim.Name.TheVariants.{FieldNamed};
 ghost use Rattle.ix_core.specs.declared.claim.Type_.{Type_};
 ghost use Rattle.ix_core.specs.declared.fact.Path.{Path};
+ghost use Rattle.ix_core.specs.declared.fact.Path.TheVariants.{Slot, FieldOf};
 ghost use Rattle.ix_core.specs.declared.fact.PathOff.{PathOff};
 ghost use Rattle.ix_core.specs.declared.fact.PathClaim.{PathClaim};
 ghost use Rattle.ix_core.specs.declared.fact.Fact.{Fact};
 ghost use Rattle.ix_core.specs.declared.fact.Profile.{Profile};
+ghost use Rattle.ix_core.specs.declared.fact.Profile.TheVariants.{Int32};
 ghost use Rattle.ix_core.specs.declared.op.OpKind.{OpKind};
-ghost use Rattle.ix_core.specs.Numbers.{Numbers};
+ghost use Rattle.ix_core.specs.declared.op.OpKind.TheVariants.{Load, Print};
+ghost use Rattle.ix_core.specs.declared.program.Method.{Method};
+ghost use Rattle.ix_core.specs.Claims.{True};
+ghost use Rattle.ix_core.specs.Heap.{Held, At, Heap, value_at};
+ghost use Rattle.ix_core.specs.World.{World};
+ghost use Rattle.ix_core.specs.Machine.{Limits, Did, Wrapped, operate, test_of};
+ghost use Rattle.ix_core.specs.Objects.{HeapKeeps, FrameKeeps, field_numbers};
+ghost use Rattle.ix_core.specs.Waits.{param_numbers};
+ghost use Rattle.ix_core.specs.MachineSteps.{HasTarget, LoadsMet, HoldsElements, AllOn, KeepsInts, IntsOnly, FitsType, FitsClaim, on_paths, own_path, IsDeclared};
+ghost use Rattle.ix_core.specs.Numbers.{Numbers, HasInts, held_at, numbers_of};
 ghost use Rattle.ix_core.specs.Facts.{Holds, AllHold, IsIn, Covers, Stronger, in_orders};
 ghost use Rattle.ix_core.specs.Forget.{of_path, without, SameBut};
 ghost use Rattle.ix_core.specs.Closure.{Said, Closed, Contradicts, IsClosedOf, IsCommon, kept};
@@ -19,7 +33,7 @@ ghost use Rattle.ix_core.specs.Bounds.{shifted_upper};
 ghost use Rattle.ix_core.specs.AfterOperation.{HasExact, Results, new_facts};
 ghost use Rattle.ix_core.specs.Systems.{IsTable, IsByKey, system_after, system_copy, system_rounded, system_added};
 ghost use Rattle.ix_core.specs.After.{of_target, Step, TargetApart, beside_target, after_facts, copy_facts};
-ghost use Rattle.ix_core.specs.AfterTest.{Outcome, IsSo, AllSo, int_outcomes, opposite, outcome_facts};
+ghost use Rattle.ix_core.specs.AfterTest.{Outcome, IsSo, AllSo, int_outcomes, opposite, outcome_facts, when_true, when_false};
 ghost use Rattle.ix_core.specs.Assume.{ClaimHolds, claim_facts, proves};
 ghost use Rattle.ix_core.specs.Round.{rounded};
 ghost use Rattle.ix_core.specs.Laws.{BoundsHold, BoundsNoWeaker, Alike, SameBounds, AsStrong, ClosedAsItStands, Way};
@@ -102,4 +116,29 @@ pub fn system_laws()
     ensures forget_monotone { (p : Path) (table other : List Fact) → Stronger table other → Stronger (without (of_path p) table) (without (of_path p) other) }
     ensures add_sound { (own : Fact → Bool) (table : List Fact) (fact : Fact) (v : Numbers) → AllHold table v → Holds fact v → AllHold (system_added own table fact) v }
     ensures add_monotone { (own : Fact → Bool) → IsByKey own → (table other : List Fact) (strong weak : Fact) → Stronger table other → Covers strong weak → Stronger (system_added own table strong) (system_added own other weak) }
+{}
+
+/// The machine and the rules: each operation of the machine that goes on is a step between the numbers of paths that the rules speak of. Its premises
+/// are what the machine keeps (`ints`, `numbers`, `references`), what a formed program has (its slots lie in the frame, its literals are ints), and, of
+/// a `Load`, what the heap keeps where types are right (`loads`).
+pub fn machine_laws()
+    ensures steps { (profile : Profile) (limits : Limits) (world : World) (at : ℕ) (slots : List Held) (heap : Heap) (later : List Held) (after : Heap) (before : HasInts world.place slots heap) (behind : HasInts world.place later after) (kind : OpKind) → HasTarget kind slots → LoadsMet kind slots heap → AllOn slots heap → operate limits world kind at slots heap ≡ Did later after → Step profile kind (numbers_of world.place slots heap before) (numbers_of world.place later after behind) }
+    ensures wrapped { (limits : Limits) (world : World) (at : ℕ) (slots : List Held) (heap : Heap) (later : List Held) (after : Heap) (before : HasInts world.place slots heap) (behind : HasInts world.place later after) (kind : OpKind) → HasTarget kind slots → operate limits world kind at slots heap ≡ Wrapped later after → Step Int32 kind (numbers_of world.place slots heap before) (numbers_of world.place later after behind) }
+    ensures printed { (profile : Profile) (value : ℕ) (v : Numbers) → Step profile (Print value) v v }
+    ensures ints { (limits : Limits) (world : World) (at : ℕ) (slots : List Held) (heap : Heap) → KeepsInts slots heap → (kind : OpKind) (later : List Held) (after : Heap) → IntsOnly kind → operate limits world kind at slots heap ≡ Did later after → KeepsInts later after }
+    ensures wrapped_ints { (limits : Limits) (world : World) (at : ℕ) (slots : List Held) (heap : Heap) → KeepsInts slots heap → (kind : OpKind) (later : List Held) (after : Heap) → IntsOnly kind → operate limits world kind at slots heap ≡ Wrapped later after → KeepsInts later after }
+    ensures numbers { (place : ℕ → ℕ) (slots : List Held) (heap : Heap) → KeepsInts slots heap → HasInts place slots heap }
+    ensures loads { (world : World) (is_building : ℕ → Bool) (slots : List Held) (heap : Heap) → HeapKeeps world (λ object. is_building object ≡ true) heap → (t array index : ℕ) (ty : Type_) → ((number : ℕ) → value_at slots array ≡ At number → HoldsElements ty heap number) → LoadsMet (Load t array index ty) slots heap }
+    ensures references { (world : World) (is_building : ℕ → Bool) (method : Method) (slots : List Held) (heap : Heap) → HeapKeeps world (λ object. is_building object ≡ true) heap → FrameKeeps (λ object. is_building object ≡ true) method slots heap → AllOn slots heap }
+{}
+
+/// The tests and the claims of the machine in the numbers of paths: a test that is answered tells its outcomes, and a claim is true exactly where it
+/// holds of the paths of its names.
+pub fn meaning_laws()
+    ensures told_true { (place : ℕ → ℕ) (slots : List Held) (heap : Heap) (ints : HasInts place slots heap) (left right : ℕ) (ty : Type_) (rel : Rel) → FitsType ty (value_at slots left) → FitsType ty (value_at slots right) → test_of rel (value_at slots left) (value_at slots right) ≡ true → AllSo (when_true ty rel (Slot left) (Slot right)) (numbers_of place slots heap ints) }
+    ensures told_false { (place : ℕ → ℕ) (slots : List Held) (heap : Heap) (ints : HasInts place slots heap) (left right : ℕ) (ty : Type_) (rel : Rel) → FitsType ty (value_at slots left) → FitsType ty (value_at slots right) → test_of rel (value_at slots left) (value_at slots right) ≡ false → AllSo (when_false ty rel (Slot left) (Slot right)) (numbers_of place slots heap ints) }
+    ensures claim_holds { (place : ℕ → ℕ) (slots : List Held) (heap : Heap) (ints : HasInts place slots heap) (path : Name → Path) (p : Path) (claim : Claim) → FitsClaim (held_at place slots heap) (on_paths path claim) p → True claim ((numbers_of place slots heap ints).int p) (λ name. (numbers_of place slots heap ints).int (path name)) → ClaimHolds (on_paths path claim) p (numbers_of place slots heap ints) }
+    ensures claim_true { (place : ℕ → ℕ) (slots : List Held) (heap : Heap) (ints : HasInts place slots heap) (path : Name → Path) (p : Path) (claim : Claim) → FitsClaim (held_at place slots heap) (on_paths path claim) p → ClaimHolds (on_paths path claim) p (numbers_of place slots heap ints) → True claim ((numbers_of place slots heap ints).int p) (λ name. (numbers_of place slots heap ints).int (path name)) }
+    ensures parameters { (world : World) (method : Method) (slots : List Held) (heap : Heap) (ints : HasInts world.place slots heap) (name : Name) → IsDeclared name → param_numbers world method slots heap name ≡ (numbers_of world.place slots heap ints).int (own_path method name) }
+    ensures fields { (world : World) (slots : List Held) (heap : Heap) (ints : HasInts world.place slots heap) (slot object field : ℕ) → value_at slots slot ≡ At object → field_numbers world heap object (FieldNamed field) ≡ (numbers_of world.place slots heap ints).int (FieldOf slot field) }
 {}

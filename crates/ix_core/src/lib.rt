@@ -28,7 +28,7 @@ pub use fact::{Fact, Path, PathClaim, PathOff, Profile};
 pub use know::Know;
 pub use landmarks::Landmarks;
 pub use laws::{
-    bounds_laws, claim_laws, closing_laws, forget_laws, form_laws, operation_laws, system_laws, test_laws,
+    bounds_laws, claim_laws, closing_laws, forget_laws, form_laws, machine_laws, meaning_laws, operation_laws, system_laws, test_laws,
 };
 pub use op::{Arg, CallOp, Literal, Op, OpKind, Test, UnaryNum};
 pub use outcome::{Outcome, Value};

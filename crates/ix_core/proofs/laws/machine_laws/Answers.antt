@@ -1,0 +1,28 @@
+use Rattle.std.specs.Prelude.{◌≡◌, true}
+use Rattle.ix_core.proofs.laws.machine_laws.Goals as goal
+use Rattle.ix_core.proofs.MachineSteps.{did_step, wrapped_step, printed_stays}
+use Rattle.ix_core.proofs.MachineStates.{did_keeps, wrapped_keeps, has_ints, all_on, loads_met}
+
+pub returns-clause-steps : goal.returns-clause-steps
+returns-clause-steps c = did_step
+
+pub returns-clause-wrapped : goal.returns-clause-wrapped
+returns-clause-wrapped c = wrapped_step
+
+pub returns-clause-printed : goal.returns-clause-printed
+returns-clause-printed c = printed_stays
+
+pub returns-clause-ints : goal.returns-clause-ints
+returns-clause-ints c = did_keeps
+
+pub returns-clause-wrapped_ints : goal.returns-clause-wrapped_ints
+returns-clause-wrapped_ints c = wrapped_keeps
+
+pub returns-clause-numbers : goal.returns-clause-numbers
+returns-clause-numbers c = has_ints
+
+pub returns-clause-references : goal.returns-clause-references
+returns-clause-references c = λ world is_building. all_on world (λ object. is_building object ≡ true)
+
+pub returns-clause-loads : goal.returns-clause-loads
+returns-clause-loads c = λ world is_building. loads_met world (λ object. is_building object ≡ true)
