@@ -1,5 +1,8 @@
 use Rattle.std.specs.Prelude.{◌≡◌, true}
 use Rattle.ix_core.proofs.laws.machine_laws.Goals as goal
+use Rattle.ix_core.specs.declared.fact.Profile.TheVariants.{Int32}
+use Rattle.ix_core.specs.Numbers.{numbers_of}
+use Rattle.ix_core.proofs.AfterLaws.{after_hold}
 use Rattle.ix_core.proofs.MachineSteps.{did_step, wrapped_step, printed_stays}
 use Rattle.ix_core.proofs.MachineStates.{did_keeps, wrapped_keeps, has_ints, all_on, loads_met}
 
@@ -26,3 +29,13 @@ returns-clause-references c = λ world is_building. all_on world (λ object. is_
 
 pub returns-clause-loads : goal.returns-clause-loads
 returns-clause-loads c = λ world is_building. loads_met world (λ object. is_building object ≡ true)
+
+pub returns-clause-facts : goal.returns-clause-facts
+returns-clause-facts c = λ profile limits world at slots heap later after before behind kind facts target met on apart did holds.
+    after_hold profile kind facts (numbers_of world.place slots heap before) (numbers_of world.place later after behind) apart
+    (did_step profile limits world at slots heap later after before behind kind target met on did) holds
+
+pub returns-clause-wrapped_facts : goal.returns-clause-wrapped_facts
+returns-clause-wrapped_facts c = λ limits world at slots heap later after before behind kind facts target apart did holds.
+    after_hold Int32 kind facts (numbers_of world.place slots heap before) (numbers_of world.place later after behind) apart
+    (wrapped_step limits world at slots heap later after before behind kind target did) holds
