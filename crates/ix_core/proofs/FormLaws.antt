@@ -60,7 +60,7 @@ as_it_stands : (facts : List Fact) → ClosedAsItStands facts → Stronger facts
 unfolding IsMet
 as_it_stands facts closed = record { met = λ x i. let f = from_in_orders x facts i in order_met facts closed f.0 x f.1 f.2 }
 
-first_order : (f : Fact) → IsIn f (orders f)
+pub first_order : (f : Fact) → IsIn f (orders f)
 first_order (Same a b) = inl refl
 first_order (Sum t y z) = inl refl
 first_order (Upper p a (Plus q) c) = inl refl

@@ -33,3 +33,4 @@ pub mod MachineSteps
 pub mod BoundSteps
 pub mod MachineStates
 pub mod MachineTests
+pub mod SearchTables

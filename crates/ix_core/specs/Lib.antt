@@ -25,3 +25,5 @@ pub mod Systems
 pub mod MethodLandmarks
 pub mod Small
 pub mod MachineSteps
+pub mod SearchTable
+pub mod SearchLaws

@@ -1,0 +1,343 @@
+-- What the table of the answers of searches says of its facts, and what the rules give of that kind.
+use Rattle.std.specs.Prelude.{◌≡◌, ◌⊎◌, ℕ, Bool, true, false, cond, ◌&&◌, ◌||◌, ℤ, pos, negsuc, ◌+ℤ◌, ◌-ℤ◌, int_le, int_lt, List, [], ◌∷◌, ◌++◌, Option, Some, None, refl}
+use Rattle.std.specs.Int.{int_min, int_max}
+use Rattle.std.proofs.Common.{arith, inl, inr, sym, ap, ◌∙◌, subst, ⊎_elim}
+use Rattle.std.proofs.lemmas.Bool.{false≢true}
+use Rattle.std.proofs.lemmas.Int.{ints, clamps}
+use Rattle.std.proofs.lemmas.List.{append_assoc}
+use Rattle.ix_num.specs.Ints.{least_int, greatest_int}
+use Rattle.ix_num.specs.declared.arith.Arith.{Arith}
+use Rattle.ix_num.specs.declared.arith.Arith.TheVariants.{Add, Sub, Mul, Div, Rem, And, Or, Xor, Shl, Shr, Ushr}
+use Rattle.ix_num.specs.declared.interval.Interval.{Interval}
+use Rattle.ix_tables.specs.declared.low.Low.{Low as Class}
+use Rattle.ix_core.specs.declared.claim.Claim.{Claim}
+use Rattle.ix_core.specs.declared.claim.Claim.TheVariants as claim
+use Rattle.ix_core.specs.declared.claim.Type_.{Type_}
+use Rattle.ix_core.specs.declared.fact.Path.{Path}
+use Rattle.ix_core.specs.declared.fact.Path.TheVariants.{Slot}
+use Rattle.ix_core.specs.declared.fact.PathOff.TheVariants.{Nothing, Plus, Minus}
+use Rattle.ix_core.specs.declared.fact.Fact.{Fact}
+use Rattle.ix_core.specs.declared.fact.Fact.TheVariants.{Rng, LenRng, Low, Same, IsLen, Less, Sum, Search, Neg, Upper}
+use Rattle.ix_core.specs.declared.fact.Profile.{Profile}
+use Rattle.ix_core.specs.declared.op.Literal.TheVariants as literal
+use Rattle.ix_core.specs.declared.op.OpKind.{OpKind}
+use Rattle.ix_core.specs.declared.op.OpKind.TheVariants as op
+use Rattle.ix_core.specs.declared.op.UnaryNum.{UnaryNum}
+use Rattle.ix_core.specs.declared.op.UnaryNum.TheVariants.{Neg as Negated, Flip}
+use Rattle.ix_core.specs.Bounds
+use Rattle.ix_core.specs.Bounds.{is_path, best}
+use Rattle.ix_core.specs.Facts.{IsIn, Covers, orders, in_orders, rng, len_rng}
+use Rattle.ix_core.specs.Forget.{of_path, names, without}
+use Rattle.ix_core.specs.Closure.{Default, Said, kept_fact, kept}
+use Rattle.ix_core.specs.Exact.{if_so, each, each_path, if_some, named_ints, named_arrays, range_facts, class_facts, low_facts, exact_range, exact_unary, fits, table_class, class_number}
+use Rattle.ix_core.specs.AfterOperation as after
+use Rattle.ix_core.specs.AfterOperation.{is_int, is_array, past_first, or_copied, copied_by, claimed_by, loaded_facts}
+use Rattle.ix_core.specs.Finish as finish
+use Rattle.ix_core.specs.After.{of_target, finished_by, finished, beside_target, kept_new}
+use Rattle.ix_core.specs.Systems.{Merges, given, weaker, any_int, any_size, met, len_met, turned, sum_turned, upper_turned, IsTable, only_own, system_after, system_copy}
+use Rattle.ix_core.specs.SearchTable.{Pairs, is_answer, searches, if_pair, pair_copies, copies_of, all_copies, pairs_without}
+use Rattle.ix_core.specs.SearchLaws.{all_answers, in_has}
+use Rattle.ix_core.proofs.FactLists.{covers_itself, covers_covers, in_in_orders}
+use Rattle.ix_core.proofs.FormLaws.{first_order}
+use Rattle.ix_core.proofs.Tests.{by_test}
+
+-- ---- tables of answers alone
+
+default_weaker : (g f : Fact) → Covers g f → Default g → Default f
+default_weaker _ _ (rng p l h m k x y) d = (omega (arith, ints, d.0), omega (arith, ints, d.1))
+default_weaker _ _ (len_rng p l h m k x y) d = (omega (arith, ints, d.0), omega (arith, ints, d.1))
+default_weaker _ _ (Rattle.ix_core.specs.Facts.low p c e x) d = absurd d
+default_weaker _ _ (Rattle.ix_core.specs.Facts.same a b) d = d
+default_weaker _ _ (Rattle.ix_core.specs.Facts.is_len p a) d = d
+default_weaker _ _ (Rattle.ix_core.specs.Facts.less p q c e x) d = absurd d
+default_weaker _ _ (Rattle.ix_core.specs.Facts.sum t y z) d = d
+default_weaker _ _ (Rattle.ix_core.specs.Facts.search p a) d = d
+default_weaker _ _ (Rattle.ix_core.specs.Facts.neg p a) d = d
+default_weaker _ _ (Rattle.ix_core.specs.Facts.upper p a o c e x) d = absurd d
+
+said_weaker : (facts : List Fact) (g f : Fact) → Covers g f → Said facts g → Said facts f
+said_weaker facts g f c said = ⊎_elim (λ d. inl (default_weaker g f c d)) (λ x. inr (x.0, x.1, covers_covers x.0 g f x.2 c)) said
+
+covers_answer : (p a : Path) (f : Fact) → Covers (Search p a) f → is_answer f ≡ true
+covers_answer p a _ (Rattle.ix_core.specs.Facts.search _ _) = refl
+
+-- of other kinds a table of answers says what is said of every path
+other_default : (pairs : Pairs) (f : Fact) → is_answer f ≡ false → Said (searches pairs) f → Default f
+other_default pairs f other said =
+    ⊎_elim
+    (λ d. d)
+    (λ x.
+    let y = in_has x.0 pairs x.1 in
+    absurd (false≢true (sym other ∙ covers_answer y.0.0 y.0.1 f (subst (λ g. Covers g f) y.1 x.2))))
+    said
+
+merges_said : (pairs : Pairs) (f : Fact) → Merges (searches pairs) f → Said (searches pairs) f
+merges_said pairs _ (given f i) = inr (f, in_in_orders f f (searches pairs) i (first_order f), covers_itself f)
+merges_said pairs _ (weaker g f c r) = said_weaker (searches pairs) g f c (merges_said pairs g r)
+merges_said pairs _ (any_int p) = inl (omega (arith, ints), omega (arith, ints))
+merges_said pairs _ (any_size a) = inl (omega (arith, ints), omega (arith, ints))
+merges_said pairs _ (met p l h m k r s) =
+    let x = other_default pairs (Rng p l h) refl (merges_said pairs (Rng p l h) r) in
+    let y = other_default pairs (Rng p m k) refl (merges_said pairs (Rng p m k) s) in
+    inl (omega (arith, ints, clamps, x.0, x.1, y.0, y.1), omega (arith, ints, clamps, x.0, x.1, y.0, y.1))
+merges_said pairs _ (len_met a l h m k r s) =
+    let x = other_default pairs (LenRng a l h) refl (merges_said pairs (LenRng a l h) r) in
+    let y = other_default pairs (LenRng a m k) refl (merges_said pairs (LenRng a m k) s) in
+    inl (omega (arith, ints, clamps, x.0, x.1, y.0, y.1), omega (arith, ints, clamps, x.0, x.1, y.0, y.1))
+merges_said pairs _ (turned a b r) = absurd (other_default pairs (Same a b) refl (merges_said pairs (Same a b) r))
+merges_said pairs _ (sum_turned t y z r) = absurd (other_default pairs (Sum t y z) refl (merges_said pairs (Sum t y z) r))
+merges_said pairs _ (upper_turned p a q c r) = absurd (other_default pairs (Upper p a (Plus q) c) refl (merges_said pairs (Upper p a (Plus q) c) r))
+
+pub table_of : (facts : List Fact) (pairs : Pairs) → searches pairs ≡ facts → IsTable facts (searches pairs)
+table_of facts pairs e = subst (λ l. IsTable l (searches pairs)) e (record { says = merges_said pairs; only = λ f i. given f i })
+
+-- ---- lists of pairs
+
+pub searches_app : (pairs others : Pairs) → searches (pairs ++ others) ≡ searches pairs ++ searches others
+searches_app [] others = refl
+searches_app (x ∷ pairs) others = ap (λ l. Search x.0 x.1 ∷ l) (searches_app pairs others)
+
+pub searches_without : (is : Path → Bool) (pairs : Pairs) → searches (pairs_without is pairs) ≡ without is (searches pairs)
+searches_without is [] = refl
+searches_without is (x ∷ pairs) =
+    by_test (is x.0 || is x.1)
+    (λ t. rw t (searches_without is pairs))
+    (λ t. rw t (ap (λ l. Search x.0 x.1 ∷ l) (searches_without is pairs)))
+
+-- ---- no rule but that of a copy gives an answer
+
+data AllFree : List Fact → Type 0 where
+  free_none : AllFree []
+  free_cons : (f : Fact) (facts : List Fact) → is_answer f ≡ false → AllFree facts → AllFree (f ∷ facts)
+
+one_free : (f : Fact) → is_answer f ≡ false → AllFree (f ∷ [])
+one_free f x = free_cons f [] x free_none
+
+two_free : (f g : Fact) → is_answer f ≡ false → is_answer g ≡ false → AllFree (f ∷ g ∷ [])
+two_free f g x y = free_cons f (g ∷ []) x (one_free g y)
+
+free_app : (a b : List Fact) → AllFree a → AllFree b → AllFree (a ++ b)
+free_app _ b free_none y = y
+free_app _ b (free_cons f a e x) y = free_cons f (a ++ b) e (free_app a b x y)
+
+free_if : (t : Bool) (facts : List Fact) → AllFree facts → AllFree (if_so t facts)
+free_if true facts x = x
+free_if false facts x = free_none
+
+free_each : (rule : Fact → List Fact) → ((f : Fact) → AllFree (rule f)) → (facts : List Fact) → AllFree (each rule facts)
+free_each rule one [] = free_none
+free_each rule one (f ∷ facts) = free_app (rule f) (each rule facts) (one f) (free_each rule one facts)
+
+free_path : (rule : Path → List Fact) → ((p : Path) → AllFree (rule p)) → (paths : List Path) → AllFree (each_path rule paths)
+free_path rule one [] = free_none
+free_path rule one (p ∷ paths) = free_app (rule p) (each_path rule paths) (one p) (free_path rule one paths)
+
+free_some : (make : ℤ → Fact) → ((c : ℤ) → is_answer (make c) ≡ false) → (o : Option ℤ) → AllFree (if_some make o)
+free_some make one None = free_none
+free_some make one (Some c) = one_free (make c) (one c)
+
+free_past : (facts : List Fact) → AllFree facts → AllFree (past_first facts)
+free_past _ free_none = free_none
+free_past _ (free_cons f facts e x) = x
+
+free_kept_fact : (f : Fact) → is_answer f ≡ false → AllFree (kept_fact f)
+free_kept_fact (Less p q c) x = by_test (int_lt greatest_int c) (λ t. rw t free_none) (λ t. rw t (one_free _ refl))
+free_kept_fact (Upper p a o c) x = by_test (int_lt c least_int) (λ t. rw t free_none) (λ t. rw t (one_free _ refl))
+free_kept_fact (Search p a) x = absurd (false≢true (sym x))
+free_kept_fact (Rng p l h) x = one_free _ refl
+free_kept_fact (LenRng p l h) x = one_free _ refl
+free_kept_fact (Low p c) x = one_free _ refl
+free_kept_fact (Same a b) x = one_free _ refl
+free_kept_fact (IsLen p a) x = one_free _ refl
+free_kept_fact (Sum t y z) x = one_free _ refl
+free_kept_fact (Neg p a) x = one_free _ refl
+
+free_kept : (facts : List Fact) → AllFree facts → AllFree (kept facts)
+free_kept _ free_none = free_none
+free_kept _ (free_cons f facts e x) = free_app (kept_fact f) (kept facts) (free_kept_fact f e) (free_kept facts x)
+
+none_own : (facts : List Fact) → AllFree facts → only_own is_answer facts ≡ []
+none_own _ free_none = refl
+none_own _ (free_cons f facts e x) = rw e (none_own facts x)
+
+-- the finish
+module _ (facts new : List Fact) (t : Path) where
+  above_free : (q : Path) (c : ℤ) (f : Fact) → AllFree (finish.step_above t q c f)
+  above_free q c (Less x r d) = free_if (is_path x q) (Less t r (c +ℤ d -ℤ pos 1) ∷ []) (one_free _ refl)
+  above_free q c _ = free_none
+
+  below_free : (q : Path) (c : ℤ) (f : Fact) → AllFree (finish.step_below t q c f)
+  below_free q c (Less r x d) = free_if (is_path x q) (Less r t (c +ℤ d -ℤ pos 1) ∷ []) (one_free _ refl)
+  below_free q c _ = free_none
+
+  bound_above_free : (q : Path) (c : ℤ) (f : Fact) → AllFree (finish.bound_above t q c f)
+  bound_above_free q c (Upper x a o d) = free_if (is_path x q) (Upper t a o (d -ℤ c +ℤ pos 1) ∷ []) (one_free _ refl)
+  bound_above_free q c (IsLen x a) = free_if (is_path x q) (Upper t a Nothing (pos 0 -ℤ c) ∷ []) (one_free _ refl)
+  bound_above_free q c _ = free_none
+
+  bound_below_free : (q : Path) (c : ℤ) (f : Fact) → AllFree (finish.bound_below t q c f)
+  bound_below_free q c (Upper r a (Minus x) d) = free_if (is_path x q) (Upper r a (Minus t) (d -ℤ c +ℤ pos 1) ∷ []) (one_free _ refl)
+  bound_below_free q c (Upper r a (Plus x) d) = free_none
+  bound_below_free q c (Upper r a Nothing d) = free_none
+  bound_below_free q c _ = free_none
+
+  along_free : (f : Fact) → AllFree (finish.along_by facts new t f)
+  along_free (Less p q c) =
+      free_app (if_so (is_path p t) (each (finish.step_above t q c) facts ++ each (finish.bound_above t q c) facts)) (if_so (is_path q t) (each (finish.step_below t p c) facts ++ each (finish.bound_below t p c) facts))
+      (free_if (is_path p t) _ (free_app (each (finish.step_above t q c) facts) (each (finish.bound_above t q c) facts) (free_each (finish.step_above t q c) (above_free q c) facts) (free_each (finish.bound_above t q c) (bound_above_free q c) facts)))
+      (free_if (is_path q t) _ (free_app (each (finish.step_below t p c) facts) (each (finish.bound_below t p c) facts) (free_each (finish.step_below t p c) (below_free p c) facts) (free_each (finish.bound_below t p c) (bound_below_free p c) facts)))
+  along_free _ = free_none
+
+  int_free : AllFree (finish.finish_int facts new t)
+  int_free =
+      free_app (each (finish.along_by facts new t) new) (each_path (finish.beside_int facts new t) (named_ints facts) ++ each_path (finish.beside_array facts new t) (named_arrays facts))
+      (free_each (finish.along_by facts new t) along_free new)
+      (free_app (each_path (finish.beside_int facts new t) (named_ints facts)) (each_path (finish.beside_array facts new t) (named_arrays facts))
+      (free_path (finish.beside_int facts new t) (λ r. free_app _ _ (free_if _ (Less t r _ ∷ []) (one_free _ refl)) (free_if _ (Less r t _ ∷ []) (one_free _ refl))) (named_ints facts))
+      (free_path (finish.beside_array facts new t) (λ a. free_if _ (Upper t a Nothing _ ∷ []) (one_free _ refl)) (named_arrays facts)))
+
+  array_free : AllFree (finish.finish_array facts new t)
+  array_free = free_path (finish.beside_length facts new t) (λ r. free_if _ (Upper r t Nothing _ ∷ []) (one_free _ refl)) (named_ints facts)
+
+  by_free : (ty : Type_) → AllFree (finished_by ty facts new t)
+  by_free ty = free_app _ _ (free_if (is_int ty) (finish.finish_int facts new t) int_free) (free_if (is_array ty) (finish.finish_array facts new t) array_free)
+
+finished_free : (facts new : List Fact) (kind : OpKind) → AllFree (finished facts new kind)
+finished_free facts new (op.Const t (literal.Int n)) = int_free facts new (Slot t)
+finished_free facts new (op.Const t (literal.Bool answer)) = free_none
+finished_free facts new (op.Const t (literal.NullOf ty)) = free_if (is_array ty) (finish.finish_array facts new (Slot t)) (array_free facts new (Slot t))
+finished_free facts new (op.Copy t s ty) = by_free facts new (Slot t) ty
+finished_free facts new (op.Num t arith_op y z) = int_free facts new (Slot t)
+finished_free facts new (op.Unary t unary y) = int_free facts new (Slot t)
+finished_free facts new (op.Length t a) = int_free facts new (Slot t)
+finished_free facts new (op.NewArray t ty n) = array_free facts new (Slot t)
+finished_free facts new (op.Fill t ty entries) = array_free facts new (Slot t)
+finished_free facts new (op.Load t a i ty) =
+    free_app _ _ (free_if (Rattle.ix_core.specs.After.holds_ints ty) (finish.finish_int facts new (Slot t)) (int_free facts new (Slot t)))
+    (free_if (Rattle.ix_core.specs.AfterOperation.holds_arrays ty) (finish.finish_array facts new (Slot t)) (array_free facts new (Slot t)))
+finished_free facts new (op.Store a i v ty) = free_none
+finished_free facts new (op.ReadField t o f) = free_none
+finished_free facts new (op.WriteField o f v) = free_none
+finished_free facts new (op.NewObject call) = free_none
+finished_free facts new (op.StaticCall call) = free_none
+finished_free facts new (op.InstanceCall call) = free_none
+finished_free facts new (op.SuperCall call) = free_none
+finished_free facts new (op.Print value) = free_none
+
+-- the rules of operations
+module _ (facts : List Fact) (profile : Profile) (t y z : Path) where
+  sum_array_free : (a : Path) → AllFree (after.sum_array facts t y z a)
+  sum_array_free a =
+      free_app _ _ (free_some (Upper t a Nothing) (λ c. refl) (Bounds.upper_bound facts y a (Plus z)))
+      (free_app _ _ (free_some (Upper t a (Minus z)) (λ c. refl) (Bounds.upper_bound facts y a Nothing)) (free_some (Upper t a (Minus y)) (λ c. refl) (Bounds.upper_bound facts z a Nothing)))
+
+  sum_beside_free : (x w : Path) (f : Fact) → AllFree (after.sum_beside facts t x w f)
+  sum_beside_free x w (Sum r v q) =
+      free_if (is_path v x) _ (free_app _ _ (free_some (Less t r) (λ c. refl) (Bounds.fact_less facts w q)) (free_some (Less r t) (λ c. refl) (Bounds.fact_less facts q w)))
+  sum_beside_free x w _ = free_none
+
+  sum_free : AllFree (after.sum_facts facts t y z)
+  sum_free =
+      free_cons _ _ refl (free_cons _ _ refl (free_cons _ _ refl (free_cons _ _ refl (free_cons _ _ refl (free_app _ _ (free_path (after.sum_array facts t y z) sum_array_free (named_arrays facts))
+      (free_app _ _ (free_each (after.sum_beside facts t y z) (sum_beside_free y z) facts) (free_each (after.sum_beside facts t z y) (sum_beside_free z y) facts)))))))
+
+  difference_array_free : (a : Path) → AllFree (after.difference_array facts t y z a)
+  difference_array_free a = free_app _ _ (free_some (Upper t a (Plus z)) (λ c. refl) (Bounds.upper_bound facts y a Nothing)) (free_some (Upper t a Nothing) (λ c. refl) (Bounds.upper_bound facts y a (Minus z)))
+
+  difference_free : AllFree (after.difference_facts facts t y z)
+  difference_free = free_cons _ _ refl (free_cons _ _ refl (free_cons _ _ refl (free_path (after.difference_array facts t y z) difference_array_free (named_arrays facts))))
+
+  between_free : (p q : Path) → AllFree (after.half_between facts t p q)
+  between_free p q = free_app _ _ (free_if _ (Less p t (pos 1) ∷ Less t q (pos 1) ∷ []) (two_free _ _ refl refl)) (free_if _ (Less t q (pos 0) ∷ []) (one_free _ refl))
+
+  half_by_free : (f : Fact) → AllFree (after.half_by facts t y f)
+  half_by_free (Sum x p q) = free_if (is_path x y) (after.half_between facts t p q) (between_free p q)
+  half_by_free _ = free_none
+
+  half_free : (n : ℤ) → AllFree (after.half_facts facts n t y z)
+  half_free n = free_if _ (each (after.half_by facts t y) facts) (free_each (after.half_by facts t y) half_by_free facts)
+
+  shift_free : AllFree (after.shift_facts facts t y)
+  shift_free = free_if _ (Less t y (pos 1) ∷ []) (one_free _ refl)
+
+  arith_free : (arith_op : Arith) → AllFree (after.arith_facts facts profile arith_op t y z)
+  arith_free Add = free_if _ (after.sum_facts facts t y z) sum_free
+  arith_free Sub = free_if _ (after.difference_facts facts t y z) difference_free
+  arith_free Mul = free_if _ (after.product_facts facts t y z) (free_app _ _ (free_if _ (Less y t (pos 1) ∷ []) (one_free _ refl)) (free_if _ (Less z t (pos 1) ∷ []) (one_free _ refl)))
+  arith_free Div = free_app _ _ (free_app _ _ (free_if _ (Less t y (pos 1) ∷ []) (one_free _ refl)) (free_if _ (Less t y (pos 0) ∷ []) (one_free _ refl))) (half_free (pos 2))
+  arith_free Rem = free_app _ _ (free_if _ (Less t z (pos 0) ∷ []) (one_free _ refl)) (free_if _ (Less t y (pos 1) ∷ []) (one_free _ refl))
+  arith_free And = free_app _ _ (free_if _ (Less t z (pos 1) ∷ []) (one_free _ refl)) (free_if _ (Less t y (pos 1) ∷ []) (one_free _ refl))
+  arith_free Or = free_none
+  arith_free Xor = free_none
+  arith_free Shl = free_none
+  arith_free Shr = free_app _ _ shift_free (half_free (pos 1))
+  arith_free Ushr = free_app _ _ shift_free (half_free (pos 1))
+
+  range_free : (i : Interval) → AllFree (range_facts t i)
+  range_free i = free_if _ (Rng t i.lo i.hi ∷ []) (one_free _ refl)
+
+  low_free : (i : Interval) (known : Class) → AllFree (low_facts profile t i known)
+  low_free i known = free_if _ _ (free_app _ _ (free_some (Low t) (λ c. refl) _) (free_some (Low t) (λ c. refl) (class_number known)))
+
+  num_free : (arith_op : Arith) → AllFree (after.num_facts facts profile arith_op t y z)
+  num_free arith_op = free_app _ _ (range_free (exact_range facts arith_op y z)) (free_app _ _ (low_free (exact_range facts arith_op y z) (table_class facts arith_op y z)) (arith_free arith_op))
+
+  flip_array_free : (a : Path) → AllFree (after.flip_array facts t y a)
+  flip_array_free a = free_if _ (Neg t a ∷ []) (one_free _ refl)
+
+  flip_by_free : (f : Fact) → AllFree (after.flip_by facts t y f)
+  flip_by_free (Search p a) = free_if _ (Upper t a Nothing (negsuc 0) ∷ []) (one_free _ refl)
+  flip_by_free _ = free_none
+
+  unary_free : (unary : UnaryNum) → AllFree (after.unary_rule facts unary t y)
+  unary_free Negated = free_none
+  unary_free Flip = free_app _ _ (free_path (after.flip_array facts t y) flip_array_free (named_arrays facts)) (free_each (after.flip_by facts t y) flip_by_free facts)
+
+  length_by_free : (f : Fact) → AllFree (after.length_by facts t y f)
+  length_by_free (Upper p b Nothing c) = free_if _ (Less p t (pos 0 -ℤ c) ∷ []) (one_free _ refl)
+  length_by_free (Upper p b (Plus q) c) = free_none
+  length_by_free (Upper p b (Minus q) c) = free_none
+  length_by_free (IsLen q b) = free_if _ (Less q t (pos 1) ∷ Less t q (pos 1) ∷ []) (two_free _ _ refl refl)
+  length_by_free _ = free_none
+
+  new_by_free : (f : Fact) → AllFree (after.new_array_by facts t y f)
+  new_by_free (Less p q c) = free_if _ (Upper p t Nothing (pos 0 -ℤ c) ∷ []) (one_free _ refl)
+  new_by_free (Sum x p q) = free_if _ (Upper p t (Plus q) (negsuc 0) ∷ []) (one_free _ refl)
+  new_by_free _ = free_none
+
+loaded_free : (t : Path) (claims : List Claim) → AllFree (loaded_facts t claims)
+loaded_free t [] = free_none
+loaded_free t (claim.Range from to ∷ claims) = free_cons _ _ refl (loaded_free t claims)
+loaded_free t (claim.Low from ∷ claims) = free_cons _ _ refl (free_app _ _ (free_if _ (Low t from ∷ []) (one_free _ refl)) (loaded_free t claims))
+loaded_free t (claim.Length least ∷ claims) = loaded_free t claims
+loaded_free t (claim.Same other ∷ claims) = loaded_free t claims
+loaded_free t (claim.Less name constant ∷ claims) = loaded_free t claims
+loaded_free t (claim.Upper array offset constant ∷ claims) = loaded_free t claims
+loaded_free t (claim.Search array ∷ claims) = loaded_free t claims
+loaded_free t (claim.Negative array ∷ claims) = loaded_free t claims
+
+abbrev IsCopy : OpKind → Bool
+IsCopy (op.Copy t s ty) = true
+IsCopy _ = false
+
+new_free : (facts : List Fact) (profile : Profile) (kind : OpKind) → IsCopy kind ≡ false → AllFree (after.new_facts facts profile kind)
+new_free facts profile (op.Const t (literal.Int n)) is = (one_free _ refl)
+new_free facts profile (op.Const t (literal.Bool answer)) is = free_none
+new_free facts profile (op.Const t (literal.NullOf ty)) is = free_if (is_array ty) _ (two_free _ _ refl refl)
+new_free facts profile (op.Copy t s ty) is = absurd (false≢true (sym is))
+new_free facts profile (op.Num t arith_op y z) is = num_free facts profile (Slot t) (Slot y) (Slot z) arith_op
+new_free facts profile (op.Unary t unary y) is =
+    free_app _ _ (range_free facts profile (Slot t) (Slot y) (Slot y) (exact_unary facts unary (Slot y)))
+    (free_app _ _ (low_free facts profile (Slot t) (Slot y) (Slot y) (exact_unary facts unary (Slot y)) Rattle.ix_tables.specs.declared.low.Low.TheVariants.Unknown) (unary_free facts profile (Slot t) (Slot y) (Slot y) unary))
+new_free facts profile (op.Length t a) is = free_cons _ _ refl (free_cons _ _ refl (free_each (after.length_by facts (Slot t) (Slot a)) (length_by_free facts profile (Slot t) (Slot a) (Slot a)) facts))
+new_free facts profile (op.NewArray t ty n) is = free_cons _ _ refl (free_cons _ _ refl (free_cons _ _ refl (free_each (after.new_array_by facts (Slot t) (Slot n)) (new_by_free facts profile (Slot t) (Slot n) (Slot n)) facts)))
+new_free facts profile (op.Fill t ty entries) is = (two_free _ _ refl refl)
+new_free facts profile (op.Load t a i ty) is = free_app _ _ (free_if _ (Same (Slot t) (Slot t) ∷ []) (one_free _ refl)) (loaded_free (Slot t) (after.loaded_claims ty))
+new_free facts profile (op.Store a i v ty) is = free_none
+new_free facts profile (op.ReadField t o f) is = free_none
+new_free facts profile (op.WriteField o f v) is = free_none
+new_free facts profile (op.NewObject call) is = free_none
+new_free facts profile (op.StaticCall call) is = free_none
+new_free facts profile (op.InstanceCall call) is = free_none
+new_free facts profile (op.SuperCall call) is = free_none
+new_free facts profile (op.Print value) is = free_none
