@@ -4,7 +4,7 @@ use Rattle.std.specs.Int.{int_min, int_max}
 use Rattle.std.proofs.Common.{arith, inl, inr, sym, ap, ◌∙◌, subst, ⊎_elim}
 use Rattle.std.proofs.lemmas.Bool.{false≢true}
 use Rattle.std.proofs.lemmas.Int.{ints, clamps}
-use Rattle.std.proofs.lemmas.List.{append_assoc}
+use Rattle.std.proofs.lemmas.List.{append_assoc, append-nil}
 use Rattle.ix_num.specs.Ints.{least_int, greatest_int}
 use Rattle.ix_num.specs.declared.arith.Arith.{Arith}
 use Rattle.ix_num.specs.declared.arith.Arith.TheVariants.{Add, Sub, Mul, Div, Rem, And, Or, Xor, Shl, Shr, Ushr}
@@ -34,8 +34,8 @@ use Rattle.ix_core.specs.AfterOperation as after
 use Rattle.ix_core.specs.AfterOperation.{is_int, is_array, past_first, or_copied, copied_by, claimed_by, loaded_facts}
 use Rattle.ix_core.specs.Finish as finish
 use Rattle.ix_core.specs.After.{of_target, finished_by, finished, beside_target, kept_new}
-use Rattle.ix_core.specs.Systems.{Merges, given, weaker, any_int, any_size, met, len_met, turned, sum_turned, upper_turned, IsTable, only_own, system_after, system_copy}
-use Rattle.ix_core.specs.SearchTable.{Pairs, is_answer, searches, if_pair, pair_copies, copies_of, all_copies, pairs_without}
+use Rattle.ix_core.specs.Systems.{Merges, given, weaker, any_int, any_size, met, len_met, turned, sum_turned, upper_turned, IsTable, only_own, system_after, system_copy, system_rounded, system_added}
+use Rattle.ix_core.specs.SearchTable.{Pairs, is_answer, searches, if_pair, pair_copies, copies_of, all_copies, if_all, pair_of, pairs_without}
 use Rattle.ix_core.specs.SearchLaws.{all_answers, in_has}
 use Rattle.ix_core.proofs.FactLists.{covers_itself, covers_covers, in_in_orders}
 use Rattle.ix_core.proofs.FormLaws.{first_order}
@@ -316,7 +316,7 @@ loaded_free t (claim.Upper array offset constant ∷ claims) = loaded_free t cla
 loaded_free t (claim.Search array ∷ claims) = loaded_free t claims
 loaded_free t (claim.Negative array ∷ claims) = loaded_free t claims
 
-abbrev IsCopy : OpKind → Bool
+abbrev pub IsCopy : OpKind → Bool
 IsCopy (op.Copy t s ty) = true
 IsCopy _ = false
 
@@ -341,3 +341,160 @@ new_free facts profile (op.StaticCall call) is = free_none
 new_free facts profile (op.InstanceCall call) is = free_none
 new_free facts profile (op.SuperCall call) is = free_none
 new_free facts profile (op.Print value) is = free_none
+
+-- ---- what a copy gives
+
+own_app : (a b : List Fact) → only_own is_answer (a ++ b) ≡ only_own is_answer a ++ only_own is_answer b
+own_app [] b = refl
+own_app (f ∷ a) b = by_test (is_answer f) (λ t. rw t (ap (λ l. f ∷ l) (own_app a b))) (λ t. rw t (own_app a b))
+
+own_kept_fact : (f : Fact) → only_own is_answer (kept_fact f) ≡ only_own is_answer (f ∷ [])
+own_kept_fact (Less p q c) = none_own (kept_fact (Less p q c)) (free_kept_fact (Less p q c) refl)
+own_kept_fact (Upper p a o c) = none_own (kept_fact (Upper p a o c)) (free_kept_fact (Upper p a o c) refl)
+own_kept_fact (Search p a) = refl
+own_kept_fact (Rng p l h) = refl
+own_kept_fact (LenRng p l h) = refl
+own_kept_fact (Low p c) = refl
+own_kept_fact (Same a b) = refl
+own_kept_fact (IsLen p a) = refl
+own_kept_fact (Sum t y z) = refl
+own_kept_fact (Neg p a) = refl
+
+own_kept : (facts : List Fact) → only_own is_answer (kept facts) ≡ only_own is_answer facts
+own_kept [] = refl
+own_kept (f ∷ facts) =
+    own_app (kept_fact f) (kept facts)
+    ∙ (ap (λ l. l ++ only_own is_answer (kept facts)) (own_kept_fact f)
+    ∙ (ap (λ l. only_own is_answer (f ∷ []) ++ l) (own_kept facts) ∙ sym (own_app (f ∷ []) facts)))
+
+each_app : (rule : Fact → List Fact) (a b : List Fact) → each rule (a ++ b) ≡ each rule a ++ each rule b
+each_app rule [] b = refl
+each_app rule (f ∷ a) b = ap (λ l. rule f ++ l) (each_app rule a b) ∙ sym (append_assoc (rule f) (each rule a) (each rule b))
+
+module _ (t s : Path) where
+  copied_free : (f : Fact) → is_answer f ≡ false → AllFree (copied_by t s f)
+  copied_free (Rng p l h) x = free_if _ (Rng t l h ∷ []) (one_free _ refl)
+  copied_free (LenRng p l h) x = free_if _ (LenRng t l h ∷ []) (one_free _ refl)
+  copied_free (Low p c) x = free_if _ (Low t c ∷ []) (one_free _ refl)
+  copied_free (Same a b) x = free_past _ (free_path _ (λ i. free_path (λ j. Same i j ∷ []) (λ j. one_free _ refl) (or_copied t s b)) (or_copied t s a))
+  copied_free (IsLen p a) x = free_past _ (free_path _ (λ i. free_path (λ j. IsLen i j ∷ []) (λ j. one_free _ refl) (or_copied t s a)) (or_copied t s p))
+  copied_free (Search p a) x = absurd (false≢true (sym x))
+  copied_free (Neg p a) x = free_past _ (free_path _ (λ i. free_path (λ j. Neg i j ∷ []) (λ j. one_free _ refl) (or_copied t s a)) (or_copied t s p))
+  copied_free (Sum u y z) x =
+      free_past _ (free_path _ (λ i. free_path (λ j. each_path (λ k. Sum i j k ∷ []) (or_copied t s z)) (λ j. free_path (λ k. Sum i j k ∷ []) (λ k. one_free _ refl) (or_copied t s z)) (or_copied t s y)) (or_copied t s u))
+  copied_free (Less p q c) x = free_none
+  copied_free (Upper p a o c) x = free_none
+
+  orders_free : (f : Fact) → is_answer f ≡ false → AllFree (each (copied_by t s) (orders f))
+  orders_free (Same a b) x = free_app _ _ (copied_free (Same a b) refl) (free_app _ _ (copied_free (Same b a) refl) free_none)
+  orders_free (Sum u y z) x = free_app _ _ (copied_free (Sum u y z) refl) (free_app _ _ (copied_free (Sum u z y) refl) free_none)
+  orders_free (Upper p a (Plus q) c) x = free_none
+  orders_free (Upper p a Nothing c) x = free_none
+  orders_free (Upper p a (Minus q) c) x = free_none
+  orders_free (Rng p l h) x = free_app _ _ (copied_free (Rng p l h) refl) free_none
+  orders_free (LenRng p l h) x = free_app _ _ (copied_free (LenRng p l h) refl) free_none
+  orders_free (Low p c) x = free_app _ _ (copied_free (Low p c) refl) free_none
+  orders_free (IsLen p a) x = free_app _ _ (copied_free (IsLen p a) refl) free_none
+  orders_free (Less p q c) x = free_none
+  orders_free (Search p a) x = absurd (false≢true (sym x))
+  orders_free (Neg p a) x = free_app _ _ (copied_free (Neg p a) refl) free_none
+
+  -- what is copied of the facts beside the target
+  copied_of : List Fact → List Fact
+  copied_of facts = only_own is_answer (each (copied_by t s) (in_orders (without (of_path t) facts)))
+
+  other_step : (f : Fact) (facts : List Fact) (pairs : Pairs) → is_answer f ≡ false → copied_of facts ≡ searches pairs → copied_of (f ∷ facts) ≡ searches pairs
+  unfolding copied_of
+  other_step f facts pairs other rest =
+      by_test (names (of_path t) f)
+      (λ x. rw x rest)
+      (λ x.
+      let tail = in_orders (without (of_path t) facts) in
+      rw x
+      (ap (λ l. only_own is_answer l) (each_app (copied_by t s) (orders f) tail)
+      ∙ (own_app (each (copied_by t s) (orders f)) (each (copied_by t s) tail)
+      ∙ (ap (λ l. l ++ only_own is_answer (each (copied_by t s) tail)) (none_own (each (copied_by t s) (orders f)) (orders_free f other)) ∙ rest))))
+
+  pair_own : (p a : Path) → only_own is_answer (copied_by t s (Search p a)) ≡ searches (pair_copies t s p a)
+  pair_own p a = by_test (is_path p s) (λ x. by_test (is_path a s) (λ y. rw (x, y) refl) (λ y. rw (x, y) refl)) (λ x. by_test (is_path a s) (λ y. rw (x, y) refl) (λ y. rw (x, y) refl))
+
+  copied_is : (facts : List Fact) → copied_of facts ≡ searches (all_copies t s facts)
+  unfolding copied_of
+  copied_is [] = refl
+  copied_is (Search p a ∷ facts) =
+      by_test (of_path t p || of_path t a)
+      (λ x. rw x (copied_is facts))
+      (λ x.
+      let tail = in_orders (without (of_path t) facts) in
+      rw x
+      (own_app (copied_by t s (Search p a)) (each (copied_by t s) tail)
+      ∙ (ap (λ l. l ++ only_own is_answer (each (copied_by t s) tail)) (pair_own p a)
+      ∙ (ap (λ l. searches (pair_copies t s p a) ++ l) (copied_is facts) ∙ sym (searches_app (pair_copies t s p a) (all_copies t s facts))))))
+  copied_is (Rng p l h ∷ facts) = other_step (Rng p l h) facts (all_copies t s facts) refl (copied_is facts)
+  copied_is (LenRng p l h ∷ facts) = other_step (LenRng p l h) facts (all_copies t s facts) refl (copied_is facts)
+  copied_is (Low p c ∷ facts) = other_step (Low p c) facts (all_copies t s facts) refl (copied_is facts)
+  copied_is (Same a b ∷ facts) = other_step (Same a b) facts (all_copies t s facts) refl (copied_is facts)
+  copied_is (IsLen p a ∷ facts) = other_step (IsLen p a) facts (all_copies t s facts) refl (copied_is facts)
+  copied_is (Less p q c ∷ facts) = other_step (Less p q c) facts (all_copies t s facts) refl (copied_is facts)
+  copied_is (Sum u y z ∷ facts) = other_step (Sum u y z) facts (all_copies t s facts) refl (copied_is facts)
+  copied_is (Neg p a ∷ facts) = other_step (Neg p a) facts (all_copies t s facts) refl (copied_is facts)
+  copied_is (Upper p a o c ∷ facts) = other_step (Upper p a o c) facts (all_copies t s facts) refl (copied_is facts)
+
+  array_copied_free : (f : Fact) → AllFree (after.array_copied_by t s f)
+  array_copied_free (Upper p a o c) = free_if _ (Upper p t o c ∷ []) (one_free _ refl)
+  array_copied_free _ = free_none
+
+  copy_is : (known : List Fact) (ty : Type_) → only_own is_answer (after.copied (in_orders (without (of_path t) known)) ty t s) ≡ searches (if_all (is_int ty) (all_copies t s known))
+  unfolding copied_of
+  copy_is known ty =
+      let beside = in_orders (without (of_path t) known) in
+      own_app (if_so (is_int ty) (after.copied_int beside t s)) (if_so (is_array ty) (after.copied_array beside t s))
+      ∙ (ap (λ l. only_own is_answer (if_so (is_int ty) (after.copied_int beside t s)) ++ l)
+      (none_own (if_so (is_array ty) (after.copied_array beside t s)) (free_if (is_array ty) (after.copied_array beside t s) (free_cons _ _ refl (free_each (after.array_copied_by t s) array_copied_free beside))))
+      ∙ (append-nil (only_own is_answer (if_so (is_int ty) (after.copied_int beside t s)))
+      ∙ by_test (is_int ty) (λ x. rw x (copied_is known)) (λ x. rw x refl)))
+
+  -- the table after a copy
+  pub copy_table : (known : List Fact) (pairs : Pairs) (ty : Type_)
+      → searches (pairs_without (of_path t) pairs ++ if_all (is_int ty) (all_copies t s known)) ≡ system_copy is_answer known (searches pairs) ty t s
+  copy_table known pairs ty =
+      let beside = in_orders (without (of_path t) known) in
+      let new = after.copied beside ty t s in
+      let rest = finished_by ty beside (kept new) t in
+      let made : only_own is_answer (kept new ++ kept rest) ≡ searches (if_all (is_int ty) (all_copies t s known)) =
+      own_app (kept new) (kept rest)
+      ∙ (ap (λ l. only_own is_answer (kept new) ++ l) (none_own (kept rest) (free_kept rest (by_free beside (kept new) t ty)))
+      ∙ (append-nil (only_own is_answer (kept new)) ∙ (own_kept new ∙ copy_is known ty))) in
+      searches_app (pairs_without (of_path t) pairs) (if_all (is_int ty) (all_copies t s known))
+      ∙ (ap (λ l. l ++ searches (if_all (is_int ty) (all_copies t s known))) (searches_without (of_path t) pairs) ∙ ap (λ l. without (of_path t) (searches pairs) ++ l) (sym made))
+
+-- the table after any other operation
+pub other_table : (known : List Fact) (pairs : Pairs) (profile : Profile) (kind : OpKind) → IsCopy kind ≡ false → searches (pairs_without (of_target kind) pairs) ≡ system_after is_answer known (searches pairs) profile kind
+other_table known pairs profile kind other =
+    let beside = beside_target kind known in
+    let new = kept_new beside profile kind in
+    let rest = finished beside new kind in
+    let none : only_own is_answer (new ++ kept rest) ≡ [] =
+    none_own (new ++ kept rest) (free_app new (kept rest) (free_kept (after.new_facts beside profile kind) (new_free beside profile kind other)) (free_kept rest (finished_free beside new kind))) in
+    searches_without (of_target kind) pairs ∙ (sym (append-nil (without (of_target kind) (searches pairs))) ∙ ap (λ l. without (of_target kind) (searches pairs) ++ l) (sym none))
+
+-- rounding keeps answers as they are
+pub rounded_table : (marks : List ℤ) (pairs : Pairs) → searches pairs ≡ system_rounded marks (searches pairs)
+rounded_table marks [] = refl
+rounded_table marks (x ∷ pairs) = ap (λ l. Search x.0 x.1 ∷ l) (rounded_table marks pairs)
+
+pair_own_fact : (f : Fact) → searches (pair_of f) ≡ only_own is_answer (kept (f ∷ []))
+pair_own_fact (Search p a) = refl
+pair_own_fact (Less p q c) = sym (none_own (kept (Less p q c ∷ [])) (free_kept (Less p q c ∷ []) (one_free _ refl)))
+pair_own_fact (Upper p a o c) = sym (none_own (kept (Upper p a o c ∷ [])) (free_kept (Upper p a o c ∷ []) (one_free _ refl)))
+pair_own_fact (Rng p l h) = refl
+pair_own_fact (LenRng p l h) = refl
+pair_own_fact (Low p c) = refl
+pair_own_fact (Same a b) = refl
+pair_own_fact (IsLen p a) = refl
+pair_own_fact (Sum t y z) = refl
+pair_own_fact (Neg p a) = refl
+
+-- a fact that was added
+pub added_table : (pairs : Pairs) (f : Fact) → searches (pairs ++ pair_of f) ≡ system_added is_answer (searches pairs) f
+added_table pairs f = searches_app pairs (pair_of f) ∙ ap (λ l. searches pairs ++ l) (pair_own_fact f)

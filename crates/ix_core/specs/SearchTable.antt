@@ -69,3 +69,12 @@ copies_of t s _ = []
 abbrev pub all_copies : Path → Path → List Fact → Pairs
 all_copies t s [] = []
 all_copies t s (fact ∷ facts) = copies_of t s fact ++ all_copies t s facts
+
+abbrev pub if_all : Bool → Pairs → Pairs
+if_all true pairs = pairs
+if_all false pairs = []
+
+-- the pair of a fact, if it is an answer
+abbrev pub pair_of : Fact → Pairs
+pair_of (Search p a) = (p, a) ∷ []
+pair_of _ = []
