@@ -1,8 +1,8 @@
 -- What the table of the answers of searches says of its facts, and what the rules give of that kind.
-use Rattle.std.specs.Prelude.{◌≡◌, ◌⊎◌, ℕ, Bool, true, false, cond, ◌&&◌, ◌||◌, ℤ, pos, negsuc, ◌+ℤ◌, ◌-ℤ◌, int_le, int_lt, List, [], ◌∷◌, ◌++◌, Option, Some, None, refl}
+use Rattle.std.specs.Prelude.{◌≡◌, ◌⊎◌, ℕ, zero, suc, ◌+◌, slice_get, drop, length, Bool, true, false, cond, ◌&&◌, ◌||◌, ℤ, pos, negsuc, ◌+ℤ◌, ◌-ℤ◌, int_le, int_lt, List, [], ◌∷◌, ◌++◌, Option, Some, None, refl}
 use Rattle.std.specs.Int.{int_min, int_max}
-use Rattle.std.proofs.Common.{arith, inl, inr, sym, ap, ◌∙◌, subst, ⊎_elim}
-use Rattle.std.proofs.lemmas.Bool.{false≢true}
+use Rattle.std.proofs.Common.{arith, add-one, inl, inr, sym, ap, ◌∙◌, subst, ⊎_elim}
+use Rattle.std.proofs.lemmas.Bool.{and_parts, and_from, false≢true}
 use Rattle.std.proofs.lemmas.Int.{ints, clamps}
 use Rattle.std.proofs.lemmas.List.{append_assoc, append-nil}
 use Rattle.ix_num.specs.Ints.{least_int, greatest_int}
@@ -35,11 +35,11 @@ use Rattle.ix_core.specs.AfterOperation.{is_int, is_array, past_first, or_copied
 use Rattle.ix_core.specs.Finish as finish
 use Rattle.ix_core.specs.After.{of_target, finished_by, finished, beside_target, kept_new}
 use Rattle.ix_core.specs.Systems.{Merges, given, weaker, any_int, any_size, met, len_met, turned, sum_turned, upper_turned, IsTable, only_own, system_after, system_copy, system_rounded, system_added}
-use Rattle.ix_core.specs.SearchTable.{Pairs, is_answer, searches, if_pair, pair_copies, copies_of, all_copies, if_all, pair_of, pairs_without}
-use Rattle.ix_core.specs.SearchLaws.{all_answers, in_has}
+use Rattle.ix_core.specs.SearchTable.{Pairs, is_answer, searches, if_pair, pair_copies, copies_of, all_copies, if_all, pair_of, pairs_without, pairs_after, is_pair, has_pair, has_all, HasAll}
+use Rattle.ix_core.specs.SearchLaws.{in_has, pair_refl, has_congr}
 use Rattle.ix_core.proofs.FactLists.{covers_itself, covers_covers, in_in_orders}
 use Rattle.ix_core.proofs.FormLaws.{first_order}
-use Rattle.ix_core.proofs.Tests.{by_test}
+use Rattle.ix_core.proofs.Tests.{by_test, or_else, or_second}
 
 -- ---- tables of answers alone
 
@@ -498,3 +498,60 @@ pair_own_fact (Neg p a) = refl
 -- a fact that was added
 pub added_table : (pairs : Pairs) (f : Fact) → searches (pairs ++ pair_of f) ≡ system_added is_answer (searches pairs) f
 added_table pairs f = searches_app pairs (pair_of f) ∙ ap (λ l. searches pairs ++ l) (pair_own_fact f)
+
+-- ---- one more known fact
+
+drop_at : (facts : List Fact) (k : ℕ) (f : Fact) → slice_get facts k ≡ Some f → drop k facts ≡ f ∷ drop (suc k) facts
+drop_at [] k f e = cc
+drop_at (g ∷ facts) zero f e = let i : g ≡ f = cc in ap (λ y. y ∷ facts) i
+drop_at (g ∷ facts) (suc k) f e = drop_at facts k f e
+
+pub next_copies : (t s : Path) (pairs next whole : Pairs) (known : List Fact) (k : ℕ) (f : Fact) → slice_get known k ≡ Some f → next ≡ pairs ++ copies_of t s f → pairs ++ all_copies t s (drop k known) ≡ whole
+    → next ++ all_copies t s (drop (k + 1) known) ≡ whole
+next_copies t s pairs next whole known k f at made so_far =
+    let here : all_copies t s (drop k known) ≡ copies_of t s f ++ all_copies t s (drop (suc k) known) = ap (all_copies t s) (drop_at known k f at) in
+    rw (add-one, made) (append_assoc pairs (copies_of t s f) (all_copies t s (drop (suc k) known)) ∙ (ap (λ l. pairs ++ l) (sym here) ∙ so_far))
+
+-- ---- the calls of the table
+
+pub after_table : (known : List Fact) (pairs : Pairs) (profile : Profile) (kind : OpKind) → searches (pairs_after kind pairs known) ≡ system_after is_answer known (searches pairs) profile kind
+after_table known pairs profile (op.Copy t s ty) = copy_table (Slot t) (Slot s) known pairs ty
+after_table known pairs profile (op.Const t value) = other_table known pairs profile (op.Const t value) refl
+after_table known pairs profile (op.Num t arith_op y z) = other_table known pairs profile (op.Num t arith_op y z) refl
+after_table known pairs profile (op.Unary t unary y) = other_table known pairs profile (op.Unary t unary y) refl
+after_table known pairs profile (op.Length t a) = other_table known pairs profile (op.Length t a) refl
+after_table known pairs profile (op.NewArray t ty n) = other_table known pairs profile (op.NewArray t ty n) refl
+after_table known pairs profile (op.Fill t ty entries) = other_table known pairs profile (op.Fill t ty entries) refl
+after_table known pairs profile (op.Load t a i ty) = other_table known pairs profile (op.Load t a i ty) refl
+after_table known pairs profile (op.Store a i v ty) = other_table known pairs profile (op.Store a i v ty) refl
+after_table known pairs profile (op.ReadField t o f) = other_table known pairs profile (op.ReadField t o f) refl
+after_table known pairs profile (op.WriteField o f v) = other_table known pairs profile (op.WriteField o f v) refl
+after_table known pairs profile (op.NewObject call) = other_table known pairs profile (op.NewObject call) refl
+after_table known pairs profile (op.StaticCall call) = other_table known pairs profile (op.StaticCall call) refl
+after_table known pairs profile (op.InstanceCall call) = other_table known pairs profile (op.InstanceCall call) refl
+after_table known pairs profile (op.SuperCall call) = other_table known pairs profile (op.SuperCall call) refl
+after_table known pairs profile (op.Print value) = other_table known pairs profile (op.Print value) refl
+
+pub is_table : (facts : List Fact) (pairs items : Pairs) → items ≡ pairs → searches pairs ≡ facts → IsTable facts (searches items)
+is_table facts pairs items e h = table_of facts items (ap searches e ∙ h)
+
+pub all_has : (low_pairs high : Pairs) → has_all low_pairs high ≡ true → HasAll low_pairs high
+all_has low_pairs [] e x h = absurd (false≢true h)
+all_has low_pairs (y ∷ high) e x h =
+    let both = and_parts (has_pair y low_pairs) (has_all low_pairs high) e in
+    by_test (is_pair x y) (λ t. has_congr x y low_pairs t ∙ both.0) (λ t. all_has low_pairs high both.1 x (or_else (is_pair x y) (has_pair x high) h t))
+
+pub has_all_of : (low_pairs high : Pairs) → HasAll low_pairs high → has_all low_pairs high ≡ true
+has_all_of low_pairs [] all = refl
+has_all_of low_pairs (y ∷ high) all =
+    and_from (has_pair y low_pairs) (has_all low_pairs high) (all y (ap (λ t. t || has_pair y high) (pair_refl y)))
+    (has_all_of low_pairs high (λ x h. all x (or_second (is_pair x y) (has_pair x high) h)))
+
+pub searches_length : (pairs : Pairs) → length (searches pairs) ≡ length pairs
+searches_length [] = refl
+searches_length (x ∷ pairs) = ap suc (searches_length pairs)
+
+pub search_at : (pairs : Pairs) (k : ℕ) (x : Path × Path) → slice_get pairs k ≡ Some x → slice_get (searches pairs) k ≡ Some (Search x.0 x.1)
+search_at [] k x e = absurd cc
+search_at (y ∷ pairs) zero x e = let i : y ≡ x = cc in ap (λ z. Some (Search z.0 z.1)) i
+search_at (y ∷ pairs) (suc k) x e = search_at pairs k x e

@@ -93,7 +93,7 @@ pairs_laws = record {
 
 -- ---- the join
 
-has_congr : (x y : Path × Path) (pairs : Pairs) → is_pair x y ≡ true → has_pair x pairs ≡ has_pair y pairs
+pub has_congr : (x y : Path × Path) (pairs : Pairs) → is_pair x y ≡ true → has_pair x pairs ≡ has_pair y pairs
 has_congr x y [] e = refl
 has_congr x y (z ∷ pairs) e = let a = pair_congr x y z e in let b = has_congr x y pairs e in cc
 

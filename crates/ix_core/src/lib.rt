@@ -18,6 +18,7 @@ mod laws;
 mod op;
 mod outcome;
 mod program;
+mod search_table;
 mod system;
 
 pub use claim::{Base, Claim, Name, Off, Type_};
@@ -33,4 +34,5 @@ pub use laws::{
 pub use op::{Arg, CallOp, Literal, Op, OpKind, Test, UnaryNum};
 pub use outcome::{Outcome, Value};
 pub use program::{Class, Field, Local, Method, Program};
+pub use search_table::SearchTable;
 pub use system::System;

@@ -1,0 +1,18 @@
+use Rattle.std.proofs.Common.{◌≡◌, ◌++◌, ap, ◌∙◌}
+use Rattle.ix_core.specs.Forget.{of_path}
+use Rattle.ix_core.specs.AfterOperation.{is_int}
+use Rattle.ix_core.specs.SearchTable.{pairs_without, if_all, all_copies}
+use Rattle.ix_core.proofs.SearchTables.{is_table, copy_table}
+use Rattle.ix_core.proofs.search_table.SearchTableSystem.copy.Goals as goal
+
+pub returns : goal.returns
+returns g c =
+    let e = c.deref.ensures.value in
+    let v = c.self.view_is in
+    let same : c.deref.result.now ≡ c.args.self.now = cc in
+    record { facts = 
+        let t = c.args.target.now in
+        let s = c.args.source.now in
+        let known = g.K.Know.known c.args.know.now in
+        is_table _ (pairs_without (of_path t) c.args.self.now ++ if_all (is_int c.args.ty.now) (all_copies t s known)) c.in_ok-pairs.pairs.items
+        (c.in_ok-pairs.ensures ∙ ap (λ l. pairs_without (of_path t) l ++ if_all (is_int c.args.ty.now) (all_copies t s known)) same) (copy_table t s known c.args.self.now c.args.ty.now) }
