@@ -34,3 +34,4 @@ pub mod BoundSteps
 pub mod MachineStates
 pub mod MachineTests
 pub mod SearchTables
+pub mod KnownFacts

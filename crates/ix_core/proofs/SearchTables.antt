@@ -39,6 +39,7 @@ use Rattle.ix_core.specs.SearchTable.{Pairs, is_answer, searches, if_pair, pair_
 use Rattle.ix_core.specs.SearchLaws.{in_has, pair_refl, has_congr}
 use Rattle.ix_core.proofs.FactLists.{covers_itself, covers_covers, in_in_orders}
 use Rattle.ix_core.proofs.FormLaws.{first_order}
+use Rattle.ix_core.proofs.KnownFacts.{drop_at}
 use Rattle.ix_core.proofs.Tests.{by_test, or_else, or_second}
 
 -- ---- tables of answers alone
@@ -500,11 +501,6 @@ pub added_table : (pairs : Pairs) (f : Fact) → searches (pairs ++ pair_of f) �
 added_table pairs f = searches_app pairs (pair_of f) ∙ ap (λ l. searches pairs ++ l) (pair_own_fact f)
 
 -- ---- one more known fact
-
-drop_at : (facts : List Fact) (k : ℕ) (f : Fact) → slice_get facts k ≡ Some f → drop k facts ≡ f ∷ drop (suc k) facts
-drop_at [] k f e = cc
-drop_at (g ∷ facts) zero f e = let i : g ≡ f = cc in ap (λ y. y ∷ facts) i
-drop_at (g ∷ facts) (suc k) f e = drop_at facts k f e
 
 pub next_copies : (t s : Path) (pairs next whole : Pairs) (known : List Fact) (k : ℕ) (f : Fact) → slice_get known k ≡ Some f → next ≡ pairs ++ copies_of t s f → pairs ++ all_copies t s (drop k known) ≡ whole
     → next ++ all_copies t s (drop (k + 1) known) ≡ whole

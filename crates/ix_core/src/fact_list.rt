@@ -1,15 +1,19 @@
 //! A plain list of facts as what is known.
 
-ghost use Rattle.std.specs.Prelude.{◌≡◌, ◌≤ℤ◌, All, List, ◌∷◌, ◌++◌, IfOk, OnOk, option_to_list};
+ghost use Rattle.std.specs.Prelude.{◌≡◌, All, List, [], ◌∷◌, ◌++◌, IfOk, OnOk, option_to_list};
 ghost use Rattle.ix_core.specs.declared.fact.Fact.{Fact};
 ghost use Rattle.ix_core.specs.Facts.{orders, in_orders};
 ghost use Rattle.ix_core.specs.Assume.{has, is_length, is_search, is_negative};
+ghost use Rattle.ix_core.specs.Forget.{of_path, without};
+ghost use Rattle.ix_core.specs.After.{of_target};
 ghost use Rattle.ix_core.specs.Small.{HasSmallEnds};
 
 use crate::bounds;
 use crate::bounds::is_same_path;
 use crate::fact::{Fact, Path, PathOff};
+use crate::forget::{names_path, names_target};
 use crate::know::Know;
+use crate::op::OpKind;
 use std::alloc::{AllocError, Global};
 use std::marker::Model;
 
@@ -27,7 +31,7 @@ impl Model for FactList {
 
     ghost view = { λ list. list.facts.items };
 
-    ghost invariant = { λ list. (list.ordered.items ≡ in_orders list.facts.items) × All HasSmallEnds list.ordered.items };
+    ghost invariant = { λ list. (list.ordered.items ≡ in_orders list.facts.items) × (All HasSmallEnds list.ordered.items × All HasSmallEnds list.facts.items) };
 }
 
 /// The fact in its other order, if it has one.
@@ -62,6 +66,62 @@ fn in_all_orders(alloc: Global, facts: &[Fact]) -> Result<Vec<Fact>, AllocError>
     Ok(ordered)
 }
 
+fn push_beside_target(
+    facts: &mut Vec<Fact>,
+    kind: &OpKind,
+    fact: &Fact,
+) -> Result<(), AllocError>
+    ensures { OnOk result (facts.new.items ≡ facts.old.items ++ without (of_target kind.now) (fact.now ∷ [])) }
+{
+    if !names_target(kind, fact) {
+        facts.push(*fact)?;
+    }
+    Ok(())
+}
+
+fn push_beside_path(
+    facts: &mut Vec<Fact>,
+    path: &Path,
+    fact: &Fact,
+) -> Result<(), AllocError>
+    ensures { OnOk result (facts.new.items ≡ facts.old.items ++ without (of_path path.now) (fact.now ∷ [])) }
+{
+    if !names_path(path, fact) {
+        facts.push(*fact)?;
+    }
+    Ok(())
+}
+
+fn facts_beside_target<K: Know>(
+    alloc: Global,
+    know: &K,
+    kind: &OpKind,
+) -> Result<Vec<Fact>, AllocError>
+    ensures facts { IfOk result (λ facts. facts.items ≡ without (of_target kind.now) (K.known know.now)) }
+    ensures small { IfOk result (λ facts. All HasSmallEnds facts.items) }
+{
+    let mut facts = Vec::new(alloc);
+    for k in 0..know.facts() {
+        push_beside_target(&mut facts, kind, &know.fact(k))?;
+    }
+    Ok(facts)
+}
+
+fn facts_beside_path<K: Know>(
+    alloc: Global,
+    know: &K,
+    path: &Path,
+) -> Result<Vec<Fact>, AllocError>
+    ensures facts { IfOk result (λ facts. facts.items ≡ without (of_path path.now) (K.known know.now)) }
+    ensures small { IfOk result (λ facts. All HasSmallEnds facts.items) }
+{
+    let mut facts = Vec::new(alloc);
+    for k in 0..know.facts() {
+        push_beside_path(&mut facts, path, &know.fact(k))?;
+    }
+    Ok(facts)
+}
+
 impl FactList {
     /// The facts, where the ends of ranges lie between -2^36 and 2^36, or want of memory.
     pub fn new(alloc: Global, facts: Vec<Fact>) -> Result<Self, AllocError>
@@ -70,6 +130,20 @@ impl FactList {
     {
         let ordered = in_all_orders(alloc, &facts)?;
         Ok(FactList { facts, ordered })
+    }
+
+    /// What is known beside the target of an operation: what the rules read.
+    pub fn beside_target<K: Know>(alloc: Global, know: &K, kind: &OpKind) -> Result<Self, AllocError>
+        ensures facts { IfOk result (λ list. list ≡ without (of_target kind.now) (K.known know.now)) }
+    {
+        FactList::new(alloc, facts_beside_target(alloc, know, kind)?)
+    }
+
+    /// What is known beside a path, and fields of the object in it: what the rules of a copy to it read.
+    pub fn beside_path<K: Know>(alloc: Global, know: &K, path: &Path) -> Result<Self, AllocError>
+        ensures facts { IfOk result (λ list. list ≡ without (of_path path.now) (K.known know.now)) }
+    {
+        FactList::new(alloc, facts_beside_path(alloc, know, path)?)
     }
 }
 

@@ -11,6 +11,7 @@ mod claim;
 mod code;
 mod error;
 mod fact_list;
+mod forget;
 mod fact;
 mod know;
 mod landmarks;

@@ -10,6 +10,7 @@ ghost use Rattle.ix_core.specs.SearchTable.{searches, is_pair, has_pair, has_all
 use crate::bounds::is_same_path;
 use crate::claim::{Base, Type_};
 use crate::fact::{Fact, Path, Profile};
+use crate::forget::{is_of_path, is_of_target};
 use crate::know::Know;
 use crate::landmarks::Landmarks;
 use crate::op::{Op, OpKind};
@@ -83,37 +84,6 @@ fn in_both(
         }
     }
     Ok(kept)
-}
-
-/// Whether the second path is the first, or a field of the object in it.
-fn is_of_path(path: &Path, p: &Path) -> bool
-    ensures { result ≡ of_path path.now p.now }
-{
-    match (*path, *p) {
-        (Path::Slot(t), Path::Slot(s)) => s == t,
-        (Path::Slot(t), Path::FieldOf(s, _)) => s == t,
-        (Path::FieldOf(_, _), Path::Slot(_)) => false,
-        (Path::FieldOf(t, g), Path::FieldOf(s, f)) => s == t && f == g,
-    }
-}
-
-/// Whether an operation may change the path.
-fn is_of_target(kind: &OpKind, p: &Path) -> bool
-    ensures { result ≡ of_target kind.now p.now }
-{
-    match kind {
-        OpKind::Const(t, _) => is_of_path(&Path::Slot(*t), p),
-        OpKind::Copy(t, _, _) => is_of_path(&Path::Slot(*t), p),
-        OpKind::Num(t, _, _, _) => is_of_path(&Path::Slot(*t), p),
-        OpKind::Unary(t, _, _) => is_of_path(&Path::Slot(*t), p),
-        OpKind::Length(t, _) => is_of_path(&Path::Slot(*t), p),
-        OpKind::NewArray(t, _, _) => is_of_path(&Path::Slot(*t), p),
-        OpKind::Fill(t, _, _) => is_of_path(&Path::Slot(*t), p),
-        OpKind::Load(t, _, _, _) => is_of_path(&Path::Slot(*t), p),
-        OpKind::Store(_, _, _, _) => false,
-        OpKind::Print(_) => false,
-        _ => true,
-    }
 }
 
 fn names_path(path: &Path, pair: &(Path, Path)) -> bool

@@ -14,5 +14,6 @@ returns g c =
         let t = c.args.target.now in
         let s = c.args.source.now in
         let known = g.K.Know.known c.args.know.now in
+        let now : c.in_ok-pairs.pairs.items ≡ pairs_without (of_path t) c.deref.result.now ++ if_all (is_int c.args.ty.now) (all_copies t s known) = c.in_ok-pairs.ensures in
         is_table _ (pairs_without (of_path t) c.args.self.now ++ if_all (is_int c.args.ty.now) (all_copies t s known)) c.in_ok-pairs.pairs.items
-        (c.in_ok-pairs.ensures ∙ ap (λ l. pairs_without (of_path t) l ++ if_all (is_int c.args.ty.now) (all_copies t s known)) same) (copy_table t s known c.args.self.now c.args.ty.now) }
+        (now ∙ ap (λ l. pairs_without (of_path t) l ++ if_all (is_int c.args.ty.now) (all_copies t s known)) same) (copy_table t s known c.args.self.now c.args.ty.now) }
