@@ -25,8 +25,8 @@ use Rattle.ix_core.specs.Heap.{Held, Num, Truth, Null, At, Thing, Heap, Kind, Ob
 use Rattle.ix_core.specs.Machine.{Limits, Outside, NullUsed, HeapFull, Done, Did, Wrapped, Printed, Stopped, set_slot, through, within, with_field, is_int, kept, computed, unary_of, new_array, filled, operate}
 use Rattle.ix_core.specs.World.{World}
 use Rattle.ix_core.specs.Claims.{AreTrue}
-use Rattle.ix_core.specs.Objects.{IsFree, HeapKeeps, FrameKeeps, IsOwn, kind_claims, MeetsElement}
-use Rattle.ix_core.specs.Numbers.{HasInts, field_of, held_at, size_of}
+use Rattle.ix_core.specs.Objects.{IsFree, HeapKeeps, FrameKeeps, kind_claims, MeetsElement}
+use Rattle.ix_core.specs.Numbers.{HasInts, field_of, held_at}
 use Rattle.ix_core.specs.MachineSteps.{IsOn, AllOn, IsIntHeld, KeepsInts, IntsOnly, LoadsMet, IsNumber, HoldsElements}
 use Rattle.ix_core.proofs.MachineSteps.{value_is, int_is, value_set, value_other, equal, differ, grown_old, grown_new, thing_set, thing_other}
 use Rattle.ix_core.proofs.Tests.{by_test}

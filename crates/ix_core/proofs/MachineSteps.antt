@@ -1,6 +1,6 @@
 -- What an operation of the machine does to the numbers of paths.
 use Rattle.std.specs.Prelude.{◌≡◌, ◌≢◌, ℕ, ◌+◌, ◌<◌, ◌≤◌, ◌==◌, nat_lt, ℤ, pos, negsuc, int_le, unsigned_abs, Bool, true, false, if◌then◌else◌, ◌&&◌, List, [], ◌∷◌, ◌++◌, length, map, replicate, slice_get, slice_set, Option, Some, None, refl}
-use Rattle.std.proofs.Common.{arith, get_or, sym, ap, ◌∙◌, subst, ⊎_elim}
+use Rattle.std.proofs.Common.{arith, get_or, sym, ap, ◌∙◌, subst}
 use Rattle.std.proofs.lemmas.Bool.{and_parts, false≢true}
 use Rattle.std.proofs.lemmas.Bool.Decides.{nat_tests}
 use Rattle.std.proofs.lemmas.Int.{ints}
@@ -22,10 +22,10 @@ use Rattle.ix_core.specs.declared.op.UnaryNum.{UnaryNum}
 use Rattle.ix_core.specs.declared.op.OpKind.{OpKind}
 use Rattle.ix_core.specs.declared.op.OpKind.TheVariants as op
 use Rattle.ix_core.specs.Heap.{Held, Num, Truth, Null, At, Thing, Heap, Kind, ObjectOf, ArrayOf, nothing, value_at, thing_at, array_at, fields_at, array_cells, object_cells, number_of, cell_default, cells_used, is_within, with_cells, write_at}
-use Rattle.ix_core.specs.Machine.{Limits, Ending, Done, Did, Wrapped, Printed, Stopped, set_slot, through, within, with_field, is_int, kept, computed, unary_of, new_array, filled, literal_value, operate}
+use Rattle.ix_core.specs.Machine.{Limits, Ending, Done, Did, Wrapped, Stopped, set_slot, through, within, is_int, computed, unary_of, new_array, operate}
 use Rattle.ix_core.specs.World.{World}
 use Rattle.ix_core.specs.Numbers.{Numbers, HasInts, field_of, held_at, size_of, numbers_of}
-use Rattle.ix_core.specs.Forget.{of_slot, SameBut}
+use Rattle.ix_core.specs.Forget.{of_slot}
 use Rattle.ix_core.specs.AfterOperation.{Computed, Results, loaded_claims}
 use Rattle.ix_core.specs.Claims.{AreTrue}
 use Rattle.ix_core.specs.After.{of_target, Step}

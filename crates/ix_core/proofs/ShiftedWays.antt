@@ -1,9 +1,8 @@
 -- `shifted_upper` goes over facts; it is the best of what goes over paths: the stored bound, that of each int q that p is below, and those at each
 -- offset that is greater.
-use Rattle.std.specs.Prelude.{◌≡◌, Bool, true, false, ◌&&◌, ◌||◌, ℤ, pos, negsuc, ◌+ℤ◌, ◌-ℤ◌, ◌≤ℤ◌, List, [], ◌∷◌, Option, Some, None, refl}
-use Rattle.std.specs.Option.{option_map}
+use Rattle.std.specs.Prelude.{◌≡◌, Bool, true, false, ◌&&◌, ℤ, pos, negsuc, ◌+ℤ◌, ◌-ℤ◌, ◌≤ℤ◌, List, [], ◌∷◌, Option, Some, None, refl}
 use Rattle.std.specs.Int.{int_max}
-use Rattle.std.proofs.Common.{arith, ◌==◌, ◌⊎◌, inl, inr, sym, ap, ◌∙◌, subst, ⊎_elim}
+use Rattle.std.proofs.Common.{arith, ◌==◌, ◌⊎◌, inl, inr, sym, ap, subst, ⊎_elim}
 use Rattle.std.proofs.lemmas.Bool.{and_parts, and_from, false≢true}
 use Rattle.std.proofs.lemmas.Bool.Decides.{nat_tests}
 use Rattle.std.proofs.lemmas.Int.{ints, clamps, by_lt_z}
@@ -17,7 +16,7 @@ use Rattle.ix_core.specs.Facts.{IsIn}
 use Rattle.ix_core.specs.Bounds
 use Rattle.ix_core.specs.Bounds.{is_path, is_offset, when, best, best_of, greatest}
 use Rattle.ix_core.specs.Laws.{Way, itself, greater, plus, minus}
-use Rattle.ix_core.proofs.Tests.{path_true, offset_true, by_test}
+use Rattle.ix_core.proofs.Tests.{path_true}
 use Rattle.ix_core.proofs.Worse.{Up, up_laws, Worse, worse_left, worse_right, worse_in}
 
 path_itself : (p : Path) → is_path p p ≡ true

@@ -21,7 +21,7 @@ use Rattle.ix_core.specs.declared.op.OpKind.{OpKind}
 use Rattle.ix_core.specs.declared.op.OpKind.TheVariants as op
 use Rattle.ix_core.specs.declared.program.Method.{Method}
 use Rattle.ix_core.specs.Claims.{AreTrue}
-use Rattle.ix_core.specs.Heap.{Held, Num, Truth, Null, At, Heap, value_at, thing_at, array_at, number_of, is_within}
+use Rattle.ix_core.specs.Heap.{Held, Num, Null, At, Heap, value_at, thing_at, array_at, number_of, is_within}
 use Rattle.ix_core.specs.Objects.{param_slot, kind_claims}
 use Rattle.ix_core.specs.AfterOperation.{loaded_claims}
 
