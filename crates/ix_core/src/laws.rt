@@ -1,7 +1,7 @@
 //! The laws of facts and rules, as contracts of functions that do nothing: sound, that what is derived is true wherever the facts are; and
 //! monotone, that stronger facts derive no less.
 
-ghost use Rattle.std.specs.Prelude.{◌≡◌, Bool, true, false, ℕ, ℤ, ◌≤ℤ◌, List, Some};
+ghost use Rattle.std.specs.Prelude.{◌≡◌, Bool, true, false, ℕ, ℤ, ◌≤ℤ◌, List, Some, None};
 ghost use Rattle.ix_num.specs.Comparisons.{Compares};
 ghost use Rattle.ix_num.specs.declared.rel.Rel.{Rel};
 ghost use Rattle.ix_core.specs.declared.claim.Claim.{Claim};
@@ -15,16 +15,19 @@ ghost use Rattle.ix_core.specs.declared.fact.PathClaim.{PathClaim};
 ghost use Rattle.ix_core.specs.declared.fact.Fact.{Fact};
 ghost use Rattle.ix_core.specs.declared.fact.Profile.{Profile};
 ghost use Rattle.ix_core.specs.declared.fact.Profile.TheVariants.{Int32};
+ghost use Rattle.ix_core.specs.declared.op.Op.{Op};
 ghost use Rattle.ix_core.specs.declared.op.OpKind.{OpKind};
 ghost use Rattle.ix_core.specs.declared.op.OpKind.TheVariants.{Load, Print};
 ghost use Rattle.ix_core.specs.declared.program.Method.{Method};
 ghost use Rattle.ix_core.specs.Claims.{True};
 ghost use Rattle.ix_core.specs.Heap.{Held, At, Heap, value_at};
 ghost use Rattle.ix_core.specs.World.{World};
-ghost use Rattle.ix_core.specs.Machine.{Limits, Did, Wrapped, operate, test_of};
+ghost use Rattle.ix_core.specs.Machine.{Limits, Did, Wrapped, operate, test_of, State, done_then, moved, step};
+ghost use Rattle.ix_core.specs.Code.{Code, Operate};
+ghost use Rattle.ix_core.specs.Tasks.{Tasks, Run, code_then};
 ghost use Rattle.ix_core.specs.Objects.{HeapKeeps, FrameKeeps, field_numbers};
 ghost use Rattle.ix_core.specs.Waits.{param_numbers};
-ghost use Rattle.ix_core.specs.MachineSteps.{HasTarget, LoadsMet, HoldsElements, AllOn, KeepsInts, IntsOnly, FitsType, FitsClaim, on_paths, own_path, IsDeclared};
+ghost use Rattle.ix_core.specs.MachineSteps.{HasTarget, LoadsMet, HoldsElements, AllOn, KeepsInts, IntsOnly, FitsType, FitsClaim, on_paths, own_path, IsDeclared, IsNoCall};
 ghost use Rattle.ix_core.specs.Numbers.{Numbers, HasInts, held_at, numbers_of};
 ghost use Rattle.ix_core.specs.Facts.{Holds, AllHold, IsIn, Covers, Stronger, in_orders};
 ghost use Rattle.ix_core.specs.Forget.{of_path, without, SameBut};
@@ -118,10 +121,11 @@ pub fn system_laws()
     ensures add_monotone { (own : Fact → Bool) → IsByKey own → (table other : List Fact) (strong weak : Fact) → Stronger table other → Covers strong weak → Stronger (system_added own table strong) (system_added own other weak) }
 {}
 
-/// The machine and the rules: each operation of the machine that goes on is a step between the numbers of paths that the rules speak of. Its premises
+/// The machine and the rules: a step of a state whose next task is an operation does it (`does`), and each operation that goes on is a step between the numbers of paths that the rules speak of. Its premises
 /// are what the machine keeps (`ints`, `numbers`, `references`), what a formed program has (its slots lie in the frame, its literals are ints), and, of
 /// a `Load`, what the heap keeps where types are right (`loads`).
 pub fn machine_laws()
+    ensures does { (limits : Limits) (world : World) (state : State) (done : Op) (code : Code) (tasks : Tasks) → IsNoCall done.kind → state.ended ≡ None → state.now.tasks ≡ Run (Operate done code) tasks → step limits world state ≡ moved limits world (done_then (operate limits world done.kind done.span.from state.now.slots state.heap) (code_then code tasks)) state }
     ensures steps { (profile : Profile) (limits : Limits) (world : World) (at : ℕ) (slots : List Held) (heap : Heap) (later : List Held) (after : Heap) (before : HasInts world.place slots heap) (behind : HasInts world.place later after) (kind : OpKind) → HasTarget kind slots → LoadsMet kind slots heap → AllOn slots heap → operate limits world kind at slots heap ≡ Did later after → Step profile kind (numbers_of world.place slots heap before) (numbers_of world.place later after behind) }
     ensures wrapped { (limits : Limits) (world : World) (at : ℕ) (slots : List Held) (heap : Heap) (later : List Held) (after : Heap) (before : HasInts world.place slots heap) (behind : HasInts world.place later after) (kind : OpKind) → HasTarget kind slots → operate limits world kind at slots heap ≡ Wrapped later after → Step Int32 kind (numbers_of world.place slots heap before) (numbers_of world.place later after behind) }
     ensures facts { (profile : Profile) (limits : Limits) (world : World) (at : ℕ) (slots : List Held) (heap : Heap) (later : List Held) (after : Heap) (before : HasInts world.place slots heap) (behind : HasInts world.place later after) (kind : OpKind) (facts : List Fact) → HasTarget kind slots → LoadsMet kind slots heap → AllOn slots heap → TargetApart kind → operate limits world kind at slots heap ≡ Did later after → AllHold facts (numbers_of world.place slots heap before) → AllHold (after_facts facts profile kind) (numbers_of world.place later after behind) }

@@ -3,7 +3,7 @@ use Rattle.ix_core.proofs.laws.machine_laws.Goals as goal
 use Rattle.ix_core.specs.declared.fact.Profile.TheVariants.{Int32}
 use Rattle.ix_core.specs.Numbers.{numbers_of}
 use Rattle.ix_core.proofs.AfterLaws.{after_hold}
-use Rattle.ix_core.proofs.MachineSteps.{did_step, wrapped_step, printed_stays}
+use Rattle.ix_core.proofs.MachineSteps.{did_step, wrapped_step, printed_stays, state_does}
 use Rattle.ix_core.proofs.MachineStates.{did_keeps, wrapped_keeps, has_ints, all_on, loads_met}
 
 pub returns-clause-steps : goal.returns-clause-steps
@@ -39,3 +39,6 @@ pub returns-clause-wrapped_facts : goal.returns-clause-wrapped_facts
 returns-clause-wrapped_facts c = λ limits world at slots heap later after before behind kind facts target apart did holds.
     after_hold Int32 kind facts (numbers_of world.place slots heap before) (numbers_of world.place later after behind) apart
     (wrapped_step limits world at slots heap later after before behind kind target did) holds
+
+pub returns-clause-does : goal.returns-clause-does
+returns-clause-does c = state_does
