@@ -35,3 +35,4 @@ pub mod MachineStates
 pub mod MachineTests
 pub mod SearchTables
 pub mod KnownFacts
+pub mod LengthLaws

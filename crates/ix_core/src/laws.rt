@@ -39,7 +39,7 @@ ghost use Rattle.ix_core.specs.After.{of_target, Step, TargetApart, beside_targe
 ghost use Rattle.ix_core.specs.AfterTest.{Outcome, IsSo, AllSo, int_outcomes, opposite, outcome_facts, when_true, when_false};
 ghost use Rattle.ix_core.specs.Assume.{ClaimHolds, claim_facts, proves};
 ghost use Rattle.ix_core.specs.Round.{rounded};
-ghost use Rattle.ix_core.specs.Laws.{BoundsHold, BoundsNoWeaker, Alike, SameBounds, AsStrong, ClosedAsItStands, Way};
+ghost use Rattle.ix_core.specs.Laws.{BoundsHold, BoundsNoWeaker, Alike, SameBounds, AsStrong, ClosedAsItStands, Way, with_lengths};
 
 /// The derived bounds.
 pub fn bounds_laws()
@@ -47,13 +47,15 @@ pub fn bounds_laws()
     ensures monotone { (strong weak : List Fact) → Stronger strong weak → BoundsNoWeaker (in_orders strong) (in_orders weak) }
 {}
 
-/// The forms in which bounds and rules are written. Of facts that are closed as they stand, to read each in all its orders gives nothing more. The
-/// shifted bound, which goes over facts, is the greatest of its ways, which go over all ints and offsets.
+/// The forms in which bounds and rules are written. Of facts that are closed as they stand, to read each in all its orders gives nothing more, and no
+/// bound is better where a length of an array is read as a bound from its end as well. The shifted bound, which goes over facts, is the greatest of its
+/// ways, which go over all ints and offsets.
 pub fn form_laws()
     ensures bounds { (facts : List Fact) → ClosedAsItStands facts → SameBounds (in_orders facts) facts }
     ensures operations { (facts : List Fact) (profile : Profile) (kind : OpKind) → ClosedAsItStands facts → HasExact (in_orders facts) kind → AsStrong (new_facts (in_orders facts) profile kind) (new_facts facts profile kind) }
     ensures tests { (facts : List Fact) (outcome : Outcome) → ClosedAsItStands facts → AsStrong (outcome_facts (in_orders facts) outcome) (outcome_facts facts outcome) }
     ensures claims { (facts : List Fact) (claim : PathClaim) (p : Path) → ClosedAsItStands facts → proves (in_orders facts) claim p ≡ proves facts claim p }
+    ensures lengths { (facts : List Fact) → ClosedAsItStands facts → SameBounds (with_lengths facts) facts }
     ensures ways { (facts : List Fact) (p a : Path) (o : PathOff) (n : ℤ) → Way facts p a o n → (m : ℤ) × (shifted_upper facts p a o ≡ Some m) × (n ≤ℤ m) }
     ensures no_other { (facts : List Fact) (p a : Path) (o : PathOff) (n : ℤ) → shifted_upper facts p a o ≡ Some n → Way facts p a o n }
 {}
