@@ -27,3 +27,12 @@ pub mod BoundLaws
 pub mod SystemLaws
 pub mod Samples
 pub mod ShiftedWays
+pub mod FormLaws
+pub mod RunningBest
+pub mod MachineSteps
+pub mod BoundSteps
+pub mod MachineStates
+pub mod MachineTests
+pub mod SearchTables
+pub mod KnownFacts
+pub mod LengthLaws

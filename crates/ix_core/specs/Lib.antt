@@ -23,3 +23,7 @@ pub mod Round
 pub mod Laws
 pub mod Systems
 pub mod MethodLandmarks
+pub mod Small
+pub mod MachineSteps
+pub mod SearchTable
+pub mod SearchLaws
