@@ -1,10 +1,14 @@
 //! The tokens that are still to be read, and the rules for single tokens.
-ghost use Rattle.std.specs.Prelude.{◌≡◌, ◌≢◌, ◌<◌, length, OnOk};
+ghost use Rattle.std.specs.Prelude.{◌≡◌, ◌≢◌, ◌<◌, ◌≤◌, ◌-◌, length, OnOk, IfOk, IfSome, MatchResult};
+ghost use Rattle.ix_parser.specs.declared.error.Stop.TheVariants.{Memory};
 ghost use Rattle.ix_parser.specs.Descent as spec;
 ghost use Rattle.ix_parser.specs.Nodes as nodes;
 ghost use Rattle.ix_parser.specs.Descent.{Reads};
+ghost use Rattle.ix_parser.specs.Rule.{look, rest};
+ghost use Rattle.ix_parser.specs.Patterns.{a_sign, a_name, a_number, a_least, a_text};
 
 use crate::error::Stop;
+use crate::found::At;
 use ix_lexer::{Token, TokenKind};
 use ix_text::{List, Span, Text};
 use ix_tree::{AnnotArg, AnnotValue, Ident};
@@ -111,6 +115,104 @@ impl<'a> Cursor<'a> {
                 }
                 _ => Err(Stop::Syntax),
             },
+        }
+    }
+}
+
+/// What is wanted at the next token, where it is there.
+impl<'a> Cursor<'a> {
+    /// The place of a keyword or a sign.
+    pub(crate) fn sign(&self, number: u8) -> Option<Span>
+        ensures found { result ≡ look (a_sign number) self.now }
+        ensures there { IfSome result (λ _. 0 < length self.now) }
+    {
+        match self.rest {
+            [] => None,
+            [token, ..] => match token.kind {
+                TokenKind::Fixed(found) if found == number => Some(token.span),
+                _ => None,
+            },
+        }
+    }
+
+    /// An identifier.
+    pub(crate) fn name(&self, alloc: Global) -> Result<Option<Ident>, Stop>
+        ensures found { MatchResult result (λ found. found ≡ look a_name self.now) (λ stop. stop ≡ Memory) }
+        ensures there { IfOk result (λ found. IfSome found (λ _. 0 < length self.now)) }
+    {
+        match self.rest {
+            [] => Ok(None),
+            [token, ..] => match &token.kind {
+                TokenKind::Ident(found) => {
+                    let text = Text::from_str(alloc, found.as_str())?;
+                    Ok(Some(Ident {
+                        text,
+                        span: token.span,
+                    }))
+                }
+                _ => Ok(None),
+            },
+        }
+    }
+
+    /// An int literal.
+    pub(crate) fn number(&self) -> Option<At<i32>>
+        ensures found { result ≡ look a_number self.now }
+        ensures there { IfSome result (λ _. 0 < length self.now) }
+    {
+        match self.rest {
+            [] => None,
+            [token, ..] => match token.kind {
+                TokenKind::Int(value) => Some(At {
+                    value,
+                    span: token.span,
+                }),
+                _ => None,
+            },
+        }
+    }
+
+    /// The place of the literal 2147483648.
+    pub(crate) fn least(&self) -> Option<Span>
+        ensures found { result ≡ look a_least self.now }
+        ensures there { IfSome result (λ _. 0 < length self.now) }
+    {
+        match self.rest {
+            [] => None,
+            [token, ..] => match token.kind {
+                TokenKind::MinLit => Some(token.span),
+                _ => None,
+            },
+        }
+    }
+
+    /// A string.
+    pub(crate) fn text(&self, alloc: Global) -> Result<Option<At<Text>>, Stop>
+        ensures found { MatchResult result (λ found. found ≡ look a_text self.now) (λ stop. stop ≡ Memory) }
+        ensures there { IfOk result (λ found. IfSome found (λ _. 0 < length self.now)) }
+    {
+        match self.rest {
+            [] => Ok(None),
+            [token, ..] => match &token.kind {
+                TokenKind::Str(text) => {
+                    let text = Text::from_str(alloc, text.as_str())?;
+                    Ok(Some(At {
+                        value: text,
+                        span: token.span,
+                    }))
+                }
+                _ => Ok(None),
+            },
+        }
+    }
+
+    /// Goes on to the token behind the next one.
+    pub(crate) fn advance(&mut self)
+        ensures rest { self.new ≡ rest self.old }
+        ensures one_less { length self.new ≡ length self.old - 1 }
+    {
+        if let [_, later @ ..] = self.rest {
+            self.rest = later;
         }
     }
 }

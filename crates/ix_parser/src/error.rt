@@ -12,10 +12,12 @@ pub enum ParseError {
     Memory,
 }
 
-/// Why a rule read no node: the next token doesn't go on with the rule, or want of memory.
+/// Why a rule read no node: the next token doesn't go on with the rule, what it begins is higher than the height that is left, or want of
+/// memory.
 #[derive(Clone, Copy, Debug, PartialEq, Eq)]
 pub(crate) enum Stop {
     Syntax,
+    TooDeep,
     Memory,
 }
 

@@ -1,15 +1,23 @@
 //! From tokens to the tree.
 //!
 //! What goes in: the tokens of a text. What comes out: the one tree that the grammar gives them, or the token at which reading stopped.
-//! The contract: `Derives` of `specs/Grammar.antt`, one case per alternative of the grammar.
+//! The contract: `Derives` of `specs/Grammar.antt`, one case per alternative of the grammar, for the form of sources that `parse` reads.
+//! The whole grammar stands beside it, as a relation (`specs/SourceGrammar.antt` and what it names) and as rules, with `source_laws`; code for
+//! it, to which `parse` goes over, comes next (docs/GRAMMAR.md).
 //! It stands on the tokens of `ix_lexer` and the types of `ix_tree`.
 //! It never looks at the text, and never at what a name means.
 #![tactic(auto)]
 
+mod annotations;
+mod classes;
 mod cursor;
+mod declarations;
 mod error;
+mod found;
+mod laws;
 mod members;
 mod parse_tree;
+mod statement_trees;
 mod statements;
 mod types;
 

@@ -24,6 +24,7 @@ pub fn parse(alloc: Global, tokens: &[Token], _end: u32) -> Result<Unit, ParseEr
     match classes(alloc, &mut cursor) {
         Err(Stop::Memory) => Err(ParseError::Memory),
         Err(Stop::Syntax) => Err(stopped(tokens, &cursor)),
+        Err(Stop::TooDeep) => Err(stopped(tokens, &cursor)),
         Ok(classes) => {
             if cursor.left() == 0 {
                 Ok(Unit { classes })

@@ -10,6 +10,9 @@ unit_of classes = record { classes = classes }
 pub returns-in-Err-Syntax-clause-only : goal.returns-in-Err-Syntax-clause-only
 returns-in-Err-Syntax-clause-only c = λ source d. absurd (tree_read _ _ _ source c.new-cursor.ensures (c.in-Err-Syntax.ensures.reads (λ same. cc)) d)
 
+pub returns-in-Err-TooDeep-clause-only : goal.returns-in-Err-TooDeep-clause-only
+returns-in-Err-TooDeep-clause-only c = λ source d. absurd (tree_read _ _ _ source c.new-cursor.ensures (c.in-Err-TooDeep.ensures.reads (λ same. cc)) d)
+
 pub returns-then-left-eq0-clause-found : goal.returns-then-left-eq0-clause-found
 returns-then-left-eq0-clause-found c = tree_found _ _ _ _ c.new-cursor.ensures c.in-Ok.ensures.reads (search rules)
 

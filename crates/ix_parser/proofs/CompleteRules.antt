@@ -1,0 +1,21 @@
+-- How the ways in which rules are put together read what is known to be read.
+use Rattle.std.proofs.Common.{◌≡◌, ℕ, zero, suc, ◌<◌, ◌==◌, ℤ, nat_lt, Bool, true, false, cond, List, [], ◌∷◌, ◌++◌, length, Option, Some, None, Result, Ok, Err, refl, sym, ap, subst, ◌∙◌}
+use Rattle.ix_text.specs.declared.span.Span.{Span}
+use Rattle.ix_lexer.specs.declared.token.Token.{Token}
+use Rattle.ix_parser.specs.declared.error.Stop.{Stop}
+use Rattle.ix_parser.specs.declared.error.Stop.TheVariants.{Syntax, TooDeep}
+use Rattle.ix_parser.specs.Rule.{Rule, pure, take, bind, stop, loop, Turn, On, Done, Outcome, Parser, and_then, look, rest, taken, turned, turns, run}
+
+-- the next token is wanted
+pub take_reads : {A V : Type 0} (want : Token → Option V) (fits : Bool) (p : V → Rule A) (q : Rule A) (t : Token) (ts : List Token) (v : V) → want t ≡ Some v → fits ≡ true → run (take want fits p q) (t ∷ ts) ≡ run (p v) ts
+unfolding run
+take_reads want fits p q t ts v w f = rw (w, f) refl
+
+-- the next token is not wanted
+pub other_reads : {A V : Type 0} (want : Token → Option V) (fits : Bool) (p : V → Rule A) (q : Rule A) (ts : List Token) → look want ts ≡ None → run (take want fits p q) ts ≡ run q ts
+unfolding run
+other_reads want fits p q ts w = rw w refl
+
+pub bind_reads : {A B : Type 0} (p : Rule A) (f : A → Rule B) (ts us : List Token) (a : A) → run p ts ≡ Ok (a, us) → run (bind p f) ts ≡ run (f a) us
+unfolding run
+bind_reads p f ts us a h = rw h refl

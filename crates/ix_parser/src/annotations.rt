@@ -1,0 +1,284 @@
+//! Annotations (JLS 9.7).
+ghost use Rattle.std.specs.Prelude.{◌≡◌, ◌≢◌, ◌≤◌, [], ◌∷◌, length, OnOk, MatchResult};
+ghost use Rattle.ix_tree.specs.declared.annot.AnnotValue.TheVariants.{Texts};
+ghost use Rattle.ix_parser.specs.declared.error.Stop.TheVariants.{Memory};
+ghost use Rattle.ix_parser.specs.AnnotRules as spec;
+ghost use Rattle.ix_parser.specs.AnnotGrammar as nodes;
+ghost use Rattle.ix_parser.specs.Lists.{more_of, alone, joined};
+ghost use Rattle.ix_parser.specs.Rule.{run};
+ghost use Rattle.ix_parser.specs.Taking.{Follows};
+
+use crate::cursor::{Cursor, across};
+use crate::error::Stop;
+use crate::found::{At, Notes};
+use ix_lexer::fixed::{ASSIGN, AT, CLOSE_BRACE, CLOSE_PAREN, COMMA, MINUS, OPEN_BRACE, OPEN_PAREN};
+use ix_text::{List, Span, Text};
+use ix_tree::{Annot, AnnotArg, AnnotValue, Ident};
+use std::alloc::Global;
+
+/// Behind a minus: `IntLit | MinLit`
+#[tactic(auto, unfolding(crate::specs::Rule::run, crate::specs::AnnotRules::negative))]
+fn negative(cursor: &mut Cursor<'_>, minus: Span) -> Result<At<AnnotValue>, Stop>
+    ensures reads { Follows (run (spec.negative minus) cursor.old) result cursor.new }
+    ensures no_longer { OnOk result (length cursor.new ≤ length cursor.old) }
+{
+    if let Some(number) = cursor.number() {
+        cursor.advance();
+        return Ok(At {
+            value: AnnotValue::Number(-(number.value as i64)),
+            span: across(minus, number.span),
+        });
+    }
+    let Some(least) = cursor.least() else {
+        return Err(Stop::Syntax);
+    };
+    cursor.advance();
+    Ok(At {
+        value: AnnotValue::Number(-2147483648),
+        span: across(minus, least),
+    })
+}
+
+/// `{"," String}`, behind the first string
+#[tactic(auto, unfolding(crate::specs::Rule::run, crate::specs::AnnotRules::text, crate::specs::Lists::next_of, crate::specs::Lists::more_of))]
+fn more_texts(alloc: Global, cursor: &mut Cursor<'_>, first: Text) -> Result<List<Text>, Stop>
+    ensures reads { Follows (run (more_of spec.text joined (alone first)) cursor.old) result cursor.new }
+    ensures no_longer { OnOk result (length cursor.new ≤ length cursor.old) }
+{
+    let mut texts = List::new(alloc);
+    texts.push(first)?;
+    'reading: while let Some(_comma) = cursor.sign(COMMA) {
+        cursor.advance();
+        let Some(text) = cursor.text(alloc)? else {
+            return Err(Stop::Syntax);
+        };
+        cursor.advance();
+        texts.push(text.value)?;
+    }
+    Ok(texts)
+}
+
+/// `[String {"," String}] "}"`
+#[tactic(auto, unfolding(crate::specs::Rule::run, crate::specs::AnnotRules::braced))]
+fn braced(alloc: Global, cursor: &mut Cursor<'_>, left: Span) -> Result<At<AnnotValue>, Stop>
+    ensures reads { Follows (run (spec.braced left) cursor.old) result cursor.new }
+    ensures no_longer { OnOk result (length cursor.new ≤ length cursor.old) }
+{
+    if let Some(right) = cursor.sign(CLOSE_BRACE) {
+        cursor.advance();
+        return Ok(At {
+            value: AnnotValue::Texts(List::new(alloc)),
+            span: across(left, right),
+        });
+    }
+    let Some(first) = cursor.text(alloc)? else {
+        return Err(Stop::Syntax);
+    };
+    cursor.advance();
+    let texts = more_texts(alloc, cursor, first.value)?;
+    let Some(right) = cursor.sign(CLOSE_BRACE) else {
+        return Err(Stop::Syntax);
+    };
+    cursor.advance();
+    Ok(At {
+        value: AnnotValue::Texts(texts),
+        span: across(left, right),
+    })
+}
+
+/// A string that is a value.
+#[tactic(auto, unfolding(crate::specs::Rule::run))]
+fn one_text(alloc: Global, text: At<Text>) -> Result<At<AnnotValue>, Stop>
+    ensures { MatchResult result (λ found. found ≡ nodes.valued (Texts (text.value ∷ [])) text.span) (λ stop. stop ≡ Memory) }
+{
+    let mut texts = List::new(alloc);
+    texts.push(text.value)?;
+    Ok(At {
+        value: AnnotValue::Texts(texts),
+        span: text.span,
+    })
+}
+
+/// `Value = ["-"] IntLit | "-" MinLit | String | "{" [String {"," String}] "}"`
+#[tactic(auto, unfolding(crate::specs::Rule::run, crate::specs::AnnotRules::annot_value))]
+fn annot_value(alloc: Global, cursor: &mut Cursor<'_>) -> Result<At<AnnotValue>, Stop>
+    ensures reads { Follows (run spec.annot_value cursor.old) result cursor.new }
+    ensures no_longer { OnOk result (length cursor.new ≤ length cursor.old) }
+{
+    if let Some(minus) = cursor.sign(MINUS) {
+        cursor.advance();
+        return negative(cursor, minus);
+    }
+    if let Some(number) = cursor.number() {
+        cursor.advance();
+        return Ok(At {
+            value: AnnotValue::Number(number.value as i64),
+            span: number.span,
+        });
+    }
+    if let Some(text) = cursor.text(alloc)? {
+        cursor.advance();
+        return one_text(alloc, text);
+    }
+    let Some(left) = cursor.sign(OPEN_BRACE) else {
+        return Err(Stop::Syntax);
+    };
+    cursor.advance();
+    braced(alloc, cursor, left)
+}
+
+/// `"=" Value`, behind the name
+#[tactic(auto, unfolding(crate::specs::Rule::run, crate::specs::AnnotRules::named_value))]
+fn named_value(alloc: Global, cursor: &mut Cursor<'_>, name: Ident) -> Result<AnnotArg, Stop>
+    ensures reads { Follows (run (spec.named_value name) cursor.old) result cursor.new }
+    ensures no_longer { OnOk result (length cursor.new ≤ length cursor.old) }
+{
+    let Some(_assign) = cursor.sign(ASSIGN) else {
+        return Err(Stop::Syntax);
+    };
+    cursor.advance();
+    let found = annot_value(alloc, cursor)?;
+    let span = across(name.span, found.span);
+    Ok(AnnotArg {
+        name: Some(name),
+        value: found.value,
+        span,
+    })
+}
+
+/// `{"," Pair}`, behind the first one
+#[tactic(auto, unfolding(crate::specs::Rule::run, crate::specs::AnnotRules::named, crate::specs::Lists::next_of, crate::specs::Lists::more_of))]
+fn more_named(
+    alloc: Global,
+    cursor: &mut Cursor<'_>,
+    first: AnnotArg,
+) -> Result<List<AnnotArg>, Stop>
+    ensures reads { Follows (run (more_of spec.named joined (alone first)) cursor.old) result cursor.new }
+    ensures no_longer { OnOk result (length cursor.new ≤ length cursor.old) }
+{
+    let mut args = List::new(alloc);
+    args.push(first)?;
+    'reading: while let Some(_comma) = cursor.sign(COMMA) {
+        cursor.advance();
+        let Some(name) = cursor.name(alloc)? else {
+            return Err(Stop::Syntax);
+        };
+        cursor.advance();
+        args.push(named_value(alloc, cursor, name)?)?;
+    }
+    Ok(args)
+}
+
+/// `"=" Value {"," Pair} ")"`, behind the first name
+#[tactic(auto, unfolding(crate::specs::Rule::run, crate::specs::AnnotRules::named_args))]
+fn named_args(
+    alloc: Global,
+    cursor: &mut Cursor<'_>,
+    at: Span,
+    name: Ident,
+    first: Ident,
+) -> Result<Annot, Stop>
+    ensures reads { Follows (run (spec.named_args at name first) cursor.old) result cursor.new }
+    ensures no_longer { OnOk result (length cursor.new ≤ length cursor.old) }
+{
+    let arg = named_value(alloc, cursor, first)?;
+    let args = more_named(alloc, cursor, arg)?;
+    let Some(right) = cursor.sign(CLOSE_PAREN) else {
+        return Err(Stop::Syntax);
+    };
+    cursor.advance();
+    Ok(Annot {
+        name,
+        args,
+        span: across(at, right),
+    })
+}
+
+/// `[Value | Pair {"," Pair}] ")"`, behind the opening parenthesis
+#[tactic(auto, unfolding(crate::specs::Rule::run, crate::specs::AnnotRules::annot_args))]
+fn annot_args(
+    alloc: Global,
+    cursor: &mut Cursor<'_>,
+    left: u32,
+    at: Span,
+    name: Ident,
+) -> Result<Annot, Stop>
+    ensures reads { Follows (run (spec.annot_args left at name) cursor.old) result cursor.new }
+    ensures no_longer { OnOk result (length cursor.new ≤ length cursor.old) }
+{
+    if let Some(right) = cursor.sign(CLOSE_PAREN) {
+        cursor.advance();
+        return Ok(Annot {
+            name,
+            args: List::new(alloc),
+            span: across(at, right),
+        });
+    }
+    if let Some(first) = cursor.name(alloc)? {
+        if left < 3 {
+            return Err(Stop::TooDeep);
+        }
+        cursor.advance();
+        return named_args(alloc, cursor, at, name, first);
+    }
+    plain_arg(alloc, cursor, at, name)
+}
+
+/// `Value ")"`, behind the opening parenthesis
+#[tactic(auto, unfolding(crate::specs::Rule::run, crate::specs::AnnotRules::plain_value))]
+fn plain_arg(alloc: Global, cursor: &mut Cursor<'_>, at: Span, name: Ident) -> Result<Annot, Stop>
+    ensures reads { Follows (run (spec.plain_value at name) cursor.old) result cursor.new }
+    ensures no_longer { OnOk result (length cursor.new ≤ length cursor.old) }
+{
+    let found = annot_value(alloc, cursor)?;
+    let Some(right) = cursor.sign(CLOSE_PAREN) else {
+        return Err(Stop::Syntax);
+    };
+    cursor.advance();
+    let args = one_arg(alloc, found)?;
+    Ok(Annot {
+        name,
+        args,
+        span: across(at, right),
+    })
+}
+
+/// A value without a name.
+fn one_arg(alloc: Global, found: At<AnnotValue>) -> Result<List<AnnotArg>, Stop>
+    ensures { MatchResult result (λ args. args ≡ nodes.plain_arg found ∷ []) (λ stop. stop ≡ Memory) }
+{
+    let mut args = List::new(alloc);
+    args.push(AnnotArg {
+        name: None,
+        value: found.value,
+        span: found.span,
+    })?;
+    Ok(args)
+}
+
+/// `Ident ["(" [Value | Pair {"," Pair}] ")"]`, behind the `@`
+#[tactic(auto, unfolding(crate::specs::Rule::run, crate::specs::AnnotRules::annot_behind))]
+pub(crate) fn annot_behind(
+    alloc: Global,
+    cursor: &mut Cursor<'_>,
+    left: u32,
+    at: Span,
+) -> Result<Annot, Stop>
+    ensures reads { Follows (run (spec.annot_behind left at) cursor.old) result cursor.new }
+    ensures no_longer { OnOk result (length cursor.new ≤ length cursor.old) }
+{
+    let Some(name) = cursor.name(alloc)? else {
+        return Err(Stop::Syntax);
+    };
+    cursor.advance();
+    if let Some(_opening) = cursor.sign(OPEN_PAREN) {
+        cursor.advance();
+        return annot_args(alloc, cursor, left, at, name);
+    }
+    let span = across(at, name.span);
+    Ok(Annot {
+        name,
+        args: List::new(alloc),
+        span,
+    })
+}
