@@ -7,6 +7,7 @@ use Rattle.ix_lexer.specs.declared.token.Token.{Token}
 use Rattle.ix_lexer.specs.declared.fixed.TheConstants.{CLASS, EXTENDS, FINAL, IMPORT, PACKAGE, PUBLIC, STATIC, SUPER, VOID, OPEN_PAREN, OPEN_BRACE, CLOSE_BRACE, SEMICOLON, DOT, TIMES}
 use Rattle.ix_tree.specs.declared.annot.Ident.{Ident}
 use Rattle.ix_tree.specs.declared.annot.BaseTree.TheVariants.{Named}
+use Rattle.ix_parser.specs.declared.classes.Behind.{Behind}
 use Rattle.ix_parser.specs.declared.classes.Body.{Body}
 use Rattle.ix_parser.specs.declared.classes.Classes.{Classes}
 use Rattle.ix_parser.specs.declared.classes.FoundClass.{FoundClass}
@@ -28,7 +29,7 @@ use Rattle.ix_parser.specs.TypeRules.{type_rest, type_tree}
 use Rattle.ix_parser.specs.DeclGrammar.{earlier, begins, IsMods, member_words, shared, nothing_more}
 use Rattle.ix_parser.specs.DeclRules.{mods, decls, params, throws}
 use Rattle.ix_parser.specs.ClassGrammar as grammar
-use Rattle.ix_parser.specs.ClassGrammar.{Parts, IsStmts, IsBody, IsBehind, IsMember, IsClassWord, IsClassWords, IsParent, IsClass, IsDotName, IsDotted, IsPackage, IsImported, IsImport, IsProgram, Behind, no_stmts, with_stmt, body_of, body_with, method_of, fields_of, no_members, with_members, class_of, no_classes, with_class, unit_of, result_height}
+use Rattle.ix_parser.specs.ClassGrammar.{Parts, IsStmts, IsBody, IsBehind, IsMember, IsClassWord, IsClassWords, IsParent, IsClass, IsDotName, IsDotted, IsPackage, IsImported, IsImport, IsProgram, no_stmts, with_stmt, body_of, body_with, method_of, fields_of, no_members, with_members, class_of, no_classes, with_class, unit_of, result_height}
 use Rattle.ix_parser.specs.ClassRules.{PartRules, statements, block, super_behind, body, behind, method, typed_member, named_member, member_behind, member, next_class_word, class_words, parent, class_behind, worded_class, next_class, next_dot, dotted, package_line, next_imported, imported, next_import, imports, program}
 use Rattle.ix_parser.proofs.SoundRules.{Sound, weaken, pure_sound, stop_sound, bind_sound, sign_sound, name_sound, loop_sound, After}
 use Rattle.ix_parser.proofs.ListsSound.{sign_fits, name_fits, braces_fits, Braces}

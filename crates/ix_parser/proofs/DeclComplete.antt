@@ -9,6 +9,7 @@ use Rattle.ix_tree.specs.declared.annot.Annot.{Annot}
 use Rattle.ix_parser.specs.declared.declarations.FoundDecl.{FoundDecl}
 use Rattle.ix_parser.specs.declared.declarations.FoundMods.{FoundMods}
 use Rattle.ix_parser.specs.declared.declarations.Params.{Params}
+use Rattle.ix_parser.specs.declared.declarations.Shared.{Shared}
 use Rattle.ix_parser.specs.declared.declarations.Word.{Word}
 use Rattle.ix_parser.specs.declared.found.At.{At}
 use Rattle.ix_parser.specs.declared.found.FoundDecls.{FoundDecls}
@@ -23,7 +24,7 @@ use Rattle.ix_parser.specs.TypeGrammar as types
 use Rattle.ix_parser.specs.TypeGrammar.{IsType}
 use Rattle.ix_parser.specs.TypeRules.{type_tree}
 use Rattle.ix_parser.specs.DeclGrammar as grammar
-use Rattle.ix_parser.specs.DeclGrammar.{IsMods, IsDecl, IsDecls, IsParam, IsParams, IsName, IsThrows, Shared, shared, no_mods, with_word, with_annot, local_words, plain_decl, init_decl, one_decl, with_decl, no_params, one_param, with_param, nothing, nothing_more}
+use Rattle.ix_parser.specs.DeclGrammar.{IsMods, IsDecl, IsDecls, IsParam, IsParams, IsName, IsThrows, shared, no_mods, with_word, with_annot, local_words, plain_decl, init_decl, one_decl, with_decl, no_params, one_param, with_param, nothing, nothing_more}
 use Rattle.ix_parser.specs.DeclRules.{next_mod, mods, decl_behind, decl, decls, param, some_params, params, a_thrown, throws}
 use Rattle.ix_parser.proofs.Runs.{loop_on, loop_done, chosen}
 use Rattle.ix_parser.proofs.ListsComplete.{separated_reads, more_done}

@@ -32,3 +32,4 @@ mod StmtComplete
 mod SourceSound
 mod SourceComplete
 pub mod SourceLaws
+mod LowerParts

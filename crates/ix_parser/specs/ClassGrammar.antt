@@ -15,6 +15,7 @@ use Rattle.ix_tree.specs.declared.decl.MethodDecl.{MethodDecl}
 use Rattle.ix_tree.specs.declared.decl.Unit.{Unit as Source}
 use Rattle.ix_tree.specs.declared.expr.Expr.{Expr}
 use Rattle.ix_parser.specs.Nodes.{across}
+use Rattle.ix_parser.specs.declared.classes.Behind.{Behind}
 use Rattle.ix_parser.specs.declared.classes.Body.{Body}
 use Rattle.ix_parser.specs.declared.classes.Classes.{Classes}
 use Rattle.ix_parser.specs.declared.classes.FoundClass.{FoundClass}
@@ -65,11 +66,6 @@ pub data IsBody (parts : Parts) : Bool → List Token → Body → Type 0 where
       → IsBody parts true (sign OPEN_BRACE left ∷ sign SUPER super ∷ (before ++ sign SEMICOLON end ∷ (tokens ++ sign CLOSE_BRACE right ∷ []))) (body_with args stmts right)
 
 -- ---- members
-
--- what stands in a method's head behind its name, and its body
-pub record Behind : Type 0 where
-  pub params : Params
-  pub body : Body
 
 -- Params Throws Body
 pub data IsBehind (parts : Parts) (constructor : Bool) : List Token → Behind → Type 0 where

@@ -4,6 +4,7 @@ use Rattle.ix_text.specs.declared.span.Span.{Span}
 use Rattle.ix_lexer.specs.declared.fixed.TheConstants.{CLASS, EXTENDS, FINAL, IMPORT, PACKAGE, PUBLIC, STATIC, SUPER, VOID, OPEN_PAREN, OPEN_BRACE, CLOSE_BRACE, SEMICOLON, DOT, TIMES}
 use Rattle.ix_tree.specs.declared.annot.Ident.{Ident}
 use Rattle.ix_tree.specs.declared.annot.BaseTree.TheVariants.{Named}
+use Rattle.ix_parser.specs.declared.classes.Behind.{Behind}
 use Rattle.ix_parser.specs.declared.classes.Body.{Body}
 use Rattle.ix_parser.specs.declared.classes.Classes.{Classes}
 use Rattle.ix_parser.specs.declared.classes.FoundClass.{FoundClass}
@@ -23,7 +24,7 @@ use Rattle.ix_parser.specs.TypeGrammar.{based}
 use Rattle.ix_parser.specs.TypeRules.{type_rest, type_tree}
 use Rattle.ix_parser.specs.DeclGrammar.{earlier, begins, member_words, shared}
 use Rattle.ix_parser.specs.DeclRules.{mods, decls, params, throws}
-use Rattle.ix_parser.specs.ClassGrammar.{Behind, no_stmts, with_stmt, body_of, body_with, method_of, fields_of, no_members, with_members, class_of, no_classes, with_class, unit_of}
+use Rattle.ix_parser.specs.ClassGrammar.{no_stmts, with_stmt, body_of, body_with, method_of, fields_of, no_members, with_members, class_of, no_classes, with_class, unit_of}
 
 -- How initialisers, argument lists with their parentheses, and statements of a block are read, each with the height that is left for
 -- an initialiser, an argument or a statement.

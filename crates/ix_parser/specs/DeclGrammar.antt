@@ -6,13 +6,13 @@ use Rattle.ix_lexer.specs.declared.fixed.TheConstants.{PUBLIC, PROTECTED, PRIVAT
 use Rattle.ix_tree.specs.declared.annot.Ident.{Ident}
 use Rattle.ix_tree.specs.declared.annot.Annot.{Annot}
 use Rattle.ix_tree.specs.declared.annot.Mods.{Mods}
-use Rattle.ix_tree.specs.declared.annot.TypeTree.{TypeTree}
 use Rattle.ix_tree.specs.declared.decl.LocalDecl.{LocalDecl}
 use Rattle.ix_tree.specs.declared.expr.Init.{Init}
 use Rattle.ix_parser.specs.Nodes.{mods_with}
 use Rattle.ix_parser.specs.declared.declarations.FoundDecl.{FoundDecl}
 use Rattle.ix_parser.specs.declared.declarations.FoundMods.{FoundMods}
 use Rattle.ix_parser.specs.declared.declarations.Params.{Params}
+use Rattle.ix_parser.specs.declared.declarations.Shared.{Shared}
 use Rattle.ix_parser.specs.declared.declarations.Word.{Word}
 use Rattle.ix_parser.specs.declared.declarations.Word.TheVariants.{Open, Private, Static, Final}
 use Rattle.ix_parser.specs.declared.found.FoundDecls.{FoundDecls}
@@ -70,12 +70,6 @@ pub data IsMods (words : List (ℕ × Word)) : List Token → FoundMods → Type
 -- ---- declarators
 
 -- what all declarators of a declaration have
-pub record Shared : Type 0 where
-  pub mods : Mods
-  pub ty : TypeTree
-  -- the greatest height of the annotations, the type and a name
-  pub height : ℕ
-
 abbrev pub shared : FoundMods → FoundType → Shared
 shared found ty = record { mods = found.mods; ty = ty.ty; height = max (max found.height ty.height) 1 }
 

@@ -6,6 +6,7 @@ use Rattle.ix_tree.specs.declared.annot.Ident.{Ident}
 use Rattle.ix_parser.specs.declared.declarations.FoundDecl.{FoundDecl}
 use Rattle.ix_parser.specs.declared.declarations.FoundMods.{FoundMods}
 use Rattle.ix_parser.specs.declared.declarations.Params.{Params}
+use Rattle.ix_parser.specs.declared.declarations.Shared.{Shared}
 use Rattle.ix_parser.specs.declared.declarations.Word.{Word}
 use Rattle.ix_parser.specs.declared.found.At.{At}
 use Rattle.ix_parser.specs.declared.found.FoundDecls.{FoundDecls}
@@ -16,7 +17,7 @@ use Rattle.ix_parser.specs.Patterns.{a_sign, a_name, one_of}
 use Rattle.ix_parser.specs.Lists.{more_of}
 use Rattle.ix_parser.specs.AnnotRules.{annot_behind}
 use Rattle.ix_parser.specs.TypeRules.{type_tree}
-use Rattle.ix_parser.specs.DeclGrammar.{no_mods, with_word, with_annot, local_words, Shared, shared, plain_decl, init_decl, one_decl, with_decl, no_params, one_param, with_param, nothing, nothing_more}
+use Rattle.ix_parser.specs.DeclGrammar.{no_mods, with_word, with_annot, local_words, shared, plain_decl, init_decl, one_decl, with_decl, no_params, one_param, with_param, nothing, nothing_more}
 
 -- ---- modifiers; the number is the height that is left for an annotation
 

@@ -22,3 +22,4 @@ pub mod StmtRules
 pub mod SourceRules
 pub mod SourceGrammar
 pub mod Begins
+pub mod Reading

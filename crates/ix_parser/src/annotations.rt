@@ -1,11 +1,11 @@
 //! Annotations (JLS 9.7).
-ghost use Rattle.std.specs.Prelude.{◌≡◌, ◌≢◌, ◌≤◌, [], ◌∷◌, length, OnOk, MatchResult};
+ghost use Rattle.std.specs.Prelude.{◌≡◌, ◌≢◌, ◌≤◌, [], ◌∷◌, length, OnOk, IfOk, MatchResult};
 ghost use Rattle.ix_tree.specs.declared.annot.AnnotValue.TheVariants.{Texts};
 ghost use Rattle.ix_parser.specs.declared.error.Stop.TheVariants.{Memory};
 ghost use Rattle.ix_parser.specs.AnnotRules as spec;
 ghost use Rattle.ix_parser.specs.AnnotGrammar as nodes;
 ghost use Rattle.ix_parser.specs.Lists.{more_of, alone, joined};
-ghost use Rattle.ix_parser.specs.Rule.{run};
+ghost use Rattle.ix_parser.specs.Rule.{run, bind};
 ghost use Rattle.ix_parser.specs.Taking.{Follows};
 
 use crate::cursor::{Cursor, across};
@@ -281,4 +281,37 @@ pub(crate) fn annot_behind(
         args: List::new(alloc),
         span,
     })
+}
+
+/// `{Annot}`, behind those that were read, each of a height of at most `left`.
+pub(crate) fn annots_from(
+    _alloc: Global,
+    cursor: &mut Cursor<'_>,
+    left: u32,
+    notes: Notes,
+) -> Result<Notes, Stop>
+    requires low { notes.height ≤ 3 }
+    requires fits { notes.height ≤ left }
+    ensures reads { Follows (run (spec.annots_from left notes) cursor.old) result cursor.new }
+    ensures no_longer { OnOk result (length cursor.new ≤ length cursor.old) }
+    ensures low { IfOk result (λ found. found.height ≤ 3) }
+    ensures fits { IfOk result (λ found. found.height ≤ left) }
+{
+    Err(Stop::Memory)
+}
+
+/// Behind an `@`: its annotation and those that follow it, each of a height of at most `left`, which is at least 2.
+pub(crate) fn annots_behind(
+    _alloc: Global,
+    cursor: &mut Cursor<'_>,
+    left: u32,
+    at: Span,
+) -> Result<Notes, Stop>
+    requires room { 2 ≤ left }
+    ensures reads { Follows (run (bind (spec.annot_behind left at) (λ first. spec.annots_from left (nodes.with_note nodes.no_notes first))) cursor.old) result cursor.new }
+    ensures no_longer { OnOk result (length cursor.new ≤ length cursor.old) }
+    ensures low { IfOk result (λ found. found.height ≤ 3) }
+    ensures fits { IfOk result (λ found. found.height ≤ left) }
+{
+    Err(Stop::Memory)
 }

@@ -1,5 +1,6 @@
 //! Methods, classes and whole sources (JLS 7.3, 8.1, 8.4, 8.8).
 
+use crate::declarations::Params;
 use ix_text::{List, Span};
 use ix_tree::{ClassDecl, Expr, Member, Stmt, Unit};
 
@@ -21,6 +22,13 @@ pub(crate) struct Body {
     pub(crate) height: u32,
     /// The closing brace.
     pub(crate) end: Span,
+}
+
+/// What stands in a method's head behind its name, and its body.
+#[derive(Drop)]
+pub(crate) struct Behind {
+    pub(crate) params: Params,
+    pub(crate) body: Body,
 }
 
 /// Members of a class.

@@ -1,0 +1,26 @@
+-- The rules for the parts of a node are those of a height that is lower, as the code computes it.
+use Rattle.std.proofs.Common.{◌≡◌, ℕ, ◌+◌, ◌-◌, ◌<◌, ◌≤◌, arith}
+use Rattle.ix_parser.specs.ExprRules.{below, inner, inner_init, expr, level, variable, init}
+use Rattle.ix_parser.proofs.Heights.{whole_below, level_below, variable_below, init_below, inner_below, inner_init_below}
+
+pub lower_whole : (left : ℕ) → 0 < left → (below left).lower.whole ≡ expr (left - 1)
+lower_whole left positive = whole_below left (left - 1) (omega (arith, positive))
+
+pub lower_level : (left n : ℕ) → 0 < left → (below left).lower.level n ≡ level (left - 1) n
+lower_level left n positive = level_below left (left - 1) n (omega (arith, positive))
+
+pub lower_variable : (left : ℕ) → 0 < left → (below left).lower.variable ≡ variable (left - 1)
+lower_variable left positive = variable_below left (left - 1) (omega (arith, positive))
+
+pub lower_init : (left : ℕ) → 0 < left → (below left).lower.init ≡ init (left - 1)
+lower_init left positive = init_below left (left - 1) (omega (arith, positive))
+
+pub inner_is : (left extra : ℕ) → extra ≤ 1 → extra < left → inner (below left) extra ≡ expr (left - (extra + 1))
+inner_is left extra once room = inner_below left (left - (extra + 1)) extra once (omega (arith, room))
+
+pub inner_init_is : (left extra : ℕ) → extra ≤ 1 → extra < left → inner_init (below left) extra ≡ init (left - (extra + 1))
+inner_init_is left extra once room = inner_init_below left (left - (extra + 1)) extra once (omega (arith, room))
+
+pub ruleset lower_parts = (lower_whole, lower_level, lower_variable, lower_init)
+
+pub ruleset inner_parts = (inner_is, inner_init_is)

@@ -1,0 +1,138 @@
+//! Expressions (JLS 15): what the other rules read of them.
+ghost use Rattle.std.specs.Prelude.{◌<◌, ◌≤◌, length, OnOk, IfOk};
+ghost use Rattle.ix_parser.specs.declared.found.Aim.TheVariants.{Statement};
+ghost use Rattle.ix_parser.specs.ExprRules as spec;
+ghost use Rattle.ix_parser.specs.Reading.{GoesOn, part_rule};
+ghost use Rattle.ix_parser.specs.Rule.{run, loop};
+ghost use Rattle.ix_parser.specs.Taking.{Follows};
+
+use crate::cursor::Cursor;
+use crate::error::Stop;
+use crate::found::{Args, Found, FoundInit};
+use crate::grammar::Part;
+use ix_tree::Ident;
+use std::alloc::Global;
+
+/// An expression of a height of at most `left`, as a part of another.
+pub(crate) fn read(
+    _alloc: Global,
+    _cursor: &mut Cursor<'_>,
+    left: u32,
+    part: Part,
+) -> Result<Found, Stop>
+    requires few { length _cursor.old ≤ 200000 }
+    ensures reads { Follows (run (part_rule left part) _cursor.old) result _cursor.new }
+    ensures no_longer { OnOk result (length _cursor.new ≤ length _cursor.old) }
+    ensures fits { IfOk result (λ f. f.height ≤ left) }
+{
+    Err(Stop::Memory)
+}
+
+/// An expression of a height of at most `left`.
+pub(crate) fn expr(_alloc: Global, cursor: &mut Cursor<'_>, left: u32) -> Result<Found, Stop>
+    requires few { length cursor.old ≤ 200000 }
+    ensures reads { Follows (run (spec.expr left) cursor.old) result cursor.new }
+    ensures no_longer { OnOk result (length cursor.new ≤ length cursor.old) }
+    ensures fits { IfOk result (λ f. f.height ≤ left) }
+{
+    Err(Stop::Memory)
+}
+
+/// An expression of a height of at most `left` that may stand as a statement (JLS 14.8).
+pub(crate) fn statement_expr(
+    _alloc: Global,
+    cursor: &mut Cursor<'_>,
+    left: u32,
+) -> Result<Found, Stop>
+    requires few { length cursor.old ≤ 200000 }
+    ensures reads { Follows (run (spec.statement_expr left) cursor.old) result cursor.new }
+    ensures no_longer { OnOk result (length cursor.new ≤ length cursor.old) }
+    ensures fits { IfOk result (λ f. f.height ≤ left) }
+{
+    Err(Stop::Memory)
+}
+
+/// An initialiser of a height of at most `left` (JLS 8.3, 10.6).
+pub(crate) fn init(_alloc: Global, cursor: &mut Cursor<'_>, left: u32) -> Result<FoundInit, Stop>
+    requires few { length cursor.old ≤ 200000 }
+    ensures reads { Follows (run (spec.init left) cursor.old) result cursor.new }
+    ensures no_longer { OnOk result (length cursor.new ≤ length cursor.old) }
+    ensures fits { IfOk result (λ i. i.height ≤ left) }
+{
+    Err(Stop::Memory)
+}
+
+/// `[Expr {"," Expr}] ")"`, behind the opening parenthesis, each argument of a height of at most `left`.
+pub(crate) fn args(_alloc: Global, cursor: &mut Cursor<'_>, left: u32) -> Result<Args, Stop>
+    requires few { length cursor.old ≤ 200000 }
+    ensures reads { Follows (run (spec.args (spec.expr left)) cursor.old) result cursor.new }
+    ensures no_longer { OnOk result (length cursor.new ≤ length cursor.old) }
+    ensures fits { IfOk result (λ a. a.height ≤ left) }
+{
+    Err(Stop::Memory)
+}
+
+/// Behind a name that begins an expression that is to be a statement: a variable or a call.
+pub(crate) fn statement_name(
+    _alloc: Global,
+    cursor: &mut Cursor<'_>,
+    left: u32,
+    name: Ident,
+) -> Result<Found, Stop>
+    requires few { length cursor.old ≤ 200000 }
+    requires room { 2 ≤ left }
+    ensures reads { Follows (run (spec.name_or_call (spec.below left) Statement left name) cursor.old) result cursor.new }
+    ensures no_longer { OnOk result (length cursor.new ≤ length cursor.old) }
+    ensures fits { IfOk result (λ f. f.height ≤ left) }
+{
+    Err(Stop::Memory)
+}
+
+/// Behind an expression, a dot and a name, where the whole is to be a statement: a field or a call.
+pub(crate) fn statement_field(
+    _alloc: Global,
+    cursor: &mut Cursor<'_>,
+    left: u32,
+    object: Found,
+    name: Ident,
+) -> Result<Found, Stop>
+    requires few { length cursor.old ≤ 200000 }
+    requires room { object.height < left }
+    ensures reads { GoesOn (run (spec.field_or_call (spec.below left) Statement left object name) cursor.old) result cursor.new }
+    ensures no_longer { OnOk result (length cursor.new ≤ length cursor.old) }
+    ensures fits { IfOk result (λ f. f.height ≤ left) }
+{
+    Err(Stop::Memory)
+}
+
+/// Behind the first part of a primary that is to be a statement: all that makes a longer one of it.
+pub(crate) fn statement_chain(
+    _alloc: Global,
+    cursor: &mut Cursor<'_>,
+    left: u32,
+    first: Found,
+) -> Result<Found, Stop>
+    requires few { length cursor.old ≤ 200000 }
+    requires room { first.height ≤ left }
+    ensures reads { Follows (run (loop (spec.further (spec.below left) Statement left) first) cursor.old) result cursor.new }
+    ensures no_longer { OnOk result (length cursor.new ≤ length cursor.old) }
+    ensures fits { IfOk result (λ f. f.height ≤ left) }
+{
+    Err(Stop::Memory)
+}
+
+/// Behind a primary: the rest of an expression that may stand as a statement.
+pub(crate) fn to_statement(
+    _alloc: Global,
+    cursor: &mut Cursor<'_>,
+    left: u32,
+    first: Found,
+) -> Result<Found, Stop>
+    requires few { length cursor.old ≤ 200000 }
+    requires room { first.height ≤ left }
+    ensures reads { Follows (run (spec.to_statement (spec.below left) left first first.form) cursor.old) result cursor.new }
+    ensures no_longer { OnOk result (length cursor.new ≤ length cursor.old) }
+    ensures fits { IfOk result (λ f. f.height ≤ left) }
+{
+    Err(Stop::Memory)
+}
