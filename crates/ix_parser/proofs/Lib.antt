@@ -1,7 +1,3 @@
-mod Repetitions
-mod Complete
-mod Sound
-mod OneTree
 mod Runs
 mod SoundRules
 mod CompleteRules
@@ -33,3 +29,4 @@ mod SourceSound
 mod SourceComplete
 pub mod SourceLaws
 mod LowerParts
+mod Refusing

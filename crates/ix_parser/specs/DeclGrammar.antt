@@ -8,7 +8,6 @@ use Rattle.ix_tree.specs.declared.annot.Annot.{Annot}
 use Rattle.ix_tree.specs.declared.annot.Mods.{Mods}
 use Rattle.ix_tree.specs.declared.decl.LocalDecl.{LocalDecl}
 use Rattle.ix_tree.specs.declared.expr.Init.{Init}
-use Rattle.ix_parser.specs.Nodes.{mods_with}
 use Rattle.ix_parser.specs.declared.declarations.FoundDecl.{FoundDecl}
 use Rattle.ix_parser.specs.declared.declarations.FoundMods.{FoundMods}
 use Rattle.ix_parser.specs.declared.declarations.Params.{Params}
@@ -45,7 +44,7 @@ abbrev pub noted : Mods → Annot → Mods
 noted mods annot = record { is_static = mods.is_static; is_final = mods.is_final; is_private = mods.is_private; annots = mods.annots ++ annot ∷ [] }
 
 abbrev pub no_mods : FoundMods
-no_mods = record { mods = mods_with false []; height = 0; first = None }
+no_mods = record { mods = record { is_static = false; is_final = false; is_private = false; annots = [] }; height = 0; first = None }
 
 abbrev pub with_word : FoundMods → Word → Span → FoundMods
 with_word found word span = record { mods = marked found.mods word; height = found.height; first = earlier found.first span }

@@ -1,7 +1,4 @@
-pub mod Grammar
 pub mod Nodes
-pub mod Errors
-pub mod Descent
 pub mod Rule
 pub mod Patterns
 pub mod Taking
@@ -23,3 +20,4 @@ pub mod SourceRules
 pub mod SourceGrammar
 pub mod Begins
 pub mod Reading
+pub mod Refusals

@@ -1,17 +1,16 @@
 //! The tokens that are still to be read, and the rules for single tokens.
-ghost use Rattle.std.specs.Prelude.{◌≡◌, ◌≢◌, ◌<◌, ◌≤◌, ◌-◌, length, OnOk, IfOk, IfSome, MatchResult};
+ghost use Rattle.std.specs.Prelude.{◌≡◌, ◌<◌, ◌-◌, length, option_map, IfOk, IfSome, MatchResult};
 ghost use Rattle.ix_parser.specs.declared.error.Stop.TheVariants.{Memory};
-ghost use Rattle.ix_parser.specs.Descent as spec;
 ghost use Rattle.ix_parser.specs.Nodes as nodes;
-ghost use Rattle.ix_parser.specs.Descent.{Reads};
 ghost use Rattle.ix_parser.specs.Rule.{look, rest};
+ghost use Rattle.ix_parser.specs.Refusals.{first};
 ghost use Rattle.ix_parser.specs.Patterns.{a_sign, a_name, a_number, a_least, a_text};
 
 use crate::error::Stop;
 use crate::found::At;
 use ix_lexer::{Token, TokenKind};
-use ix_text::{List, Span, Text};
-use ix_tree::{AnnotArg, AnnotValue, Ident};
+use ix_text::{Span, Text};
+use ix_tree::Ident;
 use std::alloc::Global;
 use std::marker::Model;
 
@@ -44,77 +43,13 @@ impl<'a> Cursor<'a> {
         self.rest.len()
     }
 
-    /// Whether the next token is the keyword or sign of that number.
-    pub(crate) fn sees(&self, fixed: u8) -> bool
-        ensures { result ≡ spec.sees fixed self.now }
+    /// Where the next token starts, as a byte of the text; none at the end.
+    pub(crate) fn start(&self) -> Option<u32>
+        ensures { result ≡ option_map (λ token. token.span.from) (first self.now) }
     {
         match self.rest {
-            [] => false,
-            [token, ..] => match token.kind {
-                TokenKind::Fixed(number) => number == fixed,
-                _ => false,
-            },
-        }
-    }
-
-    /// Takes the keyword or sign of that number.
-    pub(crate) fn expect(&mut self, fixed: u8) -> Result<Span, Stop>
-        ensures reads { Reads (spec.fixed fixed self.old) result self.new }
-        ensures shorter { OnOk result (length self.new < length self.old) }
-    {
-        match self.rest {
-            [] => Err(Stop::Syntax),
-            [token, later @ ..] => match token.kind {
-                TokenKind::Fixed(number) if number == fixed => {
-                    self.rest = later;
-                    Ok(token.span)
-                }
-                _ => Err(Stop::Syntax),
-            },
-        }
-    }
-
-    /// Takes an identifier.
-    pub(crate) fn ident(&mut self, alloc: Global) -> Result<Ident, Stop>
-        ensures reads { Reads (spec.ident self.old) result self.new }
-        ensures shorter { OnOk result (length self.new < length self.old) }
-    {
-        match self.rest {
-            [] => Err(Stop::Syntax),
-            [token, later @ ..] => match &token.kind {
-                TokenKind::Ident(text) => {
-                    let text = Text::from_str(alloc, text.as_str())?;
-                    self.rest = later;
-                    Ok(Ident {
-                        text,
-                        span: token.span,
-                    })
-                }
-                _ => Err(Stop::Syntax),
-            },
-        }
-    }
-
-    /// Takes a string, which is the one argument of an annotation.
-    pub(crate) fn string_arg(&mut self, alloc: Global) -> Result<AnnotArg, Stop>
-        ensures reads { Reads (spec.string_arg self.old) result self.new }
-        ensures shorter { OnOk result (length self.new < length self.old) }
-    {
-        match self.rest {
-            [] => Err(Stop::Syntax),
-            [token, later @ ..] => match &token.kind {
-                TokenKind::Str(text) => {
-                    let mut texts = List::new(alloc);
-                    texts.push(Text::from_str(alloc, text.as_str())?)?;
-                    self.rest = later;
-                    Ok(AnnotArg {
-                        name: None,
-                        value: AnnotValue::Texts(texts),
-                        span: token.span,
-                    })
-                }
-                _ => Err(Stop::Syntax),
-            },
+            [] => None,
+            [token, ..] => Some(token.span.from),
         }
     }
 }

@@ -5,9 +5,11 @@ use std::alloc::{AllocError, AllocFailed};
 /// Why tokens have no tree.
 #[derive(Clone, Copy, Debug, PartialEq, Eq)]
 pub enum ParseError {
-    /// The tokens are no source of the language. The number is that of the token at which reading stopped, from 0, or the number of tokens
-    /// where it stopped at their end.
+    /// The tokens up to and with this one go on to no source. The number is that of the token, from 0, or the number of tokens where all of
+    /// them are read and they are no source.
     Syntax(u32),
+    /// What a token begins is higher than 200 nodes allow. The number is the byte at which that token starts.
+    TooDeep(u32),
     /// Want of memory.
     Memory,
 }

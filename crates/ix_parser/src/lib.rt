@@ -1,9 +1,8 @@
 //! From tokens to the tree.
 //!
 //! What goes in: the tokens of a text. What comes out: the one tree that the grammar gives them, or the token at which reading stopped.
-//! The contract: `Derives` of `specs/Grammar.antt`, one case per alternative of the grammar, for the form of sources that `parse` reads.
-//! The whole grammar stands beside it, as a relation (`specs/SourceGrammar.antt` and what it names) and as rules, with `source_laws`; code for
-//! it, to which `parse` goes over, comes next (docs/GRAMMAR.md).
+//! The contract: `parse`, over the grammar of `specs/SourceGrammar.antt` and what it names, with one constructor per alternative; the same grammar
+//! as rules of a descent with one token in hand stands beside it (`specs/SourceRules.antt`), and code of one function per rule.
 //! It stands on the tokens of `ix_lexer` and the types of `ix_tree`.
 //! It never looks at the text, and never at what a name means.
 #![tactic(auto)]
@@ -18,14 +17,12 @@ mod expressions;
 mod found;
 mod grammar;
 mod laws;
-mod members;
 mod modifiers;
 mod parse_tree;
+mod sources;
 mod statement_rules;
 mod statement_trees;
-mod statements;
 mod type_trees;
-mod types;
 
 pub use error::ParseError;
 pub use parse_tree::parse;

@@ -1,46 +1,57 @@
 //! The tree of a list of tokens.
-ghost use Rattle.std.specs.Prelude.{◌≡◌, ◌≤◌, ◌≢◌, length, IfOk, IfErr, MatchResult};
+ghost use Rattle.std.specs.Prelude.{◌≡◌, ◌≢◌, ◌≤◌, ◌⊎◌, length, IfOk, IfErr, MatchResult};
+ghost use Rattle.ix_lexer.specs.Spans.{InOrder};
 ghost use Rattle.ix_tree.specs.declared.decl.Unit.{Unit as Source};
-ghost use Rattle.ix_parser.specs.Grammar.{Derives};
-ghost use Rattle.ix_parser.specs.Errors.{IsWithin};
+ghost use Rattle.ix_parser.specs.Refusals.{HasTree, Refused, NoneGoesOn, error_at as the_error};
+ghost use Rattle.ix_parser.specs.declared.error.ParseError.{ParseError as Refusal};
 ghost use Rattle.ix_parser.specs.declared.error.ParseError.TheVariants.{Memory};
 
 use crate::cursor::Cursor;
 use crate::error::{ParseError, Stop};
-use crate::members::classes;
+use crate::sources::source;
 use ix_lexer::Token;
 use ix_tree::Unit;
 use std::alloc::Global;
 
-/// The tree of the tokens of a text of `_end` bytes, which is the only one. `Syntax` comes exactly where they have none; its number is at
-/// most theirs.
-pub fn parse(alloc: Global, tokens: &[Token], _end: u32) -> Result<Unit, ParseError>
-    requires { length tokens.now ≤ 200000 }
-    ensures found { IfOk result (λ source. Derives tokens.now source) }
-    ensures only { (source : Source) → Derives tokens.now source → MatchResult result (λ found. found ≡ source) (λ error. error ≡ Memory) }
-    ensures within { IfErr result (IsWithin (length tokens.now)) }
+/// The tree of the tokens of a text of `end` bytes (JLS 7.3, for the grammar of docs/LANGUAGE.md): the only one, of a height of at most 200.
+///
+/// An error comes exactly where there is no such tree, and says where reading stopped; `ParseError` names the causes.
+/// The time is near linear in the tokens, and the depth of calls is bounded by the height of 200.
+pub fn parse(alloc: Global, tokens: &[Token], end: u32) -> Result<Unit, ParseError>
+    requires few { length tokens.now ≤ 200000 }
+    requires in_order { InOrder 0 end tokens.now }
+
+    // The tree, exactly where there is one, and no other.
+    ensures found { IfOk result (λ unit. HasTree tokens.now unit) }
+    ensures only { (unit : Source) → HasTree tokens.now unit → MatchResult result (λ found. found ≡ unit) (λ error. error ≡ Memory) }
+
+    // The error, exactly where the rules stop; and what it says of the grammar.
+    ensures refused { IfErr result (λ error. error ≢ Memory → Refused tokens.now error) }
+    ensures only_refused { (error : Refusal) → Refused tokens.now error → MatchResult result (λ found. ⊥) (λ other. (other ≡ error) ⊎ (other ≡ Memory)) }
+    ensures none_goes_on { IfErr result (NoneGoesOn tokens.now) }
 {
     let mut cursor = Cursor::new(tokens);
-    match classes(alloc, &mut cursor) {
-        Err(Stop::Memory) => Err(ParseError::Memory),
-        Err(Stop::Syntax) => Err(stopped(tokens, &cursor)),
-        Err(Stop::TooDeep) => Err(stopped(tokens, &cursor)),
-        Ok(classes) => {
+    match source(alloc, &mut cursor) {
+        Err(stop) => Err(error_at(tokens, &cursor, stop)),
+        Ok(found) => {
             if cursor.left() == 0 {
-                Ok(Unit { classes })
+                Ok(found.unit)
             } else {
-                Err(stopped(tokens, &cursor))
+                Err(error_at(tokens, &cursor, Stop::Syntax))
             }
         }
     }
 }
 
-/// The error at the first token that wasn't read.
-fn stopped(tokens: &[Token], cursor: &Cursor<'_>) -> ParseError
+/// The error of a rule that stopped at the cursor.
+fn error_at(tokens: &[Token], cursor: &Cursor<'_>, stop: Stop) -> ParseError
     requires { length tokens.now ≤ 200000 }
-    ensures syntax { result ≢ Memory }
-    ensures within { IsWithin (length tokens.now) result }
+    ensures { result ≡ the_error stop tokens.now cursor.now }
 {
-    let read = tokens.len().saturating_sub(cursor.left());
-    ParseError::Syntax(read as u32)
+    let number = tokens.len().saturating_sub(cursor.left()) as u32;
+    match (stop, cursor.start()) {
+        (Stop::Memory, _) => ParseError::Memory,
+        (Stop::TooDeep, Some(from)) => ParseError::TooDeep(from),
+        _ => ParseError::Syntax(number),
+    }
 }
