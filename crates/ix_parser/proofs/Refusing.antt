@@ -2,6 +2,7 @@
 use Rattle.std.proofs.Common.{◌≡◌, ◌≢◌, ◌≤◌, ◌<◌, ◌+◌, ◌-◌, ℕ, zero, suc, List, [], ◌∷◌, ◌++◌, length, drop, Bool, true, false, cond, Option, Some, None, Result, Ok, Err, refl, sym, ap, subst, ◌∙◌, arith, nat_lt, ◌⊎◌, inl, inr}
 use Rattle.std.proofs.lemmas.List.{length-append}
 use Rattle.ix_lexer.specs.declared.token.Token.{Token}
+use Rattle.ix_lexer.specs.Spans.{InOrder}
 use Rattle.ix_tree.specs.declared.decl.Unit.{Unit as Source}
 use Rattle.ix_parser.specs.declared.classes.FoundUnit.{FoundUnit}
 use Rattle.ix_parser.specs.declared.error.ParseError.{ParseError}
@@ -11,7 +12,7 @@ use Rattle.ix_parser.specs.declared.error.Stop.TheVariants as stop
 use Rattle.ix_parser.specs.Rule.{Rule, pure, take, bind, stop, loop, Turn, On, Done, Outcome, Parser, and_then, look, rest, taken, turned, turns, run}
 use Rattle.ix_parser.specs.SourceRules.{source}
 use Rattle.ix_parser.specs.Begins.{IsLowSource, NoneBegins}
-use Rattle.ix_parser.specs.Refusals.{HasTree, Refused, no_further, left_over, too_deep, NoneGoesOn, place, error_at}
+use Rattle.ix_parser.specs.Refusals.{HasTree, Refused, no_further, left_over, too_deep, NoneGoesOn, IsWithin, place, error_at}
 use Rattle.ix_parser.proofs.Runs.{local, Local, left_of, same_ok}
 use Rattle.ix_parser.proofs.SourceLaws.{source_is, source_is_read, none_begins, none_goes_on}
 
@@ -179,3 +180,24 @@ pub stop_none : (tokens left : List Token) (why : Stop) → Stopped tokens left 
 stop_none tokens left stop.Syntax h = none_at tokens left stop.Syntax (h (λ same. cc))
 stop_none tokens left stop.TooDeep h = none_at tokens left stop.TooDeep (h (λ same. cc))
 stop_none tokens left stop.Memory h = tt
+
+-- ---- the place of an error lies in the text
+
+ends_later : (from end : ℕ) (tokens : List Token) → InOrder from end tokens → from ≤ end
+ends_later from end [] o = o
+ends_later from end (t ∷ tokens) (a, b, c) = omega (arith, a, b, ends_later t.span.to end tokens c)
+
+starts_within : (from end : ℕ) (tokens later : List Token) (token : Token) → InOrder from end tokens → tokens ≡ token ∷ later → token.span.from < end
+starts_within from end [] later token o h = absurd (some token later (sym h))
+starts_within from end (t ∷ tokens) later token (a, b, c) h =
+    let same : t ≡ token = cc in rw (sym same) (omega (arith, b, ends_later t.span.to end tokens c))
+
+drop_starts : (n from end : ℕ) (tokens later : List Token) (token : Token) → InOrder from end tokens → drop n tokens ≡ token ∷ later → token.span.from < end
+drop_starts zero from end tokens later token o h = starts_within from end tokens later token o h
+drop_starts (suc n) from end [] later token o h = absurd (some token later (sym h))
+drop_starts (suc n) from end (t ∷ tokens) later token (a, b, c) h = drop_starts n t.span.to end tokens later token c h
+
+pub within_by : (tokens : List Token) (end : ℕ) (e : ParseError) → InOrder 0 end tokens → NoneGoesOn tokens e → IsWithin (length tokens) end e
+within_by tokens end (error.Syntax number) o n = n.0
+within_by tokens end (error.TooDeep from) o (number, token, later, at, is, none) = omega (arith, is, drop_starts number 0 end tokens later token o at)
+within_by tokens end error.Memory o n = tt

@@ -1,5 +1,5 @@
 -- What trees tokens have, and where tokens that have none are refused.
-use Rattle.std.specs.Prelude.{◌≡◌, ◌≤◌, ◌-◌, ℕ, List, [], ◌∷◌, length, drop, Option, Some, None, Ok, Err}
+use Rattle.std.specs.Prelude.{◌≡◌, ◌≤◌, ◌<◌, ◌-◌, ℕ, List, [], ◌∷◌, length, drop, Option, Some, None, Ok, Err}
 use Rattle.ix_lexer.specs.declared.token.Token.{Token}
 use Rattle.ix_tree.specs.declared.decl.Unit.{Unit as Source}
 use Rattle.ix_parser.specs.declared.classes.FoundUnit.{FoundUnit}
@@ -45,3 +45,9 @@ NoneGoesOn tokens (error.Syntax number) = (number ≤ length tokens) × NoneBegi
 NoneGoesOn tokens (error.TooDeep from) =
     (number : ℕ) × (token : Token) × (later : List Token) × (drop number tokens ≡ token ∷ later) × (token.span.from ≡ from) × NoneBegins tokens (token ∷ later)
 NoneGoesOn tokens error.Memory = Unit {0}
+
+-- An error stands at one of `count` tokens or their end, or at a byte before `end`. Want of memory has no place.
+abbrev pub IsWithin : ℕ → ℕ → ParseError → Type 0
+IsWithin count end (error.Syntax number) = number ≤ count
+IsWithin count end (error.TooDeep from) = from < end
+IsWithin count end error.Memory = Unit {0}

@@ -2,7 +2,7 @@
 ghost use Rattle.std.specs.Prelude.{◌≡◌, ◌≢◌, ◌≤◌, ◌⊎◌, length, IfOk, IfErr, MatchResult};
 ghost use Rattle.ix_lexer.specs.Spans.{InOrder};
 ghost use Rattle.ix_tree.specs.declared.decl.Unit.{Unit as Source};
-ghost use Rattle.ix_parser.specs.Refusals.{HasTree, Refused, NoneGoesOn, error_at as the_error};
+ghost use Rattle.ix_parser.specs.Refusals.{HasTree, Refused, NoneGoesOn, IsWithin, error_at as the_error};
 ghost use Rattle.ix_parser.specs.declared.error.ParseError.{ParseError as Refusal};
 ghost use Rattle.ix_parser.specs.declared.error.ParseError.TheVariants.{Memory};
 
@@ -29,6 +29,7 @@ pub fn parse(alloc: Global, tokens: &[Token], end: u32) -> Result<Unit, ParseErr
     ensures refused { IfErr result (λ error. error ≢ Memory → Refused tokens.now error) }
     ensures only_refused { (error : Refusal) → Refused tokens.now error → MatchResult result (λ found. ⊥) (λ other. (other ≡ error) ⊎ (other ≡ Memory)) }
     ensures none_goes_on { IfErr result (NoneGoesOn tokens.now) }
+    ensures within { IfErr result (IsWithin (length tokens.now) end) }
 {
     let mut cursor = Cursor::new(tokens);
     match source(alloc, &mut cursor) {

@@ -37,3 +37,10 @@ returns-else-left-eq0-clause-only_refused c = λ e d. let o = refusing.only_over
 pub returns-else-left-eq0-clause-none_goes_on : goal.returns-else-left-eq0-clause-none_goes_on
 returns-else-left-eq0-clause-none_goes_on c =
     subst (λ e. NoneGoesOn c.args.tokens.now e) (sym c.error_at-else-left-eq0.ensures) (refusing.none_behind _ _ _ (λ none. c.if-left-eq0.false (c.left.ensures ∙ none)) (refusing.from_whole _ _ _ _ c.new-cursor.ensures c.in-Ok.ensures.reads))
+
+pub returns-in-Err-clause-within : goal.returns-in-Err-clause-within
+returns-in-Err-clause-within c = refusing.within_by _ _ _ c.requires.in_order (subst (λ e. NoneGoesOn c.args.tokens.now e) (sym c.error_at.ensures) (refusing.stop_none _ _ _ (refusing.from_stop _ _ _ _ c.new-cursor.ensures c.in-Err.ensures.reads)))
+
+pub returns-else-left-eq0-clause-within : goal.returns-else-left-eq0-clause-within
+returns-else-left-eq0-clause-within c = refusing.within_by _ _ _ c.requires.in_order (subst (λ e. NoneGoesOn c.args.tokens.now e) (sym c.error_at-else-left-eq0.ensures)
+    (refusing.none_behind _ _ _ (λ none. c.if-left-eq0.false (c.left.ensures ∙ none)) (refusing.from_whole _ _ _ _ c.new-cursor.ensures c.in-Ok.ensures.reads)))
