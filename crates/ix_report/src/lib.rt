@@ -8,4 +8,4 @@
 
 mod texts;
 
-pub use texts::{accepted, rejected};
+pub use texts::{accepted, broken, past_bytes, past_limit, rejected};

@@ -1,5 +1,5 @@
-//! The text of an accepted source and that of a rejected one.
-ghost use Rattle.std.specs.Prelude.{◌≡◌, length, IfOk, string_bytes};
+//! The texts of accepted sources, of rejected ones and of those that pass a limit.
+ghost use Rattle.std.specs.Prelude.{◌≡◌, ◌≤◌, length, IfOk, string_bytes};
 ghost use Rattle.ix_report.specs.Texts as spec;
 
 use ix_core::Error;
@@ -56,4 +56,42 @@ pub fn rejected(
     let count = errors.len();
     write!(text, "rejected: {count} errors\n")?;
     Ok(text)
+}
+
+/// The lines of a source with a lexical error or a syntax error at the byte `at`, which users know by that key. Such a source has no other
+/// error.
+pub fn broken(
+    alloc: Global,
+    lines: &LineMap,
+    file: &str,
+    at: u32,
+    key: &str,
+) -> Result<String, AllocError>
+    requires { at ≤ length lines.now }
+    ensures { IfOk result (λ text. string_bytes text ≡ spec.broken file.now lines.now at key.now) }
+{
+    let (line, column) = lines.place(at);
+    format!(in alloc; "{file}:{line}:{column}: {key}\nrejected: 1 errors\n")
+}
+
+/// The line of a source that passes the limit of that name at the byte `at`.
+pub fn past_limit(
+    alloc: Global,
+    lines: &LineMap,
+    file: &str,
+    at: u32,
+    name: &str,
+) -> Result<String, AllocError>
+    requires { at ≤ length lines.now }
+    ensures { IfOk result (λ text. string_bytes text ≡ spec.past_limit file.now lines.now at name.now) }
+{
+    let (line, column) = lines.place(at);
+    format!(in alloc; "{file}:{line}:{column}: limit: {name}\n")
+}
+
+/// The line of a source that has more bytes than a source may have.
+pub fn past_bytes(alloc: Global, file: &str) -> Result<String, AllocError>
+    ensures { IfOk result (λ text. string_bytes text ≡ spec.past_bytes file.now) }
+{
+    format!(in alloc; "{file}: limit: source bytes\n")
 }
