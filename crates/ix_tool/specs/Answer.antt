@@ -1,17 +1,21 @@
 -- What the tool is to answer: a status and the texts on both sinks, from the words and the bytes of the file that they name.
-use Rattle.std.specs.Prelude.{◌≡◌, ◌≤◌, ℕ, List, [], ◌∷◌, ◌++◌, Option, Some, None, length, codes, string_bytes}
+use Rattle.std.specs.Prelude.{◌≡◌, ◌≤◌, ◌<◌, ℕ, List, [], ◌∷◌, ◌++◌, Option, Some, None, length, drop, codes, string_bytes}
+use Rattle.ix_lexer.specs.declared.token.LexError.{LexError}
+use Rattle.ix_lexer.specs.declared.token.LexError.TheVariants as lexical
 use Rattle.ix_lexer.specs.declared.token.Token.{Token}
-use Rattle.ix_lexer.specs.Tokens.{Tokens, most_tokens}
+use Rattle.ix_lexer.specs.Tokens.{Tokens, Fails, most_tokens}
 use Rattle.ix_tree.specs.declared.decl.Unit.{Unit as Source}
-use Rattle.ix_parser.specs.Grammar.{Derives}
+use Rattle.ix_parser.specs.declared.error.ParseError.{ParseError}
+use Rattle.ix_parser.specs.declared.error.ParseError.TheVariants as syntax
+use Rattle.ix_parser.specs.Refusals.{HasTree, Refused}
 use Rattle.ix_core.specs.declared.error.Error.{Error}
 use Rattle.ix_check.specs.declared.check_source.Counts.{Counts}
 use Rattle.ix_check.specs.Rules.{errors_of}
 use Rattle.ix_check.specs.Counts.{counts_of}
-use Rattle.ix_report.specs.Texts.{line, accepted, rejected}
+use Rattle.ix_report.specs.Texts.{line, accepted, rejected, broken, past_limit, past_bytes}
 use Rattle.ix_tool.specs.declared.reply.Reply.{Reply}
 use Rattle.ix_tool.specs.declared.status.Status.{Status}
-use Rattle.ix_tool.specs.declared.status.Status.TheVariants.{Done, Rejected, Usage, Unbuilt}
+use Rattle.ix_tool.specs.declared.status.Status.TheVariants.{Done, Rejected, Usage, Limit, Unbuilt}
 
 -- a status and the texts on the two sinks
 pub record Answer : Type 0 where
@@ -23,38 +27,92 @@ pub record Answer : Type 0 where
 abbrev pub shown : Reply → Answer
 shown reply = record { status = reply.status; out = string_bytes reply.out; err = string_bytes reply.err }
 
--- how many bytes of a source are judged
-abbrev pub most_bytes : ℕ
-most_bytes = 65536
+-- an answer that writes to one sink alone
+abbrev pub out_answer : Status → List ℕ → Answer
+out_answer status text = record { status = status; out = text; err = [] }
 
--- The bytes are a source of the form that is built, with these counts and these errors.
-pub record IsBuilt (bytes : List ℕ) (counts : Counts) (errors : List Error) : Type 0 where
-  pub short : length bytes ≤ most_bytes
-  pub tokens : List Token
-  pub lexed : Tokens bytes tokens
-  pub few : length tokens ≤ most_tokens
-  pub source : Source
-  pub parsed : Derives tokens source
-  pub counted : counts_of source ≡ Some counts
-  pub judged : errors_of source ≡ Some errors
+abbrev pub err_answer : Status → List ℕ → Answer
+err_answer status text = record { status = status; out = []; err = text }
+
+-- how many bytes a source may have
+abbrev pub most_bytes : ℕ
+most_bytes = 1048576
+
+-- ---- what the bytes of a file turn out to be
+
+pub data Finding : Type 0 where
+  -- more bytes than a source may have
+  TooLong : Finding
+  -- a lexical error or a syntax error at a byte, by its key
+  Broken : ℕ → List ℕ → Finding
+  -- a limit that is passed at a byte, by its name
+  Past : ℕ → List ℕ → Finding
+  -- a source of a form that isn't built yet
+  NotBuilt : Finding
+  -- a source with these counts and these errors
+  Judged : Counts → List Error → Finding
+
+-- a text without tokens; want of memory is no finding
+abbrev pub of_lex_error : LexError → Option Finding
+of_lex_error (lexical.BadUtf8 at) = Some (Broken at (codes "bad.utf8"))
+of_lex_error (lexical.BadChar at) = Some (Broken at (codes "bad.character"))
+of_lex_error (lexical.OpenComment at) = Some (Broken at (codes "open.comment"))
+of_lex_error (lexical.OpenString at) = Some (Broken at (codes "open.string"))
+of_lex_error (lexical.BadNumber at) = Some (Broken at (codes "bad.number"))
+of_lex_error (lexical.TooMany at) = Some (Past at (codes "tokens"))
+of_lex_error lexical.Memory = None
+
+-- where the first of these tokens starts, or the text's end
+abbrev pub start_of : List Token → ℕ → ℕ
+start_of [] end = end
+start_of (token ∷ later) end = token.span.from
+
+-- tokens without a tree, in a text of that length
+abbrev pub of_parse_error : List Token → ℕ → ParseError → Option Finding
+of_parse_error tokens end (syntax.Syntax number) = Some (Broken (start_of (drop number tokens) end) (codes "syntax"))
+of_parse_error tokens end (syntax.TooDeep from) = Some (Past from (codes "height"))
+of_parse_error tokens end syntax.Memory = None
+
+abbrev pub judged_by : Option Counts → Option (List Error) → Finding
+judged_by (Some counts) (Some errors) = Judged counts errors
+judged_by _ _ = NotBuilt
+
+abbrev pub of_source : Source → Finding
+of_source source = judged_by (counts_of source) (errors_of source)
+
+-- This is found of the tokens of a text of that length.
+pub data FoundOf (tokens : List Token) (end : ℕ) : Finding → Type 0 where
+  no_tree : {finding : Finding} (why : ParseError) → Refused tokens why → of_parse_error tokens end why ≡ Some finding → FoundOf tokens end finding
+  tree : (source : Source) → HasTree tokens source → FoundOf tokens end (of_source source)
+
+-- This is found of the bytes of a file. The first that holds decides: too many bytes, no tokens, no tree, the form, the errors.
+pub data Found (bytes : List ℕ) : Finding → Type 0 where
+  too_long : most_bytes < length bytes → Found bytes TooLong
+  no_tokens : {finding : Finding} (why : LexError) → length bytes ≤ most_bytes → Fails bytes why → of_lex_error why ≡ Some finding → Found bytes finding
+  lexed : {finding : Finding} (tokens : List Token) → length bytes ≤ most_bytes → Tokens bytes tokens → length tokens ≤ most_tokens → FoundOf tokens (length bytes) finding
+      → Found bytes finding
+
+-- ---- the answer
 
 -- the answer on a source with these counts and errors
 abbrev pub verdict : List ℕ → List ℕ → Counts → List Error → Answer
-verdict file bytes counts [] = record { status = Done; out = accepted counts.methods counts.accesses; err = [] }
-verdict file bytes counts (error ∷ errors) = record { status = Rejected; out = rejected file bytes (error ∷ errors); err = [] }
+verdict file bytes counts [] = out_answer Done (accepted counts.methods counts.accesses)
+verdict file bytes counts (error ∷ errors) = out_answer Rejected (rejected file bytes (error ∷ errors))
 
--- the answer on a source of a form that isn't built yet
-abbrev pub unbuilt : List ℕ → Answer
-unbuilt file = record { status = Unbuilt; out = []; err = file ++ line (codes ": not built yet") }
+abbrev pub answer_on : List ℕ → List ℕ → Finding → Answer
+answer_on file bytes TooLong = err_answer Limit (past_bytes file)
+answer_on file bytes (Broken at key) = out_answer Rejected (broken file bytes at key)
+answer_on file bytes (Past at name) = err_answer Limit (past_limit file bytes at name)
+answer_on file bytes NotBuilt = err_answer Unbuilt (file ++ line (codes ": not built yet"))
+answer_on file bytes (Judged counts errors) = verdict file bytes counts errors
 
 -- This is the answer on the file of that name with these bytes.
-pub data IsVerdict (file bytes : List ℕ) : Answer → Type 0 where
-  judged : {counts : Counts} {errors : List Error} → IsBuilt bytes counts errors → IsVerdict file bytes (verdict file bytes counts errors)
-  not_built : ((counts : Counts) (errors : List Error) → IsBuilt bytes counts errors → ⊥) → IsVerdict file bytes (unbuilt file)
+abbrev pub IsVerdict : List ℕ → List ℕ → Answer → Type 0
+IsVerdict file bytes answer = (finding : Finding) × Found bytes finding × (answer ≡ answer_on file bytes finding)
 
 -- the answer to words that are no command
 abbrev pub usage : Answer
-usage = record { status = Usage; out = []; err = line (codes "usage: indexcheck check FILE | run FILE CLASS.METHOD -- INPUTS | bench N") }
+usage = err_answer Usage (line (codes "usage: indexcheck check FILE | run FILE CLASS.METHOD -- INPUTS | bench N"))
 
 -- This is the answer to a command, where the file that it names has these bytes.
 abbrev pub Answers : Option (List ℕ) → List ℕ → Answer → Type 0

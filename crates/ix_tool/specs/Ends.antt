@@ -3,7 +3,7 @@ use Rattle.std.specs.Prelude.{◌≡◌, ℕ, List, [], Option, Some, None, take
 use Rattle.ix_lexer.specs.declared.token.Token.{Token}
 use Rattle.ix_lexer.specs.Tokens.{Tokens}
 use Rattle.ix_tree.specs.declared.decl.Unit.{Unit as Source}
-use Rattle.ix_parser.specs.Grammar.{Derives}
+use Rattle.ix_parser.specs.Refusals.{HasTree}
 use Rattle.ix_check.specs.Promise.{IsSafe}
 use Rattle.ix_tool.specs.Outside.{Files, bytes_under, Rose, with_more}
 use Rattle.ix_tool.specs.Answer.{Answer, Answers, read_failed, out_of_memory}
@@ -98,7 +98,7 @@ pub record SafeBytes (bytes : List ℕ) : Type 0 where
   pub tokens : List Token
   pub lexed : Tokens bytes tokens
   pub source : Source
-  pub parsed : Derives tokens source
+  pub parsed : HasTree tokens source
   pub safe : IsSafe source
 
 -- Bytes that were read are safe.

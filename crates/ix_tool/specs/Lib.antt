@@ -4,3 +4,4 @@ pub mod Statuses
 pub mod Answer
 pub mod Reading
 pub mod Ends
+pub mod Findings

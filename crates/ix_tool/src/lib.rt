@@ -8,6 +8,7 @@
 
 mod command;
 mod faults;
+mod finding;
 mod memory_sink;
 mod memory_source;
 mod reading;

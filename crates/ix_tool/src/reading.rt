@@ -6,8 +6,8 @@ ghost use Rattle.ix_tool.specs.Reading.{IsAllOrPast, most_turns};
 use crate::source::{OpenError, Source};
 use std::alloc::Global;
 
-/// The most bytes that are read before reading stops; it stops once one more was read.
-pub(crate) const MOST_BYTES: usize = 65536;
+/// How many bytes a source may have. Reading stops once one more was read.
+pub(crate) const MOST_BYTES: usize = 1_048_576;
 
 /// How many bytes are asked for at once.
 const BUFFER: usize = 4096;
@@ -19,7 +19,7 @@ pub(crate) enum ReadError {
     Memory,
 }
 
-/// Reads the opened file to its end, or past the most bytes. Each turn takes one byte at least until the end, so there are at most 65,537.
+/// Reads the opened file to its end, or past the most bytes. Each turn takes one byte at least until the end, so there are at most 1,048,577.
 fn read_rest<S: Source>(alloc: Global, files: &mut S) -> Result<Vec<u8>, ReadError>
     requires { S.IsOpened files.old }
     ensures bytes { IfOk result (λ read. (all : List ℕ) → S.left files.old ≡ Some all → IsAllOrPast all read.items) }

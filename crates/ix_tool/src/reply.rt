@@ -1,23 +1,14 @@
 //! The reply to a command, before it is written.
-ghost use Rattle.std.specs.Prelude.{◌≡◌, ◌≢◌, ◌≤◌, ◌<◌, ◌^◌, List, length, IfOk, MatchResult};
-ghost use Rattle.ix_lexer.specs.declared.token.Token.{Token};
-ghost use Rattle.ix_lexer.specs.Tokens.{Tokens, most_tokens};
-ghost use Rattle.ix_tree.specs.declared.decl.Unit.{Unit as Source};
-ghost use Rattle.ix_parser.specs.Grammar.{Derives};
-ghost use Rattle.ix_core.specs.declared.error.Error.{Error};
-ghost use Rattle.ix_check.specs.declared.check_source.Counts.{Counts};
-ghost use Rattle.ix_check.specs.declared.error.UnitError.TheVariants.{Memory};
-ghost use Rattle.ix_tool.specs.Answer.{Answer, IsBuilt, IsVerdict, shown, verdict, unbuilt, usage};
+ghost use Rattle.std.specs.Prelude.{◌≡◌, ◌≢◌, ◌≤◌, length, IfOk, string_bytes};
+ghost use Rattle.ix_tool.specs.Answer.{Answer, IsVerdict, TooLong, Broken, Past, out_answer, err_answer, answer_on, shown, verdict, usage};
+ghost use Rattle.ix_tool.specs.Findings.{seen, IsPlaced};
 
-use crate::reading::MOST_BYTES;
+use crate::finding::{Finding, of_bytes};
 use crate::status::Status;
-use ix_check::{Counts, UnitError, check_unit, count_unit};
+use ix_check::Counts;
 use ix_core::Error;
-use ix_lexer::{LexError, Token, lex};
-use ix_parser::{ParseError, parse};
-use ix_report::{accepted, rejected};
+use ix_report::{accepted, broken, past_bytes, past_limit, rejected};
 use ix_text::LineMap;
-use ix_tree::Unit;
 use std::alloc::{AllocError, Global};
 
 /// A status with the texts of both sinks.
@@ -28,91 +19,104 @@ pub(crate) struct Reply {
     pub(crate) err: String,
 }
 
-/// What the source is counted by, and its errors.
-#[derive(Drop)]
-struct Judgement {
-    counts: Counts,
-    errors: Vec<Error>,
-}
-
-/// The tokens of a short text.
-fn tokens_of(alloc: Global, bytes: &[u8]) -> Result<Vec<Token>, UnitError>
-    requires { length bytes.now ≤ 65536 }
-    ensures found { IfOk result (λ tokens. Tokens bytes.now tokens.items × (length tokens.items ≤ most_tokens)) }
-    ensures only { (tokens : List Token) → Tokens bytes.now tokens → length tokens ≤ most_tokens → MatchResult result (λ found. found.items ≡ tokens) (λ error. error ≡ Memory) }
+/// A reply that writes to `out` alone.
+fn on_out(alloc: Global, status: Status, out: String) -> Reply
+    ensures { shown result ≡ out_answer status (string_bytes out) }
 {
-    match lex(alloc, bytes) {
-        Ok(tokens) => Ok(tokens),
-        Err(LexError::Memory) => Err(UnitError::Memory),
-        Err(_) => Err(UnitError::Unbuilt),
+    Reply {
+        status,
+        out,
+        err: String::new(alloc),
     }
 }
 
-/// The tree of tokens.
-fn tree_of(alloc: Global, tokens: &[Token], end: u32) -> Result<Unit, UnitError>
-    requires { length tokens.now ≤ 200000 }
-    ensures found { IfOk result (λ source. Derives tokens.now source) }
-    ensures only { (source : Source) → Derives tokens.now source → MatchResult result (λ found. found ≡ source) (λ error. error ≡ Memory) }
+/// A reply that writes to `err` alone.
+fn on_err(alloc: Global, status: Status, err: String) -> Reply
+    ensures { shown result ≡ err_answer status (string_bytes err) }
 {
-    match parse(alloc, tokens, end) {
-        Ok(unit) => Ok(unit),
-        Err(ParseError::Memory) => Err(UnitError::Memory),
-        Err(ParseError::Syntax(_)) => Err(UnitError::Unbuilt),
+    Reply {
+        status,
+        out: String::new(alloc),
+        err,
     }
-}
-
-/// What the bytes are judged to be, where they are a source of the form that is built.
-fn judge(alloc: Global, bytes: &[u8]) -> Result<Judgement, UnitError>
-    ensures found { IfOk result (λ judgement. IsBuilt bytes.now judgement.counts judgement.errors.items) }
-    ensures only { (counts : Counts) (errors : List Error) → IsBuilt bytes.now counts errors
-        → MatchResult result (λ judgement. (judgement.counts ≡ counts) × (judgement.errors.items ≡ errors)) (λ error. error ≡ Memory) }
-{
-    if bytes.len() > MOST_BYTES {
-        return Err(UnitError::Unbuilt);
-    }
-    let tokens = tokens_of(alloc, bytes)?;
-    let unit = tree_of(alloc, &tokens, bytes.len() as u32)?;
-    let counts = count_unit(alloc, &unit)?;
-    let errors = check_unit(alloc, &unit)?;
-    Ok(Judgement { counts, errors })
 }
 
 /// The reply on a source that is judged.
-fn verdict_reply(
+fn judged_reply(
     alloc: Global,
     name: &str,
     bytes: &[u8],
-    judgement: &Judgement,
+    counts: Counts,
+    errors: &[Error],
 ) -> Result<Reply, AllocError>
-    requires { length bytes.now ≤ 65536 }
-    ensures { IfOk result (λ reply. shown reply ≡ verdict name.now bytes.now judgement.now.counts judgement.now.errors.items) }
+    requires { length bytes.now ≤ 1048576 }
+    ensures { IfOk result (λ reply. shown reply ≡ verdict name.now bytes.now counts errors.now) }
 {
-    let counts = judgement.counts;
-    if judgement.errors.is_empty() {
-        return Ok(Reply {
-            status: Status::Done,
-            out: accepted(alloc, counts.methods, counts.accesses)?,
-            err: String::new(alloc),
-        });
+    if errors.is_empty() {
+        let out = accepted(alloc, counts.methods, counts.accesses)?;
+        return Ok(on_out(alloc, Status::Done, out));
     }
     let lines = LineMap::new(alloc, bytes)?;
     let end = bytes.len() as u32;
-    Ok(Reply {
-        status: Status::Rejected,
-        out: rejected(alloc, &lines, end, name, &judgement.errors)?,
-        err: String::new(alloc),
-    })
+    let out = rejected(alloc, &lines, end, name, errors)?;
+    Ok(on_out(alloc, Status::Rejected, out))
 }
 
-/// The reply on a source of a form that isn't built yet.
-fn unbuilt_reply(alloc: Global, name: &str) -> Result<Reply, AllocError>
-    ensures { IfOk result (λ reply. shown reply ≡ unbuilt name.now) }
+/// The reply on a source with a lexical error or a syntax error at the byte `at`.
+fn broken_reply(
+    alloc: Global,
+    name: &str,
+    bytes: &[u8],
+    at: u32,
+    key: &str,
+) -> Result<Reply, AllocError>
+    requires short { length bytes.now ≤ 1048576 }
+    requires within { at ≤ length bytes.now }
+    ensures { IfOk result (λ reply. shown reply ≡ answer_on name.now bytes.now (Broken at key.now)) }
 {
-    Ok(Reply {
-        status: Status::Unbuilt,
-        out: String::new(alloc),
-        err: format!(in alloc; "{name}: not built yet\n")?,
-    })
+    let lines = LineMap::new(alloc, bytes)?;
+    let out = broken(alloc, &lines, name, at, key)?;
+    Ok(on_out(alloc, Status::Rejected, out))
+}
+
+/// The reply on a source that passes a limit at the byte `at`.
+fn past_reply(
+    alloc: Global,
+    name: &str,
+    bytes: &[u8],
+    at: u32,
+    limit: &str,
+) -> Result<Reply, AllocError>
+    requires short { length bytes.now ≤ 1048576 }
+    requires within { at ≤ length bytes.now }
+    ensures { IfOk result (λ reply. shown reply ≡ answer_on name.now bytes.now (Past at limit.now)) }
+{
+    let lines = LineMap::new(alloc, bytes)?;
+    let err = past_limit(alloc, &lines, name, at, limit)?;
+    Ok(on_err(alloc, Status::Limit, err))
+}
+
+/// The reply on the file of that name with these bytes, of which this is found.
+fn finding_reply(
+    alloc: Global,
+    name: &str,
+    bytes: &[u8],
+    finding: &Finding,
+) -> Result<Reply, AllocError>
+    requires short { seen finding.now ≢ TooLong → length bytes.now ≤ 1048576 }
+    requires placed { IsPlaced (length bytes.now) (seen finding.now) }
+    ensures { IfOk result (λ reply. shown reply ≡ answer_on name.now bytes.now (seen finding.now)) }
+{
+    match finding {
+        Finding::TooLong => Ok(on_err(alloc, Status::Limit, past_bytes(alloc, name)?)),
+        Finding::Broken(at, key) => broken_reply(alloc, name, bytes, *at, key),
+        Finding::Past(at, limit) => past_reply(alloc, name, bytes, *at, limit),
+        Finding::NotBuilt => {
+            let err = format!(in alloc; "{name}: not built yet\n")?;
+            Ok(on_err(alloc, Status::Unbuilt, err))
+        }
+        Finding::Judged(counts, errors) => judged_reply(alloc, name, bytes, *counts, errors),
+    }
 }
 
 /// The reply on the file of that name with these bytes.
@@ -120,14 +124,8 @@ pub(crate) fn reply_on(alloc: Global, name: &str, bytes: &[u8]) -> Result<Reply,
     ensures right { IfOk result (λ reply. IsVerdict name.now bytes.now (shown reply)) }
     ensures only { (answer : Answer) → IsVerdict name.now bytes.now answer → IfOk result (λ reply. shown reply ≡ answer) }
 {
-    if bytes.len() > MOST_BYTES {
-        return unbuilt_reply(alloc, name);
-    }
-    match judge(alloc, bytes) {
-        Ok(judgement) => verdict_reply(alloc, name, bytes, &judgement),
-        Err(UnitError::Unbuilt) => unbuilt_reply(alloc, name),
-        Err(UnitError::Memory) => Err(AllocError),
-    }
+    let finding = of_bytes(alloc, bytes)?;
+    finding_reply(alloc, name, bytes, &finding)
 }
 
 /// The reply to words that are no command.

@@ -87,9 +87,11 @@ fn deliver<K: Sink, E: Sink>(reply: &Reply, out: &mut K, err: &mut E) -> Status
 /// `Usage` comes exactly where the words are no command. `ReadFault` comes only where the count of faults of `files` rose in this call and the
 /// named file wasn't sure when it began, `WriteFault` only where that of `out` or `err` rose in this call, and `Memory` for want of memory.
 /// `Done` promises besides that no run of the source's program, for any inputs that meet the entry's annotations and any number of steps,
-/// indexes outside an array or makes one of negative length. `Done`, `Rejected` and `Unbuilt` come exactly where the answer on the bytes that were read has that status.
+/// indexes outside an array or makes one of negative length. `Done`, `Rejected`, `Limit` and `Unbuilt` come exactly where the answer on the
+/// bytes that were read has that status: the first of too many bytes (`Limit`), a lexical error (`Rejected`) or too many tokens (`Limit`), a
+/// syntax error (`Rejected`) or too great a height (`Limit`), a form that isn't built yet (`Unbuilt`), rule errors (`Rejected`).
 ///
-/// Whatever the source, `files` is read at most 65,537 times in this call. Each of these turns takes at least one byte until the end: where
+/// Whatever the source, `files` is read at most 1,048,577 times in this call. Each of these turns takes at least one byte until the end: where
 /// the source tells its files, there is at most one turn more than the named file has bytes. Words that are no command read nothing.
 pub fn run_tool<S: Source, K: Sink, E: Sink>(
     alloc: Global,

@@ -17,4 +17,4 @@ invariant-reading g l = record {
 }
 
 abbrev pub decreases-reading : goal.decreases-reading
-decreases-reading g l = 65537 - length l.bytes.items
+decreases-reading g l = 1048577 - length l.bytes.items

@@ -1,0 +1,18 @@
+-- What a finding of the code says, and where it stands.
+use Rattle.std.specs.Prelude.{ℕ, ◌≤◌, List}
+use Rattle.ix_tool.specs.declared.finding.Finding.{Finding as Seen}
+use Rattle.ix_tool.specs.declared.finding.Finding.TheVariants as code
+use Rattle.ix_tool.specs.Answer.{Finding, TooLong, Broken, Past, NotBuilt, Judged}
+
+abbrev pub seen : Seen → Finding
+seen code.TooLong = TooLong
+seen (code.Broken at key) = Broken at key.now
+seen (code.Past at name) = Past at name.now
+seen code.NotBuilt = NotBuilt
+seen (code.Judged counts errors) = Judged counts errors.items
+
+-- The place of an error or a limit is not behind the end of the text.
+abbrev pub IsPlaced : ℕ → Finding → Type 0
+IsPlaced end (Broken at key) = at ≤ end
+IsPlaced end (Past at name) = at ≤ end
+IsPlaced end _ = Unit {0}

@@ -1,0 +1,123 @@
+//! What the bytes of a file turn out to be.
+ghost use Rattle.std.specs.Prelude.{◌≡◌, ◌≤◌, length, option_map, drop, IfOk};
+ghost use Rattle.ix_lexer.specs.Spans.{InOrder};
+ghost use Rattle.ix_tool.specs.Answer as spec;
+ghost use Rattle.ix_parser.specs.Refusals.{IsWithin as TokenWithin};
+ghost use Rattle.ix_tool.specs.Findings.{seen, IsPlaced};
+
+use crate::reading::MOST_BYTES;
+use ix_check::{Counts, UnitError, check_unit, count_unit};
+use ix_core::Error;
+use ix_lexer::{LexError, Token, lex};
+use ix_parser::{ParseError, parse};
+use ix_tree::Unit;
+use std::alloc::{AllocError, Global};
+
+/// What the bytes of a file turn out to be.
+#[derive(Drop)]
+pub(crate) enum Finding {
+    /// More bytes than a source may have.
+    TooLong,
+    /// A lexical error or a syntax error at a byte, by its key.
+    Broken(u32, &'static str),
+    /// A limit that is passed at a byte, by its name.
+    Past(u32, &'static str),
+    /// A source of a form that isn't built yet.
+    NotBuilt,
+    /// A source with its counts and its errors.
+    Judged(Counts, Vec<Error>),
+}
+
+/// What a text without tokens is; nothing where memory is wanting.
+fn of_lex_error(why: LexError) -> Option<Finding>
+    ensures { option_map seen result ≡ spec.of_lex_error why }
+{
+    match why {
+        LexError::BadUtf8(at) => Some(Finding::Broken(at, "bad.utf8")),
+        LexError::BadChar(at) => Some(Finding::Broken(at, "bad.character")),
+        LexError::OpenComment(at) => Some(Finding::Broken(at, "open.comment")),
+        LexError::OpenString(at) => Some(Finding::Broken(at, "open.string")),
+        LexError::BadNumber(at) => Some(Finding::Broken(at, "bad.number")),
+        LexError::TooMany(at) => Some(Finding::Past(at, "tokens")),
+        LexError::Memory => None,
+    }
+}
+
+/// Where the token of that number starts, or the end of the text.
+fn start_of(tokens: &[Token], number: u32, end: u32) -> u32
+    requires few { length tokens.now ≤ 200000 }
+    requires within { number ≤ length tokens.now }
+    ensures { result ≡ spec.start_of (drop number tokens.now) end }
+{
+    match &tokens[number as usize..] {
+        [] => end,
+        [token, ..] => token.span.from,
+    }
+}
+
+/// What tokens without a tree are; nothing where memory is wanting.
+fn of_parse_error(tokens: &[Token], end: u32, why: ParseError) -> Option<Finding>
+    requires few { length tokens.now ≤ 200000 }
+    requires within { TokenWithin (length tokens.now) end why }
+    ensures { option_map seen result ≡ spec.of_parse_error tokens.now end why }
+{
+    match why {
+        ParseError::Syntax(number) => {
+            Some(Finding::Broken(start_of(tokens, number, end), "syntax"))
+        }
+        ParseError::TooDeep(from) => Some(Finding::Past(from, "height")),
+        ParseError::Memory => None,
+    }
+}
+
+/// What a source is.
+fn of_unit(alloc: Global, unit: &Unit) -> Result<Finding, AllocError>
+    ensures found { IfOk result (λ finding. seen finding ≡ spec.of_source unit.now) }
+    ensures placed { IfOk result (λ finding. IsPlaced 0 (seen finding)) }
+{
+    let counts = match count_unit(alloc, unit) {
+        Ok(counts) => counts,
+        Err(UnitError::Unbuilt) => return Ok(Finding::NotBuilt),
+        Err(UnitError::Memory) => return Err(AllocError),
+    };
+    match check_unit(alloc, unit) {
+        Ok(errors) => Ok(Finding::Judged(counts, errors)),
+        Err(UnitError::Unbuilt) => Ok(Finding::NotBuilt),
+        Err(UnitError::Memory) => Err(AllocError),
+    }
+}
+
+/// What the tokens of a text of `end` bytes are.
+fn of_tokens(alloc: Global, tokens: &[Token], end: u32) -> Result<Finding, AllocError>
+    requires few { length tokens.now ≤ 200000 }
+    requires in_order { InOrder 0 end tokens.now }
+    ensures right { IfOk result (λ finding. spec.FoundOf tokens.now end (seen finding)) }
+    ensures only { (other : spec.Finding) → spec.FoundOf tokens.now end other → IfOk result (λ finding. seen finding ≡ other) }
+    ensures placed { IfOk result (λ finding. IsPlaced end (seen finding)) }
+{
+    match parse(alloc, tokens, end) {
+        Ok(unit) => of_unit(alloc, &unit),
+        Err(why) => match of_parse_error(tokens, end, why) {
+            Some(finding) => Ok(finding),
+            None => Err(AllocError),
+        },
+    }
+}
+
+/// What the bytes of a file are.
+pub(crate) fn of_bytes(alloc: Global, bytes: &[u8]) -> Result<Finding, AllocError>
+    ensures right { IfOk result (λ finding. spec.Found bytes.now (seen finding)) }
+    ensures only { (other : spec.Finding) → spec.Found bytes.now other → IfOk result (λ finding. seen finding ≡ other) }
+    ensures placed { IfOk result (λ finding. IsPlaced (length bytes.now) (seen finding)) }
+{
+    if bytes.len() > MOST_BYTES {
+        return Ok(Finding::TooLong);
+    }
+    match lex(alloc, bytes) {
+        Ok(tokens) => of_tokens(alloc, &tokens, bytes.len() as u32),
+        Err(why) => match of_lex_error(why) {
+            Some(finding) => Ok(finding),
+            None => Err(AllocError),
+        },
+    }
+}
