@@ -9,6 +9,8 @@
 mod command;
 mod faults;
 mod finding;
+#[cfg(test)]
+mod limit_tests;
 mod memory_sink;
 mod memory_source;
 mod reading;

@@ -3,7 +3,7 @@ use ix_text::{List, Text};
 use std::alloc::{AllocError, AllocFailed, Global};
 use std::test::Fail;
 
-const GET: &str = "class A { static int get(int[] a, @IndexFor(\"#1\") int i) { return a[i]; } }";
+pub(crate) const GET: &str = "class A { static int get(int[] a, @IndexFor(\"#1\") int i) { return a[i]; } }";
 
 const ACCEPTED: &str = "accepted: 1 methods, 1 accesses\n";
 
@@ -13,10 +13,10 @@ const UNBUILT: &str = "A.java: not built yet\n";
 
 /// What a call ended with: its status, and what the sinks took.
 #[derive(Drop)]
-struct Ended {
-    status: Status,
-    out: Vec<u8>,
-    err: Vec<u8>,
+pub(crate) struct Ended {
+    pub(crate) status: Status,
+    pub(crate) out: Vec<u8>,
+    pub(crate) err: Vec<u8>,
 }
 
 fn list_of(alloc: Global, bytes: &[u8]) -> Result<List<u8>, AllocError> {
@@ -51,7 +51,7 @@ fn words_of(alloc: Global, words: &[&str]) -> Result<Vec<String>, AllocError> {
 }
 
 /// The call with a file `A.java` of that text, where no call fails.
-fn run(alloc: Global, words: &[&str], text: &str) -> Result<Ended, AllocError> {
+pub(crate) fn run(alloc: Global, words: &[&str], text: &str) -> Result<Ended, AllocError> {
     let words = words_of(alloc, words)?;
     let mut files = SureSource::new(one_file(alloc, text)?);
     let mut out = SureSink::new(alloc);
@@ -105,6 +105,27 @@ fn rows(rt: HostRuntime) -> Result<(), Fail> {
             status: Status::Unbuilt,
             out: "",
             err: UNBUILT,
+        },
+        Row {
+            words: check,
+            text: "class A { static int low() { return 2147483648; } }",
+            status: Status::Rejected,
+            out: "A.java:1:37: syntax\nrejected: 1 errors\n",
+            err: "",
+        },
+        Row {
+            words: check,
+            text: "class A { static int low() { return 017; } }",
+            status: Status::Rejected,
+            out: "A.java:1:37: bad.number\nrejected: 1 errors\n",
+            err: "",
+        },
+        Row {
+            words: check,
+            text: "package p; import q.R; public final class A { static int get(int[] a, @IndexFor(\"#1\") int i) { return (a[(i)]); } }",
+            status: Status::Done,
+            out: ACCEPTED,
+            err: "",
         },
         Row {
             words: &["check", "B.java"],
@@ -199,15 +220,6 @@ fn with_claims(alloc: Global, count: u32) -> Result<String, AllocError> {
     Ok(text)
 }
 
-/// The first source with blanks behind it, up to that many bytes.
-fn with_blanks(alloc: Global, bytes: usize) -> Result<String, AllocError> {
-    let mut text = String::from_str(alloc, GET)?;
-    for _byte in GET.len()..bytes {
-        text.push_str(" ")?;
-    }
-    Ok(text)
-}
-
 fn status_of(alloc: Global, text: &str) -> Result<Status, AllocError> {
     Ok(run(alloc, &["check", "A.java"], text)?.status)
 }
@@ -237,14 +249,6 @@ fn limits(rt: HostRuntime) -> Result<(), Fail> {
     );
     assert_eq!(rt;
         status_of(alloc, with_claims(alloc, 17)?.as_str())?,
-        Status::Unbuilt
-    );
-    assert_eq!(rt;
-        status_of(alloc, with_blanks(alloc, 65536)?.as_str())?,
-        Status::Done
-    );
-    assert_eq!(rt;
-        status_of(alloc, with_blanks(alloc, 65537)?.as_str())?,
         Status::Unbuilt
     );
     Ok(())
