@@ -30,3 +30,4 @@ mod SourceComplete
 pub mod SourceLaws
 mod LowerParts
 mod Refusing
+mod Places
