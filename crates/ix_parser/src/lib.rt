@@ -20,6 +20,7 @@ mod grammar;
 mod laws;
 mod members;
 mod modifiers;
+mod nodes;
 mod parse_tree;
 mod statement_rules;
 mod statement_trees;
