@@ -21,6 +21,7 @@ mod laws;
 mod members;
 mod modifiers;
 mod nodes;
+mod operators;
 mod parse_tree;
 mod statement_rules;
 mod statement_trees;
