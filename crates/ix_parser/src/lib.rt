@@ -9,6 +9,7 @@
 #![tactic(auto)]
 
 mod annotations;
+mod arguments;
 mod classes;
 mod cursor;
 mod declarations;
