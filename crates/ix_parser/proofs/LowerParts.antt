@@ -1,5 +1,12 @@
 -- The rules for the parts of a node are those of a height that is lower, as the code computes it.
-use Rattle.std.proofs.Common.{◌≡◌, ℕ, ◌+◌, ◌-◌, ◌<◌, ◌≤◌, arith}
+use Rattle.std.proofs.Common.{◌≡◌, ℕ, ◌+◌, ◌-◌, ◌<◌, ◌≤◌, List, Result, arith}
+use Rattle.std.specs.declared.alloc.Global.{Global}
+use Rattle.std.specs.Borrow.{MutBor}
+use Rattle.ix_lexer.specs.declared.token.Token.{Token}
+use Rattle.ix_parser.specs.declared.error.Stop.{Stop}
+use Rattle.ix_parser.specs.declared.found.Found.{Found}
+use Rattle.ix_parser.specs.declared.grammar.Part.{Part}
+use Rattle.ix_parser.specs.Reading.{ReadsParts}
 use Rattle.ix_parser.specs.ExprRules.{below, inner, inner_init, expr, level, variable, init}
 use Rattle.ix_parser.proofs.Heights.{whole_below, level_below, variable_below, init_below, inner_below, inner_init_below}
 
@@ -24,3 +31,13 @@ inner_init_is left extra once room = inner_init_below left (left - (extra + 1)) 
 pub ruleset lower_parts = (lower_whole, lower_level, lower_variable, lower_init)
 
 pub ruleset inner_parts = (inner_is, inner_init_is)
+
+-- What reads the parts of a node reads those of a lower one.
+pub fewer_parts : (left lower : ℕ) {pre : Global → MutBor (List Token) → ℕ → Part → Type 0} {post : Global → MutBor (List Token) → ℕ → Part → Result Found Stop → MutBor (List Token) → Type 0}
+    → ReadsParts left pre post → lower ≤ left → ReadsParts lower pre post
+fewer_parts left lower p le = record {
+  callable = λ alloc old height part h few. p.callable alloc old height part (omega (arith, h, le)) few;
+  reads = p.reads;
+  no_longer = p.no_longer;
+  fits = p.fits;
+}
