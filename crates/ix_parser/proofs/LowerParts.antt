@@ -1,5 +1,5 @@
 -- The rules for the parts of a node are those of a height that is lower, as the code computes it.
-use Rattle.std.proofs.Common.{◌≡◌, ℕ, ◌+◌, ◌-◌, ◌<◌, ◌≤◌, List, Result, arith}
+use Rattle.std.proofs.Common.{◌≡◌, ℕ, ◌+◌, ◌-◌, ◌<◌, ◌≤◌, List, Result, Ok, Err, refl, arith}
 use Rattle.std.specs.declared.alloc.Global.{Global}
 use Rattle.std.specs.Borrow.{MutBor}
 use Rattle.ix_lexer.specs.declared.token.Token.{Token}
@@ -7,6 +7,7 @@ use Rattle.ix_parser.specs.declared.error.Stop.{Stop}
 use Rattle.ix_parser.specs.declared.found.Found.{Found}
 use Rattle.ix_parser.specs.declared.grammar.Part.{Part}
 use Rattle.ix_parser.specs.Reading.{ReadsParts}
+use Rattle.ix_parser.specs.Rule.{Rule, Outcome, Parser, bind, and_then, run}
 use Rattle.ix_parser.specs.ExprRules.{below, inner, inner_init, expr, level, variable, init}
 use Rattle.ix_parser.proofs.Heights.{whole_below, level_below, variable_below, init_below, inner_below, inner_init_below}
 
@@ -41,3 +42,13 @@ fewer_parts left lower p le = record {
   no_longer = p.no_longer;
   fits = p.fits;
 }
+
+then_again : {A B C : Type 0} (first : Outcome A) (f : A → Parser B) (g : B → Parser C) → and_then first (λ a ts. and_then (f a ts) g) ≡ and_then (and_then first f) g
+then_again (Ok p) f g = refl
+then_again (Err e) f g = refl
+
+-- Of three rules it is of no account which two are put together first.
+pub bind_twice : {A B C : Type 0} (first : Rule A) (second : A → Rule B) (third : B → Rule C) (tokens : List Token)
+    → run (bind first (λ a. bind (second a) third)) tokens ≡ run (bind (bind first second) third) tokens
+unfolding run
+bind_twice first second third tokens = then_again (run first tokens) (λ a. run (second a)) (λ b. run (third b))
