@@ -43,6 +43,16 @@ pub(crate) fn extra(aim: Aim, form: Form) -> u32
     }
 }
 
+/// Whether it creates an array.
+pub(crate) fn makes_array(form: Form) -> bool
+    ensures { result ≡ spec.makes_array form }
+{
+    match form {
+        Form::Array => true,
+        _ => false,
+    }
+}
+
 impl<F: Fn(Global, &mut Cursor<'_>, u32, Part) -> Result<Found, Stop>> Grammar<F> {
     /// A part of a node.
     #[tactic(auto, using(crate::proofs::LowerParts::lower_parts))]

@@ -1,18 +1,18 @@
 //! Primaries (JLS 15.8 to 15.12).
-ghost use Rattle.std.specs.Prelude.{◌<◌, ◌≤◌, ◌+◌, true, length, OnOk, IfOk};
+ghost use Rattle.std.specs.Prelude.{◌≡◌, ◌<◌, ◌≤◌, ◌+◌, true, Some, length, OnOk, IfOk};
 ghost use Rattle.ix_parser.specs.declared.found.Form.TheVariants.{Statement, Value, Variable};
-ghost use Rattle.ix_lexer.specs.declared.fixed.TheConstants.{CLOSE_BRACKET};
+ghost use Rattle.ix_lexer.specs.declared.fixed.TheConstants.{OPEN_BRACKET};
 ghost use Rattle.ix_parser.specs.ExprNodes as nodes;
 ghost use Rattle.ix_parser.specs.ExprRules as spec;
 ghost use Rattle.ix_parser.specs.Patterns.{a_name, a_sign};
 ghost use Rattle.ix_parser.specs.Reading.{GoesOn, ReadsParts};
-ghost use Rattle.ix_parser.specs.Rule.{run, take, bind, pure, loop, stop, On};
+ghost use Rattle.ix_parser.specs.Rule.{run, look, take, bind, pure, loop, stop, On};
 ghost use Rattle.ix_parser.specs.Taking.{Follows};
 
 use crate::cursor::Cursor;
 use crate::error::Stop;
 use crate::found::{Aim, Form, Found};
-use crate::grammar::{Grammar, Part, extra};
+use crate::grammar::{Grammar, Part, extra, makes_array};
 use crate::nodes::{called, called_on, element, leaf, named, selected, within};
 use ix_lexer::fixed::{CLOSE_BRACKET, CLOSE_PAREN, DOT, FALSE, NEW, NULL, OPEN_BRACKET, OPEN_PAREN, THIS, TRUE};
 use ix_text::Span;
@@ -202,24 +202,32 @@ impl<F: Fn(Global, &mut Cursor<'_>, u32, Part) -> Result<Found, Stop>> Grammar<F
         self.field_or_call(cursor, aim, object, name)
     }
 
-    /// `Expr "]"`, behind the opening bracket
-    #[tactic(auto, unfolding(crate::specs::Rule::run))]
-    fn behind_bracket(
+    /// `"[" Expr "]"`, at the opening bracket
+    #[tactic(auto, unfolding(crate::specs::Rule::run, crate::specs::ExprRules::index))]
+    fn index(
         &self,
         cursor: &mut Cursor<'_>,
         aim: Aim,
         array: Found,
+        _opening: Span,
     ) -> Result<Found, Stop>
         requires parts { ReadsParts self.now.left (F.pre self.now.part) (F.post self.now.part) }
         requires few { length cursor.old ≤ 200000 }
+        requires next { look (a_sign OPEN_BRACKET) cursor.old ≡ Some _opening }
+        requires there { 0 < length cursor.old }
         requires some { 0 < array.height }
-        requires room { spec.extra aim Variable + (array.height + 1) ≤ self.now.left }
-        ensures reads { GoesOn {B = Found} (run (bind (spec.inner (spec.below self.now.left) (spec.extra aim Variable)) (λ g. take (a_sign CLOSE_BRACKET) true (λ right. pure (On (nodes.element array g right))) stop)) cursor.old) result cursor.new }
-        ensures no_longer { OnOk result (length cursor.new ≤ length cursor.old) }
+        requires room { array.height ≤ self.now.left }
+        ensures reads { GoesOn {B = Found} (run (spec.index (spec.below self.now.left) aim self.now.left array) cursor.old) result cursor.new }
+        ensures shorter { OnOk result (length cursor.new < length cursor.old) }
         ensures fits { IfOk result (λ f. f.height ≤ self.now.left) }
         ensures some { IfOk result (λ f. 0 < f.height) }
     {
-        let index = self.inner(cursor, extra(aim, Form::Variable))?;
+        let extra = extra(aim, Form::Variable);
+        if self.left - array.height <= extra {
+            return Err(Stop::TooDeep);
+        }
+        cursor.advance();
+        let index = self.inner(cursor, extra)?;
         let Some(right) = cursor.sign(CLOSE_BRACKET) else {
             return Err(Stop::Syntax);
         };
@@ -254,17 +262,13 @@ impl<F: Fn(Global, &mut Cursor<'_>, u32, Part) -> Result<Found, Stop>> Grammar<F
                 found = self.behind_dot(cursor, aim, found)?;
                 continue 'reading;
             }
-            if found.form == Form::Array {
+            if makes_array(found.form) {
                 return Ok(found);
             }
-            let Some(_opening) = cursor.sign(OPEN_BRACKET) else {
+            let Some(opening) = cursor.sign(OPEN_BRACKET) else {
                 return Ok(found);
             };
-            if self.left - found.height <= extra(aim, Form::Variable) {
-                return Err(Stop::TooDeep);
-            }
-            cursor.advance();
-            found = self.behind_bracket(cursor, aim, found)?;
+            found = self.index(cursor, aim, found, opening)?;
         }
     }
 
