@@ -21,6 +21,7 @@ mod found;
 mod grammar;
 mod initialisers;
 mod laws;
+mod levels;
 mod members;
 mod modifiers;
 mod nodes;
