@@ -163,7 +163,7 @@ impl<F: Fn(Global, &mut Cursor<'_>, u32, Part) -> Result<Found, Stop>> Grammar<F
     }
 
     /// An expression with operators with two operands of the first levels, so many
-    #[tactic(auto, unfolding(crate::specs::Rule::run, crate::specs::ExprRules::level_of))]
+    #[tactic(auto, unfolding(crate::specs::Rule::run, crate::specs::ExprRules::level_of), using(crate::proofs::LowerParts::next_level))]
     pub(crate) fn level(&self, cursor: &mut Cursor<'_>, levels: u32) -> Result<Found, Stop>
         requires parts { ReadsParts self.now.left (F.pre self.now.part) (F.post self.now.part) }
         requires few { length cursor.old ≤ 200000 }
