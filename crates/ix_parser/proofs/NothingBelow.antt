@@ -1,15 +1,14 @@
 -- An expression for which no height is left isn't read, whatever its parts would be read with.
-use Rattle.std.proofs.Common.{◌≡◌, ℕ, zero, suc, ◌+◌, ◌-◌, ◌<◌, ◌≤◌, false, List, Option, Some, None, Err, Ok, refl, sym, ◌∙◌, arith}
+use Rattle.std.proofs.Common.{◌≡◌, ℕ, zero, suc, ◌-◌, ◌<◌, false, List, Option, Some, None, Err, Ok, refl, sym, ◌∙◌, arith}
 use Rattle.ix_lexer.specs.declared.token.Token.{Token}
 use Rattle.ix_parser.specs.declared.error.Stop.{Stop}
 use Rattle.ix_parser.specs.declared.error.Stop.TheVariants.{Syntax, TooDeep}
 use Rattle.ix_parser.specs.declared.found.Aim.TheVariants as aim
 use Rattle.ix_parser.specs.declared.found.Found.{Found}
-use Rattle.ix_parser.specs.Rule.{Rule, pure, take, bind, stop, loop, Outcome, Parser, and_then, look, taken, run}
-use Rattle.ix_parser.specs.ExprRules.{Below, below, parts_of, first_part, word, primary_of, value_of, prefixed, unary_of, level_of, whole_of, expr, further, operand, step_behind, maybe_assigned}
+use Rattle.ix_parser.specs.Rule.{Rule, take, bind, stop, Outcome, Parser, and_then, look, taken, run}
+use Rattle.ix_parser.specs.ExprRules.{Below, below, parts_of, first_part, word, primary_of, value_of, prefixed, unary_of, level_of, whole_of, expr}
 use Rattle.ix_parser.proofs.Heights.{whole_below}
 use Rattle.ix_parser.proofs.ExprHeights.{expr_within}
-use Rattle.ix_parser.proofs.GiveRules.{Gives}
 
 -- Two rules stop alike.
 abbrev Alike : {A B : Type 0} → Outcome A → Outcome B → Type 0

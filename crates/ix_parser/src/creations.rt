@@ -228,13 +228,7 @@ impl<F: Fn(Global, &mut Cursor<'_>, u32, Part) -> Result<Found, Stop>> Grammar<F
 
     /// An array, behind the `@` of the first annotation of its type
     #[tactic(auto, unfolding(crate::specs::Rule::run, crate::specs::ExprRules::noted), using(crate::proofs::LowerParts::bind_twice))]
-    fn noted(
-        &self,
-        cursor: &mut Cursor<'_>,
-        aim: Aim,
-        start: Span,
-        at: Span,
-    ) -> Result<Found, Stop>
+    fn noted(&self, cursor: &mut Cursor<'_>, aim: Aim, start: Span, at: Span) -> Result<Found, Stop>
         requires parts { ReadsParts self.now.left (F.pre self.now.part) (F.post self.now.part) }
         requires few { length cursor.old ≤ 200000 }
         requires room { spec.extra aim Array + 4 ≤ self.now.left }

@@ -108,6 +108,7 @@ pub(crate) fn statement_name(
     ensures reads { Follows (run (spec.name_or_call (spec.below left) Statement left name) cursor.old) result cursor.new }
     ensures no_longer { OnOk result (length cursor.new ≤ length cursor.old) }
     ensures fits { IfOk result (λ f. f.height ≤ left) }
+    ensures some { IfOk result (λ f. 0 < f.height) }
 {
     let grammar = Grammar {
         alloc,
@@ -130,7 +131,9 @@ pub(crate) fn statement_field(
     ensures reads { GoesOn (run (spec.field_or_call (spec.below left) Statement left object name) cursor.old) result cursor.new }
     ensures no_longer { OnOk result (length cursor.new ≤ length cursor.old) }
     ensures fits { IfOk result (λ f. f.height ≤ left) }
+    ensures some { IfOk result (λ f. 0 < f.height) }
 {
+    // Every expression is at least 1 high, though no clause says so of this one.
     if object.height < 1 {
         return Err(Stop::Memory);
     }
@@ -154,7 +157,9 @@ pub(crate) fn statement_chain(
     ensures reads { Follows (run (loop (spec.further (spec.below left) Statement left) first) cursor.old) result cursor.new }
     ensures no_longer { OnOk result (length cursor.new ≤ length cursor.old) }
     ensures fits { IfOk result (λ f. f.height ≤ left) }
+    ensures some { IfOk result (λ f. 0 < f.height) }
 {
+    // Every expression is at least 1 high, though no clause says so of this one.
     if first.height < 1 {
         return Err(Stop::Memory);
     }

@@ -1,10 +1,10 @@
 //! Expressions with operators (JLS 15.14 to 15.26), and those that may stand as statements (JLS 14.8).
-ghost use Rattle.std.specs.Prelude.{◌≡◌, ◌<◌, ◌≤◌, ◌+◌, length, OnOk, IfOk};
+ghost use Rattle.std.specs.Prelude.{◌<◌, ◌≤◌, length, OnOk, IfOk};
 ghost use Rattle.ix_parser.specs.declared.found.Form.TheVariants.{Variable};
 ghost use Rattle.ix_parser.specs.ExprNodes as nodes;
 ghost use Rattle.ix_parser.specs.ExprRules as spec;
 ghost use Rattle.ix_parser.specs.Reading.{ReadsParts};
-ghost use Rattle.ix_parser.specs.Rule.{run, bind, pure, loop, take};
+ghost use Rattle.ix_parser.specs.Rule.{run, bind, pure, loop};
 ghost use Rattle.ix_parser.specs.Taking.{Follows};
 
 use crate::cursor::Cursor;
@@ -137,12 +137,7 @@ impl<F: Fn(Global, &mut Cursor<'_>, u32, Part) -> Result<Found, Stop>> Grammar<F
 
     /// `{Operator Operand}`, with the operators of a level, behind the first operand
     #[tactic(auto, unfolding(crate::specs::Rule::run, crate::specs::ExprRules::operand))]
-    fn operands(
-        &self,
-        cursor: &mut Cursor<'_>,
-        level: u32,
-        first: Found,
-    ) -> Result<Found, Stop>
+    fn operands(&self, cursor: &mut Cursor<'_>, level: u32, first: Found) -> Result<Found, Stop>
         requires parts { ReadsParts self.now.left (F.pre self.now.part) (F.post self.now.part) }
         requires few { length cursor.old ≤ 200000 }
         requires room { first.height ≤ self.now.left }
@@ -262,11 +257,7 @@ impl<F: Fn(Global, &mut Cursor<'_>, u32, Part) -> Result<Found, Stop>> Grammar<F
 
     /// Behind a primary: the rest of an expression that may stand as a statement
     #[tactic(auto, unfolding(crate::specs::Rule::run, crate::specs::ExprRules::to_statement))]
-    pub(crate) fn to_statement(
-        &self,
-        cursor: &mut Cursor<'_>,
-        first: Found,
-    ) -> Result<Found, Stop>
+    pub(crate) fn to_statement(&self, cursor: &mut Cursor<'_>, first: Found) -> Result<Found, Stop>
         requires parts { ReadsParts self.now.left (F.pre self.now.part) (F.post self.now.part) }
         requires few { length cursor.old ≤ 200000 }
         requires room { first.height ≤ self.now.left }

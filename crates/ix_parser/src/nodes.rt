@@ -68,8 +68,9 @@ pub(crate) fn selected(alloc: Global, left: u32, object: Found, name: Ident) -> 
     ensures { MatchResult result (λ found. found ≡ nodes.selected object name) (λ stop. stop ≡ Memory) }
 {
     let outer = across(object.outer, name.span);
+    let parts = object.height.max(1);
     let kind = ExprKind::Select(object.expr, name);
-    node(alloc, left, kind, Form::Variable, object.height.max(1), outer)
+    node(alloc, left, kind, Form::Variable, parts, outer)
 }
 
 /// An element of an array (JLS 15.10.3).
@@ -364,7 +365,12 @@ pub(crate) fn value_init(alloc: Global, left: u32, value: Found) -> Result<Found
 }
 
 /// Entries in braces as an initialiser (JLS 10.6).
-pub(crate) fn items_init(alloc: Global, left: u32, brace: Span, entries: FoundItems) -> Result<FoundInit, Stop>
+pub(crate) fn items_init(
+    alloc: Global,
+    left: u32,
+    brace: Span,
+    entries: FoundItems,
+) -> Result<FoundInit, Stop>
     requires room { entries.height < left }
     ensures { MatchResult result (λ found. found ≡ nodes.items_init brace entries) (λ stop. stop ≡ Memory) }
 {
@@ -393,7 +399,9 @@ pub(crate) fn with_init(entries: FoundItems, more: FoundInit) -> Result<FoundIte
     ensures { MatchResult result (λ found. found ≡ nodes.with_init entries more) (λ stop. stop ≡ Memory) }
 {
     let FoundItems {
-        mut items, height, ..
+        mut items,
+        height,
+        ..
     } = entries;
     let height = height.max(more.height);
     items.push(more.init.into_inner())?;

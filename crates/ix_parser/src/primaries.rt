@@ -1,12 +1,11 @@
 //! Primaries (JLS 15.8 to 15.12).
 ghost use Rattle.std.specs.Prelude.{◌≡◌, ◌<◌, ◌≤◌, ◌+◌, true, Some, length, OnOk, IfOk};
-ghost use Rattle.ix_parser.specs.declared.found.Form.TheVariants.{Statement, Value, Variable};
+ghost use Rattle.ix_parser.specs.declared.found.Form.TheVariants.{Value};
 ghost use Rattle.ix_lexer.specs.declared.fixed.TheConstants.{OPEN_BRACKET};
-ghost use Rattle.ix_parser.specs.ExprNodes as nodes;
 ghost use Rattle.ix_parser.specs.ExprRules as spec;
 ghost use Rattle.ix_parser.specs.Patterns.{a_name, a_sign};
 ghost use Rattle.ix_parser.specs.Reading.{GoesOn, ReadsParts};
-ghost use Rattle.ix_parser.specs.Rule.{run, look, take, bind, pure, loop, stop, On};
+ghost use Rattle.ix_parser.specs.Rule.{run, look, take, loop, stop};
 ghost use Rattle.ix_parser.specs.Taking.{Follows};
 
 use crate::cursor::Cursor;
@@ -14,7 +13,9 @@ use crate::error::Stop;
 use crate::found::{Aim, Form, Found};
 use crate::grammar::{Grammar, Part, extra, makes_array};
 use crate::nodes::{called, called_on, element, leaf, named, selected, within};
-use ix_lexer::fixed::{CLOSE_BRACKET, CLOSE_PAREN, DOT, FALSE, NEW, NULL, OPEN_BRACKET, OPEN_PAREN, THIS, TRUE};
+use ix_lexer::fixed::{
+    CLOSE_BRACKET, CLOSE_PAREN, DOT, FALSE, NEW, NULL, OPEN_BRACKET, OPEN_PAREN, THIS, TRUE,
+};
 use ix_text::Span;
 use ix_tree::{ExprKind, Ident};
 use std::alloc::Global;
@@ -180,12 +181,7 @@ impl<F: Fn(Global, &mut Cursor<'_>, u32, Part) -> Result<Found, Stop>> Grammar<F
 
     /// `Ident [Args]`, behind the dot
     #[tactic(auto, unfolding(crate::specs::Rule::run))]
-    fn behind_dot(
-        &self,
-        cursor: &mut Cursor<'_>,
-        aim: Aim,
-        object: Found,
-    ) -> Result<Found, Stop>
+    fn behind_dot(&self, cursor: &mut Cursor<'_>, aim: Aim, object: Found) -> Result<Found, Stop>
         requires parts { ReadsParts self.now.left (F.pre self.now.part) (F.post self.now.part) }
         requires few { length cursor.old ≤ 200000 }
         requires some { 0 < object.height }

@@ -27,5 +27,5 @@ pub returns-in_err-found-2-clause-reads : goal.returns-in_err-found-2-clause-rea
 unfolding run spec.further spec.index_unless spec.index
 returns-in_err-found-2-clause-reads g c =
     let reads : c.in_err-found-2.field-0.0 ≢ Memory → run (loop (spec.further (spec.below c.args.self.now.left) c.args.aim c.args.self.now.left) c.args.first) c.args.cursor.now ≡ Err (c.in_err-found-2.field-0.0, c.index.new.cursor)
-          = λ other. c.reading.invariant.leads ∙ loop_stops (spec.further (spec.below c.args.self.now.left) c.args.aim c.args.self.now.left) c.reading.found c.reading.cursor c.index.new.cursor c.in_err-found-2.field-0.0 (search rules) in
+    = λ other. c.reading.invariant.leads ∙ loop_stops (spec.further (spec.below c.args.self.now.left) c.args.aim c.args.self.now.left) c.reading.found c.reading.cursor c.index.new.cursor c.in_err-found-2.field-0.0 (search rules) in
     search rules
