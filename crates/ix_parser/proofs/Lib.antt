@@ -31,3 +31,5 @@ pub mod SourceLaws
 mod LowerParts
 mod Refusing
 mod Places
+mod Signs
+mod NothingBelow

@@ -8,7 +8,9 @@
 #![tactic(auto)]
 
 mod annotations;
+mod arguments;
 mod classes;
+mod creations;
 mod cursor;
 mod declarations;
 mod declarators;
@@ -16,9 +18,14 @@ mod error;
 mod expressions;
 mod found;
 mod grammar;
+mod initialisers;
 mod laws;
+mod levels;
 mod modifiers;
+mod nodes;
+mod operators;
 mod parse_tree;
+mod primaries;
 mod sources;
 mod statement_rules;
 mod statement_trees;
