@@ -10,6 +10,7 @@
 
 mod annotations;
 mod classes;
+mod copies;
 mod cursor;
 mod declarations;
 mod declarators;
