@@ -21,6 +21,7 @@ mod grammar;
 mod laws;
 mod members;
 mod modifiers;
+mod parameters;
 mod parse_tree;
 mod statement_rules;
 mod statement_trees;
