@@ -9,6 +9,7 @@
 #![tactic(auto)]
 
 mod annotations;
+mod bodies;
 mod classes;
 mod copies;
 mod cursor;
