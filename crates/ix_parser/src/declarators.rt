@@ -85,7 +85,7 @@ fn init_decl(
 
 /// `["=" Init]`, behind the name
 #[tactic(auto, unfolding(crate::specs::Rule::run, crate::specs::DeclRules::decl_behind))]
-fn decl_behind(
+pub(crate) fn decl_behind(
     alloc: Global,
     cursor: &mut Cursor<'_>,
     left: u32,

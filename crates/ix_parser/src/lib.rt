@@ -20,6 +20,7 @@ mod expressions;
 mod found;
 mod grammar;
 mod laws;
+mod member_rules;
 mod members;
 mod modifiers;
 mod parameters;
