@@ -10,7 +10,7 @@ ghost use Rattle.ix_parser.specs.ExprRules.{init as the_init};
 ghost use Rattle.ix_parser.specs.Lists.{more_of};
 ghost use Rattle.ix_parser.specs.Onto as onto;
 ghost use Rattle.ix_parser.specs.Reading.{GoesOn};
-ghost use Rattle.ix_parser.specs.Rule.{run};
+ghost use Rattle.ix_parser.specs.Rule.{run, bind};
 ghost use Rattle.ix_parser.specs.SourceRules.{parts};
 ghost use Rattle.ix_parser.specs.Taking.{Follows};
 
@@ -90,4 +90,163 @@ fn method_decl(head: Head, rest: Behind) -> MethodDecl
         body: body.stmts,
         span,
     }
+}
+
+/// Members with a method or a constructor behind them.
+fn with_method(
+    mut before: Members,
+    left: u32,
+    head: Head,
+    rest: Behind,
+) -> Result<Members, Stop>
+    requires room { 2 ≤ left }
+    requires mods { head.mods.height + 1 ≤ left }
+    requires typed { nodes.result_height head.result + 1 ≤ left }
+    requires params { rest.params.height + 1 ≤ left }
+    requires body { rest.body.height + 1 ≤ left }
+    ensures { MatchResult result (λ found. found ≡ nodes.with_members before (nodes.method_of head.start head.mods head.result head.constructor head.name rest)) (λ stop. stop ≡ Memory) }
+{
+    let height = before.height.max(method_height(&head, &rest, left));
+    before.members.push(Member::Method(method_decl(head, rest)))?;
+    Ok(Members {
+        members: before.members,
+        height,
+    })
+}
+
+/// `Params Throws Body`, behind the opening parenthesis
+#[tactic(auto, unfolding(crate::specs::Rule::run, crate::specs::ClassRules::behind))]
+fn behind(
+    alloc: Global,
+    cursor: &mut Cursor<'_>,
+    left: u32,
+    constructor: bool,
+) -> Result<Behind, Stop>
+    requires few { length cursor.old ≤ 200000 }
+    requires room { 2 ≤ left }
+    ensures reads { Follows (run (spec.behind parts left constructor) cursor.old) result cursor.new }
+    ensures no_longer { OnOk result (length cursor.new ≤ length cursor.old) }
+    ensures params { IfOk result (λ rest. rest.params.height + 1 ≤ left) }
+    ensures body { IfOk result (λ rest. rest.body.height + 1 ≤ left) }
+{
+    let params = params(alloc, cursor, left - 1)?;
+    throws(alloc, cursor)?;
+    let Some(_opening) = cursor.sign(OPEN_BRACE) else {
+        return Err(Stop::Syntax);
+    };
+    cursor.advance();
+    let body = body(alloc, cursor, left - 1, constructor)?;
+    Ok(Behind { params, body })
+}
+
+/// `Params Throws Body`, behind what stands before it
+#[tactic(auto, unfolding(crate::specs::Rule::run, crate::specs::ClassRules::method, crate::specs::Onto::onto))]
+fn method(
+    alloc: Global,
+    cursor: &mut Cursor<'_>,
+    left: u32,
+    head: Head,
+    before: Members,
+) -> Result<Members, Stop>
+    requires few { length cursor.old ≤ 200000 }
+    requires room { 2 ≤ left }
+    requires mods { head.mods.height + 1 ≤ left }
+    requires typed { nodes.result_height head.result + 1 ≤ left }
+    requires fits { before.height ≤ left }
+    ensures reads { GoesOn (run (onto.onto before (spec.method parts left head.start head.mods head.result head.constructor head.name)) cursor.old) result cursor.new }
+    ensures no_longer { OnOk result (length cursor.new ≤ length cursor.old) }
+    ensures fits { IfOk result (λ found. found.height ≤ left) }
+{
+    let rest = behind(alloc, cursor, left, head.constructor)?;
+    with_method(before, left, head, rest)
+}
+
+/// Members with a field behind them.
+fn with_field(mut before: Members, found: FoundDecl) -> Result<Members, Stop>
+    ensures { MatchResult result (λ members. members ≡ onto.with_field before found) (λ stop. stop ≡ Memory) }
+{
+    before.members.push(Member::Field(found.decl))?;
+    Ok(Members {
+        members: before.members,
+        height: before.height.max(found.height),
+    })
+}
+
+/// `{"," Decl}`, behind the first field
+#[tactic(auto, unfolding(crate::specs::Rule::run, crate::specs::DeclRules::decl, crate::specs::Lists::next_of, crate::specs::Lists::more_of))]
+fn more_fields(
+    alloc: Global,
+    cursor: &mut Cursor<'_>,
+    left: u32,
+    all: &Shared,
+    before: Members,
+) -> Result<Members, Stop>
+    requires few { length cursor.old ≤ 200000 }
+    requires low { all.now.height ≤ 4 }
+    requires room { all.now.height + 1 ≤ left }
+    requires fits { before.height ≤ left }
+    ensures reads { Follows (run (more_of (decl the_init left all.now) onto.with_field before) cursor.old) result cursor.new }
+    ensures no_longer { OnOk result (length cursor.new ≤ length cursor.old) }
+    ensures fits { IfOk result (λ found. found.height ≤ left) }
+{
+    let mut found = before;
+    'reading: while let Some(_comma) = cursor.sign(COMMA) {
+        cursor.advance();
+        let Some(name) = cursor.name(alloc)? else {
+            return Err(Stop::Syntax);
+        };
+        cursor.advance();
+        let next = decl_behind(alloc, cursor, left, all, name)?;
+        found = with_field(found, next)?;
+    }
+    Ok(found)
+}
+
+/// `Decl {"," Decl}`, behind the first name, each field put onto the members before it
+#[tactic(auto, unfolding(crate::specs::Rule::run))]
+fn some_fields(
+    alloc: Global,
+    cursor: &mut Cursor<'_>,
+    left: u32,
+    all: &Shared,
+    name: Ident,
+    before: Members,
+) -> Result<Members, Stop>
+    requires few { length cursor.old ≤ 200000 }
+    requires low { all.now.height ≤ 4 }
+    requires room { all.now.height + 1 ≤ left }
+    requires fits { before.height ≤ left }
+    ensures reads { Follows (run (bind (the_decl the_init left all.now name) (λ first. more_of (decl the_init left all.now) onto.with_field (onto.with_field before first))) cursor.old) result cursor.new }
+    ensures no_longer { OnOk result (length cursor.new ≤ length cursor.old) }
+    ensures fits { IfOk result (λ found. found.height ≤ left) }
+{
+    let first = decl_behind(alloc, cursor, left, all, name)?;
+    let found = with_field(before, first)?;
+    more_fields(alloc, cursor, left, all, found)
+}
+
+/// `Decls ";"`, behind the first name, each field put onto the members before it
+#[tactic(auto, unfolding(crate::specs::Rule::run, crate::specs::Onto::each_field))]
+fn each_field(
+    alloc: Global,
+    cursor: &mut Cursor<'_>,
+    left: u32,
+    all: &Shared,
+    name: Ident,
+    before: Members,
+) -> Result<Members, Stop>
+    requires few { length cursor.old ≤ 200000 }
+    requires low { all.now.height ≤ 4 }
+    requires room { all.now.height + 1 ≤ left }
+    requires fits { before.height ≤ left }
+    ensures reads { GoesOn (run (onto.each_field left all.now name before) cursor.old) result cursor.new }
+    ensures no_longer { OnOk result (length cursor.new ≤ length cursor.old) }
+    ensures fits { IfOk result (λ found. found.height ≤ left) }
+{
+    let found = some_fields(alloc, cursor, left, all, name, before)?;
+    let Some(_end) = cursor.sign(SEMICOLON) else {
+        return Err(Stop::Syntax);
+    };
+    cursor.advance();
+    Ok(found)
 }
