@@ -250,3 +250,23 @@ fn each_field(
     cursor.advance();
     Ok(found)
 }
+
+/// `Decls ";"`, behind the first name
+pub(crate) fn fields(
+    alloc: Global,
+    cursor: &mut Cursor<'_>,
+    left: u32,
+    all: &Shared,
+    name: Ident,
+    before: Members,
+) -> Result<Members, Stop>
+    requires few { length cursor.old ≤ 200000 }
+    requires low { all.now.height ≤ 4 }
+    requires room { all.now.height + 1 ≤ left }
+    requires fits { before.height ≤ left }
+    ensures reads { GoesOn (run (onto.onto before (onto.fields left all.now name)) cursor.old) result cursor.new }
+    ensures no_longer { OnOk result (length cursor.new ≤ length cursor.old) }
+    ensures fits { IfOk result (λ found. found.height ≤ left) }
+{
+    each_field(alloc, cursor, left, all, name, before)
+}
