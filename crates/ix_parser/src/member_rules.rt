@@ -4,7 +4,7 @@ ghost use Rattle.ix_tree.specs.declared.decl.Member.TheVariants.{Method};
 ghost use Rattle.ix_parser.specs.declared.error.Stop.TheVariants.{Memory};
 ghost use Rattle.ix_parser.specs.ClassGrammar as nodes;
 ghost use Rattle.ix_parser.specs.ClassRules as spec;
-ghost use Rattle.ix_parser.specs.DeclGrammar.{begins as the_begin};
+ghost use Rattle.ix_parser.specs.DeclGrammar.{begins as the_begin, shared as the_shared};
 ghost use Rattle.ix_parser.specs.DeclRules.{decl, decl_behind as the_decl};
 ghost use Rattle.ix_parser.specs.ExprRules.{init as the_init};
 ghost use Rattle.ix_parser.specs.Lists.{more_of};
@@ -269,4 +269,69 @@ pub(crate) fn fields(
     ensures fits { IfOk result (λ found. found.height ≤ left) }
 {
     each_field(alloc, cursor, left, all, name, before)
+}
+
+/// A declaration of fields, behind its first name
+#[tactic(auto, unfolding(crate::specs::Rule::run))]
+fn field_member(
+    alloc: Global,
+    cursor: &mut Cursor<'_>,
+    left: u32,
+    found: &FoundMods,
+    ty: &FoundType,
+    name: Ident,
+    before: Members,
+) -> Result<Members, Stop>
+    requires few { length cursor.old ≤ 200000 }
+    requires low { found.now.height ≤ 3 }
+    requires typed { ty.now.height ≤ 4 }
+    requires room { 2 ≤ left }
+    requires mods { found.now.height + 1 ≤ left }
+    requires tree { ty.now.height + 1 ≤ left }
+    requires fits { before.height ≤ left }
+    ensures reads { GoesOn (run (onto.onto before (onto.fields left (the_shared found.now ty.now) name)) cursor.old) result cursor.new }
+    ensures no_longer { OnOk result (length cursor.new ≤ length cursor.old) }
+    ensures fits { IfOk result (λ found. found.height ≤ left) }
+{
+    let all = shared(alloc, found, ty)?;
+    fields(alloc, cursor, left, &all, name, before)
+}
+
+/// `Decls ";" | Ident Params Throws Block`, behind a type
+#[tactic(auto, unfolding(crate::specs::Rule::run, crate::specs::ClassRules::typed_member, crate::specs::Onto::onto, crate::specs::Onto::fields))]
+fn typed_member(
+    alloc: Global,
+    cursor: &mut Cursor<'_>,
+    left: u32,
+    found: FoundMods,
+    ty: FoundType,
+    before: Members,
+) -> Result<Members, Stop>
+    requires few { length cursor.old ≤ 200000 }
+    requires low { found.height ≤ 3 }
+    requires typed { ty.height ≤ 4 }
+    requires room { 2 ≤ left }
+    requires mods { found.height + 1 ≤ left }
+    requires tree { ty.height + 1 ≤ left }
+    requires fits { before.height ≤ left }
+    ensures reads { GoesOn (run (onto.onto before (spec.typed_member parts left found ty)) cursor.old) result cursor.new }
+    ensures no_longer { OnOk result (length cursor.new ≤ length cursor.old) }
+    ensures fits { IfOk result (λ found. found.height ≤ left) }
+{
+    let Some(name) = cursor.name(alloc)? else {
+        return Err(Stop::Syntax);
+    };
+    cursor.advance();
+    let Some(_opening) = cursor.sign(OPEN_PAREN) else {
+        return field_member(alloc, cursor, left, &found, &ty, name, before);
+    };
+    cursor.advance();
+    let head = Head {
+        start: begins(found.first, ty.ty.span),
+        mods: found,
+        result: Some(ty),
+        constructor: false,
+        name,
+    };
+    method(alloc, cursor, left, head, before)
 }
