@@ -335,3 +335,124 @@ fn typed_member(
     };
     method(alloc, cursor, left, head, before)
 }
+
+/// Behind modifiers and a name: the rest of a constructor, or of a member whose type begins with that name
+#[tactic(auto, unfolding(crate::specs::Rule::run, crate::specs::ClassRules::named_member, crate::specs::Onto::onto))]
+fn named_member(
+    alloc: Global,
+    cursor: &mut Cursor<'_>,
+    left: u32,
+    found: FoundMods,
+    first: Ident,
+    before: Members,
+) -> Result<Members, Stop>
+    requires few { length cursor.old ≤ 200000 }
+    requires low { found.height ≤ 3 }
+    requires room { 3 ≤ left }
+    requires mods { found.height + 1 ≤ left }
+    requires fits { before.height ≤ left }
+    ensures reads { GoesOn (run (onto.onto before (spec.named_member parts left found first)) cursor.old) result cursor.new }
+    ensures no_longer { OnOk result (length cursor.new ≤ length cursor.old) }
+    ensures fits { IfOk result (λ found. found.height ≤ left) }
+{
+    if let Some(_opening) = cursor.sign(OPEN_PAREN) {
+        cursor.advance();
+        let head = Head {
+            start: begins(found.first, first.span),
+            mods: found,
+            result: None,
+            constructor: true,
+            name: first,
+        };
+        return method(alloc, cursor, left, head, before);
+    }
+    let ty = type_rest(alloc, cursor, left - 1, named_base(first))?;
+    typed_member(alloc, cursor, left, found, ty, before)
+}
+
+/// `Ident Params Throws Block`, behind `void`
+#[tactic(auto, unfolding(crate::specs::Rule::run, crate::specs::Onto::void_member, crate::specs::Onto::onto))]
+fn void_member(
+    alloc: Global,
+    cursor: &mut Cursor<'_>,
+    left: u32,
+    found: FoundMods,
+    void: Span,
+    before: Members,
+) -> Result<Members, Stop>
+    requires few { length cursor.old ≤ 200000 }
+    requires low { found.height ≤ 3 }
+    requires room { 3 ≤ left }
+    requires mods { found.height + 1 ≤ left }
+    requires fits { before.height ≤ left }
+    ensures reads { GoesOn (run (onto.onto before (onto.void_member left found void)) cursor.old) result cursor.new }
+    ensures no_longer { OnOk result (length cursor.new ≤ length cursor.old) }
+    ensures fits { IfOk result (λ found. found.height ≤ left) }
+{
+    let Some(name) = cursor.name(alloc)? else {
+        return Err(Stop::Syntax);
+    };
+    cursor.advance();
+    let Some(_opening) = cursor.sign(OPEN_PAREN) else {
+        return Err(Stop::Syntax);
+    };
+    cursor.advance();
+    let head = Head {
+        start: begins(found.first, void),
+        mods: found,
+        result: None,
+        constructor: false,
+        name,
+    };
+    method(alloc, cursor, left, head, before)
+}
+
+/// A member, behind its modifiers
+#[tactic(auto, unfolding(crate::specs::Rule::run, crate::specs::ClassRules::member_behind, crate::specs::Onto::void_member, crate::specs::Onto::onto))]
+fn member_behind(
+    alloc: Global,
+    cursor: &mut Cursor<'_>,
+    left: u32,
+    found: FoundMods,
+    before: Members,
+) -> Result<Members, Stop>
+    requires few { length cursor.old ≤ 200000 }
+    requires low { found.height ≤ 3 }
+    requires room { 3 ≤ left }
+    requires mods { found.height + 1 ≤ left }
+    requires fits { before.height ≤ left }
+    ensures reads { GoesOn (run (onto.onto before (spec.member_behind parts left found)) cursor.old) result cursor.new }
+    ensures no_longer { OnOk result (length cursor.new ≤ length cursor.old) }
+    ensures fits { IfOk result (λ found. found.height ≤ left) }
+{
+    if let Some(void) = cursor.sign(VOID) {
+        cursor.advance();
+        return void_member(alloc, cursor, left, found, void, before);
+    }
+    if let Some(name) = cursor.name(alloc)? {
+        cursor.advance();
+        return named_member(alloc, cursor, left, found, name, before);
+    }
+    let ty = type_tree(alloc, cursor, left - 1)?;
+    typed_member(alloc, cursor, left, found, ty, before)
+}
+
+/// A member of a height of at most `left`, put onto those before it:
+/// `Mods Type Decls ";" | Mods (Type | "void") Ident Params Throws Block | Mods Ident Params Throws "{" ["super" Args ";"] {BStmt} "}"`
+#[tactic(auto, unfolding(crate::specs::Rule::run, crate::specs::ClassRules::member, crate::specs::Onto::onto))]
+pub(crate) fn member(
+    alloc: Global,
+    cursor: &mut Cursor<'_>,
+    left: u32,
+    before: Members,
+) -> Result<Members, Stop>
+    requires few { length cursor.old ≤ 200000 }
+    requires room { 3 ≤ left }
+    requires fits { before.height ≤ left }
+    ensures reads { GoesOn (run (onto.onto before (spec.member parts left)) cursor.old) result cursor.new }
+    ensures no_longer { OnOk result (length cursor.new ≤ length cursor.old) }
+    ensures fits { IfOk result (λ found. found.height ≤ left) }
+{
+    let found = mods(alloc, cursor, Words::Member, left - 1)?;
+    member_behind(alloc, cursor, left, found, before)
+}
