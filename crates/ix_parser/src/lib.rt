@@ -10,6 +10,7 @@
 
 mod annotations;
 mod bodies;
+mod class_rules;
 mod classes;
 mod copies;
 mod cursor;

@@ -315,7 +315,7 @@ fn typed_member(
     requires tree { ty.height + 1 ≤ left }
     requires fits { before.height ≤ left }
     ensures reads { GoesOn (run (onto.onto before (spec.typed_member parts left found ty)) cursor.old) result cursor.new }
-    ensures no_longer { OnOk result (length cursor.new ≤ length cursor.old) }
+    ensures shorter { OnOk result (length cursor.new < length cursor.old) }
     ensures fits { IfOk result (λ found. found.height ≤ left) }
 {
     let Some(name) = cursor.name(alloc)? else {
@@ -422,7 +422,7 @@ fn member_behind(
     requires mods { found.height + 1 ≤ left }
     requires fits { before.height ≤ left }
     ensures reads { GoesOn (run (onto.onto before (spec.member_behind parts left found)) cursor.old) result cursor.new }
-    ensures no_longer { OnOk result (length cursor.new ≤ length cursor.old) }
+    ensures shorter { OnOk result (length cursor.new < length cursor.old) }
     ensures fits { IfOk result (λ found. found.height ≤ left) }
 {
     if let Some(void) = cursor.sign(VOID) {
@@ -450,7 +450,7 @@ pub(crate) fn member(
     requires room { 3 ≤ left }
     requires fits { before.height ≤ left }
     ensures reads { GoesOn (run (onto.onto before (spec.member parts left)) cursor.old) result cursor.new }
-    ensures no_longer { OnOk result (length cursor.new ≤ length cursor.old) }
+    ensures shorter { OnOk result (length cursor.new < length cursor.old) }
     ensures fits { IfOk result (λ found. found.height ≤ left) }
 {
     let found = mods(alloc, cursor, Words::Member, left - 1)?;

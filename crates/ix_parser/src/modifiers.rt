@@ -74,7 +74,7 @@ fn word(cursor: &Cursor<'_>, words: Words) -> Option<At<Word>>
 }
 
 /// The place of the first modifier, where another follows those that were read.
-fn earlier(first: Option<Span>, span: Span) -> Option<Span>
+pub(crate) fn earlier(first: Option<Span>, span: Span) -> Option<Span>
     ensures { result ≡ nodes.earlier first span }
 {
     match first {
