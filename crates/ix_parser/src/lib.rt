@@ -26,6 +26,7 @@ mod members;
 mod modifiers;
 mod parameters;
 mod parse_tree;
+mod sources;
 mod statement_rules;
 mod statement_trees;
 mod statements;
