@@ -2,7 +2,7 @@
 ghost use Rattle.std.specs.Prelude.{◌≡◌, ◌≤◌, ◌<◌, ◌+◌, true, length, OnOk, IfOk};
 ghost use Rattle.ix_parser.specs.ClassGrammar as nodes;
 ghost use Rattle.ix_parser.specs.ClassRules as spec;
-ghost use Rattle.ix_lexer.specs.declared.fixed.TheConstants.{SEMICOLON as THE_END};
+ghost use Rattle.ix_lexer.specs.declared.fixed.TheConstants.{SEMICOLON as THE_END, STATIC as THE_STATIC};
 ghost use Rattle.ix_parser.specs.Patterns.{a_sign};
 ghost use Rattle.ix_parser.specs.Rule.{run, loop, take, pure, stop};
 ghost use Rattle.ix_parser.specs.SourceRules.{parts, source as the_source};
@@ -109,6 +109,19 @@ fn imported(alloc: Global, cursor: &mut Cursor<'_>) -> Result<(), Stop>
     imported_behind(alloc, cursor)
 }
 
+/// `["static"] Dotted ["." "*"] ";"`
+#[tactic(auto, unfolding(crate::specs::Rule::run))]
+fn import_behind(alloc: Global, cursor: &mut Cursor<'_>) -> Result<(), Stop>
+    ensures reads { Follows (run (take (a_sign THE_STATIC) true (λ static. spec.imported) spec.imported) cursor.old) result cursor.new }
+    ensures no_longer { OnOk result (length cursor.new ≤ length cursor.old) }
+{
+    if let Some(_static) = cursor.sign(STATIC) {
+        cursor.advance();
+        return imported(alloc, cursor);
+    }
+    imported(alloc, cursor)
+}
+
 /// `{"import" ["static"] Dotted ["." "*"] ";"}`
 #[tactic(auto, unfolding(crate::specs::Rule::run, crate::specs::ClassRules::next_import, crate::specs::ClassRules::imports))]
 fn imports(alloc: Global, cursor: &mut Cursor<'_>) -> Result<(), Stop>
@@ -117,10 +130,7 @@ fn imports(alloc: Global, cursor: &mut Cursor<'_>) -> Result<(), Stop>
 {
     'reading: while let Some(_import) = cursor.sign(IMPORT) {
         cursor.advance();
-        if let Some(_static) = cursor.sign(STATIC) {
-            cursor.advance();
-        }
-        imported(alloc, cursor)?;
+        import_behind(alloc, cursor)?;
     }
     Ok(())
 }
