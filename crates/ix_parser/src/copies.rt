@@ -13,7 +13,7 @@ fn copy_text(alloc: Global, text: &Text) -> Result<Text, Stop>
     Ok(Text::from_str(alloc, text.as_str())?)
 }
 
-pub(crate) fn copy_ident(alloc: Global, ident: &Ident) -> Result<Ident, Stop>
+fn copy_ident(alloc: Global, ident: &Ident) -> Result<Ident, Stop>
     ensures { MatchResult result (λ copy. copy ≡ ident.now) (λ stop. stop ≡ Memory) }
 {
     let text = copy_text(alloc, &ident.text)?;
