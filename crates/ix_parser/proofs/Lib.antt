@@ -2,6 +2,8 @@ mod Runs
 mod SoundRules
 mod CompleteRules
 mod ListsSound
+mod OntoFields
+mod AnnotHeights
 mod AnnotSound
 mod TypeSound
 mod DeclSound

@@ -9,7 +9,10 @@
 
 mod annotations;
 mod arguments;
+mod bodies;
+mod class_rules;
 mod classes;
+mod copies;
 mod creations;
 mod cursor;
 mod declarations;
@@ -21,9 +24,11 @@ mod grammar;
 mod initialisers;
 mod laws;
 mod levels;
+mod member_rules;
 mod modifiers;
 mod nodes;
 mod operators;
+mod parameters;
 mod parse_tree;
 mod primaries;
 mod sources;
