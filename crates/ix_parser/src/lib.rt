@@ -21,6 +21,7 @@ mod laws;
 mod members;
 mod modifiers;
 mod parse_tree;
+mod statement_nodes;
 mod statement_rules;
 mod statement_trees;
 mod statements;
