@@ -33,3 +33,4 @@ mod SourceSound
 mod SourceComplete
 pub mod SourceLaws
 mod LowerParts
+mod LowerStatements

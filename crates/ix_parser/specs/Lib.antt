@@ -23,3 +23,4 @@ pub mod SourceRules
 pub mod SourceGrammar
 pub mod Begins
 pub mod Reading
+pub mod ReadingStatements

@@ -22,6 +22,7 @@ mod members;
 mod modifiers;
 mod parse_tree;
 mod statement_nodes;
+mod statement_parts;
 mod statement_rules;
 mod statement_trees;
 mod statements;

@@ -1,0 +1,26 @@
+-- What functions promise that read the statements within a statement.
+use Rattle.std.specs.Prelude.{◌<◌, ◌≤◌, ℕ, Bool, true, false, List, length, Result, OnOk, IfOk}
+use Rattle.std.specs.declared.alloc.Global.{Global}
+use Rattle.std.specs.Borrow.{MutBor}
+use Rattle.ix_lexer.specs.declared.token.Token.{Token}
+use Rattle.ix_parser.specs.declared.error.Stop.{Stop}
+use Rattle.ix_parser.specs.declared.found.FoundStmt.{FoundStmt}
+use Rattle.ix_parser.specs.Rule.{Rule, run}
+use Rattle.ix_parser.specs.StmtRules.{stmt, block_statement}
+use Rattle.ix_parser.specs.Taking.{Follows}
+
+-- a statement of a height of at most so much, and whether it may declare locals
+abbrev pub stmt_rule : Bool → ℕ → Rule FoundStmt
+stmt_rule false left = stmt left
+stmt_rule true left = block_statement left
+
+-- `pre` and `post` are those of a function value that reads each statement of a height below `left`, of 200,000 tokens at most.
+pub record ReadsStatements (left : ℕ) (pre : Global → MutBor (List Token) → ℕ → Bool → Type 0)
+    (post : Global → MutBor (List Token) → ℕ → Bool → Result FoundStmt Stop → MutBor (List Token) → Type 0) : Type 0 where
+  pub callable : (alloc : Global) (old : MutBor (List Token)) (height : ℕ) (locals : Bool) → height < left → length old.now ≤ 200000 → pre alloc old height locals
+  pub reads : (alloc : Global) (old new : MutBor (List Token)) (height : ℕ) (locals : Bool) (result : Result FoundStmt Stop) → post alloc old height locals result new
+      → Follows (run (stmt_rule locals height) old.now) result new.now
+  pub shorter : (alloc : Global) (old new : MutBor (List Token)) (height : ℕ) (locals : Bool) (result : Result FoundStmt Stop) → post alloc old height locals result new
+      → OnOk result (length new.now < length old.now)
+  pub fits : (alloc : Global) (old new : MutBor (List Token)) (height : ℕ) (locals : Bool) (result : Result FoundStmt Stop) → post alloc old height locals result new
+      → IfOk result (λ found. found.height ≤ height)
