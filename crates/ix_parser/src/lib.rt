@@ -21,6 +21,7 @@ mod laws;
 mod members;
 mod modifiers;
 mod parse_tree;
+mod simple_statements;
 mod statement_nodes;
 mod statement_parts;
 mod statement_rules;

@@ -1,5 +1,5 @@
 //! The nodes of statements (JLS 14), with their heights. Each is made by a function of its own, behind the last of its tokens.
-ghost use Rattle.std.specs.Prelude.{◌≡◌, ◌<◌, ◌+◌, ◌^◌, max, MatchResult};
+ghost use Rattle.std.specs.Prelude.{◌≡◌, ◌<◌, ◌+◌, ◌^◌, MatchResult};
 ghost use Rattle.ix_parser.specs.declared.error.Stop.TheVariants.{Memory};
 ghost use Rattle.ix_parser.specs.ClassGrammar as block;
 ghost use Rattle.ix_parser.specs.DeclGrammar.{begins as the_begins};
@@ -76,7 +76,8 @@ pub(crate) fn if_stmt(
     condition: Found,
     found: FoundStmt,
 ) -> Result<FoundStmt, Stop>
-    requires room { max condition.height found.height + 1 < 2 ^ 32 }
+    requires condition { condition.height + 1 < 2 ^ 32 }
+    requires found { found.height + 1 < 2 ^ 32 }
     ensures { MatchResult result (λ made. made ≡ nodes.if_stmt start condition found) (λ stop. stop ≡ Memory) }
 {
     let span = across(start, found.stmt.get().span);
@@ -93,7 +94,9 @@ pub(crate) fn if_else_stmt(
     found: FoundStmt,
     other: FoundStmt,
 ) -> Result<FoundStmt, Stop>
-    requires room { max condition.height (max found.height other.height) + 1 < 2 ^ 32 }
+    requires condition { condition.height + 1 < 2 ^ 32 }
+    requires found { found.height + 1 < 2 ^ 32 }
+    requires other { other.height + 1 < 2 ^ 32 }
     ensures { MatchResult result (λ made. made ≡ nodes.if_else_stmt start condition found other) (λ stop. stop ≡ Memory) }
 {
     let span = across(start, other.stmt.get().span);
@@ -113,7 +116,8 @@ pub(crate) fn while_stmt(
     condition: Found,
     found: FoundStmt,
 ) -> Result<FoundStmt, Stop>
-    requires room { max condition.height found.height + 1 < 2 ^ 32 }
+    requires condition { condition.height + 1 < 2 ^ 32 }
+    requires found { found.height + 1 < 2 ^ 32 }
     ensures { MatchResult result (λ made. made ≡ nodes.while_stmt start condition found) (λ stop. stop ≡ Memory) }
 {
     let span = across(start, found.stmt.get().span);
@@ -130,7 +134,8 @@ pub(crate) fn do_stmt(
     condition: Found,
     end: Span,
 ) -> Result<FoundStmt, Stop>
-    requires room { max found.height condition.height + 1 < 2 ^ 32 }
+    requires found { found.height + 1 < 2 ^ 32 }
+    requires condition { condition.height + 1 < 2 ^ 32 }
     ensures { MatchResult result (λ made. made ≡ nodes.do_stmt start found condition end) (λ stop. stop ≡ Memory) }
 {
     let height = found.height.max(condition.height);
@@ -157,7 +162,10 @@ pub(crate) fn for_stmt(
     update: Several,
     found: FoundStmt,
 ) -> Result<FoundStmt, Stop>
-    requires room { max (max first.height (nodes.maybe_height condition)) (max update.height found.height) + 1 < 2 ^ 32 }
+    requires first { first.height + 1 < 2 ^ 32 }
+    requires condition { nodes.maybe_height condition + 1 < 2 ^ 32 }
+    requires update { update.height + 1 < 2 ^ 32 }
+    requires found { found.height + 1 < 2 ^ 32 }
     ensures { MatchResult result (λ made. made ≡ nodes.for_stmt start first condition update found) (λ stop. stop ≡ Memory) }
 {
     let span = across(start, found.stmt.get().span);
