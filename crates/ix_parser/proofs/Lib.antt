@@ -34,3 +34,4 @@ mod SourceComplete
 pub mod SourceLaws
 mod LowerParts
 mod LowerStatements
+mod Signs

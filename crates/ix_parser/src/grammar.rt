@@ -1,5 +1,5 @@
 //! What the rules of expressions read their parts with. It is a parameter, so that each rule is proved by itself.
-ghost use Rattle.std.specs.Prelude.{◌<◌, ◌≤◌, ◌+◌, length, OnOk, IfOk};
+ghost use Rattle.std.specs.Prelude.{◌<◌, ◌≡◌, ◌≤◌, ◌+◌, length, OnOk, IfOk};
 ghost use Rattle.ix_parser.specs.ExprRules as spec;
 ghost use Rattle.ix_parser.specs.Reading.{ReadsParts};
 ghost use Rattle.ix_parser.specs.Rule.{run};
@@ -7,7 +7,7 @@ ghost use Rattle.ix_parser.specs.Taking.{Follows};
 
 use crate::cursor::Cursor;
 use crate::error::Stop;
-use crate::found::Found;
+use crate::found::{Aim, Form, Found};
 use std::alloc::Global;
 
 /// What an expression may have to be as a part of another.
@@ -30,6 +30,19 @@ pub(crate) struct Grammar<F> {
     pub(crate) part: F,
 }
 
+/// How much higher than a primary of this form the node must be that it ends in.
+pub(crate) fn extra(aim: Aim, form: Form) -> u32
+    ensures is { result ≡ spec.extra aim form }
+    ensures once { result ≤ 1 }
+{
+    match (aim, form) {
+        (Aim::Value, _) => 0,
+        (Aim::Statement, Form::Statement) => 0,
+        (Aim::Variable, Form::Variable) => 0,
+        _ => 1,
+    }
+}
+
 impl<F: Fn(Global, &mut Cursor<'_>, u32, Part) -> Result<Found, Stop>> Grammar<F> {
     /// A part of a node.
     #[tactic(auto, using(crate::proofs::LowerParts::lower_parts))]
@@ -42,5 +55,45 @@ impl<F: Fn(Global, &mut Cursor<'_>, u32, Part) -> Result<Found, Stop>> Grammar<F
         ensures fits { IfOk result (λ f. f.height + 1 ≤ self.now.left) }
     {
         (self.part)(self.alloc, cursor, self.left - 1, Part::Whole)
+    }
+
+    /// A part of a node with operators of the first levels, so many.
+    #[tactic(auto, using(crate::proofs::LowerParts::lower_parts))]
+    pub(crate) fn level_part(&self, cursor: &mut Cursor<'_>, level: u32) -> Result<Found, Stop>
+        requires parts { ReadsParts self.now.left (F.pre self.now.part) (F.post self.now.part) }
+        requires few { length cursor.old ≤ 200000 }
+        requires room { 0 < self.now.left }
+        ensures reads { Follows (run ((spec.below self.now.left).lower.level level) cursor.old) result cursor.new }
+        ensures no_longer { OnOk result (length cursor.new ≤ length cursor.old) }
+        ensures fits { IfOk result (λ f. f.height + 1 ≤ self.now.left) }
+    {
+        (self.part)(self.alloc, cursor, self.left - 1, Part::Level(level))
+    }
+
+    /// A part of a node that is a variable.
+    #[tactic(auto, using(crate::proofs::LowerParts::lower_parts))]
+    pub(crate) fn variable_part(&self, cursor: &mut Cursor<'_>) -> Result<Found, Stop>
+        requires parts { ReadsParts self.now.left (F.pre self.now.part) (F.post self.now.part) }
+        requires few { length cursor.old ≤ 200000 }
+        requires room { 0 < self.now.left }
+        ensures reads { Follows (run (spec.below self.now.left).lower.variable cursor.old) result cursor.new }
+        ensures no_longer { OnOk result (length cursor.new ≤ length cursor.old) }
+        ensures fits { IfOk result (λ f. f.height + 1 ≤ self.now.left) }
+    {
+        (self.part)(self.alloc, cursor, self.left - 1, Part::Variable)
+    }
+
+    /// An expression within a primary that must be wrapped so often.
+    #[tactic(auto, using(crate::proofs::LowerParts::inner_parts))]
+    pub(crate) fn inner(&self, cursor: &mut Cursor<'_>, extra: u32) -> Result<Found, Stop>
+        requires parts { ReadsParts self.now.left (F.pre self.now.part) (F.post self.now.part) }
+        requires few { length cursor.old ≤ 200000 }
+        requires room { extra < self.now.left }
+        requires once { extra ≤ 1 }
+        ensures reads { Follows (run (spec.inner (spec.below self.now.left) extra) cursor.old) result cursor.new }
+        ensures no_longer { OnOk result (length cursor.new ≤ length cursor.old) }
+        ensures fits { IfOk result (λ f. f.height + extra + 1 ≤ self.now.left) }
+    {
+        (self.part)(self.alloc, cursor, self.left - (extra + 1), Part::Whole)
     }
 }

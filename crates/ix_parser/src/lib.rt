@@ -20,6 +20,8 @@ mod grammar;
 mod laws;
 mod members;
 mod modifiers;
+mod nodes;
+mod operators;
 mod parse_tree;
 mod simple_statements;
 mod statement_nodes;
