@@ -180,6 +180,7 @@ fn named_args(
 ) -> Result<Annot, Stop>
     ensures reads { Follows (run (spec.named_args at name first) cursor.old) result cursor.new }
     ensures no_longer { OnOk result (length cursor.new ≤ length cursor.old) }
+    ensures low { IfOk result (λ annot. nodes.annot_height annot ≤ 3) }
 {
     let arg = named_value(alloc, cursor, first)?;
     let args = more_named(alloc, cursor, arg)?;
@@ -203,8 +204,11 @@ fn annot_args(
     at: Span,
     name: Ident,
 ) -> Result<Annot, Stop>
+    requires room { 2 ≤ left }
     ensures reads { Follows (run (spec.annot_args left at name) cursor.old) result cursor.new }
     ensures no_longer { OnOk result (length cursor.new ≤ length cursor.old) }
+    ensures low { IfOk result (λ annot. nodes.annot_height annot ≤ 3) }
+    ensures fits { IfOk result (λ annot. nodes.annot_height annot ≤ left) }
 {
     if let Some(right) = cursor.sign(CLOSE_PAREN) {
         cursor.advance();
@@ -229,6 +233,7 @@ fn annot_args(
 fn plain_arg(alloc: Global, cursor: &mut Cursor<'_>, at: Span, name: Ident) -> Result<Annot, Stop>
     ensures reads { Follows (run (spec.plain_value at name) cursor.old) result cursor.new }
     ensures no_longer { OnOk result (length cursor.new ≤ length cursor.old) }
+    ensures low { IfOk result (λ annot. nodes.annot_height annot ≤ 2) }
 {
     let found = annot_value(alloc, cursor)?;
     let Some(right) = cursor.sign(CLOSE_PAREN) else {
@@ -264,8 +269,11 @@ pub(crate) fn annot_behind(
     left: u32,
     at: Span,
 ) -> Result<Annot, Stop>
+    requires room { 2 ≤ left }
     ensures reads { Follows (run (spec.annot_behind left at) cursor.old) result cursor.new }
     ensures no_longer { OnOk result (length cursor.new ≤ length cursor.old) }
+    ensures low { IfOk result (λ annot. nodes.annot_height annot ≤ 3) }
+    ensures fits { IfOk result (λ annot. nodes.annot_height annot ≤ left) }
 {
     let Some(name) = cursor.name(alloc)? else {
         return Err(Stop::Syntax);
@@ -283,9 +291,52 @@ pub(crate) fn annot_behind(
     })
 }
 
+/// The height of an argument.
+fn arg_height(arg: &AnnotArg) -> u32
+    ensures { result ≡ nodes.arg_height arg.now }
+{
+    match arg.name {
+        None => 1,
+        Some(_) => 2,
+    }
+}
+
+/// The greatest height of an argument.
+fn args_height(args: &[AnnotArg]) -> u32
+    ensures is { result ≡ nodes.args_height args.now }
+    ensures low { result ≤ 2 }
+{
+    let mut greatest = 0;
+    for arg in args {
+        greatest = arg_height(arg).max(greatest);
+    }
+    greatest
+}
+
+/// The height of an annotation.
+pub(crate) fn annot_height(annot: &Annot) -> u32
+    ensures is { result ≡ nodes.annot_height annot.now }
+    ensures low { result ≤ 3 }
+{
+    1 + args_height(annot.args.as_slice()).max(1)
+}
+
+/// Annotations with one more.
+fn with_note(mut notes: Notes, annot: Annot) -> Result<Notes, Stop>
+    ensures { MatchResult result (λ more. more ≡ nodes.with_note notes annot) (λ stop. stop ≡ Memory) }
+{
+    let height = annot_height(&annot);
+    notes.annots.push(annot)?;
+    Ok(Notes {
+        annots: notes.annots,
+        height: notes.height.max(height),
+    })
+}
+
 /// `{Annot}`, behind those that were read, each of a height of at most `left`.
+#[tactic(auto, unfolding(crate::specs::Rule::run, crate::specs::AnnotRules::next_annot, crate::specs::AnnotRules::annots_from))]
 pub(crate) fn annots_from(
-    _alloc: Global,
+    alloc: Global,
     cursor: &mut Cursor<'_>,
     left: u32,
     notes: Notes,
@@ -297,12 +348,22 @@ pub(crate) fn annots_from(
     ensures low { IfOk result (λ found. found.height ≤ 3) }
     ensures fits { IfOk result (λ found. found.height ≤ left) }
 {
-    Err(Stop::Memory)
+    let mut notes = notes;
+    'reading: while let Some(at) = cursor.sign(AT) {
+        if left < 2 {
+            return Err(Stop::TooDeep);
+        }
+        cursor.advance();
+        let annot = annot_behind(alloc, cursor, left, at)?;
+        notes = with_note(notes, annot)?;
+    }
+    Ok(notes)
 }
 
 /// Behind an `@`: its annotation and those that follow it, each of a height of at most `left`, which is at least 2.
+#[tactic(auto, unfolding(crate::specs::Rule::run))]
 pub(crate) fn annots_behind(
-    _alloc: Global,
+    alloc: Global,
     cursor: &mut Cursor<'_>,
     left: u32,
     at: Span,
@@ -313,5 +374,17 @@ pub(crate) fn annots_behind(
     ensures low { IfOk result (λ found. found.height ≤ 3) }
     ensures fits { IfOk result (λ found. found.height ≤ left) }
 {
-    Err(Stop::Memory)
+    let first = annot_behind(alloc, cursor, left, at)?;
+    let notes = with_note(no_notes(alloc), first)?;
+    annots_from(alloc, cursor, left, notes)
+}
+
+/// No annotation.
+pub(crate) fn no_notes(alloc: Global) -> Notes
+    ensures { result ≡ nodes.no_notes }
+{
+    Notes {
+        annots: List::new(alloc),
+        height: 0,
+    }
 }
