@@ -1,10 +1,12 @@
 -- What functions promise that read the statements within a statement.
-use Rattle.std.specs.Prelude.{◌<◌, ◌≤◌, ℕ, Bool, true, false, List, length, Result, OnOk, IfOk}
+use Rattle.std.specs.Prelude.{◌<◌, ◌≤◌, ◌+◌, ℕ, Bool, true, false, List, length, Result, OnOk, IfOk}
 use Rattle.std.specs.declared.alloc.Global.{Global}
 use Rattle.std.specs.Borrow.{MutBor}
 use Rattle.ix_lexer.specs.declared.token.Token.{Token}
 use Rattle.ix_parser.specs.declared.error.Stop.{Stop}
 use Rattle.ix_parser.specs.declared.found.FoundStmt.{FoundStmt}
+use Rattle.ix_parser.specs.declared.statement_trees.Begun.{Begun}
+use Rattle.ix_parser.specs.declared.statement_trees.Begun.TheVariants.{Local, Run, Print}
 use Rattle.ix_parser.specs.Rule.{Rule, run}
 use Rattle.ix_parser.specs.StmtRules.{stmt, block_statement}
 use Rattle.ix_parser.specs.Taking.{Follows}
@@ -24,3 +26,9 @@ pub record ReadsStatements (left : ℕ) (pre : Global → MutBor (List Token) �
       → OnOk result (length new.now < length old.now)
   pub fits : (alloc : Global) (old new : MutBor (List Token)) (height : ℕ) (locals : Bool) (result : Result FoundStmt Stop) → post alloc old height locals result new
       → IfOk result (λ found. found.height ≤ height)
+
+-- What a statement of a height of at most so much begins with is lower.
+abbrev pub begun_fits : ℕ → Begun → Type 0
+begun_fits left (Local mods ty found) = found.height + 1 ≤ left
+begun_fits left (Run f) = f.height + 1 ≤ left
+begun_fits left (Print system) = 1 ≤ left

@@ -18,6 +18,7 @@ mod expressions;
 mod found;
 mod grammar;
 mod laws;
+mod locals;
 mod members;
 mod modifiers;
 mod nodes;

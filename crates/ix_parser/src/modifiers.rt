@@ -8,8 +8,10 @@ ghost use Rattle.ix_parser.specs.Rule.{run, loop};
 ghost use Rattle.ix_parser.specs.Taking.{Follows};
 
 use crate::cursor::Cursor;
-use crate::declarations::{FoundMods, Words};
+use crate::declarations::{FoundMods, Word, Words};
 use crate::error::Stop;
+use ix_text::{List, Span};
+use ix_tree::{Annot, Mods};
 use std::alloc::Global;
 
 /// `{Word | Annot}`, behind those that were read, each annotation of a height of at most `left`.
@@ -26,6 +28,71 @@ pub(crate) fn mods_from(
     ensures no_longer { OnOk result (length cursor.new ≤ length cursor.old) }
     ensures low { IfOk result (λ found. found.height ≤ 3) }
     ensures fits { IfOk result (λ found. found.height ≤ left) }
+{
+    Err(Stop::Memory)
+}
+
+/// No modifier.
+pub(crate) fn no_mods(alloc: Global) -> FoundMods
+    ensures { result ≡ nodes.no_mods }
+{
+    FoundMods {
+        mods: Mods {
+            is_static: false,
+            is_final: false,
+            is_private: false,
+            annots: List::new(alloc),
+        },
+        height: 0,
+        first: None,
+    }
+}
+
+/// The place of the first modifier, where another follows those that were read.
+fn earlier(first: Option<Span>, span: Span) -> Option<Span>
+    ensures { result ≡ nodes.earlier first span }
+{
+    match first {
+        Some(first) => Some(first),
+        None => Some(span),
+    }
+}
+
+/// Modifiers with what a word marks.
+fn marked(mods: Mods, word: Word) -> Mods
+    ensures { result ≡ nodes.marked mods word }
+{
+    match word {
+        Word::Open => mods,
+        Word::Private => Mods {
+            is_private: true,
+            ..mods
+        },
+        Word::Static => Mods {
+            is_static: true,
+            ..mods
+        },
+        Word::Final => Mods {
+            is_final: true,
+            ..mods
+        },
+    }
+}
+
+/// Modifiers with one more word.
+pub(crate) fn with_word(found: FoundMods, word: Word, span: Span) -> FoundMods
+    ensures { result ≡ nodes.with_word found word span }
+{
+    FoundMods {
+        mods: marked(found.mods, word),
+        height: found.height,
+        first: earlier(found.first, span),
+    }
+}
+
+/// Modifiers with one more annotation.
+pub(crate) fn with_annot(_found: FoundMods, _annot: Annot) -> Result<FoundMods, Stop>
+    ensures { MatchResult result (λ more. more ≡ nodes.with_annot _found _annot) (λ stop. stop ≡ Memory) }
 {
     Err(Stop::Memory)
 }
