@@ -36,3 +36,4 @@ pub mod SourceLaws
 mod LowerParts
 mod LowerStatements
 mod Signs
+mod TooHigh

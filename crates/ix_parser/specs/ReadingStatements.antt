@@ -1,13 +1,16 @@
 -- What functions promise that read the statements within a statement.
-use Rattle.std.specs.Prelude.{◌<◌, ◌≤◌, ◌+◌, ℕ, Bool, true, false, List, length, Result, OnOk, IfOk}
+use Rattle.std.specs.Prelude.{◌<◌, ◌≤◌, ◌+◌, ℕ, Bool, true, false, List, length, Option, Some, None, Result, OnOk, IfOk}
 use Rattle.std.specs.declared.alloc.Global.{Global}
 use Rattle.std.specs.Borrow.{MutBor}
 use Rattle.ix_lexer.specs.declared.token.Token.{Token}
+use Rattle.ix_lexer.specs.declared.fixed.TheConstants.{DOT, OPEN_BRACKET, OPEN_PAREN}
 use Rattle.ix_parser.specs.declared.error.Stop.{Stop}
+use Rattle.ix_parser.specs.declared.error.Stop.TheVariants.{Syntax, TooDeep}
 use Rattle.ix_parser.specs.declared.found.FoundStmt.{FoundStmt}
 use Rattle.ix_parser.specs.declared.statement_trees.Begun.{Begun}
 use Rattle.ix_parser.specs.declared.statement_trees.Begun.TheVariants.{Local, Run, Print}
-use Rattle.ix_parser.specs.Rule.{Rule, run}
+use Rattle.ix_parser.specs.Patterns.{a_sign, one_of, assign_signs, step_signs}
+use Rattle.ix_parser.specs.Rule.{Rule, look, run}
 use Rattle.ix_parser.specs.StmtRules.{stmt, block_statement}
 use Rattle.ix_parser.specs.Taking.{Follows}
 
@@ -32,3 +35,19 @@ abbrev pub begun_fits : ℕ → Begun → Type 0
 begun_fits left (Local mods ty found) = found.height + 1 ≤ left
 begun_fits left (Run f) = f.height + 1 ≤ left
 begun_fits left (Print system) = 1 ≤ left
+
+-- ---- behind a variable that is too high
+
+-- A token that is there is too high.
+abbrev pub too_deep_or : {V : Type 0} → Option V → Stop → Stop
+too_deep_or (Some found) other = TooDeep
+too_deep_or None other = other
+
+-- Why reading stops: what would go on with the variable is too high.
+abbrev pub behind_high : List Token → Stop
+behind_high tokens =
+    too_deep_or (look (a_sign DOT) tokens) (too_deep_or (look (a_sign OPEN_BRACKET) tokens) (too_deep_or (look (one_of assign_signs) tokens) (too_deep_or (look (one_of step_signs) tokens) Syntax)))
+
+-- Likewise where the variable's name may yet be that of a method.
+abbrev pub behind_high_name : List Token → Stop
+behind_high_name tokens = too_deep_or (look (a_sign OPEN_PAREN) tokens) (behind_high tokens)

@@ -9,6 +9,7 @@
 #![tactic(auto)]
 
 mod annotations;
+mod beginnings;
 mod classes;
 mod cursor;
 mod declarations;
@@ -17,6 +18,7 @@ mod error;
 mod expressions;
 mod found;
 mod grammar;
+mod high_variables;
 mod laws;
 mod locals;
 mod members;

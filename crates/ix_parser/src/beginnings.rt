@@ -1,0 +1,78 @@
+//! What statements begin with that have no word of their own: an expression, or a declaration of locals (JLS 14.4, 14.8).
+ghost use Rattle.std.specs.Prelude.{◌≤◌, ◌+◌, ◌-◌, ◌^◌, ◌<◌, true, length, OnOk, IfOk};
+ghost use Rattle.ix_tree.specs.declared.annot.BaseTree.TheVariants.{Named};
+ghost use Rattle.ix_parser.specs.AnnotGrammar.{no_notes as no_annots};
+ghost use Rattle.ix_parser.specs.DeclGrammar.{no_mods as none};
+ghost use Rattle.ix_parser.specs.ReadingStatements.{begun_fits};
+ghost use Rattle.ix_parser.specs.Patterns.{a_sign};
+ghost use Rattle.ix_parser.specs.Rule.{run, bind, take};
+ghost use Rattle.ix_parser.specs.StmtRules as spec;
+ghost use Rattle.ix_parser.specs.Taking.{Follows};
+ghost use Rattle.ix_parser.specs.TypeGrammar.{based, array_of as the_array};
+ghost use Rattle.ix_parser.specs.TypeRules.{pairs as the_pairs};
+
+use crate::annotations::no_notes;
+use crate::cursor::Cursor;
+use crate::error::Stop;
+use crate::expressions::{expr, statement_chain, statement_field, statement_name, to_statement};
+use crate::found::{At, Found};
+use crate::high_variables::behind_high_name;
+use crate::locals::{declared, named_type};
+use crate::modifiers::no_mods;
+use crate::nodes::{element, named};
+use crate::statement_trees::Begun;
+use crate::type_trees::{array_of, noted_array, pairs, plain_type};
+use ix_lexer::fixed::{AT, CLOSE_BRACKET, OPEN_BRACKET};
+use ix_tree::{BaseTree, Ident};
+use std::alloc::Global;
+
+/// The rest of an expression, behind its first part
+#[tactic(auto, unfolding(crate::specs::Rule::run, crate::specs::StmtRules::chain))]
+fn chain(alloc: Global, cursor: &mut Cursor<'_>, left: u32, first: Found) -> Result<Begun, Stop>
+    requires few { length cursor.old ≤ 200000 }
+    requires room { first.height + 1 ≤ left }
+    ensures reads { Follows (run (spec.chain left first) cursor.old) result cursor.new }
+    ensures no_longer { OnOk result (length cursor.new ≤ length cursor.old) }
+    ensures fits { IfOk result (λ begun. begun_fits left begun) }
+{
+    let found = statement_chain(alloc, cursor, left - 1, first)?;
+    let found = to_statement(alloc, cursor, left - 1, found)?;
+    Ok(Begun::Run(found))
+}
+
+/// The rest of an expression, behind an expression, a dot and a name
+#[tactic(auto, using(crate::proofs::TooHigh::field_high), unfolding(crate::specs::Rule::run, crate::specs::StmtRules::field, crate::specs::StmtRules::go_on))]
+pub(crate) fn field(
+    alloc: Global,
+    cursor: &mut Cursor<'_>,
+    left: u32,
+    object: Found,
+    name: Ident,
+) -> Result<Begun, Stop>
+    requires few { length cursor.old ≤ 200000 }
+    requires low { object.height ≤ 3 }
+    ensures reads { Follows (run (spec.field left object name) cursor.old) result cursor.new }
+    ensures no_longer { OnOk result (length cursor.new ≤ length cursor.old) }
+    ensures fits { IfOk result (λ begun. begun_fits left begun) }
+{
+    if left < object.height + 2 {
+        return Err(behind_high_name(cursor));
+    }
+    let found = statement_field(alloc, cursor, left - 1, object, name)?;
+    chain(alloc, cursor, left, found)
+}
+
+/// The rest of an expression, behind the name that it begins with
+#[tactic(auto, using(crate::proofs::TooHigh::run_named_high), unfolding(crate::specs::Rule::run, crate::specs::StmtRules::run_named))]
+fn run_named(alloc: Global, cursor: &mut Cursor<'_>, left: u32, name: Ident) -> Result<Begun, Stop>
+    requires few { length cursor.old ≤ 200000 }
+    ensures reads { Follows (run (spec.run_named left name) cursor.old) result cursor.new }
+    ensures no_longer { OnOk result (length cursor.new ≤ length cursor.old) }
+    ensures fits { IfOk result (λ begun. begun_fits left begun) }
+{
+    if left < 3 {
+        return Err(behind_high_name(cursor));
+    }
+    let found = statement_name(alloc, cursor, left - 1, name)?;
+    chain(alloc, cursor, left, found)
+}
