@@ -37,3 +37,4 @@ mod LowerParts
 mod LowerStatements
 mod Signs
 mod TooHigh
+mod IndexRules

@@ -1,8 +1,9 @@
 //! What statements begin with that have no word of their own: an expression, or a declaration of locals (JLS 14.4, 14.8).
-ghost use Rattle.std.specs.Prelude.{◌≤◌, ◌+◌, ◌-◌, ◌^◌, ◌<◌, true, length, OnOk, IfOk};
+ghost use Rattle.std.specs.Prelude.{◌≡◌, ◌≤◌, ◌+◌, ◌-◌, nat_le, true, length, OnOk, IfOk};
 ghost use Rattle.ix_tree.specs.declared.annot.BaseTree.TheVariants.{Named};
 ghost use Rattle.ix_parser.specs.AnnotGrammar.{no_notes as no_annots};
 ghost use Rattle.ix_parser.specs.DeclGrammar.{no_mods as none};
+ghost use Rattle.ix_parser.specs.ExprRules.{below, inner};
 ghost use Rattle.ix_parser.specs.ReadingStatements.{begun_fits};
 ghost use Rattle.ix_parser.specs.Patterns.{a_sign};
 ghost use Rattle.ix_parser.specs.Rule.{run, bind, take};
@@ -75,4 +76,109 @@ fn run_named(alloc: Global, cursor: &mut Cursor<'_>, left: u32, name: Ident) -> 
     }
     let found = statement_name(alloc, cursor, left - 1, name)?;
     chain(alloc, cursor, left, found)
+}
+
+/// The index behind a name and a bracket, where a type would have the other bracket. An assignment to an element is 1 higher than the
+/// declaration that a type begins.
+#[tactic(auto, using(crate::proofs::IndexRules::index_parts))]
+fn index(alloc: Global, cursor: &mut Cursor<'_>, left: u32) -> Result<Found, Stop>
+    requires few { length cursor.old ≤ 200000 }
+    ensures reads { Follows (run (spec.guarded (nat_le 5 left) (inner (below (left - 1)) 1)) cursor.old) result cursor.new }
+    ensures no_longer { OnOk result (length cursor.new ≤ length cursor.old) }
+    ensures room { IfOk result (λ f. 5 ≤ left) }
+    ensures fits { IfOk result (λ f. f.height + 3 ≤ left) }
+{
+    if left < 5 {
+        return expr(alloc, cursor, 0);
+    }
+    expr(alloc, cursor, left - 3)
+}
+
+/// `Expr "]"` and the rest of an expression, behind a name and a bracket
+#[tactic(auto, unfolding(crate::specs::Rule::run, crate::specs::StmtRules::indexed))]
+fn indexed(alloc: Global, cursor: &mut Cursor<'_>, left: u32, name: Ident) -> Result<Begun, Stop>
+    requires few { length cursor.old ≤ 200000 }
+    ensures reads { Follows (run (spec.indexed left name) cursor.old) result cursor.new }
+    ensures no_longer { OnOk result (length cursor.new ≤ length cursor.old) }
+    ensures fits { IfOk result (λ begun. begun_fits left begun) }
+{
+    let index = index(alloc, cursor, left)?;
+    let Some(right) = cursor.sign(CLOSE_BRACKET) else {
+        return Err(Stop::Syntax);
+    };
+    cursor.advance();
+    let first = element(alloc, named(alloc, name)?, index, right)?;
+    chain(alloc, cursor, left, first)
+}
+
+/// Behind a name and a bracket: the other bracket of a type, or an index.
+#[tactic(auto, unfolding(crate::specs::Rule::run))]
+fn bracketed(alloc: Global, cursor: &mut Cursor<'_>, left: u32, name: Ident) -> Result<Begun, Stop>
+    requires few { length cursor.old ≤ 200000 }
+    requires room { 4 ≤ left }
+    ensures reads { Follows (run (take (a_sign CLOSE_BRACKET) true (λ right. bind (the_pairs 1 right) (λ brackets. spec.named_type left none (the_array (based (Named name) name.span) no_annots brackets))) (spec.indexed left name)) cursor.old) result cursor.new }
+    ensures no_longer { OnOk result (length cursor.new ≤ length cursor.old) }
+    ensures fits { IfOk result (λ begun. begun_fits left begun) }
+{
+    let Some(right) = cursor.sign(CLOSE_BRACKET) else {
+        return indexed(alloc, cursor, left, name);
+    };
+    cursor.advance();
+    let brackets = pairs(cursor, right)?;
+    let ty = array_of(named_base(name), no_notes(alloc), brackets);
+    named_type(alloc, cursor, left, no_mods(alloc), ty)
+}
+
+/// The base that a name is.
+fn named_base(name: Ident) -> At<BaseTree>
+    ensures { result ≡ based (Named name) name.span }
+{
+    let span = name.span;
+    At {
+        value: BaseTree::Named(name),
+        span,
+    }
+}
+
+/// Behind a name that begins a type or an expression, where locals may be declared, or an expression.
+#[tactic(auto, unfolding(crate::specs::Rule::run, crate::specs::StmtRules::named_first))]
+pub(crate) fn named_first(
+    alloc: Global,
+    cursor: &mut Cursor<'_>,
+    left: u32,
+    locals: bool,
+    name: Ident,
+) -> Result<Begun, Stop>
+    requires few { length cursor.old ≤ 200000 }
+    ensures reads { Follows (run (spec.named_first locals left name) cursor.old) result cursor.new }
+    ensures no_longer { OnOk result (length cursor.new ≤ length cursor.old) }
+    ensures fits { IfOk result (λ begun. begun_fits left begun) }
+{
+    if !locals {
+        return run_named(alloc, cursor, left, name);
+    }
+    if let Some(_opening) = cursor.sign(OPEN_BRACKET) {
+        if left < 4 {
+            return Err(Stop::TooDeep);
+        }
+        cursor.advance();
+        return bracketed(alloc, cursor, left, name);
+    }
+    if let Some(at) = cursor.sign(AT) {
+        if left < 5 {
+            return Err(Stop::TooDeep);
+        }
+        cursor.advance();
+        let ty = noted_array(alloc, cursor, left - 2, named_base(name), at)?;
+        return named_type(alloc, cursor, left, no_mods(alloc), ty);
+    }
+    let Some(variable) = cursor.name(alloc)? else {
+        return run_named(alloc, cursor, left, name);
+    };
+    if left < 4 {
+        return Err(Stop::TooDeep);
+    }
+    cursor.advance();
+    let ty = plain_type(alloc, named_base(name));
+    declared(alloc, cursor, left, no_mods(alloc), ty, variable)
 }
