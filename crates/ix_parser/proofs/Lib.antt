@@ -38,3 +38,4 @@ mod LowerStatements
 mod Signs
 mod TooHigh
 mod IndexRules
+mod Words

@@ -26,6 +26,7 @@ mod modifiers;
 mod nodes;
 mod operators;
 mod parse_tree;
+mod printing;
 mod simple_statements;
 mod statement_nodes;
 mod statement_parts;
