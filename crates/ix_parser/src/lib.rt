@@ -10,6 +10,7 @@
 
 mod annotations;
 mod beginnings;
+mod begun;
 mod classes;
 mod cursor;
 mod declarations;

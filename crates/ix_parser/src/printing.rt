@@ -19,7 +19,7 @@ use std::alloc::Global;
 
 /// The identifier that comes next, where it is that one.
 #[tactic(auto, using(crate::proofs::Words::words))]
-fn word(alloc: Global, cursor: &Cursor<'_>, text: &str) -> Result<Option<Ident>, Stop>
+pub(crate) fn word(alloc: Global, cursor: &Cursor<'_>, text: &str) -> Result<Option<Ident>, Stop>
     ensures found { MatchResult result (λ found. found ≡ look (spec.a_word text.now) cursor.now) (λ stop. stop ≡ Memory) }
     ensures there { IfOk result (λ found. IfSome found (λ _. 0 < length cursor.now)) }
 {
@@ -101,7 +101,7 @@ fn out_part(
 
 /// `"." "out" "." "println" "("`, or what else begins with a name, behind `System`
 #[tactic(auto, unfolding(crate::specs::Rule::run, crate::specs::StmtRules::system_part))]
-fn system_part(
+pub(crate) fn system_part(
     alloc: Global,
     cursor: &mut Cursor<'_>,
     left: u32,
