@@ -22,6 +22,7 @@ mod grammar;
 mod high_variables;
 mod laws;
 mod locals;
+mod loops;
 mod members;
 mod modifiers;
 mod nodes;
