@@ -17,6 +17,7 @@ mod declarations;
 mod declarators;
 mod error;
 mod expressions;
+mod finished_statements;
 mod found;
 mod grammar;
 mod high_variables;
