@@ -1,17 +1,20 @@
 -- What functions promise that read the statements within a statement.
-use Rattle.std.specs.Prelude.{◌<◌, ◌≤◌, ◌+◌, ℕ, Bool, true, false, List, length, Option, Some, None, Result, OnOk, IfOk}
+use Rattle.std.specs.Prelude.{◌<◌, ◌≤◌, ◌+◌, ℕ, nat_le, Bool, true, false, List, length, Option, Some, None, Result, OnOk, IfOk}
 use Rattle.std.specs.declared.alloc.Global.{Global}
 use Rattle.std.specs.Borrow.{MutBor}
 use Rattle.ix_lexer.specs.declared.token.Token.{Token}
-use Rattle.ix_lexer.specs.declared.fixed.TheConstants.{DOT, OPEN_BRACKET, OPEN_PAREN}
+use Rattle.ix_lexer.specs.declared.fixed.TheConstants.{WHILE, DO, FOR, BREAK, CONTINUE, RETURN, THROW, DOT, SEMICOLON, OPEN_BRACKET, OPEN_PAREN}
+use Rattle.ix_tree.specs.declared.stmt.StmtKind.TheVariants as s
+use Rattle.ix_parser.specs.Nodes.{across}
 use Rattle.ix_parser.specs.declared.error.Stop.{Stop}
 use Rattle.ix_parser.specs.declared.error.Stop.TheVariants.{Syntax, TooDeep}
 use Rattle.ix_parser.specs.declared.found.FoundStmt.{FoundStmt}
 use Rattle.ix_parser.specs.declared.statement_trees.Begun.{Begun}
 use Rattle.ix_parser.specs.declared.statement_trees.Begun.TheVariants.{Local, Run, Print}
 use Rattle.ix_parser.specs.Patterns.{a_sign, one_of, assign_signs, step_signs}
-use Rattle.ix_parser.specs.Rule.{Rule, look, run}
-use Rattle.ix_parser.specs.StmtRules.{stmt, block_statement}
+use Rattle.ix_parser.specs.Rule.{Rule, pure, take, bind, stop, look, run}
+use Rattle.ix_parser.specs.StmtGrammar.{stmt_node}
+use Rattle.ix_parser.specs.StmtRules.{StmtParts, stmt, block_statement, begun, finished, while_rule, do_rule, for_rule, return_rule, throw_rule}
 use Rattle.ix_parser.specs.Taking.{Follows}
 
 -- a statement of a height of at most so much, and whether it may declare locals
@@ -51,3 +54,23 @@ behind_high tokens =
 -- Likewise where the variable's name may yet be that of a method.
 abbrev pub behind_high_name : List Token → Stop
 behind_high_name tokens = too_deep_or (look (a_sign OPEN_PAREN) tokens) (behind_high tokens)
+
+-- ---- the last alternatives of a statement
+
+abbrev pub begun_stmt : Bool → ℕ → Rule FoundStmt
+begun_stmt locals left = bind (begun true locals left) (finished left)
+
+abbrev pub jump_or_begun : Bool → ℕ → Rule FoundStmt
+jump_or_begun locals left =
+    take (a_sign BREAK) (nat_le 1 left) (λ start. take (a_sign SEMICOLON) true (λ end. pure (stmt_node s.Break 0 (across start end))) stop)
+    (take (a_sign CONTINUE) (nat_le 1 left) (λ start. take (a_sign SEMICOLON) true (λ end. pure (stmt_node s.Continue 0 (across start end))) stop)
+    (take (a_sign RETURN) (nat_le 1 left) (return_rule left)
+    (take (a_sign THROW) (nat_le 2 left) throw_rule
+    (begun_stmt locals left))))
+
+abbrev pub loop_or_other : StmtParts → Bool → ℕ → Rule FoundStmt
+loop_or_other parts locals left =
+    take (a_sign WHILE) (nat_le 2 left) (while_rule parts left)
+    (take (a_sign DO) (nat_le 2 left) (do_rule parts left)
+    (take (a_sign FOR) (nat_le 2 left) (for_rule parts left)
+    (jump_or_begun locals left)))
