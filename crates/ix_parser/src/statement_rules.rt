@@ -149,9 +149,29 @@ impl<F: Fn(Global, &mut Cursor<'_>, u32, bool) -> Result<FoundStmt, Stop>> State
     }
 }
 
+/// A statement of a height of at most `left`, which may declare locals where it is one of a block.
+fn statement(
+    alloc: Global,
+    cursor: &mut Cursor<'_>,
+    left: u32,
+    locals: bool,
+) -> Result<FoundStmt, Stop>
+    requires few { length cursor.old ≤ 200000 }
+    ensures reads { Follows (run (reading.stmt_rule locals left) cursor.old) result cursor.new }
+    ensures shorter { OnOk result (length cursor.new < length cursor.old) }
+    ensures fits { IfOk result (λ found. found.height ≤ left) }
+{
+    let rules = Statements {
+        alloc,
+        left,
+        part: statement,
+    };
+    rules.any(cursor, locals)
+}
+
 /// A statement of a block, of a height of at most `left`.
 pub(crate) fn block_statement(
-    _alloc: Global,
+    alloc: Global,
     cursor: &mut Cursor<'_>,
     left: u32,
 ) -> Result<FoundStmt, Stop>
@@ -160,5 +180,5 @@ pub(crate) fn block_statement(
     ensures shorter { OnOk result (length cursor.new < length cursor.old) }
     ensures fits { IfOk result (λ found. found.height ≤ left) }
 {
-    Err(Stop::Memory)
+    statement(alloc, cursor, left, true)
 }
