@@ -15,11 +15,7 @@ fn behind_high(cursor: &Cursor<'_>) -> Stop
         || cursor.sign(OPEN_BRACKET).is_some()
         || assign_sign(cursor).is_some()
         || step_sign(cursor).is_some();
-    if goes_on {
-        Stop::TooDeep
-    } else {
-        Stop::Syntax
-    }
+    if goes_on { Stop::TooDeep } else { Stop::Syntax }
 }
 
 /// Why reading stops behind a name that makes a variable which is too high, or a method.

@@ -28,12 +28,7 @@ use std::alloc::Global;
 
 /// `{"," SExpr}`, behind the first expression of an update
 #[tactic(auto, unfolding(crate::specs::Rule::run, crate::specs::Lists::next_of, crate::specs::Lists::more_of))]
-fn updates(
-    alloc: Global,
-    cursor: &mut Cursor<'_>,
-    left: u32,
-    first: Found,
-) -> Result<Several, Stop>
+fn updates(alloc: Global, cursor: &mut Cursor<'_>, left: u32, first: Found) -> Result<Several, Stop>
     requires few { length cursor.old ≤ 200000 }
     requires fits { first.height ≤ left }
     ensures reads { Follows (run (more_of (the_expr left) exprs.with_expr (nodes.one_expr first)) cursor.old) result cursor.new }
@@ -91,12 +86,7 @@ fn local_part(
 
 /// The rest of a first part, whose statements are one lower
 #[tactic(auto, unfolding(crate::specs::Rule::run, crate::specs::StmtRules::for_part))]
-fn for_part(
-    alloc: Global,
-    cursor: &mut Cursor<'_>,
-    left: u32,
-    first: Begun,
-) -> Result<Stmts, Stop>
+fn for_part(alloc: Global, cursor: &mut Cursor<'_>, left: u32, first: Begun) -> Result<Stmts, Stop>
     requires few { length cursor.old ≤ 200000 }
     requires fits { begun_fits (left - 1) first }
     ensures reads { Follows (run (spec.for_part left first) cursor.old) result cursor.new }

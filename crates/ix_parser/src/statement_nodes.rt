@@ -101,11 +101,7 @@ pub(crate) fn if_else_stmt(
 {
     let span = across(start, other.stmt.get().span);
     let height = condition.height.max(found.height.max(other.height));
-    let kind = StmtKind::If(
-        condition.expr.into_inner(),
-        found.stmt,
-        Some(other.stmt),
-    );
+    let kind = StmtKind::If(condition.expr.into_inner(), found.stmt, Some(other.stmt));
     stmt_node(alloc, kind, height, span)
 }
 

@@ -14,9 +14,7 @@ use crate::found::FoundStmt;
 use crate::simple_statements::{break_rule, continue_rule, return_rule, throw_rule};
 use crate::statement_nodes::stmt_node;
 use crate::statement_parts::Statements;
-use ix_lexer::fixed::{
-    BREAK, CONTINUE, DO, FOR, IF, OPEN_BRACE, RETURN, SEMICOLON, THROW, WHILE,
-};
+use ix_lexer::fixed::{BREAK, CONTINUE, DO, FOR, IF, OPEN_BRACE, RETURN, SEMICOLON, THROW, WHILE};
 use ix_tree::StmtKind;
 use std::alloc::Global;
 
