@@ -8,39 +8,48 @@ ghost use Rattle.ix_parser.specs.Taking.{Follows};
 
 use crate::cursor::Cursor;
 use crate::error::Stop;
-use crate::found::{Args, Found, FoundInit};
-use crate::grammar::Part;
+use crate::found::{Aim, Args, Found, FoundInit};
+use crate::grammar::{Grammar, Part};
 use ix_tree::Ident;
 use std::alloc::Global;
 
 /// An expression of a height of at most `left`, as a part of another.
 pub(crate) fn read(
-    _alloc: Global,
-    _cursor: &mut Cursor<'_>,
+    alloc: Global,
+    cursor: &mut Cursor<'_>,
     left: u32,
     part: Part,
 ) -> Result<Found, Stop>
-    requires few { length _cursor.old ≤ 200000 }
-    ensures reads { Follows (run (part_rule left part) _cursor.old) result _cursor.new }
-    ensures no_longer { OnOk result (length _cursor.new ≤ length _cursor.old) }
+    requires few { length cursor.old ≤ 200000 }
+    ensures reads { Follows (run (part_rule left part) cursor.old) result cursor.new }
+    ensures no_longer { OnOk result (length cursor.new ≤ length cursor.old) }
     ensures fits { IfOk result (λ f. f.height ≤ left) }
 {
-    Err(Stop::Memory)
+    let grammar = Grammar {
+        alloc,
+        left,
+        part: read,
+    };
+    match part {
+        Part::Whole => grammar.whole(cursor),
+        Part::Level(levels) => grammar.level(cursor, levels),
+        Part::Variable => grammar.variable(cursor),
+    }
 }
 
 /// An expression of a height of at most `left`.
-pub(crate) fn expr(_alloc: Global, cursor: &mut Cursor<'_>, left: u32) -> Result<Found, Stop>
+pub(crate) fn expr(alloc: Global, cursor: &mut Cursor<'_>, left: u32) -> Result<Found, Stop>
     requires few { length cursor.old ≤ 200000 }
     ensures reads { Follows (run (spec.expr left) cursor.old) result cursor.new }
     ensures no_longer { OnOk result (length cursor.new ≤ length cursor.old) }
     ensures fits { IfOk result (λ f. f.height ≤ left) }
 {
-    Err(Stop::Memory)
+    read(alloc, cursor, left, Part::Whole)
 }
 
 /// An expression of a height of at most `left` that may stand as a statement (JLS 14.8).
 pub(crate) fn statement_expr(
-    _alloc: Global,
+    alloc: Global,
     cursor: &mut Cursor<'_>,
     left: u32,
 ) -> Result<Found, Stop>
@@ -49,32 +58,47 @@ pub(crate) fn statement_expr(
     ensures no_longer { OnOk result (length cursor.new ≤ length cursor.old) }
     ensures fits { IfOk result (λ f. f.height ≤ left) }
 {
-    Err(Stop::Memory)
+    let grammar = Grammar {
+        alloc,
+        left,
+        part: read,
+    };
+    grammar.statement(cursor)
 }
 
 /// An initialiser of a height of at most `left` (JLS 8.3, 10.6).
-pub(crate) fn init(_alloc: Global, cursor: &mut Cursor<'_>, left: u32) -> Result<FoundInit, Stop>
+pub(crate) fn init(alloc: Global, cursor: &mut Cursor<'_>, left: u32) -> Result<FoundInit, Stop>
     requires few { length cursor.old ≤ 200000 }
     ensures reads { Follows (run (spec.init left) cursor.old) result cursor.new }
     ensures no_longer { OnOk result (length cursor.new ≤ length cursor.old) }
     ensures fits { IfOk result (λ i. i.height ≤ left) }
 {
-    Err(Stop::Memory)
+    let grammar = Grammar {
+        alloc,
+        left,
+        part: read,
+    };
+    grammar.init(cursor, left)
 }
 
 /// `[Expr {"," Expr}] ")"`, behind the opening parenthesis, each argument of a height of at most `left`.
-pub(crate) fn args(_alloc: Global, cursor: &mut Cursor<'_>, left: u32) -> Result<Args, Stop>
+pub(crate) fn args(alloc: Global, cursor: &mut Cursor<'_>, left: u32) -> Result<Args, Stop>
     requires few { length cursor.old ≤ 200000 }
     ensures reads { Follows (run (spec.args (spec.expr left)) cursor.old) result cursor.new }
     ensures no_longer { OnOk result (length cursor.new ≤ length cursor.old) }
     ensures fits { IfOk result (λ a. a.height ≤ left) }
 {
-    Err(Stop::Memory)
+    let grammar = Grammar {
+        alloc,
+        left,
+        part: read,
+    };
+    grammar.args_within(cursor, left)
 }
 
 /// Behind a name that begins an expression that is to be a statement: a variable or a call.
 pub(crate) fn statement_name(
-    _alloc: Global,
+    alloc: Global,
     cursor: &mut Cursor<'_>,
     left: u32,
     name: Ident,
@@ -85,12 +109,17 @@ pub(crate) fn statement_name(
     ensures no_longer { OnOk result (length cursor.new ≤ length cursor.old) }
     ensures fits { IfOk result (λ f. f.height ≤ left) }
 {
-    Err(Stop::Memory)
+    let grammar = Grammar {
+        alloc,
+        left,
+        part: read,
+    };
+    grammar.name_or_call(cursor, Aim::Statement, name)
 }
 
 /// Behind an expression, a dot and a name, where the whole is to be a statement: a field or a call.
 pub(crate) fn statement_field(
-    _alloc: Global,
+    alloc: Global,
     cursor: &mut Cursor<'_>,
     left: u32,
     object: Found,
@@ -102,12 +131,20 @@ pub(crate) fn statement_field(
     ensures no_longer { OnOk result (length cursor.new ≤ length cursor.old) }
     ensures fits { IfOk result (λ f. f.height ≤ left) }
 {
-    Err(Stop::Memory)
+    if object.height < 1 {
+        return Err(Stop::Memory);
+    }
+    let grammar = Grammar {
+        alloc,
+        left,
+        part: read,
+    };
+    grammar.field_or_call(cursor, Aim::Statement, object, name)
 }
 
 /// Behind the first part of a primary that is to be a statement: all that makes a longer one of it.
 pub(crate) fn statement_chain(
-    _alloc: Global,
+    alloc: Global,
     cursor: &mut Cursor<'_>,
     left: u32,
     first: Found,
@@ -118,12 +155,20 @@ pub(crate) fn statement_chain(
     ensures no_longer { OnOk result (length cursor.new ≤ length cursor.old) }
     ensures fits { IfOk result (λ f. f.height ≤ left) }
 {
-    Err(Stop::Memory)
+    if first.height < 1 {
+        return Err(Stop::Memory);
+    }
+    let grammar = Grammar {
+        alloc,
+        left,
+        part: read,
+    };
+    grammar.chain(cursor, Aim::Statement, first)
 }
 
 /// Behind a primary: the rest of an expression that may stand as a statement.
 pub(crate) fn to_statement(
-    _alloc: Global,
+    alloc: Global,
     cursor: &mut Cursor<'_>,
     left: u32,
     first: Found,
@@ -134,5 +179,10 @@ pub(crate) fn to_statement(
     ensures no_longer { OnOk result (length cursor.new ≤ length cursor.old) }
     ensures fits { IfOk result (λ f. f.height ≤ left) }
 {
-    Err(Stop::Memory)
+    let grammar = Grammar {
+        alloc,
+        left,
+        part: read,
+    };
+    grammar.to_statement(cursor, first)
 }

@@ -43,6 +43,16 @@ pub(crate) fn extra(aim: Aim, form: Form) -> u32
     }
 }
 
+/// Whether it creates an array.
+pub(crate) fn makes_array(form: Form) -> bool
+    ensures { result ≡ spec.makes_array form }
+{
+    match form {
+        Form::Array => true,
+        _ => false,
+    }
+}
+
 impl<F: Fn(Global, &mut Cursor<'_>, u32, Part) -> Result<Found, Stop>> Grammar<F> {
     /// A part of a node.
     #[tactic(auto, using(crate::proofs::LowerParts::lower_parts))]
@@ -95,5 +105,16 @@ impl<F: Fn(Global, &mut Cursor<'_>, u32, Part) -> Result<Found, Stop>> Grammar<F
         ensures fits { IfOk result (λ f. f.height + extra + 1 ≤ self.now.left) }
     {
         (self.part)(self.alloc, cursor, self.left - (extra + 1), Part::Whole)
+    }
+
+    /// An expression of a height of at most `height`.
+    pub(crate) fn expr(&self, cursor: &mut Cursor<'_>, height: u32) -> Result<Found, Stop>
+        requires parts { ReadsParts (height + 1) (F.pre self.now.part) (F.post self.now.part) }
+        requires few { length cursor.old ≤ 200000 }
+        ensures reads { Follows (run (spec.expr height) cursor.old) result cursor.new }
+        ensures no_longer { OnOk result (length cursor.new ≤ length cursor.old) }
+        ensures fits { IfOk result (λ f. f.height ≤ height) }
+    {
+        (self.part)(self.alloc, cursor, height, Part::Whole)
     }
 }

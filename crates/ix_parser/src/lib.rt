@@ -9,9 +9,11 @@
 #![tactic(auto)]
 
 mod annotations;
+mod arguments;
 mod beginnings;
 mod begun;
 mod classes;
+mod creations;
 mod cursor;
 mod declarations;
 mod declarators;
@@ -21,7 +23,9 @@ mod finished_statements;
 mod found;
 mod grammar;
 mod high_variables;
+mod initialisers;
 mod laws;
+mod levels;
 mod locals;
 mod loops;
 mod members;
@@ -29,6 +33,7 @@ mod modifiers;
 mod nodes;
 mod operators;
 mod parse_tree;
+mod primaries;
 mod printing;
 mod simple_statements;
 mod statement_nodes;

@@ -1,4 +1,4 @@
-//! The nodes of expressions, each made of its parts. The one error is want of memory.
+//! The nodes of expressions, each made of its parts, which are lower than `left`. The one error is want of memory.
 ghost use Rattle.std.specs.Prelude.{◌≡◌, ◌<◌, ◌≤◌, MatchResult};
 ghost use Rattle.ix_parser.specs.ExprNodes as nodes;
 ghost use Rattle.ix_parser.specs.TypeGrammar.{base_height as the_height};
@@ -15,12 +15,13 @@ use std::alloc::Global;
 /// A node that is 1 higher than its highest part.
 fn node(
     alloc: Global,
+    left: u32,
     kind: ExprKind,
     form: Form,
     parts: u32,
     outer: Span,
 ) -> Result<Found, Stop>
-    requires room { parts < 4294967295 }
+    requires room { parts < left }
     ensures { MatchResult result (λ found. found ≡ nodes.node kind form parts outer) (λ stop. stop ≡ Memory) }
 {
     let expr = Boxed::new(alloc, Expr { kind, span: outer })?;
@@ -36,7 +37,7 @@ fn node(
 pub(crate) fn leaf(alloc: Global, kind: ExprKind, span: Span) -> Result<Found, Stop>
     ensures { MatchResult result (λ found. found ≡ nodes.leaf kind span) (λ stop. stop ≡ Memory) }
 {
-    node(alloc, kind, Form::Value, 0, span)
+    node(alloc, 1, kind, Form::Value, 0, span)
 }
 
 /// A variable (JLS 6.5.6.1).
@@ -44,106 +45,114 @@ pub(crate) fn named(alloc: Global, name: Ident) -> Result<Found, Stop>
     ensures { MatchResult result (λ found. found ≡ nodes.named name) (λ stop. stop ≡ Memory) }
 {
     let span = name.span;
-    node(alloc, ExprKind::Name(name), Form::Variable, 1, span)
+    node(alloc, 2, ExprKind::Name(name), Form::Variable, 1, span)
 }
 
 /// An expression in parentheses (JLS 15.8.5).
-pub(crate) fn within(left: Span, right: Span, inside: Found) -> Found
-    requires room { inside.height < 4294967295 }
-    ensures { result ≡ nodes.within left right inside }
+pub(crate) fn within(left: u32, opening: Span, right: Span, inside: Found) -> Found
+    requires room { inside.height < left }
+    ensures { result ≡ nodes.within opening right inside }
 {
     Found {
         expr: inside.expr,
         form: Form::Value,
         height: inside.height + 1,
-        outer: across(left, right),
+        outer: across(opening, right),
     }
 }
 
 /// A field of an object (JLS 15.11).
-pub(crate) fn selected(alloc: Global, object: Found, name: Ident) -> Result<Found, Stop>
-    requires room { object.height < 4294967295 }
+pub(crate) fn selected(alloc: Global, left: u32, object: Found, name: Ident) -> Result<Found, Stop>
+    requires two { 1 < left }
+    requires room { object.height < left }
     ensures { MatchResult result (λ found. found ≡ nodes.selected object name) (λ stop. stop ≡ Memory) }
 {
     let outer = across(object.outer, name.span);
     let kind = ExprKind::Select(object.expr, name);
-    node(alloc, kind, Form::Variable, object.height.max(1), outer)
+    node(alloc, left, kind, Form::Variable, object.height.max(1), outer)
 }
 
 /// An element of an array (JLS 15.10.3).
 pub(crate) fn element(
     alloc: Global,
+    left: u32,
     array: Found,
     index: Found,
     right: Span,
 ) -> Result<Found, Stop>
-    requires array_room { array.height < 4294967295 }
-    requires index_room { index.height < 4294967295 }
+    requires array_room { array.height < left }
+    requires index_room { index.height < left }
     ensures { MatchResult result (λ found. found ≡ nodes.element array index right) (λ stop. stop ≡ Memory) }
 {
     let outer = across(array.outer, right);
     let parts = array.height.max(index.height);
     let kind = ExprKind::Index(array.expr, index.expr);
-    node(alloc, kind, Form::Variable, parts, outer)
+    node(alloc, left, kind, Form::Variable, parts, outer)
 }
 
 /// A call of a method of this class (JLS 15.12).
-pub(crate) fn called(alloc: Global, name: Ident, args: Args) -> Result<Found, Stop>
-    requires room { args.height < 4294967295 }
+pub(crate) fn called(alloc: Global, left: u32, name: Ident, args: Args) -> Result<Found, Stop>
+    requires two { 1 < left }
+    requires room { args.height < left }
     ensures { MatchResult result (λ found. found ≡ nodes.called name args) (λ stop. stop ≡ Memory) }
 {
     let outer = across(name.span, args.end);
     let parts = 1u32.max(args.height);
     let kind = ExprKind::Call(None, name, args.items);
-    node(alloc, kind, Form::Statement, parts, outer)
+    node(alloc, left, kind, Form::Statement, parts, outer)
 }
 
 /// A call of a method of an object (JLS 15.12).
 pub(crate) fn called_on(
     alloc: Global,
+    left: u32,
     object: Found,
     name: Ident,
     args: Args,
 ) -> Result<Found, Stop>
-    requires object_room { object.height < 4294967295 }
-    requires args_room { args.height < 4294967295 }
+    requires two { 1 < left }
+    requires object_room { object.height < left }
+    requires args_room { args.height < left }
     ensures { MatchResult result (λ found. found ≡ nodes.called_on object name args) (λ stop. stop ≡ Memory) }
 {
     let outer = across(object.outer, args.end);
     let parts = object.height.max(1u32.max(args.height));
     let kind = ExprKind::Call(Some(object.expr), name, args.items);
-    node(alloc, kind, Form::Statement, parts, outer)
+    node(alloc, left, kind, Form::Statement, parts, outer)
 }
 
 /// A new object (JLS 15.9).
 pub(crate) fn created(
     alloc: Global,
+    left: u32,
     start: Span,
     name: Ident,
     args: Args,
 ) -> Result<Found, Stop>
-    requires room { args.height < 4294967295 }
+    requires two { 1 < left }
+    requires room { args.height < left }
     ensures { MatchResult result (λ found. found ≡ nodes.created start name args) (λ stop. stop ≡ Memory) }
 {
     let outer = across(start, args.end);
     let parts = 1u32.max(args.height);
     let kind = ExprKind::New(name, args.items);
-    node(alloc, kind, Form::Statement, parts, outer)
+    node(alloc, left, kind, Form::Statement, parts, outer)
 }
 
 /// An expression with an operator before it (JLS 15.15).
 pub(crate) fn unary(
     alloc: Global,
+    left: u32,
     op: UnaryOp,
     start: Span,
     operand: Found,
 ) -> Result<Found, Stop>
-    requires room { operand.height < 4294967295 }
+    requires room { operand.height < left }
     ensures { MatchResult result (λ found. found ≡ nodes.unary op start operand) (λ stop. stop ≡ Memory) }
 {
     let outer = across(start, operand.outer);
     let kind = ExprKind::Unary(op, operand.expr);
-    node(alloc, kind, Form::Value, operand.height, outer)
+    node(alloc, left, kind, Form::Value, operand.height, outer)
 }
 
 /// The literal -2147483648 (JLS 3.10.1).
@@ -156,11 +165,12 @@ pub(crate) fn least_int(alloc: Global, minus: Span, literal: Span) -> Result<Fou
 /// `++` or `--` before a variable (JLS 15.15.1, 15.15.2).
 pub(crate) fn stepped_before(
     alloc: Global,
+    left: u32,
     up: bool,
     start: Span,
     target: Found,
 ) -> Result<Found, Stop>
-    requires room { target.height < 4294967295 }
+    requires room { target.height < left }
     ensures { MatchResult result (λ found. found ≡ nodes.stepped_before up start target) (λ stop. stop ≡ Memory) }
 {
     let outer = across(start, target.outer);
@@ -169,17 +179,18 @@ pub(crate) fn stepped_before(
         after: false,
         target: target.expr,
     };
-    node(alloc, kind, Form::Statement, target.height, outer)
+    node(alloc, left, kind, Form::Statement, target.height, outer)
 }
 
 /// `++` or `--` behind a variable (JLS 15.14.2, 15.14.3).
 pub(crate) fn stepped_after(
     alloc: Global,
+    left: u32,
     up: bool,
     target: Found,
     end: Span,
 ) -> Result<Found, Stop>
-    requires room { target.height < 4294967295 }
+    requires room { target.height < left }
     ensures { MatchResult result (λ found. found ≡ nodes.stepped_after up target end) (λ stop. stop ≡ Memory) }
 {
     let outer = across(target.outer, end);
@@ -188,41 +199,43 @@ pub(crate) fn stepped_after(
         after: true,
         target: target.expr,
     };
-    node(alloc, kind, Form::Statement, target.height, outer)
+    node(alloc, left, kind, Form::Statement, target.height, outer)
 }
 
 /// Two expressions with an operator between (JLS 15.17 to 15.24).
 pub(crate) fn joined(
     alloc: Global,
+    left: u32,
     op: BinaryOp,
     first: Found,
     second: Found,
 ) -> Result<Found, Stop>
-    requires first_room { first.height < 4294967295 }
-    requires second_room { second.height < 4294967295 }
+    requires first_room { first.height < left }
+    requires second_room { second.height < left }
     ensures { MatchResult result (λ found. found ≡ nodes.joined op first second) (λ stop. stop ≡ Memory) }
 {
     let outer = across(first.outer, second.outer);
     let parts = first.height.max(second.height);
     let kind = ExprKind::Binary(op, first.expr, second.expr);
-    node(alloc, kind, Form::Value, parts, outer)
+    node(alloc, left, kind, Form::Value, parts, outer)
 }
 
 /// An assignment (JLS 15.26).
 pub(crate) fn assigned(
     alloc: Global,
+    left: u32,
     op: Option<Arith>,
     target: Found,
     value: Found,
 ) -> Result<Found, Stop>
-    requires target_room { target.height < 4294967295 }
-    requires value_room { value.height < 4294967295 }
+    requires target_room { target.height < left }
+    requires value_room { value.height < left }
     ensures { MatchResult result (λ found. found ≡ nodes.assigned op target value) (λ stop. stop ≡ Memory) }
 {
     let outer = across(target.outer, value.outer);
     let parts = target.height.max(value.height);
     let kind = ExprKind::Assign(op, target.expr, value.expr);
-    node(alloc, kind, Form::Statement, parts, outer)
+    node(alloc, left, kind, Form::Statement, parts, outer)
 }
 
 /// No arguments.
@@ -298,40 +311,42 @@ fn base_height(base: &BaseTree) -> u32
 /// A new array of a length (JLS 15.10.1), with the place of its last token.
 pub(crate) fn new_array(
     alloc: Global,
+    left: u32,
     start: Span,
     ty: FoundType,
     length: Found,
     end: Span,
 ) -> Result<Found, Stop>
-    requires type_room { ty.height < 4294967295 }
-    requires length_room { length.height < 4294967295 }
+    requires type_room { ty.height < left }
+    requires length_room { length.height < left }
     ensures { MatchResult result (λ found. found ≡ nodes.new_array start ty length end) (λ stop. stop ≡ Memory) }
 {
     let parts = ty.height.max(length.height);
     let kind = ExprKind::NewArray(ty.ty, length.expr);
-    node(alloc, kind, Form::Array, parts, across(start, end))
+    node(alloc, left, kind, Form::Array, parts, across(start, end))
 }
 
 /// A new array of these entries (JLS 15.10.1).
 pub(crate) fn new_items(
     alloc: Global,
+    left: u32,
     start: Span,
     ty: FoundType,
     entries: FoundItems,
 ) -> Result<Found, Stop>
-    requires type_room { ty.height < 4294967295 }
-    requires entries_room { entries.height < 4294967295 }
+    requires type_room { ty.height < left }
+    requires entries_room { entries.height < left }
     ensures { MatchResult result (λ found. found ≡ nodes.new_items start ty entries) (λ stop. stop ≡ Memory) }
 {
     let outer = across(start, entries.end);
     let parts = ty.height.max(entries.height);
     let kind = ExprKind::NewItems(ty.ty, entries.items);
-    node(alloc, kind, Form::Array, parts, outer)
+    node(alloc, left, kind, Form::Array, parts, outer)
 }
 
 /// An expression as an initialiser (JLS 8.3).
-pub(crate) fn value_init(alloc: Global, value: Found) -> Result<FoundInit, Stop>
-    requires room { value.height < 4294967295 }
+pub(crate) fn value_init(alloc: Global, left: u32, value: Found) -> Result<FoundInit, Stop>
+    requires room { value.height < left }
     ensures { MatchResult result (λ found. found ≡ nodes.value_init value) (λ stop. stop ≡ Memory) }
 {
     let Found {
@@ -349,12 +364,12 @@ pub(crate) fn value_init(alloc: Global, value: Found) -> Result<FoundInit, Stop>
 }
 
 /// Entries in braces as an initialiser (JLS 10.6).
-pub(crate) fn items_init(alloc: Global, left: Span, entries: FoundItems) -> Result<FoundInit, Stop>
-    requires room { entries.height < 4294967295 }
-    ensures { MatchResult result (λ found. found ≡ nodes.items_init left entries) (λ stop. stop ≡ Memory) }
+pub(crate) fn items_init(alloc: Global, left: u32, brace: Span, entries: FoundItems) -> Result<FoundInit, Stop>
+    requires room { entries.height < left }
+    ensures { MatchResult result (λ found. found ≡ nodes.items_init brace entries) (λ stop. stop ≡ Memory) }
 {
     let FoundItems { items, height, end } = entries;
-    let init = Boxed::new(alloc, Init::Items(items, across(left, end)))?;
+    let init = Boxed::new(alloc, Init::Items(items, across(brace, end)))?;
     Ok(FoundInit {
         init,
         height: height + 1,

@@ -112,13 +112,13 @@ pub(crate) fn operator(cursor: &Cursor<'_>, level: u32) -> Option<At<BinaryOp>>
     ensures found { result ≡ look (an_operator level) cursor.now }
     ensures there { IfSome result (λ _. 0 < length cursor.now) }
 {
-    let found = binary_sign(cursor)?;
-    let (its_level, value) = found.value;
-    if its_level != level {
-        return None;
+    if let Some(found) = binary_sign(cursor) {
+        if found.value.0 == level {
+            return Some(At {
+                value: found.value.1,
+                span: found.span,
+            });
+        }
     }
-    Some(At {
-        value,
-        span: found.span,
-    })
+    None
 }
