@@ -6,6 +6,7 @@ mod Runs
 mod SoundRules
 mod CompleteRules
 mod ListsSound
+mod OntoFields
 mod AnnotHeights
 mod AnnotSound
 mod TypeSound

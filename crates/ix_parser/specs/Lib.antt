@@ -24,3 +24,4 @@ pub mod SourceGrammar
 pub mod Begins
 pub mod Reading
 pub mod ReadingStatements
+pub mod Onto

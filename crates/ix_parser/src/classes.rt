@@ -1,8 +1,9 @@
 //! Methods, classes and whole sources (JLS 7.3, 8.1, 8.4, 8.8).
 
-use crate::declarations::Params;
+use crate::declarations::{FoundMods, Params};
+use crate::found::FoundType;
 use ix_text::{List, Span};
-use ix_tree::{ClassDecl, Expr, Member, Stmt, Unit};
+use ix_tree::{ClassDecl, Expr, Ident, Member, Stmt, Unit};
 
 /// The statements of a block.
 #[derive(Drop)]
@@ -22,6 +23,18 @@ pub(crate) struct Body {
     pub(crate) height: u32,
     /// The closing brace.
     pub(crate) end: Span,
+}
+
+/// What stands in a method's head before its parameters.
+#[derive(Drop)]
+pub(crate) struct Head {
+    /// Where the method begins.
+    pub(crate) start: Span,
+    pub(crate) mods: FoundMods,
+    /// The type of the result; none for `void` and for a constructor.
+    pub(crate) result: Option<FoundType>,
+    pub(crate) constructor: bool,
+    pub(crate) name: Ident,
 }
 
 /// What stands in a method's head behind its name, and its body.

@@ -99,6 +99,7 @@ fn brackets(
     requires base { 1 + the_height base.value ≤ left }
     ensures reads { Follows (run (spec.brackets base notes) cursor.old) result cursor.new }
     ensures no_longer { OnOk result (length cursor.new ≤ length cursor.old) }
+    ensures tall { IfOk result (λ found. 1 ≤ found.height) }
     ensures low { IfOk result (λ found. found.height ≤ 4) }
     ensures fits { IfOk result (λ found. found.height ≤ left) }
 {
@@ -123,6 +124,7 @@ pub(crate) fn noted_array(
     requires room { 3 ≤ left }
     ensures reads { Follows (run (spec.noted_array left base at) cursor.old) result cursor.new }
     ensures no_longer { OnOk result (length cursor.new ≤ length cursor.old) }
+    ensures tall { IfOk result (λ found. 1 ≤ found.height) }
     ensures low { IfOk result (λ found. found.height ≤ 4) }
     ensures fits { IfOk result (λ found. found.height ≤ left) }
 {
@@ -146,6 +148,7 @@ pub(crate) fn type_rest(
     requires room { 1 + the_height base.value ≤ left }
     ensures reads { Follows (run (spec.type_rest left base) cursor.old) result cursor.new }
     ensures no_longer { OnOk result (length cursor.new ≤ length cursor.old) }
+    ensures tall { IfOk result (λ found. 1 ≤ found.height) }
     ensures low { IfOk result (λ found. found.height ≤ 4) }
     ensures fits { IfOk result (λ found. found.height ≤ left) }
 {
@@ -173,6 +176,7 @@ pub(crate) fn type_tree(
     requires few { length cursor.old ≤ 200000 }
     ensures reads { Follows (run (spec.type_tree left) cursor.old) result cursor.new }
     ensures no_longer { OnOk result (length cursor.new ≤ length cursor.old) }
+    ensures tall { IfOk result (λ found. 1 ≤ found.height) }
     ensures low { IfOk result (λ found. found.height ≤ 4) }
     ensures fits { IfOk result (λ found. found.height ≤ left) }
 {

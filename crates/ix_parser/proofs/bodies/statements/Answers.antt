@@ -1,0 +1,16 @@
+use Rattle.std.proofs.Common.{rules, ◌∙◌}
+use Rattle.ix_parser.specs.ClassGrammar.{with_stmt}
+use Rattle.ix_parser.specs.ClassRules as spec
+use Rattle.ix_parser.specs.Lists.{next_inside, braces_of}
+use Rattle.ix_parser.specs.Rule.{run}
+use Rattle.ix_parser.specs.StmtRules.{block_statement}
+use Rattle.ix_parser.proofs.Runs.{loop_on}
+use Rattle.ix_parser.proofs.bodies.statements.Goals as goal
+
+pub reading-preserved : goal.reading-preserved
+unfolding run next_inside
+reading-preserved c = record {
+  leads = c.reading.invariant.leads ∙ loop_on (next_inside (block_statement c.args.left) with_stmt) c.reading.found c.in_ok-found.found c.reading.cursor c.block_statement.new.cursor (search rules) (search rules);
+  no_longer = search rules;
+  fits = search rules;
+}

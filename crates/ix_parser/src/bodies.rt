@@ -1,0 +1,152 @@
+//! What stands in the braces of a method or a constructor (JLS 8.4.7, 8.8.7).
+ghost use Rattle.std.specs.Prelude.{◌≡◌, ◌≤◌, ◌<◌, length, OnOk, IfOk, MatchResult};
+ghost use Rattle.ix_parser.specs.declared.error.Stop.TheVariants.{Memory};
+ghost use Rattle.ix_parser.specs.ClassGrammar as nodes;
+ghost use Rattle.ix_parser.specs.ClassRules as spec;
+ghost use Rattle.ix_parser.specs.Rule.{run};
+ghost use Rattle.ix_parser.specs.SourceRules.{parts, super_args as the_args};
+ghost use Rattle.ix_parser.specs.Taking.{Follows};
+
+use crate::classes::{Body, Stmts};
+use crate::cursor::Cursor;
+use crate::error::Stop;
+use crate::expressions::args;
+use crate::found::{Args, At, FoundStmt};
+use crate::statement_rules::block_statement;
+use ix_lexer::fixed::{CLOSE_BRACE, OPEN_PAREN, SEMICOLON, SUPER};
+use ix_text::{List, Span};
+use std::alloc::Global;
+
+/// No statement.
+fn no_stmts(alloc: Global) -> Stmts
+    ensures { result ≡ nodes.no_stmts }
+{
+    Stmts {
+        stmts: List::new(alloc),
+        height: 0,
+    }
+}
+
+/// Statements with one more.
+fn with_stmt(mut before: Stmts, found: FoundStmt) -> Result<Stmts, Stop>
+    ensures { MatchResult result (λ stmts. stmts ≡ nodes.with_stmt before found) (λ stop. stop ≡ Memory) }
+{
+    before.stmts.push(found.stmt.into_inner())?;
+    Ok(Stmts {
+        stmts: before.stmts,
+        height: before.height.max(found.height),
+    })
+}
+
+/// `{BStmt} "}"`
+#[tactic(auto, unfolding(crate::specs::Rule::run, crate::specs::ClassRules::statements, crate::specs::Lists::next_inside, crate::specs::Lists::braces_of))]
+fn statements(alloc: Global, cursor: &mut Cursor<'_>, left: u32) -> Result<At<Stmts>, Stop>
+    requires few { length cursor.old ≤ 200000 }
+    ensures reads { Follows (run (spec.statements parts left) cursor.old) result cursor.new }
+    ensures no_longer { OnOk result (length cursor.new ≤ length cursor.old) }
+    ensures fits { IfOk result (λ found. found.value.height ≤ left) }
+{
+    let mut found = no_stmts(alloc);
+    'reading: loop {
+        if let Some(right) = cursor.sign(CLOSE_BRACE) {
+            cursor.advance();
+            return Ok(At {
+                value: found,
+                span: right,
+            });
+        }
+        let next = block_statement(alloc, cursor, left)?;
+        found = with_stmt(found, next)?;
+    }
+}
+
+/// The body of a method, and of a constructor with no line `super(..)`.
+fn body_of(found: Stmts, right: Span) -> Body
+    ensures { result ≡ nodes.body_of found right }
+{
+    Body {
+        parent_args: None,
+        stmts: found.stmts,
+        height: found.height,
+        end: right,
+    }
+}
+
+/// The body of a constructor with that line.
+fn body_with(args: Args, found: Stmts, right: Span) -> Body
+    ensures { result ≡ nodes.body_with args found right }
+{
+    let height = args.height.max(found.height);
+    Body {
+        parent_args: Some(args.items),
+        stmts: found.stmts,
+        height,
+        end: right,
+    }
+}
+
+/// `{BStmt} "}"`, with no line `super(..)`
+#[tactic(auto, unfolding(crate::specs::Rule::run, crate::specs::ClassRules::block))]
+fn block(alloc: Global, cursor: &mut Cursor<'_>, left: u32) -> Result<Body, Stop>
+    requires few { length cursor.old ≤ 200000 }
+    ensures reads { Follows (run (spec.block parts left) cursor.old) result cursor.new }
+    ensures no_longer { OnOk result (length cursor.new ≤ length cursor.old) }
+    ensures fits { IfOk result (λ found. found.height ≤ left) }
+{
+    let found = statements(alloc, cursor, left)?;
+    Ok(body_of(found.value, found.span))
+}
+
+/// `Args = "(" [Expr {"," Expr}] ")"`
+#[tactic(auto, unfolding(crate::specs::Rule::run, crate::specs::SourceRules::super_args))]
+fn super_args(alloc: Global, cursor: &mut Cursor<'_>, left: u32) -> Result<Args, Stop>
+    requires few { length cursor.old ≤ 200000 }
+    ensures reads { Follows (run (the_args left) cursor.old) result cursor.new }
+    ensures no_longer { OnOk result (length cursor.new ≤ length cursor.old) }
+    ensures fits { IfOk result (λ found. found.height ≤ left) }
+{
+    let Some(_opening) = cursor.sign(OPEN_PAREN) else {
+        return Err(Stop::Syntax);
+    };
+    cursor.advance();
+    args(alloc, cursor, left)
+}
+
+/// `Args ";" {BStmt} "}"`, behind `super`
+#[tactic(auto, unfolding(crate::specs::Rule::run, crate::specs::ClassRules::super_behind))]
+fn super_behind(alloc: Global, cursor: &mut Cursor<'_>, left: u32) -> Result<Body, Stop>
+    requires few { length cursor.old ≤ 200000 }
+    ensures reads { Follows (run (spec.super_behind parts left) cursor.old) result cursor.new }
+    ensures no_longer { OnOk result (length cursor.new ≤ length cursor.old) }
+    ensures fits { IfOk result (λ found. found.height ≤ left) }
+{
+    let found = super_args(alloc, cursor, left)?;
+    let Some(_end) = cursor.sign(SEMICOLON) else {
+        return Err(Stop::Syntax);
+    };
+    cursor.advance();
+    let stmts = statements(alloc, cursor, left)?;
+    Ok(body_with(found, stmts.value, stmts.span))
+}
+
+/// Behind the opening brace: `{BStmt} "}"`, or of a constructor `["super" Args ";"] {BStmt} "}"`
+#[tactic(auto, unfolding(crate::specs::Rule::run, crate::specs::ClassRules::body))]
+pub(crate) fn body(
+    alloc: Global,
+    cursor: &mut Cursor<'_>,
+    left: u32,
+    constructor: bool,
+) -> Result<Body, Stop>
+    requires few { length cursor.old ≤ 200000 }
+    ensures reads { Follows (run (spec.body parts left constructor) cursor.old) result cursor.new }
+    ensures no_longer { OnOk result (length cursor.new ≤ length cursor.old) }
+    ensures fits { IfOk result (λ found. found.height ≤ left) }
+{
+    if constructor {
+        if let Some(_super) = cursor.sign(SUPER) {
+            cursor.advance();
+            return super_behind(alloc, cursor, left);
+        }
+    }
+    block(alloc, cursor, left)
+}

@@ -1,0 +1,272 @@
+//! Members of a class (JLS 8.3, 8.4, 8.8), each read onto those before it.
+ghost use Rattle.std.specs.Prelude.{◌≡◌, ◌≤◌, ◌<◌, ◌+◌, false, length, Some, None, OnOk, IfOk, MatchResult, [], ◌∷◌};
+ghost use Rattle.ix_tree.specs.declared.decl.Member.TheVariants.{Method};
+ghost use Rattle.ix_parser.specs.declared.error.Stop.TheVariants.{Memory};
+ghost use Rattle.ix_parser.specs.ClassGrammar as nodes;
+ghost use Rattle.ix_parser.specs.ClassRules as spec;
+ghost use Rattle.ix_parser.specs.DeclGrammar.{begins as the_begin};
+ghost use Rattle.ix_parser.specs.DeclRules.{decl, decl_behind as the_decl};
+ghost use Rattle.ix_parser.specs.ExprRules.{init as the_init};
+ghost use Rattle.ix_parser.specs.Lists.{more_of};
+ghost use Rattle.ix_parser.specs.Onto as onto;
+ghost use Rattle.ix_parser.specs.Reading.{GoesOn};
+ghost use Rattle.ix_parser.specs.Rule.{run, bind};
+ghost use Rattle.ix_parser.specs.SourceRules.{parts};
+ghost use Rattle.ix_parser.specs.Taking.{Follows};
+
+use crate::bodies::body;
+use crate::classes::{Behind, Head, Members};
+use crate::cursor::{Cursor, across};
+use crate::declarations::{FoundDecl, FoundMods, Shared, Words};
+use crate::declarators::{decl_behind, shared};
+use crate::error::Stop;
+use crate::found::FoundType;
+use crate::modifiers::mods;
+use crate::parameters::{params, throws};
+use crate::type_trees::{named_base, type_rest, type_tree};
+use ix_lexer::fixed::{COMMA, OPEN_BRACE, OPEN_PAREN, SEMICOLON, VOID};
+use ix_text::Span;
+use ix_tree::{Ident, Member, MethodDecl, TypeTree};
+use std::alloc::Global;
+
+/// Where something begins that modifiers may stand before, of which the first stands there.
+pub(crate) fn begins(first: Option<Span>, span: Span) -> Span
+    ensures { result ≡ the_begin first span }
+{
+    match first {
+        Some(first) => first,
+        None => span,
+    }
+}
+
+/// The height of the type of a result, 0 where there is none.
+fn result_height(ty: &Option<FoundType>) -> u32
+    ensures { result ≡ nodes.result_height ty.now }
+{
+    match ty {
+        Some(ty) => ty.height,
+        None => 0,
+    }
+}
+
+/// The type of a result.
+fn result_tree(ty: Option<FoundType>) -> Option<TypeTree>
+    ensures { result ≡ nodes.result_tree ty }
+{
+    match ty {
+        Some(ty) => Some(ty.ty),
+        None => None,
+    }
+}
+
+/// The height of a method.
+fn method_height(head: &Head, rest: &Behind, left: u32) -> u32
+    requires room { 2 ≤ left }
+    requires mods { head.now.mods.height + 1 ≤ left }
+    requires typed { nodes.result_height head.now.result + 1 ≤ left }
+    requires params { rest.now.params.height + 1 ≤ left }
+    requires body { rest.now.body.height + 1 ≤ left }
+    ensures { result ≡ (nodes.method_of head.now.start head.now.mods head.now.result head.now.constructor head.now.name rest.now).height }
+{
+    let before = head.mods.height.max(result_height(&head.result)).max(1);
+    1 + before.max(rest.params.height.max(rest.body.height))
+}
+
+/// A method or a constructor.
+fn method_decl(head: Head, rest: Behind) -> MethodDecl
+    ensures { Method result ∷ [] ≡ (nodes.method_of head.start head.mods head.result head.constructor head.name rest).members }
+{
+    let params = rest.params;
+    let body = rest.body;
+    let mods = head.mods;
+    let span = across(head.start, body.end);
+    MethodDecl {
+        mods: mods.mods,
+        result: result_tree(head.result),
+        constructor: head.constructor,
+        name: head.name,
+        params: params.params,
+        parent_args: body.parent_args,
+        body: body.stmts,
+        span,
+    }
+}
+
+/// Members with a method or a constructor behind them.
+fn with_method(
+    mut before: Members,
+    left: u32,
+    head: Head,
+    rest: Behind,
+) -> Result<Members, Stop>
+    requires room { 2 ≤ left }
+    requires mods { head.mods.height + 1 ≤ left }
+    requires typed { nodes.result_height head.result + 1 ≤ left }
+    requires params { rest.params.height + 1 ≤ left }
+    requires body { rest.body.height + 1 ≤ left }
+    ensures { MatchResult result (λ found. found ≡ nodes.with_members before (nodes.method_of head.start head.mods head.result head.constructor head.name rest)) (λ stop. stop ≡ Memory) }
+{
+    let height = before.height.max(method_height(&head, &rest, left));
+    before.members.push(Member::Method(method_decl(head, rest)))?;
+    Ok(Members {
+        members: before.members,
+        height,
+    })
+}
+
+/// `Params Throws Body`, behind the opening parenthesis
+#[tactic(auto, unfolding(crate::specs::Rule::run, crate::specs::ClassRules::behind))]
+fn behind(
+    alloc: Global,
+    cursor: &mut Cursor<'_>,
+    left: u32,
+    constructor: bool,
+) -> Result<Behind, Stop>
+    requires few { length cursor.old ≤ 200000 }
+    requires room { 2 ≤ left }
+    ensures reads { Follows (run (spec.behind parts left constructor) cursor.old) result cursor.new }
+    ensures no_longer { OnOk result (length cursor.new ≤ length cursor.old) }
+    ensures params { IfOk result (λ rest. rest.params.height + 1 ≤ left) }
+    ensures body { IfOk result (λ rest. rest.body.height + 1 ≤ left) }
+{
+    let params = params(alloc, cursor, left - 1)?;
+    throws(alloc, cursor)?;
+    let Some(_opening) = cursor.sign(OPEN_BRACE) else {
+        return Err(Stop::Syntax);
+    };
+    cursor.advance();
+    let body = body(alloc, cursor, left - 1, constructor)?;
+    Ok(Behind { params, body })
+}
+
+/// `Params Throws Body`, behind what stands before it
+#[tactic(auto, unfolding(crate::specs::Rule::run, crate::specs::ClassRules::method, crate::specs::Onto::onto))]
+fn method(
+    alloc: Global,
+    cursor: &mut Cursor<'_>,
+    left: u32,
+    head: Head,
+    before: Members,
+) -> Result<Members, Stop>
+    requires few { length cursor.old ≤ 200000 }
+    requires room { 2 ≤ left }
+    requires mods { head.mods.height + 1 ≤ left }
+    requires typed { nodes.result_height head.result + 1 ≤ left }
+    requires fits { before.height ≤ left }
+    ensures reads { GoesOn (run (onto.onto before (spec.method parts left head.start head.mods head.result head.constructor head.name)) cursor.old) result cursor.new }
+    ensures no_longer { OnOk result (length cursor.new ≤ length cursor.old) }
+    ensures fits { IfOk result (λ found. found.height ≤ left) }
+{
+    let rest = behind(alloc, cursor, left, head.constructor)?;
+    with_method(before, left, head, rest)
+}
+
+/// Members with a field behind them.
+fn with_field(mut before: Members, found: FoundDecl) -> Result<Members, Stop>
+    ensures { MatchResult result (λ members. members ≡ onto.with_field before found) (λ stop. stop ≡ Memory) }
+{
+    before.members.push(Member::Field(found.decl))?;
+    Ok(Members {
+        members: before.members,
+        height: before.height.max(found.height),
+    })
+}
+
+/// `{"," Decl}`, behind the first field
+#[tactic(auto, unfolding(crate::specs::Rule::run, crate::specs::DeclRules::decl, crate::specs::Lists::next_of, crate::specs::Lists::more_of))]
+fn more_fields(
+    alloc: Global,
+    cursor: &mut Cursor<'_>,
+    left: u32,
+    all: &Shared,
+    before: Members,
+) -> Result<Members, Stop>
+    requires few { length cursor.old ≤ 200000 }
+    requires low { all.now.height ≤ 4 }
+    requires room { all.now.height + 1 ≤ left }
+    requires fits { before.height ≤ left }
+    ensures reads { Follows (run (more_of (decl the_init left all.now) onto.with_field before) cursor.old) result cursor.new }
+    ensures no_longer { OnOk result (length cursor.new ≤ length cursor.old) }
+    ensures fits { IfOk result (λ found. found.height ≤ left) }
+{
+    let mut found = before;
+    'reading: while let Some(_comma) = cursor.sign(COMMA) {
+        cursor.advance();
+        let Some(name) = cursor.name(alloc)? else {
+            return Err(Stop::Syntax);
+        };
+        cursor.advance();
+        let next = decl_behind(alloc, cursor, left, all, name)?;
+        found = with_field(found, next)?;
+    }
+    Ok(found)
+}
+
+/// `Decl {"," Decl}`, behind the first name, each field put onto the members before it
+#[tactic(auto, unfolding(crate::specs::Rule::run))]
+fn some_fields(
+    alloc: Global,
+    cursor: &mut Cursor<'_>,
+    left: u32,
+    all: &Shared,
+    name: Ident,
+    before: Members,
+) -> Result<Members, Stop>
+    requires few { length cursor.old ≤ 200000 }
+    requires low { all.now.height ≤ 4 }
+    requires room { all.now.height + 1 ≤ left }
+    requires fits { before.height ≤ left }
+    ensures reads { Follows (run (bind (the_decl the_init left all.now name) (λ first. more_of (decl the_init left all.now) onto.with_field (onto.with_field before first))) cursor.old) result cursor.new }
+    ensures no_longer { OnOk result (length cursor.new ≤ length cursor.old) }
+    ensures fits { IfOk result (λ found. found.height ≤ left) }
+{
+    let first = decl_behind(alloc, cursor, left, all, name)?;
+    let found = with_field(before, first)?;
+    more_fields(alloc, cursor, left, all, found)
+}
+
+/// `Decls ";"`, behind the first name, each field put onto the members before it
+#[tactic(auto, unfolding(crate::specs::Rule::run, crate::specs::Onto::each_field))]
+fn each_field(
+    alloc: Global,
+    cursor: &mut Cursor<'_>,
+    left: u32,
+    all: &Shared,
+    name: Ident,
+    before: Members,
+) -> Result<Members, Stop>
+    requires few { length cursor.old ≤ 200000 }
+    requires low { all.now.height ≤ 4 }
+    requires room { all.now.height + 1 ≤ left }
+    requires fits { before.height ≤ left }
+    ensures reads { GoesOn (run (onto.each_field left all.now name before) cursor.old) result cursor.new }
+    ensures no_longer { OnOk result (length cursor.new ≤ length cursor.old) }
+    ensures fits { IfOk result (λ found. found.height ≤ left) }
+{
+    let found = some_fields(alloc, cursor, left, all, name, before)?;
+    let Some(_end) = cursor.sign(SEMICOLON) else {
+        return Err(Stop::Syntax);
+    };
+    cursor.advance();
+    Ok(found)
+}
+
+/// `Decls ";"`, behind the first name
+pub(crate) fn fields(
+    alloc: Global,
+    cursor: &mut Cursor<'_>,
+    left: u32,
+    all: &Shared,
+    name: Ident,
+    before: Members,
+) -> Result<Members, Stop>
+    requires few { length cursor.old ≤ 200000 }
+    requires low { all.now.height ≤ 4 }
+    requires room { all.now.height + 1 ≤ left }
+    requires fits { before.height ≤ left }
+    ensures reads { GoesOn (run (onto.onto before (onto.fields left all.now name)) cursor.old) result cursor.new }
+    ensures no_longer { OnOk result (length cursor.new ≤ length cursor.old) }
+    ensures fits { IfOk result (λ found. found.height ≤ left) }
+{
+    each_field(alloc, cursor, left, all, name, before)
+}
