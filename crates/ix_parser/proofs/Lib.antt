@@ -37,6 +37,6 @@ pub mod SourceLaws
 mod LowerParts
 mod LowerStatements
 mod Signs
-mod TooHigh
-mod IndexRules
+mod HighVariables
+mod LowExpressions
 mod Words

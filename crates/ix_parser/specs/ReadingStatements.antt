@@ -1,9 +1,10 @@
 -- What functions promise that read the statements within a statement.
-use Rattle.std.specs.Prelude.{◌<◌, ◌≤◌, ◌+◌, ℕ, nat_le, Bool, true, false, List, length, Option, Some, None, Result, OnOk, IfOk}
+use Rattle.std.specs.Prelude.{◌<◌, ◌≤◌, ◌+◌, ◌-◌, ℕ, nat_le, Bool, true, false, List, length, Option, Some, None, Result, OnOk, IfOk}
 use Rattle.std.specs.declared.alloc.Global.{Global}
 use Rattle.std.specs.Borrow.{MutBor}
 use Rattle.ix_lexer.specs.declared.token.Token.{Token}
-use Rattle.ix_lexer.specs.declared.fixed.TheConstants.{WHILE, DO, FOR, BREAK, CONTINUE, RETURN, THROW, DOT, SEMICOLON, OPEN_BRACKET, OPEN_PAREN}
+use Rattle.ix_lexer.specs.declared.fixed.TheConstants.{INT, BOOLEAN, WHILE, DO, FOR, BREAK, CONTINUE, RETURN, THROW, DOT, SEMICOLON, OPEN_BRACKET, OPEN_PAREN}
+use Rattle.ix_tree.specs.declared.annot.BaseTree.TheVariants.{Int, Boolean}
 use Rattle.ix_tree.specs.declared.stmt.StmtKind.TheVariants as s
 use Rattle.ix_parser.specs.Nodes.{across}
 use Rattle.ix_parser.specs.declared.error.Stop.{Stop}
@@ -11,10 +12,14 @@ use Rattle.ix_parser.specs.declared.error.Stop.TheVariants.{Syntax, TooDeep}
 use Rattle.ix_parser.specs.declared.found.FoundStmt.{FoundStmt}
 use Rattle.ix_parser.specs.declared.statement_trees.Begun.{Begun}
 use Rattle.ix_parser.specs.declared.statement_trees.Begun.TheVariants.{Local, Run, Print}
-use Rattle.ix_parser.specs.Patterns.{a_sign, one_of, assign_signs, step_signs}
+use Rattle.ix_parser.specs.Patterns.{a_sign, a_name, one_of, assign_signs, step_signs}
 use Rattle.ix_parser.specs.Rule.{Rule, pure, take, bind, stop, look, run}
+use Rattle.ix_parser.specs.TypeGrammar.{based}
+use Rattle.ix_parser.specs.TypeRules.{type_rest}
+use Rattle.ix_parser.specs.DeclGrammar.{no_mods}
+use Rattle.ix_parser.specs.ExprRules.{statement_expr}
 use Rattle.ix_parser.specs.StmtGrammar.{stmt_node}
-use Rattle.ix_parser.specs.StmtRules.{StmtParts, stmt, block_statement, begun, finished, while_rule, do_rule, for_rule, return_rule, throw_rule}
+use Rattle.ix_parser.specs.StmtRules.{StmtParts, stmt, block_statement, named_type, named_first, print_or, begun, finished, while_rule, do_rule, for_rule, return_rule, throw_rule}
 use Rattle.ix_parser.specs.Taking.{Follows}
 
 -- a statement of a height of at most so much, and whether it may declare locals
@@ -38,6 +43,21 @@ abbrev pub begun_fits : ℕ → Begun → Type 0
 begun_fits left (Local mods ty found) = found.height + 1 ≤ left
 begun_fits left (Run f) = f.height + 1 ≤ left
 begun_fits left (Print system) = 1 ≤ left
+
+-- ---- the last alternatives of a beginning
+
+abbrev pub named_or_run : Bool → ℕ → Rule Begun
+named_or_run locals left = take a_name (nat_le 3 left) (named_first locals left) (bind (statement_expr (left - 1)) (λ f. pure (Run f)))
+
+abbrev pub printed_or_named : Bool → Bool → ℕ → Rule Begun
+printed_or_named prints locals left = print_or prints locals left (named_or_run locals left)
+
+-- where locals may be declared
+abbrev pub based_or_named : Bool → ℕ → Rule Begun
+based_or_named prints left =
+    take (a_sign INT) (nat_le 3 left) (λ span. bind (type_rest (left - 2) (based Int span)) (named_type left no_mods))
+    (take (a_sign BOOLEAN) (nat_le 3 left) (λ span. bind (type_rest (left - 2) (based Boolean span)) (named_type left no_mods))
+    (printed_or_named prints true left))
 
 -- ---- behind a variable that is too high
 

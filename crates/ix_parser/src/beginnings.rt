@@ -42,7 +42,7 @@ fn chain(alloc: Global, cursor: &mut Cursor<'_>, left: u32, first: Found) -> Res
 }
 
 /// The rest of an expression, behind an expression, a dot and a name
-#[tactic(auto, using(crate::proofs::TooHigh::field_high), unfolding(crate::specs::Rule::run, crate::specs::StmtRules::field, crate::specs::StmtRules::go_on))]
+#[tactic(auto, using(crate::proofs::HighVariables::field_high), unfolding(crate::specs::Rule::run, crate::specs::StmtRules::field, crate::specs::StmtRules::go_on))]
 pub(crate) fn field(
     alloc: Global,
     cursor: &mut Cursor<'_>,
@@ -64,7 +64,7 @@ pub(crate) fn field(
 }
 
 /// The rest of an expression, behind the name that it begins with
-#[tactic(auto, using(crate::proofs::TooHigh::run_named_high), unfolding(crate::specs::Rule::run, crate::specs::StmtRules::run_named))]
+#[tactic(auto, using(crate::proofs::HighVariables::run_named_high), unfolding(crate::specs::Rule::run, crate::specs::StmtRules::run_named))]
 fn run_named(alloc: Global, cursor: &mut Cursor<'_>, left: u32, name: Ident) -> Result<Begun, Stop>
     requires few { length cursor.old ≤ 200000 }
     ensures reads { Follows (run (spec.run_named left name) cursor.old) result cursor.new }
@@ -80,7 +80,7 @@ fn run_named(alloc: Global, cursor: &mut Cursor<'_>, left: u32, name: Ident) -> 
 
 /// The index behind a name and a bracket, where a type would have the other bracket. An assignment to an element is 1 higher than the
 /// declaration that a type begins.
-#[tactic(auto, using(crate::proofs::IndexRules::index_parts))]
+#[tactic(auto, using(crate::proofs::LowExpressions::index_parts))]
 fn index(alloc: Global, cursor: &mut Cursor<'_>, left: u32) -> Result<Found, Stop>
     requires few { length cursor.old ≤ 200000 }
     ensures reads { Follows (run (spec.guarded (nat_le 5 left) (inner (below (left - 1)) 1)) cursor.old) result cursor.new }
@@ -107,7 +107,7 @@ fn indexed(alloc: Global, cursor: &mut Cursor<'_>, left: u32, name: Ident) -> Re
         return Err(Stop::Syntax);
     };
     cursor.advance();
-    let first = element(alloc, named(alloc, name)?, index, right)?;
+    let first = element(alloc, left, named(alloc, name)?, index, right)?;
     chain(alloc, cursor, left, first)
 }
 

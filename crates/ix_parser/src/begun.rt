@@ -1,10 +1,10 @@
 //! Statements that begin with no word of their own, as far as their semicolon (JLS 14.4, 14.8).
-ghost use Rattle.std.specs.Prelude.{◌≡◌, ◌≤◌, ◌+◌, ◌-◌, nat_le, length, OnOk, IfOk};
+ghost use Rattle.std.specs.Prelude.{◌≡◌, ◌≤◌, ◌+◌, ◌-◌, length, OnOk, IfOk};
 ghost use Rattle.ix_parser.specs.declared.statement_trees.Begun.TheVariants.{Run};
 ghost use Rattle.ix_parser.specs.ExprRules.{statement_expr as the_expr};
+ghost use Rattle.ix_parser.specs.ReadingStatements as reading;
 ghost use Rattle.ix_parser.specs.ReadingStatements.{begun_fits};
-ghost use Rattle.ix_parser.specs.Patterns.{a_name};
-ghost use Rattle.ix_parser.specs.Rule.{run, bind, take, pure};
+ghost use Rattle.ix_parser.specs.Rule.{run, bind, pure};
 ghost use Rattle.ix_parser.specs.StmtRules as spec;
 ghost use Rattle.ix_parser.specs.Taking.{Follows};
 ghost use Rattle.ix_parser.specs.TypeGrammar.{based};
@@ -23,7 +23,7 @@ use ix_tree::BaseTree;
 use std::alloc::Global;
 
 /// `SExpr`
-#[tactic(auto, using(crate::proofs::IndexRules::statement_expr_below), unfolding(crate::specs::Rule::run))]
+#[tactic(auto, using(crate::proofs::LowExpressions::statement_expr_below), unfolding(crate::specs::Rule::run))]
 fn expression(alloc: Global, cursor: &mut Cursor<'_>, left: u32) -> Result<Begun, Stop>
     requires few { length cursor.old ≤ 200000 }
     ensures reads { Follows (run (bind (the_expr (left - 1)) (λ f. pure (Run f))) cursor.old) result cursor.new }
@@ -36,14 +36,14 @@ fn expression(alloc: Global, cursor: &mut Cursor<'_>, left: u32) -> Result<Begun
 
 /// `SExpr`, or where locals may be declared, `Type Decls` with a type that begins with a name
 #[tactic(auto, unfolding(crate::specs::Rule::run))]
-fn named_or_expression(
+fn named_or_run(
     alloc: Global,
     cursor: &mut Cursor<'_>,
     left: u32,
     locals: bool,
 ) -> Result<Begun, Stop>
     requires few { length cursor.old ≤ 200000 }
-    ensures reads { Follows (run (take a_name (nat_le 3 left) (spec.named_first locals left) (bind (the_expr (left - 1)) (λ f. pure (Run f)))) cursor.old) result cursor.new }
+    ensures reads { Follows (run (reading.named_or_run locals left) cursor.old) result cursor.new }
     ensures no_longer { OnOk result (length cursor.new ≤ length cursor.old) }
     ensures fits { IfOk result (λ begun. begun_fits left begun) }
 {
@@ -67,15 +67,15 @@ fn printed_or_named(
     locals: bool,
 ) -> Result<Begun, Stop>
     requires few { length cursor.old ≤ 200000 }
-    ensures reads { Follows (run (spec.print_or prints locals left (take a_name (nat_le 3 left) (spec.named_first locals left) (bind (the_expr (left - 1)) (λ f. pure (Run f))))) cursor.old) result cursor.new }
+    ensures reads { Follows (run (reading.printed_or_named prints locals left) cursor.old) result cursor.new }
     ensures no_longer { OnOk result (length cursor.new ≤ length cursor.old) }
     ensures fits { IfOk result (λ begun. begun_fits left begun) }
 {
     if !prints {
-        return named_or_expression(alloc, cursor, left, locals);
+        return named_or_run(alloc, cursor, left, locals);
     }
     let Some(system) = word(alloc, cursor, "System")? else {
-        return named_or_expression(alloc, cursor, left, locals);
+        return named_or_run(alloc, cursor, left, locals);
     };
     if left < 2 {
         return Err(Stop::TooDeep);
@@ -89,6 +89,36 @@ fn word_base(value: BaseTree, span: Span) -> At<BaseTree>
     ensures { result ≡ based value span }
 {
     At { value, span }
+}
+
+/// `Type Decls` with a type that begins with a word, or what begins with a name or an expression
+#[tactic(auto, unfolding(crate::specs::Rule::run))]
+fn based_or_named(
+    alloc: Global,
+    cursor: &mut Cursor<'_>,
+    left: u32,
+    prints: bool,
+) -> Result<Begun, Stop>
+    requires few { length cursor.old ≤ 200000 }
+    ensures reads { Follows (run (reading.based_or_named prints left) cursor.old) result cursor.new }
+    ensures no_longer { OnOk result (length cursor.new ≤ length cursor.old) }
+    ensures fits { IfOk result (λ begun. begun_fits left begun) }
+{
+    if let Some(span) = cursor.sign(INT) {
+        if left < 3 {
+            return Err(Stop::TooDeep);
+        }
+        cursor.advance();
+        return plain_local(alloc, cursor, left, word_base(BaseTree::Int, span));
+    }
+    if let Some(span) = cursor.sign(BOOLEAN) {
+        if left < 3 {
+            return Err(Stop::TooDeep);
+        }
+        cursor.advance();
+        return plain_local(alloc, cursor, left, word_base(BaseTree::Boolean, span));
+    }
+    printed_or_named(alloc, cursor, left, prints, true)
 }
 
 /// `{"final" | Annot} Type Decls` where locals may be declared, or another beginning
@@ -122,19 +152,5 @@ pub(crate) fn begun(
         cursor.advance();
         return noted_local(alloc, cursor, left, at);
     }
-    if let Some(span) = cursor.sign(INT) {
-        if left < 3 {
-            return Err(Stop::TooDeep);
-        }
-        cursor.advance();
-        return plain_local(alloc, cursor, left, word_base(BaseTree::Int, span));
-    }
-    if let Some(span) = cursor.sign(BOOLEAN) {
-        if left < 3 {
-            return Err(Stop::TooDeep);
-        }
-        cursor.advance();
-        return plain_local(alloc, cursor, left, word_base(BaseTree::Boolean, span));
-    }
-    printed_or_named(alloc, cursor, left, prints, true)
+    based_or_named(alloc, cursor, left, prints)
 }

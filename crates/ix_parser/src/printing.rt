@@ -37,7 +37,7 @@ pub(crate) fn word(alloc: Global, cursor: &Cursor<'_>, text: &str) -> Result<Opt
 fn system_out(alloc: Global, system: Ident, out: Ident) -> Result<Found, Stop>
     ensures { MatchResult result (λ found. found ≡ nodes.selected (nodes.named system) out) (λ stop. stop ≡ Memory) }
 {
-    selected(alloc, named(alloc, system)?, out)
+    selected(alloc, 3, named(alloc, system)?, out)
 }
 
 /// `"("`, or the rest of an expression, behind `System.out.println`

@@ -115,7 +115,7 @@ impl<F: Fn(Global, &mut Cursor<'_>, u32, bool) -> Result<FoundStmt, Stop>> State
 
     /// `Stmt`, or where locals may be declared `BStmt`
     #[tactic(auto, unfolding(crate::specs::Rule::run, crate::specs::StmtRules::stmt_of))]
-    fn any(&self, cursor: &mut Cursor<'_>, locals: bool) -> Result<FoundStmt, Stop>
+    fn statement(&self, cursor: &mut Cursor<'_>, locals: bool) -> Result<FoundStmt, Stop>
         requires parts { ReadsStatements self.now.left (F.pre self.now.part) (F.post self.now.part) }
         requires few { length cursor.old ≤ 200000 }
         ensures reads { Follows (run (spec.stmt_of (spec.stmts_below self.now.left) locals self.now.left) cursor.old) result cursor.new }
@@ -164,7 +164,7 @@ fn statement(
         left,
         part: statement,
     };
-    rules.any(cursor, locals)
+    rules.statement(cursor, locals)
 }
 
 /// A statement of a block, of a height of at most `left`.

@@ -1,4 +1,4 @@
-use Rattle.ix_parser.proofs.IndexRules.{no_expr_room, no_expr_fits}
+use Rattle.ix_parser.proofs.LowExpressions.{no_expr_room, no_expr_fits}
 use Rattle.ix_parser.proofs.beginnings.index.Goals as goal
 
 pub returns-then-left-lt5-clause-room : goal.returns-then-left-lt5-clause-room

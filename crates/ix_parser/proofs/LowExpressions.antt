@@ -1,4 +1,4 @@
--- The index behind a name, where that may yet begin a type.
+-- What the rules of statements read of expressions where little height is left.
 use Rattle.std.proofs.Common.{◌≡◌, ℕ, ◌+◌, ◌-◌, ◌<◌, ◌≤◌, nat_le, true, false, List, Result, Ok, Err, IfOk, refl, ◌∙◌, arith}
 use Rattle.std.proofs.lemmas.Bool.{le-leb, lt-leb}
 use Rattle.ix_lexer.specs.declared.token.Token.{Token}
