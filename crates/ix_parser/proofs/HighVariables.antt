@@ -1,5 +1,5 @@
 -- Nothing goes on with a variable that is too high for a statement.
-use Rattle.std.proofs.Common.{◌≡◌, ℕ, ◌+◌, ◌-◌, ◌<◌, nat_le, nat_lt, Bool, false, List, Option, Some, None, Result, Ok, Err, refl, ◌∙◌, arith}
+use Rattle.std.proofs.Common.{◌≡◌, ℕ, ◌+◌, ◌-◌, ◌<◌, nat_le, nat_lt, false, List, Option, Some, None, Ok, Err, refl, ◌∙◌, arith}
 use Rattle.std.proofs.lemmas.Bool.{le-ltb, lt-leb}
 use Rattle.ix_text.specs.declared.span.Span.{Span}
 use Rattle.ix_lexer.specs.declared.token.Token.{Token}
@@ -10,13 +10,12 @@ use Rattle.ix_parser.specs.declared.error.Stop.TheVariants.{Syntax, TooDeep}
 use Rattle.ix_parser.specs.declared.found.Aim.TheVariants.{Statement}
 use Rattle.ix_parser.specs.declared.found.Found.{Found}
 use Rattle.ix_parser.specs.declared.found.Form.TheVariants as form
-use Rattle.ix_parser.specs.declared.statement_trees.Begun.{Begun}
 use Rattle.ix_parser.specs.declared.statement_trees.Begun.TheVariants.{Run}
 use Rattle.ix_parser.specs.ExprNodes.{named, selected}
 use Rattle.ix_parser.specs.ExprRules.{extra, below, name_or_call, field_or_call, index, index_unless, further, assignment, to_statement}
 use Rattle.ix_parser.specs.Patterns.{a_sign, one_of, assign_signs, step_signs}
 use Rattle.ix_parser.specs.ReadingStatements.{too_deep_or, behind_high, behind_high_name}
-use Rattle.ix_parser.specs.Rule.{Rule, pure, bind, loop, Turn, On, Done, Outcome, Parser, look, taken, run}
+use Rattle.ix_parser.specs.Rule.{Rule, pure, bind, loop, On, Done, Outcome, Parser, look, taken, run}
 use Rattle.ix_parser.specs.StmtRules.{chain, go_on, field, run_named}
 use Rattle.ix_parser.proofs.Runs.{loop_done, loop_stops}
 

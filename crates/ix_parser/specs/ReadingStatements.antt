@@ -1,4 +1,4 @@
--- What functions promise that read the statements within a statement.
+-- What functions promise that read the statements within a statement, and the parts of longer rules that functions of their own read.
 use Rattle.std.specs.Prelude.{◌<◌, ◌≤◌, ◌+◌, ◌-◌, ℕ, nat_le, Bool, true, false, List, length, Option, Some, None, Result, OnOk, IfOk}
 use Rattle.std.specs.declared.alloc.Global.{Global}
 use Rattle.std.specs.Borrow.{MutBor}

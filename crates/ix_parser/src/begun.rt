@@ -1,5 +1,5 @@
 //! Statements that begin with no word of their own, as far as their semicolon (JLS 14.4, 14.8).
-ghost use Rattle.std.specs.Prelude.{◌≡◌, ◌≤◌, ◌+◌, ◌-◌, length, OnOk, IfOk};
+ghost use Rattle.std.specs.Prelude.{◌≡◌, ◌≤◌, ◌-◌, length, OnOk, IfOk};
 ghost use Rattle.ix_parser.specs.declared.statement_trees.Begun.TheVariants.{Run};
 ghost use Rattle.ix_parser.specs.ExprRules.{statement_expr as the_expr};
 ghost use Rattle.ix_parser.specs.ReadingStatements as reading;
