@@ -35,3 +35,7 @@ mod Refusing
 mod Places
 mod Signs
 mod NothingBelow
+mod LowerStatements
+mod HighVariables
+mod LowExpressions
+mod Words

@@ -21,4 +21,5 @@ pub mod SourceGrammar
 pub mod Begins
 pub mod Reading
 pub mod Refusals
+pub mod ReadingStatements
 pub mod Onto

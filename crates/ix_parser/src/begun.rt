@@ -1,0 +1,156 @@
+//! Statements that begin with no word of their own, as far as their semicolon (JLS 14.4, 14.8).
+ghost use Rattle.std.specs.Prelude.{◌≡◌, ◌≤◌, ◌-◌, length, OnOk, IfOk};
+ghost use Rattle.ix_parser.specs.declared.statement_trees.Begun.TheVariants.{Run};
+ghost use Rattle.ix_parser.specs.ExprRules.{statement_expr as the_expr};
+ghost use Rattle.ix_parser.specs.ReadingStatements as reading;
+ghost use Rattle.ix_parser.specs.ReadingStatements.{begun_fits};
+ghost use Rattle.ix_parser.specs.Rule.{run, bind, pure};
+ghost use Rattle.ix_parser.specs.StmtRules as spec;
+ghost use Rattle.ix_parser.specs.Taking.{Follows};
+ghost use Rattle.ix_parser.specs.TypeGrammar.{based};
+
+use crate::beginnings::named_first;
+use crate::cursor::Cursor;
+use crate::error::Stop;
+use crate::expressions::statement_expr;
+use crate::found::At;
+use crate::locals::{final_local, noted_local, plain_local};
+use crate::printing::{system_part, word};
+use crate::statement_trees::Begun;
+use ix_lexer::fixed::{AT, BOOLEAN, FINAL, INT};
+use ix_text::Span;
+use ix_tree::BaseTree;
+use std::alloc::Global;
+
+/// `SExpr`
+#[tactic(auto, using(crate::proofs::LowExpressions::statement_expr_below), unfolding(crate::specs::Rule::run))]
+fn expression(alloc: Global, cursor: &mut Cursor<'_>, left: u32) -> Result<Begun, Stop>
+    requires few { length cursor.old ≤ 200000 }
+    ensures reads { Follows (run (bind (the_expr (left - 1)) (λ f. pure (Run f))) cursor.old) result cursor.new }
+    ensures no_longer { OnOk result (length cursor.new ≤ length cursor.old) }
+    ensures fits { IfOk result (λ begun. begun_fits left begun) }
+{
+    let found = statement_expr(alloc, cursor, left.saturating_sub(1))?;
+    Ok(Begun::Run(found))
+}
+
+/// `SExpr`, or where locals may be declared, `Type Decls` with a type that begins with a name
+#[tactic(auto, unfolding(crate::specs::Rule::run))]
+fn named_or_run(
+    alloc: Global,
+    cursor: &mut Cursor<'_>,
+    left: u32,
+    locals: bool,
+) -> Result<Begun, Stop>
+    requires few { length cursor.old ≤ 200000 }
+    ensures reads { Follows (run (reading.named_or_run locals left) cursor.old) result cursor.new }
+    ensures no_longer { OnOk result (length cursor.new ≤ length cursor.old) }
+    ensures fits { IfOk result (λ begun. begun_fits left begun) }
+{
+    let Some(name) = cursor.name(alloc)? else {
+        return expression(alloc, cursor, left);
+    };
+    if left < 3 {
+        return Err(Stop::TooDeep);
+    }
+    cursor.advance();
+    named_first(alloc, cursor, left, locals, name)
+}
+
+/// Likewise, and `"System" "." "out" "." "println" "("` where it may be printed.
+#[tactic(auto, unfolding(crate::specs::Rule::run, crate::specs::StmtRules::print_or))]
+fn printed_or_named(
+    alloc: Global,
+    cursor: &mut Cursor<'_>,
+    left: u32,
+    prints: bool,
+    locals: bool,
+) -> Result<Begun, Stop>
+    requires few { length cursor.old ≤ 200000 }
+    ensures reads { Follows (run (reading.printed_or_named prints locals left) cursor.old) result cursor.new }
+    ensures no_longer { OnOk result (length cursor.new ≤ length cursor.old) }
+    ensures fits { IfOk result (λ begun. begun_fits left begun) }
+{
+    if !prints {
+        return named_or_run(alloc, cursor, left, locals);
+    }
+    let Some(system) = word(alloc, cursor, "System")? else {
+        return named_or_run(alloc, cursor, left, locals);
+    };
+    if left < 2 {
+        return Err(Stop::TooDeep);
+    }
+    cursor.advance();
+    system_part(alloc, cursor, left, locals, system)
+}
+
+/// A base that is a word.
+fn word_base(value: BaseTree, span: Span) -> At<BaseTree>
+    ensures { result ≡ based value span }
+{
+    At { value, span }
+}
+
+/// `Type Decls` with a type that begins with a word, or what begins with a name or an expression
+#[tactic(auto, unfolding(crate::specs::Rule::run))]
+fn based_or_named(
+    alloc: Global,
+    cursor: &mut Cursor<'_>,
+    left: u32,
+    prints: bool,
+) -> Result<Begun, Stop>
+    requires few { length cursor.old ≤ 200000 }
+    ensures reads { Follows (run (reading.based_or_named prints left) cursor.old) result cursor.new }
+    ensures no_longer { OnOk result (length cursor.new ≤ length cursor.old) }
+    ensures fits { IfOk result (λ begun. begun_fits left begun) }
+{
+    if let Some(span) = cursor.sign(INT) {
+        if left < 3 {
+            return Err(Stop::TooDeep);
+        }
+        cursor.advance();
+        return plain_local(alloc, cursor, left, word_base(BaseTree::Int, span));
+    }
+    if let Some(span) = cursor.sign(BOOLEAN) {
+        if left < 3 {
+            return Err(Stop::TooDeep);
+        }
+        cursor.advance();
+        return plain_local(alloc, cursor, left, word_base(BaseTree::Boolean, span));
+    }
+    printed_or_named(alloc, cursor, left, prints, true)
+}
+
+/// `{"final" | Annot} Type Decls` where locals may be declared, or another beginning
+#[tactic(auto, unfolding(crate::specs::Rule::run, crate::specs::StmtRules::begun, crate::specs::StmtRules::local_or))]
+pub(crate) fn begun(
+    alloc: Global,
+    cursor: &mut Cursor<'_>,
+    left: u32,
+    prints: bool,
+    locals: bool,
+) -> Result<Begun, Stop>
+    requires few { length cursor.old ≤ 200000 }
+    ensures reads { Follows (run (spec.begun prints locals left) cursor.old) result cursor.new }
+    ensures no_longer { OnOk result (length cursor.new ≤ length cursor.old) }
+    ensures fits { IfOk result (λ begun. begun_fits left begun) }
+{
+    if !locals {
+        return printed_or_named(alloc, cursor, left, prints, false);
+    }
+    if let Some(span) = cursor.sign(FINAL) {
+        if left < 3 {
+            return Err(Stop::TooDeep);
+        }
+        cursor.advance();
+        return final_local(alloc, cursor, left, span);
+    }
+    if let Some(at) = cursor.sign(AT) {
+        if left < 4 {
+            return Err(Stop::TooDeep);
+        }
+        cursor.advance();
+        return noted_local(alloc, cursor, left, at);
+    }
+    based_or_named(alloc, cursor, left, prints)
+}
