@@ -6,7 +6,6 @@ mod Runs
 mod SoundRules
 mod CompleteRules
 mod ListsSound
-mod OntoFields
 mod AnnotHeights
 mod AnnotSound
 mod TypeSound
@@ -35,3 +34,4 @@ mod SourceSound
 mod SourceComplete
 pub mod SourceLaws
 mod LowerParts
+mod OntoFields

@@ -1,5 +1,5 @@
 //! Annotations (JLS 9.7).
-ghost use Rattle.std.specs.Prelude.{◌≡◌, ◌≢◌, ◌≤◌, [], ◌∷◌, length, OnOk, IfOk, MatchResult};
+ghost use Rattle.std.specs.Prelude.{◌≡◌, ◌≤◌, [], ◌∷◌, length, OnOk, IfOk, MatchResult};
 ghost use Rattle.ix_tree.specs.declared.annot.AnnotValue.TheVariants.{Texts};
 ghost use Rattle.ix_parser.specs.declared.error.Stop.TheVariants.{Memory};
 ghost use Rattle.ix_parser.specs.AnnotRules as spec;
