@@ -2,7 +2,7 @@
 use Rattle.std.proofs.Common.{◌+◌, ◌≤◌, max, List, [], ◌∷◌, Option, Some, None, arith}
 use Rattle.ix_tree.specs.declared.annot.Ident.{Ident}
 use Rattle.ix_tree.specs.declared.annot.AnnotArg.{AnnotArg}
-use Rattle.ix_parser.specs.AnnotGrammar.{name_height, arg_height, args_height}
+use Rattle.ix_parser.specs.AnnotGrammar.{name_height, args_height}
 
 name_low : (name : Option Ident) → name_height name ≤ 1
 name_low None = omega arith

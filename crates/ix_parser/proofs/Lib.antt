@@ -2,7 +2,6 @@ mod Runs
 mod SoundRules
 mod CompleteRules
 mod ListsSound
-mod OntoFields
 mod AnnotHeights
 mod AnnotSound
 mod TypeSound
@@ -39,3 +38,4 @@ mod LowerStatements
 mod HighVariables
 mod LowExpressions
 mod Words
+mod OntoFields

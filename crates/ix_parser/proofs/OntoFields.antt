@@ -1,5 +1,5 @@
 -- Fields that are put onto the members before them as they are read are those that are read first.
-use Rattle.std.proofs.Common.{◌≡◌, ℕ, zero, suc, max, nat_lt, Bool, true, false, cond, List, [], ◌∷◌, ◌++◌, length, Option, Some, None, Result, Ok, Err, refl, sym, ap, ◌∙◌, append_assoc, arith}
+use Rattle.std.proofs.Common.{◌≡◌, ℕ, zero, suc, max, nat_lt, Bool, true, false, cond, List, [], ◌∷◌, ◌++◌, length, Option, Some, None, Ok, Err, refl, sym, ap, ◌∙◌, append_assoc, arith}
 use Rattle.ix_text.specs.declared.span.Span.{Span}
 use Rattle.ix_lexer.specs.declared.fixed.TheConstants.{COMMA, SEMICOLON}
 use Rattle.ix_lexer.specs.declared.token.Token.{Token}
@@ -13,7 +13,7 @@ use Rattle.ix_parser.specs.declared.declarations.Shared.{Shared}
 use Rattle.ix_parser.specs.declared.error.Stop.TheVariants.{Syntax}
 use Rattle.ix_parser.specs.declared.found.At.{At}
 use Rattle.ix_parser.specs.declared.found.FoundDecls.{FoundDecls}
-use Rattle.ix_parser.specs.Rule.{Rule, bind, pure, Turn, On, Done, Outcome, Parser, and_then, look, rest, taken, turned, turns, run}
+use Rattle.ix_parser.specs.Rule.{Rule, Turn, On, Done, Outcome, Parser, and_then, look, rest, taken, turned, turns, run}
 use Rattle.ix_parser.specs.Patterns.{a_sign}
 use Rattle.ix_parser.specs.Lists.{next_of, more_of}
 use Rattle.ix_parser.specs.DeclGrammar.{one_decl, with_decl}

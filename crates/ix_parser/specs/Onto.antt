@@ -1,5 +1,5 @@
 -- How the code reads the members of a class: each onto those before it.
-use Rattle.std.specs.Prelude.{ℕ, max, Bool, true, false, [], ◌∷◌, ◌++◌, Option, None}
+use Rattle.std.specs.Prelude.{ℕ, max, true, false, [], ◌∷◌, ◌++◌, None}
 use Rattle.ix_text.specs.declared.span.Span.{Span}
 use Rattle.ix_lexer.specs.declared.fixed.TheConstants.{OPEN_PAREN, SEMICOLON}
 use Rattle.ix_tree.specs.declared.annot.Ident.{Ident}

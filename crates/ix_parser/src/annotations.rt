@@ -1,5 +1,5 @@
 //! Annotations (JLS 9.7).
-ghost use Rattle.std.specs.Prelude.{◌≡◌, ◌≢◌, ◌≤◌, [], ◌∷◌, length, OnOk, IfOk, MatchResult};
+ghost use Rattle.std.specs.Prelude.{◌≡◌, ◌≤◌, [], ◌∷◌, length, max, OnOk, IfOk, MatchResult};
 ghost use Rattle.ix_tree.specs.declared.annot.AnnotValue.TheVariants.{Texts};
 ghost use Rattle.ix_parser.specs.declared.error.Stop.TheVariants.{Memory};
 ghost use Rattle.ix_parser.specs.AnnotRules as spec;
@@ -204,11 +204,10 @@ fn annot_args(
     at: Span,
     name: Ident,
 ) -> Result<Annot, Stop>
-    requires room { 2 ≤ left }
     ensures reads { Follows (run (spec.annot_args left at name) cursor.old) result cursor.new }
     ensures no_longer { OnOk result (length cursor.new ≤ length cursor.old) }
     ensures low { IfOk result (λ annot. nodes.annot_height annot ≤ 3) }
-    ensures fits { IfOk result (λ annot. nodes.annot_height annot ≤ left) }
+    ensures fits { IfOk result (λ annot. nodes.annot_height annot ≤ max 2 left) }
 {
     if let Some(right) = cursor.sign(CLOSE_PAREN) {
         cursor.advance();
@@ -269,11 +268,10 @@ pub(crate) fn annot_behind(
     left: u32,
     at: Span,
 ) -> Result<Annot, Stop>
-    requires room { 2 ≤ left }
     ensures reads { Follows (run (spec.annot_behind left at) cursor.old) result cursor.new }
     ensures no_longer { OnOk result (length cursor.new ≤ length cursor.old) }
     ensures low { IfOk result (λ annot. nodes.annot_height annot ≤ 3) }
-    ensures fits { IfOk result (λ annot. nodes.annot_height annot ≤ left) }
+    ensures fits { IfOk result (λ annot. nodes.annot_height annot ≤ max 2 left) }
 {
     let Some(name) = cursor.name(alloc)? else {
         return Err(Stop::Syntax);

@@ -1,5 +1,5 @@
 //! What stands in the braces of a method or a constructor (JLS 8.4.7, 8.8.7).
-ghost use Rattle.std.specs.Prelude.{◌≡◌, ◌≤◌, ◌<◌, length, OnOk, IfOk, MatchResult};
+ghost use Rattle.std.specs.Prelude.{◌≡◌, ◌≤◌, length, OnOk, IfOk, MatchResult};
 ghost use Rattle.ix_parser.specs.declared.error.Stop.TheVariants.{Memory};
 ghost use Rattle.ix_parser.specs.ClassGrammar as nodes;
 ghost use Rattle.ix_parser.specs.ClassRules as spec;

@@ -1,9 +1,8 @@
 //! Classes (JLS 8.1).
-ghost use Rattle.std.specs.Prelude.{◌≡◌, ◌≤◌, ◌<◌, ◌+◌, length, Some, OnOk, IfOk, MatchResult};
+ghost use Rattle.std.specs.Prelude.{◌≡◌, ◌≤◌, ◌+◌, length, OnOk, IfOk, MatchResult};
 ghost use Rattle.ix_parser.specs.declared.error.Stop.TheVariants.{Memory};
 ghost use Rattle.ix_parser.specs.ClassGrammar as nodes;
 ghost use Rattle.ix_parser.specs.ClassRules as spec;
-ghost use Rattle.ix_parser.specs.DeclGrammar.{begins as the_begin, earlier as the_earlier};
 ghost use Rattle.ix_parser.specs.Lists.{braces_of};
 ghost use Rattle.ix_parser.specs.Rule.{run, loop};
 ghost use Rattle.ix_parser.specs.SourceRules.{parts};
@@ -143,14 +142,7 @@ fn class_behind(
     cursor.advance();
     let parent = parent(alloc, cursor)?;
     let found = members(alloc, cursor, left - 1)?;
-    Ok(class_of(
-        left,
-        start,
-        name,
-        parent,
-        found.value,
-        found.span,
-    ))
+    Ok(class_of(left, start, name, parent, found.value, found.span))
 }
 
 /// `{"public" | "final"} "class" Ident ["extends" Ident] "{" {Member} "}"`, behind a first word

@@ -1,5 +1,5 @@
 //! Declarators (JLS 8.3, 14.4).
-ghost use Rattle.std.specs.Prelude.{◌≡◌, ◌≤◌, ◌<◌, ◌+◌, length, OnOk, IfOk, MatchResult};
+ghost use Rattle.std.specs.Prelude.{◌≡◌, ◌≤◌, ◌+◌, length, OnOk, IfOk, MatchResult};
 ghost use Rattle.ix_parser.specs.declared.error.Stop.TheVariants.{Memory};
 ghost use Rattle.ix_parser.specs.DeclGrammar as nodes;
 ghost use Rattle.ix_parser.specs.DeclGrammar.{shared as the_shared};
@@ -21,11 +21,7 @@ use ix_tree::{Ident, LocalDecl};
 use std::alloc::Global;
 
 /// What all declarators have behind these modifiers and this type.
-pub(crate) fn shared(
-    alloc: Global,
-    found: &FoundMods,
-    ty: &FoundType,
-) -> Result<Shared, Stop>
+pub(crate) fn shared(alloc: Global, found: &FoundMods, ty: &FoundType) -> Result<Shared, Stop>
     ensures { MatchResult result (λ all. all ≡ the_shared found.now ty.now) (λ stop. stop ≡ Memory) }
 {
     let mods = copy_mods(alloc, &found.mods)?;

@@ -1,5 +1,5 @@
 //! Members of a class (JLS 8.3, 8.4, 8.8), each read onto those before it.
-ghost use Rattle.std.specs.Prelude.{◌≡◌, ◌≤◌, ◌<◌, ◌+◌, false, length, Some, None, OnOk, IfOk, MatchResult, [], ◌∷◌};
+ghost use Rattle.std.specs.Prelude.{◌≡◌, ◌≤◌, ◌<◌, ◌+◌, length, OnOk, IfOk, MatchResult, [], ◌∷◌};
 ghost use Rattle.ix_tree.specs.declared.decl.Member.TheVariants.{Method};
 ghost use Rattle.ix_parser.specs.declared.error.Stop.TheVariants.{Memory};
 ghost use Rattle.ix_parser.specs.ClassGrammar as nodes;
@@ -93,12 +93,7 @@ fn method_decl(head: Head, rest: Behind) -> MethodDecl
 }
 
 /// Members with a method or a constructor behind them.
-fn with_method(
-    mut before: Members,
-    left: u32,
-    head: Head,
-    rest: Behind,
-) -> Result<Members, Stop>
+fn with_method(mut before: Members, left: u32, head: Head, rest: Behind) -> Result<Members, Stop>
     requires room { 2 ≤ left }
     requires mods { head.mods.height + 1 ≤ left }
     requires typed { nodes.result_height head.result + 1 ≤ left }
@@ -107,7 +102,9 @@ fn with_method(
     ensures { MatchResult result (λ found. found ≡ nodes.with_members before (nodes.method_of head.start head.mods head.result head.constructor head.name rest)) (λ stop. stop ≡ Memory) }
 {
     let height = before.height.max(method_height(&head, &rest, left));
-    before.members.push(Member::Method(method_decl(head, rest)))?;
+    before
+        .members
+        .push(Member::Method(method_decl(head, rest)))?;
     Ok(Members {
         members: before.members,
         height,

@@ -1,5 +1,5 @@
 //! Parameters and what a method throws (JLS 8.4.1, 8.4.6).
-ghost use Rattle.std.specs.Prelude.{◌≡◌, ◌≤◌, ◌<◌, length, OnOk, IfOk, MatchResult};
+ghost use Rattle.std.specs.Prelude.{◌≡◌, ◌≤◌, length, OnOk, IfOk, MatchResult};
 ghost use Rattle.ix_parser.specs.declared.error.Stop.TheVariants.{Memory};
 ghost use Rattle.ix_parser.specs.DeclGrammar as nodes;
 ghost use Rattle.ix_parser.specs.DeclRules as spec;

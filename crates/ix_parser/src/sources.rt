@@ -1,5 +1,5 @@
 //! Whole sources (JLS 7.3 to 7.5). Package and import lines leave no node.
-ghost use Rattle.std.specs.Prelude.{◌≡◌, ◌≤◌, ◌<◌, ◌+◌, true, length, OnOk, IfOk};
+ghost use Rattle.std.specs.Prelude.{◌≡◌, ◌≤◌, ◌+◌, true, length, OnOk, IfOk};
 ghost use Rattle.ix_parser.specs.ClassGrammar as nodes;
 ghost use Rattle.ix_parser.specs.ClassRules as spec;
 ghost use Rattle.ix_lexer.specs.declared.fixed.TheConstants.{SEMICOLON as THE_END, STATIC as THE_STATIC};

@@ -1,7 +1,6 @@
 use Rattle.std.proofs.Common.{rules, ◌∙◌}
 use Rattle.ix_parser.specs.ClassGrammar.{with_stmt}
-use Rattle.ix_parser.specs.ClassRules as spec
-use Rattle.ix_parser.specs.Lists.{next_inside, braces_of}
+use Rattle.ix_parser.specs.Lists.{next_inside}
 use Rattle.ix_parser.specs.Rule.{run}
 use Rattle.ix_parser.specs.StmtRules.{block_statement}
 use Rattle.ix_parser.proofs.Runs.{loop_on}
