@@ -31,3 +31,8 @@ pub mod SourceLaws
 mod LowerParts
 mod Refusing
 mod Places
+mod OrderPlaces
+mod ListPlaces
+mod TreeParts
+mod AnnotPlaces
+mod TypePlaces
