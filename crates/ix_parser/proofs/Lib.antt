@@ -36,3 +36,4 @@ mod ListPlaces
 mod TreeParts
 mod AnnotPlaces
 mod TypePlaces
+mod ExprPlaces

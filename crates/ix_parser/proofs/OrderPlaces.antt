@@ -1,5 +1,5 @@
 -- Tokens that lie in order, split.
-use Rattle.std.proofs.Common.{◌≤◌, ◌<◌, ℕ, List, [], ◌∷◌, ◌++◌, arith}
+use Rattle.std.proofs.Common.{◌≤◌, ℕ, List, [], ◌∷◌, ◌++◌, arith}
 use Rattle.ix_lexer.specs.declared.token.Token.{Token}
 use Rattle.ix_lexer.specs.Spans.{InOrder}
 

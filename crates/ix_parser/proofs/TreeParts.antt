@@ -6,14 +6,14 @@ use Rattle.ix_tree.specs.declared.annot.Ident.{Ident}
 use Rattle.ix_tree.specs.declared.annot.TypeTree.{TypeTree}
 use Rattle.ix_tree.specs.declared.expr.BinaryOp.{BinaryOp}
 use Rattle.ix_tree.specs.declared.expr.UnaryOp.{UnaryOp}
-use Rattle.ix_tree.specs.declared.expr.Expr.{Expr, fold-Expr, fold-roll-Expr}
+use Rattle.ix_tree.specs.declared.expr.Expr.{Expr, fold-roll-Expr}
 use Rattle.ix_tree.specs.declared.expr.ExprKind.{ExprKind, ExprKind-F, fold-ExprKind, fold-roll-ExprKind}
 use Rattle.ix_tree.specs.declared.expr.ExprKind.TheVariants.{rolls-Int, rolls-Bool, rolls-Null, rolls-This, rolls-Name, rolls-Select, rolls-Index, rolls-Call, rolls-New, rolls-NewArray, rolls-NewItems, rolls-Unary, rolls-Binary, rolls-Assign, rolls-Step}
 use Rattle.ix_tree.specs.declared.expr.ExprKind.TheVariants as e
-use Rattle.ix_tree.specs.declared.expr.Init.{Init, Init-F, fold-Init, fold-roll-Init}
+use Rattle.ix_tree.specs.declared.expr.Init.{Init, Init-F, fold-roll-Init}
 use Rattle.ix_tree.specs.declared.expr.Init.TheVariants.{rolls-Value, rolls-Items}
 use Rattle.ix_tree.specs.declared.expr.Init.TheVariants as i
-use Rattle.ix_tree.specs.Parts.{Part, expression, elsewhere, entries, together, listed, each, type_parts, kind_step, init_step, expr_step, expr_parts, init_parts}
+use Rattle.ix_tree.specs.Parts.{Part, expression, elsewhere, listed, each, type_parts, kind_step, init_step, expr_step, expr_parts, init_parts}
 
 abbrev pub kind_parts : ExprKind → List Part
 kind_parts = fold-ExprKind (List Part) (List Part) (List Part) kind_step init_step expr_step

@@ -1,6 +1,5 @@
 -- Where the parts of types stand.
-use Rattle.std.proofs.Common.{◌≡◌, ◌≤◌, ◌<◌, ◌+◌, ℕ, zero, suc, List, [], ◌∷◌, ◌++◌, length, Option, Some, None, refl, arith, length-append}
-use Rattle.ix_text.specs.declared.span.Span.{Span}
+use Rattle.std.proofs.Common.{◌+◌, ℕ, List, [], ◌∷◌, ◌++◌, length, Option, Some, None, arith, length-append}
 use Rattle.ix_lexer.specs.declared.token.Token.{Token}
 use Rattle.ix_lexer.specs.declared.fixed.TheConstants.{OPEN_BRACKET, CLOSE_BRACKET}
 use Rattle.ix_lexer.specs.Spans.{InOrder}
@@ -12,16 +11,15 @@ use Rattle.ix_tree.specs.declared.annot.BaseTree.{BaseTree}
 use Rattle.ix_tree.specs.declared.annot.BaseTree.TheVariants.{Int, Boolean, Named}
 use Rattle.ix_tree.specs.declared.annot.Ident.{Ident}
 use Rattle.ix_tree.specs.declared.annot.TypeTree.{TypeTree}
-use Rattle.ix_tree.specs.Parts.{Part, expression, statement, declaration, in_type, elsewhere, entries, All, Apart, together, listed, each, maybe, type_name, value_parts, arg_parts, annot_parts, base_parts, type_parts}
+use Rattle.ix_tree.specs.Parts.{Part, in_type, entries, All, together, listed, each, maybe, type_name, value_parts, arg_parts, annot_parts, base_parts, type_parts}
 use Rattle.ix_parser.specs.declared.found.At.{At}
 use Rattle.ix_parser.specs.declared.found.FoundType.{FoundType}
-use Rattle.ix_parser.specs.declared.found.Notes.{Notes}
 use Rattle.ix_parser.specs.Patterns.{sign}
 use Rattle.ix_parser.specs.TypeGrammar as grammar
 use Rattle.ix_parser.specs.TypeGrammar.{IsBase, IsPairs, IsTypeRest, IsType}
-use Rattle.ix_parser.proofs.OrderPlaces.{order_within, order_both}
+use Rattle.ix_parser.proofs.OrderPlaces.{order_both}
 use Rattle.ix_parser.proofs.ListPlaces.{stand_two, stand_no_entries}
-use Rattle.ix_parser.proofs.Places.{Lies, Inside, Stand, stand_more, stand_none, stand_in_type}
+use Rattle.ix_parser.proofs.Places.{Lies, Stand, stand_more, stand_none, stand_in_type}
 use Rattle.ix_parser.proofs.AnnotPlaces.{notes_stand}
 
 -- ---- all of them are identifiers in types and lists
