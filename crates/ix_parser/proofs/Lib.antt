@@ -39,3 +39,9 @@ mod HighVariables
 mod LowExpressions
 mod Words
 mod OntoFields
+mod OrderPlaces
+mod ListPlaces
+mod TreeParts
+mod AnnotPlaces
+mod TypePlaces
+mod ExprPlaces
