@@ -1,5 +1,5 @@
 //! What statements begin with that have no word of their own: an expression, or a declaration of locals (JLS 14.4, 14.8).
-ghost use Rattle.std.specs.Prelude.{◌≡◌, ◌≤◌, ◌+◌, ◌-◌, nat_le, true, length, OnOk, IfOk};
+ghost use Rattle.std.specs.Prelude.{◌≤◌, ◌<◌, ◌+◌, ◌-◌, nat_le, true, length, OnOk, IfOk};
 ghost use Rattle.ix_tree.specs.declared.annot.BaseTree.TheVariants.{Named};
 ghost use Rattle.ix_parser.specs.AnnotGrammar.{no_notes as no_annots};
 ghost use Rattle.ix_parser.specs.DeclGrammar.{no_mods as none};
@@ -16,21 +16,22 @@ use crate::annotations::no_notes;
 use crate::cursor::Cursor;
 use crate::error::Stop;
 use crate::expressions::{expr, statement_chain, statement_field, statement_name, to_statement};
-use crate::found::{At, Found};
+use crate::found::Found;
 use crate::high_variables::behind_high_name;
 use crate::locals::{declared, named_type};
 use crate::modifiers::no_mods;
 use crate::nodes::{element, named};
 use crate::statement_trees::Begun;
-use crate::type_trees::{array_of, noted_array, pairs, plain_type};
+use crate::type_trees::{array_of, named_base, noted_array, pairs, plain_type};
 use ix_lexer::fixed::{AT, CLOSE_BRACKET, OPEN_BRACKET};
-use ix_tree::{BaseTree, Ident};
+use ix_tree::Ident;
 use std::alloc::Global;
 
 /// The rest of an expression, behind its first part
 #[tactic(auto, unfolding(crate::specs::Rule::run, crate::specs::StmtRules::chain))]
 fn chain(alloc: Global, cursor: &mut Cursor<'_>, left: u32, first: Found) -> Result<Begun, Stop>
     requires few { length cursor.old ≤ 200000 }
+    requires some { 0 < first.height }
     requires room { first.height + 1 ≤ left }
     ensures reads { Follows (run (spec.chain left first) cursor.old) result cursor.new }
     ensures no_longer { OnOk result (length cursor.new ≤ length cursor.old) }
@@ -51,6 +52,7 @@ pub(crate) fn field(
     name: Ident,
 ) -> Result<Begun, Stop>
     requires few { length cursor.old ≤ 200000 }
+    requires some { 0 < object.height }
     requires low { object.height ≤ 3 }
     ensures reads { Follows (run (spec.field left object name) cursor.old) result cursor.new }
     ensures no_longer { OnOk result (length cursor.new ≤ length cursor.old) }
@@ -127,17 +129,6 @@ fn bracketed(alloc: Global, cursor: &mut Cursor<'_>, left: u32, name: Ident) -> 
     let brackets = pairs(cursor, right)?;
     let ty = array_of(named_base(name), no_notes(alloc), brackets);
     named_type(alloc, cursor, left, no_mods(alloc), ty)
-}
-
-/// The base that a name is.
-fn named_base(name: Ident) -> At<BaseTree>
-    ensures { result ≡ based (Named name) name.span }
-{
-    let span = name.span;
-    At {
-        value: BaseTree::Named(name),
-        span,
-    }
 }
 
 /// Behind a name that begins a type or an expression, where locals may be declared, or an expression.

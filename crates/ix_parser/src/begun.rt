@@ -7,18 +7,16 @@ ghost use Rattle.ix_parser.specs.ReadingStatements.{begun_fits};
 ghost use Rattle.ix_parser.specs.Rule.{run, bind, pure};
 ghost use Rattle.ix_parser.specs.StmtRules as spec;
 ghost use Rattle.ix_parser.specs.Taking.{Follows};
-ghost use Rattle.ix_parser.specs.TypeGrammar.{based};
 
 use crate::beginnings::named_first;
 use crate::cursor::Cursor;
 use crate::error::Stop;
 use crate::expressions::statement_expr;
-use crate::found::At;
 use crate::locals::{final_local, noted_local, plain_local};
 use crate::printing::{system_part, word};
 use crate::statement_trees::Begun;
+use crate::type_trees::based;
 use ix_lexer::fixed::{AT, BOOLEAN, FINAL, INT};
-use ix_text::Span;
 use ix_tree::BaseTree;
 use std::alloc::Global;
 
@@ -84,13 +82,6 @@ fn printed_or_named(
     system_part(alloc, cursor, left, locals, system)
 }
 
-/// A base that is a word.
-fn word_base(value: BaseTree, span: Span) -> At<BaseTree>
-    ensures { result ≡ based value span }
-{
-    At { value, span }
-}
-
 /// `Type Decls` with a type that begins with a word, or what begins with a name or an expression
 #[tactic(auto, unfolding(crate::specs::Rule::run))]
 fn based_or_named(
@@ -109,14 +100,14 @@ fn based_or_named(
             return Err(Stop::TooDeep);
         }
         cursor.advance();
-        return plain_local(alloc, cursor, left, word_base(BaseTree::Int, span));
+        return plain_local(alloc, cursor, left, based(BaseTree::Int, span));
     }
     if let Some(span) = cursor.sign(BOOLEAN) {
         if left < 3 {
             return Err(Stop::TooDeep);
         }
         cursor.advance();
-        return plain_local(alloc, cursor, left, word_base(BaseTree::Boolean, span));
+        return plain_local(alloc, cursor, left, based(BaseTree::Boolean, span));
     }
     printed_or_named(alloc, cursor, left, prints, true)
 }

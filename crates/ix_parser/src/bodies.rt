@@ -1,6 +1,5 @@
 //! What stands in the braces of a method or a constructor (JLS 8.4.7, 8.8.7).
-ghost use Rattle.std.specs.Prelude.{◌≡◌, ◌≤◌, length, OnOk, IfOk, MatchResult};
-ghost use Rattle.ix_parser.specs.declared.error.Stop.TheVariants.{Memory};
+ghost use Rattle.std.specs.Prelude.{◌≡◌, ◌≤◌, length, OnOk, IfOk};
 ghost use Rattle.ix_parser.specs.ClassGrammar as nodes;
 ghost use Rattle.ix_parser.specs.ClassRules as spec;
 ghost use Rattle.ix_parser.specs.Rule.{run};
@@ -11,32 +10,12 @@ use crate::classes::{Body, Stmts};
 use crate::cursor::Cursor;
 use crate::error::Stop;
 use crate::expressions::args;
-use crate::found::{Args, At, FoundStmt};
+use crate::found::{Args, At};
+use crate::statement_nodes::{no_stmts, with_stmt};
 use crate::statement_rules::block_statement;
 use ix_lexer::fixed::{CLOSE_BRACE, OPEN_PAREN, SEMICOLON, SUPER};
-use ix_text::{List, Span};
+use ix_text::Span;
 use std::alloc::Global;
-
-/// No statement.
-fn no_stmts(alloc: Global) -> Stmts
-    ensures { result ≡ nodes.no_stmts }
-{
-    Stmts {
-        stmts: List::new(alloc),
-        height: 0,
-    }
-}
-
-/// Statements with one more.
-fn with_stmt(mut before: Stmts, found: FoundStmt) -> Result<Stmts, Stop>
-    ensures { MatchResult result (λ stmts. stmts ≡ nodes.with_stmt before found) (λ stop. stop ≡ Memory) }
-{
-    before.stmts.push(found.stmt.into_inner())?;
-    Ok(Stmts {
-        stmts: before.stmts,
-        height: before.height.max(found.height),
-    })
-}
 
 /// `{BStmt} "}"`
 #[tactic(auto, unfolding(crate::specs::Rule::run, crate::specs::ClassRules::statements, crate::specs::Lists::next_inside, crate::specs::Lists::braces_of))]

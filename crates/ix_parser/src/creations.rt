@@ -12,7 +12,7 @@ ghost use Rattle.ix_parser.specs.Taking.{Follows};
 ghost use Rattle.ix_parser.specs.TypeGrammar.{base_height};
 ghost use Rattle.ix_parser.specs.TypeRules as types;
 
-use crate::annotations::annots_behind;
+use crate::annotations::{annots_behind, no_notes};
 use crate::cursor::Cursor;
 use crate::error::Stop;
 use crate::found::{Aim, At, Form, Found, Notes};
@@ -20,19 +20,9 @@ use crate::grammar::{Grammar, Part, extra};
 use crate::nodes::{created, created_type, new_array, new_items};
 use crate::type_trees::pairs;
 use ix_lexer::fixed::{AT, BOOLEAN, CLOSE_BRACKET, INT, OPEN_BRACE, OPEN_BRACKET, OPEN_PAREN};
-use ix_text::{List, Span};
+use ix_text::Span;
 use ix_tree::{BaseTree, Ident};
 use std::alloc::Global;
-
-/// No annotations.
-fn no_notes(alloc: Global) -> Notes
-    ensures { result ≡ annots.no_notes }
-{
-    Notes {
-        annots: List::new(alloc),
-        height: 0,
-    }
-}
 
 impl<F: Fn(Global, &mut Cursor<'_>, u32, Part) -> Result<Found, Stop>> Grammar<F> {
     /// `{"[" "]"} Items`, behind the first pair of brackets

@@ -127,16 +127,13 @@ pub(crate) fn statement_field(
     name: Ident,
 ) -> Result<Found, Stop>
     requires few { length cursor.old ≤ 200000 }
+    requires some { 0 < object.height }
     requires room { object.height < left }
     ensures reads { GoesOn (run (spec.field_or_call (spec.below left) Statement left object name) cursor.old) result cursor.new }
     ensures no_longer { OnOk result (length cursor.new ≤ length cursor.old) }
     ensures fits { IfOk result (λ f. f.height ≤ left) }
     ensures some { IfOk result (λ f. 0 < f.height) }
 {
-    // Every expression is at least 1 high, though no clause says so of this one.
-    if object.height < 1 {
-        return Err(Stop::Memory);
-    }
     let grammar = Grammar {
         alloc,
         left,
@@ -153,16 +150,13 @@ pub(crate) fn statement_chain(
     first: Found,
 ) -> Result<Found, Stop>
     requires few { length cursor.old ≤ 200000 }
+    requires some { 0 < first.height }
     requires room { first.height ≤ left }
     ensures reads { Follows (run (loop (spec.further (spec.below left) Statement left) first) cursor.old) result cursor.new }
     ensures no_longer { OnOk result (length cursor.new ≤ length cursor.old) }
     ensures fits { IfOk result (λ f. f.height ≤ left) }
     ensures some { IfOk result (λ f. 0 < f.height) }
 {
-    // Every expression is at least 1 high, though no clause says so of this one.
-    if first.height < 1 {
-        return Err(Stop::Memory);
-    }
     let grammar = Grammar {
         alloc,
         left,

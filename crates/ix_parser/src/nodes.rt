@@ -1,12 +1,12 @@
 //! The nodes of expressions, each made of its parts, which are lower than `left`. The one error is want of memory.
 ghost use Rattle.std.specs.Prelude.{◌≡◌, ◌<◌, ◌≤◌, MatchResult};
 ghost use Rattle.ix_parser.specs.ExprNodes as nodes;
-ghost use Rattle.ix_parser.specs.TypeGrammar.{base_height as the_height};
 ghost use Rattle.ix_parser.specs.declared.error.Stop.TheVariants.{Memory};
 
 use crate::cursor::across;
 use crate::error::Stop;
 use crate::found::{Args, At, Form, Found, FoundInit, FoundItems, FoundType, Notes, Several};
+use crate::type_trees::base_height;
 use ix_num::Arith;
 use ix_text::{Boxed, List, Span};
 use ix_tree::{Annot, BaseTree, BinaryOp, Expr, ExprKind, Ident, Init, TypeTree, UnaryOp};
@@ -295,17 +295,6 @@ pub(crate) fn created_type(base: At<BaseTree>, notes: Notes, brackets: At<u32>) 
             span: across(start, brackets.span),
         },
         height,
-    }
-}
-
-/// The height of the base of a type.
-fn base_height(base: &BaseTree) -> u32
-    ensures height { result ≡ the_height base.now }
-    ensures low { result ≤ 1 }
-{
-    match base {
-        BaseTree::Named(_) => 1,
-        _ => 0,
     }
 }
 

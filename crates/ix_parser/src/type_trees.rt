@@ -205,7 +205,7 @@ pub(crate) fn type_tree(
 }
 
 /// What a type stands on, with its place.
-fn based(value: BaseTree, span: Span) -> At<BaseTree>
+pub(crate) fn based(value: BaseTree, span: Span) -> At<BaseTree>
     ensures { result ≡ the_base value span }
 {
     At { value, span }
