@@ -1,20 +1,20 @@
 -- Annotations that are in the grammar are read, where there is room for them and no parenthesis follows.
-use Rattle.std.proofs.Common.{◌≡◌, ℕ, ◌<◌, ◌≤◌, ◌==◌, nat_le, max, ℤ, Bool, true, false, List, [], ◌∷◌, ◌++◌, length, Option, Some, None, Result, Ok, Err, refl, sym, ap, subst, ◌∙◌, append_assoc, arith, length-append}
+use Rattle.std.proofs.Common.{◌≡◌, ℕ, ◌<◌, ◌≤◌, ◌==◌, max, true, false, List, [], ◌∷◌, ◌++◌, length, None, Ok, refl, ap, ◌∙◌, append_assoc, arith}
 use Rattle.std.proofs.lemmas.Bool.{le-leb}
 use Rattle.ix_text.specs.declared.span.Span.{Span}
 use Rattle.ix_lexer.specs.declared.token.Token.{Token}
-use Rattle.ix_lexer.specs.declared.fixed.TheConstants.{AT, ASSIGN, COMMA, MINUS, OPEN_BRACE, CLOSE_BRACE, OPEN_PAREN, CLOSE_PAREN}
+use Rattle.ix_lexer.specs.declared.fixed.TheConstants.{AT, OPEN_BRACE, CLOSE_BRACE, OPEN_PAREN, CLOSE_PAREN}
 use Rattle.ix_tree.specs.declared.annot.Ident.{Ident}
 use Rattle.ix_tree.specs.declared.annot.Annot.{Annot}
 use Rattle.ix_tree.specs.declared.annot.AnnotArg.{AnnotArg}
 use Rattle.ix_tree.specs.declared.annot.AnnotValue.{AnnotValue}
-use Rattle.ix_tree.specs.declared.annot.AnnotValue.TheVariants.{Number, Texts}
+use Rattle.ix_tree.specs.declared.annot.AnnotValue.TheVariants.{Texts}
 use Rattle.ix_parser.specs.Nodes.{across}
 use Rattle.ix_parser.specs.declared.found.At.{At}
 use Rattle.ix_parser.specs.declared.found.Notes.{Notes}
-use Rattle.ix_parser.specs.Rule.{Rule, pure, take, bind, stop, loop, Turn, On, Done, Outcome, and_then, look, run}
+use Rattle.ix_parser.specs.Rule.{Rule, pure, take, stop, On, Done, Outcome, and_then, look, run}
 use Rattle.ix_parser.specs.Patterns.{sign, name_token, a_sign, a_name}
-use Rattle.ix_parser.specs.Lists.{IsSeparated, IsRepeated, first_item, next_item, no_item, one_more, more_of, alone, joined}
+use Rattle.ix_parser.specs.Lists.{IsSeparated, first_item, next_item, more_of, alone, joined}
 use Rattle.ix_parser.specs.AnnotGrammar as grammar
 use Rattle.ix_parser.specs.AnnotGrammar.{IsText, IsValue, IsNamed, IsAnnot, IsNotes, no_notes, with_note, annot_height, args_height, arg_height, annot_to, plain_arg, valued}
 use Rattle.ix_parser.specs.AnnotRules.{text, braced, negative, annot_value, named_value, named, named_args, plain_value, annot_args, annot_behind, annot, next_annot, annots_from, annots}

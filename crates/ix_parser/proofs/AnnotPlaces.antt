@@ -1,5 +1,5 @@
 -- Where the parts of annotations stand.
-use Rattle.std.proofs.Common.{◌≤◌, ◌<◌, ◌+◌, ℕ, suc, List, [], ◌∷◌, ◌++◌, length, refl, arith, length-append}
+use Rattle.std.proofs.Common.{◌≤◌, ◌<◌, ℕ, suc, List, [], ◌∷◌, ◌++◌, length, refl, arith, length-append}
 use Rattle.ix_lexer.specs.declared.token.Token.{Token}
 use Rattle.ix_lexer.specs.declared.fixed.TheConstants.{COMMA, CLOSE_BRACE, CLOSE_PAREN}
 use Rattle.ix_lexer.specs.Spans.{InOrder}
@@ -46,10 +46,12 @@ value_tokens _ _ (grammar.texts left right d) = omega arith
 
 named_stands : (lo hi : ℕ) (ts : List Token) (x : AnnotArg) → IsNamed ts x → InOrder lo hi ts → (1 ≤ length ts) × Stand lo hi (length ts) (arg_parts x)
 named_stands lo hi _ _ (grammar.named name assign {tokens} {found} d) (a, b, (c, e, o)) =
-    let end = order_within assign.to hi tokens o in
-    (omega arith, stand_two lo name.span.to assign.to hi 0 (length tokens) (suc (suc (length tokens))) (in_type name ∷ []) (value_parts found.value)
-    (stand_in_type lo name.span.to 0 name (a, b, omega arith)) (value_stands assign.to hi tokens found d)
-    (omega (arith, a, b)) (omega (arith, c, e)) end (omega arith))
+    let end = order_within assign.to hi tokens o in (
+      omega arith,
+      stand_two lo name.span.to assign.to hi 0 (length tokens) (suc (suc (length tokens))) (in_type name ∷ []) (value_parts found.value)
+          (stand_in_type lo name.span.to 0 name (a, b, omega arith)) (value_stands assign.to hi tokens found d)
+          (omega (arith, a, b)) (omega (arith, c, e)) end (omega arith),
+    )
 
 -- an annotation, whose name stands before its arguments
 named_before : (lo next hi n k : ℕ) (annot : Annot) → lo ≤ annot.name.span.from → annot.name.span.from < annot.name.span.to → annot.name.span.to ≤ next → next ≤ hi → n ≤ k
@@ -64,17 +66,19 @@ annot_stands lo hi _ _ (grammar.no_args at name left right) (a, b, (c, d, (e, f,
     ((a, omega (arith, b, c, d, e, f, g, h), i), named_before lo hi hi 0 4 (annot_to at name [] right) (omega (arith, a, b, c)) d (omega (arith, e, f, g, h, i)) (omega arith) (omega arith) (stand_no_entries arg_parts hi hi 0))
 annot_stands lo hi _ _ (grammar.plain at name left right {tokens} {found} d) (a, b, (c, e, (f, g, o))) =
     let (mid, k, l, p, q) = order_both left.to hi tokens (sign CLOSE_PAREN right ∷ []) o in
-    let n = suc (suc (suc (length (tokens ++ sign CLOSE_PAREN right ∷ [])))) in
-    ((a, omega (arith, b, c, e, f, g, k, q.0, q.1), q.2),
-    named_before lo left.to hi (length tokens) n (annot_to at name (plain_arg found ∷ []) right) (omega (arith, a, b, c)) e (omega (arith, f, g)) (order_within left.to hi (tokens ++ sign CLOSE_PAREN right ∷ []) o) (omega (arith, length-append tokens (sign CLOSE_PAREN right ∷ [])))
-    (stand_alone arg_parts left.to hi (length tokens) (plain_arg found) (value_stands left.to hi tokens found d) (value_tokens tokens found d)))
+    let n = suc (suc (suc (length (tokens ++ sign CLOSE_PAREN right ∷ [])))) in (
+      (a, omega (arith, b, c, e, f, g, k, q.0, q.1), q.2),
+      named_before lo left.to hi (length tokens) n (annot_to at name (plain_arg found ∷ []) right) (omega (arith, a, b, c)) e (omega (arith, f, g)) (order_within left.to hi (tokens ++ sign CLOSE_PAREN right ∷ []) o) (omega (arith, length-append tokens (sign CLOSE_PAREN right ∷ [])))
+          (stand_alone arg_parts left.to hi (length tokens) (plain_arg found) (value_stands left.to hi tokens found d) (value_tokens tokens found d)),
+    )
 annot_stands lo hi _ _ (grammar.with_names at name left right {tokens} {args} d) (a, b, (c, e, (f, g, o))) =
     let (mid, k, l, p, q) = order_both left.to hi tokens (sign CLOSE_PAREN right ∷ []) o in
-    let n = suc (suc (suc (length (tokens ++ sign CLOSE_PAREN right ∷ [])))) in
-    ((a, omega (arith, b, c, e, f, g, k, q.0, q.1), q.2),
-    named_before lo left.to hi (length tokens) n (annot_to at name args right) (omega (arith, a, b, c)) e (omega (arith, f, g)) (order_within left.to hi (tokens ++ sign CLOSE_PAREN right ∷ []) o) (omega (arith, length-append tokens (sign CLOSE_PAREN right ∷ [])))
-    (stand_more left.to mid (length tokens) left.to hi (length tokens) (listed (each arg_parts args)) (omega arith) l (omega arith)
-    (separated_stand IsNamed arg_parts named_stands (λ xs. xs) joined (λ xs x. refl) alone (λ x. refl) left.to mid tokens args d p)))
+    let n = suc (suc (suc (length (tokens ++ sign CLOSE_PAREN right ∷ [])))) in (
+      (a, omega (arith, b, c, e, f, g, k, q.0, q.1), q.2),
+      named_before lo left.to hi (length tokens) n (annot_to at name args right) (omega (arith, a, b, c)) e (omega (arith, f, g)) (order_within left.to hi (tokens ++ sign CLOSE_PAREN right ∷ []) o) (omega (arith, length-append tokens (sign CLOSE_PAREN right ∷ [])))
+          (stand_more left.to mid (length tokens) left.to hi (length tokens) (listed (each arg_parts args)) (omega arith) l (omega arith)
+          (separated_stand IsNamed arg_parts named_stands (λ xs. xs) joined (λ xs x. refl) alone (λ x. refl) left.to mid tokens args d p)),
+    )
 
 pub annot_tokens : (ts : List Token) (annot : Annot) → IsAnnot ts annot → 1 ≤ length ts
 annot_tokens _ _ (grammar.bare at name) = omega arith

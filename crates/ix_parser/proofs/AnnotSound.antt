@@ -1,23 +1,21 @@
 -- Annotations that are read are in the grammar, and as high as is left at most.
-use Rattle.std.proofs.Common.{◌≡◌, ℕ, ◌≤◌, nat_le, ℤ, max, Bool, true, false, List, [], ◌∷◌, ◌++◌, Option, Some, None, refl, sym, ap, subst, ◌∙◌, arith}
+use Rattle.std.proofs.Common.{ℕ, ◌≤◌, List, [], ◌∷◌, ◌++◌, Option, Some, None, sym, subst, arith}
 use Rattle.std.proofs.lemmas.List.{append-nil}
 use Rattle.std.proofs.lemmas.Bool.{leb-true}
 use Rattle.ix_text.specs.declared.span.Span.{Span}
 use Rattle.ix_lexer.specs.declared.token.Token.{Token}
-use Rattle.ix_lexer.specs.declared.fixed.TheConstants.{AT, ASSIGN, MINUS, OPEN_BRACE, CLOSE_BRACE, OPEN_PAREN, CLOSE_PAREN}
+use Rattle.ix_lexer.specs.declared.fixed.TheConstants.{AT, MINUS, OPEN_BRACE, OPEN_PAREN}
 use Rattle.ix_tree.specs.declared.annot.Ident.{Ident}
 use Rattle.ix_tree.specs.declared.annot.Annot.{Annot}
 use Rattle.ix_tree.specs.declared.annot.AnnotArg.{AnnotArg}
-use Rattle.ix_tree.specs.declared.annot.AnnotValue.{AnnotValue}
-use Rattle.ix_parser.specs.declared.found.At.{At}
 use Rattle.ix_parser.specs.declared.found.Notes.{Notes}
-use Rattle.ix_parser.specs.Rule.{Rule, pure, take, bind, stop, loop, Turn, On, Done}
-use Rattle.ix_parser.specs.Patterns.{sign, name_token, a_sign, a_name}
-use Rattle.ix_parser.specs.Lists.{IsSeparated, IsRepeated, first_item, next_item, no_item, one_more, more_of, alone, joined}
+use Rattle.ix_parser.specs.Rule.{bind}
+use Rattle.ix_parser.specs.Patterns.{sign, name_token}
+use Rattle.ix_parser.specs.Lists.{IsSeparated, first_item, no_item, one_more, more_of, alone, joined}
 use Rattle.ix_parser.specs.AnnotGrammar as grammar
 use Rattle.ix_parser.specs.AnnotGrammar.{IsText, IsValue, IsNamed, IsAnnot, IsNotes, no_notes, with_note, annot_height, args_height, arg_height, name_height}
 use Rattle.ix_parser.specs.AnnotRules.{text, braced, negative, annot_value, named_value, named, named_args, plain_value, annot_args, annot_behind, annot, next_annot, annots_from, annots}
-use Rattle.ix_parser.proofs.SoundRules.{Sound, weaken, pure_sound, stop_sound, bind_sound, sign_sound, name_sound, number_sound, least_sound, text_sound, loop_sound, After}
+use Rattle.ix_parser.proofs.SoundRules.{Sound, pure_sound, stop_sound, bind_sound, sign_sound, name_sound, number_sound, least_sound, text_sound, loop_sound, After}
 use Rattle.ix_parser.proofs.ListsSound.{sign_fits, name_fits, more_sound}
 
 a_text_sound : Sound IsText text

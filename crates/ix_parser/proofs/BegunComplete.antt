@@ -1,5 +1,5 @@
 -- An expression statement is read where a statement begins with no word of its own, if it doesn't begin as the print statement.
-use Rattle.std.proofs.Common.{◌≡◌, ℕ, zero, suc, ◌+◌, ◌-◌, ◌<◌, ◌≤◌, ◌==◌, ◌&&◌, nat_le, nat_lt, Bool, true, false, cond, List, [], ◌∷◌, ◌++◌, length, Option, Some, None, Result, Ok, Err, refl, sym, ap, subst, ◌∙◌, append_assoc, arith, length-append, ◌⊎◌, inl, inr}
+use Rattle.std.proofs.Common.{◌≡◌, ℕ, ◌+◌, ◌-◌, ◌<◌, ◌≤◌, nat_le, nat_lt, Bool, true, false, List, [], ◌∷◌, ◌++◌, length, Option, Some, None, Ok, Err, refl, sym, ap, subst, ◌∙◌, arith, length-append, ◌⊎◌, inl, inr}
 use Rattle.std.proofs.lemmas.Bool.{lt-ltb, le-leb, leb-true, ltb-true}
 use Rattle.ix_text.specs.declared.span.Span.{Span}
 use Rattle.ix_lexer.specs.declared.token.Token.{Token}
@@ -15,15 +15,14 @@ use Rattle.ix_parser.specs.declared.found.Form.TheVariants as form
 use Rattle.ix_parser.specs.declared.statement_trees.Begun.{Begun}
 use Rattle.ix_parser.specs.declared.statement_trees.Begun.TheVariants.{Run}
 use Rattle.ix_parser.specs.Rule.{Rule, pure, take, bind, stop, loop, Turn, On, Done, look, run, Outcome, Parser, and_then}
-use Rattle.ix_parser.specs.Patterns.{sign, name_token, a_sign, fixed_of, a_name, name_of, step_signs, assign_signs, one_of}
+use Rattle.ix_parser.specs.Patterns.{sign, name_token, a_sign, a_name, name_of, step_signs, assign_signs, one_of}
 use Rattle.ix_parser.specs.ExprNodes.{named, selected, element}
-use Rattle.ix_parser.specs.ExprRules.{extra, makes_array, below, inner, further, field_or_call, name_or_call, index_unless, index, first_part, primary_of, prefixed, to_statement, statement_of, assignment, statement_expr}
-use Rattle.ix_parser.specs.ExprGrammar.{Whole, IsExpr}
+use Rattle.ix_parser.specs.ExprRules.{below, inner, further, field_or_call, name_or_call, index_unless, index, first_part, primary_of, prefixed, to_statement, statement_of, assignment, statement_expr}
 use Rattle.ix_parser.specs.StmtGrammar.{SYSTEM, OUT, PRINTLN, same_text, begins_print}
 use Rattle.ix_parser.specs.StmtRules.{word_of, a_word, chain, go_on, field, run_named, guarded, indexed, named_first, println_part, out_part, system_part, print_or, local_or, begun}
-use Rattle.ix_parser.proofs.Runs.{chosen, bind_ok, loop_on, loop_done, loop_stops, front}
+use Rattle.ix_parser.proofs.Runs.{loop_on, loop_done, loop_stops, front}
 use Rattle.ix_parser.proofs.SoundRules.{sign_is, name_is}
-use Rattle.ix_parser.proofs.GiveRules.{Gives, any_gives, pure_gives, stop_gives, take_gives, bind_gives}
+use Rattle.ix_parser.proofs.GiveRules.{Gives, any_gives, pure_gives, take_gives, bind_gives}
 use Rattle.ix_parser.proofs.ExprSound.{inner_sound, sound_below}
 use Rattle.ix_parser.proofs.Follows.{Free, starts}
 

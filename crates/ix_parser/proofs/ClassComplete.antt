@@ -1,10 +1,10 @@
 -- Members, classes and sources that are in the grammar are read, where there is room for them.
-use Rattle.std.proofs.Common.{◌≡◌, ℕ, ◌<◌, ◌≤◌, ◌+◌, ◌-◌, ◌==◌, nat_le, max, Bool, true, false, List, [], ◌∷◌, ◌++◌, length, Option, Some, None, Result, Ok, Err, refl, sym, ap, subst, ◌∙◌, append_assoc, arith, length-append}
+use Rattle.std.proofs.Common.{◌≡◌, ℕ, ◌<◌, ◌≤◌, ◌+◌, ◌-◌, ◌==◌, max, Bool, true, false, List, [], ◌∷◌, ◌++◌, length, Option, Some, None, Ok, refl, ap, subst, ◌∙◌, append_assoc, arith, length-append}
 use Rattle.std.proofs.lemmas.Bool.{le-leb}
 use Rattle.std.proofs.lemmas.List.{append-nil}
 use Rattle.ix_text.specs.declared.span.Span.{Span}
 use Rattle.ix_lexer.specs.declared.token.Token.{Token}
-use Rattle.ix_lexer.specs.declared.fixed.TheConstants.{AT, CLASS, ELSE, EXTENDS, FINAL, BOOLEAN, INT, IMPORT, PACKAGE, PUBLIC, STATIC, SUPER, VOID, OPEN_PAREN, OPEN_BRACE, CLOSE_BRACE, OPEN_BRACKET, SEMICOLON, DOT, TIMES}
+use Rattle.ix_lexer.specs.declared.fixed.TheConstants.{AT, CLASS, ELSE, FINAL, BOOLEAN, INT, IMPORT, PACKAGE, PUBLIC, STATIC, SUPER, VOID, OPEN_PAREN, OPEN_BRACE, CLOSE_BRACE, OPEN_BRACKET, SEMICOLON, DOT, TIMES}
 use Rattle.ix_tree.specs.declared.annot.Ident.{Ident}
 use Rattle.ix_tree.specs.declared.annot.BaseTree.TheVariants.{Named}
 use Rattle.ix_parser.specs.declared.classes.Behind.{Behind}
@@ -17,18 +17,17 @@ use Rattle.ix_parser.specs.declared.classes.Stmts.{Stmts}
 use Rattle.ix_parser.specs.declared.declarations.FoundMods.{FoundMods}
 use Rattle.ix_parser.specs.declared.declarations.Params.{Params}
 use Rattle.ix_parser.specs.declared.found.Args.{Args}
-use Rattle.ix_parser.specs.declared.found.At.{At}
 use Rattle.ix_parser.specs.declared.found.FoundDecls.{FoundDecls}
 use Rattle.ix_parser.specs.declared.found.FoundInit.{FoundInit}
 use Rattle.ix_parser.specs.declared.found.FoundStmt.{FoundStmt}
 use Rattle.ix_parser.specs.declared.found.FoundType.{FoundType}
-use Rattle.ix_parser.specs.Rule.{Rule, pure, take, bind, stop, loop, Turn, On, Done, Outcome, Parser, and_then, look, run}
-use Rattle.ix_parser.specs.Patterns.{sign, name_token, a_sign, a_name, one_of}
+use Rattle.ix_parser.specs.Rule.{pure, take, stop, loop, Turn, On, Done, Outcome, and_then, look, run}
+use Rattle.ix_parser.specs.Patterns.{sign, name_token, a_sign, a_name}
 use Rattle.ix_parser.specs.Lists.{IsRepeated, no_item, one_more, braces_of, placed}
 use Rattle.ix_parser.specs.TypeGrammar as types
 use Rattle.ix_parser.specs.TypeGrammar.{IsType, IsTypeRest, based}
 use Rattle.ix_parser.specs.TypeRules.{type_rest, type_tree}
-use Rattle.ix_parser.specs.DeclGrammar.{earlier, begins, IsMods, IsDecls, IsParams, IsThrows, member_words, shared, nothing_more}
+use Rattle.ix_parser.specs.DeclGrammar.{earlier, begins, IsMods, IsDecls, member_words, shared, nothing_more}
 use Rattle.ix_parser.specs.DeclRules.{mods, decls, params, throws}
 use Rattle.ix_parser.specs.ClassGrammar as grammar
 use Rattle.ix_parser.specs.ClassGrammar.{Parts, IsStmts, IsBody, IsBehind, IsMember, IsClassWord, IsClassWords, IsParent, IsClass, IsDotName, IsDotted, IsPackage, IsImported, IsImport, IsProgram, no_stmts, with_stmt, body_of, body_with, method_of, fields_of, no_members, with_members, class_of, no_classes, with_class, unit_of, result_height}
@@ -37,7 +36,7 @@ use Rattle.ix_parser.proofs.Runs.{loop_done}
 use Rattle.ix_parser.proofs.ListsComplete.{repeated_reads, some_reads, braces_read, repeated_starts}
 use Rattle.ix_parser.proofs.TypeComplete.{NoBracket, NoAt, type_reads, rest_reads, rest_starts, type_starts, over_base}
 use Rattle.ix_parser.proofs.AnnotComplete.{NoParen}
-use Rattle.ix_parser.proofs.DeclComplete.{AreWords, Parted, semicolon, Headed, Opened, mods_read, mods_before_type, mods_start, decls_headed, headed_reads, tall_decls, params_read, throws_read}
+use Rattle.ix_parser.proofs.DeclComplete.{AreWords, Parted, semicolon, mods_read, mods_before_type, mods_start, decls_headed, headed_reads, tall_decls, params_read, throws_read}
 
 -- Initialisers, argument lists and statements that are in the grammar are read, where there is room for them.
 pub record PartsComplete (parts : Parts) (rules : PartRules) : Type 0 where

@@ -1,33 +1,27 @@
 -- Members, classes and sources that are read are in the grammar, and as high as is left at most.
-use Rattle.std.proofs.Common.{◌≡◌, ℕ, ◌≤◌, ◌+◌, ◌-◌, nat_le, max, Bool, true, false, List, [], ◌∷◌, ◌++◌, Option, Some, None, refl, sym, ap, subst, ◌∙◌, arith, append_assoc}
+use Rattle.std.proofs.Common.{◌≡◌, ℕ, ◌≤◌, ◌+◌, ◌-◌, max, Bool, true, false, List, [], ◌∷◌, ◌++◌, Option, Some, None, refl, sym, ap, subst, ◌∙◌, arith, append_assoc}
 use Rattle.std.proofs.lemmas.List.{append-nil}
 use Rattle.std.proofs.lemmas.Bool.{leb-true}
 use Rattle.ix_text.specs.declared.span.Span.{Span}
 use Rattle.ix_lexer.specs.declared.token.Token.{Token}
-use Rattle.ix_lexer.specs.declared.fixed.TheConstants.{CLASS, EXTENDS, FINAL, IMPORT, PACKAGE, PUBLIC, STATIC, SUPER, VOID, OPEN_PAREN, OPEN_BRACE, CLOSE_BRACE, SEMICOLON, DOT, TIMES}
+use Rattle.ix_lexer.specs.declared.fixed.TheConstants.{CLASS, EXTENDS, FINAL, IMPORT, PUBLIC, SUPER, VOID, OPEN_PAREN, OPEN_BRACE, CLOSE_BRACE, SEMICOLON, DOT}
 use Rattle.ix_tree.specs.declared.annot.Ident.{Ident}
 use Rattle.ix_tree.specs.declared.annot.BaseTree.TheVariants.{Named}
 use Rattle.ix_parser.specs.declared.classes.Behind.{Behind}
 use Rattle.ix_parser.specs.declared.classes.Body.{Body}
 use Rattle.ix_parser.specs.declared.classes.Classes.{Classes}
 use Rattle.ix_parser.specs.declared.classes.FoundClass.{FoundClass}
-use Rattle.ix_parser.specs.declared.classes.FoundUnit.{FoundUnit}
 use Rattle.ix_parser.specs.declared.classes.Members.{Members}
 use Rattle.ix_parser.specs.declared.classes.Stmts.{Stmts}
 use Rattle.ix_parser.specs.declared.declarations.FoundMods.{FoundMods}
-use Rattle.ix_parser.specs.declared.found.Args.{Args}
 use Rattle.ix_parser.specs.declared.found.At.{At}
-use Rattle.ix_parser.specs.declared.found.FoundInit.{FoundInit}
-use Rattle.ix_parser.specs.declared.found.FoundStmt.{FoundStmt}
 use Rattle.ix_parser.specs.declared.found.FoundType.{FoundType}
-use Rattle.ix_parser.specs.Rule.{Rule, pure, take, bind, stop, loop, Turn, On, Done}
+use Rattle.ix_parser.specs.Rule.{Rule, pure, bind, On}
 use Rattle.ix_parser.specs.Patterns.{sign, name_token}
-use Rattle.ix_parser.specs.Lists.{IsRepeated, no_item, one_more, braces_of}
+use Rattle.ix_parser.specs.Lists.{IsRepeated, no_item, one_more}
 use Rattle.ix_parser.specs.TypeGrammar as types
 use Rattle.ix_parser.specs.TypeGrammar.{IsType, based}
-use Rattle.ix_parser.specs.TypeRules.{type_rest, type_tree}
-use Rattle.ix_parser.specs.DeclGrammar.{earlier, begins, IsMods, member_words, shared, nothing_more}
-use Rattle.ix_parser.specs.DeclRules.{mods, decls, params, throws}
+use Rattle.ix_parser.specs.DeclGrammar.{begins, IsMods, member_words, shared, nothing_more}
 use Rattle.ix_parser.specs.ClassGrammar as grammar
 use Rattle.ix_parser.specs.ClassGrammar.{Parts, IsStmts, IsBody, IsBehind, IsMember, IsClassWord, IsClassWords, IsParent, IsClass, IsDotName, IsDotted, IsPackage, IsImported, IsImport, IsProgram, no_stmts, with_stmt, body_of, body_with, method_of, fields_of, no_members, with_members, class_of, no_classes, with_class, unit_of, result_height}
 use Rattle.ix_parser.specs.ClassRules.{PartRules, statements, block, super_behind, body, behind, method, typed_member, named_member, member_behind, member, next_class_word, class_words, parent, class_behind, worded_class, next_class, next_dot, dotted, package_line, next_imported, imported, next_import, imports, program}

@@ -1,10 +1,7 @@
 -- How the ways in which rules are put together read what is known to be read.
-use Rattle.std.proofs.Common.{◌≡◌, ℕ, zero, suc, ◌<◌, ◌==◌, ℤ, nat_lt, Bool, true, false, cond, List, [], ◌∷◌, ◌++◌, length, Option, Some, None, Result, Ok, Err, refl, sym, ap, subst, ◌∙◌}
-use Rattle.ix_text.specs.declared.span.Span.{Span}
+use Rattle.std.proofs.Common.{◌≡◌, Bool, true, List, ◌∷◌, Option, Some, None, Ok, refl}
 use Rattle.ix_lexer.specs.declared.token.Token.{Token}
-use Rattle.ix_parser.specs.declared.error.Stop.{Stop}
-use Rattle.ix_parser.specs.declared.error.Stop.TheVariants.{Syntax, TooDeep}
-use Rattle.ix_parser.specs.Rule.{Rule, pure, take, bind, stop, loop, Turn, On, Done, Outcome, Parser, and_then, look, rest, taken, turned, turns, run}
+use Rattle.ix_parser.specs.Rule.{Rule, take, bind, look, run}
 
 -- the next token is wanted
 pub take_reads : {A V : Type 0} (want : Token → Option V) (fits : Bool) (p : V → Rule A) (q : Rule A) (t : Token) (ts : List Token) (v : V) → want t ≡ Some v → fits ≡ true → run (take want fits p q) (t ∷ ts) ≡ run (p v) ts

@@ -1,5 +1,5 @@
 -- Modifiers, parameters and declarators that are in the grammar are read, where there is room for them.
-use Rattle.std.proofs.Common.{◌≡◌, ℕ, ◌<◌, ◌≤◌, ◌+◌, ◌-◌, ◌==◌, nat_le, max, Bool, true, false, cond, List, [], ◌∷◌, ◌++◌, length, Option, Some, None, Result, Ok, Err, refl, sym, ap, subst, ◌∙◌, append_assoc, arith, length-append, eqb-true, ◌⊎◌, inl, inr}
+use Rattle.std.proofs.Common.{◌≡◌, ℕ, ◌≤◌, ◌+◌, ◌-◌, ◌==◌, true, false, List, [], ◌∷◌, ◌++◌, Option, Some, None, Ok, refl, sym, ap, ◌∙◌, append_assoc, arith, length-append, eqb-true, inl, inr}
 use Rattle.std.proofs.lemmas.Bool.{le-leb}
 use Rattle.ix_text.specs.declared.span.Span.{Span}
 use Rattle.ix_lexer.specs.declared.token.Token.{Token}
@@ -11,15 +11,13 @@ use Rattle.ix_parser.specs.declared.declarations.FoundMods.{FoundMods}
 use Rattle.ix_parser.specs.declared.declarations.Params.{Params}
 use Rattle.ix_parser.specs.declared.declarations.Shared.{Shared}
 use Rattle.ix_parser.specs.declared.declarations.Word.{Word}
-use Rattle.ix_parser.specs.declared.found.At.{At}
 use Rattle.ix_parser.specs.declared.found.FoundDecls.{FoundDecls}
 use Rattle.ix_parser.specs.declared.found.FoundInit.{FoundInit}
 use Rattle.ix_parser.specs.declared.found.FoundType.{FoundType}
-use Rattle.ix_parser.specs.Rule.{Rule, pure, take, bind, stop, loop, Turn, On, Done, Outcome, Parser, and_then, look, run}
+use Rattle.ix_parser.specs.Rule.{Rule, pure, take, stop, loop, On, Done, Outcome, and_then, look, run}
 use Rattle.ix_parser.specs.Patterns.{sign, name_token, a_sign, a_name, one_of, row}
 use Rattle.ix_parser.specs.Lists.{IsSeparated, first_item, next_item, more_of}
 use Rattle.ix_parser.specs.AnnotGrammar.{IsAnnot, annot_height}
-use Rattle.ix_parser.specs.AnnotRules.{annot_behind}
 use Rattle.ix_parser.specs.TypeGrammar as types
 use Rattle.ix_parser.specs.TypeGrammar.{IsType}
 use Rattle.ix_parser.specs.TypeRules.{type_tree}
@@ -29,7 +27,7 @@ use Rattle.ix_parser.specs.DeclRules.{next_mod, mods, decl_behind, decl, decls, 
 use Rattle.ix_parser.proofs.Runs.{loop_on, loop_done, chosen}
 use Rattle.ix_parser.proofs.ListsComplete.{separated_reads, more_done}
 use Rattle.ix_parser.proofs.AnnotComplete.{NoParen, annot_marked, annot_starts, annot_takes, tall_annot}
-use Rattle.ix_parser.proofs.TypeComplete.{NoBracket, NoAt, type_reads, type_starts}
+use Rattle.ix_parser.proofs.TypeComplete.{NoAt, type_reads, type_starts}
 
 -- ---- modifiers
 

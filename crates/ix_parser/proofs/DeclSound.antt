@@ -1,26 +1,24 @@
 -- Modifiers, parameters and declarators that are read are in the grammar, and as high as is left at most.
-use Rattle.std.proofs.Common.{◌≡◌, ℕ, ◌≤◌, ◌+◌, ◌-◌, nat_le, max, Bool, true, false, List, [], ◌∷◌, ◌++◌, Option, Some, None, refl, sym, ap, subst, ◌∙◌, arith, append_assoc}
+use Rattle.std.proofs.Common.{ℕ, ◌≤◌, ◌+◌, ◌-◌, List, [], ◌∷◌, ◌++◌, sym, ap, subst, arith}
 use Rattle.std.proofs.lemmas.List.{append-nil}
 use Rattle.std.proofs.lemmas.Bool.{leb-true}
 use Rattle.ix_text.specs.declared.span.Span.{Span}
 use Rattle.ix_lexer.specs.declared.token.Token.{Token}
-use Rattle.ix_lexer.specs.declared.fixed.TheConstants.{AT, ASSIGN, THROWS, OPEN_PAREN, CLOSE_PAREN}
+use Rattle.ix_lexer.specs.declared.fixed.TheConstants.{AT, ASSIGN, OPEN_PAREN}
 use Rattle.ix_tree.specs.declared.annot.Ident.{Ident}
-use Rattle.ix_parser.specs.declared.declarations.FoundDecl.{FoundDecl}
 use Rattle.ix_parser.specs.declared.declarations.FoundMods.{FoundMods}
 use Rattle.ix_parser.specs.declared.declarations.Params.{Params}
 use Rattle.ix_parser.specs.declared.declarations.Shared.{Shared}
 use Rattle.ix_parser.specs.declared.declarations.Word.{Word}
-use Rattle.ix_parser.specs.declared.found.FoundDecls.{FoundDecls}
 use Rattle.ix_parser.specs.declared.found.FoundInit.{FoundInit}
-use Rattle.ix_parser.specs.Rule.{Rule, pure, take, bind, stop, loop, Turn, On, Done}
+use Rattle.ix_parser.specs.Rule.{Rule}
 use Rattle.ix_parser.specs.Patterns.{sign, name_token}
-use Rattle.ix_parser.specs.Lists.{IsSeparated, first_item, next_item, more_of}
+use Rattle.ix_parser.specs.Lists.{IsSeparated, first_item}
 use Rattle.ix_parser.specs.DeclGrammar as grammar
 use Rattle.ix_parser.specs.DeclGrammar.{IsMods, IsDecl, IsDecls, IsParam, IsParams, IsName, IsThrows, shared, no_mods, with_word, with_annot, local_words, plain_decl, init_decl, one_decl, with_decl, no_params, one_param, with_param, nothing, nothing_more}
 use Rattle.ix_parser.specs.DeclRules.{next_mod, mods, decl_behind, decl, decls, param, some_params, params, a_thrown, throws}
 use Rattle.ix_parser.proofs.SoundRules.{Sound, weaken, pure_sound, stop_sound, bind_sound, sign_sound, name_sound, loop_sound, After}
-use Rattle.ix_parser.proofs.ListsSound.{sign_fits, name_fits, one_fits, more_sound, more_fits}
+use Rattle.ix_parser.proofs.ListsSound.{sign_fits, one_fits, more_sound, more_fits}
 use Rattle.ix_parser.proofs.AnnotSound.{annot_behind_sound}
 use Rattle.ix_parser.proofs.TypeSound.{type_sound, tall_type}
 

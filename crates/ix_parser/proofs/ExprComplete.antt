@@ -1,5 +1,5 @@
 -- What is in the grammar of expressions is read, where the height that is left suffices and what follows doesn't go on with it.
-use Rattle.std.proofs.Common.{◌≡◌, ℕ, ℤ, zero, suc, ◌+◌, ◌-◌, ◌<◌, ◌≤◌, max, nat_le, nat_lt, ◌==◌, Bool, true, false, cond, ◌⊎◌, inl, inr, List, [], ◌∷◌, ◌++◌, length, Option, Some, None, Result, Ok, Err, refl, sym, ap, subst, ◌∙◌, append_assoc, arith, length-append}
+use Rattle.std.proofs.Common.{◌≡◌, ℕ, ℤ, zero, suc, ◌+◌, ◌-◌, ◌<◌, ◌≤◌, max, ◌==◌, Bool, true, false, cond, inl, inr, List, [], ◌∷◌, ◌++◌, length, Option, Some, None, Ok, Err, refl, sym, ap, subst, ◌∙◌, append_assoc, arith, length-append}
 use Rattle.std.proofs.lemmas.Bool.{lt-ltb, le-leb, eq-eqb, eqb-true}
 use Rattle.ix_text.specs.declared.span.Span.{Span}
 use Rattle.ix_num.specs.declared.arith.Arith.{Arith}
@@ -19,10 +19,10 @@ use Rattle.ix_parser.specs.declared.found.FoundItems.{FoundItems}
 use Rattle.ix_parser.specs.declared.found.Several.{Several}
 use Rattle.ix_parser.specs.declared.found.Form.{Form}
 use Rattle.ix_parser.specs.declared.found.Form.TheVariants as form
-use Rattle.ix_parser.specs.Rule.{Rule, pure, take, bind, stop, loop, Turn, On, Done, look, run, Outcome, Parser, and_then}
-use Rattle.ix_parser.specs.Patterns.{sign, name_token, number_token, least_token, a_sign, a_name, a_number, a_least, row, binary_signs, unary_signs, step_signs, assign_signs, one_of, an_operator}
+use Rattle.ix_parser.specs.Rule.{Rule, pure, take, bind, stop, loop, On, Done, look, run, Outcome, Parser, and_then}
+use Rattle.ix_parser.specs.Patterns.{sign, name_token, number_token, least_token, a_sign, a_least, row, binary_signs, unary_signs, step_signs, assign_signs, one_of, an_operator}
 use Rattle.ix_parser.specs.ExprNodes.{leaf, named, within, selected, element, called, called_on, created, created_type, new_array, new_items, unary, least_int, stepped_before, stepped_after, joined, assigned, no_exprs, with_expr, all_args, value_init, items_init, no_inits, with_init, closed_by}
-use Rattle.ix_parser.specs.ExprRules.{extra, makes_array, Below, inner, inner_init, more_exprs, args, more_inits, items, name_or_call, enclosed, word, creation, object_or_array, noted_array, noted, array, array_rest, first_part, field_or_call, index, index_unless, further, primary_of, only_variable, variable_of, step_behind, value_of, prefixed, unary_of, operand, level_of, assignment, maybe_assigned, whole_of, to_statement, statement_of, init_of, below, expr, level, primary, variable, init}
+use Rattle.ix_parser.specs.ExprRules.{extra, makes_array, Below, inner, inner_init, more_exprs, args, more_inits, items, name_or_call, enclosed, word, creation, object_or_array, noted_array, noted, array, array_rest, first_part, field_or_call, index, index_unless, further, primary_of, only_variable, variable_of, step_behind, value_of, prefixed, unary_of, operand, level_of, assignment, maybe_assigned, whole_of, init_of, below, expr, level, primary, variable, init}
 use Rattle.ix_tree.specs.declared.annot.Annot.{Annot}
 use Rattle.ix_tree.specs.declared.annot.BaseTree.{BaseTree}
 use Rattle.ix_tree.specs.declared.annot.BaseTree.TheVariants.{Int, Boolean, Named}
@@ -41,7 +41,7 @@ use Rattle.ix_parser.specs.ExprGrammar as g
 use Rattle.ix_parser.specs.ExprGrammar.{IsMorePairs, Kind, Primary, Whole, Level, IsExpr, IsExprs, IsArgs, IsInit, IsInits, IsItems}
 use Rattle.ix_parser.proofs.Runs.{loop_on, loop_done, chosen}
 use Rattle.ix_parser.proofs.SoundRules.{some_same}
-use Rattle.ix_parser.proofs.CompleteRules.{take_reads, other_reads, bind_reads}
+use Rattle.ix_parser.proofs.CompleteRules.{other_reads, bind_reads}
 use Rattle.ix_parser.proofs.Heights.{whole_below, level_below, variable_below, init_below, inner_below, inner_init_below}
 use Rattle.ix_parser.proofs.Tables.{other_sign, other_table}
 use Rattle.ix_parser.proofs.Follows.{Free, AfterPrimary, AfterUnary, AfterLevel, AfterWhole, tighter, after_close_paren, after_close_bracket, after_close_brace, after_comma, before_step, before_operator, before_assign, Starts, StartsPrimary, starts, starts_primary, tall, variable_tall, starts_exprs, init_starts, inits_start}

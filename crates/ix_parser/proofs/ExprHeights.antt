@@ -1,14 +1,12 @@
 -- No expression that is read is higher than the height that is left.
-use Rattle.std.proofs.Common.{◌≡◌, ℕ, zero, suc, ◌+◌, ◌-◌, ◌<◌, ◌≤◌, max, Bool, true, false, List, Option, Some, None, refl, arith, ◌⊎◌, inl, inr}
+use Rattle.std.proofs.Common.{◌≡◌, ℕ, zero, suc, ◌+◌, ◌-◌, ◌<◌, ◌≤◌, max, Bool, true, false, refl, arith, ◌⊎◌, inl, inr}
 use Rattle.std.proofs.lemmas.Bool.{ltb-true, leb-true}
 use Rattle.ix_text.specs.declared.span.Span.{Span}
-use Rattle.ix_lexer.specs.declared.token.Token.{Token}
 use Rattle.ix_tree.specs.declared.annot.Ident.{Ident}
 use Rattle.ix_tree.specs.declared.annot.BaseTree.{BaseTree}
 use Rattle.ix_tree.specs.declared.annot.BaseTree.TheVariants.{Int, Boolean, Named}
 use Rattle.ix_parser.specs.declared.found.Aim.{Aim}
 use Rattle.ix_parser.specs.declared.found.Aim.TheVariants as aim
-use Rattle.ix_parser.specs.declared.found.Args.{Args}
 use Rattle.ix_parser.specs.declared.found.At.{At}
 use Rattle.ix_parser.specs.declared.found.Found.{Found}
 use Rattle.ix_parser.specs.declared.found.FoundInit.{FoundInit}
@@ -17,14 +15,13 @@ use Rattle.ix_parser.specs.declared.found.Notes.{Notes}
 use Rattle.ix_parser.specs.declared.found.Several.{Several}
 use Rattle.ix_parser.specs.declared.found.Form.{Form}
 use Rattle.ix_parser.specs.declared.found.Form.TheVariants as form
-use Rattle.ix_parser.specs.Rule.{Rule, pure, take, bind, stop, loop, Turn, On, Done}
-use Rattle.ix_parser.specs.Patterns.{a_sign, a_name, a_number, a_least, one_of, an_operator, unary_signs, step_signs, assign_signs}
-use Rattle.ix_parser.specs.AnnotGrammar.{IsAnnot, annot_height, no_notes, with_note}
-use Rattle.ix_parser.specs.AnnotRules.{annot_behind, annots_from, next_annot}
+use Rattle.ix_parser.specs.Rule.{Rule, stop, loop, Turn}
+use Rattle.ix_parser.specs.AnnotGrammar.{no_notes, with_note}
+use Rattle.ix_parser.specs.AnnotRules.{annots_from, next_annot}
 use Rattle.ix_parser.specs.TypeGrammar.{based, base_height}
 use Rattle.ix_parser.specs.TypeRules.{next_pair, pairs}
-use Rattle.ix_parser.specs.ExprNodes.{no_exprs, with_expr, all_args, no_inits, with_init, closed_by}
-use Rattle.ix_parser.specs.ExprRules.{extra, makes_array, Parts, Below, inner, inner_init, more_exprs, args, more_inits, items, name_or_call, enclosed, word, creation, object_or_array, noted_array, noted, array, array_rest, first_part, field_or_call, index, index_unless, further, primary_of, only_variable, variable_of, step_behind, value_of, prefixed, unary_of, operand, level_of, assignment, maybe_assigned, whole_of, to_statement, statement_of, init_of, parts_of, no_parts, nothing_below, below, expr, init, statement_expr}
+use Rattle.ix_parser.specs.ExprNodes.{no_exprs, with_expr, no_inits, with_init}
+use Rattle.ix_parser.specs.ExprRules.{extra, makes_array, Parts, Below, inner, inner_init, more_exprs, args, more_inits, items, name_or_call, enclosed, word, creation, object_or_array, noted_array, noted, array, array_rest, first_part, field_or_call, index, index_unless, further, primary_of, only_variable, variable_of, step_behind, value_of, prefixed, unary_of, operand, level_of, assignment, maybe_assigned, whole_of, to_statement, statement_of, init_of, parts_of, no_parts, below, expr, init, statement_expr}
 use Rattle.ix_parser.proofs.GiveRules.{Gives, gives_more, sound_gives, pure_gives, stop_gives, take_gives, bind_gives, Turned, loop_gives}
 use Rattle.ix_parser.proofs.AnnotSound.{annot_behind_sound}
 

@@ -1,5 +1,5 @@
 -- Where the parts of expressions and initialisers stand.
-use Rattle.std.proofs.Common.{◌≡◌, ◌≤◌, ◌<◌, ◌+◌, ℕ, suc, negsuc, Bool, true, false, List, [], ◌∷◌, ◌++◌, length, Some, None, sym, ap, subst, ◌∙◌, arith, length-append, inl, inr}
+use Rattle.std.proofs.Common.{◌≡◌, ◌≤◌, ◌<◌, ◌+◌, ℕ, suc, negsuc, true, false, List, [], ◌∷◌, ◌++◌, length, Some, None, sym, ap, subst, ◌∙◌, arith, length-append, inl, inr}
 use Rattle.ix_text.specs.declared.span.Span.{Span}
 use Rattle.ix_lexer.specs.declared.token.Token.{Token}
 use Rattle.ix_lexer.specs.declared.fixed.TheConstants.{DOT, COMMA, CLOSE_PAREN, OPEN_BRACKET, CLOSE_BRACKET, OPEN_BRACE, CLOSE_BRACE}
@@ -67,20 +67,24 @@ behind_stands lo hi n k kind ps start end is a b l s le =
 before_stands : (lo mid hi n k : ℕ) (kind : ExprKind) (f : Found) (end : Span) → kind_parts kind ≡ expr_parts f.expr → Stands lo mid n f → mid ≤ end.from → end.from < end.to → end.to ≤ hi → n + 1 ≤ k
     → Lies lo hi (across f.outer end) × Stand lo hi k (expr_parts (record { kind = kind; span = across f.outer end }))
 before_stands lo mid hi n k kind f end is (l, s) a b c le =
-    let lies : Lies lo hi (across f.outer end) = (l.0, omega (arith, l.1, l.2, a, b), c) in
-    (lies, node_stands lo hi k lo mid n kind (expr_parts f.expr) (across f.outer end) is lies (free_beyond lo mid (across f.outer end) (expr_parts f.expr) (inr (omega (arith, a, b))) s.inside) s
-    (omega arith) (omega (arith, a, b, c)) le)
+    let lies : Lies lo hi (across f.outer end) = (l.0, omega (arith, l.1, l.2, a, b), c) in (
+      lies,
+      node_stands lo hi k lo mid n kind (expr_parts f.expr) (across f.outer end) is lies (free_beyond lo mid (across f.outer end) (expr_parts f.expr) (inr (omega (arith, a, b))) s.inside) s
+          (omega arith) (omega (arith, a, b, c)) le,
+    )
 
 -- an expression, and something behind it, where the node's first token is that of the expression and its last one stands further out than the expression
 pair_stands : (lo mid next far hi n m k : ℕ) (kind : ExprKind) (f : Found) (ps : List Part) (end : Span) → kind_parts kind ≡ expr_parts f.expr ++ ps → Stands lo mid n f → Stand next far m ps
     → Free (across f.outer end) ps → mid ≤ next → next ≤ far → far ≤ hi → mid < end.to → end.to ≤ hi → n + m + 1 ≤ k
     → Lies lo hi (across f.outer end) × Stand lo hi k (expr_parts (record { kind = kind; span = across f.outer end }))
 pair_stands lo mid next far hi n m k kind f ps end is (l, s) t free a b c d e le =
-    let lies : Lies lo hi (across f.outer end) = (l.0, omega (arith, l.1, l.2, d), e) in
-    (lies, node_stands lo hi k lo far (n + m) kind (expr_parts f.expr ++ ps) (across f.outer end) is lies
-    (free_both (across f.outer end) (expr_parts f.expr) ps (free_beyond lo mid (across f.outer end) (expr_parts f.expr) (inr d) s.inside) free)
-    (stand_two lo mid next far n m (n + m) (expr_parts f.expr) ps s t (omega (arith, l.0, l.1, l.2)) a b (omega arith))
-    (omega arith) c le)
+    let lies : Lies lo hi (across f.outer end) = (l.0, omega (arith, l.1, l.2, d), e) in (
+      lies,
+      node_stands lo hi k lo far (n + m) kind (expr_parts f.expr ++ ps) (across f.outer end) is lies
+          (free_both (across f.outer end) (expr_parts f.expr) ps (free_beyond lo mid (across f.outer end) (expr_parts f.expr) (inr d) s.inside) free)
+          (stand_two lo mid next far n m (n + m) (expr_parts f.expr) ps s t (omega (arith, l.0, l.1, l.2)) a b (omega arith))
+          (omega arith) c le,
+    )
 
 two_stand : (lo mid next hi n m k : ℕ) (kind : ExprKind) (f h : Found) → kind_parts kind ≡ expr_parts f.expr ++ expr_parts h.expr → Stands lo mid n f → Stands next hi m h → mid < next → n + m + 1 ≤ k
     → Lies lo hi (across f.outer h.outer) × Stand lo hi k (expr_parts (record { kind = kind; span = across f.outer h.outer }))
@@ -95,10 +99,12 @@ name_before lo hi n x ps a b c s = stand_two lo x.span.to x.span.to hi 0 n n (el
 
 called_stands : (lo hi n k : ℕ) (x : Ident) (a : Args) → lo ≤ x.span.from → x.span.from < x.span.to → ArgsStand x.span.to hi n a → n + 1 ≤ k → Stands lo hi k (called x a)
 called_stands lo hi n k x a b c (l, s) le =
-    let lies : Lies lo hi (across x.span a.end) = (b, omega (arith, c, l.0, l.1), l.2) in
-    (lies, node_stands lo hi k lo hi n (e.Call None x a.items) (elsewhere x ∷ listed (each expr_parts a.items)) (across x.span a.end) (call_kind x a.items) lies
-    (tt, free_beyond x.span.to hi (across x.span a.end) (listed (each expr_parts a.items)) (inl c) s.inside)
-    (name_before lo hi n x (listed (each expr_parts a.items)) b c (omega (arith, l.0, l.1, l.2)) s) (omega arith) (omega arith) le)
+    let lies : Lies lo hi (across x.span a.end) = (b, omega (arith, c, l.0, l.1), l.2) in (
+      lies,
+      node_stands lo hi k lo hi n (e.Call None x a.items) (elsewhere x ∷ listed (each expr_parts a.items)) (across x.span a.end) (call_kind x a.items) lies
+          (tt, free_beyond x.span.to hi (across x.span a.end) (listed (each expr_parts a.items)) (inl c) s.inside)
+          (name_before lo hi n x (listed (each expr_parts a.items)) b c (omega (arith, l.0, l.1, l.2)) s) (omega arith) (omega arith) le,
+    )
 
 selected_stands : (lo mid hi n k : ℕ) (f : Found) (x : Ident) → Stands lo mid n f → mid ≤ x.span.from → x.span.from < x.span.to → x.span.to ≤ hi → n + 1 ≤ k → Stands lo hi k (selected f x)
 selected_stands lo mid hi n k f x s a b c le =
@@ -263,16 +269,19 @@ mutual
   args_stand lo hi _ _ (g.no_args left right) (a, b, (c, d, f)) = ((omega (arith, a, b, c), d, f), stand_no_entries expr_parts lo hi 2)
   args_stand lo hi _ _ (g.some_args left right {ts} {s} x) (p, q, o) =
       let (mid, a, b, r, t) = order_both left.to hi ts (sign CLOSE_PAREN right ∷ []) o in
-      let n = suc (length (ts ++ sign CLOSE_PAREN right ∷ [])) in
-      ((omega (arith, p, q, a, t.0), t.1, t.2),
-      stand_more left.to mid (length ts) lo hi n (listed (each expr_parts s.items)) (omega (arith, p, q)) b (omega (arith, length-append ts (sign CLOSE_PAREN right ∷ []))) (exprs_stand left.to mid ts s x r))
+      let n = suc (length (ts ++ sign CLOSE_PAREN right ∷ [])) in (
+        (omega (arith, p, q, a, t.0), t.1, t.2),
+        stand_more left.to mid (length ts) lo hi n (listed (each expr_parts s.items)) (omega (arith, p, q)) b (omega (arith, length-append ts (sign CLOSE_PAREN right ∷ []))) (exprs_stand left.to mid ts s x r),
+      )
 
   pub init_stands : (lo hi : ℕ) (ts : List Token) (i : FoundInit) → IsInit ts i → InOrder lo hi ts → Lies lo hi i.end × Stand lo hi (length ts) (init_parts i.init)
   init_stands lo hi _ _ (g.value {ts} {f} d) o = let (l, s) = expr_stands lo hi g.Whole ts f d o in (l, subst (λ y. Stand lo hi (length ts) y) (sym (value_is f.expr)) s)
   init_stands lo hi _ _ (g.entries open_at {ts} {s} d) (a, b, o) =
-      let (l, t) = items_stand open_at.to hi ts s d o in
-      ((omega (arith, a, b, l.0), l.1, l.2), subst (λ y. Stand lo hi (suc (length ts)) y) (sym (items_are s.items (across open_at s.end)))
-      (stand_more open_at.to hi (length ts) lo hi (suc (length ts)) (listed (each init_parts s.items)) (omega (arith, a, b)) (omega arith) (omega arith) t))
+      let (l, t) = items_stand open_at.to hi ts s d o in (
+        (omega (arith, a, b, l.0), l.1, l.2),
+        subst (λ y. Stand lo hi (suc (length ts)) y) (sym (items_are s.items (across open_at s.end)))
+            (stand_more open_at.to hi (length ts) lo hi (suc (length ts)) (listed (each init_parts s.items)) (omega (arith, a, b)) (omega arith) (omega arith) t),
+      )
 
   pub inits_stand : (lo hi : ℕ) (ts : List Token) (s : FoundItems) → IsInits ts s → InOrder lo hi ts → Stand lo hi (length ts) (listed (each init_parts s.items))
   inits_stand lo hi _ _ (g.first {ts} {i} d) o = let (l, s) = init_stands lo hi ts i d o in stand_alone init_parts lo hi (length ts) i.init s (init_tokens ts i d lo hi s)
@@ -285,10 +294,14 @@ mutual
   pub items_stand : (lo hi : ℕ) (ts : List Token) (s : FoundItems) → IsItems ts s → InOrder lo hi ts → Lies lo hi s.end × Stand lo hi (length ts) (listed (each init_parts s.items))
   items_stand lo hi _ _ (g.no_items right) o = (o, stand_no_entries init_parts lo hi 1)
   items_stand lo hi _ _ (g.some_items right {ts} {s} d) o =
-      let (mid, a, b, p, q) = order_both lo hi ts (sign CLOSE_BRACE right ∷ []) o in
-      ((omega (arith, a, q.0), q.1, q.2), stand_more lo mid (length ts) lo hi (length (ts ++ sign CLOSE_BRACE right ∷ [])) (listed (each init_parts s.items)) (omega arith) b
-      (omega (arith, length-append ts (sign CLOSE_BRACE right ∷ []))) (inits_stand lo mid ts s d p))
+      let (mid, a, b, p, q) = order_both lo hi ts (sign CLOSE_BRACE right ∷ []) o in (
+        (omega (arith, a, q.0), q.1, q.2),
+        stand_more lo mid (length ts) lo hi (length (ts ++ sign CLOSE_BRACE right ∷ [])) (listed (each init_parts s.items)) (omega arith) b
+            (omega (arith, length-append ts (sign CLOSE_BRACE right ∷ []))) (inits_stand lo mid ts s d p),
+      )
   items_stand lo hi _ _ (g.with_comma comma right {ts} {s} d) o =
-      let (mid, a, b, p, q) = order_both lo hi ts (sign COMMA comma ∷ sign CLOSE_BRACE right ∷ []) o in
-      ((omega (arith, a, q.0, q.1, q.2.0), q.2.1, q.2.2), stand_more lo mid (length ts) lo hi (length (ts ++ sign COMMA comma ∷ sign CLOSE_BRACE right ∷ [])) (listed (each init_parts s.items)) (omega arith) b
-      (omega (arith, length-append ts (sign COMMA comma ∷ sign CLOSE_BRACE right ∷ []))) (inits_stand lo mid ts s d p))
+      let (mid, a, b, p, q) = order_both lo hi ts (sign COMMA comma ∷ sign CLOSE_BRACE right ∷ []) o in (
+        (omega (arith, a, q.0, q.1, q.2.0), q.2.1, q.2.2),
+        stand_more lo mid (length ts) lo hi (length (ts ++ sign COMMA comma ∷ sign CLOSE_BRACE right ∷ [])) (listed (each init_parts s.items)) (omega arith) b
+            (omega (arith, length-append ts (sign COMMA comma ∷ sign CLOSE_BRACE right ∷ []))) (inits_stand lo mid ts s d p),
+      )

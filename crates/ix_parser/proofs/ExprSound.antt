@@ -1,23 +1,21 @@
 -- What the rules of expressions read is in the grammar.
-use Rattle.std.proofs.Common.{◌≡◌, ℕ, zero, suc, ◌+◌, ◌-◌, ◌≤◌, arith, max, Bool, true, false, List, [], ◌∷◌, ◌++◌, Option, Some, None, refl, sym, ap, subst, ◌∙◌, append_assoc}
+use Rattle.std.proofs.Common.{◌≡◌, ℕ, zero, suc, ◌+◌, ◌-◌, ◌≤◌, arith, Bool, true, false, List, [], ◌∷◌, ◌++◌, refl, sym, subst, append_assoc}
 use Rattle.std.proofs.lemmas.List.{append-nil}
 use Rattle.ix_text.specs.declared.span.Span.{Span}
-use Rattle.ix_num.specs.declared.arith.Arith.{Arith}
 use Rattle.ix_lexer.specs.declared.token.Token.{Token}
 use Rattle.ix_lexer.specs.declared.fixed.TheConstants.{TRUE, FALSE, NULL, THIS, NEW, INT, BOOLEAN, AT, MINUS, DOT, COMMA, OPEN_PAREN, CLOSE_PAREN, OPEN_BRACKET, CLOSE_BRACKET, OPEN_BRACE, CLOSE_BRACE}
 use Rattle.ix_tree.specs.declared.annot.Ident.{Ident}
 use Rattle.ix_parser.specs.declared.found.Aim.{Aim}
 use Rattle.ix_parser.specs.declared.found.Aim.TheVariants as aim
-use Rattle.ix_parser.specs.declared.found.Args.{Args}
 use Rattle.ix_parser.specs.declared.found.Found.{Found}
 use Rattle.ix_parser.specs.declared.found.FoundInit.{FoundInit}
 use Rattle.ix_parser.specs.declared.found.FoundItems.{FoundItems}
 use Rattle.ix_parser.specs.declared.found.Several.{Several}
 use Rattle.ix_parser.specs.declared.found.Form.{Form}
 use Rattle.ix_parser.specs.declared.found.Form.TheVariants as form
-use Rattle.ix_parser.specs.Rule.{Rule, pure, take, bind, stop, loop, Turn, On, Done}
-use Rattle.ix_parser.specs.Patterns.{sign, name_token, a_sign, a_name, row, binary_signs, unary_signs, step_signs, assign_signs, one_of, an_operator, at_level, operator_of, with_span}
-use Rattle.ix_parser.specs.ExprNodes.{leaf, named, within, selected, element, called, called_on, created, unary, least_int, stepped_before, stepped_after, joined, assigned, no_exprs, with_expr, all_args, value_init, items_init, no_inits, with_init, closed_by}
+use Rattle.ix_parser.specs.Rule.{Rule, pure, stop}
+use Rattle.ix_parser.specs.Patterns.{sign, name_token, unary_signs, step_signs, assign_signs}
+use Rattle.ix_parser.specs.ExprNodes.{no_exprs, with_expr, all_args, no_inits, with_init}
 use Rattle.ix_parser.specs.ExprRules.{extra, makes_array, Parts, Below, inner, inner_init, more_exprs, args, more_inits, items, name_or_call, enclosed, word, creation, object_or_array, noted_array, noted, array, array_rest, first_part, field_or_call, index, index_unless, further, primary_of, only_variable, variable_of, step_behind, value_of, prefixed, unary_of, operand, level_of, assignment, maybe_assigned, whole_of, to_statement, statement_of, init_of, parts_of, no_parts, nothing_below, below, expr, init, statement_expr}
 use Rattle.std.proofs.lemmas.Bool.{leb-true}
 use Rattle.ix_tree.specs.declared.annot.BaseTree.{BaseTree}

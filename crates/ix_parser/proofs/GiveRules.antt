@@ -1,7 +1,7 @@
 -- What holds of everything that a rule gives.
-use Rattle.std.proofs.Common.{◌≡◌, ℕ, zero, suc, nat_lt, Bool, true, false, List, [], ◌∷◌, ◌++◌, length, Option, Some, None, Result, Ok, Err, refl, ap, subst, sym, ◌⊎◌, inl, inr}
+use Rattle.std.proofs.Common.{◌≡◌, ℕ, zero, suc, nat_lt, Bool, true, List, length, Option, Some, None, Ok, ap, subst, inl, inr}
 use Rattle.ix_lexer.specs.declared.token.Token.{Token}
-use Rattle.ix_parser.specs.Rule.{Rule, pure, take, bind, stop, loop, Turn, On, Done, Outcome, Parser, and_then, look, rest, taken, turned, turns, run}
+use Rattle.ix_parser.specs.Rule.{Rule, pure, take, bind, stop, loop, Turn, On, Done, look, rest, taken, turned, turns, run}
 use Rattle.ix_parser.proofs.Runs.{same_ok, chosen, bind_ok}
 use Rattle.ix_parser.proofs.SoundRules.{Sound}
 

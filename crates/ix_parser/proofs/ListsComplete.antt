@@ -1,14 +1,12 @@
 -- Repetitions that are in the grammar are read.
-use Rattle.std.proofs.Common.{◌≡◌, ℕ, ◌<◌, ◌==◌, Bool, true, false, List, [], ◌∷◌, ◌++◌, length, Option, Some, None, Result, Ok, Err, refl, sym, ap, subst, ◌∙◌, append_assoc, arith, length-append}
+use Rattle.std.proofs.Common.{◌≡◌, ◌<◌, List, ◌∷◌, ◌++◌, length, None, Ok, refl, sym, ap, subst, ◌∙◌, append_assoc, arith, length-append}
 use Rattle.ix_text.specs.declared.span.Span.{Span}
 use Rattle.ix_lexer.specs.declared.token.Token.{Token}
 use Rattle.ix_lexer.specs.declared.fixed.TheConstants.{COMMA, CLOSE_BRACE}
-use Rattle.ix_parser.specs.declared.found.At.{At}
-use Rattle.ix_parser.specs.Rule.{Rule, pure, take, bind, stop, loop, Turn, On, Done, Outcome, Parser, look, run}
+use Rattle.ix_parser.specs.Rule.{Rule, loop, Turn, On, Done, Outcome, Parser, look, run}
 use Rattle.ix_parser.specs.Patterns.{sign, a_sign}
 use Rattle.ix_parser.specs.Lists.{IsSeparated, IsRepeated, first_item, next_item, no_item, one_more, next_of, more_of, next_inside, braces_of, placed}
 use Rattle.ix_parser.proofs.Runs.{loop_on, loop_done}
-use Rattle.ix_parser.proofs.CompleteRules.{take_reads, other_reads, bind_reads}
 
 -- ---- Item {"," Item}: C holds of what may follow an item, P of each item, Q of what is made of them
 

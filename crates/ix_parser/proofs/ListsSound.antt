@@ -1,17 +1,15 @@
 -- Sound, where the height that is left fits, and for the repetitions of the grammar.
-use Rattle.std.proofs.Common.{◌≡◌, ℕ, ◌==◌, ℤ, Bool, true, false, cond, List, [], ◌∷◌, ◌++◌, Option, Some, None, Result, Ok, Err, refl, sym, ap, subst, ◌∙◌, append_assoc}
+use Rattle.std.proofs.Common.{◌≡◌, ℕ, Bool, true, false, List, [], ◌∷◌, ◌++◌, Option, Some, None, Ok, refl, sym, subst}
 use Rattle.std.proofs.lemmas.List.{append-nil}
 use Rattle.ix_text.specs.declared.span.Span.{Span}
 use Rattle.ix_lexer.specs.declared.token.Token.{Token}
 use Rattle.ix_lexer.specs.declared.fixed.TheConstants.{COMMA, CLOSE_BRACE}
-use Rattle.ix_parser.specs.declared.error.Stop.{Stop}
-use Rattle.ix_parser.specs.declared.error.Stop.TheVariants.{Syntax, TooDeep}
 use Rattle.ix_tree.specs.declared.annot.Ident.{Ident}
 use Rattle.ix_parser.specs.declared.found.At.{At}
-use Rattle.ix_parser.specs.Rule.{Rule, pure, take, bind, stop, loop, Turn, On, Done, Outcome, Parser, and_then, look, rest, taken, run}
+use Rattle.ix_parser.specs.Rule.{Rule, take, Parser, look, taken, run}
 use Rattle.ix_parser.specs.Patterns.{sign, name_token, a_sign, a_name, one_of, row}
-use Rattle.ix_parser.specs.Lists.{IsSeparated, IsRepeated, first_item, next_item, no_item, one_more, next_of, more_of, next_inside, braces_of, placed}
-use Rattle.ix_parser.proofs.SoundRules.{Sound, weaken, pure_sound, stop_sound, bind_sound, sign_sound, name_sound, one_sound, loop_sound, After}
+use Rattle.ix_parser.specs.Lists.{IsSeparated, IsRepeated, next_item, no_item, one_more, next_of, more_of, next_inside, braces_of}
+use Rattle.ix_parser.proofs.SoundRules.{Sound, weaken, pure_sound, bind_sound, sign_sound, name_sound, one_sound, loop_sound, After}
 
 -- ---- a token that fits
 

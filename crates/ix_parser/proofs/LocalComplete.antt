@@ -1,9 +1,9 @@
 -- Declarations of locals are read.
-use Rattle.std.proofs.Common.{◌≡◌, ℕ, zero, suc, ◌+◌, ◌-◌, ◌<◌, ◌≤◌, ◌==◌, max, nat_le, Bool, true, false, cond, List, [], ◌∷◌, ◌++◌, length, Option, Some, None, Result, Ok, Err, refl, sym, ap, subst, ◌∙◌, append_assoc, arith, length-append, ◌⊎◌, inl, inr}
-use Rattle.std.proofs.lemmas.Bool.{lt-ltb, le-leb, leb-true, eqb-true}
+use Rattle.std.proofs.Common.{◌≡◌, ℕ, ◌+◌, ◌-◌, ◌≤◌, max, nat_le, Bool, true, false, List, ◌∷◌, ◌++◌, length, Ok, Err, refl, sym, ap, subst, ◌∙◌, arith, length-append, ◌⊎◌, inl, inr}
+use Rattle.std.proofs.lemmas.Bool.{le-leb, leb-true}
 use Rattle.ix_text.specs.declared.span.Span.{Span}
 use Rattle.ix_lexer.specs.declared.token.Token.{Token}
-use Rattle.ix_lexer.specs.declared.fixed.TheConstants.{DOT, OPEN_PAREN, OPEN_BRACKET, CLOSE_BRACKET, AT, FINAL, INT, BOOLEAN, SEMICOLON, COMMA}
+use Rattle.ix_lexer.specs.declared.fixed.TheConstants.{DOT, OPEN_BRACKET, CLOSE_BRACKET, AT, FINAL, INT, BOOLEAN, SEMICOLON, COMMA}
 use Rattle.ix_tree.specs.declared.annot.Annot.{Annot}
 use Rattle.ix_tree.specs.declared.annot.Ident.{Ident}
 use Rattle.ix_tree.specs.declared.annot.BaseTree.{BaseTree}
@@ -16,25 +16,23 @@ use Rattle.ix_parser.specs.declared.found.At.{At}
 use Rattle.ix_parser.specs.declared.found.FoundDecls.{FoundDecls}
 use Rattle.ix_parser.specs.declared.found.FoundInit.{FoundInit}
 use Rattle.ix_parser.specs.declared.found.FoundType.{FoundType}
-use Rattle.ix_parser.specs.declared.statement_trees.Begun.{Begun}
 use Rattle.ix_parser.specs.declared.statement_trees.Begun.TheVariants.{Local}
-use Rattle.ix_parser.specs.Rule.{Rule, pure, take, bind, stop, loop, Turn, On, Done, look, run, Outcome, Parser, and_then}
-use Rattle.ix_parser.specs.Patterns.{sign, name_token, a_sign, a_name, one_of, row}
+use Rattle.ix_parser.specs.Rule.{loop, On, look, run, Outcome, Parser, and_then}
+use Rattle.ix_parser.specs.Patterns.{sign, name_token, a_sign}
 use Rattle.ix_parser.specs.AnnotGrammar.{no_notes}
 use Rattle.ix_parser.specs.AnnotRules.{annot_behind}
 use Rattle.ix_parser.specs.TypeGrammar as types
 use Rattle.ix_parser.specs.TypeGrammar.{based, base_height, array_of, plain_type, IsType, IsTypeRest}
 use Rattle.ix_parser.specs.TypeRules.{pairs, brackets, noted_array, type_rest, type_tree}
-use Rattle.ix_parser.specs.DeclGrammar.{no_mods, with_word, with_annot, local_words, shared, IsMods, IsDecls}
+use Rattle.ix_parser.specs.DeclGrammar.{no_mods, with_word, with_annot, local_words, shared, IsDecls}
 use Rattle.ix_parser.specs.DeclRules.{next_mod, mods, decls}
 use Rattle.ix_parser.specs.ExprRules.{init}
 use Rattle.ix_parser.specs.ExprGrammar.{IsInit}
-use Rattle.ix_parser.specs.StmtGrammar as g
-use Rattle.ix_parser.specs.StmtGrammar.{SYSTEM, same_text, IsLocal}
-use Rattle.ix_parser.specs.StmtRules.{a_word, declared, named_type, typed, modified, local_or, named_first, system_part, print_or, begun}
-use Rattle.ix_parser.proofs.Runs.{chosen, loop_on, loop_done, loop_stops, front, same_ok}
-use Rattle.ix_parser.proofs.TypeComplete.{NoBracket, NoAt, rest_reads, rest_starts, type_reads, over_base}
-use Rattle.ix_parser.proofs.DeclComplete.{Parted, Headed, decls_headed, headed_reads, tall_decls, local_are, mods_before_type}
+use Rattle.ix_parser.specs.StmtGrammar.{SYSTEM, same_text}
+use Rattle.ix_parser.specs.StmtRules.{declared, named_type, typed, modified, local_or, named_first, system_part, print_or, begun}
+use Rattle.ix_parser.proofs.Runs.{loop_on, loop_stops, front, same_ok}
+use Rattle.ix_parser.proofs.TypeComplete.{rest_reads, rest_starts, type_reads, over_base}
+use Rattle.ix_parser.proofs.DeclComplete.{Parted, Headed, decls_headed, headed_reads, tall_decls}
 use Rattle.ix_parser.proofs.Follows.{Free, after_comma, after_semicolon}
 use Rattle.ix_parser.proofs.ExprComplete.{complete_init}
 use Rattle.ix_parser.proofs.BegunComplete.{seen_sign}

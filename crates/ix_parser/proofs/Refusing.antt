@@ -1,5 +1,5 @@
 -- Where the rules of a source stop, their error is the one and only, and says what it says of the grammar.
-use Rattle.std.proofs.Common.{◌≡◌, ◌≢◌, ◌≤◌, ◌<◌, ◌+◌, ◌-◌, ℕ, zero, suc, List, [], ◌∷◌, ◌++◌, length, drop, Bool, true, false, cond, Option, Some, None, Result, Ok, Err, refl, sym, ap, subst, ◌∙◌, arith, nat_lt, ◌⊎◌, inl, inr}
+use Rattle.std.proofs.Common.{◌≡◌, ◌≢◌, ◌≤◌, ◌<◌, ◌-◌, ℕ, zero, suc, List, [], ◌∷◌, ◌++◌, length, drop, Bool, true, false, cond, Option, Some, None, Ok, Err, refl, sym, ap, subst, ◌∙◌, arith, nat_lt, ◌⊎◌, inl, inr}
 use Rattle.std.proofs.lemmas.List.{length-append}
 use Rattle.ix_lexer.specs.declared.token.Token.{Token}
 use Rattle.ix_lexer.specs.Spans.{InOrder}
@@ -9,11 +9,11 @@ use Rattle.ix_parser.specs.declared.error.ParseError.{ParseError}
 use Rattle.ix_parser.specs.declared.error.ParseError.TheVariants as error
 use Rattle.ix_parser.specs.declared.error.Stop.{Stop}
 use Rattle.ix_parser.specs.declared.error.Stop.TheVariants as stop
-use Rattle.ix_parser.specs.Rule.{Rule, pure, take, bind, stop, loop, Turn, On, Done, Outcome, Parser, and_then, look, rest, taken, turned, turns, run}
+use Rattle.ix_parser.specs.Rule.{Rule, pure, take, bind, stop, loop, Turn, On, Done, Outcome, Parser, and_then, taken, turned, turns, run}
 use Rattle.ix_parser.specs.SourceRules.{source}
-use Rattle.ix_parser.specs.Begins.{IsLowSource, NoneBegins}
+use Rattle.ix_parser.specs.Begins.{NoneBegins}
 use Rattle.ix_parser.specs.Refusals.{HasTree, Refused, no_further, left_over, too_deep, NoneGoesOn, IsWithin, place, error_at}
-use Rattle.ix_parser.proofs.Runs.{local, Local, left_of, same_ok}
+use Rattle.ix_parser.proofs.Runs.{local, left_of, same_ok}
 use Rattle.ix_parser.proofs.SourceLaws.{source_is, source_is_read, none_begins, none_goes_on}
 
 -- ---- what is too high is a token
@@ -51,7 +51,7 @@ meets_turns : {S B : Type 0} (body : S → Rule (Turn S B)) → ((s : S) (us : L
 meets_turns body each zero s us = λ deep end. no_stop deep
 meets_turns body each (suc n) s us =
     meets_then (run (body s) us) (turned (length us) (turns (λ t. run (body t)) n)) (each s us)
-      (λ r vs. meets_turned (length us) (turns (λ t. run (body t)) n) (λ t ws. meets_turns body each n t ws) r vs)
+    (λ r vs. meets_turned (length us) (turns (λ t. run (body t)) n) (λ t ws. meets_turns body each n t ws) r vs)
 
 meets : {A : Type 0} (r : Rule A) (ts : List Token) → Met (run r ts)
 unfolding run

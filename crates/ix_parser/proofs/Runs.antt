@@ -1,9 +1,9 @@
 -- What holds of every rule: it takes a front of the tokens, and reads the same where other tokens follow.
-use Rattle.std.proofs.Common.{◌≡◌, ℕ, zero, suc, ◌+◌, ◌<◌, ◌≤◌, nat_lt, Bool, true, false, cond, List, [], ◌∷◌, ◌++◌, length, Option, Some, None, Result, Ok, Err, refl, sym, ap, subst, ◌∙◌, append_assoc, arith, ◌⊎◌, inl, inr, length-append}
+use Rattle.std.proofs.Common.{◌≡◌, ℕ, zero, suc, ◌+◌, ◌<◌, ◌≤◌, nat_lt, Bool, true, false, cond, List, [], ◌∷◌, ◌++◌, length, Option, Some, None, Ok, Err, refl, sym, ap, subst, ◌∙◌, append_assoc, arith, ◌⊎◌, inl, inr, length-append}
 use Rattle.std.proofs.lemmas.Bool.{lt-ltb, ltb-true, ltb-false}
 use Rattle.ix_lexer.specs.declared.token.Token.{Token}
 use Rattle.ix_parser.specs.declared.error.Stop.{Stop}
-use Rattle.ix_parser.specs.declared.error.Stop.TheVariants.{Syntax, TooDeep}
+use Rattle.ix_parser.specs.declared.error.Stop.TheVariants.{Syntax}
 use Rattle.ix_parser.specs.Rule.{Rule, pure, take, bind, stop, loop, Turn, On, Done, Outcome, Parser, and_then, look, rest, taken, turned, turns, run}
 
 abbrev pub ok_of : {A : Type 0} → A × List Token → Outcome A

@@ -1,16 +1,14 @@
 -- Sound, for the ways in which rules are put together: what a rule takes stands in a relation to what it gives.
-use Rattle.std.proofs.Common.{◌≡◌, ℕ, zero, suc, ◌<◌, ◌==◌, ℤ, nat_lt, Bool, true, false, cond, List, [], ◌∷◌, ◌++◌, length, Option, Some, None, Result, Ok, Err, refl, sym, ap, subst, ◌∙◌, append_assoc, ◌⊎◌, inl, inr, eqb-true}
+use Rattle.std.proofs.Common.{◌≡◌, ℕ, zero, suc, ◌==◌, ℤ, nat_lt, Bool, List, [], ◌∷◌, ◌++◌, length, Option, Some, None, Ok, refl, sym, ap, subst, ◌∙◌, append_assoc, inl, inr, eqb-true}
 use Rattle.std.proofs.lemmas.List.{append-nil}
 use Rattle.ix_text.specs.declared.span.Span.{Span}
 use Rattle.ix_lexer.specs.declared.token.Token.{Token}
-use Rattle.ix_parser.specs.declared.error.Stop.{Stop}
-use Rattle.ix_parser.specs.declared.error.Stop.TheVariants.{Syntax, TooDeep}
 use Rattle.ix_lexer.specs.declared.token.TokenKind.{TokenKind}
 use Rattle.ix_lexer.specs.declared.token.TokenKind.TheVariants as k
 use Rattle.ix_tree.specs.declared.annot.Ident.{Ident}
 use Rattle.ix_tree.specs.declared.expr.BinaryOp.{BinaryOp}
 use Rattle.ix_parser.specs.declared.found.At.{At}
-use Rattle.ix_parser.specs.Rule.{Rule, pure, take, bind, stop, loop, Turn, On, Done, Outcome, Parser, and_then, look, rest, taken, turned, turns, run}
+use Rattle.ix_parser.specs.Rule.{Rule, pure, take, bind, stop, loop, Turn, On, Done, taken, turned, turns, run}
 use Rattle.ix_parser.specs.Patterns.{sign, name_token, number_token, least_token, string_token, a_sign, fixed_of, a_name, name_of, a_number, number_of, a_least, least_of, a_text, text_of, one_of, one_of_kind, row, with_span, an_operator, operator_of, at_level, binary_signs}
 use Rattle.ix_parser.proofs.Runs.{same_ok, chosen, bind_ok}
 

@@ -1,5 +1,5 @@
 -- A source that is in the grammar is read, if it is 200 nodes high at most, and if that holds of the statements in it.
-use Rattle.std.proofs.Common.{◌≡◌, ℕ, ◌<◌, ◌≤◌, suc, List, [], ◌∷◌, ◌++◌, length, Option, Some, None, Result, Ok, Err, refl, sym, ap, ◌∙◌, arith}
+use Rattle.std.proofs.Common.{◌≡◌, ℕ, ◌<◌, ◌≤◌, suc, List, [], ◌∷◌, ◌++◌, length, None, Ok, ap, ◌∙◌, arith}
 use Rattle.ix_text.specs.declared.span.Span.{Span}
 use Rattle.ix_lexer.specs.declared.token.Token.{Token}
 use Rattle.ix_lexer.specs.declared.fixed.TheConstants.{ELSE, SUPER, CLOSE_BRACE, OPEN_PAREN}
@@ -18,7 +18,7 @@ use Rattle.ix_parser.specs.SourceRules.{super_args, parts, source}
 use Rattle.ix_parser.proofs.Follows.{AfterWhole, after_comma, after_semicolon}
 use Rattle.ix_parser.proofs.ExprComplete.{complete_args, complete_init}
 use Rattle.ix_parser.proofs.DeclComplete.{Parted, comma, semicolon}
-use Rattle.ix_parser.proofs.ClassComplete.{PartsComplete, program_reads}
+use Rattle.ix_parser.proofs.ClassComplete.{program_reads}
 
 -- Statements of a block that are in the grammar are read.
 pub record StatementsComplete : Type 0 where

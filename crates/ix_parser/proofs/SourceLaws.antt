@@ -1,14 +1,13 @@
 -- The rules of a source read exactly the sources of the grammar, and stop where none can go on.
-use Rattle.std.proofs.Common.{◌≡◌, ◌≤◌, List, [], ◌∷◌, ◌++◌, length, Option, Some, None, Result, Ok, Err, refl, sym, ap, subst, ◌∙◌, append_assoc}
+use Rattle.std.proofs.Common.{◌≡◌, List, [], ◌∷◌, ◌++◌, Ok, Err, refl, sym, ap, subst, ◌∙◌}
 use Rattle.std.proofs.lemmas.List.{append-nil, append_cancel_right}
 use Rattle.ix_lexer.specs.declared.token.Token.{Token}
 use Rattle.ix_parser.specs.declared.classes.FoundUnit.{FoundUnit}
 use Rattle.ix_parser.specs.declared.error.Stop.{Stop}
 use Rattle.ix_parser.specs.Rule.{Outcome, run}
-use Rattle.ix_parser.specs.SourceGrammar.{IsSource}
 use Rattle.ix_parser.specs.SourceRules.{source}
 use Rattle.ix_parser.specs.Begins.{IsLowSource, NoneBegins}
-use Rattle.ix_parser.proofs.Runs.{local, Local, first, left_of, Elsewhere, same_ok}
+use Rattle.ix_parser.proofs.Runs.{local, first, left_of, Elsewhere, same_ok}
 use Rattle.ix_parser.proofs.SourceSound.{source_sound}
 use Rattle.ix_parser.proofs.SourceComplete.{StatementsComplete, source_reads}
 use Rattle.ix_parser.proofs.StmtHeights.{block_statement_within}

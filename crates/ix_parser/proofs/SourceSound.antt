@@ -1,14 +1,10 @@
 -- A source that is read is in the grammar, and 200 nodes high at most, if that holds of the statements in it.
-use Rattle.std.proofs.Common.{◌≡◌, ℕ, ◌<◌, ◌≤◌, max, Bool, true, false, List, [], ◌∷◌, ◌++◌, Option, Some, None, Result, Ok, Err, refl, sym, ap, subst, ◌∙◌, arith}
-use Rattle.ix_text.specs.declared.span.Span.{Span}
+use Rattle.std.proofs.Common.{ℕ, ◌≤◌, List, arith}
 use Rattle.ix_lexer.specs.declared.token.Token.{Token}
-use Rattle.ix_lexer.specs.declared.fixed.TheConstants.{OPEN_PAREN}
-use Rattle.ix_parser.specs.declared.found.Args.{Args}
 use Rattle.ix_parser.specs.declared.found.Several.{Several}
-use Rattle.ix_parser.specs.Rule.{Rule, pure, take, bind, stop, loop, Turn, On, Done, run}
-use Rattle.ix_parser.specs.Patterns.{sign}
+use Rattle.ix_parser.specs.Rule.{Rule}
 use Rattle.ix_parser.specs.ExprGrammar.{IsArgs, IsInit}
-use Rattle.ix_parser.specs.ExprNodes.{no_exprs, with_expr, all_args}
+use Rattle.ix_parser.specs.ExprNodes.{no_exprs, with_expr}
 use Rattle.ix_parser.specs.ExprRules.{more_exprs, args, expr, init}
 use Rattle.ix_parser.specs.StmtRules.{block_statement}
 use Rattle.ix_parser.specs.SourceGrammar.{IsSource, source_parts}
@@ -18,7 +14,7 @@ use Rattle.ix_parser.proofs.GiveRules.{Gives, take_gives, bind_gives, pure_gives
 use Rattle.ix_parser.proofs.ExprSound.{args_sound, expr_sound, init_is_sound}
 use Rattle.ix_parser.proofs.ExprHeights.{expr_within, init_is_within}
 use Rattle.ix_parser.proofs.StmtsSound.{block_statement_sound}
-use Rattle.ix_parser.proofs.ClassSound.{PartsSound, program_sound}
+use Rattle.ix_parser.proofs.ClassSound.{program_sound}
 
 -- what a rule takes and gives, and how high it is
 pub both : {A : Type 0} {R : List Token → A → Type 0} {P : A → Type 0} (r : Rule A) → Sound R r → Gives P r → Sound (λ ts a. R ts a × P a) r

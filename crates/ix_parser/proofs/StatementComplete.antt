@@ -1,23 +1,20 @@
 -- Expressions that may stand as statements are read as such.
-use Rattle.std.proofs.Common.{◌≡◌, ℕ, zero, suc, ◌+◌, ◌-◌, ◌<◌, ◌≤◌, ◌==◌, max, nat_le, nat_lt, Bool, true, false, cond, List, [], ◌∷◌, ◌++◌, length, Option, Some, None, Result, Ok, Err, refl, sym, ap, subst, ◌∙◌, append_assoc, arith, length-append, ◌⊎◌, inl, inr}
-use Rattle.std.proofs.lemmas.Bool.{lt-ltb, le-leb, leb-true, ltb-true}
+use Rattle.std.proofs.Common.{◌≡◌, ℕ, ◌+◌, ◌<◌, ◌≤◌, Bool, true, List, ◌∷◌, ◌++◌, Option, Some, None, Ok, refl, ◌∙◌, append_assoc, arith}
+use Rattle.std.proofs.lemmas.Bool.{lt-ltb, le-leb}
 use Rattle.ix_text.specs.declared.span.Span.{Span}
 use Rattle.ix_num.specs.declared.arith.Arith.{Arith}
 use Rattle.ix_lexer.specs.declared.token.Token.{Token}
-use Rattle.ix_lexer.specs.declared.fixed.TheConstants.{DOT, OPEN_PAREN, OPEN_BRACKET, CLOSE_BRACKET}
-use Rattle.ix_tree.specs.declared.annot.Ident.{Ident}
 use Rattle.ix_parser.specs.declared.found.Aim.TheVariants as aim
 use Rattle.ix_parser.specs.declared.found.Found.{Found}
-use Rattle.ix_parser.specs.declared.found.Form.{Form}
 use Rattle.ix_parser.specs.declared.found.Form.TheVariants as form
-use Rattle.ix_parser.specs.Rule.{Rule, pure, take, bind, stop, loop, Turn, On, Done, look, run, Outcome, Parser, and_then}
-use Rattle.ix_parser.specs.Patterns.{sign, name_token, a_sign, a_name, row, step_signs, assign_signs, one_of}
+use Rattle.ix_parser.specs.Rule.{look, run}
+use Rattle.ix_parser.specs.Patterns.{sign, row, step_signs, assign_signs, one_of}
 use Rattle.ix_parser.specs.ExprNodes.{stepped_before, stepped_after, assigned}
 use Rattle.ix_parser.specs.ExprRules.{extra, makes_array, Below, primary_of, prefixed, assignment, to_statement, statement_of, below, statement_expr}
 use Rattle.ix_parser.specs.ExprGrammar as g
 use Rattle.ix_parser.specs.ExprGrammar.{Kind, Primary, Whole, Level, IsExpr, IsStatementExpr}
 use Rattle.ix_parser.proofs.Tables.{other_table}
-use Rattle.ix_parser.proofs.Follows.{Free, AfterPrimary, AfterWhole, before_step, before_assign, StartsPrimary, starts_primary, variable_tall}
+use Rattle.ix_parser.proofs.Follows.{AfterPrimary, AfterWhole, before_step, before_assign, starts_primary, variable_tall}
 use Rattle.ix_parser.proofs.ExprComplete.{Complete, complete, chain_end, lower_reads, lower_variable}
 
 statement_primary : (b : Below) (left : ℕ) (f h : Found) (ts us vs : List Token) → look (one_of step_signs) ts ≡ None → run (primary_of b aim.Statement left) ts ≡ Ok (f, us) → run (to_statement b left f f.form) us ≡ Ok (h, vs) → run (statement_of b left) ts ≡ Ok (h, vs)

@@ -1,18 +1,17 @@
 -- Statements that are in the grammar are read.
-use Rattle.std.proofs.Common.{◌≡◌, ℕ, zero, suc, ◌+◌, ◌-◌, ◌<◌, ◌≤◌, ◌==◌, max, Bool, true, false, List, [], ◌∷◌, ◌++◌, length, Option, Some, None, Result, Ok, Err, refl, sym, ap, subst, ◌∙◌, append_assoc, arith, length-append, ◌⊎◌, inl, inr}
+use Rattle.std.proofs.Common.{◌≡◌, ℕ, suc, ◌+◌, ◌-◌, ◌<◌, ◌≤◌, ◌==◌, max, Bool, true, false, List, [], ◌∷◌, ◌++◌, length, Option, Some, None, Ok, Err, refl, sym, ap, subst, ◌∙◌, append_assoc, arith, length-append, ◌⊎◌, inl, inr}
 use Rattle.std.proofs.lemmas.Bool.{le-leb}
 use Rattle.ix_text.specs.declared.span.Span.{Span}
 use Rattle.ix_lexer.specs.declared.token.Token.{Token}
 use Rattle.ix_lexer.specs.declared.token.TokenKind.{TokenKind}
 use Rattle.ix_lexer.specs.declared.token.TokenKind.TheVariants as k
-use Rattle.ix_lexer.specs.declared.fixed.TheConstants.{MINUS, IF, ELSE, WHILE, DO, FOR, BREAK, CONTINUE, RETURN, THROW, NEW, SUPER, TRUE, FALSE, NULL, THIS, FINAL, INT, BOOLEAN, AT, DOT, COMMA, SEMICOLON, OPEN_PAREN, CLOSE_PAREN, OPEN_BRACE, CLOSE_BRACE, OPEN_BRACKET}
+use Rattle.ix_lexer.specs.declared.fixed.TheConstants.{MINUS, IF, ELSE, WHILE, DO, FOR, BREAK, CONTINUE, RETURN, THROW, NEW, SUPER, TRUE, FALSE, NULL, THIS, FINAL, INT, BOOLEAN, AT, DOT, COMMA, SEMICOLON, OPEN_PAREN, CLOSE_PAREN, OPEN_BRACE, CLOSE_BRACE}
 use Rattle.ix_tree.specs.declared.annot.Ident.{Ident}
 use Rattle.ix_tree.specs.declared.expr.UnaryOp.TheVariants as op
 use Rattle.ix_tree.specs.declared.stmt.StmtKind.TheVariants as s
 use Rattle.ix_parser.specs.Nodes.{across}
 use Rattle.ix_parser.specs.declared.classes.Stmts.{Stmts}
 use Rattle.ix_parser.specs.declared.declarations.FoundMods.{FoundMods}
-use Rattle.ix_parser.specs.declared.found.At.{At}
 use Rattle.ix_parser.specs.declared.found.Found.{Found}
 use Rattle.ix_parser.specs.declared.found.FoundDecls.{FoundDecls}
 use Rattle.ix_parser.specs.declared.found.FoundStmt.{FoundStmt}
@@ -20,11 +19,11 @@ use Rattle.ix_parser.specs.declared.found.FoundType.{FoundType}
 use Rattle.ix_parser.specs.declared.found.Several.{Several}
 use Rattle.ix_parser.specs.declared.statement_trees.Begun.{Begun}
 use Rattle.ix_parser.specs.declared.statement_trees.Begun.TheVariants.{Local, Run, Print}
-use Rattle.ix_parser.specs.Rule.{Rule, pure, take, bind, stop, loop, Turn, On, Done, look, rest, run, Outcome, Parser, and_then}
-use Rattle.ix_parser.specs.Patterns.{sign, name_token, string_token, a_sign, fixed_of, a_name, one_of, one_of_kind, row, unary_signs, step_signs}
+use Rattle.ix_parser.specs.Rule.{Rule, take, bind, stop, loop, On, Done, look, rest, run, Outcome, Parser, and_then}
+use Rattle.ix_parser.specs.Patterns.{sign, name_token, string_token, a_sign, fixed_of, one_of, one_of_kind, row, unary_signs, step_signs}
 use Rattle.ix_parser.specs.Lists as lists
 use Rattle.ix_parser.specs.Lists.{IsSeparated, more_of, next_inside, braces_of, placed}
-use Rattle.ix_parser.specs.DeclGrammar.{no_mods, local_words, shared, IsMods, IsDecls}
+use Rattle.ix_parser.specs.DeclGrammar.{no_mods, local_words, shared, IsDecls}
 use Rattle.ix_parser.specs.DeclRules.{next_mod, mods}
 use Rattle.ix_parser.specs.ClassGrammar.{no_stmts, with_stmt}
 use Rattle.ix_parser.specs.TypeGrammar.{IsType}
@@ -34,18 +33,18 @@ use Rattle.ix_parser.specs.ExprGrammar as e
 use Rattle.ix_parser.specs.ExprGrammar.{Kind, Primary, Whole, Level, IsExpr, IsInit, IsStatementExpr}
 use Rattle.ix_parser.specs.StmtGrammar as g
 use Rattle.ix_parser.specs.StmtGrammar.{IsStmt, IsBlockStmt, IsStmts, IsForFirst, IsMaybe, IsUpdate, IsReason, IsLocal, begins_print, stmt_node, block_stmt, if_stmt, if_else_stmt, while_stmt, do_stmt, for_stmt, return_stmt, throw_stmt, print_stmt, run_stmt, one_run, with_run, one_expr, local_stmt}
-use Rattle.ix_parser.specs.StmtRules.{StmtParts, typed, begun, finished, condition, else_part, if_rule, while_rule, do_rule, for_body, for_update, for_condition, for_part, for_rule, return_rule, throw_end, throw_rule, block_rule, stmt_of, stmts_below, stmt, block_statement}
+use Rattle.ix_parser.specs.StmtRules.{begun, finished, condition, else_part, if_rule, while_rule, do_rule, for_body, for_update, for_condition, for_part, for_rule, return_rule, throw_end, throw_rule, block_rule, stmt_of, stmts_below, stmt, block_statement}
 use Rattle.ix_parser.proofs.Runs.{chosen, loop_on, loop_done, same_ok}
 use Rattle.ix_parser.proofs.CompleteRules.{bind_reads}
 use Rattle.ix_parser.proofs.Tables.{other_sign}
 use Rattle.ix_parser.proofs.ListsComplete.{separated_reads, more_done}
 use Rattle.ix_parser.proofs.TypeComplete.{type_starts}
 use Rattle.ix_parser.proofs.DeclComplete.{mods_before_type, mods_start, local_are}
-use Rattle.ix_parser.proofs.Follows.{Free, AfterWhole, after_comma, after_semicolon, after_close_paren, starts, tall}
+use Rattle.ix_parser.proofs.Follows.{Free, AfterWhole, after_comma, after_semicolon, after_close_paren, tall}
 use Rattle.ix_parser.proofs.ExprComplete.{Complete, complete}
 use Rattle.ix_parser.proofs.StatementComplete.{statement_reads}
 use Rattle.ix_parser.proofs.BegunComplete.{seen_sign, seen_name, begun_run, run_expr}
-use Rattle.ix_parser.proofs.LocalComplete.{mods_begun, typed_reads, types_low, third_starts, type_begun}
+use Rattle.ix_parser.proofs.LocalComplete.{mods_begun, typed_reads, types_low, type_begun}
 use Rattle.ix_parser.proofs.StmtSound.{six, print_reads, Printed, printed}
 
 -- ---- declarations of locals

@@ -16,15 +16,15 @@ use Rattle.ix_parser.specs.declared.found.Form.{Form}
 use Rattle.ix_parser.specs.declared.found.Form.TheVariants as form
 use Rattle.ix_parser.specs.declared.statement_trees.Begun.{Begun}
 use Rattle.ix_parser.specs.declared.statement_trees.Begun.TheVariants.{Local, Run, Print}
-use Rattle.ix_parser.specs.Rule.{Rule, pure, take, bind, stop, loop, Turn, On, Done}
+use Rattle.ix_parser.specs.Rule.{Rule, Turn, On, Done}
 use Rattle.ix_parser.specs.Lists.{next_of, more_of, next_inside, braces_of}
 use Rattle.ix_parser.specs.ClassGrammar.{no_stmts, with_stmt}
-use Rattle.ix_parser.specs.ExprNodes.{named, selected, element, no_exprs, with_expr}
-use Rattle.ix_parser.specs.ExprRules.{extra, makes_array, below, inner, name_or_call, field_or_call, index, index_unless, further, assignment, to_statement, expr, statement_expr}
+use Rattle.ix_parser.specs.ExprNodes.{no_exprs, with_expr}
+use Rattle.ix_parser.specs.ExprRules.{extra, makes_array, below, name_or_call, field_or_call, index, index_unless, further, to_statement, statement_expr}
 use Rattle.ix_parser.specs.StmtGrammar.{maybe_height, one_run, with_run, one_expr}
-use Rattle.ix_parser.specs.StmtRules.{StmtParts, declared, named_type, typed, modified, local_or, chain, go_on, field, run_named, guarded, indexed, named_first, println_part, out_part, system_part, print_or, begun, finished, condition, else_part, if_rule, while_rule, do_rule, for_body, for_update, for_condition, for_part, for_rule, return_rule, throw_end, throw_rule, block_rule, stmt_of, stmts_below, block_statement}
-use Rattle.ix_parser.proofs.GiveRules.{Gives, gives_more, sound_gives, any_gives, pure_gives, stop_gives, take_gives, bind_gives, Turned, loop_gives}
-use Rattle.ix_parser.proofs.ExprHeights.{Within, Lower, low_below, field_within, args_within, most, Some_low, inner_low, extra_at_most, variable_to_statement, expr_within, statement_expr_within}
+use Rattle.ix_parser.specs.StmtRules.{StmtParts, declared, named_type, typed, modified, local_or, chain, go_on, field, run_named, indexed, named_first, println_part, out_part, system_part, print_or, begun, finished, condition, else_part, if_rule, while_rule, do_rule, for_body, for_update, for_condition, for_part, for_rule, return_rule, throw_end, throw_rule, block_rule, stmt_of, stmts_below, block_statement}
+use Rattle.ix_parser.proofs.GiveRules.{Gives, gives_more, any_gives, pure_gives, stop_gives, take_gives, bind_gives, Turned, loop_gives}
+use Rattle.ix_parser.proofs.ExprHeights.{Within, low_below, field_within, args_within, most, variable_to_statement, expr_within, statement_expr_within}
 use Rattle.ix_parser.proofs.StmtSound.{IsBegun, begun_sound}
 
 -- A variable may yet be too high: then no token that goes on with it fits.

@@ -1,41 +1,37 @@
 -- What the rules of statements read is in the grammar.
-use Rattle.std.proofs.Common.{◌≡◌, ℕ, zero, suc, ◌+◌, ◌-◌, ◌≤◌, ◌==◌, max, nat_le, ◌&&◌, Bool, true, false, cond, List, [], ◌∷◌, ◌++◌, Option, Some, None, Result, Ok, Err, refl, sym, ap, subst, ◌∙◌, append_assoc, arith, ◌⊎◌, inl, inr}
+use Rattle.std.proofs.Common.{◌≡◌, ℕ, ◌+◌, ◌-◌, ◌≤◌, ◌==◌, nat_le, ◌&&◌, Bool, true, false, List, [], ◌∷◌, ◌++◌, Option, Some, None, Ok, Err, refl, sym, ap, subst, ◌∙◌, append_assoc, arith, inl, inr}
 use Rattle.std.proofs.lemmas.Bool.{leb-true, eqb-true, le-leb}
 use Rattle.std.proofs.lemmas.List.{append-nil}
 use Rattle.ix_text.specs.declared.span.Span.{Span}
 use Rattle.ix_lexer.specs.declared.token.Token.{Token}
 use Rattle.ix_lexer.specs.declared.token.TokenKind.{TokenKind}
 use Rattle.ix_lexer.specs.declared.token.TokenKind.TheVariants as k
-use Rattle.ix_lexer.specs.declared.fixed.TheConstants.{IF, ELSE, WHILE, DO, FOR, BREAK, CONTINUE, RETURN, THROW, NEW, FINAL, INT, BOOLEAN, AT, DOT, COMMA, SEMICOLON, OPEN_PAREN, CLOSE_PAREN, OPEN_BRACE, OPEN_BRACKET, CLOSE_BRACKET}
+use Rattle.ix_lexer.specs.declared.fixed.TheConstants.{ELSE, FINAL, INT, BOOLEAN, AT, DOT, OPEN_PAREN, OPEN_BRACKET, CLOSE_BRACKET}
 use Rattle.ix_tree.specs.declared.annot.Ident.{Ident}
 use Rattle.ix_tree.specs.declared.annot.BaseTree.{BaseTree}
 use Rattle.ix_tree.specs.declared.annot.BaseTree.TheVariants.{Int, Boolean, Named}
-use Rattle.ix_parser.specs.declared.classes.Stmts.{Stmts}
 use Rattle.ix_parser.specs.declared.declarations.FoundMods.{FoundMods}
 use Rattle.ix_parser.specs.declared.declarations.Word.TheVariants.{Final}
 use Rattle.ix_parser.specs.declared.found.Aim.TheVariants.{Statement}
 use Rattle.ix_parser.specs.declared.found.At.{At}
 use Rattle.ix_parser.specs.declared.found.Found.{Found}
-use Rattle.ix_parser.specs.declared.found.FoundDecls.{FoundDecls}
-use Rattle.ix_parser.specs.declared.found.FoundInit.{FoundInit}
 use Rattle.ix_parser.specs.declared.found.FoundStmt.{FoundStmt}
 use Rattle.ix_parser.specs.declared.found.FoundType.{FoundType}
-use Rattle.ix_parser.specs.declared.found.Several.{Several}
 use Rattle.ix_parser.specs.declared.statement_trees.Begun.{Begun}
 use Rattle.ix_parser.specs.declared.statement_trees.Begun.TheVariants.{Local, Run, Print}
-use Rattle.ix_parser.specs.Rule.{Rule, pure, take, bind, stop, loop, Turn, On, Done, look, taken, run, Outcome}
+use Rattle.ix_parser.specs.Rule.{Rule, pure, take, bind, stop, Turn, On, Done, look, taken, run, Outcome}
 use Rattle.ix_parser.specs.declared.error.Stop.TheVariants.{TooDeep}
-use Rattle.ix_parser.specs.Patterns.{sign, name_token, a_sign, a_name}
-use Rattle.ix_parser.specs.Lists.{IsSeparated, first_item, no_item}
+use Rattle.ix_parser.specs.Patterns.{sign, name_token, a_sign}
+use Rattle.ix_parser.specs.Lists.{no_item}
 use Rattle.ix_parser.specs.AnnotGrammar.{no_notes}
 use Rattle.ix_parser.specs.TypeGrammar as types
 use Rattle.ix_parser.specs.TypeGrammar.{based, array_of, plain_type, IsType, IsPairs}
-use Rattle.ix_parser.specs.TypeRules.{pairs, type_rest}
+use Rattle.ix_parser.specs.TypeRules.{type_rest}
 use Rattle.ix_parser.specs.DeclGrammar as decl
 use Rattle.ix_parser.specs.DeclGrammar.{no_mods, with_word, with_annot, local_words, shared, IsMods, IsDecls}
-use Rattle.ix_parser.specs.DeclRules.{next_mod, decls}
+use Rattle.ix_parser.specs.DeclRules.{next_mod}
 use Rattle.ix_parser.specs.ExprNodes.{named, selected, element}
-use Rattle.ix_parser.specs.ExprRules.{below, inner, further, to_statement, expr, statement_expr, init, extra}
+use Rattle.ix_parser.specs.ExprRules.{below, further, init}
 use Rattle.ix_parser.specs.ExprGrammar as e
 use Rattle.ix_parser.specs.ExprGrammar.{Primary, Whole, IsExpr, IsInit, IsStatementExpr}
 use Rattle.ix_parser.specs.StmtGrammar as g
@@ -43,12 +39,12 @@ use Rattle.ix_parser.specs.StmtGrammar.{SYSTEM, OUT, PRINTLN, same_text, is_word
 use Rattle.ix_parser.specs.StmtRules.{word_of, a_word, declared, named_type, typed, modified, local_or, chain, go_on, field, run_named, guarded, indexed, named_first, println_part, out_part, system_part, print_or, begun}
 use Rattle.ix_parser.proofs.Runs.{chosen, same_ok, bind_ok}
 use Rattle.ix_parser.proofs.SoundRules.{Sound, After, weaken, pure_sound, stop_sound, bind_sound, sign_sound, name_sound, take_sound, map_sound, loop_sound, sign_is}
-use Rattle.ix_parser.proofs.ListsSound.{sign_fits, name_fits, fits_sound}
+use Rattle.ix_parser.proofs.ListsSound.{sign_fits, name_fits}
 use Rattle.ix_parser.proofs.AnnotSound.{annot_behind_sound}
 use Rattle.ix_parser.proofs.TypeSound.{pairs_sound, noted_array_sound, rest_fits, type_sound}
 use Rattle.ix_parser.proofs.DeclSound.{Modified, next_mod_sound, decls_sound}
 use Rattle.ix_parser.proofs.ExprSound.{inner_sound, sound_below, further_sound, field_or_call_sound, name_or_call_sound, to_statement_sound, expr_sound, init_is_sound, statement_expr_sound}
-use Rattle.ix_parser.proofs.ExprHeights.{expr_within, init_is_within, statement_expr_within}
+use Rattle.ix_parser.proofs.ExprHeights.{init_is_within}
 use Rattle.ix_parser.proofs.GiveRules.{Gives}
 
 -- a rule that reads what is in the grammar, and what holds of all that it gives

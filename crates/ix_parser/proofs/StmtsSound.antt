@@ -1,27 +1,26 @@
 -- What the rules of all statements read is in the grammar.
-use Rattle.std.proofs.Common.{◌≡◌, ℕ, zero, suc, ◌-◌, nat_le, Bool, true, false, List, [], ◌∷◌, ◌++◌, Option, Some, None, refl, sym, ap, subst, ◌∙◌, append_assoc}
+use Rattle.std.proofs.Common.{◌≡◌, ℕ, zero, suc, ◌-◌, nat_le, Bool, true, false, List, [], ◌∷◌, ◌++◌, Option, Some, None, refl, sym, ap, subst, append_assoc}
 use Rattle.std.proofs.lemmas.List.{append-nil}
 use Rattle.ix_text.specs.declared.span.Span.{Span}
 use Rattle.ix_lexer.specs.declared.token.Token.{Token}
-use Rattle.ix_lexer.specs.declared.fixed.TheConstants.{IF, ELSE, WHILE, DO, FOR, BREAK, CONTINUE, RETURN, THROW, NEW, DOT, SEMICOLON, OPEN_PAREN, CLOSE_PAREN, OPEN_BRACE, CLOSE_BRACE}
+use Rattle.ix_lexer.specs.declared.fixed.TheConstants.{IF, ELSE, WHILE, DO, FOR, BREAK, CONTINUE, RETURN, THROW, NEW, SEMICOLON, OPEN_PAREN, CLOSE_PAREN, OPEN_BRACE, CLOSE_BRACE}
 use Rattle.ix_tree.specs.declared.annot.Ident.{Ident}
 use Rattle.ix_parser.specs.declared.classes.Stmts.{Stmts}
-use Rattle.ix_parser.specs.declared.found.At.{At}
 use Rattle.ix_parser.specs.declared.found.Found.{Found}
 use Rattle.ix_parser.specs.declared.found.FoundStmt.{FoundStmt}
 use Rattle.ix_parser.specs.declared.found.Several.{Several}
 use Rattle.ix_parser.specs.declared.statement_trees.Begun.{Begun}
 use Rattle.ix_parser.specs.declared.statement_trees.Begun.TheVariants.{Local, Run, Print}
-use Rattle.ix_parser.specs.Rule.{Rule, pure, take, bind, stop, loop, Turn, On, Done}
+use Rattle.ix_parser.specs.Rule.{Rule, pure, take, stop, Turn, On, Done}
 use Rattle.ix_parser.specs.Patterns.{sign, name_token, string_token, a_sign}
-use Rattle.ix_parser.specs.Lists.{IsSeparated, first_item, more_of, next_inside, braces_of}
+use Rattle.ix_parser.specs.Lists.{first_item, next_inside, braces_of}
 use Rattle.ix_parser.specs.ClassGrammar.{no_stmts, with_stmt}
 use Rattle.ix_parser.specs.ExprNodes.{no_exprs, with_expr}
-use Rattle.ix_parser.specs.ExprRules.{expr, statement_expr}
+use Rattle.ix_parser.specs.ExprRules.{statement_expr}
 use Rattle.ix_parser.specs.ExprGrammar.{Whole, IsExpr, IsStatementExpr}
 use Rattle.ix_parser.specs.StmtGrammar as g
 use Rattle.ix_parser.specs.StmtGrammar.{IsStmt, IsBlockStmt, IsStmts, IsForFirst, IsMaybe, IsUpdate, IsReason, if_stmt, if_else_stmt, while_stmt, do_stmt, one_run, with_run, one_expr}
-use Rattle.ix_parser.specs.StmtRules.{StmtParts, declared, chain, go_on, field, run_named, named_first, println_part, out_part, system_part, print_or, local_or, condition, else_part, if_rule, while_rule, do_rule, for_body, for_update, for_condition, for_part, for_rule, return_rule, throw_end, throw_rule, block_rule, finished, stmt_of, stmts_below, stmt, block_statement, begun}
+use Rattle.ix_parser.specs.StmtRules.{StmtParts, chain, go_on, field, run_named, named_first, println_part, out_part, system_part, print_or, local_or, condition, else_part, if_rule, while_rule, do_rule, for_body, for_update, for_condition, for_part, for_rule, return_rule, throw_end, throw_rule, block_rule, finished, stmt_of, stmts_below, block_statement, begun}
 use Rattle.ix_parser.proofs.SoundRules.{Sound, After, weaken, pure_sound, stop_sound, bind_sound, sign_sound, name_sound, text_sound, map_sound, loop_sound}
 use Rattle.ix_parser.proofs.ListsSound.{more_sound}
 use Rattle.ix_parser.proofs.ExprSound.{expr_sound, statement_expr_sound}

@@ -1,11 +1,10 @@
 -- What is known of a sign by the table that has it.
-use Rattle.std.proofs.Common.{◌≡◌, ℕ, zero, suc, ◌<◌, ◌==◌, Bool, true, false, cond, List, [], ◌∷◌, Option, Some, None, refl, sym, ap, subst, ◌∙◌, arith, ◌⊎◌, inl, inr, eqb-true}
+use Rattle.std.proofs.Common.{◌≡◌, ℕ, ◌<◌, ◌==◌, Bool, true, false, cond, List, [], ◌∷◌, Option, Some, None, refl, arith, inl, inr, eqb-true}
 use Rattle.ix_text.specs.declared.span.Span.{Span}
 use Rattle.ix_lexer.specs.declared.token.Token.{Token}
 use Rattle.ix_tree.specs.declared.expr.BinaryOp.{BinaryOp}
-use Rattle.ix_parser.specs.declared.found.At.{At}
 use Rattle.ix_parser.specs.Rule.{look}
-use Rattle.ix_parser.specs.Patterns.{sign, a_sign, fixed_of, row, with_span, one_of, an_operator, operator_of, at_level, binary_signs}
+use Rattle.ix_parser.specs.Patterns.{sign, a_sign, row, with_span, one_of, an_operator, binary_signs}
 use Rattle.ix_parser.proofs.Runs.{chosen}
 
 -- no sign of the table is in the other one

@@ -1,5 +1,5 @@
 -- Types that are in the grammar are read, where there is room for them and no bracket and no annotation follows.
-use Rattle.std.proofs.Common.{◌≡◌, ℕ, ◌<◌, ◌≤◌, ◌+◌, ◌-◌, ◌==◌, nat_le, max, Bool, true, false, List, [], ◌∷◌, ◌++◌, length, Option, Some, None, Result, Ok, Err, refl, sym, ap, subst, ◌∙◌, append_assoc, arith, length-append}
+use Rattle.std.proofs.Common.{◌≡◌, ℕ, ◌≤◌, ◌+◌, ◌-◌, ◌==◌, max, true, false, List, [], ◌∷◌, ◌++◌, None, Ok, refl, ap, ◌∙◌, append_assoc, arith}
 use Rattle.std.proofs.lemmas.Bool.{le-leb}
 use Rattle.ix_text.specs.declared.span.Span.{Span}
 use Rattle.ix_lexer.specs.declared.token.Token.{Token}
@@ -11,11 +11,11 @@ use Rattle.ix_tree.specs.declared.annot.BaseTree.TheVariants.{Int, Boolean, Name
 use Rattle.ix_parser.specs.declared.found.At.{At}
 use Rattle.ix_parser.specs.declared.found.FoundType.{FoundType}
 use Rattle.ix_parser.specs.declared.found.Notes.{Notes}
-use Rattle.ix_parser.specs.Rule.{Rule, pure, take, bind, stop, loop, Turn, On, Done, Outcome, Parser, and_then, look, run}
-use Rattle.ix_parser.specs.Patterns.{sign, name_token, a_sign, a_name}
+use Rattle.ix_parser.specs.Rule.{Rule, pure, take, stop, loop, On, Done, Outcome, Parser, and_then, look, run}
+use Rattle.ix_parser.specs.Patterns.{sign, name_token, a_sign}
 use Rattle.ix_parser.specs.Lists.{no_item, one_more}
 use Rattle.ix_parser.specs.AnnotGrammar.{IsAnnot, IsNotes, no_notes, with_note, annot_height}
-use Rattle.ix_parser.specs.AnnotRules.{next_annot, annot_behind, annots_from}
+use Rattle.ix_parser.specs.AnnotRules.{next_annot, annots_from}
 use Rattle.ix_parser.specs.TypeGrammar as grammar
 use Rattle.ix_parser.specs.TypeGrammar.{IsBase, IsPairs, IsTypeRest, IsType, based, base_height, counted, array_of, plain_type}
 use Rattle.ix_parser.specs.TypeRules.{next_pair, pairs, brackets, noted_array, type_rest, type_tree}

@@ -79,16 +79,18 @@ pairs_lie lo hi _ _ (grammar.more_pairs {tokens} left right p) o =
 -- behind a base
 pub type_rest_stands : (lo mid hi n : ℕ) (base : At BaseTree) (ts : List Token) (ty : FoundType) → IsTypeRest base ts ty → Lies lo mid base.span → Stand lo mid n (base_parts base.value) → InOrder mid hi ts
     → Lies lo hi ty.ty.span × Stand lo hi (n + length ts) (type_parts ty.ty)
-type_rest_stands lo mid hi n base _ _ grammar.no_rest l s o =
-    ((l.0, l.1, omega (arith, l.2, o)),
-    stand_two lo mid hi hi n 0 (n + 0) (base_parts base.value) (listed (each annot_parts [])) s (stand_no_entries annot_parts hi hi 0) (omega (arith, l.0, l.1, l.2)) o (omega arith) (omega arith))
+type_rest_stands lo mid hi n base _ _ grammar.no_rest l s o = (
+  (l.0, l.1, omega (arith, l.2, o)),
+  stand_two lo mid hi hi n 0 (n + 0) (base_parts base.value) (listed (each annot_parts [])) s (stand_no_entries annot_parts hi hi 0) (omega (arith, l.0, l.1, l.2)) o (omega arith) (omega arith),
+)
 type_rest_stands lo mid hi n base _ _ (grammar.array {before} {tokens} {notes} {pairs} d p) l s o =
     let (next, a, b, q, r) = order_both mid hi before tokens o in
-    let last = pairs_lie next hi tokens pairs p r in
-    ((l.0, omega (arith, l.1, l.2, a, last.0, last.1), last.2),
-    stand_two lo mid mid hi n (length before) (n + length (before ++ tokens)) (base_parts base.value) (listed (each annot_parts notes.annots)) s
-    (stand_more mid next (length before) mid hi (length before) (listed (each annot_parts notes.annots)) (omega arith) b (omega arith) (notes_stand mid next before notes d q))
-    (omega (arith, l.0, l.1, l.2)) (omega arith) (omega (arith, a, b)) (omega (arith, length-append before tokens)))
+    let last = pairs_lie next hi tokens pairs p r in (
+      (l.0, omega (arith, l.1, l.2, a, last.0, last.1), last.2),
+      stand_two lo mid mid hi n (length before) (n + length (before ++ tokens)) (base_parts base.value) (listed (each annot_parts notes.annots)) s
+          (stand_more mid next (length before) mid hi (length before) (listed (each annot_parts notes.annots)) (omega arith) b (omega arith) (notes_stand mid next before notes d q))
+          (omega (arith, l.0, l.1, l.2)) (omega arith) (omega (arith, a, b)) (omega (arith, length-append before tokens)),
+    )
 
 pub type_stands : (lo hi : ℕ) (ts : List Token) (ty : FoundType) → IsType ts ty → InOrder lo hi ts → Lies lo hi ty.ty.span × Stand lo hi (length ts) (type_parts ty.ty)
 type_stands lo hi _ _ (grammar.type {before} {tokens} {base} {ty} b d) o =

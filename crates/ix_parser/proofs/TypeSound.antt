@@ -1,24 +1,24 @@
 -- Types that are read are in the grammar, and as high as is left at most.
-use Rattle.std.proofs.Common.{◌≡◌, ℕ, ◌≤◌, ◌+◌, ◌-◌, nat_le, max, Bool, true, false, List, [], ◌∷◌, ◌++◌, Option, Some, None, refl, sym, ap, subst, ◌∙◌, arith, append_assoc}
+use Rattle.std.proofs.Common.{ℕ, ◌≤◌, ◌+◌, ◌-◌, max, List, [], ◌∷◌, ◌++◌, sym, subst, arith}
 use Rattle.std.proofs.lemmas.List.{append-nil}
 use Rattle.std.proofs.lemmas.Bool.{leb-true}
 use Rattle.ix_text.specs.declared.span.Span.{Span}
 use Rattle.ix_lexer.specs.declared.token.Token.{Token}
-use Rattle.ix_lexer.specs.declared.fixed.TheConstants.{AT, INT, BOOLEAN, OPEN_BRACKET, CLOSE_BRACKET}
+use Rattle.ix_lexer.specs.declared.fixed.TheConstants.{AT, OPEN_BRACKET, CLOSE_BRACKET}
 use Rattle.ix_tree.specs.declared.annot.BaseTree.{BaseTree}
 use Rattle.ix_tree.specs.declared.annot.BaseTree.TheVariants.{Int, Boolean, Named}
 use Rattle.ix_parser.specs.declared.found.At.{At}
 use Rattle.ix_parser.specs.declared.found.FoundType.{FoundType}
 use Rattle.ix_parser.specs.declared.found.Notes.{Notes}
-use Rattle.ix_parser.specs.Rule.{Rule, pure, take, bind, stop, loop, Turn, On, Done}
-use Rattle.ix_parser.specs.Patterns.{sign, name_token}
+use Rattle.ix_parser.specs.Rule.{bind}
+use Rattle.ix_parser.specs.Patterns.{sign}
 use Rattle.ix_parser.specs.Lists.{no_item, one_more}
 use Rattle.ix_parser.specs.AnnotGrammar.{IsNotes, no_notes, with_note}
 use Rattle.ix_parser.specs.AnnotRules.{annot_behind, annots_from}
 use Rattle.ix_parser.specs.TypeGrammar as grammar
 use Rattle.ix_parser.specs.TypeGrammar.{IsBase, IsPairs, IsTypeRest, IsType, based, base_height, counted, array_of, plain_type}
 use Rattle.ix_parser.specs.TypeRules.{next_pair, pairs, brackets, noted_array, type_rest, type_tree}
-use Rattle.ix_parser.proofs.SoundRules.{Sound, weaken, pure_sound, stop_sound, bind_sound, sign_sound, name_sound, loop_sound, After}
+use Rattle.ix_parser.proofs.SoundRules.{Sound, weaken, pure_sound, stop_sound, bind_sound, sign_sound, loop_sound, After}
 use Rattle.ix_parser.proofs.ListsSound.{sign_fits, name_fits}
 use Rattle.ix_parser.proofs.AnnotSound.{NotedAll, annot_behind_sound, annots_from_sound}
 

@@ -1,5 +1,5 @@
 -- How annotations are read (JLS 9.7). The number is the height that is left for an annotation.
-use Rattle.std.specs.Prelude.{ℕ, ℤ, neg_ℤ, negsuc, nat_le, true, List, [], ◌∷◌}
+use Rattle.std.specs.Prelude.{ℕ, neg_ℤ, negsuc, nat_le, true, List, [], ◌∷◌}
 use Rattle.ix_text.specs.declared.span.Span.{Span}
 use Rattle.ix_lexer.specs.declared.fixed.TheConstants.{AT, ASSIGN, MINUS, OPEN_BRACE, CLOSE_BRACE, OPEN_PAREN, CLOSE_PAREN}
 use Rattle.ix_tree.specs.declared.annot.Ident.{Ident}

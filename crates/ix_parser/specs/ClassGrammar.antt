@@ -4,16 +4,10 @@ use Rattle.ix_text.specs.declared.span.Span.{Span}
 use Rattle.ix_lexer.specs.declared.token.Token.{Token}
 use Rattle.ix_lexer.specs.declared.fixed.TheConstants.{CLASS, EXTENDS, FINAL, IMPORT, PACKAGE, PUBLIC, STATIC, SUPER, VOID, OPEN_BRACE, CLOSE_BRACE, SEMICOLON, DOT, TIMES}
 use Rattle.ix_tree.specs.declared.annot.Ident.{Ident}
-use Rattle.ix_tree.specs.declared.annot.Mods.{Mods}
 use Rattle.ix_tree.specs.declared.annot.TypeTree.{TypeTree}
-use Rattle.ix_tree.specs.declared.annot.BaseTree.TheVariants.{Named}
-use Rattle.ix_tree.specs.declared.decl.ClassDecl.{ClassDecl}
 use Rattle.ix_tree.specs.declared.decl.LocalDecl.{LocalDecl}
 use Rattle.ix_tree.specs.declared.decl.Member.{Member}
 use Rattle.ix_tree.specs.declared.decl.Member.TheVariants.{Field, Method}
-use Rattle.ix_tree.specs.declared.decl.MethodDecl.{MethodDecl}
-use Rattle.ix_tree.specs.declared.decl.Unit.{Unit as Source}
-use Rattle.ix_tree.specs.declared.expr.Expr.{Expr}
 use Rattle.ix_parser.specs.Nodes.{across}
 use Rattle.ix_parser.specs.declared.classes.Behind.{Behind}
 use Rattle.ix_parser.specs.declared.classes.Body.{Body}
@@ -30,7 +24,7 @@ use Rattle.ix_parser.specs.declared.found.FoundInit.{FoundInit}
 use Rattle.ix_parser.specs.declared.found.FoundStmt.{FoundStmt}
 use Rattle.ix_parser.specs.declared.found.FoundType.{FoundType}
 use Rattle.ix_parser.specs.Patterns.{sign, name_token}
-use Rattle.ix_parser.specs.Lists.{IsSeparated, IsRepeated}
+use Rattle.ix_parser.specs.Lists.{IsRepeated}
 use Rattle.ix_parser.specs.TypeGrammar.{IsType}
 use Rattle.ix_parser.specs.DeclGrammar.{earlier, begins, IsMods, member_words, IsDecls, IsParams, IsThrows, shared, nothing_more}
 

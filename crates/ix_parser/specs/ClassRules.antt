@@ -1,7 +1,7 @@
 -- How members, classes and whole sources are read (JLS 7.3 to 7.5, 8.1, 8.3, 8.4, 8.8).
 use Rattle.std.specs.Prelude.{ℕ, ◌+◌, ◌-◌, nat_le, Bool, true, false, Option, Some, None}
 use Rattle.ix_text.specs.declared.span.Span.{Span}
-use Rattle.ix_lexer.specs.declared.fixed.TheConstants.{CLASS, EXTENDS, FINAL, IMPORT, PACKAGE, PUBLIC, STATIC, SUPER, VOID, OPEN_PAREN, OPEN_BRACE, CLOSE_BRACE, SEMICOLON, DOT, TIMES}
+use Rattle.ix_lexer.specs.declared.fixed.TheConstants.{CLASS, EXTENDS, FINAL, IMPORT, PACKAGE, PUBLIC, STATIC, SUPER, VOID, OPEN_PAREN, OPEN_BRACE, SEMICOLON, DOT, TIMES}
 use Rattle.ix_tree.specs.declared.annot.Ident.{Ident}
 use Rattle.ix_tree.specs.declared.annot.BaseTree.TheVariants.{Named}
 use Rattle.ix_parser.specs.declared.classes.Behind.{Behind}

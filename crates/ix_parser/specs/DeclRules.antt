@@ -1,6 +1,5 @@
 -- How modifiers, parameters and declarators are read (JLS 8.3, 8.4.1, 8.4.6, 14.4).
 use Rattle.std.specs.Prelude.{ℕ, ◌-◌, nat_le, true, List}
-use Rattle.ix_text.specs.declared.span.Span.{Span}
 use Rattle.ix_lexer.specs.declared.fixed.TheConstants.{AT, ASSIGN, THROWS, CLOSE_PAREN}
 use Rattle.ix_tree.specs.declared.annot.Ident.{Ident}
 use Rattle.ix_parser.specs.declared.declarations.FoundDecl.{FoundDecl}
@@ -8,10 +7,8 @@ use Rattle.ix_parser.specs.declared.declarations.FoundMods.{FoundMods}
 use Rattle.ix_parser.specs.declared.declarations.Params.{Params}
 use Rattle.ix_parser.specs.declared.declarations.Shared.{Shared}
 use Rattle.ix_parser.specs.declared.declarations.Word.{Word}
-use Rattle.ix_parser.specs.declared.found.At.{At}
 use Rattle.ix_parser.specs.declared.found.FoundDecls.{FoundDecls}
 use Rattle.ix_parser.specs.declared.found.FoundInit.{FoundInit}
-use Rattle.ix_parser.specs.declared.found.FoundType.{FoundType}
 use Rattle.ix_parser.specs.Rule.{Rule, pure, take, bind, stop, loop, Turn, On, Done}
 use Rattle.ix_parser.specs.Patterns.{a_sign, a_name, one_of}
 use Rattle.ix_parser.specs.Lists.{more_of}

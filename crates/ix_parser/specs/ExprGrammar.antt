@@ -1,6 +1,6 @@
 -- The grammar of expressions as a relation between lists of tokens and nodes: one case per alternative, which splits the list (JLS 15, 19).
 -- A node comes with its height, what it may be used as, and the place of its tokens, parentheses included.
-use Rattle.std.specs.Prelude.{◌≡◌, ℕ, ℤ, ◌+◌, zero, suc, Bool, true, false, List, [], ◌∷◌, ◌++◌, Option, Some, None}
+use Rattle.std.specs.Prelude.{◌≡◌, ℕ, ℤ, ◌+◌, suc, Bool, true, false, List, [], ◌∷◌, ◌++◌, Option, Some}
 use Rattle.ix_text.specs.declared.span.Span.{Span}
 use Rattle.ix_num.specs.declared.arith.Arith.{Arith}
 use Rattle.ix_lexer.specs.declared.token.Token.{Token}

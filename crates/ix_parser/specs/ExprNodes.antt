@@ -1,9 +1,8 @@
 -- The nodes of expressions, with their heights: a node is 1 higher than the highest of its parts.
-use Rattle.std.specs.Prelude.{ℕ, ℤ, negsuc, ◌+◌, max, Bool, true, false, List, [], ◌∷◌, ◌++◌, Option, Some, None}
+use Rattle.std.specs.Prelude.{ℕ, negsuc, ◌+◌, max, Bool, true, false, List, [], ◌∷◌, ◌++◌, Option, Some, None}
 use Rattle.ix_text.specs.declared.span.Span.{Span}
 use Rattle.ix_num.specs.declared.arith.Arith.{Arith}
 use Rattle.ix_tree.specs.declared.annot.Ident.{Ident}
-use Rattle.ix_tree.specs.declared.annot.TypeTree.{TypeTree}
 use Rattle.ix_tree.specs.declared.expr.BinaryOp.{BinaryOp}
 use Rattle.ix_tree.specs.declared.expr.UnaryOp.{UnaryOp}
 use Rattle.ix_tree.specs.declared.expr.ExprKind.{ExprKind}

@@ -1,6 +1,5 @@
 -- How a whole source is read: the rules of members and classes over those of expressions and statements.
 use Rattle.std.specs.Prelude.{ℕ, true}
-use Rattle.ix_text.specs.declared.span.Span.{Span}
 use Rattle.ix_lexer.specs.declared.fixed.TheConstants.{OPEN_PAREN}
 use Rattle.ix_parser.specs.declared.found.Args.{Args}
 use Rattle.ix_parser.specs.declared.classes.FoundUnit.{FoundUnit}

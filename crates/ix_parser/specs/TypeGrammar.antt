@@ -6,13 +6,12 @@ use Rattle.ix_lexer.specs.declared.fixed.TheConstants.{INT, BOOLEAN, OPEN_BRACKE
 use Rattle.ix_tree.specs.declared.annot.Ident.{Ident}
 use Rattle.ix_tree.specs.declared.annot.BaseTree.{BaseTree}
 use Rattle.ix_tree.specs.declared.annot.BaseTree.TheVariants.{Int, Boolean, Named}
-use Rattle.ix_tree.specs.declared.annot.TypeTree.{TypeTree}
 use Rattle.ix_parser.specs.Nodes.{across}
 use Rattle.ix_parser.specs.declared.found.At.{At}
 use Rattle.ix_parser.specs.declared.found.FoundType.{FoundType}
 use Rattle.ix_parser.specs.declared.found.Notes.{Notes}
 use Rattle.ix_parser.specs.Patterns.{sign, name_token}
-use Rattle.ix_parser.specs.AnnotGrammar.{IsNotes, no_notes}
+use Rattle.ix_parser.specs.AnnotGrammar.{IsNotes}
 
 -- ---- nodes and their heights
 

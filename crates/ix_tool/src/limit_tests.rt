@@ -1,6 +1,6 @@
 //! Sources that end too early, and sources at a limit and one past it.
-use crate::tests::{Ended, GET, run};
 use crate::Status;
+use crate::tests::{Ended, GET, run};
 use std::alloc::{AllocError, Global};
 use std::test::Fail;
 
@@ -44,11 +44,17 @@ fn most_tokens(rt: HostRuntime) -> Result<(), Fail> {
     let alloc = rt.alloc();
     let at_most = check(alloc, repeated(alloc, ";", 200_000)?.as_str())?;
     assert_eq!(rt; at_most.status, Status::Rejected);
-    assert_eq!(rt; at_most.out.as_slice(), line(alloc, 1, "syntax")?.as_bytes());
+    assert_eq!(rt;
+        at_most.out.as_slice(),
+        line(alloc, 1, "syntax")?.as_bytes()
+    );
     let past = check(alloc, repeated(alloc, ";", 200_001)?.as_str())?;
     assert_eq!(rt; past.status, Status::Limit);
     assert_eq!(rt; past.out.as_slice(), b"".as_slice());
-    assert_eq!(rt; past.err.as_slice(), b"A.java:1:200001: limit: tokens\n".as_slice());
+    assert_eq!(rt;
+        past.err.as_slice(),
+        b"A.java:1:200001: limit: tokens\n".as_slice()
+    );
     Ok(())
 }
 
@@ -62,11 +68,17 @@ fn nested(alloc: Global, count: usize) -> Result<String, AllocError> {
 #[test]
 fn greatest_height(rt: HostRuntime) -> Result<(), Fail> {
     let alloc = rt.alloc();
-    assert_eq!(rt; check(alloc, nested(alloc, 197)?.as_str())?.status, Status::Unbuilt);
+    assert_eq!(rt;
+        check(alloc, nested(alloc, 197)?.as_str())?.status,
+        Status::Unbuilt
+    );
     let past = check(alloc, nested(alloc, 198)?.as_str())?;
     assert_eq!(rt; past.status, Status::Limit);
     assert_eq!(rt; past.out.as_slice(), b"".as_slice());
-    assert_eq!(rt; past.err.as_slice(), b"A.java:1:226: limit: height\n".as_slice());
+    assert_eq!(rt;
+        past.err.as_slice(),
+        b"A.java:1:226: limit: height\n".as_slice()
+    );
     Ok(())
 }
 
@@ -78,6 +90,9 @@ fn most_bytes(rt: HostRuntime) -> Result<(), Fail> {
     let past = check(alloc, repeated(alloc, " ", 1_048_577)?.as_str())?;
     assert_eq!(rt; past.status, Status::Limit);
     assert_eq!(rt; past.out.as_slice(), b"".as_slice());
-    assert_eq!(rt; past.err.as_slice(), b"A.java: limit: source bytes\n".as_slice());
+    assert_eq!(rt;
+        past.err.as_slice(),
+        b"A.java: limit: source bytes\n".as_slice()
+    );
     Ok(())
 }

@@ -3,7 +3,8 @@ use ix_text::{List, Text};
 use std::alloc::{AllocError, AllocFailed, Global};
 use std::test::Fail;
 
-pub(crate) const GET: &str = "class A { static int get(int[] a, @IndexFor(\"#1\") int i) { return a[i]; } }";
+pub(crate) const GET: &str =
+    "class A { static int get(int[] a, @IndexFor(\"#1\") int i) { return a[i]; } }";
 
 const ACCEPTED: &str = "accepted: 1 methods, 1 accesses\n";
 

@@ -1,5 +1,5 @@
-use Rattle.std.proofs.Common.{rules, sym, subst, ◌∙◌, ap, inl, length}
-use Rattle.ix_parser.specs.Refusals.{HasTree, Refused, NoneGoesOn}
+use Rattle.std.proofs.Common.{rules, sym, subst, ◌∙◌, inl}
+use Rattle.ix_parser.specs.Refusals.{Refused, NoneGoesOn}
 use Rattle.ix_parser.proofs.Refusing as refusing
 use Rattle.ix_parser.proofs.parse_tree.parse.Goals as goal
 

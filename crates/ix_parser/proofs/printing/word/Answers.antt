@@ -1,4 +1,4 @@
-use Rattle.std.proofs.Common.{rules, sym, ◌∙◌}
+use Rattle.std.proofs.Common.{rules, sym}
 use Rattle.std.specs.Cmp.Lexicographic.{same_text, other_text}
 use Rattle.ix_parser.proofs.Words.{this_word, other_word}
 use Rattle.ix_parser.proofs.printing.word.Goals as goal
