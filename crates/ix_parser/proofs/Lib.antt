@@ -45,3 +45,4 @@ mod TreeParts
 mod AnnotPlaces
 mod TypePlaces
 mod ExprPlaces
+mod DeclPlaces
