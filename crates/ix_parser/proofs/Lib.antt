@@ -46,3 +46,4 @@ mod AnnotPlaces
 mod TypePlaces
 mod ExprPlaces
 mod DeclPlaces
+mod StmtPlaces
