@@ -3,11 +3,10 @@ use Rattle.std.proofs.Common.{◌≡◌, ◌≤◌, ◌<◌, ◌+◌, ℕ, suc, 
 use Rattle.std.proofs.lemmas.List.{append-nil}
 use Rattle.ix_text.specs.declared.span.Span.{Span}
 use Rattle.ix_lexer.specs.declared.token.Token.{Token}
-use Rattle.ix_lexer.specs.declared.fixed.TheConstants.{COMMA, ASSIGN, CLOSE_PAREN}
+use Rattle.ix_lexer.specs.declared.fixed.TheConstants.{COMMA, CLOSE_PAREN}
 use Rattle.ix_lexer.specs.Spans.{InOrder}
 use Rattle.ix_tree.specs.declared.annot.Ident.{Ident}
 use Rattle.ix_tree.specs.declared.decl.LocalDecl.{LocalDecl}
-use Rattle.ix_tree.specs.declared.expr.Init.{Init}
 use Rattle.ix_tree.specs.Parts.{Part, expression, statement, declaration, in_type, elsewhere, entries, Apart, All, AllApart, declarations, nodes, together, listed, each, maybe, annot_parts, mods_parts, type_parts, init_parts, decl_parts}
 use Rattle.ix_parser.specs.declared.declarations.FoundDecl.{FoundDecl}
 use Rattle.ix_parser.specs.declared.declarations.FoundMods.{FoundMods}
@@ -16,11 +15,9 @@ use Rattle.ix_parser.specs.declared.declarations.Shared.{Shared}
 use Rattle.ix_parser.specs.declared.declarations.Word.{Word}
 use Rattle.ix_parser.specs.declared.declarations.Word.TheVariants.{Open, Private, Static, Final}
 use Rattle.ix_parser.specs.declared.found.FoundDecls.{FoundDecls}
-use Rattle.ix_parser.specs.declared.found.FoundInit.{FoundInit}
 use Rattle.ix_parser.specs.declared.found.FoundType.{FoundType}
 use Rattle.ix_parser.specs.Patterns.{sign, name_token}
 use Rattle.ix_parser.specs.Lists.{IsSeparated, IsRepeated, first_item, next_item, no_item, one_more}
-use Rattle.ix_parser.specs.AnnotGrammar.{IsAnnot}
 use Rattle.ix_parser.specs.TypeGrammar.{IsType}
 use Rattle.ix_parser.specs.ExprGrammar.{IsInit}
 use Rattle.ix_parser.specs.DeclGrammar as g
@@ -87,7 +84,7 @@ mods_stand words lo hi _ _ (g.annot {before} {tokens} {found} {annot} d x) o =
 
 -- ---- parts apart
 
-all_each : (P Q : Part → Type 0) → ((p : Part) → P p → Q p) → (ps : List Part) → All P ps → All Q ps
+pub all_each : (P Q : Part → Type 0) → ((p : Part) → P p → Q p) → (ps : List Part) → All P ps → All Q ps
 all_each P Q more [] a = tt
 all_each P Q more (p ∷ ps) (a, b) = (more p a, all_each P Q more ps b)
 

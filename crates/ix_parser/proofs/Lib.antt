@@ -47,3 +47,5 @@ mod TypePlaces
 mod ExprPlaces
 mod DeclPlaces
 mod StmtPlaces
+mod ClassPlaces
+mod SourcePlaces
