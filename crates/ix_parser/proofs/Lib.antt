@@ -45,3 +45,7 @@ mod TreeParts
 mod AnnotPlaces
 mod TypePlaces
 mod ExprPlaces
+mod DeclPlaces
+mod StmtPlaces
+mod ClassPlaces
+mod SourcePlaces
