@@ -24,7 +24,7 @@ use Rattle.ix_parser.specs.DeclGrammar as g
 use Rattle.ix_parser.specs.DeclGrammar.{IsMods, IsDecl, IsDecls, IsParam, IsParams, marked, earlier, begins, shared, one_decl, with_decl, one_param, with_param}
 use Rattle.ix_parser.proofs.OrderPlaces.{order_within, order_both}
 use Rattle.ix_parser.proofs.ListPlaces.{stand_two, stand_joined, stand_alone, stand_no_entries}
-use Rattle.ix_parser.proofs.Places.{Lies, Inside, Short, Stand, stand_more, stand_none, stand_entries, stand_declaration, stand_elsewhere}
+use Rattle.ix_parser.proofs.Places.{Lies, Inside, Short, Stand, stand_more, stand_none, stand_entries, stand_declaration, stand_elsewhere, all_more, all_both}
 use Rattle.ix_parser.proofs.AnnotPlaces.{annot_stands, annot_tokens}
 use Rattle.ix_parser.proofs.TypePlaces.{InTypes, notes_in_type, type_in_type, type_stands}
 use Rattle.ix_parser.proofs.ExprPlaces.{init_stands}
@@ -84,17 +84,9 @@ mods_stand words lo hi _ _ (g.annot {before} {tokens} {found} {annot} d x) o =
 
 -- ---- parts apart
 
-pub all_each : (P Q : Part → Type 0) → ((p : Part) → P p → Q p) → (ps : List Part) → All P ps → All Q ps
-all_each P Q more [] a = tt
-all_each P Q more (p ∷ ps) (a, b) = (more p a, all_each P Q more ps b)
-
 all_with : (P Q R : Part → Type 0) → ((p : Part) → P p → Q p → R p) → (ps : List Part) → All P ps → All Q ps → All R ps
 all_with P Q R more [] a b = tt
 all_with P Q R more (p ∷ ps) (a, xs) (b, ys) = (more p a b, all_with P Q R more ps xs ys)
-
-all_of_both : (P : Part → Type 0) (ps qs : List Part) → All P ps → All P qs → All P (ps ++ qs)
-all_of_both P [] qs a b = b
-all_of_both P (p ∷ ps) qs (a, c) b = (a, all_of_both P ps qs c b)
 
 all_behind : (P : Part → Type 0) (ps qs : List Part) → All P (ps ++ qs) → All P qs
 all_behind P [] qs a = a
@@ -110,7 +102,7 @@ apart_split (p ∷ ps) qs (x, xs) = let (a, b) = apart_split ps qs xs in ((all_b
 
 apart_joined : (ps qs : List Part) → AllApart ps → AllApart qs → Across ps qs → AllApart (ps ++ qs)
 apart_joined [] qs a b c = b
-apart_joined (p ∷ ps) qs (x, xs) b (c, cs) = (all_of_both (Apart p) ps qs x c, apart_joined ps qs xs b cs)
+apart_joined (p ∷ ps) qs (x, xs) b (c, cs) = (all_both (Apart p) ps qs x c, apart_joined ps qs xs b cs)
 
 -- ---- of several copies of the parts of modifiers and types
 
@@ -145,13 +137,13 @@ turned [] [] i a = tt
 turned [] (q ∷ qs) i a = (tt, turned [] qs tt tt)
 turned (p ∷ ps) qs (i, is) (a, xs) =
     all_with (λ q. Apart q p) (λ q. All (Apart q) ps) (λ q. All (Apart q) (p ∷ ps)) (λ q x y. (x, y)) qs
-    (all_each (Apart p) (λ q. Apart q p) (λ q. turned_part p q i) qs a) (turned ps qs is xs)
+    (all_more (Apart p) (λ q. Apart q p) (λ q. turned_part p q i) qs a) (turned ps qs is xs)
 
 with_copy : (ts : List Part) → All InTypes ts → AllApart ts → Across ts ts
 with_copy [] i a = tt
 with_copy (t ∷ ts) (i, is) (a, xs) =
     ((with_itself t i, a), all_with (λ q. Apart q t) (λ q. All (Apart q) ts) (λ q. All (Apart q) (t ∷ ts)) (λ q x y. (x, y)) ts
-    (all_each (Apart t) (λ q. Apart q t) (λ q. turned_part t q i) ts a) (with_copy ts is xs))
+    (all_more (Apart t) (λ q. Apart q t) (λ q. turned_part t q i) ts a) (with_copy ts is xs))
 
 -- they are neither declarations nor nodes
 
@@ -205,15 +197,15 @@ shared_more lo mid hi next end n k m ts ps own t is p copies o a b c d le =
     let ow = wider o lo end (k + m) (omega (arith, a, b, c)) (omega arith) (omega arith) in
     (record {
       apart = apart_joined ps (declaration ∷ (ts ++ own)) p.apart
-          (all_of_both (Apart declaration) ts own first behind.0,
-          apart_joined ts own t.apart behind.1 (all_each (λ q. All (Apart q) (declaration ∷ own)) (λ q. All (Apart q) own) (λ q z. z.1) ts shared))
+          (all_both (Apart declaration) ts own first behind.0,
+          apart_joined ts own t.apart behind.1 (all_more (λ q. All (Apart q) (declaration ∷ own)) (λ q. All (Apart q) own) (λ q z. z.1) ts shared))
           (all_with (λ q. All (Apart q) (declaration ∷ own)) (λ q. All (Apart q) ts) (λ q. All (Apart q) (declaration ∷ (ts ++ own)))
-          (λ q z w. (z.0, all_of_both (Apart q) ts own w z.1)) ps before copies);
-      inside = all_of_both (Inside lo end) ps (declaration ∷ (ts ++ own)) pw.inside (tt, all_of_both (Inside lo end) ts own tw.inside ow.inside.1);
-      short = all_of_both (Short (k + m)) ps (declaration ∷ (ts ++ own)) pw.short (tt, all_of_both (Short (k + m)) ts own tw.short ow.short.1);
+          (λ q z w. (z.0, all_both (Apart q) ts own w z.1)) ps before copies);
+      inside = all_both (Inside lo end) ps (declaration ∷ (ts ++ own)) pw.inside (tt, all_both (Inside lo end) ts own tw.inside ow.inside.1);
+      short = all_both (Short (k + m)) ps (declaration ∷ (ts ++ own)) pw.short (tt, all_both (Short (k + m)) ts own tw.short ow.short.1);
       few_declarations = omega (arith, x.few_declarations, same_declarations ps (declaration ∷ (ts ++ own)) (declaration ∷ own) (ap (λ n. suc n) (no_declarations ts own is)));
       few_nodes = omega (arith, x.few_nodes, same_nodes ps (declaration ∷ (ts ++ own)) (declaration ∷ own) (no_nodes ts own is));
-    }, all_of_both (λ q. All (Apart q) ts) ps (declaration ∷ (ts ++ own)) copies (first, all_of_both (λ q. All (Apart q) ts) ts own (with_copy ts is t.apart) later))
+    }, all_both (λ q. All (Apart q) ts) ps (declaration ∷ (ts ++ own)) copies (first, all_both (λ q. All (Apart q) ts) ts own (with_copy ts is t.apart) later))
 
 -- ---- lists of parts, joined
 
@@ -235,7 +227,7 @@ abbrev pub shared_parts : Shared → List Part
 shared_parts all = mods_parts all.mods ++ type_parts all.ty
 
 shared_in_type : (all : Shared) → All InTypes (shared_parts all)
-shared_in_type all = all_of_both InTypes (mods_parts all.mods) (type_parts all.ty) (notes_in_type all.mods.annots) (type_in_type all.ty)
+shared_in_type all = all_both InTypes (mods_parts all.mods) (type_parts all.ty) (notes_in_type all.mods.annots) (type_in_type all.ty)
 
 abbrev pub own_parts : LocalDecl → List Part
 own_parts decl = elsewhere decl.name ∷ maybe init_parts decl.init

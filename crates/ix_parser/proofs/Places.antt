@@ -28,11 +28,11 @@ pub record Stand (lo hi n : ℕ) (ps : List Part) : Type 0 where
 
 -- ---- lists
 
-all_more : (P Q : Part → Type 0) → ((p : Part) → P p → Q p) → (ps : List Part) → All P ps → All Q ps
+pub all_more : (P Q : Part → Type 0) → ((p : Part) → P p → Q p) → (ps : List Part) → All P ps → All Q ps
 all_more P Q more [] a = tt
 all_more P Q more (p ∷ ps) (a, b) = (more p a, all_more P Q more ps b)
 
-all_both : (P : Part → Type 0) (ps qs : List Part) → All P ps → All P qs → All P (ps ++ qs)
+pub all_both : (P : Part → Type 0) (ps qs : List Part) → All P ps → All P qs → All P (ps ++ qs)
 all_both P [] qs a b = b
 all_both P (p ∷ ps) qs (a, c) b = (a, all_both P ps qs c b)
 

@@ -14,6 +14,8 @@ use Rattle.ix_parser.specs.SourceRules.{source}
 use Rattle.ix_parser.specs.Begins.{NoneBegins}
 use Rattle.ix_parser.specs.Refusals.{HasTree, Refused, no_further, left_over, too_deep, NoneGoesOn, IsWithin, place, error_at}
 use Rattle.ix_parser.proofs.Runs.{local, left_of, same_ok}
+use Rattle.ix_tree.specs.Parts.{CanResolve}
+use Rattle.ix_parser.proofs.SourcePlaces.{source_can_resolve}
 use Rattle.ix_parser.proofs.SourceLaws.{source_is, source_is_read, none_begins, none_goes_on}
 
 -- ---- what is too high is a token
@@ -110,6 +112,10 @@ only_over tokens left found _ h (too_deep {later} {token} same) = absurd (not_bo
 pub has_tree : (tokens left : List Token) (found : FoundUnit) → length left ≡ 0 → run source tokens ≡ Ok (found, left) → HasTree tokens found.unit
 has_tree tokens [] found none h = (found.height, source_is tokens found h)
 has_tree tokens (token ∷ later) found none h = absurd (omega (arith, none))
+
+pub can_resolve : (tokens left : List Token) (found : FoundUnit) (end : ℕ) → length left ≡ 0 → run source tokens ≡ Ok (found, left) → InOrder 0 end tokens → length tokens ≤ 200000 → CanResolve found.unit
+can_resolve tokens [] found end none h order few = let (is, low) = source_is tokens found h in source_can_resolve tokens found end is order few
+can_resolve tokens (token ∷ later) found end none h order few = absurd (omega (arith, none))
 
 pub only_tree : (tokens left : List Token) (found : FoundUnit) (unit : Source) → run source tokens ≡ Ok (found, left) → HasTree tokens unit → (length left ≡ 0) × (found.unit ≡ unit)
 only_tree tokens left found unit h (height, low) =

@@ -8,8 +8,8 @@ use Rattle.ix_parser.specs.declared.classes.FoundUnit.{FoundUnit}
 use Rattle.ix_parser.specs.ClassGrammar.{IsClass, program, no_classes, with_class}
 use Rattle.ix_parser.specs.SourceGrammar.{source_parts, IsSource}
 use Rattle.ix_parser.proofs.OrderPlaces.{order_both}
-use Rattle.ix_parser.proofs.Places.{Short, Stand}
-use Rattle.ix_parser.proofs.DeclPlaces.{wider, all_each, repeated_trees}
+use Rattle.ix_parser.proofs.Places.{Short, Stand, all_more}
+use Rattle.ix_parser.proofs.DeclPlaces.{wider, repeated_trees}
 use Rattle.ix_parser.proofs.ClassPlaces.{class_stands}
 
 source_stands : (lo hi : ℕ) (tokens : List Token) (found : FoundUnit) → IsSource tokens found → InOrder lo hi tokens → Stand lo hi (length tokens) (unit_parts found.unit)
@@ -30,7 +30,7 @@ is_short n le (elsewhere name) few = tt
 resolves : (lo hi n : ℕ) (unit : Source) → Stand lo hi n (unit_parts unit) → n ≤ 200000 → CanResolve unit
 resolves lo hi n unit s le = record {
   apart = s.apart;
-  short = all_each (Short n) IsShort (is_short n le) (unit_parts unit) s.short;
+  short = all_more (Short n) IsShort (is_short n le) (unit_parts unit) s.short;
   few_declarations = omega (arith, s.few_declarations, le);
   few_nodes = omega (arith, s.few_nodes, le);
 }

@@ -25,6 +25,7 @@ use Rattle.ix_parser.specs.ExprNodes.{with_expr}
 use Rattle.ix_parser.specs.ExprGrammar.{Whole, IsStatementExpr}
 use Rattle.ix_parser.specs.StmtGrammar as g
 use Rattle.ix_parser.specs.StmtGrammar.{maybe_expr, run_part, one_run, with_run, one_expr, local_stmt, IsLocal, IsForFirst, IsMaybe, IsUpdate, IsStmt, IsBlockStmt, IsStmts}
+use Rattle.ix_parser.proofs.TreeParts.{mapped}
 use Rattle.ix_parser.proofs.OrderPlaces.{order_within, order_both}
 use Rattle.ix_parser.proofs.ListPlaces.{stand_joined, stand_alone, stand_no_entries}
 use Rattle.ix_parser.proofs.Places.{Stand, stand_none, stand_statement, stand_elsewhere}
@@ -44,10 +45,6 @@ stmt_kind_parts = fold-StmtKind (List Part) (List Part) stmt_kind_step stmt_step
 
 stmt_is : (k : StmtKind) (span : Span) → stmt_parts (record { kind = k; span = span }) ≡ statement span ∷ stmt_kind_parts k
 stmt_is k span = fold-roll-Stmt (List Part) (List Part) stmt_kind_step stmt_step (record { kind = k; span = span })
-
-mapped : {A : Type 0} (parts : A → List Part) (xs : List A) → map parts xs ≡ each parts xs
-mapped parts [] = refl
-mapped parts (x ∷ xs) = ap (λ l. parts x ∷ l) (mapped parts xs)
 
 block_kind : (body : List Stmt) → stmt_kind_parts (s.Block body) ≡ listed (each stmt_parts body)
 block_kind body = ap stmt_kind_parts (sym (rolls-Block body)) ∙ fold-roll-StmtKind (List Part) (List Part) stmt_kind_step stmt_step (StmtKind-F.Block body) ∙ ap (λ l. listed l) (mapped stmt_parts body)

@@ -21,7 +21,7 @@ kind_parts = fold-ExprKind (List Part) (List Part) (List Part) kind_step init_st
 pub expr_is : (k : ExprKind) (s : Span) → expr_parts (record { kind = k; span = s }) ≡ expression s ∷ kind_parts k
 expr_is k s = fold-roll-Expr (List Part) (List Part) (List Part) kind_step init_step expr_step (record { kind = k; span = s })
 
-mapped : {A : Type 0} (parts : A → List Part) (xs : List A) → map parts xs ≡ each parts xs
+pub mapped : {A : Type 0} (parts : A → List Part) (xs : List A) → map parts xs ≡ each parts xs
 mapped parts [] = refl
 mapped parts (x ∷ xs) = ap (λ l. parts x ∷ l) (mapped parts xs)
 

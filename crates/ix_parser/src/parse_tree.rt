@@ -2,6 +2,7 @@
 ghost use Rattle.std.specs.Prelude.{◌≡◌, ◌≢◌, ◌≤◌, ◌⊎◌, length, IfOk, IfErr, MatchResult};
 ghost use Rattle.ix_lexer.specs.Spans.{InOrder};
 ghost use Rattle.ix_tree.specs.declared.decl.Unit.{Unit as Source};
+ghost use Rattle.ix_tree.specs.Parts.{CanResolve};
 ghost use Rattle.ix_parser.specs.Refusals.{HasTree, Refused, NoneGoesOn, IsWithin, error_at as the_error};
 ghost use Rattle.ix_parser.specs.declared.error.ParseError.{ParseError as Refusal};
 ghost use Rattle.ix_parser.specs.declared.error.ParseError.TheVariants.{Memory};
@@ -24,6 +25,9 @@ pub fn parse(alloc: Global, tokens: &[Token], end: u32) -> Result<Unit, ParseErr
     // The tree, exactly where there is one, and no other.
     ensures found { IfOk result (λ unit. HasTree tokens.now unit) }
     ensures only { (unit : Source) → HasTree tokens.now unit → MatchResult result (λ found. found ≡ unit) (λ error. error ≡ Memory) }
+
+    // Names can be looked up in it by their places.
+    ensures resolvable { IfOk result CanResolve }
 
     // The error, exactly where the rules stop; and what it says of the grammar.
     ensures refused { IfErr result (λ error. error ≢ Memory → Refused tokens.now error) }

@@ -44,3 +44,7 @@ returns-in-Err-clause-within c = refusing.within_by _ _ _ c.requires.in_order (s
 pub returns-else-left-eq0-clause-within : goal.returns-else-left-eq0-clause-within
 returns-else-left-eq0-clause-within c = refusing.within_by _ _ _ c.requires.in_order (subst (λ e. NoneGoesOn c.args.tokens.now e) (sym c.error_at-else-left-eq0.ensures)
     (refusing.none_behind _ _ _ (λ none. c.if-left-eq0.false (c.left.ensures ∙ none)) (refusing.from_whole _ _ _ _ c.new-cursor.ensures c.in-Ok.ensures.reads)))
+
+pub returns-then-left-eq0-clause-resolvable : goal.returns-then-left-eq0-clause-resolvable
+returns-then-left-eq0-clause-resolvable c =
+    refusing.can_resolve _ _ _ _ (search rules) (refusing.from_whole _ _ _ _ c.new-cursor.ensures c.in-Ok.ensures.reads) c.requires.in_order c.requires.few
