@@ -4,8 +4,8 @@ use crate::tests::{Ended, GET, run};
 use std::alloc::{AllocError, Global};
 use std::test::Fail;
 
-fn check(alloc: Global, text: &str) -> Result<Ended, AllocError> {
-    run(alloc, &["check", "A.java"], text)
+fn check(alloc: Global, bytes: &[u8]) -> Result<Ended, AllocError> {
+    run(alloc, &["check", "A.java"], bytes)
 }
 
 /// The text so often.
@@ -27,7 +27,7 @@ fn line(alloc: Global, column: usize, key: &str) -> Result<String, AllocError> {
 fn truncated(rt: HostRuntime) -> Result<(), Fail> {
     let alloc = rt.alloc();
     for n in 1..GET.len() {
-        let ended = check(alloc, &GET[..n])?;
+        let ended = check(alloc, &GET.as_bytes()[..n])?;
         let expected = match n {
             1..=4 => line(alloc, 1, "syntax")?,
             45..=47 => line(alloc, 45, "open.string")?,
@@ -42,13 +42,13 @@ fn truncated(rt: HostRuntime) -> Result<(), Fail> {
 #[test]
 fn most_tokens(rt: HostRuntime) -> Result<(), Fail> {
     let alloc = rt.alloc();
-    let at_most = check(alloc, repeated(alloc, ";", 200_000)?.as_str())?;
+    let at_most = check(alloc, repeated(alloc, ";", 200_000)?.as_bytes())?;
     assert_eq!(rt; at_most.status, Status::Rejected);
     assert_eq!(rt;
         at_most.out.as_slice(),
         line(alloc, 1, "syntax")?.as_bytes()
     );
-    let past = check(alloc, repeated(alloc, ";", 200_001)?.as_str())?;
+    let past = check(alloc, repeated(alloc, ";", 200_001)?.as_bytes())?;
     assert_eq!(rt; past.status, Status::Limit);
     assert_eq!(rt; past.out.as_slice(), b"".as_slice());
     assert_eq!(rt;
@@ -69,10 +69,10 @@ fn nested(alloc: Global, count: usize) -> Result<String, AllocError> {
 fn greatest_height(rt: HostRuntime) -> Result<(), Fail> {
     let alloc = rt.alloc();
     assert_eq!(rt;
-        check(alloc, nested(alloc, 197)?.as_str())?.status,
+        check(alloc, nested(alloc, 197)?.as_bytes())?.status,
         Status::Unbuilt
     );
-    let past = check(alloc, nested(alloc, 198)?.as_str())?;
+    let past = check(alloc, nested(alloc, 198)?.as_bytes())?;
     assert_eq!(rt; past.status, Status::Limit);
     assert_eq!(rt; past.out.as_slice(), b"".as_slice());
     assert_eq!(rt;
@@ -85,9 +85,9 @@ fn greatest_height(rt: HostRuntime) -> Result<(), Fail> {
 #[test]
 fn most_bytes(rt: HostRuntime) -> Result<(), Fail> {
     let alloc = rt.alloc();
-    let at_most = check(alloc, repeated(alloc, " ", 1_048_576)?.as_str())?;
+    let at_most = check(alloc, repeated(alloc, " ", 1_048_576)?.as_bytes())?;
     assert_eq!(rt; at_most.status, Status::Unbuilt);
-    let past = check(alloc, repeated(alloc, " ", 1_048_577)?.as_str())?;
+    let past = check(alloc, repeated(alloc, " ", 1_048_577)?.as_bytes())?;
     assert_eq!(rt; past.status, Status::Limit);
     assert_eq!(rt; past.out.as_slice(), b"".as_slice());
     assert_eq!(rt;

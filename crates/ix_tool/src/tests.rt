@@ -30,13 +30,10 @@ fn list_of(alloc: Global, bytes: &[u8]) -> Result<List<u8>, AllocError> {
     Ok(list)
 }
 
-/// A file `A.java` with that text.
-fn one_file(alloc: Global, text: &str) -> Result<List<(Text, List<u8>)>, AllocError> {
+/// A file `A.java` with those bytes.
+fn one_file(alloc: Global, bytes: &[u8]) -> Result<List<(Text, List<u8>)>, AllocError> {
     let mut files = List::new(alloc);
-    let file = (
-        Text::from_str(alloc, "A.java")?,
-        list_of(alloc, text.as_bytes())?,
-    );
+    let file = (Text::from_str(alloc, "A.java")?, list_of(alloc, bytes)?);
     match files.push(file) {
         Ok(()) => Ok(files),
         Err(_) => Err(AllocError),
@@ -51,10 +48,10 @@ fn words_of(alloc: Global, words: &[&str]) -> Result<Vec<String>, AllocError> {
     Ok(list)
 }
 
-/// The call with a file `A.java` of that text, where no call fails.
-pub(crate) fn run(alloc: Global, words: &[&str], text: &str) -> Result<Ended, AllocError> {
+/// The call with a file `A.java` of those bytes, where no call fails.
+pub(crate) fn run(alloc: Global, words: &[&str], bytes: &[u8]) -> Result<Ended, AllocError> {
     let words = words_of(alloc, words)?;
-    let mut files = SureSource::new(one_file(alloc, text)?);
+    let mut files = SureSource::new(one_file(alloc, bytes)?);
     let mut out = SureSink::new(alloc);
     let mut err = SureSink::new(alloc);
     let status = run_tool(alloc, &words, &mut files, &mut out, &mut err);
@@ -179,7 +176,7 @@ fn rows(rt: HostRuntime) -> Result<(), Fail> {
         },
     ];
     for row in &rows {
-        let ended = run(rt.alloc(), row.words, row.text)?;
+        let ended = run(rt.alloc(), row.words, row.text.as_bytes())?;
         assert_eq!(rt; ended.status, row.status);
         assert_eq!(rt; ended.out.as_slice(), row.out.as_bytes());
         assert_eq!(rt; ended.err.as_slice(), row.err.as_bytes());
@@ -222,7 +219,7 @@ fn with_claims(alloc: Global, count: u32) -> Result<String, AllocError> {
 }
 
 fn status_of(alloc: Global, text: &str) -> Result<Status, AllocError> {
-    Ok(run(alloc, &["check", "A.java"], text)?.status)
+    Ok(run(alloc, &["check", "A.java"], text.as_bytes())?.status)
 }
 
 #[test]
@@ -265,7 +262,7 @@ fn only(alloc: Global, call: u64) -> Result<List<u64>, AllocFailed<u64>> {
 /// The first source, where the call of that number of the source fails.
 fn run_failing_source(alloc: Global, call: u64) -> Result<Ended, Fail> {
     let words = words_of(alloc, &["check", "A.java"])?;
-    let mut files = MemSource::new(one_file(alloc, GET)?, only(alloc, call)?);
+    let mut files = MemSource::new(one_file(alloc, GET.as_bytes())?, only(alloc, call)?);
     let mut out = MemSink::new(alloc, List::new(alloc));
     let mut err = MemSink::new(alloc, List::new(alloc));
     let status = run_tool(alloc, &words, &mut files, &mut out, &mut err);
@@ -279,7 +276,7 @@ fn run_failing_source(alloc: Global, call: u64) -> Result<Ended, Fail> {
 /// A call of these words with the first source, where the first write to `out` or to `err` fails.
 fn run_failing_sink(alloc: Global, words: &[&str], is_out: bool) -> Result<Ended, Fail> {
     let words = words_of(alloc, words)?;
-    let mut files = MemSource::new(one_file(alloc, GET)?, List::new(alloc));
+    let mut files = MemSource::new(one_file(alloc, GET.as_bytes())?, List::new(alloc));
     let mut out = MemSink::new(alloc, only(alloc, if is_out { 0 } else { 9 })?);
     let mut err = MemSink::new(alloc, only(alloc, if is_out { 9 } else { 0 })?);
     let status = run_tool(alloc, &words, &mut files, &mut out, &mut err);
