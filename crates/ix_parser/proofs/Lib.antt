@@ -37,3 +37,4 @@ mod TreeParts
 mod AnnotPlaces
 mod TypePlaces
 mod ExprPlaces
+mod ViableRules
