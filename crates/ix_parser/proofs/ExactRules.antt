@@ -12,14 +12,8 @@ use Rattle.ix_parser.specs.Rule.{Rule, pure, take, bind, stop, loop, Turn, On, D
 use Rattle.ix_parser.specs.Patterns.{sign, name_token, number_token, least_token, a_sign, a_name, a_number, a_least, one_of, row, an_operator, binary_signs}
 use Rattle.ix_parser.proofs.SoundRules.{Sound, After, weaken, pure_sound, stop_sound, bind_sound, map_sound, loop_sound, sign_sound, name_sound, number_sound, least_sound, one_sound, operator_sound}
 use Rattle.ix_parser.proofs.ListsSound.{fits_sound}
+use Rattle.ix_parser.proofs.ListsViable.{here, some_name}
 use Rattle.ix_parser.proofs.ViableRules.{Goes, Viable, Nothing, pure_viable, stop_viable, bind_viable, map_viable, weaken_viable, nothing_viable, nothing_bind, loop_viable, sign_viable, name_viable, number_viable, least_viable, one_viable, operator_viable}
-
--- any place, and any name
-abbrev pub here : Span
-here = record { from = 0; to = 0 }
-
-abbrev pub some_name : Ident
-some_name = record { text = []; span = here }
 
 pub record Exact {A : Type 0} (R : List Token → A → Type 0) (r : Rule A) : Type 0 where
   pub sound : Sound R r
@@ -137,6 +131,16 @@ operator_exact level fits p q ep eq = record {
   viable = operator_viable level fits p q (λ f. eq.goes) (λ f number x is. let e = ep f number x is in e.viable) eq.viable;
   goes = eq.goes;
 }
+
+-- only this token may come
+pub must_sign : {A : Type 0} {R : List Token → A → Type 0} (n : ℕ) (p : Span → Rule A) → ((s : Span) → Exact (λ seen a. R (sign n s ∷ seen) a) (p s)) → Exact R (take (a_sign n) true p stop)
+must_sign n p ep = sign_exact n true p stop (λ f s. ep s) (stop_exact (let e = ep here in let (others, a, r) = e.goes in (sign n here ∷ others, a, r)))
+
+pub end_sign : {A : Type 0} {R : List Token → A → Type 0} (n : ℕ) (p : Span → A) → ((s : Span) → R (sign n s ∷ []) (p s)) → Exact R (take (a_sign n) true (λ s. pure (p s)) stop)
+end_sign n p w = must_sign n (λ s. pure (p s)) (λ s. pure_exact (p s) (w s))
+
+pub must_name : {A : Type 0} {R : List Token → A → Type 0} (p : Ident → Rule A) → ((x : Ident) → Exact (λ seen a. R (name_token x ∷ seen) a) (p x)) → Exact R (take a_name true p stop)
+must_name p ep = name_exact true p stop (λ f x. ep x) (stop_exact (let e = ep some_name in let (others, a, r) = e.goes in (name_token some_name ∷ others, a, r)))
 
 -- ---- rules that take nothing
 

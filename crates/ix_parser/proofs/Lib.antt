@@ -38,4 +38,8 @@ mod AnnotPlaces
 mod TypePlaces
 mod ExprPlaces
 mod ViableRules
+mod ListsViable
+mod AnnotViable
+mod TypeViable
 mod ExactRules
+mod ExprExact
