@@ -124,7 +124,7 @@ inner_exact left b l zero one lt = let p = l.lower in p.whole lt
 inner_exact left b l (suc zero) one lt = let p = l.lowest in p.whole lt
 inner_exact left b l (suc (suc n)) one lt = absurd (omega (arith, one))
 
-inner_init_exact : (left : ℕ) (b : Below) → ExactBelow left b → (n : ℕ) → n ≤ 1 → n + 1 < left → Exact (LowInit (n + 1) left) (inner_init b n)
+pub inner_init_exact : (left : ℕ) (b : Below) → ExactBelow left b → (n : ℕ) → n ≤ 1 → n + 1 < left → Exact (LowInit (n + 1) left) (inner_init b n)
 inner_init_exact left b l zero one lt = let p = l.lower in p.init lt
 inner_init_exact left b l (suc zero) one lt = let p = l.lowest in p.init lt
 inner_init_exact left b l (suc (suc n)) one lt = absurd (omega (arith, one))
@@ -214,7 +214,7 @@ annots_from_exact k notes front d = record { sound = annots_from_sound k notes f
 
 module _ (left : ℕ) (b : Below) (l : ExactBelow left b) (a : Aim) where
   -- the parts of a call, where there is room for one
-  call_args_exact : (o : Span) → extra a form.Statement + 2 ≤ left → Exact (λ ts r. IsArgs (sign OPEN_PAREN o ∷ ts) r × (r.height + (extra a form.Statement + 1) ≤ left)) (args (inner b (extra a form.Statement)))
+  pub call_args_exact : (o : Span) → extra a form.Statement + 2 ≤ left → Exact (λ ts r. IsArgs (sign OPEN_PAREN o ∷ ts) r × (r.height + (extra a form.Statement + 1) ≤ left)) (args (inner b (extra a form.Statement)))
   call_args_exact o room = args_exact (inner b (extra a form.Statement)) (extra a form.Statement + 1) left o (omega (arith, room)) (inl (inner_exact left b l (extra a form.Statement) (extra_at_most a form.Statement) (omega (arith, room))))
 
   module _ (start : Span) where
@@ -263,7 +263,7 @@ module _ (left : ℕ) (b : Below) (l : ExactBelow left b) (a : Aim) where
         (λ n seen d. bind_exact _ _ (annots_from_exact (left - (extra a form.Array + 2)) (with_note no_notes n) (sign AT at ∷ seen) (one_more no_item d.0, omega (arith, d.1)))
         (λ notes later e. exact_more _ (λ ts f p. subst (λ y. Prim a left (sign NEW start ∷ (sign AT at ∷ y)) f) (append_assoc seen later ts) p) (noted_array_exact ((sign AT at ∷ seen) ++ later) notes e.0 (omega (arith, e.1, four)) (omega (arith, four)))))
 
-    creation_exact : extra a form.Statement + 2 ≤ left → Exact (λ ts f. Prim a left (sign NEW start ∷ ts) f) (creation b a left start)
+    pub creation_exact : extra a form.Statement + 2 ≤ left → Exact (λ ts f. Prim a left (sign NEW start ∷ ts) f) (creation b a left start)
     unfolding creation
     creation_exact room = name_exact true _ _ (λ t x. object_exact x room)
         (sign_exact INT _ _ _ (λ t s. array_exact [] (sign INT s ∷ []) no_notes (based Int s) no_item (types.int s) (omega (arith, leb-true (extra a form.Array + 2) left t)))

@@ -43,3 +43,4 @@ mod AnnotViable
 mod TypeViable
 mod ExactRules
 mod ExprExact
+mod ExprViable
