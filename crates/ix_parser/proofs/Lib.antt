@@ -38,3 +38,4 @@ mod AnnotPlaces
 mod TypePlaces
 mod ExprPlaces
 mod ViableRules
+mod ListsViable
