@@ -39,3 +39,6 @@ mod TypePlaces
 mod ExprPlaces
 mod ViableRules
 mod ListsViable
+mod AnnotViable
+mod TypeViable
+mod DeclViable

@@ -11,7 +11,7 @@ use Rattle.ix_parser.specs.Patterns.{sign, a_sign}
 use Rattle.ix_parser.specs.Lists.{IsSeparated, IsRepeated, next_item, no_item, one_more, next_of, more_of, next_inside, braces_of, placed}
 use Rattle.ix_parser.proofs.SoundRules.{Sound, weaken, After}
 use Rattle.ix_parser.proofs.ListsSound.{Read, next_sound, Braces, Inside, Closed, inside_sound}
-use Rattle.ix_parser.proofs.ViableRules.{Goes, Viable, Nothing, weaken_viable, pure_viable, map_viable, sign_viable, nothing_viable, nothing_bind, loop_viable}
+use Rattle.ix_parser.proofs.ViableRules.{Goes, Viable, Nothing, weaken_viable, pure_viable, stop_viable, bind_viable, map_viable, sign_viable, nothing_viable, nothing_bind, loop_viable}
 
 -- any place, and any name
 abbrev pub here : Span
@@ -23,6 +23,15 @@ some_name = record { text = []; span = here }
 -- nothing need follow
 pub done_goes : {A : Type 0} (R : List Token → A → Type 0) (seen : List Token) (a : A) → R seen a → Goes (λ later b. R (seen ++ later) b) []
 done_goes R seen a r = ([], a, subst (λ y. R y a) (sym (append-nil seen)) r)
+
+-- a token at the end
+pub end_viable : {A : Type 0} {R : List Token → A → Type 0} (n : ℕ) (f : Span → A) → ((s : Span) → R (sign n s ∷ []) (f s)) → Viable R (take (a_sign n) true (λ s. pure (f s)) stop)
+end_viable n f w = sign_viable _ _ _ _ (λ e. absurd (cc)) (λ e s. pure_viable _) (stop_viable (sign n here ∷ [], f here, w here))
+
+-- one rule, and a token behind it
+pub ended_viable : {A B : Type 0} {R : List Token → A → Type 0} {Q : List Token → B → Type 0} (p : Rule A) (n : ℕ) (f : A → Span → B) → Sound R p → Viable R p
+    → ((a : A) (seen : List Token) → R seen a → (s : Span) → Q (seen ++ sign n s ∷ []) (f a s)) → Viable Q (bind p (λ a. take (a_sign n) true (λ s. pure (f a s)) stop))
+ended_viable p n f sp vp w = bind_viable p _ sp vp (λ a seen r. (sign n here ∷ [], f a here, w a seen r here)) (λ a seen r. end_viable n (f a) (w a seen r))
 
 -- ---- repetitions: P holds of each item, and then Q of what is made of them
 
@@ -40,6 +49,11 @@ module _ {A S : Type 0} (Item : List Token → A → Type 0) (start : A → S) (
   pub more_viable : (s : S) (front : List Token) → IsSeparated Item start add front s → Q s → Viable (λ seen b. IsSeparated Item start add (front ++ seen) b × Q b) (more_of item add s)
   unfolding more_of Read
   more_viable s front d q = loop_viable (next_of item add) Listed Listed (next_sound Item start add item P Q keeps sound) next_viable (λ t ts r. done_goes Listed ts t r) s front (d, q)
+
+module _ {A S : Type 0} (Item : List Token → A → Type 0) (start : A → S) (add : S → A → S) (item : Rule A) (sound : Sound Item item) (viable : Viable Item item) where
+  pub more_plain_viable : (s : S) (front : List Token) → IsSeparated Item start add front s → Viable (λ seen b. IsSeparated Item start add (front ++ seen) b) (more_of item add s)
+  more_plain_viable s front d = weaken_viable _ (λ ts b r. r.0)
+      (more_viable Item start add item (λ x. Unit {0}) (λ s. Unit {0}) (λ s x q p. tt) (weaken item (λ ts x r. (r, tt)) sound) (weaken_viable item (λ ts x r. (r, tt)) viable) s front d tt)
 
 module _ {A S : Type 0} (Item : List Token → A → Type 0) (none : S) (add : S → A → S) (item : Rule A) (P : A → Type 0) (Q : S → Type 0)
     (zero_items : Q none) (keeps : (s : S) (x : A) → Q s → P x → Q (add s x)) (sound : Sound (λ ts x. Item ts x × P x) item) where
