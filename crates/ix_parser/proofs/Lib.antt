@@ -42,3 +42,4 @@ mod ListsViable
 mod AnnotViable
 mod TypeViable
 mod DeclViable
+mod ClassViable
