@@ -43,3 +43,4 @@ mod AnnotViable
 mod TypeViable
 mod DeclViable
 mod ClassViable
+mod SourceViable
