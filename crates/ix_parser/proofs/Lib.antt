@@ -44,3 +44,6 @@ mod TypeViable
 mod ExactRules
 mod ExprExact
 mod ExprViable
+mod DeclViable
+mod ClassViable
+mod SourceViable
