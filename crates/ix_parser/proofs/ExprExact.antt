@@ -203,7 +203,7 @@ later_pairs_exact : (last : Span) → Exact (IsMorePairs last) (pairs 1 last)
 unfolding pairs
 later_pairs_exact last = turns_exact next_pair (IsMorePairs last) (more_pairs_exact last) (counted 1 last) [] g.no_more
 
-pairs_exact : (o r : Span) → Exact (λ ts found. IsPairs (sign OPEN_BRACKET o ∷ sign CLOSE_BRACKET r ∷ ts) found) (pairs 1 r)
+pub pairs_exact : (o r : Span) → Exact (λ ts found. IsPairs (sign OPEN_BRACKET o ∷ sign CLOSE_BRACKET r ∷ ts) found) (pairs 1 r)
 pairs_exact o r = record { sound = pairs_sound 1 r _ (types.pair o r); viable = pairs_viable 1 r _ (types.pair o r); goes = ([], counted 1 r, types.pair o r) }
 
 annot_behind_exact : (k : ℕ) (at : Span) → 2 ≤ k → Exact (λ ts a. Noted k (sign AT at ∷ ts) a) (annot_behind k at)

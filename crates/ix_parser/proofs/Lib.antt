@@ -47,3 +47,4 @@ mod ExprViable
 mod DeclViable
 mod ClassViable
 mod SourceViable
+mod StmtViable

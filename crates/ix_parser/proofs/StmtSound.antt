@@ -76,7 +76,7 @@ some_ident x = Some x
 ident_same : (x y : Ident) → some_ident x ≡ some_ident y → x ≡ y
 ident_same x y h = cc
 
-word_is : (text : List ℕ) (kind : TokenKind) (span : Span) (x : Ident) → word_of text kind span ≡ Some x → record { kind = kind; span = span } ≡ word_token text x.span
+pub word_is : (text : List ℕ) (kind : TokenKind) (span : Span) (x : Ident) → word_of text kind span ≡ Some x → record { kind = kind; span = span } ≡ word_token text x.span
 word_is text (k.Ident found) span x h = elim (chosen (same_text found text) (some_ident (record { text = found; span = span })) None (Some x) h) [
   | inl w ↦ (let p : found ≡ text = same_is found text w.0 in let q = ident_same (record { text = found; span = span }) x w.1 in rw p (ap (λ (y : Ident). word_token text y.span) q))
   | inr w ↦ absurd (cc)
@@ -86,7 +86,7 @@ word_is text (k.Int n) span x h = absurd (cc)
 word_is text k.MinLit span x h = absurd (cc)
 word_is text (k.Str t) span x h = absurd (cc)
 
-word_name : (text : List ℕ) (kind : TokenKind) (span : Span) (x : Ident) → word_of text kind span ≡ Some x → x ≡ record { text = text; span = x.span }
+pub word_name : (text : List ℕ) (kind : TokenKind) (span : Span) (x : Ident) → word_of text kind span ≡ Some x → x ≡ record { text = text; span = x.span }
 word_name text (k.Ident found) span x h = elim (chosen (same_text found text) (some_ident (record { text = found; span = span })) None (Some x) h) [
   | inl w ↦ (let p : found ≡ text = same_is found text w.0 in let q = ident_same (record { text = found; span = span }) x w.1 in rw (sym q) (rw p refl))
   | inr w ↦ absurd (cc)
@@ -96,10 +96,10 @@ word_name text (k.Int n) span x h = absurd (cc)
 word_name text k.MinLit span x h = absurd (cc)
 word_name text (k.Str t) span x h = absurd (cc)
 
-abbrev the_word : List ℕ → Span → Ident
+abbrev pub the_word : List ℕ → Span → Ident
 the_word text span = record { text = text; span = span }
 
-word_sound : {A : Type 0} {R : List Token → A → Type 0} (text : List ℕ) (fits : Bool) (p : Ident → Rule A) (q : Rule A) → ((s : Span) → Sound (λ seen a. R (word_token text s ∷ seen) a) (p (the_word text s))) → Sound R q → Sound R (take (a_word text) fits p q)
+pub word_sound : {A : Type 0} {R : List Token → A → Type 0} (text : List ℕ) (fits : Bool) (p : Ident → Rule A) (q : Rule A) → ((s : Span) → Sound (λ seen a. R (word_token text s ∷ seen) a) (p (the_word text s))) → Sound R q → Sound R (take (a_word text) fits p q)
 word_sound {R = R} text fits p q sp sq = take_sound (a_word text) fits p q (λ t x e.
     let is : t ≡ word_token text x.span = word_is text t.kind t.span x e in
     let same : x ≡ the_word text x.span = word_name text t.kind t.span x e in

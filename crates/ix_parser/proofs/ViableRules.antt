@@ -66,7 +66,7 @@ take_viable {R = R} want fits p q g vp vq = record {
   ] h;
 }
 
-bind_err : {A B : Type 0} (o : Outcome A) (f : A → Parser B) (x : Stop × List Token) → and_then o f ≡ Err x → (o ≡ Err x) ⊎ ((p : A × List Token) × (o ≡ Ok p) × (f p.0 p.1 ≡ Err x))
+pub bind_err : {A B : Type 0} (o : Outcome A) (f : A → Parser B) (x : Stop × List Token) → and_then o f ≡ Err x → (o ≡ Err x) ⊎ ((p : A × List Token) × (o ≡ Ok p) × (f p.0 p.1 ≡ Err x))
 bind_err (Ok p) f x h = inr (p, refl, h)
 bind_err {A = A} {B = B} (Err y) f x h = inl (ap (stopped_at A) (stop_same B y x h))
 

@@ -1,0 +1,188 @@
+-- Where a statement that begins with no word of its own stops, what it took goes on to one that is low enough. Where none is, nothing is taken.
+use Rattle.std.proofs.Common.{◌≡◌, ℕ, zero, suc, ◌+◌, ◌-◌, ◌<◌, ◌≤◌, max, nat_le, nat_lt, arith, length, Bool, true, false, List, [], ◌∷◌, ◌++◌, Option, Some, None, Result, Ok, Err, refl, sym, ap, subst, ◌∙◌, append_assoc, ◌⊎◌, inl, inr}
+use Rattle.std.proofs.lemmas.List.{append-nil}
+use Rattle.std.proofs.lemmas.Bool.{leb-true, ltb-true, false_from_ne_true}
+use Rattle.ix_text.specs.declared.span.Span.{Span}
+use Rattle.ix_lexer.specs.declared.token.Token.{Token}
+use Rattle.ix_lexer.specs.declared.fixed.TheConstants.{FINAL, INT, BOOLEAN, AT, DOT, OPEN_PAREN, CLOSE_PAREN, OPEN_BRACKET, CLOSE_BRACKET}
+use Rattle.ix_tree.specs.declared.annot.Ident.{Ident}
+use Rattle.ix_tree.specs.declared.annot.BaseTree.{BaseTree}
+use Rattle.ix_tree.specs.declared.annot.BaseTree.TheVariants.{Int, Boolean, Named}
+use Rattle.ix_parser.specs.declared.declarations.FoundMods.{FoundMods}
+use Rattle.ix_parser.specs.declared.declarations.Word.TheVariants.{Final}
+use Rattle.ix_parser.specs.declared.error.Stop.{Stop}
+use Rattle.ix_parser.specs.declared.error.Stop.TheVariants.{TooDeep}
+use Rattle.ix_parser.specs.declared.found.Aim.TheVariants as aim
+use Rattle.ix_parser.specs.declared.found.Aim.TheVariants.{Statement}
+use Rattle.ix_parser.specs.declared.found.At.{At}
+use Rattle.ix_parser.specs.declared.found.Form.{Form}
+use Rattle.ix_parser.specs.declared.found.Form.TheVariants as form
+use Rattle.ix_parser.specs.declared.found.Found.{Found}
+use Rattle.ix_parser.specs.declared.found.FoundDecls.{FoundDecls}
+use Rattle.ix_parser.specs.declared.found.FoundType.{FoundType}
+use Rattle.ix_parser.specs.declared.statement_trees.Begun.{Begun}
+use Rattle.ix_parser.specs.declared.statement_trees.Begun.TheVariants.{Local, Run, Print}
+use Rattle.ix_parser.specs.Rule.{Rule, pure, take, bind, stop, loop, Turn, On, Done, Outcome, Parser, and_then, look, taken, turned, turns, run}
+use Rattle.ix_parser.specs.Patterns.{sign, name_token, a_sign, a_name, one_of, assign_signs, step_signs}
+use Rattle.ix_parser.specs.Lists.{first_item, no_item}
+use Rattle.ix_parser.specs.AnnotGrammar.{no_notes}
+use Rattle.ix_parser.specs.TypeGrammar as types
+use Rattle.ix_parser.specs.TypeGrammar.{based, counted, array_of, plain_type, IsType}
+use Rattle.ix_parser.specs.TypeRules.{pairs, type_rest, type_tree}
+use Rattle.ix_parser.specs.DeclGrammar as decl
+use Rattle.ix_parser.specs.DeclGrammar.{no_mods, with_word, with_annot, local_words, shared, plain_decl, one_decl, IsMods, IsDecls}
+use Rattle.ix_parser.specs.DeclRules.{next_mod, decls}
+use Rattle.ix_parser.specs.ExprNodes.{named, selected, element, called, no_exprs, all_args}
+use Rattle.ix_parser.specs.ExprRules.{extra, makes_array, Below, below, inner, index, index_unless, further, field_or_call, name_or_call, assignment, to_statement, expr, statement_expr, init}
+use Rattle.ix_parser.specs.ExprGrammar as e
+use Rattle.ix_parser.specs.ExprGrammar.{Primary, Whole, IsExpr, IsInit, IsStatementExpr}
+use Rattle.ix_parser.specs.StmtGrammar as g
+use Rattle.ix_parser.specs.StmtGrammar.{SYSTEM, OUT, PRINTLN, word_token, IsLocal}
+use Rattle.ix_parser.specs.StmtRules.{a_word, declared, named_type, typed, modified, local_or, chain, go_on, field, run_named, guarded, indexed, named_first, println_part, out_part, system_part, print_or, begun}
+use Rattle.ix_parser.proofs.Runs.{same_ok, bind_ok}
+use Rattle.ix_parser.proofs.SoundRules.{Sound, After}
+use Rattle.ix_parser.proofs.ListsSound.{fits_sound}
+use Rattle.ix_parser.proofs.AnnotSound.{annot_behind_sound}
+use Rattle.ix_parser.proofs.TypeSound.{Typed, RestOf, type_sound, rest_fits, noted_array_sound}
+use Rattle.ix_parser.proofs.DeclSound.{Modified, next_mod_sound, decls_sound}
+use Rattle.ix_parser.proofs.StmtSound.{init_both, word_is, word_name, the_word, word_sound, IsPrint}
+use Rattle.ix_parser.proofs.ViableRules.{Goes, Viable, Nothing, nothing_bind, take_viable, bind_err}
+use Rattle.ix_parser.proofs.ListsViable.{here, some_name}
+use Rattle.ix_parser.proofs.AnnotViable.{annot_behind_goes, annot_behind_viable}
+use Rattle.ix_parser.proofs.TypeViable.{type_goes, type_viable, rest_fits_viable, noted_array_viable}
+use Rattle.ix_parser.proofs.DeclViable.{next_mod_viable, decls_viable}
+use Rattle.ix_parser.proofs.ExactRules.{Exact, exact_more, pure_exact, stop_exact, bind_exact, map_exact, maybe_bind, maybe_map, nothing_exact, turns_exact, sign_exact, name_exact, must_sign, must_name, nothing_stop, nothing_take}
+use Rattle.ix_parser.proofs.ExprExact.{Low, Wanted, Prim, prim_of, prim_name, inner_exact, pairs_exact}
+use Rattle.ix_parser.proofs.ExprViable.{room, name_or_call_exact, field_or_call_exact, chain_exact, to_statement_exact, statement_exact, statement_of_nothing, whole_nothing, below_false, exact_below, init_viable}
+
+-- ---- rules that take nothing, and give this where they give something
+
+pub record Idle {A : Type 0} (a : A) (r : Rule A) : Type 0 where
+  pub gives : (ts us : List Token) (b : A) → run r ts ≡ Ok (b, us) → (b ≡ a) × (ts ≡ us)
+  pub here : (ts us : List Token) (why : Stop) → run r ts ≡ Err (why, us) → ts ≡ us
+
+pure_idle : {A : Type 0} (a : A) → Idle a (pure a)
+unfolding run
+pure_idle {A = A} a = record {
+  gives = λ ts us b h. let same = same_ok (a, ts) (b, us) h in (sym (ap (λ (p : A × List Token). p.0) same), ap (λ (p : A × List Token). p.1) same);
+  here = λ ts us why h. absurd (cc);
+}
+
+abbrev Still : {A : Type 0} → A → Outcome A → List Token → Type 0
+Still {A} a o ts = ((us : List Token) (b : A) → o ≡ Ok (b, us) → (b ≡ a) × (ts ≡ us)) × ((us : List Token) (why : Stop) → o ≡ Err (why, us) → ts ≡ us)
+
+abbrev err_of : (A : Type 0) → Stop × List Token → Outcome A
+err_of A x = Err x
+
+same_err : (A : Type 0) (x y : Stop × List Token) → err_of A x ≡ err_of A y → x ≡ y
+same_err A x y h = cc
+
+no_ok : {A : Type 0} (x : Stop × List Token) (p : A × List Token) → err_of A x ≡ Ok p → ⊥
+no_ok x p h = cc
+
+taken_still : {A V : Type 0} (a : A) (p : V → Parser A) (q : Parser A) (ts : List Token) → Still a (q ts) ts → (o : Option V) → Still a (taken false p q o ts) ts
+taken_still {A = A} a p q ts s (Some v) = (λ us b h. absurd (no_ok (TooDeep, ts) (b, us) h), λ us why h. ap (λ (x : Stop × List Token). x.1) (same_err A (TooDeep, ts) (why, us) h))
+taken_still a p q ts s None = s
+
+take_idle : {A V : Type 0} (a : A) (want : Token → Option V) (fits : Bool) (p : V → Rule A) (q : Rule A) → fits ≡ false → Idle a q → Idle a (take want fits p q)
+unfolding run
+take_idle a want true p q e i = absurd (cc)
+take_idle a want false p q e i = record {
+  gives = λ ts us b h. let s = taken_still a (λ v. run (p v)) (run q) ts (λ us b h. i.gives ts us b h, λ us why h. i.here ts us why h) (look want ts) in s.0 us b h;
+  here = λ ts us why h. let s = taken_still a (λ v. run (p v)) (run q) ts (λ us b h. i.gives ts us b h, λ us why h. i.here ts us why h) (look want ts) in s.1 us why h;
+}
+
+abbrev done_of : (S B : Type 0) → B → Turn S B
+done_of S B b = Done b
+
+done_same : (S B : Type 0) (c b : B) → done_of S B c ≡ done_of S B b → c ≡ b
+done_same S B c b h = cc
+
+turned_still : {S B : Type 0} (n : ℕ) (go : S → Parser B) (b : B) (r : Turn S B) (vs : List Token) → r ≡ Done b → Still b (turned n go r vs) vs
+turned_still n go b (On s) vs e = absurd (cc)
+turned_still {S = S} {B = B} n go b (Done c) vs e = (
+    λ us d h. let same = same_ok (c, vs) (d, us) h in (sym (ap (λ (p : B × List Token). p.0) same) ∙ done_same S B c b e, ap (λ (p : B × List Token). p.1) same),
+    λ us why h. absurd (cc))
+
+loop_idle : {S B : Type 0} (body : S → Rule (Turn S B)) (s : S) (b : B) → Idle (Done b) (body s) → Idle b (loop body s)
+unfolding run
+loop_idle body s b i = record {
+  gives = λ ts us c h.
+      let d = bind_ok (run (body s) ts) (turned (length ts) (turns (λ x. run (body x)) (length ts))) (c, us) h in
+      let same = i.gives ts d.0.1 d.0.0 d.1 in
+      let t = turned_still (length ts) (turns (λ x. run (body x)) (length ts)) b d.0.0 d.0.1 same.0 in
+      let w = t.0 us c d.2 in
+      (w.0, same.1 ∙ w.1);
+  here = λ ts us why h. elim (bind_err (run (body s) ts) (turned (length ts) (turns (λ x. run (body x)) (length ts))) (why, us) h) [
+    | inl x ↦ i.here ts us why x
+    | inr d ↦ (
+        let same = i.gives ts d.0.1 d.0.0 d.1 in
+        let t = turned_still (length ts) (turns (λ x. run (body x)) (length ts)) b d.0.0 d.0.1 same.0 in
+        same.1 ∙ t.1 us why d.2)
+  ];
+}
+
+idle_bind : {A B : Type 0} (a : A) (p : Rule A) (f : A → Rule B) → Idle a p → Nothing (f a) → Nothing (bind p f)
+unfolding run
+idle_bind a p f i n = record {
+  stops = λ ts us b h. let d = bind_ok (run p ts) (λ x. run (f x)) (b, us) h in let same = i.gives ts d.0.1 d.0.0 d.1 in n.stops d.0.1 us b (subst (λ x. run (f x) d.0.1 ≡ Ok (b, us)) same.0 d.2);
+  here = λ ts us why h. elim (bind_err (run p ts) (λ x. run (f x)) (why, us) h) [
+    | inl x ↦ i.here ts us why x
+    | inr d ↦ (let same = i.gives ts d.0.1 d.0.0 d.1 in same.1 ∙ n.here d.0.1 us why (subst (λ x. run (f x) d.0.1 ≡ Err (why, us)) same.0 d.2))
+  ];
+}
+
+-- ---- where there is no room
+
+high_false : (n left : ℕ) → left ≤ n → nat_lt n left ≡ false
+high_false n left le = false_from_ne_true (nat_lt n left) (λ h. omega (arith, le, ltb-true n left h))
+
+module _ (left : ℕ) (b : Below) (f : Found) (high : left ≤ f.height) where
+  index_idle : (c : Bool) → f.form ≡ form.Variable → Idle (Done f) (index_unless c b Statement left f)
+  unfolding index_unless index
+  index_idle true v = pure_idle (Done f)
+  index_idle false v = take_idle _ _ _ _ _ (below_false (extra Statement form.Variable + (f.height + 1)) left (omega (arith, high))) (pure_idle (Done f))
+
+  further_idle : f.form ≡ form.Variable → Idle (Done f) (further b Statement left f)
+  unfolding further
+  further_idle v = take_idle _ _ _ _ _ (high_false f.height left high) (index_idle (makes_array f.form) v)
+
+  to_nothing : (k : Form) → f.form ≡ form.Variable → f.form ≡ k → Nothing (to_statement b left f k)
+  unfolding to_statement assignment
+  to_nothing form.Variable v k = nothing_take _ _ _ _ (high_false f.height left high) (nothing_take _ _ _ _ (high_false f.height left high) nothing_stop)
+  to_nothing form.Statement v k = absurd (cc)
+  to_nothing form.Array v k = nothing_stop
+  to_nothing form.Value v k = nothing_stop
+
+module _ (left : ℕ) where
+  -- A variable that is too high: no token that goes on with it fits.
+  pub chain_nothing : (f : Found) → f.form ≡ form.Variable → left - 1 ≤ f.height → Nothing (chain left f)
+  unfolding chain
+  chain_nothing f v high = idle_bind f _ _ (loop_idle (further (below (left - 1)) Statement (left - 1)) f f (further_idle (left - 1) (below (left - 1)) f high v))
+      (nothing_bind _ _ (to_nothing (left - 1) (below (left - 1)) f high f.form v refl))
+
+  pub field_nothing : (f : Found) (x : Ident) → left - 1 ≤ f.height → Nothing (field left f x)
+  unfolding field field_or_call go_on
+  field_nothing f x high = idle_bind (On (selected f x)) _ _ (take_idle _ _ _ _ _ (below_false (extra Statement form.Statement + (f.height + 1)) (left - 1) (omega (arith, high))) (pure_idle (On (selected f x))))
+      (chain_nothing (selected f x) refl (omega (arith, high)))
+
+  pub run_named_nothing : (x : Ident) → left ≤ 2 → Nothing (run_named left x)
+  unfolding run_named name_or_call
+  run_named_nothing x le = idle_bind (named x) _ _ (take_idle _ _ _ _ _ (below_false (extra Statement form.Statement + 2) (left - 1) (omega (arith, le))) (pure_idle (named x)))
+      (chain_nothing (named x) refl (omega (arith, le)))
+
+  local_or_nothing : (locals : Bool) (other : Rule Begun) → left ≤ 2 → Nothing other → Nothing (local_or locals left other)
+  unfolding local_or
+  local_or_nothing false other le n = n
+  local_or_nothing true other le n = let three = below_false 3 left (omega (arith, le)) in
+      nothing_take _ _ _ _ three (nothing_take _ _ _ _ (below_false 4 left (omega (arith, le))) (nothing_take _ _ _ _ three (nothing_take _ _ _ _ three n)))
+
+  print_or_nothing : (prints locals : Bool) (other : Rule Begun) → (prints ≡ true → left ≤ 1) → Nothing other → Nothing (print_or prints locals left other)
+  unfolding print_or
+  print_or_nothing false locals other le n = n
+  print_or_nothing true locals other le n = nothing_take _ _ _ _ (below_false 2 left (let one = le refl in omega (arith, one))) n
+
+  pub begun_nothing : (prints locals : Bool) → left ≤ 2 → (prints ≡ true → left ≤ 1) → Nothing (begun prints locals left)
+  unfolding begun
+  begun_nothing prints locals le one = local_or_nothing locals _ le (print_or_nothing prints locals _ one (nothing_take _ _ _ _ (below_false 3 left (omega (arith, le)))
+      (nothing_bind _ _ (statement_of_nothing (left - 1) (below (left - 1)) (omega (arith, le))))))
