@@ -24,11 +24,11 @@ use Rattle.ix_parser.specs.declared.statement_trees.Begun.{Begun}
 use Rattle.ix_parser.specs.declared.statement_trees.Begun.TheVariants.{Local, Run, Print}
 use Rattle.ix_parser.specs.Rule.{Rule, pure, take, bind, stop, loop, Turn, On, Done, Outcome, Parser, and_then, look, taken, turned, turns, run}
 use Rattle.ix_parser.specs.Patterns.{sign, name_token, a_sign, a_name, one_of, assign_signs, step_signs}
-use Rattle.ix_parser.specs.Lists.{first_item, no_item}
-use Rattle.ix_parser.specs.AnnotGrammar.{no_notes}
+use Rattle.ix_parser.specs.Lists.{first_item, no_item, one_more}
+use Rattle.ix_parser.specs.AnnotGrammar.{no_notes, bare}
 use Rattle.ix_parser.specs.TypeGrammar as types
 use Rattle.ix_parser.specs.TypeGrammar.{based, counted, array_of, plain_type, IsType}
-use Rattle.ix_parser.specs.TypeRules.{pairs, type_rest, type_tree}
+use Rattle.ix_parser.specs.TypeRules.{pairs, noted_array, type_rest, type_tree}
 use Rattle.ix_parser.specs.DeclGrammar as decl
 use Rattle.ix_parser.specs.DeclGrammar.{no_mods, with_word, with_annot, local_words, shared, plain_decl, one_decl, IsMods, IsDecls}
 use Rattle.ix_parser.specs.DeclRules.{next_mod, decls}
@@ -186,3 +186,149 @@ module _ (left : ℕ) where
   unfolding begun
   begun_nothing prints locals le one = local_or_nothing locals _ le (print_or_nothing prints locals _ one (nothing_take _ _ _ _ (below_false 3 left (omega (arith, le)))
       (nothing_bind _ _ (statement_of_nothing (left - 1) (below (left - 1)) (omega (arith, le))))))
+
+-- ---- a certain word
+
+word_viable : {A : Type 0} {R : List Token → A → Type 0} (text : List ℕ) (fits : Bool) (p : Ident → Rule A) (q : Rule A) → (fits ≡ false → Goes R [])
+    → (fits ≡ true → (s : Span) → Viable (λ seen a. R (word_token text s ∷ seen) a) (p (the_word text s))) → Viable R q → Viable R (take (a_word text) fits p q)
+word_viable {R = R} text fits p q g vp vq = take_viable (a_word text) fits p q g (λ t x f e.
+    let is : t ≡ word_token text x.span = word_is text t.kind t.span x e in
+    let same : x ≡ the_word text x.span = word_name text t.kind t.span x e in
+    subst (λ y. Viable (λ seen a. R (t ∷ seen) a) (p y)) (sym same) (subst (λ u. Viable (λ seen a. R (u ∷ seen) a) (p (the_word text x.span))) (sym is) (vp f x.span))) vq
+
+word_exact : {A : Type 0} {R : List Token → A → Type 0} (text : List ℕ) (fits : Bool) (p : Ident → Rule A) (q : Rule A)
+    → (fits ≡ true → (s : Span) → Exact (λ seen a. R (word_token text s ∷ seen) a) (p (the_word text s))) → Exact R q → Exact R (take (a_word text) fits p q)
+word_exact text fits p q ep eq = record {
+  sound = fits_sound (a_word text) fits p q (λ f. word_sound text true p q (λ s. let x = ep f s in x.sound) eq.sound) eq.sound;
+  viable = word_viable text fits p q (λ f. eq.goes) (λ f s. let x = ep f s in x.viable) eq.viable;
+  goes = eq.goes;
+}
+
+-- ---- what begins with no word of its own
+
+-- Whether it may be the print statement, whether it may declare locals, and how high the statement may be.
+abbrev pub Beg : Bool → Bool → ℕ → List Token → Begun → Type 0
+Beg prints locals left ts (Local mods ty found) = (locals ≡ true) × IsLocal ts mods ty found × (found.height + 1 ≤ left)
+Beg prints locals left ts (Run f) = IsStatementExpr ts f × (f.height + 1 ≤ left)
+Beg prints locals left ts (Print system) = (prints ≡ true) × IsPrint ts system × (2 ≤ left)
+
+module _ (prints locals : Bool) (left : ℕ) where
+  abbrev Begins : List Token → Begun → Type 0
+  Begins = Beg prints locals left
+
+  -- ---- declarations
+
+  -- behind what is in front: modifiers and a type
+  declared_exact : locals ≡ true → (first second : List Token) (mods : FoundMods) (ty : FoundType) (x : Ident) → IsMods local_words first mods → IsType second ty → mods.height + 2 ≤ left → ty.height + 2 ≤ left → 3 ≤ left
+      → Exact (λ ts r. Begins (first ++ (second ++ (name_token x ∷ ts))) r) (declared left mods ty x)
+  unfolding declared
+  declared_exact may first second mods ty x m t a b c = map_exact _ _ (record {
+    sound = decls_sound IsInit init init_both (left - 1) (shared mods ty) x (omega (arith, a, b, c));
+    viable = decls_viable IsInit init init_both init_viable (left - 1) (shared mods ty) x (omega (arith, c)) (omega (arith, a, b, c));
+    goes = ([], one_decl (plain_decl (shared mods ty) x), (first_item (decl.plain x), omega (arith, a, b, c)));
+  }) (λ found us d. (may, g.local m t d.0, omega (arith, d.1, c)))
+
+  named_type_exact : locals ≡ true → (first second : List Token) (mods : FoundMods) (ty : FoundType) → IsMods local_words first mods → IsType second ty → mods.height + 2 ≤ left → ty.height + 2 ≤ left → 3 ≤ left
+      → Exact (λ ts r. Begins (first ++ (second ++ ts)) r) (named_type left mods ty)
+  unfolding named_type
+  named_type_exact may first second mods ty m t a b c = must_name _ (λ x. declared_exact may first second mods ty x m t a b c)
+
+  typed_exact : locals ≡ true → (first : List Token) (mods : FoundMods) → IsMods local_words first mods → mods.height + 2 ≤ left → 3 ≤ left → Exact (λ ts r. Begins (first ++ ts) r) (typed left mods)
+  unfolding typed
+  typed_exact may first mods m a c = bind_exact _ _ (record { sound = type_sound (left - 2); viable = type_viable (left - 2) (omega (arith, c)); goes = type_goes (left - 2) (omega (arith, c)) })
+      (λ ty seen d. named_type_exact may first seen mods ty m d.0 a (omega (arith, d.1, c)) c)
+
+  modified_exact : locals ≡ true → (front : List Token) (mods : FoundMods) → Modified local_words (left - 2) front mods → 3 ≤ left → Exact (λ ts r. Begins (front ++ ts) r) (modified left mods)
+  unfolding modified
+  modified_exact may front mods d c = bind_exact _ _ (turns_exact (next_mod local_words (left - 2)) (Modified local_words (left - 2)) next_exact mods front d)
+      (λ all seen m. exact_more _ (λ ts r b. subst (λ y. Begins y r) (append_assoc front seen ts) b) (typed_exact may (front ++ seen) all m.0 (omega (arith, m.1, c)) c))
+    where
+      next_exact : (found : FoundMods) (before : List Token) → Modified local_words (left - 2) before found → Exact (After (Modified local_words (left - 2)) (Modified local_words (left - 2)) before) (next_mod local_words (left - 2) found)
+      next_exact found before m = record {
+        sound = next_mod_sound local_words (left - 2) found before m;
+        viable = next_mod_viable local_words (left - 2) found before m;
+        goes = ([], Done found, subst (λ y. Modified local_words (left - 2) y found) (sym (append-nil before)) m);
+      }
+
+  plain_exact : locals ≡ true → (token : Token) (base : At BaseTree) → types.IsBase (token ∷ []) base → 1 + types.base_height base.value ≤ left - 2 → 3 ≤ left
+      → Exact (λ ts r. Begins (token ∷ ts) r) (bind (type_rest (left - 2) base) (named_type left no_mods))
+  plain_exact may token base b h c = bind_exact _ _ (record { sound = rest_fits (left - 2) base h; viable = rest_fits_viable (left - 2) base h; goes = ([], plain_type base, (types.no_rest, h)) })
+      (λ ty seen d. named_type_exact may [] (token ∷ seen) no_mods ty decl.none (types.type b d.0) (omega (arith, c)) (omega (arith, d.1, c)) c)
+
+  local_or_exact : (c : Bool) (other : Rule Begun) → locals ≡ c → Exact Begins other → Exact Begins (local_or c left other)
+  unfolding local_or
+  local_or_exact false other may o = o
+  local_or_exact true other may o = sign_exact FINAL _ _ _ (λ f s. modified_exact may (sign FINAL s ∷ []) (with_word no_mods Final s) (decl.word FINAL s refl decl.none, omega arith) (leb-true 3 left f))
+      (sign_exact AT _ _ _ (λ f at. bind_exact _ _ (record {
+        sound = annot_behind_sound (left - 2) at (omega (arith, leb-true 4 left f));
+        viable = annot_behind_viable (left - 2) at (omega (arith, leb-true 4 left f));
+        goes = annot_behind_goes (left - 2) at (omega (arith, leb-true 4 left f));
+      }) (λ n seen d. modified_exact may (sign AT at ∷ seen) (with_annot no_mods n) (decl.annot decl.none d.0, omega (arith, d.1)) (omega (arith, leb-true 4 left f))))
+      (sign_exact INT _ _ _ (λ f s. plain_exact may (sign INT s) (based Int s) (types.int s) (omega (arith, leb-true 3 left f)) (leb-true 3 left f))
+      (sign_exact BOOLEAN _ _ _ (λ f s. plain_exact may (sign BOOLEAN s) (based Boolean s) (types.boolean s) (omega (arith, leb-true 3 left f)) (leb-true 3 left f)) o)))
+
+  -- ---- expressions
+
+  run_goes : (front : List Token) → 1 ≤ left → Goes (Wanted aim.Statement (left - 1)) front → Goes (λ later r. Begins (front ++ later) r) []
+  run_goes front one goes = let (others, f, d) = goes in (others, Run f, (d.0, omega (arith, d.1, one)))
+
+  chain_run : (f : Found) (front : List Token) → 1 ≤ left → Prim aim.Statement (left - 1) front f → Exact (λ ts r. Begins (front ++ ts) r) (chain left f)
+  unfolding chain
+  chain_run f front one p = bind_exact _ _ (chain_exact (left - 1) (below (left - 1)) (exact_below (left - 1)) aim.Statement f front p)
+      (λ h seen q. exact_more _ (λ ts r b. subst (λ y. Begins y r) (append_assoc front seen ts) b)
+      (map_exact _ _ (to_statement_exact (left - 1) (below (left - 1)) (exact_below (left - 1)) h (front ++ seen) h.form refl q) (λ r us y. (y.0, omega (arith, y.1, one)))))
+
+  turn_run : (t : Turn Found Found) (front later : List Token) → 1 ≤ left → After (Prim aim.Statement (left - 1)) (Prim aim.Statement (left - 1)) front later t → Exact (λ ts r. Begins ((front ++ later) ++ ts) r) (go_on left t)
+  unfolding go_on
+  turn_run (On f) front later one p = chain_run f (front ++ later) one p
+  turn_run (Done f) front later one p = stop_exact (run_goes (front ++ later) one p.goes)
+
+  -- behind an expression, a dot and a name, where something could come
+  field_run : (f : Found) (front : List Token) (dot : Span) (x : Ident) → 1 ≤ left → IsExpr Primary front f → (f.height < left - 1) ⊎ (left - 1 ≤ f.height) → Goes (λ ts r. Begins (front ++ (sign DOT dot ∷ name_token x ∷ ts)) r) []
+      → Exact (λ ts r. Begins (front ++ (sign DOT dot ∷ name_token x ∷ ts)) r) (field left f x)
+  unfolding field
+  field_run f front dot x one d (inl lt) goes = bind_exact _ _ (field_or_call_exact (left - 1) (below (left - 1)) (exact_below (left - 1)) aim.Statement f front dot x d lt)
+      (λ t seen y. exact_more _ (λ ts r b. subst (λ z. Begins z r) (append_assoc front (sign DOT dot ∷ name_token x ∷ seen) ts) b) (turn_run t front (sign DOT dot ∷ name_token x ∷ seen) one y))
+  field_run f front dot x one d (inr le) goes = nothing_exact _ (field_nothing left f x le) goes
+
+  run_named_run : (x : Ident) → (2 < left) ⊎ (left ≤ 2) → Goes (λ ts r. Begins (name_token x ∷ ts) r) [] → Exact (λ ts r. Begins (name_token x ∷ ts) r) (run_named left x)
+  unfolding run_named
+  run_named_run x (inl lt) goes = bind_exact _ _ (name_or_call_exact (left - 1) (below (left - 1)) (exact_below (left - 1)) aim.Statement x (omega (arith, lt))) (λ f seen d. chain_run f (name_token x ∷ seen) (omega (arith, lt)) d)
+  run_named_run x (inr le) goes = nothing_exact _ (run_named_nothing left x le) goes
+
+  -- an index of an element that begins an assignment
+  abbrev Indexing : List Token → Found → Type 0
+  Indexing ts h = Low Whole 2 (left - 1) ts h × (5 ≤ left)
+
+  guarded_exact : (c : Bool) → nat_le 5 left ≡ c → Exact Indexing (guarded c (inner (below (left - 1)) 1)) ⊎ Nothing (guarded c (inner (below (left - 1)) 1))
+  unfolding guarded
+  guarded_exact true f = let five = leb-true 5 left f in inl (exact_more _ (λ ts h d. (d, five)) (inner_exact (left - 1) (below (left - 1)) (exact_below (left - 1)) 1 (omega arith) (omega (arith, five))))
+  guarded_exact false f = inr (whole_nothing 0 (below 0) (omega arith) refl)
+
+  indexed_exact : locals ≡ true → (x : Ident) (o : Span) → 4 ≤ left → Exact (λ ts r. Begins (name_token x ∷ sign OPEN_BRACKET o ∷ ts) r) (indexed left x)
+  unfolding indexed
+  indexed_exact may x o four = maybe_bind _ _ (guarded_exact (nat_le 5 left) refl)
+      (sign CLOSE_BRACKET here ∷ name_token some_name ∷ [], Local no_mods (array_of (based (Named x) x.span) no_notes (counted 1 here)) (one_decl (plain_decl (shared no_mods (array_of (based (Named x) x.span) no_notes (counted 1 here))) some_name)),
+      (may, g.local decl.none (types.type (types.named x) (types.array no_item (types.pair o here))) (first_item (decl.plain some_name)), omega (arith, four)))
+      (λ h seen d. must_sign CLOSE_BRACKET _ (λ r. exact_more _ (λ ts b y. subst (λ z. Begins (name_token x ∷ sign OPEN_BRACKET o ∷ z) b) (append_assoc seen (sign CLOSE_BRACKET r ∷ []) ts) y)
+      (chain_run (element (named x) h r) (name_token x ∷ sign OPEN_BRACKET o ∷ (seen ++ sign CLOSE_BRACKET r ∷ [])) (omega (arith, four))
+      (prim_of aim.Statement (left - 1) _ (element (named x) h r) (e.index o r (e.variable x) refl d.0.0) (omega (arith, d.0.1, d.1))))))
+
+  named_first_exact : (c : Bool) (x : Ident) → locals ≡ c → Goes (λ ts r. Begins (name_token x ∷ ts) r) [] → Exact (λ ts r. Begins (name_token x ∷ ts) r) (named_first c left x)
+  unfolding named_first
+  named_first_exact false x may goes = run_named_run x (room 2 left) goes
+  named_first_exact true x may goes = sign_exact OPEN_BRACKET _ _ _
+      (λ f o. sign_exact CLOSE_BRACKET true _ _ (λ t r. bind_exact _ _ (pairs_exact o r)
+      (λ found seen p. named_type_exact may [] (name_token x ∷ sign OPEN_BRACKET o ∷ sign CLOSE_BRACKET r ∷ seen) no_mods (array_of (based (Named x) x.span) no_notes found) decl.none (types.type (types.named x) (types.array no_item p)) (omega (arith, leb-true 4 left f)) (omega (arith, leb-true 4 left f)) (omega (arith, leb-true 4 left f))))
+      (indexed_exact may x o (leb-true 4 left f)))
+      (sign_exact AT _ _ _ (λ f at. bind_exact _ _ (noted_exact x at (leb-true 5 left f))
+      (λ ty seen d. named_type_exact may [] (name_token x ∷ sign AT at ∷ seen) no_mods ty decl.none (types.type (types.named x) d.0) (omega (arith, leb-true 5 left f)) (omega (arith, d.1, leb-true 5 left f)) (omega (arith, leb-true 5 left f))))
+      (name_exact _ _ _ (λ f y. declared_exact may [] (name_token x ∷ []) no_mods (plain_type (based (Named x) x.span)) y decl.none (types.type (types.named x) types.no_rest) (omega (arith, leb-true 4 left f)) (omega (arith, leb-true 4 left f)) (omega (arith, leb-true 4 left f)))
+      (run_named_run x (room 2 left) goes)))
+    where
+      noted_exact : (x : Ident) (at : Span) → 5 ≤ left → Exact (λ ts ty. RestOf (left - 2) (based (Named x) x.span) (sign AT at ∷ ts) ty) (noted_array (left - 2) (based (Named x) x.span) at)
+      noted_exact x at five = record {
+        sound = noted_array_sound (left - 2) (based (Named x) x.span) at (omega (arith, five));
+        viable = noted_array_viable (left - 2) (based (Named x) x.span) at (omega (arith, five));
+        goes = (name_token some_name ∷ sign OPEN_BRACKET here ∷ sign CLOSE_BRACKET here ∷ [], _, (types.array (one_more no_item (bare at some_name)) (types.pair here here), omega (arith, five)));
+      }
