@@ -32,7 +32,7 @@ use Rattle.ix_parser.specs.TypeRules.{pairs, noted_array, type_rest, type_tree}
 use Rattle.ix_parser.specs.DeclGrammar as decl
 use Rattle.ix_parser.specs.DeclGrammar.{no_mods, with_word, with_annot, local_words, shared, plain_decl, one_decl, IsMods, IsDecls}
 use Rattle.ix_parser.specs.DeclRules.{next_mod, decls}
-use Rattle.ix_parser.specs.ExprNodes.{named, selected, element, called, no_exprs, all_args}
+use Rattle.ix_parser.specs.ExprNodes.{named, selected, element, called, called_on, no_exprs, all_args}
 use Rattle.ix_parser.specs.ExprRules.{extra, makes_array, Below, below, inner, index, index_unless, further, field_or_call, name_or_call, assignment, to_statement, expr, statement_expr, init}
 use Rattle.ix_parser.specs.ExprGrammar as e
 use Rattle.ix_parser.specs.ExprGrammar.{Primary, Whole, IsExpr, IsInit, IsStatementExpr}
@@ -45,6 +45,7 @@ use Rattle.ix_parser.proofs.ListsSound.{fits_sound}
 use Rattle.ix_parser.proofs.AnnotSound.{annot_behind_sound}
 use Rattle.ix_parser.proofs.TypeSound.{Typed, RestOf, type_sound, rest_fits, noted_array_sound}
 use Rattle.ix_parser.proofs.DeclSound.{Modified, next_mod_sound, decls_sound}
+use Rattle.ix_parser.proofs.Follows.{tall}
 use Rattle.ix_parser.proofs.StmtSound.{init_both, word_is, word_name, the_word, word_sound, IsPrint}
 use Rattle.ix_parser.proofs.ViableRules.{Goes, Viable, Nothing, nothing_bind, take_viable, bind_err}
 use Rattle.ix_parser.proofs.ListsViable.{here, some_name}
@@ -52,7 +53,7 @@ use Rattle.ix_parser.proofs.AnnotViable.{annot_behind_goes, annot_behind_viable}
 use Rattle.ix_parser.proofs.TypeViable.{type_goes, type_viable, rest_fits_viable, noted_array_viable}
 use Rattle.ix_parser.proofs.DeclViable.{next_mod_viable, decls_viable}
 use Rattle.ix_parser.proofs.ExactRules.{Exact, exact_more, pure_exact, stop_exact, bind_exact, map_exact, maybe_bind, maybe_map, nothing_exact, turns_exact, sign_exact, name_exact, must_sign, must_name, nothing_stop, nothing_take}
-use Rattle.ix_parser.proofs.ExprExact.{Low, Wanted, Prim, prim_of, prim_name, inner_exact, pairs_exact}
+use Rattle.ix_parser.proofs.ExprExact.{Low, Wanted, Prim, prim_of, prim_name, inner_exact, pairs_exact, statement_of_level}
 use Rattle.ix_parser.proofs.ExprViable.{room, name_or_call_exact, field_or_call_exact, chain_exact, to_statement_exact, statement_exact, statement_of_nothing, whole_nothing, below_false, exact_below, init_viable}
 
 -- ---- rules that take nothing, and give this where they give something
@@ -332,3 +333,75 @@ module _ (prints locals : Bool) (left : ℕ) where
         viable = noted_array_viable (left - 2) (based (Named x) x.span) at (omega (arith, five));
         goes = (name_token some_name ∷ sign OPEN_BRACKET here ∷ sign CLOSE_BRACKET here ∷ [], _, (types.array (one_more no_item (bare at some_name)) (types.pair here here), omega (arith, five)));
       }
+
+-- ---- the print statement, which is as low as any that begins so
+
+module _ (locals : Bool) (left : ℕ) (two : 2 ≤ left) where
+  abbrev MaybePrint : List Token → Begun → Type 0
+  MaybePrint = Beg true locals left
+
+  -- a call behind an expression, a dot and a name
+  field_call : (f : Found) (front : List Token) (dot : Span) (y : Ident) → IsExpr Primary front f → f.height + 2 ≤ left → Goes (λ ts r. MaybePrint (front ++ (sign DOT dot ∷ name_token y ∷ ts)) r) []
+  field_call f front dot y d le = (sign OPEN_PAREN here ∷ sign CLOSE_PAREN here ∷ [], Run (called_on f y (all_args no_exprs here)),
+      (statement_of_level _ _ (e.primary (e.call_on dot y d (e.no_args here here))) refl, omega (arith, le, tall d)))
+
+  println_exact : (system dot out second println : Span)
+      → Exact (λ ts r. MaybePrint (word_token SYSTEM system ∷ sign DOT dot ∷ word_token OUT out ∷ sign DOT second ∷ word_token PRINTLN println ∷ ts) r) (println_part left (the_word SYSTEM system) (the_word OUT out) (the_word PRINTLN println))
+  unfolding println_part
+  println_exact system dot out second println = sign_exact OPEN_PAREN true _ _ (λ t o. pure_exact _ (refl, record { dot = dot; out = out; second = second; println = println; left = o; is = refl }, two))
+      (field_run true locals left (selected (named (the_word SYSTEM system)) (the_word OUT out)) (word_token SYSTEM system ∷ sign DOT dot ∷ word_token OUT out ∷ []) second (the_word PRINTLN println) (omega (arith, two))
+      (e.select dot (the_word OUT out) (e.variable (the_word SYSTEM system))) (room 3 (left - 1))
+      (sign OPEN_PAREN here ∷ [], Print system, (refl, record { dot = dot; out = out; second = second; println = println; left = here; is = refl }, two)))
+
+  out_exact : (system dot out : Span) → Exact (λ ts r. MaybePrint (word_token SYSTEM system ∷ sign DOT dot ∷ word_token OUT out ∷ ts) r) (out_part left (the_word SYSTEM system) (the_word OUT out))
+  unfolding out_part
+  out_exact system dot out = sign_exact DOT true _ _
+      (λ t second. word_exact PRINTLN true _ _ (λ u println. println_exact system dot out second println)
+      (name_exact _ _ _ (λ f y. field_run true locals left (selected (named (the_word SYSTEM system)) (the_word OUT out)) (word_token SYSTEM system ∷ sign DOT dot ∷ word_token OUT out ∷ []) second y (omega (arith, two))
+      (e.select dot (the_word OUT out) (e.variable (the_word SYSTEM system))) (inl (omega (arith, leb-true 5 left f)))
+      (field_call (selected (named (the_word SYSTEM system)) (the_word OUT out)) (word_token SYSTEM system ∷ sign DOT dot ∷ word_token OUT out ∷ []) second y (e.select dot (the_word OUT out) (e.variable (the_word SYSTEM system))) (omega (arith, leb-true 5 left f))))
+      (stop_exact (word_token PRINTLN here ∷ sign OPEN_PAREN here ∷ [], Print system, (refl, record { dot = dot; out = out; second = second; println = here; left = here; is = refl }, two)))))
+      (field_run true locals left (named (the_word SYSTEM system)) (word_token SYSTEM system ∷ []) dot (the_word OUT out) (omega (arith, two)) (e.variable (the_word SYSTEM system)) (room 2 (left - 1))
+      (sign DOT here ∷ word_token PRINTLN here ∷ sign OPEN_PAREN here ∷ [], Print system, (refl, record { dot = dot; out = out; second = here; println = here; left = here; is = refl }, two)))
+
+  system_exact : (system : Span) → Exact (λ ts r. MaybePrint (word_token SYSTEM system ∷ ts) r) (system_part locals left (the_word SYSTEM system))
+  unfolding system_part
+  system_exact system = sign_exact DOT true _ _
+      (λ t dot. word_exact OUT true _ _ (λ u out. out_exact system dot out)
+      (name_exact _ _ _ (λ f y. field_run true locals left (named (the_word SYSTEM system)) (word_token SYSTEM system ∷ []) dot y (omega (arith, two)) (e.variable (the_word SYSTEM system)) (inl (omega (arith, leb-true 4 left f)))
+      (field_call (named (the_word SYSTEM system)) (word_token SYSTEM system ∷ []) dot y (e.variable (the_word SYSTEM system)) (omega (arith, leb-true 4 left f))))
+      (stop_exact (word_token OUT here ∷ sign DOT here ∷ word_token PRINTLN here ∷ sign OPEN_PAREN here ∷ [], Print system, (refl, record { dot = dot; out = here; second = here; println = here; left = here; is = refl }, two)))))
+      (named_first_exact true locals left locals (the_word SYSTEM system) refl
+      (sign DOT here ∷ word_token OUT here ∷ sign DOT here ∷ word_token PRINTLN here ∷ sign OPEN_PAREN here ∷ [], Print system, (refl, record { dot = here; out = here; second = here; println = here; left = here; is = refl }, two)))
+
+-- Room for such a beginning: the print statement is the lowest.
+abbrev pub Roomy : Bool → ℕ → Type 0
+Roomy prints left = (3 ≤ left) ⊎ ((prints ≡ true) × (2 ≤ left))
+
+module _ (prints locals : Bool) (left : ℕ) where
+  begins_goes : Roomy prints left → Goes (Beg prints locals left) []
+  begins_goes (inl three) = (name_token some_name ∷ sign OPEN_PAREN here ∷ sign CLOSE_PAREN here ∷ [], Run (called some_name (all_args no_exprs here)),
+      (statement_of_level _ _ (e.primary (e.call some_name (e.no_args here here))) refl, omega (arith, three)))
+  begins_goes (inr (may, two)) = (word_token SYSTEM here ∷ sign DOT here ∷ word_token OUT here ∷ sign DOT here ∷ word_token PRINTLN here ∷ sign OPEN_PAREN here ∷ [], Print here,
+      (may, record { dot = here; out = here; second = here; println = here; left = here; is = refl }, two))
+
+  call_goes : (x : Ident) → 3 ≤ left → Goes (λ ts r. Beg prints locals left (name_token x ∷ ts) r) []
+  call_goes x three = (sign OPEN_PAREN here ∷ sign CLOSE_PAREN here ∷ [], Run (called x (all_args no_exprs here)), (statement_of_level _ _ (e.primary (e.call x (e.no_args here here))) refl, omega (arith, three)))
+
+  maybe_run : (2 < left) ⊎ (left ≤ 2) → Exact (λ ts f. IsStatementExpr ts f × (f.height ≤ left - 1)) (statement_expr (left - 1)) ⊎ Nothing (statement_expr (left - 1))
+  maybe_run (inl lt) = inl (statement_exact (left - 1) (below (left - 1)) (exact_below (left - 1)) (omega (arith, lt)))
+  maybe_run (inr le) = inr (statement_of_nothing (left - 1) (below (left - 1)) (omega (arith, le)))
+
+  room_one : Roomy prints left → 1 ≤ left
+  room_one (inl three) = omega (arith, three)
+  room_one (inr (may, two)) = omega (arith, two)
+
+  print_or_exact : (c : Bool) (other : Rule Begun) → prints ≡ c → Exact (Beg prints locals left) other → Exact (Beg prints locals left) (print_or c locals left other)
+  unfolding print_or
+  print_or_exact false other may o = o
+  print_or_exact true other may o = word_exact SYSTEM _ _ _ (λ f s. subst (λ c. Exact (λ ts r. Beg c locals left (word_token SYSTEM s ∷ ts) r) (system_part locals left (the_word SYSTEM s))) (sym may) (system_exact locals left (leb-true 2 left f) s)) o
+
+  pub begun_exact : Roomy prints left → Exact (Beg prints locals left) (begun prints locals left)
+  unfolding begun
+  begun_exact fit = local_or_exact prints locals left locals _ refl (print_or_exact prints _ refl (name_exact _ _ _ (λ f x. named_first_exact prints locals left locals x refl (call_goes x (leb-true 3 left f)))
+      (maybe_map _ _ (maybe_run (room 2 left)) (begins_goes fit) (λ f us d. (d.0, omega (arith, d.1, room_one fit))))))
