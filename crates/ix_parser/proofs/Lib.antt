@@ -48,3 +48,4 @@ mod DeclViable
 mod ClassViable
 mod SourceViable
 mod StmtViable
+mod StmtsViable

@@ -323,11 +323,11 @@ other_begun locals left ts f us p h = at (nat_le 2 left) refl
         apart_err : (ts : List Token) (f : Found) (us : List Token) → of_deep ts ≡ of_run f us → ⊥
         apart_err ts f us h = cc
 
-not_print : (locals : Bool) (left : ℕ) (ts : List Token) (f : Found) (us : List Token) → run (begun true locals left) ts ≡ of_run f us → (b : Bool) → begins_print ts ≡ b → begins_print ts ≡ false
+pub not_print : (locals : Bool) (left : ℕ) (ts : List Token) (f : Found) (us : List Token) → run (begun true locals left) ts ≡ of_run f us → (b : Bool) → begins_print ts ≡ b → begins_print ts ≡ false
 not_print locals left ts f us h true e = absurd (other_begun locals left ts f us (printed ts e) h)
 not_print locals left ts f us h false e = e
 
-front_print : (seen us : List Token) → begins_print (seen ++ us) ≡ false → begins_print seen ≡ false
+pub front_print : (seen us : List Token) → begins_print (seen ++ us) ≡ false → begins_print seen ≡ false
 front_print (t0 ∷ t1 ∷ t2 ∷ t3 ∷ t4 ∷ t5 ∷ later) us h = h
 front_print [] us h = refl
 front_print (t0 ∷ []) us h = refl

@@ -71,7 +71,7 @@ bind_err (Ok p) f x h = inr (p, refl, h)
 bind_err {A = A} {B = B} (Err y) f x h = inl (ap (stopped_at A) (stop_same B y x h))
 
 -- what goes on, further on
-further_goes : {A B : Type 0} (R : List Token → A → Type 0) (Q : List Token → B → Type 0) (seen : List Token) → Goes R seen → ((a : A) (ts : List Token) → R ts a → Goes (λ later b. Q (ts ++ later) b) []) → Goes Q seen
+pub further_goes : {A B : Type 0} (R : List Token → A → Type 0) (Q : List Token → B → Type 0) (seen : List Token) → Goes R seen → ((a : A) (ts : List Token) → R ts a → Goes (λ later b. Q (ts ++ later) b) []) → Goes Q seen
 further_goes R Q seen (others, a, r) f = let (more, b, q) = f a (seen ++ others) r in (others ++ more, b, subst (λ y. Q y b) (append_assoc seen others more) q)
 
 pub bind_viable : {A B : Type 0} {R : List Token → A → Type 0} {Q : List Token → B → Type 0} (p : Rule A) (f : A → Rule B) → Sound R p → Viable R p
