@@ -116,3 +116,115 @@ module _ (locals : Bool) (left : ℕ) (two : 2 ≤ left) where
         (seen, is, goes_print seen others r d (front_print seen us (subst (λ y. begins_print y ≡ false) is (stops_before ts us why h (begins_print ts) refl)))) };
     goes = (let (others, r, d) = x.goes in goes_print [] others r d refl);
   }
+
+-- ---- statements; behind one, no `else` comes that it could not take
+
+-- where it is known that none comes
+record Cautious (ends : Bool) {A : Type 0} (R : List Token → A → Type 0) (r : Rule A) : Type 0 where
+  at : (ts us : List Token) (why : Stop) → (ends ≡ true → look (a_sign ELSE) ts ≡ None) → run r ts ≡ Err (why, us) → (seen : List Token) × (ts ≡ seen ++ us) × Goes R seen
+
+cautious : {A : Type 0} {R : List Token → A → Type 0} (ends : Bool) (r : Rule A) → Viable R r → Cautious ends R r
+cautious ends r v = record { at = λ ts us why n h. v.at ts us why h }
+
+flag_bind_viable : {A : Type 0} {P : List Token → FoundStmt → Bool → Type 0} {Q : List Token → A → Type 0} (p : Rule FoundStmt) (f : FoundStmt → Rule A) → Flagged P p → Viable (λ ts a. (ends : Bool) × P ts a ends) p
+    → ((a : FoundStmt) (seen : List Token) (ends : Bool) → P seen a ends → Goes (λ later b. Q (seen ++ later) b) [])
+    → ((a : FoundStmt) (seen : List Token) (ends : Bool) → P seen a ends → Cautious ends (λ later b. Q (seen ++ later) b) (f a)) → Viable Q (bind p f)
+unfolding run
+flag_bind_viable {P = P} {Q = Q} p f sp vp gf vf = record {
+  at = λ ts us why h. elim (bind_err (run p ts) (λ a. run (f a)) (why, us) h) [
+    | inl x ↦ (let (seen, is, goes) = vp.at ts us why x in (seen, is, further_goes (λ ts a. (ends : Bool) × P ts a ends) Q seen goes (λ a ts r. gf a ts r.0 r.1)))
+    | inr d ↦ (
+        let (seen, is, ends, r, n) = sp.at ts d.0.1 d.0.0 d.1 in
+        let v = vf d.0.0 seen ends r in
+        let (later, same, (others, b, q)) = v.at d.0.1 us why n d.2 in
+        (seen ++ later, is ∙ ap (λ y. seen ++ y) same ∙ sym (append_assoc seen later us), (others, b, subst (λ y. Q y b) (sym (append_assoc seen later others)) q)))
+  ];
+}
+
+-- a rule that takes no token but an `else`
+no_else : {A : Type 0} {R : List Token → A → Type 0} (p : Span → Rule A) (a : A) → Cautious true R (take (a_sign ELSE) true p (pure a))
+unfolding run
+no_else {A = A} p a = record { at = λ ts us why n h. absurd (reads ts us why (look (a_sign ELSE) ts) (n refl) h) }
+  where
+    reads : (ts us : List Token) (why : Stop) (o : Option Span) → o ≡ None → taken true (λ s. run (p s)) (λ ts. Ok (a, ts)) o ts ≡ Err (why, us) → ⊥
+    reads ts us why (Some s) n h = absurd (cc)
+    reads ts us why None n h = absurd (cc)
+
+-- a statement that is so much lower
+abbrev AnyLower : ℕ → List Token → FoundStmt → Type 0
+AnyLower left ts a = ((ends : Bool) × IsStmt ends ts a) × (a.height + 1 ≤ left)
+
+abbrev BlockLower : ℕ → List Token → FoundStmt → Type 0
+BlockLower left ts a = IsBlockStmt ts a × (a.height + 1 ≤ left)
+
+record ViableStmts (left : ℕ) (p : StmtParts) : Type 0 where
+  plain : 2 ≤ left → Viable (AnyLower left) p.plain
+  block : 2 ≤ left → Viable (BlockLower left) p.block
+  none : left ≤ 1 → Nothing p.block
+
+abbrev pub LowStmt : ℕ → List Token → FoundStmt → Type 0
+LowStmt left ts a = ((ends : Bool) × IsStmt ends ts a) × (a.height ≤ left)
+
+abbrev empty_stmt : FoundStmt
+empty_stmt = g.stmt_node k.Empty 0 here
+
+module _ (left : ℕ) where
+  condition_exact : 2 ≤ left → Exact (λ ts f. IsCondition ts f × (f.height + 1 ≤ left)) (condition left)
+  unfolding condition
+  condition_exact two = must_sign OPEN_PAREN _ (λ o. bind_exact _ _ (whole_exact (left - 1) (below (left - 1)) (exact_below (left - 1)) (omega (arith, two)))
+      (λ f seen d. end_sign CLOSE_PAREN (λ c. f) (λ c. (record { left = o; right = c; inside = seen; is = refl; holds = d.0 }, omega (arith, d.1, two)))))
+
+module _ (parts : StmtParts) (left : ℕ) (s : SoundStmts parts) (l : LowStmts left parts) (v : ViableStmts left parts) where
+  flagged_low : Flagged (λ ts a ends. IsStmt ends ts a × (a.height + 1 ≤ left)) parts.plain
+  flagged_low = record { at = λ ts us a h. let p = s.plain in let low = l.plain in let (seen, is, ends, d, n) = p.at ts us a h in (seen, is, ends, (d, low.at ts us a h), n) }
+
+  any_sound : Sound (AnyLower left) parts.plain
+  any_sound = record { at = λ ts us a h. let p = s.plain in let low = l.plain in let (seen, is, ends, d, n) = p.at ts us a h in (seen, is, ((ends, d), low.at ts us a h)) }
+
+  any_exact : 2 ≤ left → Exact (AnyLower left) parts.plain
+  any_exact two = record { sound = any_sound; viable = v.plain two; goes = (sign SEMICOLON here ∷ [], empty_stmt, ((false, g.empty here), omega (arith, two))) }
+
+  -- ---- `if`
+
+  if_goes : (start : Span) (f : Found) (seen : List Token) → 2 ≤ left → IsCondition seen f → f.height + 1 ≤ left → Goes (λ later b. LowStmt left (sign IF start ∷ (seen ++ later)) b) []
+  if_goes start f seen two c h = (sign SEMICOLON here ∷ [], if_stmt start f empty_stmt,
+      ((true, subst (λ y. IsStmt true (sign IF start ∷ y) (if_stmt start f empty_stmt)) (behind c.left c.right c.inside (sign SEMICOLON here ∷ []) seen c.is) (g.if_then start c.left c.right c.holds (g.empty here))), omega (arith, h, two)))
+
+  then_goes : (start : Span) (f : Found) (seen later : List Token) (a : FoundStmt) (ends : Bool) → IsCondition seen f → f.height + 1 ≤ left → IsStmt ends later a → a.height + 1 ≤ left
+      → Goes (λ more b. LowStmt left (sign IF start ∷ (seen ++ (later ++ more))) b) []
+  then_goes start f seen later a ends c h d j = ([], if_stmt start f a, subst (λ y. LowStmt left (sign IF start ∷ (seen ++ y)) (if_stmt start f a)) (sym (append-nil later))
+      ((true, subst (λ y. IsStmt true (sign IF start ∷ y) (if_stmt start f a)) (behind c.left c.right c.inside later seen c.is) (g.if_then start c.left c.right c.holds d)), omega (arith, h, j)))
+
+  else_viable : (start : Span) (f : Found) (seen later : List Token) (a : FoundStmt) (ends : Bool) → 2 ≤ left → IsCondition seen f → f.height + 1 ≤ left → IsStmt ends later a → a.height + 1 ≤ left
+      → Cautious ends (λ more b. LowStmt left (sign IF start ∷ (seen ++ (later ++ more))) b) (else_part parts start f a)
+  unfolding else_part
+  else_viable start f seen later a true two c h d j = no_else _ _
+  else_viable start f seen later a false two c h d j = cautious false _ (sign_viable ELSE true _ _ (λ t. absurd (cc))
+      (λ t m. map_viable parts.plain (if_else_stmt start f a) any_sound (v.plain two) (λ b more x. ((x.0.0, subst (λ y. IsStmt x.0.0 (sign IF start ∷ y) (if_else_stmt start f a b))
+      (behind c.left c.right c.inside (later ++ (sign ELSE m ∷ more)) seen c.is) (g.if_else start c.left c.right m c.holds d x.0.1)), omega (arith, h, j, x.1))))
+      (pure_viable _))
+
+  if_viable : (start : Span) → 2 ≤ left → Viable (λ ts a. LowStmt left (sign IF start ∷ ts) a) (if_rule parts left start)
+  unfolding if_rule
+  if_viable start two = bind_viable _ _ (let x = condition_exact left two in x.sound) (let x = condition_exact left two in x.viable) (λ f seen c. if_goes start f seen two c.0 c.1)
+      (λ f seen c. flag_bind_viable _ _ flagged_low (weaken_viable _ (λ ts a d. (d.0.0, (d.0.1, d.1))) (v.plain two)) (λ a later ends d. then_goes start f seen later a ends c.0 c.1 d.0 d.1)
+      (λ a later ends d. else_viable start f seen later a ends two c.0 c.1 d.0 d.1))
+
+  if_exact : (start : Span) → 2 ≤ left → Exact (λ ts a. LowStmt left (sign IF start ∷ ts) a) (if_rule parts left start)
+  if_exact start two = record {
+    sound = record { at = λ ts us a h. let x = if_sound parts s left start in let low = if_low left parts l start in let (seen, is, ends, d, n) = x.at ts us a h in (seen, is, ((ends, d), low.at ts us a h)) };
+    viable = if_viable start two;
+    goes = (let x = condition_exact left two in let (others, f, c) = x.goes in let (more, a, d) = if_goes start f others two c.0 c.1 in (others ++ more, a, d));
+  }
+
+  -- ---- `while`, `do`
+
+  while_exact : (start : Span) → 2 ≤ left → Exact (λ ts a. LowStmt left (sign WHILE start ∷ ts) a) (while_rule parts left start)
+  unfolding while_rule
+  while_exact start two = bind_exact _ _ (condition_exact left two) (λ f seen c. map_exact _ (while_stmt start f) (any_exact two) (λ a later d. (
+      (d.0.0, (let x = c.0 in subst (λ y. IsStmt d.0.0 (sign WHILE start ∷ y) (while_stmt start f a)) (behind x.left x.right x.inside later seen x.is) (g.while_do start x.left x.right x.holds d.0.1))), omega (arith, c.1, d.1))))
+
+  do_exact : (start : Span) → 2 ≤ left → Exact (λ ts a. LowStmt left (sign DO start ∷ ts) a) (do_rule parts left start)
+  unfolding do_rule
+  do_exact start two = bind_exact _ _ (any_exact two) (λ a seen d. must_sign WHILE _ (λ w. bind_exact _ _ (condition_exact left two) (λ f more c. end_sign SEMICOLON (do_stmt start a f) (λ end. (
+      (false, (let x = c.0 in subst (λ y. IsStmt false (sign DO start ∷ (seen ++ (sign WHILE w ∷ y))) (do_stmt start a f end)) (behind x.left x.right x.inside (sign SEMICOLON end ∷ []) more x.is) (g.do_while start w x.left x.right end d.0.1 x.holds))), omega (arith, d.1, c.1))))))
