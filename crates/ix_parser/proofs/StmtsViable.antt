@@ -20,7 +20,7 @@ use Rattle.ix_parser.specs.declared.found.Several.{Several}
 use Rattle.ix_parser.specs.declared.statement_trees.Begun.{Begun}
 use Rattle.ix_parser.specs.declared.statement_trees.Begun.TheVariants.{Local, Run, Print}
 use Rattle.ix_parser.specs.Rule.{Rule, pure, take, bind, stop, loop, Turn, On, Done, Outcome, look, taken, run}
-use Rattle.ix_parser.specs.Patterns.{sign, name_token, string_token, a_sign}
+use Rattle.ix_parser.specs.Patterns.{sign, name_token, string_token, a_sign, a_text}
 use Rattle.ix_parser.specs.Lists.{IsSeparated, first_item, more_of, next_inside, braces_of, placed}
 use Rattle.ix_parser.specs.ClassGrammar.{no_stmts, with_stmt}
 use Rattle.ix_parser.specs.ExprNodes.{no_exprs, with_expr}
@@ -31,12 +31,12 @@ use Rattle.ix_parser.specs.StmtGrammar.{IsStmt, IsBlockStmt, IsStmts, IsLocal, I
 use Rattle.ix_parser.specs.StmtRules.{StmtParts, condition, else_part, if_rule, while_rule, do_rule, for_body, for_update, for_condition, for_part, for_rule, return_rule, throw_end, throw_rule, block_rule, finished, stmt_of, stmts_below, stmt, block_statement, begun}
 use Rattle.ix_parser.proofs.GiveRules.{Gives}
 use Rattle.ix_parser.proofs.Runs.{bind_ok}
-use Rattle.ix_parser.proofs.SoundRules.{Sound, After}
-use Rattle.ix_parser.proofs.ListsSound.{more_fits}
+use Rattle.ix_parser.proofs.SoundRules.{Sound, After, text_sound}
+use Rattle.ix_parser.proofs.ListsSound.{fits_sound, more_fits}
 use Rattle.ix_parser.proofs.StmtSound.{both, Flagged, IsPrint, six, print_reads, Printed, printed, not_print, front_print}
 use Rattle.ix_parser.proofs.StmtsSound.{Plain, SoundStmts, sound_stmts_below, IsCondition, behind, if_sound}
 use Rattle.ix_parser.proofs.StmtHeights.{LowStmts, low_stmts, if_low}
-use Rattle.ix_parser.proofs.ViableRules.{Goes, Viable, Nothing, nothing_bind, pure_viable, bind_viable, map_viable, weaken_viable, sign_viable, bind_err, further_goes}
+use Rattle.ix_parser.proofs.ViableRules.{Goes, Viable, Nothing, nothing_bind, pure_viable, bind_viable, map_viable, weaken_viable, sign_viable, text_viable, bind_err, further_goes}
 use Rattle.ix_parser.proofs.ListsViable.{here, some_name, more_viable}
 use Rattle.ix_parser.proofs.ExactRules.{Exact, exact_more, pure_exact, stop_exact, bind_exact, map_exact, maybe_bind, maybe_map, nothing_exact, loop_exact, sign_exact, must_sign, end_sign, must_name, nothing_stop, nothing_take}
 use Rattle.ix_parser.proofs.ExprViable.{room, whole_exact, statement_exact, statement_of_nothing, whole_nothing, below_false, exact_below}
@@ -150,6 +150,14 @@ no_else {A = A} p a = record { at = λ ts us why n h. absurd (reads ts us why (l
     reads ts us why (Some s) n h = absurd (cc)
     reads ts us why None n h = absurd (cc)
 
+text_exact : {A : Type 0} {R : List Token → A → Type 0} (fits : Bool) (p : At (List ℕ) → Rule A) (q : Rule A)
+    → (fits ≡ true → (x : At (List ℕ)) → Exact (λ seen a. R (string_token x.value x.span ∷ seen) a) (p x)) → Exact R q → Exact R (take a_text fits p q)
+text_exact fits p q ep eq = record {
+  sound = fits_sound a_text fits p q (λ f. text_sound true p q (λ x. let e = ep f x in e.sound) eq.sound) eq.sound;
+  viable = text_viable fits p q (λ f. eq.goes) (λ f x. let e = ep f x in e.viable) eq.viable;
+  goes = eq.goes;
+}
+
 -- a statement that is so much lower
 abbrev AnyLower : ℕ → List Token → FoundStmt → Type 0
 AnyLower left ts a = ((ends : Bool) × IsStmt ends ts a) × (a.height + 1 ≤ left)
@@ -228,3 +236,126 @@ module _ (parts : StmtParts) (left : ℕ) (s : SoundStmts parts) (l : LowStmts l
   unfolding do_rule
   do_exact start two = bind_exact _ _ (any_exact two) (λ a seen d. must_sign WHILE _ (λ w. bind_exact _ _ (condition_exact left two) (λ f more c. end_sign SEMICOLON (do_stmt start a f) (λ end. (
       (false, (let x = c.0 in subst (λ y. IsStmt false (sign DO start ∷ (seen ++ (sign WHILE w ∷ y))) (do_stmt start a f end)) (behind x.left x.right x.inside (sign SEMICOLON end ∷ []) more x.is) (g.do_while start w x.left x.right end d.0.1 x.holds))), omega (arith, d.1, c.1))))))
+
+  -- ---- `for`
+
+  -- a condition, where there is one
+  abbrev LowMaybe : Option Found → Type 0
+  LowMaybe cond = maybe_height cond + 1 ≤ left
+
+  for_body_exact : (start o fe ce right : Span) (ts us vs : List Token) (first : Stmts) (cond : Option Found) (update : Several) → 2 ≤ left → IsForFirst ts first → first.height + 1 ≤ left → IsMaybe us cond → LowMaybe cond
+      → IsUpdate vs update → update.height + 1 ≤ left
+      → Exact (λ ws a. LowStmt left (sign FOR start ∷ sign OPEN_PAREN o ∷ (ts ++ sign SEMICOLON fe ∷ (us ++ sign SEMICOLON ce ∷ (vs ++ sign CLOSE_PAREN right ∷ ws)))) a) (for_body parts start first cond update)
+  unfolding for_body
+  for_body_exact start o fe ce right ts us vs first cond update two a h b i c j = map_exact _ (for_stmt start first cond update) (any_exact two)
+      (λ f ws d. ((d.0.0, g.for_do start o fe ce right a b c d.0.1), omega (arith, h, i, j, d.1)))
+
+  -- expressions that are statements, with commas between them, of the height `most` at most
+  more_exact : {S : Type 0} (most : ℕ) (one : Found → S) (add : S → Found → S) (Q : S → Type 0) → ((x : S) (f : Found) → Q x → f.height ≤ most → Q (add x f)) → 2 ≤ most → (x : S) (front : List Token)
+      → IsSeparated IsStatementExpr one add front x → Q x → Exact (λ seen b. IsSeparated IsStatementExpr one add (front ++ seen) b × Q b) (more_of (statement_expr most) add x)
+  more_exact most one add Q keeps two x front d q = let item = statement_exact most (below most) (exact_below most) two in record {
+    sound = more_fits IsStatementExpr one add (statement_expr most) (λ f. f.height ≤ most) Q keeps item.sound x front d q;
+    viable = more_viable IsStatementExpr one add (statement_expr most) (λ f. f.height ≤ most) Q keeps item.sound item.viable x front d q;
+    goes = ([], x, (subst (λ y. IsSeparated IsStatementExpr one add y x) (sym (append-nil front)) d, q));
+  }
+
+  -- an update where there is room for one
+  abbrev Updating : List Token → Found → Type 0
+  Updating ts f = (IsStatementExpr ts f × (f.height ≤ left - 1)) × (3 ≤ left)
+
+  maybe_update : (2 < left) ⊎ (left ≤ 2) → Exact Updating (statement_expr (left - 1)) ⊎ Nothing (statement_expr (left - 1))
+  maybe_update (inl lt) = inl (exact_more _ (λ ts f d. (d, lt)) (statement_exact (left - 1) (below (left - 1)) (exact_below (left - 1)) (omega (arith, lt))))
+  maybe_update (inr le) = inr (statement_of_nothing (left - 1) (below (left - 1)) (omega (arith, le)))
+
+  for_update_exact : (start o fe ce : Span) (ts us : List Token) (first : Stmts) (cond : Option Found) → 2 ≤ left → IsForFirst ts first → first.height + 1 ≤ left → IsMaybe us cond → LowMaybe cond
+      → Exact (λ ws a. LowStmt left (sign FOR start ∷ sign OPEN_PAREN o ∷ (ts ++ sign SEMICOLON fe ∷ (us ++ sign SEMICOLON ce ∷ ws))) a) (for_update parts left start first cond)
+  unfolding for_update
+  for_update_exact start o fe ce ts us first cond two a h b i = sign_exact CLOSE_PAREN true _ _ (λ t r. for_body_exact start o fe ce r ts us [] first cond no_exprs two a h b i g.no_update (omega (arith, two)))
+      (maybe_bind _ _ (maybe_update (room 2 left))
+      (let x = for_body_exact start o fe ce here ts us [] first cond no_exprs two a h b i g.no_update (omega (arith, two)) in let (others, b, d) = x.goes in (sign CLOSE_PAREN here ∷ others, b, d))
+      (λ f seen x. bind_exact _ _ (more_exact (left - 1) one_expr with_expr (λ u. u.height + 1 ≤ left) (λ u f q le. omega (arith, q, le, two)) (omega (arith, x.1)) (one_expr f) seen (first_item x.0.0) (omega (arith, x.0.1, two)))
+      (λ update later d. must_sign CLOSE_PAREN _
+      (λ r. exact_more _ (λ ws c p. subst (λ y. LowStmt left (sign FOR start ∷ sign OPEN_PAREN o ∷ (ts ++ sign SEMICOLON fe ∷ (us ++ sign SEMICOLON ce ∷ y))) c) (append_assoc seen later (sign CLOSE_PAREN r ∷ ws)) p)
+      (for_body_exact start o fe ce r ts us (seen ++ later) first cond update two a h b i (g.updates d.0) d.1)))))
+
+  for_condition_exact : (start o fe : Span) (ts : List Token) (first : Stmts) → 2 ≤ left → IsForFirst ts first → first.height + 1 ≤ left
+      → Exact (λ ws a. LowStmt left (sign FOR start ∷ sign OPEN_PAREN o ∷ (ts ++ sign SEMICOLON fe ∷ ws)) a) (for_condition parts left start first)
+  unfolding for_condition
+  for_condition_exact start o fe ts first two a h = sign_exact SEMICOLON true _ _ (λ t ce. for_update_exact start o fe ce ts [] first None two a h g.absent (omega (arith, two)))
+      (bind_exact _ _ (whole_exact (left - 1) (below (left - 1)) (exact_below (left - 1)) (omega (arith, two)))
+      (λ f seen d. must_sign SEMICOLON _ (λ ce. for_update_exact start o fe ce ts seen first (Some f) two a h (g.present d.0) (omega (arith, d.1, two)))))
+
+  abbrev LowFirst : List Token → Stmts → Type 0
+  LowFirst ts first = IsForFirst ts first × (first.height + 1 ≤ left)
+
+  for_part_exact : (r : Begun) (front : List Token) → 4 ≤ left → Beg false true (left - 1) front r → Exact (λ later first. LowFirst (front ++ later) first) (for_part left r)
+  unfolding for_part
+  for_part_exact (Local mods ty found) front four d = pure_exact _ (subst (λ y. IsForFirst y (with_stmt no_stmts (g.local_stmt mods ty found found.end))) (sym (append-nil front)) (g.locals d.1), omega (arith, d.2, four))
+  for_part_exact (Run f) front four d = exact_more _ (λ ts x y. (g.runs y.0, y.1))
+      (more_exact (left - 2) one_run with_run (λ u. u.height + 1 ≤ left) (λ u f q le. omega (arith, q, le, four)) (omega (arith, four)) (one_run f) front (first_item d.0) (omega (arith, d.1, four)))
+  for_part_exact (Print system) front four d = absurd (not_so d.0)
+    where
+      not_so : false ≡ true → ⊥
+      not_so h = cc
+
+  -- a first part where there is room for one
+  abbrev Firsting : List Token → Begun → Type 0
+  Firsting ts r = Beg false true (left - 1) ts r × (4 ≤ left)
+
+  maybe_first : (3 < left) ⊎ (left ≤ 3) → Exact Firsting (begun false true (left - 1)) ⊎ Nothing (begun false true (left - 1))
+  maybe_first (inl lt) = inl (exact_more _ (λ ts r d. (d, lt)) (begun_exact false true (left - 1) (inl (omega (arith, lt)))))
+  maybe_first (inr le) = inr (begun_nothing (left - 1) false true (omega (arith, le)) (λ t. absurd (cc)))
+
+  for_exact : (start : Span) → 2 ≤ left → Exact (λ ts a. LowStmt left (sign FOR start ∷ ts) a) (for_rule parts left start)
+  unfolding for_rule
+  for_exact start two = must_sign OPEN_PAREN _ (λ o. sign_exact SEMICOLON true _ _ (λ t fe. for_condition_exact start o fe [] no_stmts two g.no_first (omega (arith, two)))
+      (maybe_bind _ _ (maybe_first (room 3 left))
+      (let x = for_condition_exact start o here [] no_stmts two g.no_first (omega (arith, two)) in let (others, a, d) = x.goes in (sign SEMICOLON here ∷ others, a, d))
+      (λ r seen d. bind_exact _ _ (for_part_exact r seen d.1 d.0) (λ first later x. must_sign SEMICOLON _
+      (λ fe. exact_more _ (λ ws c p. subst (λ y. LowStmt left (sign FOR start ∷ sign OPEN_PAREN o ∷ y) c) (append_assoc seen later (sign SEMICOLON fe ∷ ws)) p) (for_condition_exact start o fe (seen ++ later) first two x.0 x.1))))))
+
+  -- ---- the others
+
+  maybe_value : (1 < left) ⊎ (left ≤ 1) → Exact (λ ts f. IsExpr Whole ts f × (f.height + 1 ≤ left)) (expr (left - 1)) ⊎ Nothing (expr (left - 1))
+  maybe_value (inl lt) = inl (exact_more _ (λ ts f d. (d.0, omega (arith, d.1, lt))) (whole_exact (left - 1) (below (left - 1)) (exact_below (left - 1)) (omega (arith, lt))))
+  maybe_value (inr le) = inr (whole_nothing (left - 1) (below (left - 1)) (omega (arith, le)) (omega (arith, le)))
+
+  return_exact : (start : Span) → 1 ≤ left → Exact (λ ts a. LowStmt left (sign RETURN start ∷ ts) a) (return_rule left start)
+  unfolding return_rule
+  return_exact start one = sign_exact SEMICOLON true _ _ (λ t end. pure_exact _ ((false, g.returns start end g.absent), omega (arith, one)))
+      (maybe_bind _ _ (maybe_value (room 1 left)) (sign SEMICOLON here ∷ [], g.return_stmt start None here, ((false, g.returns start here g.absent), omega (arith, one)))
+      (λ f seen d. end_sign SEMICOLON (g.return_stmt start (Some f)) (λ end. ((false, g.returns start end (g.present d.0)), omega (arith, d.1)))))
+
+  throw_end_exact : (start m o : Span) (x : Ident) (reason : List Token) → 2 ≤ left → IsReason reason → Exact (λ ts a. LowStmt left (sign THROW start ∷ sign NEW m ∷ name_token x ∷ sign OPEN_PAREN o ∷ (reason ++ ts)) a) (throw_end start x)
+  unfolding throw_end
+  throw_end_exact start m o x reason two d = must_sign CLOSE_PAREN _ (λ c. end_sign SEMICOLON (g.throw_stmt start x) (λ end. ((false, g.throws start m x o c end d), omega (arith, two))))
+
+  throw_exact : (start : Span) → 2 ≤ left → Exact (λ ts a. LowStmt left (sign THROW start ∷ ts) a) (throw_rule start)
+  unfolding throw_rule
+  throw_exact start two = must_sign NEW _ (λ m. must_name _ (λ x. must_sign OPEN_PAREN _ (λ o. text_exact true _ _ (λ t u. throw_end_exact start m o x (string_token u.value u.span ∷ []) two (g.reason u.value u.span))
+      (throw_end_exact start m o x [] two g.no_reason))))
+
+  -- ---- blocks
+
+  abbrev Block : List Token → Stmts → Type 0
+  Block ts found = IsStmts ts found × (found.height + 1 ≤ left)
+
+  abbrev ClosedBlock : List Token → At Stmts → Type 0
+  ClosedBlock ts r = ((seen : List Token) × (ts ≡ seen ++ sign CLOSE_BRACE r.span ∷ []) × IsStmts seen r.value) × (r.value.height + 1 ≤ left)
+
+  maybe_block : (1 < left) ⊎ (left ≤ 1) → Exact (BlockLower left) parts.block ⊎ Nothing parts.block
+  maybe_block (inl lt) = inl (record { sound = both parts.block s.block l.block; viable = v.block lt; goes = (sign SEMICOLON here ∷ [], empty_stmt, (g.stmt (g.empty here), lt)) })
+  maybe_block (inr le) = inr (v.none le)
+
+  closes : (found : Stmts) (front : List Token) → Block front found → Goes (λ later r. ClosedBlock (front ++ later) r) []
+  closes found front d = (sign CLOSE_BRACE here ∷ [], placed found here, ((front, refl, d.0), d.1))
+
+  inside_exact : (found : Stmts) (front : List Token) → Block front found → Exact (After Block ClosedBlock front) (next_inside parts.block with_stmt found)
+  unfolding next_inside
+  inside_exact found front d = sign_exact CLOSE_BRACE true _ _ (λ t r. pure_exact _ ((front, refl, d.0), d.1))
+      (maybe_map parts.block (λ a. On (with_stmt found a)) (maybe_block (room 1 left)) (let (others, r, c) = closes found front d in (others, Done r, c)) (λ a seen x. (g.one_more d.0 x.0, omega (arith, d.1, x.1))))
+
+  block_exact : (o : Span) → 1 ≤ left → Exact (λ ts a. LowStmt left (sign OPEN_BRACE o ∷ ts) a) (block_rule parts o)
+  unfolding block_rule braces_of
+  block_exact o one = map_exact _ (λ r. g.block_stmt o r.value r.span) (loop_exact (next_inside parts.block with_stmt) Block ClosedBlock inside_exact closes no_stmts [] (g.none, one))
+      (λ r ts d. ((false, subst (λ y. IsStmt false (sign OPEN_BRACE o ∷ y) (g.block_stmt o r.value r.span)) (sym d.0.1) (g.block o r.span d.0.2)), d.1))
