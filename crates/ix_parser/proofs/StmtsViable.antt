@@ -359,3 +359,72 @@ module _ (parts : StmtParts) (left : ℕ) (s : SoundStmts parts) (l : LowStmts l
   unfolding block_rule braces_of
   block_exact o one = map_exact _ (λ r. g.block_stmt o r.value r.span) (loop_exact (next_inside parts.block with_stmt) Block ClosedBlock inside_exact closes no_stmts [] (g.none, one))
       (λ r ts d. ((false, subst (λ y. IsStmt false (sign OPEN_BRACE o ∷ y) (g.block_stmt o r.value r.span)) (sym d.0.1) (g.block o r.span d.0.2)), d.1))
+
+  -- ---- all of them: a statement, or a statement of a block, which may declare locals
+
+  module _ (locals : Bool) (P : List Token → FoundStmt → Type 0) (plain : (ts : List Token) (a : FoundStmt) (ends : Bool) → IsStmt ends ts a → P ts a)
+      (declares : locals ≡ true → (end : Span) (ts : List Token) (mods : FoundMods) (ty : FoundType) (found : FoundDecls) → IsLocal ts mods ty found → P (ts ++ sign SEMICOLON end ∷ []) (g.local_stmt mods ty found end)) where
+    abbrev Lowly : List Token → FoundStmt → Type 0
+    Lowly ts a = P ts a × (a.height ≤ left)
+
+    print_end : (system end c : Span) (f : Found) (front seen : List Token) → IsPrint front system → IsExpr Whole seen f → IsStmt false (front ++ (seen ++ (sign CLOSE_PAREN c ∷ sign SEMICOLON end ∷ []))) (g.print_stmt system f end)
+    print_end system end c f front seen p d = subst (λ y. IsStmt false (y ++ (seen ++ (sign CLOSE_PAREN c ∷ sign SEMICOLON end ∷ []))) (g.print_stmt system f end)) (sym p.is) (g.print system p.dot p.out p.second p.println p.left c end d)
+
+    finish_exact : (r : Begun) (front : List Token) → BegStmt locals left front r → Exact (λ ts a. Lowly (front ++ ts) a) (finished left r)
+    unfolding finished
+    finish_exact (Local mods ty found) front d = end_sign SEMICOLON (g.local_stmt mods ty found) (λ end. (declares d.0 end front mods ty found d.1, d.2))
+    finish_exact (Run f) front d = end_sign SEMICOLON (g.run_stmt f) (λ end. (plain _ _ false (g.runs end d.0 d.1), d.2))
+    finish_exact (Print system) front d = bind_exact _ _ (whole_exact (left - 1) (below (left - 1)) (exact_below (left - 1)) (omega (arith, d.1)))
+        (λ f seen x. must_sign CLOSE_PAREN _ (λ c. end_sign SEMICOLON (g.print_stmt system f) (λ end. (plain _ _ false (print_end system end c f front seen d.0 x.0), omega (arith, x.1, d.1)))))
+
+    -- a beginning where there is room for one
+    maybe_begun : (1 < left) ⊎ (left ≤ 1) → Exact (BegStmt locals left) (begun true locals left) ⊎ Nothing (begun true locals left)
+    maybe_begun (inl lt) = inl (begun_stmt_exact locals left lt)
+    maybe_begun (inr le) = inr (begun_nothing left true locals (omega (arith, le)) (λ t. le))
+
+    low_stmt : (t : Token) (r : Rule FoundStmt) → Exact (λ ts a. LowStmt left (t ∷ ts) a) r → Exact (λ ts a. Lowly (t ∷ ts) a) r
+    low_stmt t r x = exact_more r (λ ts a d. (plain (t ∷ ts) a d.0.0 d.0.1, d.1)) x
+
+    stmt_exact : 1 ≤ left → Exact Lowly (stmt_of parts locals left)
+    unfolding stmt_of
+    stmt_exact one = sign_exact OPEN_BRACE _ _ _ (λ t o. low_stmt (sign OPEN_BRACE o) _ (block_exact o one)) (sign_exact SEMICOLON _ _ _ (λ t end. pure_exact _ (plain _ _ false (g.empty end), one))
+        (sign_exact IF _ _ _ (λ t start. low_stmt (sign IF start) _ (if_exact start (leb-true 2 left t))) (sign_exact WHILE _ _ _ (λ t start. low_stmt (sign WHILE start) _ (while_exact start (leb-true 2 left t)))
+        (sign_exact DO _ _ _ (λ t start. low_stmt (sign DO start) _ (do_exact start (leb-true 2 left t))) (sign_exact FOR _ _ _ (λ t start. low_stmt (sign FOR start) _ (for_exact start (leb-true 2 left t)))
+        (sign_exact BREAK _ _ _ (λ t start. end_sign SEMICOLON (λ end. g.stmt_node k.Break 0 (across start end)) (λ end. (plain _ _ false (g.breaks start end), one)))
+        (sign_exact CONTINUE _ _ _ (λ t start. end_sign SEMICOLON (λ end. g.stmt_node k.Continue 0 (across start end)) (λ end. (plain _ _ false (g.continues start end), one)))
+        (sign_exact RETURN _ _ _ (λ t start. low_stmt (sign RETURN start) _ (return_exact start one)) (sign_exact THROW _ _ _ (λ t start. low_stmt (sign THROW start) _ (throw_exact start (leb-true 2 left t)))
+        (maybe_bind _ _ (maybe_begun (room 1 left)) (sign SEMICOLON here ∷ [], empty_stmt, (plain _ _ false (g.empty here), one)) (λ r seen d. finish_exact r seen d)))))))))))
+
+  pub plain_exact : 1 ≤ left → Exact (LowStmt left) (stmt_of parts false left)
+  plain_exact one = stmt_exact false (λ ts a. (ends : Bool) × IsStmt ends ts a) (λ ts a ends d. (ends, d)) (λ h end ts mods ty found d. absurd (cc)) one
+
+  abbrev LowBlock : List Token → FoundStmt → Type 0
+  LowBlock ts a = IsBlockStmt ts a × (a.height ≤ left)
+
+  pub block_stmt_exact : 1 ≤ left → Exact LowBlock (stmt_of parts true left)
+  block_stmt_exact one = stmt_exact true IsBlockStmt (λ ts a ends d. g.stmt d) (λ h end ts mods ty found d. g.locals end d) one
+
+-- where nothing is left
+stmt_nothing : (parts : StmtParts) (locals : Bool) (left : ℕ) → left ≡ 0 → Nothing (stmt_of parts locals left)
+unfolding stmt_of
+stmt_nothing parts locals left z =
+    let one = below_false 1 left (omega (arith, z)) in
+    let two = below_false 2 left (omega (arith, z)) in
+    nothing_take _ _ _ _ one (nothing_take _ _ _ _ one (nothing_take _ _ _ _ two (nothing_take _ _ _ _ two (nothing_take _ _ _ _ two (nothing_take _ _ _ _ two
+    (nothing_take _ _ _ _ one (nothing_take _ _ _ _ one (nothing_take _ _ _ _ one (nothing_take _ _ _ _ two
+    (nothing_bind _ _ (begun_nothing left true locals (omega (arith, z)) (λ t. omega (arith, z)))))))))))))
+
+viable_stmts : (left : ℕ) → ViableStmts left (stmts_below left)
+unfolding stmts_below
+viable_stmts zero = record { plain = λ two. absurd (omega (arith, two)); block = λ two. absurd (omega (arith, two)); none = λ le. nothing_stop }
+viable_stmts (suc left) = record {
+  plain = λ two. let x = plain_exact (stmts_below left) left (sound_stmts_below left) (low_stmts left) (viable_stmts left) (omega (arith, two)) in weaken_viable _ (λ ts a d. (d.0, omega (arith, d.1))) x.viable;
+  block = λ two. let x = block_stmt_exact (stmts_below left) left (sound_stmts_below left) (low_stmts left) (viable_stmts left) (omega (arith, two)) in weaken_viable _ (λ ts a d. (d.0, omega (arith, d.1))) x.viable;
+  none = λ le. stmt_nothing (stmts_below left) true left (omega (arith, le));
+}
+
+pub stmt_viable : (left : ℕ) → 1 ≤ left → Viable (λ ts a. ((ends : Bool) × IsStmt ends ts a) × (a.height ≤ left)) (stmt left)
+stmt_viable left one = let x = plain_exact (stmts_below left) left (sound_stmts_below left) (low_stmts left) (viable_stmts left) one in x.viable
+
+pub block_statement_viable : (left : ℕ) → 1 ≤ left → Viable (λ ts (s : FoundStmt). IsBlockStmt ts s × (s.height ≤ left)) (block_statement left)
+block_statement_viable left one = let x = block_stmt_exact (stmts_below left) left (sound_stmts_below left) (low_stmts left) (viable_stmts left) one in x.viable
