@@ -1,10 +1,10 @@
 -- Where the rules of statements stop, what they took goes on to a statement that is low enough.
-use Rattle.std.proofs.Common.{◌≡◌, ℕ, zero, suc, ◌+◌, ◌-◌, ◌<◌, ◌≤◌, max, nat_le, arith, length, Bool, true, false, List, [], ◌∷◌, ◌++◌, Option, Some, None, Result, Ok, Err, refl, sym, ap, subst, ◌∙◌, append_assoc, ◌⊎◌, inl, inr}
+use Rattle.std.proofs.Common.{◌≡◌, ℕ, zero, suc, ◌+◌, ◌-◌, ◌<◌, ◌≤◌, arith, length, Bool, true, false, List, [], ◌∷◌, ◌++◌, Option, Some, None, Ok, Err, refl, sym, ap, subst, ◌∙◌, append_assoc, ◌⊎◌, inl, inr}
 use Rattle.std.proofs.lemmas.List.{append-nil}
 use Rattle.std.proofs.lemmas.Bool.{leb-true}
 use Rattle.ix_text.specs.declared.span.Span.{Span}
 use Rattle.ix_lexer.specs.declared.token.Token.{Token}
-use Rattle.ix_lexer.specs.declared.fixed.TheConstants.{IF, ELSE, WHILE, DO, FOR, BREAK, CONTINUE, RETURN, THROW, NEW, DOT, SEMICOLON, OPEN_PAREN, CLOSE_PAREN, OPEN_BRACE, CLOSE_BRACE}
+use Rattle.ix_lexer.specs.declared.fixed.TheConstants.{IF, ELSE, WHILE, DO, FOR, BREAK, CONTINUE, RETURN, THROW, NEW, SEMICOLON, OPEN_PAREN, CLOSE_PAREN, OPEN_BRACE, CLOSE_BRACE}
 use Rattle.ix_tree.specs.declared.annot.Ident.{Ident}
 use Rattle.ix_tree.specs.declared.stmt.StmtKind.TheVariants as k
 use Rattle.ix_parser.specs.Nodes.{across}
@@ -19,7 +19,7 @@ use Rattle.ix_parser.specs.declared.found.FoundType.{FoundType}
 use Rattle.ix_parser.specs.declared.found.Several.{Several}
 use Rattle.ix_parser.specs.declared.statement_trees.Begun.{Begun}
 use Rattle.ix_parser.specs.declared.statement_trees.Begun.TheVariants.{Local, Run, Print}
-use Rattle.ix_parser.specs.Rule.{Rule, pure, take, bind, stop, loop, Turn, On, Done, Outcome, look, taken, run}
+use Rattle.ix_parser.specs.Rule.{Rule, pure, take, bind, On, Done, Outcome, look, taken, run}
 use Rattle.ix_parser.specs.Patterns.{sign, name_token, string_token, a_sign, a_text}
 use Rattle.ix_parser.specs.Lists.{IsSeparated, first_item, more_of, next_inside, braces_of, placed}
 use Rattle.ix_parser.specs.ClassGrammar.{no_stmts, with_stmt}
@@ -29,16 +29,14 @@ use Rattle.ix_parser.specs.ExprGrammar.{Whole, IsExpr, IsStatementExpr}
 use Rattle.ix_parser.specs.StmtGrammar as g
 use Rattle.ix_parser.specs.StmtGrammar.{IsStmt, IsBlockStmt, IsStmts, IsLocal, IsForFirst, IsMaybe, IsUpdate, IsReason, begins_print, maybe_height, if_stmt, if_else_stmt, while_stmt, do_stmt, for_stmt, one_run, with_run, one_expr}
 use Rattle.ix_parser.specs.StmtRules.{StmtParts, condition, else_part, if_rule, while_rule, do_rule, for_body, for_update, for_condition, for_part, for_rule, return_rule, throw_end, throw_rule, block_rule, finished, stmt_of, stmts_below, stmt, block_statement, begun}
-use Rattle.ix_parser.proofs.GiveRules.{Gives}
-use Rattle.ix_parser.proofs.Runs.{bind_ok}
 use Rattle.ix_parser.proofs.SoundRules.{Sound, After, text_sound}
 use Rattle.ix_parser.proofs.ListsSound.{fits_sound, more_fits}
 use Rattle.ix_parser.proofs.StmtSound.{both, Flagged, IsPrint, six, print_reads, Printed, printed, not_print, front_print}
-use Rattle.ix_parser.proofs.StmtsSound.{Plain, SoundStmts, sound_stmts_below, IsCondition, behind, if_sound}
+use Rattle.ix_parser.proofs.StmtsSound.{SoundStmts, sound_stmts_below, IsCondition, behind, if_sound}
 use Rattle.ix_parser.proofs.StmtHeights.{LowStmts, low_stmts, if_low}
 use Rattle.ix_parser.proofs.ViableRules.{Goes, Viable, Nothing, nothing_bind, pure_viable, bind_viable, map_viable, weaken_viable, sign_viable, text_viable, bind_err, further_goes}
-use Rattle.ix_parser.proofs.ListsViable.{here, some_name, more_viable}
-use Rattle.ix_parser.proofs.ExactRules.{Exact, exact_more, pure_exact, stop_exact, bind_exact, map_exact, maybe_bind, maybe_map, nothing_exact, loop_exact, sign_exact, must_sign, end_sign, must_name, nothing_stop, nothing_take}
+use Rattle.ix_parser.proofs.ListsViable.{here, more_viable}
+use Rattle.ix_parser.proofs.ExactRules.{Exact, exact_more, pure_exact, bind_exact, map_exact, maybe_bind, maybe_map, loop_exact, sign_exact, must_sign, end_sign, must_name, nothing_stop, nothing_take}
 use Rattle.ix_parser.proofs.ExprViable.{room, whole_exact, statement_exact, statement_of_nothing, whole_nothing, below_false, exact_below}
 use Rattle.ix_parser.proofs.StmtViable.{Beg, begun_exact, begun_nothing}
 
@@ -395,13 +393,13 @@ module _ (parts : StmtParts) (left : ℕ) (s : SoundStmts parts) (l : LowStmts l
         (sign_exact RETURN _ _ _ (λ t start. low_stmt (sign RETURN start) _ (return_exact start one)) (sign_exact THROW _ _ _ (λ t start. low_stmt (sign THROW start) _ (throw_exact start (leb-true 2 left t)))
         (maybe_bind _ _ (maybe_begun (room 1 left)) (sign SEMICOLON here ∷ [], empty_stmt, (plain _ _ false (g.empty here), one)) (λ r seen d. finish_exact r seen d)))))))))))
 
-  pub plain_exact : 1 ≤ left → Exact (LowStmt left) (stmt_of parts false left)
+  plain_exact : 1 ≤ left → Exact (LowStmt left) (stmt_of parts false left)
   plain_exact one = stmt_exact false (λ ts a. (ends : Bool) × IsStmt ends ts a) (λ ts a ends d. (ends, d)) (λ h end ts mods ty found d. absurd (cc)) one
 
   abbrev LowBlock : List Token → FoundStmt → Type 0
   LowBlock ts a = IsBlockStmt ts a × (a.height ≤ left)
 
-  pub block_stmt_exact : 1 ≤ left → Exact LowBlock (stmt_of parts true left)
+  block_stmt_exact : 1 ≤ left → Exact LowBlock (stmt_of parts true left)
   block_stmt_exact one = stmt_exact true IsBlockStmt (λ ts a ends d. g.stmt d) (λ h end ts mods ty found d. g.locals end d) one
 
 -- where nothing is left
