@@ -49,3 +49,4 @@ mod ClassViable
 mod SourceViable
 mod StmtViable
 mod StmtsViable
+mod SourceStops
