@@ -1,5 +1,5 @@
 -- Rules that are sound, and that stop only where what they took goes on: both at once, for the ways in which rules are put together.
-use Rattle.std.proofs.Common.{◌≡◌, ℕ, zero, suc, ◌+◌, ◌≤◌, ℤ, arith, Bool, true, false, List, [], ◌∷◌, ◌++◌, Option, Some, None, Result, Ok, Err, refl, sym, ap, subst, ◌⊎◌, inl, inr}
+use Rattle.std.proofs.Common.{◌≡◌, ℕ, ◌+◌, ℤ, Bool, true, false, List, [], ◌∷◌, ◌++◌, Option, Some, None, Ok, Err, refl, sym, ap, subst, ◌⊎◌, inl, inr}
 use Rattle.std.proofs.lemmas.List.{append-nil}
 use Rattle.ix_text.specs.declared.span.Span.{Span}
 use Rattle.ix_lexer.specs.declared.token.Token.{Token}
@@ -8,7 +8,8 @@ use Rattle.ix_tree.specs.declared.expr.BinaryOp.{BinaryOp}
 use Rattle.ix_parser.specs.declared.found.At.{At}
 use Rattle.ix_parser.specs.declared.error.Stop.{Stop}
 use Rattle.ix_parser.specs.declared.error.Stop.TheVariants.{Syntax, TooDeep}
-use Rattle.ix_parser.specs.Rule.{Rule, pure, take, bind, stop, loop, Turn, On, Done, Outcome, Parser, look, run, taken}
+use Rattle.ix_parser.specs.Rule.{Rule, pure, take, bind, stop, loop, Turn, Done, Outcome, Parser, and_then, look, run, taken}
+use Rattle.ix_parser.proofs.Runs.{loop_done, loop_stops}
 use Rattle.ix_parser.specs.Patterns.{sign, name_token, number_token, least_token, a_sign, a_name, a_number, a_least, one_of, row, an_operator, binary_signs}
 use Rattle.ix_parser.proofs.SoundRules.{Sound, After, weaken, pure_sound, stop_sound, bind_sound, map_sound, loop_sound, sign_sound, name_sound, number_sound, least_sound, one_sound, operator_sound}
 use Rattle.ix_parser.proofs.ListsSound.{fits_sound}
@@ -164,6 +165,16 @@ taken_refuses : {A V : Type 0} (p : V → Parser A) (q : Parser A) (ts : List To
 taken_refuses p q ts r (Some v) = refused_here TooDeep ts (Err (TooDeep, ts)) refl
 taken_refuses p q ts r None = r
 
+-- a rule that gives the same, or stops here
+taken_idle : {A V : Type 0} (a : A) (p : V → Parser A) (q : Parser A) (ts : List Token) → (q ts ≡ Ok (a, ts)) ⊎ ((why : Stop) × (q ts ≡ Err (why, ts))) → (o : Option V)
+    → (taken false p q o ts ≡ Ok (a, ts)) ⊎ ((why : Stop) × (taken false p q o ts ≡ Err (why, ts)))
+taken_idle a p q ts i (Some v) = inr (TooDeep, refl)
+taken_idle a p q ts i None = i
+
+bound_idle : {A B : Type 0} (a : A) (o : Outcome A) (f : A → Parser B) (ts : List Token) → Refuses (f a ts) ts → (o ≡ Ok (a, ts)) ⊎ ((why : Stop) × (o ≡ Err (why, ts))) → Refuses (and_then o f) ts
+bound_idle {A = A} a o f ts r (inl e) = subst (λ (o : Outcome A). Refuses (and_then o f) ts) (sym e) r
+bound_idle a o f ts r (inr (why, e)) = refused_here why ts (and_then o f) (ap (λ o. and_then o f) e)
+
 -- a token that is too high, where no other may come
 pub nothing_take : {A V : Type 0} (want : Token → Option V) (fits : Bool) (p : V → Rule A) (q : Rule A) → fits ≡ false → Nothing q → Nothing (take want fits p q)
 unfolding run
@@ -172,3 +183,32 @@ nothing_take want false p q e n = record {
   stops = λ ts us a h. let r = taken_refuses (λ v. run (p v)) (run q) ts (λ us a h. n.stops ts us a h, λ us why h. n.here ts us why h) (look want ts) in r.0 us a h;
   here = λ ts us why h. let r = taken_refuses (λ v. run (p v)) (run q) ts (λ us a h. n.stops ts us a h, λ us why h. n.here ts us why h) (look want ts) in r.1 us why h;
 }
+
+-- ---- rules that take nothing, and give always the same
+
+pub record Idle {A : Type 0} (a : A) (r : Rule A) : Type 0 where
+  pub at : (ts : List Token) → (run r ts ≡ Ok (a, ts)) ⊎ ((why : Stop) × (run r ts ≡ Err (why, ts)))
+
+pub idle_pure : {A : Type 0} (a : A) → Idle a (pure a)
+unfolding run
+idle_pure a = record { at = λ ts. inl refl }
+
+pub idle_take : {A V : Type 0} (a : A) (want : Token → Option V) (fits : Bool) (p : V → Rule A) (q : Rule A) → fits ≡ false → Idle a q → Idle a (take want fits p q)
+unfolding run
+idle_take a want true p q e i = absurd (cc)
+idle_take a want false p q e i = record { at = λ ts. taken_idle a (λ v. run (p v)) (run q) ts (i.at ts) (look want ts) }
+
+pub idle_bind : {A B : Type 0} (a : A) (p : Rule A) (f : A → Rule B) → Idle a p → Nothing (f a) → Nothing (bind p f)
+unfolding run
+idle_bind a p f i n = record {
+  stops = λ ts us b h. let r = bound_idle a (run p ts) (λ a. run (f a)) ts (λ us b h. n.stops ts us b h, λ us why h. n.here ts us why h) (i.at ts) in r.0 us b h;
+  here = λ ts us why h. let r = bound_idle a (run p ts) (λ a. run (f a)) ts (λ us b h. n.stops ts us b h, λ us why h. n.here ts us why h) (i.at ts) in r.1 us why h;
+}
+
+-- where the first turn is the last
+pub idle_loop : {S : Type 0} (body : S → Rule (Turn S S)) (s : S) → Idle (Done s) (body s) → Idle s (loop body s)
+idle_loop body s i = record { at = λ ts. at ts (i.at ts) }
+  where
+    at : (ts : List Token) → (run (body s) ts ≡ Ok (Done s, ts)) ⊎ ((why : Stop) × (run (body s) ts ≡ Err (why, ts))) → (run (loop body s) ts ≡ Ok (s, ts)) ⊎ ((why : Stop) × (run (loop body s) ts ≡ Err (why, ts)))
+    at ts (inl e) = inl (loop_done body s s ts ts e)
+    at ts (inr (why, e)) = inr (why, loop_stops body s ts ts why e)

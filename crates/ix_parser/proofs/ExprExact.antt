@@ -1,11 +1,10 @@
 -- What the rules of expressions read is in the grammar and low enough, and where they stop, what they took goes on.
-use Rattle.std.proofs.Common.{◌≡◌, ℕ, zero, suc, ◌+◌, ◌-◌, ◌<◌, ◌≤◌, nat_le, nat_lt, arith, max, Bool, true, false, List, [], ◌∷◌, ◌++◌, Option, Some, None, refl, sym, ap, subst, ◌∙◌, append_assoc, ◌⊎◌, inl, inr}
+use Rattle.std.proofs.Common.{◌≡◌, ℕ, zero, suc, ◌+◌, ◌-◌, ◌<◌, ◌≤◌, arith, max, true, List, [], ◌∷◌, ◌++◌, refl, sym, subst, append_assoc, ◌⊎◌, inl, inr}
 use Rattle.std.proofs.lemmas.List.{append-nil}
-use Rattle.std.proofs.lemmas.Bool.{leb-true, ltb-true, false_from_ne_true}
+use Rattle.std.proofs.lemmas.Bool.{leb-true}
 use Rattle.ix_text.specs.declared.span.Span.{Span}
 use Rattle.ix_lexer.specs.declared.token.Token.{Token}
-use Rattle.ix_lexer.specs.declared.fixed.TheConstants.{TRUE, FALSE, NULL, THIS, NEW, INT, BOOLEAN, AT, MINUS, DOT, COMMA, OPEN_PAREN, CLOSE_PAREN, OPEN_BRACKET, CLOSE_BRACKET, OPEN_BRACE, CLOSE_BRACE}
-use Rattle.ix_tree.specs.declared.annot.Annot.{Annot}
+use Rattle.ix_lexer.specs.declared.fixed.TheConstants.{NEW, INT, BOOLEAN, AT, DOT, COMMA, OPEN_PAREN, CLOSE_PAREN, OPEN_BRACKET, CLOSE_BRACKET, OPEN_BRACE, CLOSE_BRACE}
 use Rattle.ix_tree.specs.declared.annot.BaseTree.{BaseTree}
 use Rattle.ix_tree.specs.declared.annot.BaseTree.TheVariants.{Int, Boolean, Named}
 use Rattle.ix_tree.specs.declared.annot.Ident.{Ident}
@@ -20,7 +19,7 @@ use Rattle.ix_parser.specs.declared.found.FoundInit.{FoundInit}
 use Rattle.ix_parser.specs.declared.found.FoundItems.{FoundItems}
 use Rattle.ix_parser.specs.declared.found.Notes.{Notes}
 use Rattle.ix_parser.specs.declared.found.Several.{Several}
-use Rattle.ix_parser.specs.Rule.{Rule, pure, take, bind, stop, loop, Turn, On, Done}
+use Rattle.ix_parser.specs.Rule.{Rule, pure, take, bind, stop, loop, On, Done}
 use Rattle.ix_parser.specs.Patterns.{sign, name_token, a_sign}
 use Rattle.ix_parser.specs.Lists.{no_item, one_more}
 use Rattle.ix_parser.specs.AnnotGrammar.{IsNotes, no_notes, with_note}
@@ -28,13 +27,13 @@ use Rattle.ix_parser.specs.AnnotRules.{annot_behind, annots_from}
 use Rattle.ix_parser.specs.TypeGrammar as types
 use Rattle.ix_parser.specs.TypeGrammar.{based, base_height, counted, IsBase, IsPairs}
 use Rattle.ix_parser.specs.TypeRules.{next_pair, pairs}
-use Rattle.ix_parser.specs.ExprNodes.{leaf, named, within, selected, element, called, called_on, created, created_type, new_array, new_items, no_exprs, with_expr, all_args, value_init, items_init, no_inits, with_init, closed_by}
-use Rattle.ix_parser.specs.ExprRules.{extra, makes_array, Parts, Below, inner, inner_init, more_exprs, args, more_inits, items, name_or_call, enclosed, word, creation, object_or_array, noted_array, noted, array, array_rest, first_part, field_or_call, index, index_unless, further, primary_of}
+use Rattle.ix_parser.specs.ExprNodes.{named, selected, called, called_on, created, created_type, new_array, new_items, no_exprs, with_expr, all_args, no_inits, with_init, closed_by}
+use Rattle.ix_parser.specs.ExprRules.{extra, Parts, Below, inner, inner_init, more_exprs, args, more_inits, items, creation, object_or_array, noted_array, noted, array, array_rest}
 use Rattle.ix_parser.specs.ExprGrammar as g
 use Rattle.ix_parser.specs.ExprGrammar.{IsMorePairs, Kind, Primary, Whole, Level, IsExpr, IsExprs, IsArgs, IsInit, IsInits, IsItems, IsStatementExpr}
 use Rattle.ix_parser.proofs.AnnotSound.{Noted, NotedAll, annot_behind_sound, annots_from_sound}
 use Rattle.ix_parser.proofs.AnnotViable.{annot_behind_goes, annot_behind_viable, annots_from_viable}
-use Rattle.ix_parser.proofs.ExactRules.{Exact, exact_more, pure_exact, stop_exact, bind_exact, map_exact, nothing_exact, after_exact, done_exact, loop_exact, turns_exact, sign_exact, name_exact, number_exact, must_sign, end_sign, must_name, nothing_stop, nothing_take}
+use Rattle.ix_parser.proofs.ExactRules.{Exact, exact_more, pure_exact, stop_exact, bind_exact, map_exact, nothing_exact, done_exact, loop_exact, turns_exact, sign_exact, name_exact, must_sign, end_sign, must_name}
 use Rattle.ix_parser.proofs.ExprHeights.{extra_at_most}
 use Rattle.ix_parser.proofs.ExprSound.{IsVariable}
 use Rattle.ix_parser.proofs.Follows.{tall}

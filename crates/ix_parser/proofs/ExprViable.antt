@@ -1,41 +1,38 @@
 -- Where the rules of expressions stop, what they took goes on to an expression that is low enough. Where nothing is low enough, they take nothing.
-use Rattle.std.proofs.Common.{◌≡◌, ℕ, zero, suc, ◌+◌, ◌-◌, ◌<◌, ◌≤◌, nat_le, nat_lt, arith, max, Bool, true, false, List, [], ◌∷◌, ◌++◌, Option, Some, None, refl, sym, ap, subst, ◌∙◌, append_assoc, ◌⊎◌, inl, inr}
-use Rattle.std.proofs.lemmas.List.{append-nil}
+use Rattle.std.proofs.Common.{◌≡◌, ℕ, zero, suc, ◌+◌, ◌-◌, ◌<◌, ◌≤◌, nat_le, nat_lt, arith, Bool, true, false, List, [], ◌∷◌, ◌++◌, refl, ap, ◌⊎◌, inl, inr}
 use Rattle.std.proofs.lemmas.Bool.{leb-true, ltb-true, ltb-false, false_from_ne_true}
 use Rattle.ix_text.specs.declared.span.Span.{Span}
 use Rattle.ix_lexer.specs.declared.token.Token.{Token}
-use Rattle.ix_lexer.specs.declared.fixed.TheConstants.{TRUE, FALSE, NULL, THIS, NEW, MINUS, DOT, OPEN_PAREN, CLOSE_PAREN, OPEN_BRACKET, CLOSE_BRACKET, OPEN_BRACE, CLOSE_BRACE, INCREMENT}
+use Rattle.ix_lexer.specs.declared.fixed.TheConstants.{TRUE, FALSE, NULL, THIS, NEW, MINUS, DOT, OPEN_PAREN, CLOSE_PAREN, OPEN_BRACKET, CLOSE_BRACKET, OPEN_BRACE, CLOSE_BRACE}
 use Rattle.ix_tree.specs.declared.annot.Ident.{Ident}
+use Rattle.ix_tree.specs.declared.expr.ExprKind.{ExprKind}
+use Rattle.ix_tree.specs.declared.expr.ExprKind.TheVariants as e
 use Rattle.ix_parser.specs.declared.found.Aim.{Aim}
 use Rattle.ix_parser.specs.declared.found.Aim.TheVariants as aim
-use Rattle.ix_parser.specs.declared.found.Args.{Args}
 use Rattle.ix_parser.specs.declared.found.Form.{Form}
 use Rattle.ix_parser.specs.declared.found.Form.TheVariants as form
 use Rattle.ix_parser.specs.declared.found.Found.{Found}
 use Rattle.ix_parser.specs.declared.found.FoundInit.{FoundInit}
-use Rattle.ix_parser.specs.declared.found.FoundItems.{FoundItems}
-use Rattle.ix_parser.specs.Rule.{Rule, pure, take, bind, stop, loop, Turn, On, Done}
-use Rattle.ix_parser.specs.Patterns.{sign, name_token, least_token, a_sign}
-use Rattle.ix_parser.specs.Patterns.{unary_signs, step_signs, assign_signs}
-use Rattle.ix_parser.specs.ExprNodes.{leaf, named, within, selected, element, called, called_on, unary, least_int, stepped_before, stepped_after, joined, assigned, no_exprs, all_args, value_init, items_init, no_inits}
-use Rattle.ix_tree.specs.declared.expr.ExprKind.{ExprKind}
-use Rattle.ix_tree.specs.declared.expr.ExprKind.TheVariants as e
-use Rattle.ix_parser.specs.ExprRules.{extra, makes_array, Parts, Below, inner, args, items, name_or_call, enclosed, word, creation, first_part, field_or_call, index, index_unless, further, primary_of, only_variable, variable_of, step_behind, value_of, prefixed, unary_of, operand, level_of, assignment, maybe_assigned, whole_of, to_statement, statement_of, init_of, parts_of, no_parts, nothing_below, below, expr, level, variable, init, statement_expr}
+use Rattle.ix_parser.specs.Rule.{Rule, pure, take, stop, loop, On}
+use Rattle.ix_parser.specs.Patterns.{sign, name_token, least_token, unary_signs, step_signs, assign_signs}
+use Rattle.ix_parser.specs.ExprNodes.{leaf, within, element, called, called_on, least_int, items_init, no_inits}
+use Rattle.ix_parser.specs.ExprRules.{extra, makes_array, Parts, Below, args, name_or_call, enclosed, word, first_part, field_or_call, index, index_unless, further, primary_of, only_variable, variable_of, step_behind, value_of, prefixed, unary_of, operand, level_of, assignment, maybe_assigned, whole_of, to_statement, statement_of, init_of, parts_of, no_parts, nothing_below, below, expr, level, variable, init, statement_expr}
 use Rattle.ix_parser.specs.ExprGrammar as g
 use Rattle.ix_parser.specs.ExprGrammar.{Kind, Primary, Whole, Level, IsExpr, IsArgs, IsInit, IsStatementExpr}
-use Rattle.ix_parser.proofs.ExactRules.{Exact, exact_more, pure_exact, stop_exact, bind_exact, map_exact, maybe_map, nothing_exact, after_exact, done_exact, turns_exact, sign_exact, name_exact, number_exact, least_exact, one_exact, operator_exact, must_sign, end_sign, must_name, nothing_stop, nothing_take}
+use Rattle.ix_parser.proofs.ExactRules.{Exact, exact_more, pure_exact, stop_exact, bind_exact, map_exact, maybe_map, after_exact, done_exact, turns_exact, sign_exact, name_exact, number_exact, least_exact, one_exact, operator_exact, end_sign, must_name, nothing_stop, nothing_take}
 use Rattle.ix_parser.proofs.ExprExact.{Low, LowInit, args_exact, items_exact, NoParts, ExactParts, ExactBelow, inner_exact, statement_of_level, Wanted, Prim, prim_of, prim_name, prim_field, call_args_exact, creation_exact}
 use Rattle.ix_parser.proofs.ExprHeights.{extra_at_most}
 use Rattle.ix_parser.proofs.ExprSound.{IsVariable, as_primary}
-use Rattle.ix_parser.proofs.Follows.{tall, variable_tall}
-use Rattle.ix_parser.proofs.ListsViable.{here, some_name}
+use Rattle.ix_parser.proofs.Follows.{tall}
+use Rattle.ix_parser.proofs.ListsViable.{here}
 use Rattle.ix_parser.proofs.SoundRules.{After}
-use Rattle.ix_parser.proofs.ViableRules.{Goes, Viable, Nothing, nothing_bind}
+use Rattle.ix_parser.proofs.ViableRules.{Viable, Nothing, nothing_bind}
 
 -- it is that, and low enough
 abbrev pub Upto : Kind → ℕ → List Token → Found → Type 0
 Upto kind left ts f = IsExpr kind ts f × (f.height ≤ left)
 
+-- whether there is room
 pub room : (n left : ℕ) → (n < left) ⊎ (left ≤ n)
 room n left = at (nat_lt n left) refl
   where
@@ -310,17 +307,55 @@ exact_below (suc left) = let l = exact_below left in record { lower = parts_exac
 
 -- ---- expressions
 
+pub expr_exact : (left : ℕ) → 1 ≤ left → Exact (λ ts f. IsExpr Whole ts f × (f.height ≤ left)) (expr left)
+expr_exact left one = whole_exact left (below left) (exact_below left) one
+
 pub expr_viable : (left : ℕ) → 1 ≤ left → Viable (λ ts f. IsExpr Whole ts f × (f.height ≤ left)) (expr left)
-expr_viable left one = let e = whole_exact left (below left) (exact_below left) one in e.viable
+expr_viable left one = let e = expr_exact left one in e.viable
+
+pub nothing_expr : Nothing (expr 0)
+nothing_expr = whole_nothing 0 (below 0) (omega arith) refl
+
+pub maybe_expr : (left : ℕ) → Exact (λ ts f. IsExpr Whole ts f × (f.height ≤ left)) (expr left) ⊎ Nothing (expr left)
+maybe_expr zero = inr nothing_expr
+maybe_expr (suc left) = inl (expr_exact (suc left) (omega arith))
 
 pub level_viable : (left : ℕ) → 1 ≤ left → (n : ℕ) → Viable (λ ts f. IsExpr (Level n) ts f × (f.height ≤ left)) (level left n)
 level_viable left one n = let e = level_exact left (below left) (exact_below left) one n in e.viable
 
+pub nothing_level : (n : ℕ) → Nothing (level 0 n)
+nothing_level n = level_nothing 0 (below 0) (omega arith) refl n
+
 pub variable_viable : (left : ℕ) → 2 ≤ left → Viable (λ ts f. IsVariable ts f × (f.height ≤ left)) (variable left)
 variable_viable left two = let e = variable_exact left (below left) (exact_below left) two in e.viable
 
+pub nothing_variable : (left : ℕ) → left ≤ 1 → Nothing (variable left)
+nothing_variable left le = variable_of_nothing left (below left) le
+
+-- The least one is a call of a name.
+pub statement_expr_exact : (left : ℕ) → 2 ≤ left → Exact (λ ts f. IsStatementExpr ts f × (f.height ≤ left)) (statement_expr left)
+statement_expr_exact left two = statement_exact left (below left) (exact_below left) two
+
 pub statement_expr_viable : (left : ℕ) → 2 ≤ left → Viable (λ ts f. IsStatementExpr ts f × (f.height ≤ left)) (statement_expr left)
-statement_expr_viable left two = let e = statement_exact left (below left) (exact_below left) two in e.viable
+statement_expr_viable left two = let e = statement_expr_exact left two in e.viable
+
+pub nothing_statement : (left : ℕ) → left ≤ 1 → Nothing (statement_expr left)
+nothing_statement left le = statement_of_nothing left (below left) le
+
+pub maybe_statement : (left : ℕ) → Exact (λ ts f. IsStatementExpr ts f × (f.height ≤ left)) (statement_expr left) ⊎ Nothing (statement_expr left)
+maybe_statement zero = inr (nothing_statement 0 (omega arith))
+maybe_statement (suc zero) = inr (nothing_statement 1 (omega arith))
+maybe_statement (suc (suc left)) = inl (statement_expr_exact (suc (suc left)) (omega arith))
 
 pub init_viable : (left : ℕ) → 1 ≤ left → Viable (λ ts i. IsInit ts i × (i.height ≤ left)) (init left)
 init_viable left one = let e = init_exact left (below left) (exact_below left) (room 1 left) one in e.viable
+
+pub nothing_init : Nothing (init 0)
+nothing_init = let l = exact_below 0 in let p = l.lower in let n = p.none (omega arith) in init_nothing 0 (below 0) (omega arith) refl n.whole
+
+pub args_viable : (opening : Span) (left : ℕ) → Viable (λ ts a. IsArgs (sign OPEN_PAREN opening ∷ ts) a × (a.height ≤ left)) (args (expr left))
+args_viable opening left = let e = exact_more _ (λ ts a d. (d.0, omega (arith, d.1))) (args_exact (expr left) 0 left opening (omega arith) (low_expr (maybe_expr left))) in e.viable
+  where
+    low_expr : Exact (Upto Whole left) (expr left) ⊎ Nothing (expr left) → Exact (Low Whole 0 left) (expr left) ⊎ Nothing (expr left)
+    low_expr (inl x) = inl (exact_more _ (λ ts f d. (d.0, omega (arith, d.1))) x)
+    low_expr (inr n) = inr n

@@ -44,6 +44,7 @@ mod TypeViable
 mod ExactRules
 mod ExprExact
 mod ExprViable
+mod RunViable
 mod DeclViable
 mod ClassViable
 mod SourceViable
