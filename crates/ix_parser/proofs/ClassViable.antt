@@ -1,36 +1,31 @@
 -- Where members, classes and sources stop, what was taken goes on to some with room for them.
-use Rattle.std.proofs.Common.{◌≡◌, ℕ, ◌≤◌, ◌+◌, ◌-◌, nat_le, max, Bool, true, false, List, [], ◌∷◌, ◌++◌, Option, Some, None, refl, sym, ap, subst, ◌∙◌, arith, append_assoc}
+use Rattle.std.proofs.Common.{◌≡◌, ℕ, ◌≤◌, ◌-◌, Bool, true, false, List, [], ◌∷◌, ◌++◌, Option, Some, None, refl, sym, ap, subst, ◌∙◌, arith, append_assoc}
 use Rattle.std.proofs.lemmas.List.{append-nil}
-use Rattle.std.proofs.lemmas.Bool.{leb-true}
 use Rattle.ix_text.specs.declared.span.Span.{Span}
 use Rattle.ix_lexer.specs.declared.token.Token.{Token}
-use Rattle.ix_lexer.specs.declared.fixed.TheConstants.{CLASS, EXTENDS, FINAL, IMPORT, INT, PACKAGE, PUBLIC, STATIC, SUPER, VOID, OPEN_PAREN, CLOSE_PAREN, OPEN_BRACE, CLOSE_BRACE, SEMICOLON, DOT, TIMES}
+use Rattle.ix_lexer.specs.declared.fixed.TheConstants.{CLASS, EXTENDS, FINAL, IMPORT, INT, PUBLIC, SUPER, VOID, OPEN_PAREN, CLOSE_PAREN, OPEN_BRACE, CLOSE_BRACE, SEMICOLON}
 use Rattle.ix_tree.specs.declared.annot.Ident.{Ident}
 use Rattle.ix_tree.specs.declared.annot.BaseTree.TheVariants.{Int, Named}
 use Rattle.ix_parser.specs.declared.classes.Behind.{Behind}
 use Rattle.ix_parser.specs.declared.classes.Body.{Body}
 use Rattle.ix_parser.specs.declared.classes.Classes.{Classes}
 use Rattle.ix_parser.specs.declared.classes.FoundClass.{FoundClass}
-use Rattle.ix_parser.specs.declared.classes.FoundUnit.{FoundUnit}
 use Rattle.ix_parser.specs.declared.classes.Members.{Members}
-use Rattle.ix_parser.specs.declared.classes.Stmts.{Stmts}
 use Rattle.ix_parser.specs.declared.declarations.FoundMods.{FoundMods}
-use Rattle.ix_parser.specs.declared.found.At.{At}
 use Rattle.ix_parser.specs.declared.found.FoundType.{FoundType}
-use Rattle.ix_parser.specs.Rule.{Rule, pure, take, bind, stop, loop, Turn, On, Done}
+use Rattle.ix_parser.specs.Rule.{Rule, pure, bind, loop, On, Done}
 use Rattle.ix_parser.specs.Patterns.{sign, name_token}
 use Rattle.ix_parser.specs.Lists.{IsRepeated, first_item, no_item, one_more, braces_of}
 use Rattle.ix_parser.specs.TypeGrammar as types
 use Rattle.ix_parser.specs.TypeGrammar.{IsType, based}
-use Rattle.ix_parser.specs.TypeRules.{type_rest, type_tree}
 use Rattle.ix_parser.specs.DeclGrammar as decl
 use Rattle.ix_parser.specs.DeclGrammar.{earlier, begins, IsMods, member_words, shared, plain_decl, one_decl, no_params, nothing_more}
-use Rattle.ix_parser.specs.DeclRules.{mods, decls, params, throws}
+use Rattle.ix_parser.specs.DeclRules.{decls}
 use Rattle.ix_parser.specs.ClassGrammar as grammar
 use Rattle.ix_parser.specs.ClassGrammar.{Parts, IsBody, IsBehind, IsMember, IsClassWord, IsClassWords, IsParent, IsClass, IsDotted, IsPackage, IsImported, IsImport, IsProgram, no_stmts, with_stmt, body_of, body_with, method_of, fields_of, no_members, with_members, class_of, no_classes, with_class, unit_of, result_height}
 use Rattle.ix_parser.specs.ClassRules.{PartRules, statements, block, super_behind, body, behind, method, typed_member, named_member, member_behind, member, next_class_word, class_words, parent, class_behind, worded_class, next_class, next_dot, dotted, package_line, next_imported, imported, next_import, imports, program}
 use Rattle.ix_parser.proofs.SoundRules.{Sound, weaken, sign_sound, loop_sound, After}
-use Rattle.ix_parser.proofs.ListsSound.{braces_fits, Braces}
+use Rattle.ix_parser.proofs.ListsSound.{braces_fits}
 use Rattle.ix_parser.proofs.TypeSound.{type_sound, type_rest_sound}
 use Rattle.ix_parser.proofs.DeclSound.{mods_sound, decls_sound, params_sound, throws_sound}
 use Rattle.ix_parser.proofs.ClassSound as classes
