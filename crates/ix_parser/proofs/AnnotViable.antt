@@ -1,25 +1,22 @@
 -- Where annotations stop, what was taken goes on to some with room for them.
-use Rattle.std.proofs.Common.{◌≡◌, ℕ, ◌≤◌, nat_le, max, Bool, true, false, List, [], ◌∷◌, ◌++◌, Option, Some, None, refl, sym, ap, subst, ◌∙◌, arith}
+use Rattle.std.proofs.Common.{ℕ, ◌≤◌, List, [], ◌∷◌, ◌++◌, sym, subst, arith}
 use Rattle.std.proofs.lemmas.List.{append-nil}
 use Rattle.std.proofs.lemmas.Bool.{leb-true}
 use Rattle.ix_text.specs.declared.span.Span.{Span}
 use Rattle.ix_lexer.specs.declared.token.Token.{Token}
 use Rattle.ix_lexer.specs.declared.fixed.TheConstants.{AT, ASSIGN, MINUS, OPEN_BRACE, CLOSE_BRACE, OPEN_PAREN, CLOSE_PAREN}
 use Rattle.ix_tree.specs.declared.annot.Ident.{Ident}
-use Rattle.ix_tree.specs.declared.annot.Annot.{Annot}
-use Rattle.ix_tree.specs.declared.annot.AnnotArg.{AnnotArg}
-use Rattle.ix_tree.specs.declared.annot.AnnotValue.{AnnotValue}
-use Rattle.ix_tree.specs.declared.annot.AnnotValue.TheVariants.{Number, Texts}
+use Rattle.ix_tree.specs.declared.annot.AnnotValue.TheVariants.{Texts}
 use Rattle.ix_parser.specs.Nodes.{across}
 use Rattle.ix_parser.specs.declared.found.At.{At}
 use Rattle.ix_parser.specs.declared.found.Notes.{Notes}
-use Rattle.ix_parser.specs.Rule.{Rule, pure, take, bind, stop, loop, Turn, On, Done}
-use Rattle.ix_parser.specs.Patterns.{sign, name_token, string_token, least_token, a_sign, a_name}
+use Rattle.ix_parser.specs.Rule.{bind, On, Done}
+use Rattle.ix_parser.specs.Patterns.{sign, name_token, string_token, least_token}
 use Rattle.ix_parser.specs.Lists.{IsSeparated, first_item, no_item, one_more, more_of, alone, joined}
 use Rattle.ix_parser.specs.AnnotGrammar as grammar
 use Rattle.ix_parser.specs.AnnotGrammar.{IsText, IsValue, IsNamed, IsAnnot, IsNotes, valued, plain_arg, named_arg, annot_to, no_notes, with_note}
-use Rattle.ix_parser.specs.AnnotRules.{text, braced, negative, annot_value, named_value, named, named_args, plain_value, annot_args, annot_behind, annot, next_annot, annots_from, annots}
-use Rattle.ix_parser.proofs.SoundRules.{Sound, After}
+use Rattle.ix_parser.specs.AnnotRules.{text, braced, negative, annot_value, named_value, named, named_args, plain_value, annot_args, annot_behind, next_annot, annots_from, annots}
+use Rattle.ix_parser.proofs.SoundRules.{After}
 use Rattle.ix_parser.proofs.ListsSound.{more_sound}
 use Rattle.ix_parser.proofs.AnnotSound.{a_text_sound, value_sound, named_value_sound, named_sound, pairs_sound, low_args, Noted, annot_behind_sound, NotedAll, next_annot_sound}
 use Rattle.ix_parser.proofs.ViableRules.{Goes, Viable, pure_viable, stop_viable, bind_viable, map_viable, loop_viable, sign_viable, name_viable, number_viable, least_viable, text_viable}

@@ -1,36 +1,33 @@
 -- Where members, classes and sources stop, what was taken goes on to some with room for them.
-use Rattle.std.proofs.Common.{◌≡◌, ℕ, ◌≤◌, ◌+◌, ◌-◌, nat_le, max, Bool, true, false, List, [], ◌∷◌, ◌++◌, Option, Some, None, refl, sym, ap, subst, ◌∙◌, arith, append_assoc}
+use Rattle.std.proofs.Common.{◌≡◌, ℕ, ◌≤◌, ◌-◌, Bool, true, false, List, [], ◌∷◌, ◌++◌, Option, Some, None, refl, sym, ap, subst, ◌∙◌, arith, append_assoc}
 use Rattle.std.proofs.lemmas.List.{append-nil}
-use Rattle.std.proofs.lemmas.Bool.{leb-true}
 use Rattle.ix_text.specs.declared.span.Span.{Span}
 use Rattle.ix_lexer.specs.declared.token.Token.{Token}
-use Rattle.ix_lexer.specs.declared.fixed.TheConstants.{CLASS, EXTENDS, FINAL, IMPORT, INT, PACKAGE, PUBLIC, STATIC, SUPER, VOID, OPEN_PAREN, CLOSE_PAREN, OPEN_BRACE, CLOSE_BRACE, SEMICOLON, DOT, TIMES}
+use Rattle.ix_lexer.specs.declared.fixed.TheConstants.{CLASS, EXTENDS, FINAL, IMPORT, INT, PUBLIC, SUPER, VOID, OPEN_PAREN, CLOSE_PAREN, OPEN_BRACE, CLOSE_BRACE, SEMICOLON}
 use Rattle.ix_tree.specs.declared.annot.Ident.{Ident}
 use Rattle.ix_tree.specs.declared.annot.BaseTree.TheVariants.{Int, Named}
 use Rattle.ix_parser.specs.declared.classes.Behind.{Behind}
 use Rattle.ix_parser.specs.declared.classes.Body.{Body}
 use Rattle.ix_parser.specs.declared.classes.Classes.{Classes}
 use Rattle.ix_parser.specs.declared.classes.FoundClass.{FoundClass}
-use Rattle.ix_parser.specs.declared.classes.FoundUnit.{FoundUnit}
 use Rattle.ix_parser.specs.declared.classes.Members.{Members}
-use Rattle.ix_parser.specs.declared.classes.Stmts.{Stmts}
 use Rattle.ix_parser.specs.declared.declarations.FoundMods.{FoundMods}
-use Rattle.ix_parser.specs.declared.found.At.{At}
+use Rattle.ix_parser.specs.declared.declarations.Params.{Params}
+use Rattle.ix_parser.specs.declared.found.Args.{Args}
 use Rattle.ix_parser.specs.declared.found.FoundType.{FoundType}
-use Rattle.ix_parser.specs.Rule.{Rule, pure, take, bind, stop, loop, Turn, On, Done}
+use Rattle.ix_parser.specs.Rule.{Rule, pure, bind, loop, On, Done}
 use Rattle.ix_parser.specs.Patterns.{sign, name_token}
 use Rattle.ix_parser.specs.Lists.{IsRepeated, first_item, no_item, one_more, braces_of}
 use Rattle.ix_parser.specs.TypeGrammar as types
 use Rattle.ix_parser.specs.TypeGrammar.{IsType, based}
-use Rattle.ix_parser.specs.TypeRules.{type_rest, type_tree}
 use Rattle.ix_parser.specs.DeclGrammar as decl
-use Rattle.ix_parser.specs.DeclGrammar.{earlier, begins, IsMods, member_words, shared, plain_decl, one_decl, no_params, nothing_more}
-use Rattle.ix_parser.specs.DeclRules.{mods, decls, params, throws}
+use Rattle.ix_parser.specs.DeclGrammar.{earlier, begins, IsMods, IsParams, IsThrows, member_words, shared, plain_decl, one_decl, no_params, nothing_more}
+use Rattle.ix_parser.specs.DeclRules.{decls}
 use Rattle.ix_parser.specs.ClassGrammar as grammar
 use Rattle.ix_parser.specs.ClassGrammar.{Parts, IsBody, IsBehind, IsMember, IsClassWord, IsClassWords, IsParent, IsClass, IsDotted, IsPackage, IsImported, IsImport, IsProgram, no_stmts, with_stmt, body_of, body_with, method_of, fields_of, no_members, with_members, class_of, no_classes, with_class, unit_of, result_height}
 use Rattle.ix_parser.specs.ClassRules.{PartRules, statements, block, super_behind, body, behind, method, typed_member, named_member, member_behind, member, next_class_word, class_words, parent, class_behind, worded_class, next_class, next_dot, dotted, package_line, next_imported, imported, next_import, imports, program}
 use Rattle.ix_parser.proofs.SoundRules.{Sound, weaken, sign_sound, loop_sound, After}
-use Rattle.ix_parser.proofs.ListsSound.{braces_fits, Braces}
+use Rattle.ix_parser.proofs.ListsSound.{braces_fits}
 use Rattle.ix_parser.proofs.TypeSound.{type_sound, type_rest_sound}
 use Rattle.ix_parser.proofs.DeclSound.{mods_sound, decls_sound, params_sound, throws_sound}
 use Rattle.ix_parser.proofs.ClassSound as classes
@@ -119,16 +116,19 @@ module _ (parts : Parts) (rules : PartRules) (sound : PartsSound parts rules) (v
       let (stmts, is, d) = r.0 in
       (subst (λ y. IsBody parts constructor (sign OPEN_BRACE opening ∷ y) (body_of found.value found.span)) (sym is) (grammar.block opening found.span d), r.1))
 
+  super_goes : (left : ℕ) (opening super : Span) (args : Args) (before : List Token) → parts.IsArgs before args × (args.height ≤ left) → Goes (λ ts found. Bodied left true (sign OPEN_BRACE opening ∷ sign SUPER super ∷ (before ++ ts)) found) []
+  super_goes left opening super args before a = (sign SEMICOLON here ∷ sign CLOSE_BRACE here ∷ [], body_with args no_stmts here, (grammar.with_super opening super here here a.0 no_item, omega (arith, a.1)))
+
   super_viable : (left : ℕ) (opening super : Span) → 1 ≤ left → Viable (λ ts found. Bodied left true (sign OPEN_BRACE opening ∷ sign SUPER super ∷ ts) found) (super_behind rules left)
   unfolding super_behind
   super_viable left opening super one = bind_viable _ _ (sound.args left) (viable.args left)
-      (λ args before a. (sign SEMICOLON here ∷ sign CLOSE_BRACE here ∷ [], body_with args no_stmts here, (grammar.with_super opening super here here a.0 no_item, omega (arith, a.1))))
+      (λ args before a. super_goes left opening super args before a)
       (λ args before a. sign_viable _ _ _ _ (λ f. absurd (cc)) (λ f end. map_viable (statements rules left) (λ found. body_with args found.value found.span) (classes.statements_sound parts rules sound left) (statements_viable left one) (λ found seen r.
       let (stmts, is, d) = r.0 in (
         subst (λ y. IsBody parts true (sign OPEN_BRACE opening ∷ sign SUPER super ∷ (before ++ sign SEMICOLON end ∷ y)) (body_with args found.value found.span)) (sym is) (grammar.with_super opening super end found.span a.0 d),
         omega (arith, a.1, r.1),
       )))
-      (stop_viable (sign SEMICOLON here ∷ sign CLOSE_BRACE here ∷ [], body_with args no_stmts here, (grammar.with_super opening super here here a.0 no_item, omega (arith, a.1)))))
+      (stop_viable (super_goes left opening super args before a)))
 
   body_viable : (left : ℕ) (constructor : Bool) (opening : Span) → 1 ≤ left → Viable (λ ts found. Bodied left constructor (sign OPEN_BRACE opening ∷ ts) found) (body rules left constructor)
   unfolding body
@@ -149,14 +149,18 @@ module _ (parts : Parts) (rules : PartRules) (sound : PartsSound parts rules) (v
   is_empty : (constructor : Bool) → IsBody parts constructor braces no_body
   is_empty constructor = grammar.block here here no_item
 
+  behind_goes : (left : ℕ) (constructor : Bool) (opening : Span) (params : Params) (first second : List Token) (u : Unit {0}) → IsParams (sign OPEN_PAREN opening ∷ first) params × (params.height ≤ left - 1) → IsThrows second u
+      → Goes (λ ts rest. Followed (left - 1) constructor (sign OPEN_PAREN opening ∷ (first ++ (second ++ ts))) rest) []
+  behind_goes left constructor opening params first second u p t = (braces, record { params = params; body = no_body }, (grammar.behind p.0 t (is_empty constructor), (p.1, omega arith)))
+
   behind_viable : (left : ℕ) (constructor : Bool) (opening : Span) → 3 ≤ left → Viable (λ ts rest. Followed (left - 1) constructor (sign OPEN_PAREN opening ∷ ts) rest) (behind rules left constructor)
   unfolding behind
   behind_viable left constructor opening three = bind_viable _ _ (params_sound (left - 1) opening) (params_viable (left - 1) opening (omega (arith, three)))
-      (λ params first p. (braces, record { params = params; body = no_body }, (grammar.behind p.0 decl.none (is_empty constructor), (p.1, omega arith))))
-      (λ params first p. bind_viable _ _ throws_sound throws_viable (λ u second t. (braces, record { params = params; body = no_body }, (grammar.behind p.0 t (is_empty constructor), (p.1, omega arith))))
+      (λ params first p. behind_goes left constructor opening params first [] tt p decl.none)
+      (λ params first p. bind_viable _ _ throws_sound throws_viable (λ u second t. behind_goes left constructor opening params first second u p t)
       (λ u second t. sign_viable _ _ _ _ (λ f. absurd (cc)) (λ f brace. map_viable (body rules (left - 1) constructor) (λ body. record { params = params; body = body }) (classes.body_sound parts rules sound (left - 1) constructor brace)
       (body_viable (left - 1) constructor brace (omega (arith, three))) (λ body third b. (grammar.behind p.0 t b.0, (p.1, b.1))))
-      (stop_viable (braces, record { params = params; body = no_body }, (grammar.behind p.0 t (is_empty constructor), (p.1, omega arith))))))
+      (stop_viable (behind_goes left constructor opening params first second u p t))))
 
   abbrev Membered : ℕ → List Token → Members → Type 0
   Membered = classes.Membered parts rules sound
@@ -274,9 +278,9 @@ module _ (parts : Parts) (rules : PartRules) (sound : PartsSound parts rules) (v
   abbrev ClassedAll : ℕ → List Token → Classes → Type 0
   ClassedAll = classes.ClassedAll parts rules sound
 
-  another : (left : ℕ) (classes : Classes) (front : List Token) (token : Token) (rule : Rule FoundClass) → ClassedAll left front classes → Sound (λ ts found. Classed left (token ∷ ts) found) rule → Viable (λ ts found. Classed left (token ∷ ts) found) rule
-      → Viable (λ ts r. After (ClassedAll left) (ClassedAll left) front (token ∷ ts) r) (bind rule (λ found. pure (On (with_class classes found))))
-  another left classes front token rule d s v = map_viable rule (λ found. On (with_class classes found)) s v (λ found seen r. (one_more d.0 r.0, omega (arith, d.1, r.1)))
+  another : (left : ℕ) (before : Classes) (front : List Token) (token : Token) (rule : Rule FoundClass) → ClassedAll left front before → Sound (λ ts found. Classed left (token ∷ ts) found) rule → Viable (λ ts found. Classed left (token ∷ ts) found) rule
+      → Viable (λ ts r. After (ClassedAll left) (ClassedAll left) front (token ∷ ts) r) (bind rule (λ found. pure (On (with_class before found))))
+  another left before front token rule d s v = map_viable rule (λ found. On (with_class before found)) s v (λ found seen r. (one_more d.0 r.0, omega (arith, d.1, r.1)))
 
   next_class_viable : (left : ℕ) (found : Classes) (front : List Token) → 4 ≤ left → ClassedAll left front found → Viable (After (ClassedAll left) (ClassedAll left) front) (next_class rules left found)
   unfolding next_class

@@ -1,22 +1,18 @@
 -- Where modifiers, parameters and declarators stop, what was taken goes on to some with room for them.
-use Rattle.std.proofs.Common.{◌≡◌, ℕ, ◌≤◌, ◌+◌, ◌-◌, nat_le, max, Bool, true, false, List, [], ◌∷◌, ◌++◌, Option, Some, None, refl, sym, ap, subst, arith}
+use Rattle.std.proofs.Common.{ℕ, ◌≤◌, ◌+◌, ◌-◌, List, [], ◌∷◌, sym, subst, arith}
 use Rattle.std.proofs.lemmas.List.{append-nil}
 use Rattle.std.proofs.lemmas.Bool.{leb-true}
 use Rattle.ix_text.specs.declared.span.Span.{Span}
 use Rattle.ix_lexer.specs.declared.token.Token.{Token}
-use Rattle.ix_lexer.specs.declared.fixed.TheConstants.{AT, ASSIGN, INT, THROWS, OPEN_PAREN, CLOSE_PAREN}
+use Rattle.ix_lexer.specs.declared.fixed.TheConstants.{INT, OPEN_PAREN, CLOSE_PAREN}
 use Rattle.ix_tree.specs.declared.annot.Ident.{Ident}
-use Rattle.ix_tree.specs.declared.annot.BaseTree.TheVariants.{Int}
-use Rattle.ix_parser.specs.declared.declarations.FoundDecl.{FoundDecl}
 use Rattle.ix_parser.specs.declared.declarations.FoundMods.{FoundMods}
-use Rattle.ix_parser.specs.declared.declarations.Params.{Params}
 use Rattle.ix_parser.specs.declared.declarations.Shared.{Shared}
 use Rattle.ix_parser.specs.declared.declarations.Word.{Word}
-use Rattle.ix_parser.specs.declared.found.FoundDecls.{FoundDecls}
 use Rattle.ix_parser.specs.declared.found.FoundInit.{FoundInit}
-use Rattle.ix_parser.specs.Rule.{Rule, pure, take, bind, stop, loop, Turn, On, Done}
+use Rattle.ix_parser.specs.Rule.{Rule, On, Done}
 use Rattle.ix_parser.specs.Patterns.{sign, name_token}
-use Rattle.ix_parser.specs.Lists.{first_item, more_of}
+use Rattle.ix_parser.specs.Lists.{first_item}
 use Rattle.ix_parser.specs.TypeGrammar as types
 use Rattle.ix_parser.specs.DeclGrammar as grammar
 use Rattle.ix_parser.specs.DeclGrammar.{IsMods, IsDecl, IsDecls, IsParam, IsParams, IsName, IsThrows, shared, no_mods, with_word, with_annot, local_words, plain_decl, init_decl, one_decl, with_decl, no_params, one_param, with_param, nothing, nothing_more}

@@ -1,14 +1,14 @@
 -- Where a repetition of the grammar stops, what it took goes on.
-use Rattle.std.proofs.Common.{◌≡◌, ℕ, Bool, true, false, List, [], ◌∷◌, ◌++◌, refl, sym, ap, subst, ◌∙◌}
+use Rattle.std.proofs.Common.{ℕ, true, List, [], ◌∷◌, ◌++◌, refl, sym, subst}
 use Rattle.std.proofs.lemmas.List.{append-nil}
 use Rattle.ix_text.specs.declared.span.Span.{Span}
 use Rattle.ix_lexer.specs.declared.token.Token.{Token}
-use Rattle.ix_lexer.specs.declared.fixed.TheConstants.{COMMA, CLOSE_BRACE}
+use Rattle.ix_lexer.specs.declared.fixed.TheConstants.{CLOSE_BRACE}
 use Rattle.ix_tree.specs.declared.annot.Ident.{Ident}
 use Rattle.ix_parser.specs.declared.found.At.{At}
-use Rattle.ix_parser.specs.Rule.{Rule, pure, take, bind, stop, loop, Turn, On, Done}
+use Rattle.ix_parser.specs.Rule.{Rule, pure, take, bind, stop, On, Done}
 use Rattle.ix_parser.specs.Patterns.{sign, a_sign}
-use Rattle.ix_parser.specs.Lists.{IsSeparated, IsRepeated, next_item, no_item, one_more, next_of, more_of, next_inside, braces_of, placed}
+use Rattle.ix_parser.specs.Lists.{IsSeparated, next_item, no_item, one_more, next_of, more_of, next_inside, braces_of, placed}
 use Rattle.ix_parser.proofs.SoundRules.{Sound, weaken, After}
 use Rattle.ix_parser.proofs.ListsSound.{Read, next_sound, Braces, Inside, Closed, inside_sound}
 use Rattle.ix_parser.proofs.ViableRules.{Goes, Viable, Nothing, weaken_viable, pure_viable, stop_viable, bind_viable, map_viable, sign_viable, nothing_viable, nothing_bind, loop_viable}

@@ -1,17 +1,15 @@
 -- Where types stop, what was taken goes on to some with room for them.
-use Rattle.std.proofs.Common.{◌≡◌, ℕ, ◌≤◌, ◌+◌, ◌-◌, nat_le, max, Bool, true, false, List, [], ◌∷◌, ◌++◌, refl, sym, ap, subst, arith}
-use Rattle.std.proofs.lemmas.List.{append-nil}
+use Rattle.std.proofs.Common.{ℕ, ◌≤◌, ◌+◌, ◌-◌, max, List, [], ◌∷◌, ◌++◌, arith}
 use Rattle.std.proofs.lemmas.Bool.{leb-true}
 use Rattle.ix_text.specs.declared.span.Span.{Span}
 use Rattle.ix_lexer.specs.declared.token.Token.{Token}
-use Rattle.ix_lexer.specs.declared.fixed.TheConstants.{AT, INT, BOOLEAN, OPEN_BRACKET, CLOSE_BRACKET}
+use Rattle.ix_lexer.specs.declared.fixed.TheConstants.{AT, INT, OPEN_BRACKET, CLOSE_BRACKET}
 use Rattle.ix_tree.specs.declared.annot.BaseTree.{BaseTree}
 use Rattle.ix_tree.specs.declared.annot.BaseTree.TheVariants.{Int, Boolean, Named}
 use Rattle.ix_parser.specs.declared.found.At.{At}
-use Rattle.ix_parser.specs.declared.found.FoundType.{FoundType}
 use Rattle.ix_parser.specs.declared.found.Notes.{Notes}
-use Rattle.ix_parser.specs.Rule.{Rule, pure, take, bind, stop, loop, Turn, On, Done}
-use Rattle.ix_parser.specs.Patterns.{sign, name_token}
+use Rattle.ix_parser.specs.Rule.{bind, On}
+use Rattle.ix_parser.specs.Patterns.{sign}
 use Rattle.ix_parser.specs.Lists.{no_item, one_more}
 use Rattle.ix_parser.specs.AnnotGrammar.{IsNotes, no_notes, with_note}
 use Rattle.ix_parser.specs.AnnotRules.{annot_behind, annots_from}
