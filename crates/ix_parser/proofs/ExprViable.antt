@@ -180,7 +180,7 @@ module _ (left : ℕ) (b : Below) (l : ExactBelow left b) where
   maybe_assigned_exact f front form.Array e d = whole_alone f front d
   maybe_assigned_exact f front form.Value e d = whole_alone f front d
 
-  pub whole_exact : 1 ≤ left → Exact (Upto Whole left) (whole_of b left)
+  whole_exact : 1 ≤ left → Exact (Upto Whole left) (whole_of b left)
   unfolding whole_of
   whole_exact one = bind_exact _ _ (level_exact one 10) (λ f front d. maybe_assigned_exact f front f.form refl d)
 
@@ -197,7 +197,7 @@ module _ (left : ℕ) (b : Below) (l : ExactBelow left b) where
   to_statement_exact f front form.Array e p = stop_exact p.goes
   to_statement_exact f front form.Value e p = stop_exact p.goes
 
-  pub statement_exact : 2 ≤ left → Exact UptoRun (statement_of b left)
+  statement_exact : 2 ≤ left → Exact UptoRun (statement_of b left)
   unfolding statement_of
   statement_exact two = prefixed_exact _ UptoRun (λ ts f d e le. (statement_of_level ts f d e, le)) (bind_exact _ _ (primary_exact aim.Statement two) (λ f front p. to_statement_exact f front f.form refl p))
 
@@ -255,7 +255,7 @@ module _ (left : ℕ) (b : Below) (le : left ≤ 1) where
       (prefixed_nothing _ (nothing_bind _ _ (primary_nothing aim.Value (omega (arith, z))))))
   level_nothing z (suc n) = nothing_bind _ _ (level_nothing z n)
 
-  pub whole_nothing : left ≡ 0 → Nothing (whole_of b left)
+  whole_nothing : left ≡ 0 → Nothing (whole_of b left)
   unfolding whole_of
   whole_nothing z = nothing_bind _ _ (level_nothing z 10)
 

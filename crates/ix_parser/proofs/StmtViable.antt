@@ -53,124 +53,12 @@ use Rattle.ix_parser.proofs.TypeViable.{type_goes, type_viable, rest_fits_viable
 use Rattle.ix_parser.proofs.DeclViable.{next_mod_viable, decls_viable}
 use Rattle.ix_parser.proofs.ExactRules.{Exact, exact_more, pure_exact, stop_exact, bind_exact, map_exact, maybe_bind, maybe_map, nothing_exact, turns_exact, sign_exact, name_exact, must_sign, must_name, nothing_stop, nothing_take}
 use Rattle.ix_parser.proofs.ExprExact.{Low, Wanted, Prim, prim_of, inner_exact, pairs_exact, statement_of_level}
-use Rattle.ix_parser.proofs.ExprViable.{room, name_or_call_exact, field_or_call_exact, chain_exact, to_statement_exact, statement_exact, statement_of_nothing, whole_nothing, below_false, exact_below, init_viable}
-
--- ---- rules that take nothing, and give this where they give something
-
-pub record Idle {A : Type 0} (a : A) (r : Rule A) : Type 0 where
-  pub gives : (ts us : List Token) (b : A) → run r ts ≡ Ok (b, us) → (b ≡ a) × (ts ≡ us)
-  pub here : (ts us : List Token) (why : Stop) → run r ts ≡ Err (why, us) → ts ≡ us
-
-pure_idle : {A : Type 0} (a : A) → Idle a (pure a)
-unfolding run
-pure_idle {A = A} a = record {
-  gives = λ ts us b h. let same = same_ok (a, ts) (b, us) h in (sym (ap (λ (p : A × List Token). p.0) same), ap (λ (p : A × List Token). p.1) same);
-  here = λ ts us why h. absurd (cc);
-}
-
-abbrev Still : {A : Type 0} → A → Outcome A → List Token → Type 0
-Still {A} a o ts = ((us : List Token) (b : A) → o ≡ Ok (b, us) → (b ≡ a) × (ts ≡ us)) × ((us : List Token) (why : Stop) → o ≡ Err (why, us) → ts ≡ us)
-
-abbrev err_of : (A : Type 0) → Stop × List Token → Outcome A
-err_of A x = Err x
-
-same_err : (A : Type 0) (x y : Stop × List Token) → err_of A x ≡ err_of A y → x ≡ y
-same_err A x y h = cc
-
-no_ok : {A : Type 0} (x : Stop × List Token) (p : A × List Token) → err_of A x ≡ Ok p → ⊥
-no_ok x p h = cc
-
-taken_still : {A V : Type 0} (a : A) (p : V → Parser A) (q : Parser A) (ts : List Token) → Still a (q ts) ts → (o : Option V) → Still a (taken false p q o ts) ts
-taken_still {A = A} a p q ts s (Some v) = (λ us b h. absurd (no_ok (TooDeep, ts) (b, us) h), λ us why h. ap (λ (x : Stop × List Token). x.1) (same_err A (TooDeep, ts) (why, us) h))
-taken_still a p q ts s None = s
-
-take_idle : {A V : Type 0} (a : A) (want : Token → Option V) (fits : Bool) (p : V → Rule A) (q : Rule A) → fits ≡ false → Idle a q → Idle a (take want fits p q)
-unfolding run
-take_idle a want true p q e i = absurd (cc)
-take_idle a want false p q e i = record {
-  gives = λ ts us b h. let s = taken_still a (λ v. run (p v)) (run q) ts (λ us b h. i.gives ts us b h, λ us why h. i.here ts us why h) (look want ts) in s.0 us b h;
-  here = λ ts us why h. let s = taken_still a (λ v. run (p v)) (run q) ts (λ us b h. i.gives ts us b h, λ us why h. i.here ts us why h) (look want ts) in s.1 us why h;
-}
-
-abbrev done_of : (S B : Type 0) → B → Turn S B
-done_of S B b = Done b
-
-done_same : (S B : Type 0) (c b : B) → done_of S B c ≡ done_of S B b → c ≡ b
-done_same S B c b h = cc
-
-turned_still : {S B : Type 0} (n : ℕ) (go : S → Parser B) (b : B) (r : Turn S B) (vs : List Token) → r ≡ Done b → Still b (turned n go r vs) vs
-turned_still n go b (On s) vs e = absurd (cc)
-turned_still {S = S} {B = B} n go b (Done c) vs e = (
-    λ us d h. let same = same_ok (c, vs) (d, us) h in (sym (ap (λ (p : B × List Token). p.0) same) ∙ done_same S B c b e, ap (λ (p : B × List Token). p.1) same),
-    λ us why h. absurd (cc))
-
-loop_idle : {S B : Type 0} (body : S → Rule (Turn S B)) (s : S) (b : B) → Idle (Done b) (body s) → Idle b (loop body s)
-unfolding run
-loop_idle body s b i = record {
-  gives = λ ts us c h.
-      let d = bind_ok (run (body s) ts) (turned (length ts) (turns (λ x. run (body x)) (length ts))) (c, us) h in
-      let same = i.gives ts d.0.1 d.0.0 d.1 in
-      let t = turned_still (length ts) (turns (λ x. run (body x)) (length ts)) b d.0.0 d.0.1 same.0 in
-      let w = t.0 us c d.2 in
-      (w.0, same.1 ∙ w.1);
-  here = λ ts us why h. elim (bind_err (run (body s) ts) (turned (length ts) (turns (λ x. run (body x)) (length ts))) (why, us) h) [
-    | inl x ↦ i.here ts us why x
-    | inr d ↦ (
-        let same = i.gives ts d.0.1 d.0.0 d.1 in
-        let t = turned_still (length ts) (turns (λ x. run (body x)) (length ts)) b d.0.0 d.0.1 same.0 in
-        same.1 ∙ t.1 us why d.2)
-  ];
-}
-
-idle_bind : {A B : Type 0} (a : A) (p : Rule A) (f : A → Rule B) → Idle a p → Nothing (f a) → Nothing (bind p f)
-unfolding run
-idle_bind a p f i n = record {
-  stops = λ ts us b h. let d = bind_ok (run p ts) (λ x. run (f x)) (b, us) h in let same = i.gives ts d.0.1 d.0.0 d.1 in n.stops d.0.1 us b (subst (λ x. run (f x) d.0.1 ≡ Ok (b, us)) same.0 d.2);
-  here = λ ts us why h. elim (bind_err (run p ts) (λ x. run (f x)) (why, us) h) [
-    | inl x ↦ i.here ts us why x
-    | inr d ↦ (let same = i.gives ts d.0.1 d.0.0 d.1 in same.1 ∙ n.here d.0.1 us why (subst (λ x. run (f x) d.0.1 ≡ Err (why, us)) same.0 d.2))
-  ];
-}
+use Rattle.ix_parser.proofs.ExprViable.{below_false, init_viable, nothing_statement}
+use Rattle.ix_parser.proofs.RunViable as runs
 
 -- ---- where there is no room
 
-high_false : (n left : ℕ) → left ≤ n → nat_lt n left ≡ false
-high_false n left le = false_from_ne_true (nat_lt n left) (λ h. omega (arith, le, ltb-true n left h))
-
-module _ (left : ℕ) (b : Below) (f : Found) (high : left ≤ f.height) where
-  index_idle : (c : Bool) → f.form ≡ form.Variable → Idle (Done f) (index_unless c b Statement left f)
-  unfolding index_unless index
-  index_idle true v = pure_idle (Done f)
-  index_idle false v = take_idle _ _ _ _ _ (below_false (extra Statement form.Variable + (f.height + 1)) left (omega (arith, high))) (pure_idle (Done f))
-
-  further_idle : f.form ≡ form.Variable → Idle (Done f) (further b Statement left f)
-  unfolding further
-  further_idle v = take_idle _ _ _ _ _ (high_false f.height left high) (index_idle (makes_array f.form) v)
-
-  to_nothing : (k : Form) → f.form ≡ form.Variable → f.form ≡ k → Nothing (to_statement b left f k)
-  unfolding to_statement assignment
-  to_nothing form.Variable v k = nothing_take _ _ _ _ (high_false f.height left high) (nothing_take _ _ _ _ (high_false f.height left high) nothing_stop)
-  to_nothing form.Statement v k = absurd (cc)
-  to_nothing form.Array v k = nothing_stop
-  to_nothing form.Value v k = nothing_stop
-
 module _ (left : ℕ) where
-  -- A variable that is too high: no token that goes on with it fits.
-  pub chain_nothing : (f : Found) → f.form ≡ form.Variable → left - 1 ≤ f.height → Nothing (chain left f)
-  unfolding chain
-  chain_nothing f v high = idle_bind f _ _ (loop_idle (further (below (left - 1)) Statement (left - 1)) f f (further_idle (left - 1) (below (left - 1)) f high v))
-      (nothing_bind _ _ (to_nothing (left - 1) (below (left - 1)) f high f.form v refl))
-
-  pub field_nothing : (f : Found) (x : Ident) → left - 1 ≤ f.height → Nothing (field left f x)
-  unfolding field field_or_call go_on
-  field_nothing f x high = idle_bind (On (selected f x)) _ _ (take_idle _ _ _ _ _ (below_false (extra Statement form.Statement + (f.height + 1)) (left - 1) (omega (arith, high))) (pure_idle (On (selected f x))))
-      (chain_nothing (selected f x) refl (omega (arith, high)))
-
-  pub run_named_nothing : (x : Ident) → left ≤ 2 → Nothing (run_named left x)
-  unfolding run_named name_or_call
-  run_named_nothing x le = idle_bind (named x) _ _ (take_idle _ _ _ _ _ (below_false (extra Statement form.Statement + 2) (left - 1) (omega (arith, le))) (pure_idle (named x)))
-      (chain_nothing (named x) refl (omega (arith, le)))
-
   local_or_nothing : (locals : Bool) (other : Rule Begun) → left ≤ 2 → Nothing other → Nothing (local_or locals left other)
   unfolding local_or
   local_or_nothing false other le n = n
@@ -185,7 +73,7 @@ module _ (left : ℕ) where
   pub begun_nothing : (prints locals : Bool) → left ≤ 2 → (prints ≡ true → left ≤ 1) → Nothing (begun prints locals left)
   unfolding begun
   begun_nothing prints locals le one = local_or_nothing locals _ le (print_or_nothing prints locals _ one (nothing_take _ _ _ _ (below_false 3 left (omega (arith, le)))
-      (nothing_bind _ _ (statement_of_nothing (left - 1) (below (left - 1)) (omega (arith, le))))))
+      (nothing_bind _ _ (nothing_statement (left - 1) (omega (arith, le))))))
 
 -- ---- a certain word
 
@@ -267,64 +155,27 @@ module _ (prints locals : Bool) (left : ℕ) where
       (sign_exact INT _ _ _ (λ f s. plain_exact may (sign INT s) (based Int s) (types.int s) (omega (arith, leb-true 3 left f)) (leb-true 3 left f))
       (sign_exact BOOLEAN _ _ _ (λ f s. plain_exact may (sign BOOLEAN s) (based Boolean s) (types.boolean s) (omega (arith, leb-true 3 left f)) (leb-true 3 left f)) o)))
 
-  -- ---- expressions
+  -- ---- what a name begins
 
-  run_goes : (front : List Token) → 1 ≤ left → Goes (Wanted aim.Statement (left - 1)) front → Goes (λ later r. Begins (front ++ later) r) []
-  run_goes front one goes = let (others, f, d) = goes in (others, Run f, (d.0, omega (arith, d.1, one)))
+  run_begins : (ts : List Token) (f : Found) → IsStatementExpr ts f → f.height + 1 ≤ left → Begins ts (Run f)
+  run_begins ts f d le = (d, le)
 
-  chain_run : (f : Found) (front : List Token) → 1 ≤ left → Prim aim.Statement (left - 1) front f → Exact (λ ts r. Begins (front ++ ts) r) (chain left f)
-  unfolding chain
-  chain_run f front one p = bind_exact _ _ (chain_exact (left - 1) (below (left - 1)) (exact_below (left - 1)) aim.Statement f front p)
-      (λ h seen q. exact_more _ (λ ts r b. subst (λ y. Begins y r) (append_assoc front seen ts) b)
-      (map_exact _ _ (to_statement_exact (left - 1) (below (left - 1)) (exact_below (left - 1)) h (front ++ seen) h.form refl q) (λ r us y. (y.0, omega (arith, y.1, one)))))
-
-  turn_run : (t : Turn Found Found) (front later : List Token) → 1 ≤ left → After (Prim aim.Statement (left - 1)) (Prim aim.Statement (left - 1)) front later t → Exact (λ ts r. Begins ((front ++ later) ++ ts) r) (go_on left t)
-  unfolding go_on
-  turn_run (On f) front later one p = chain_run f (front ++ later) one p
-  turn_run (Done f) front later one p = stop_exact (run_goes (front ++ later) one p.goes)
-
-  -- behind an expression, a dot and a name, where something could come
-  field_run : (f : Found) (front : List Token) (dot : Span) (x : Ident) → 1 ≤ left → IsExpr Primary front f → (f.height < left - 1) ⊎ (left - 1 ≤ f.height) → Goes (λ ts r. Begins (front ++ (sign DOT dot ∷ name_token x ∷ ts)) r) []
-      → Exact (λ ts r. Begins (front ++ (sign DOT dot ∷ name_token x ∷ ts)) r) (field left f x)
-  unfolding field
-  field_run f front dot x one d (inl lt) goes = bind_exact _ _ (field_or_call_exact (left - 1) (below (left - 1)) (exact_below (left - 1)) aim.Statement f front dot x d lt)
-      (λ t seen y. exact_more _ (λ ts r b. subst (λ z. Begins z r) (append_assoc front (sign DOT dot ∷ name_token x ∷ seen) ts) b) (turn_run t front (sign DOT dot ∷ name_token x ∷ seen) one y))
-  field_run f front dot x one d (inr le) goes = nothing_exact _ (field_nothing left f x le) goes
-
-  run_named_run : (x : Ident) → (2 < left) ⊎ (left ≤ 2) → Goes (λ ts r. Begins (name_token x ∷ ts) r) [] → Exact (λ ts r. Begins (name_token x ∷ ts) r) (run_named left x)
-  unfolding run_named
-  run_named_run x (inl lt) goes = bind_exact _ _ (name_or_call_exact (left - 1) (below (left - 1)) (exact_below (left - 1)) aim.Statement x (omega (arith, lt))) (λ f seen d. chain_run f (name_token x ∷ seen) (omega (arith, lt)) d)
-  run_named_run x (inr le) goes = nothing_exact _ (run_named_nothing left x le) goes
-
-  -- an index of an element that begins an assignment
-  abbrev Indexing : List Token → Found → Type 0
-  Indexing ts h = Low Whole 2 (left - 1) ts h × (5 ≤ left)
-
-  guarded_exact : (c : Bool) → nat_le 5 left ≡ c → Exact Indexing (guarded c (inner (below (left - 1)) 1)) ⊎ Nothing (guarded c (inner (below (left - 1)) 1))
-  unfolding guarded
-  guarded_exact true f = let five = leb-true 5 left f in inl (exact_more _ (λ ts h d. (d, five)) (inner_exact (left - 1) (below (left - 1)) (exact_below (left - 1)) 1 (omega arith) (omega (arith, five))))
-  guarded_exact false f = inr (whole_nothing 0 (below 0) (omega arith) refl)
-
-  indexed_exact : locals ≡ true → (x : Ident) (o : Span) → 4 ≤ left → Exact (λ ts r. Begins (name_token x ∷ sign OPEN_BRACKET o ∷ ts) r) (indexed left x)
-  unfolding indexed
-  indexed_exact may x o four = maybe_bind _ _ (guarded_exact (nat_le 5 left) refl)
-      (sign CLOSE_BRACKET here ∷ name_token some_name ∷ [], Local no_mods (array_of (based (Named x) x.span) no_notes (counted 1 here)) (one_decl (plain_decl (shared no_mods (array_of (based (Named x) x.span) no_notes (counted 1 here))) some_name)),
+  -- Behind a bracket: a type, which is lower than an assignment to an element.
+  array_goes : locals ≡ true → (x : Ident) (o : Span) → 4 ≤ left → Goes (λ ts r. Begins (name_token x ∷ sign OPEN_BRACKET o ∷ ts) r) []
+  array_goes may x o four = (sign CLOSE_BRACKET here ∷ name_token some_name ∷ [], Local no_mods (array_of (based (Named x) x.span) no_notes (counted 1 here)) (one_decl (plain_decl (shared no_mods (array_of (based (Named x) x.span) no_notes (counted 1 here))) some_name)),
       (may, g.local decl.none (types.type (types.named x) (types.array no_item (types.pair o here))) (first_item (decl.plain some_name)), omega (arith, four)))
-      (λ h seen d. must_sign CLOSE_BRACKET _ (λ r. exact_more _ (λ ts b y. subst (λ z. Begins (name_token x ∷ sign OPEN_BRACKET o ∷ z) b) (append_assoc seen (sign CLOSE_BRACKET r ∷ []) ts) y)
-      (chain_run (element (named x) h r) (name_token x ∷ sign OPEN_BRACKET o ∷ (seen ++ sign CLOSE_BRACKET r ∷ [])) (omega (arith, four))
-      (prim_of aim.Statement (left - 1) _ (element (named x) h r) (e.index o r (e.variable x) refl d.0.0) (omega (arith, d.0.1, d.1))))))
 
   named_first_exact : (c : Bool) (x : Ident) → locals ≡ c → Goes (λ ts r. Begins (name_token x ∷ ts) r) [] → Exact (λ ts r. Begins (name_token x ∷ ts) r) (named_first c left x)
   unfolding named_first
-  named_first_exact false x may goes = run_named_run x (room 2 left) goes
+  named_first_exact false x may goes = runs.run_named_exact left Begins run_begins x goes
   named_first_exact true x may goes = sign_exact OPEN_BRACKET _ _ _
       (λ f o. sign_exact CLOSE_BRACKET true _ _ (λ t r. bind_exact _ _ (pairs_exact o r)
       (λ found seen p. named_type_exact may [] (name_token x ∷ sign OPEN_BRACKET o ∷ sign CLOSE_BRACKET r ∷ seen) no_mods (array_of (based (Named x) x.span) no_notes found) decl.none (types.type (types.named x) (types.array no_item p)) (omega (arith, leb-true 4 left f)) (omega (arith, leb-true 4 left f)) (omega (arith, leb-true 4 left f))))
-      (indexed_exact may x o (leb-true 4 left f)))
+      (runs.indexed_exact left Begins run_begins x o (array_goes may x o (leb-true 4 left f))))
       (sign_exact AT _ _ _ (λ f at. bind_exact _ _ (noted_exact x at (leb-true 5 left f))
       (λ ty seen d. named_type_exact may [] (name_token x ∷ sign AT at ∷ seen) no_mods ty decl.none (types.type (types.named x) d.0) (omega (arith, leb-true 5 left f)) (omega (arith, d.1, leb-true 5 left f)) (omega (arith, leb-true 5 left f))))
       (name_exact _ _ _ (λ f y. declared_exact may [] (name_token x ∷ []) no_mods (plain_type (based (Named x) x.span)) y decl.none (types.type (types.named x) types.no_rest) (omega (arith, leb-true 4 left f)) (omega (arith, leb-true 4 left f)) (omega (arith, leb-true 4 left f)))
-      (run_named_run x (room 2 left) goes)))
+      (runs.run_named_exact left Begins run_begins x goes)))
     where
       noted_exact : (x : Ident) (at : Span) → 5 ≤ left → Exact (λ ts ty. RestOf (left - 2) (based (Named x) x.span) (sign AT at ∷ ts) ty) (noted_array (left - 2) (based (Named x) x.span) at)
       noted_exact x at five = record {
@@ -348,26 +199,26 @@ module _ (locals : Bool) (left : ℕ) (two : 2 ≤ left) where
       → Exact (λ ts r. MaybePrint (word_token SYSTEM system ∷ sign DOT dot ∷ word_token OUT out ∷ sign DOT second ∷ word_token PRINTLN println ∷ ts) r) (println_part left (the_word SYSTEM system) (the_word OUT out) (the_word PRINTLN println))
   unfolding println_part
   println_exact system dot out second println = sign_exact OPEN_PAREN true _ _ (λ t o. pure_exact _ (refl, record { dot = dot; out = out; second = second; println = println; left = o; is = refl }, two))
-      (field_run true locals left (selected (named (the_word SYSTEM system)) (the_word OUT out)) (word_token SYSTEM system ∷ sign DOT dot ∷ word_token OUT out ∷ []) second (the_word PRINTLN println) (omega (arith, two))
-      (e.select dot (the_word OUT out) (e.variable (the_word SYSTEM system))) (room 3 (left - 1))
+      (runs.field_exact left MaybePrint (run_begins true locals left) (selected (named (the_word SYSTEM system)) (the_word OUT out)) (word_token SYSTEM system ∷ sign DOT dot ∷ word_token OUT out ∷ []) second (the_word PRINTLN println)
+      (e.select dot (the_word OUT out) (e.variable (the_word SYSTEM system)))
       (sign OPEN_PAREN here ∷ [], Print system, (refl, record { dot = dot; out = out; second = second; println = println; left = here; is = refl }, two)))
 
   out_exact : (system dot out : Span) → Exact (λ ts r. MaybePrint (word_token SYSTEM system ∷ sign DOT dot ∷ word_token OUT out ∷ ts) r) (out_part left (the_word SYSTEM system) (the_word OUT out))
   unfolding out_part
   out_exact system dot out = sign_exact DOT true _ _
       (λ t second. word_exact PRINTLN true _ _ (λ u println. println_exact system dot out second println)
-      (name_exact _ _ _ (λ f y. field_run true locals left (selected (named (the_word SYSTEM system)) (the_word OUT out)) (word_token SYSTEM system ∷ sign DOT dot ∷ word_token OUT out ∷ []) second y (omega (arith, two))
-      (e.select dot (the_word OUT out) (e.variable (the_word SYSTEM system))) (inl (omega (arith, leb-true 5 left f)))
+      (name_exact _ _ _ (λ f y. runs.field_exact left MaybePrint (run_begins true locals left) (selected (named (the_word SYSTEM system)) (the_word OUT out)) (word_token SYSTEM system ∷ sign DOT dot ∷ word_token OUT out ∷ []) second y
+      (e.select dot (the_word OUT out) (e.variable (the_word SYSTEM system)))
       (field_call (selected (named (the_word SYSTEM system)) (the_word OUT out)) (word_token SYSTEM system ∷ sign DOT dot ∷ word_token OUT out ∷ []) second y (e.select dot (the_word OUT out) (e.variable (the_word SYSTEM system))) (omega (arith, leb-true 5 left f))))
       (stop_exact (word_token PRINTLN here ∷ sign OPEN_PAREN here ∷ [], Print system, (refl, record { dot = dot; out = out; second = second; println = here; left = here; is = refl }, two)))))
-      (field_run true locals left (named (the_word SYSTEM system)) (word_token SYSTEM system ∷ []) dot (the_word OUT out) (omega (arith, two)) (e.variable (the_word SYSTEM system)) (room 2 (left - 1))
+      (runs.field_exact left MaybePrint (run_begins true locals left) (named (the_word SYSTEM system)) (word_token SYSTEM system ∷ []) dot (the_word OUT out) (e.variable (the_word SYSTEM system))
       (sign DOT here ∷ word_token PRINTLN here ∷ sign OPEN_PAREN here ∷ [], Print system, (refl, record { dot = dot; out = out; second = here; println = here; left = here; is = refl }, two)))
 
   system_exact : (system : Span) → Exact (λ ts r. MaybePrint (word_token SYSTEM system ∷ ts) r) (system_part locals left (the_word SYSTEM system))
   unfolding system_part
   system_exact system = sign_exact DOT true _ _
       (λ t dot. word_exact OUT true _ _ (λ u out. out_exact system dot out)
-      (name_exact _ _ _ (λ f y. field_run true locals left (named (the_word SYSTEM system)) (word_token SYSTEM system ∷ []) dot y (omega (arith, two)) (e.variable (the_word SYSTEM system)) (inl (omega (arith, leb-true 4 left f)))
+      (name_exact _ _ _ (λ f y. runs.field_exact left MaybePrint (run_begins true locals left) (named (the_word SYSTEM system)) (word_token SYSTEM system ∷ []) dot y (e.variable (the_word SYSTEM system))
       (field_call (named (the_word SYSTEM system)) (word_token SYSTEM system ∷ []) dot y (e.variable (the_word SYSTEM system)) (omega (arith, leb-true 4 left f))))
       (stop_exact (word_token OUT here ∷ sign DOT here ∷ word_token PRINTLN here ∷ sign OPEN_PAREN here ∷ [], Print system, (refl, record { dot = dot; out = here; second = here; println = here; left = here; is = refl }, two)))))
       (named_first_exact true locals left locals (the_word SYSTEM system) refl
@@ -387,14 +238,6 @@ module _ (prints locals : Bool) (left : ℕ) where
   call_goes : (x : Ident) → 3 ≤ left → Goes (λ ts r. Beg prints locals left (name_token x ∷ ts) r) []
   call_goes x three = (sign OPEN_PAREN here ∷ sign CLOSE_PAREN here ∷ [], Run (called x (all_args no_exprs here)), (statement_of_level _ _ (e.primary (e.call x (e.no_args here here))) refl, omega (arith, three)))
 
-  maybe_run : (2 < left) ⊎ (left ≤ 2) → Exact (λ ts f. IsStatementExpr ts f × (f.height ≤ left - 1)) (statement_expr (left - 1)) ⊎ Nothing (statement_expr (left - 1))
-  maybe_run (inl lt) = inl (statement_exact (left - 1) (below (left - 1)) (exact_below (left - 1)) (omega (arith, lt)))
-  maybe_run (inr le) = inr (statement_of_nothing (left - 1) (below (left - 1)) (omega (arith, le)))
-
-  room_one : Roomy prints left → 1 ≤ left
-  room_one (inl three) = omega (arith, three)
-  room_one (inr (may, two)) = omega (arith, two)
-
   print_or_exact : (c : Bool) (other : Rule Begun) → prints ≡ c → Exact (Beg prints locals left) other → Exact (Beg prints locals left) (print_or c locals left other)
   unfolding print_or
   print_or_exact false other may o = o
@@ -402,5 +245,4 @@ module _ (prints locals : Bool) (left : ℕ) where
 
   pub begun_exact : Roomy prints left → Exact (Beg prints locals left) (begun prints locals left)
   unfolding begun
-  begun_exact fit = local_or_exact prints locals left locals _ refl (print_or_exact prints _ refl (name_exact _ _ _ (λ f x. named_first_exact prints locals left locals x refl (call_goes x (leb-true 3 left f)))
-      (maybe_map _ _ (maybe_run (room 2 left)) (begins_goes fit) (λ f us d. (d.0, omega (arith, d.1, room_one fit))))))
+  begun_exact fit = local_or_exact prints locals left locals _ refl (print_or_exact prints _ refl (name_exact _ _ _ (λ f x. named_first_exact prints locals left locals x refl (call_goes x (leb-true 3 left f))) (runs.run_expr_exact left (Beg prints locals left) (run_begins prints locals left) (begins_goes fit))))

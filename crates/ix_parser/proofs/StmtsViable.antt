@@ -24,7 +24,7 @@ use Rattle.ix_parser.specs.Patterns.{sign, name_token, string_token, a_sign, a_t
 use Rattle.ix_parser.specs.Lists.{IsSeparated, first_item, more_of, next_inside, braces_of, placed}
 use Rattle.ix_parser.specs.ClassGrammar.{no_stmts, with_stmt}
 use Rattle.ix_parser.specs.ExprNodes.{no_exprs, with_expr}
-use Rattle.ix_parser.specs.ExprRules.{below, expr, statement_expr}
+use Rattle.ix_parser.specs.ExprRules.{expr, statement_expr}
 use Rattle.ix_parser.specs.ExprGrammar.{Whole, IsExpr, IsStatementExpr}
 use Rattle.ix_parser.specs.StmtGrammar as g
 use Rattle.ix_parser.specs.StmtGrammar.{IsStmt, IsBlockStmt, IsStmts, IsLocal, IsForFirst, IsMaybe, IsUpdate, IsReason, begins_print, maybe_height, if_stmt, if_else_stmt, while_stmt, do_stmt, for_stmt, one_run, with_run, one_expr}
@@ -37,7 +37,7 @@ use Rattle.ix_parser.proofs.StmtHeights.{LowStmts, low_stmts, if_low}
 use Rattle.ix_parser.proofs.ViableRules.{Goes, Viable, Nothing, nothing_bind, pure_viable, bind_viable, map_viable, weaken_viable, sign_viable, text_viable, bind_err, further_goes}
 use Rattle.ix_parser.proofs.ListsViable.{here, more_viable}
 use Rattle.ix_parser.proofs.ExactRules.{Exact, exact_more, pure_exact, bind_exact, map_exact, maybe_bind, maybe_map, loop_exact, sign_exact, must_sign, end_sign, must_name, nothing_stop, nothing_take}
-use Rattle.ix_parser.proofs.ExprViable.{room, whole_exact, statement_exact, statement_of_nothing, whole_nothing, below_false, exact_below}
+use Rattle.ix_parser.proofs.ExprViable.{room, expr_exact, nothing_expr, statement_expr_exact, nothing_statement, below_false}
 use Rattle.ix_parser.proofs.StmtViable.{Beg, begun_exact, begun_nothing}
 
 -- ---- what begins as the print statement is nothing else
@@ -177,7 +177,7 @@ empty_stmt = g.stmt_node k.Empty 0 here
 module _ (left : ℕ) where
   condition_exact : 2 ≤ left → Exact (λ ts f. IsCondition ts f × (f.height + 1 ≤ left)) (condition left)
   unfolding condition
-  condition_exact two = must_sign OPEN_PAREN _ (λ o. bind_exact _ _ (whole_exact (left - 1) (below (left - 1)) (exact_below (left - 1)) (omega (arith, two)))
+  condition_exact two = must_sign OPEN_PAREN _ (λ o. bind_exact _ _ (expr_exact (left - 1) (omega (arith, two)))
       (λ f seen d. end_sign CLOSE_PAREN (λ c. f) (λ c. (record { left = o; right = c; inside = seen; is = refl; holds = d.0 }, omega (arith, d.1, two)))))
 
 module _ (parts : StmtParts) (left : ℕ) (s : SoundStmts parts) (l : LowStmts left parts) (v : ViableStmts left parts) where
@@ -251,7 +251,7 @@ module _ (parts : StmtParts) (left : ℕ) (s : SoundStmts parts) (l : LowStmts l
   -- expressions that are statements, with commas between them, of the height `most` at most
   more_exact : {S : Type 0} (most : ℕ) (one : Found → S) (add : S → Found → S) (Q : S → Type 0) → ((x : S) (f : Found) → Q x → f.height ≤ most → Q (add x f)) → 2 ≤ most → (x : S) (front : List Token)
       → IsSeparated IsStatementExpr one add front x → Q x → Exact (λ seen b. IsSeparated IsStatementExpr one add (front ++ seen) b × Q b) (more_of (statement_expr most) add x)
-  more_exact most one add Q keeps two x front d q = let item = statement_exact most (below most) (exact_below most) two in record {
+  more_exact most one add Q keeps two x front d q = let item = statement_expr_exact most two in record {
     sound = more_fits IsStatementExpr one add (statement_expr most) (λ f. f.height ≤ most) Q keeps item.sound x front d q;
     viable = more_viable IsStatementExpr one add (statement_expr most) (λ f. f.height ≤ most) Q keeps item.sound item.viable x front d q;
     goes = ([], x, (subst (λ y. IsSeparated IsStatementExpr one add y x) (sym (append-nil front)) d, q));
@@ -262,8 +262,8 @@ module _ (parts : StmtParts) (left : ℕ) (s : SoundStmts parts) (l : LowStmts l
   Updating ts f = (IsStatementExpr ts f × (f.height ≤ left - 1)) × (3 ≤ left)
 
   maybe_update : (2 < left) ⊎ (left ≤ 2) → Exact Updating (statement_expr (left - 1)) ⊎ Nothing (statement_expr (left - 1))
-  maybe_update (inl lt) = inl (exact_more _ (λ ts f d. (d, lt)) (statement_exact (left - 1) (below (left - 1)) (exact_below (left - 1)) (omega (arith, lt))))
-  maybe_update (inr le) = inr (statement_of_nothing (left - 1) (below (left - 1)) (omega (arith, le)))
+  maybe_update (inl lt) = inl (exact_more _ (λ ts f d. (d, lt)) (statement_expr_exact (left - 1) (omega (arith, lt))))
+  maybe_update (inr le) = inr (nothing_statement (left - 1) (omega (arith, le)))
 
   for_update_exact : (start o fe ce : Span) (ts us : List Token) (first : Stmts) (cond : Option Found) → 2 ≤ left → IsForFirst ts first → first.height + 1 ≤ left → IsMaybe us cond → LowMaybe cond
       → Exact (λ ws a. LowStmt left (sign FOR start ∷ sign OPEN_PAREN o ∷ (ts ++ sign SEMICOLON fe ∷ (us ++ sign SEMICOLON ce ∷ ws))) a) (for_update parts left start first cond)
@@ -280,7 +280,7 @@ module _ (parts : StmtParts) (left : ℕ) (s : SoundStmts parts) (l : LowStmts l
       → Exact (λ ws a. LowStmt left (sign FOR start ∷ sign OPEN_PAREN o ∷ (ts ++ sign SEMICOLON fe ∷ ws)) a) (for_condition parts left start first)
   unfolding for_condition
   for_condition_exact start o fe ts first two a h = sign_exact SEMICOLON true _ _ (λ t ce. for_update_exact start o fe ce ts [] first None two a h g.absent (omega (arith, two)))
-      (bind_exact _ _ (whole_exact (left - 1) (below (left - 1)) (exact_below (left - 1)) (omega (arith, two)))
+      (bind_exact _ _ (expr_exact (left - 1) (omega (arith, two)))
       (λ f seen d. must_sign SEMICOLON _ (λ ce. for_update_exact start o fe ce ts seen first (Some f) two a h (g.present d.0) (omega (arith, d.1, two)))))
 
   abbrev LowFirst : List Token → Stmts → Type 0
@@ -315,8 +315,8 @@ module _ (parts : StmtParts) (left : ℕ) (s : SoundStmts parts) (l : LowStmts l
   -- ---- the others
 
   maybe_value : (1 < left) ⊎ (left ≤ 1) → Exact (λ ts f. IsExpr Whole ts f × (f.height + 1 ≤ left)) (expr (left - 1)) ⊎ Nothing (expr (left - 1))
-  maybe_value (inl lt) = inl (exact_more _ (λ ts f d. (d.0, omega (arith, d.1, lt))) (whole_exact (left - 1) (below (left - 1)) (exact_below (left - 1)) (omega (arith, lt))))
-  maybe_value (inr le) = inr (whole_nothing (left - 1) (below (left - 1)) (omega (arith, le)) (omega (arith, le)))
+  maybe_value (inl lt) = inl (exact_more _ (λ ts f d. (d.0, omega (arith, d.1, lt))) (expr_exact (left - 1) (omega (arith, lt))))
+  maybe_value (inr le) = inr (let none : left - 1 ≡ 0 = omega (arith, le) in subst (λ n. Nothing (expr n)) (sym none) nothing_expr)
 
   return_exact : (start : Span) → 1 ≤ left → Exact (λ ts a. LowStmt left (sign RETURN start ∷ ts) a) (return_rule left start)
   unfolding return_rule
@@ -372,7 +372,7 @@ module _ (parts : StmtParts) (left : ℕ) (s : SoundStmts parts) (l : LowStmts l
     unfolding finished
     finish_exact (Local mods ty found) front d = end_sign SEMICOLON (g.local_stmt mods ty found) (λ end. (declares d.0 end front mods ty found d.1, d.2))
     finish_exact (Run f) front d = end_sign SEMICOLON (g.run_stmt f) (λ end. (plain _ _ false (g.runs end d.0 d.1), d.2))
-    finish_exact (Print system) front d = bind_exact _ _ (whole_exact (left - 1) (below (left - 1)) (exact_below (left - 1)) (omega (arith, d.1)))
+    finish_exact (Print system) front d = bind_exact _ _ (expr_exact (left - 1) (omega (arith, d.1)))
         (λ f seen x. must_sign CLOSE_PAREN _ (λ c. end_sign SEMICOLON (g.print_stmt system f) (λ end. (plain _ _ false (print_end system end c f front seen d.0 x.0), omega (arith, x.1, d.1)))))
 
     -- a beginning where there is room for one
