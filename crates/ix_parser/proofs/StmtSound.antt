@@ -358,7 +358,7 @@ pub record Flagged (R : List Token → FoundStmt → Bool → Type 0) (r : Rule 
 pub flag_false : {R : List Token → FoundStmt → Bool → Type 0} (r : Rule FoundStmt) → Sound (λ seen a. R seen a false) r → Flagged R r
 flag_false r s = record { at = λ ts us a h. let (seen, is, d) = s.at ts us a h in (seen, is, false, d, λ e. absurd (cc)) }
 
-cons_same : (t u : Token) (ts us : List Token) → t ≡ u → ts ≡ us → t ∷ ts ≡ u ∷ us
+pub cons_same : (t u : Token) (ts us : List Token) → t ≡ u → ts ≡ us → t ∷ ts ≡ u ∷ us
 cons_same t u ts us a b = rw (a, b) refl
 
 flag_taken : {R : List Token → FoundStmt → Bool → Type 0} (n : ℕ) (fits : Bool) (p : Span → Rule FoundStmt) (q : Rule FoundStmt) (t : Token) (ts us : List Token) (a : FoundStmt) → ((s : Span) → Flagged (λ seen a e. R (sign n s ∷ seen) a e) (p s)) → Flagged R q

@@ -1,7 +1,7 @@
 -- Where a statement that begins with no word of its own stops, what it took goes on to one that is low enough. Where none is, nothing is taken.
-use Rattle.std.proofs.Common.{◌≡◌, ℕ, ◌+◌, ◌-◌, ◌<◌, ◌≤◌, nat_le, nat_lt, arith, length, Bool, true, false, List, [], ◌∷◌, ◌++◌, Option, Some, None, Ok, Err, refl, sym, ap, subst, ◌∙◌, append_assoc, ◌⊎◌, inl, inr}
+use Rattle.std.proofs.Common.{◌≡◌, ℕ, ◌+◌, ◌-◌, ◌≤◌, arith, Bool, true, false, List, [], ◌∷◌, ◌++◌, refl, sym, subst, append_assoc, ◌⊎◌, inl, inr}
 use Rattle.std.proofs.lemmas.List.{append-nil}
-use Rattle.std.proofs.lemmas.Bool.{leb-true, ltb-true, false_from_ne_true}
+use Rattle.std.proofs.lemmas.Bool.{leb-true}
 use Rattle.ix_text.specs.declared.span.Span.{Span}
 use Rattle.ix_lexer.specs.declared.token.Token.{Token}
 use Rattle.ix_lexer.specs.declared.fixed.TheConstants.{FINAL, INT, BOOLEAN, AT, DOT, OPEN_PAREN, CLOSE_PAREN, OPEN_BRACKET, CLOSE_BRACKET}
@@ -10,18 +10,12 @@ use Rattle.ix_tree.specs.declared.annot.BaseTree.{BaseTree}
 use Rattle.ix_tree.specs.declared.annot.BaseTree.TheVariants.{Int, Boolean, Named}
 use Rattle.ix_parser.specs.declared.declarations.FoundMods.{FoundMods}
 use Rattle.ix_parser.specs.declared.declarations.Word.TheVariants.{Final}
-use Rattle.ix_parser.specs.declared.error.Stop.{Stop}
-use Rattle.ix_parser.specs.declared.error.Stop.TheVariants.{TooDeep}
-use Rattle.ix_parser.specs.declared.found.Aim.TheVariants as aim
-use Rattle.ix_parser.specs.declared.found.Aim.TheVariants.{Statement}
 use Rattle.ix_parser.specs.declared.found.At.{At}
-use Rattle.ix_parser.specs.declared.found.Form.{Form}
-use Rattle.ix_parser.specs.declared.found.Form.TheVariants as form
 use Rattle.ix_parser.specs.declared.found.Found.{Found}
 use Rattle.ix_parser.specs.declared.found.FoundType.{FoundType}
 use Rattle.ix_parser.specs.declared.statement_trees.Begun.{Begun}
 use Rattle.ix_parser.specs.declared.statement_trees.Begun.TheVariants.{Local, Run, Print}
-use Rattle.ix_parser.specs.Rule.{Rule, pure, take, bind, loop, Turn, On, Done, Outcome, Parser, look, taken, turned, turns, run}
+use Rattle.ix_parser.specs.Rule.{Rule, take, bind, Done}
 use Rattle.ix_parser.specs.Patterns.{sign, name_token}
 use Rattle.ix_parser.specs.Lists.{first_item, no_item, one_more}
 use Rattle.ix_parser.specs.AnnotGrammar.{no_notes, bare}
@@ -31,14 +25,13 @@ use Rattle.ix_parser.specs.TypeRules.{noted_array, type_rest}
 use Rattle.ix_parser.specs.DeclGrammar as decl
 use Rattle.ix_parser.specs.DeclGrammar.{no_mods, with_word, with_annot, local_words, shared, plain_decl, one_decl, IsMods, IsDecls}
 use Rattle.ix_parser.specs.DeclRules.{next_mod}
-use Rattle.ix_parser.specs.ExprNodes.{named, selected, element, called, called_on, no_exprs, all_args}
-use Rattle.ix_parser.specs.ExprRules.{extra, makes_array, Below, below, inner, index, index_unless, further, field_or_call, name_or_call, assignment, to_statement, statement_expr, init}
+use Rattle.ix_parser.specs.ExprNodes.{named, selected, called, called_on, no_exprs, all_args}
+use Rattle.ix_parser.specs.ExprRules.{init}
 use Rattle.ix_parser.specs.ExprGrammar as e
 use Rattle.ix_parser.specs.ExprGrammar.{Primary, Whole, IsExpr, IsInit, IsStatementExpr}
 use Rattle.ix_parser.specs.StmtGrammar as g
 use Rattle.ix_parser.specs.StmtGrammar.{SYSTEM, OUT, PRINTLN, word_token, IsLocal}
-use Rattle.ix_parser.specs.StmtRules.{a_word, declared, named_type, typed, modified, local_or, chain, go_on, field, run_named, guarded, indexed, named_first, println_part, out_part, system_part, print_or, begun}
-use Rattle.ix_parser.proofs.Runs.{same_ok, bind_ok}
+use Rattle.ix_parser.specs.StmtRules.{a_word, declared, named_type, typed, modified, local_or, named_first, println_part, out_part, system_part, print_or, begun}
 use Rattle.ix_parser.proofs.SoundRules.{After}
 use Rattle.ix_parser.proofs.ListsSound.{fits_sound}
 use Rattle.ix_parser.proofs.AnnotSound.{annot_behind_sound}
@@ -46,13 +39,13 @@ use Rattle.ix_parser.proofs.TypeSound.{RestOf, type_sound, rest_fits, noted_arra
 use Rattle.ix_parser.proofs.DeclSound.{Modified, next_mod_sound, decls_sound}
 use Rattle.ix_parser.proofs.Follows.{tall}
 use Rattle.ix_parser.proofs.StmtSound.{init_both, word_is, word_name, the_word, word_sound, IsPrint}
-use Rattle.ix_parser.proofs.ViableRules.{Goes, Viable, Nothing, nothing_bind, take_viable, bind_err}
+use Rattle.ix_parser.proofs.ViableRules.{Goes, Viable, Nothing, nothing_bind, take_viable}
 use Rattle.ix_parser.proofs.ListsViable.{here, some_name}
 use Rattle.ix_parser.proofs.AnnotViable.{annot_behind_goes, annot_behind_viable}
 use Rattle.ix_parser.proofs.TypeViable.{type_goes, type_viable, rest_fits_viable, noted_array_viable}
 use Rattle.ix_parser.proofs.DeclViable.{next_mod_viable, decls_viable}
-use Rattle.ix_parser.proofs.ExactRules.{Exact, exact_more, pure_exact, stop_exact, bind_exact, map_exact, maybe_bind, maybe_map, nothing_exact, turns_exact, sign_exact, name_exact, must_sign, must_name, nothing_stop, nothing_take}
-use Rattle.ix_parser.proofs.ExprExact.{Low, Wanted, Prim, prim_of, inner_exact, pairs_exact, statement_of_level}
+use Rattle.ix_parser.proofs.ExactRules.{Exact, exact_more, pure_exact, stop_exact, bind_exact, map_exact, turns_exact, sign_exact, name_exact, must_name, nothing_take}
+use Rattle.ix_parser.proofs.ExprExact.{Prim, pairs_exact, statement_of_level}
 use Rattle.ix_parser.proofs.ExprViable.{below_false, init_viable, nothing_statement}
 use Rattle.ix_parser.proofs.RunViable as runs
 

@@ -181,7 +181,7 @@ module _ (parts : StmtParts) (s : SoundStmts parts) (left : ℕ) where
 
   -- ---- all of them; a declaration stands in a block alone
 
-  print_end : (system end c : Span) (f : Found) (front seen : List Token) → IsPrint front system → IsExpr Whole seen f → IsStmt false (front ++ (seen ++ (sign CLOSE_PAREN c ∷ sign SEMICOLON end ∷ []))) (g.print_stmt system f end)
+  pub print_end : (system end c : Span) (f : Found) (front seen : List Token) → IsPrint front system → IsExpr Whole seen f → IsStmt false (front ++ (seen ++ (sign CLOSE_PAREN c ∷ sign SEMICOLON end ∷ []))) (g.print_stmt system f end)
   print_end system end c f front seen p d = subst (λ y. IsStmt false (y ++ (seen ++ (sign CLOSE_PAREN c ∷ sign SEMICOLON end ∷ []))) (g.print_stmt system f end)) (sym p.is) (g.print system p.dot p.out p.second p.println p.left c end d)
 
   finish_stmt : (r : Begun) (front : List Token) → NoLocal r → IsBegunStmt left front r → Sound (λ ts a. IsStmt false (front ++ ts) a) (finished left r)

@@ -31,8 +31,8 @@ use Rattle.ix_parser.specs.StmtGrammar.{IsStmt, IsBlockStmt, IsStmts, IsLocal, I
 use Rattle.ix_parser.specs.StmtRules.{StmtParts, condition, else_part, if_rule, while_rule, do_rule, for_body, for_update, for_condition, for_part, for_rule, return_rule, throw_end, throw_rule, block_rule, finished, stmt_of, stmts_below, stmt, block_statement, begun}
 use Rattle.ix_parser.proofs.SoundRules.{Sound, After, text_sound}
 use Rattle.ix_parser.proofs.ListsSound.{fits_sound, more_fits}
-use Rattle.ix_parser.proofs.StmtSound.{both, Flagged, IsPrint, six, print_reads, Printed, printed, not_print, front_print}
-use Rattle.ix_parser.proofs.StmtsSound.{SoundStmts, sound_stmts_below, IsCondition, behind, if_sound}
+use Rattle.ix_parser.proofs.StmtSound.{both, Flagged, IsPrint, six, print_reads, Printed, printed, not_print, front_print, cons_same}
+use Rattle.ix_parser.proofs.StmtsSound.{SoundStmts, sound_stmts_below, IsCondition, behind, if_sound, print_end}
 use Rattle.ix_parser.proofs.StmtHeights.{LowStmts, low_stmts, if_low}
 use Rattle.ix_parser.proofs.ViableRules.{Goes, Viable, Nothing, nothing_bind, pure_viable, bind_viable, map_viable, weaken_viable, sign_viable, text_viable, bind_err, further_goes}
 use Rattle.ix_parser.proofs.ListsViable.{here, more_viable}
@@ -52,9 +52,6 @@ head_same t u ts us h = cc
 
 tail_same : (t u : Token) (ts us : List Token) → t ∷ ts ≡ u ∷ us → ts ≡ us
 tail_same t u ts us h = cc
-
-cons_same : (t u : Token) (ts us : List Token) → t ≡ u → ts ≡ us → t ∷ ts ≡ u ∷ us
-cons_same t u ts us a b = rw (a, b) refl
 
 -- what is missing of a list that these tokens begin
 missing : (seen others all later : List Token) → length seen ≤ length all → seen ++ others ≡ all ++ later → (more : List Token) × (seen ++ more ≡ all)
@@ -365,15 +362,12 @@ module _ (parts : StmtParts) (left : ℕ) (s : SoundStmts parts) (l : LowStmts l
     abbrev Lowly : List Token → FoundStmt → Type 0
     Lowly ts a = P ts a × (a.height ≤ left)
 
-    print_end : (system end c : Span) (f : Found) (front seen : List Token) → IsPrint front system → IsExpr Whole seen f → IsStmt false (front ++ (seen ++ (sign CLOSE_PAREN c ∷ sign SEMICOLON end ∷ []))) (g.print_stmt system f end)
-    print_end system end c f front seen p d = subst (λ y. IsStmt false (y ++ (seen ++ (sign CLOSE_PAREN c ∷ sign SEMICOLON end ∷ []))) (g.print_stmt system f end)) (sym p.is) (g.print system p.dot p.out p.second p.println p.left c end d)
-
     finish_exact : (r : Begun) (front : List Token) → BegStmt locals left front r → Exact (λ ts a. Lowly (front ++ ts) a) (finished left r)
     unfolding finished
     finish_exact (Local mods ty found) front d = end_sign SEMICOLON (g.local_stmt mods ty found) (λ end. (declares d.0 end front mods ty found d.1, d.2))
     finish_exact (Run f) front d = end_sign SEMICOLON (g.run_stmt f) (λ end. (plain _ _ false (g.runs end d.0 d.1), d.2))
     finish_exact (Print system) front d = bind_exact _ _ (expr_exact (left - 1) (omega (arith, d.1)))
-        (λ f seen x. must_sign CLOSE_PAREN _ (λ c. end_sign SEMICOLON (g.print_stmt system f) (λ end. (plain _ _ false (print_end system end c f front seen d.0 x.0), omega (arith, x.1, d.1)))))
+        (λ f seen x. must_sign CLOSE_PAREN _ (λ c. end_sign SEMICOLON (g.print_stmt system f) (λ end. (plain _ _ false (print_end parts s left system end c f front seen d.0 x.0), omega (arith, x.1, d.1)))))
 
     -- a beginning where there is room for one
     maybe_begun : (1 < left) ⊎ (left ≤ 1) → Exact (BegStmt locals left) (begun true locals left) ⊎ Nothing (begun true locals left)
