@@ -18,7 +18,7 @@ use Rattle.ix_parser.specs.AnnotRules.{text, braced, negative, annot_value, name
 use Rattle.ix_parser.proofs.SoundRules.{Sound, pure_sound, stop_sound, bind_sound, sign_sound, name_sound, number_sound, least_sound, text_sound, loop_sound, After}
 use Rattle.ix_parser.proofs.ListsSound.{sign_fits, name_fits, more_sound}
 
-a_text_sound : Sound IsText text
+pub a_text_sound : Sound IsText text
 unfolding text
 a_text_sound = text_sound _ _ _ (λ x. pure_sound _ (grammar.text x)) stop_sound
 
@@ -36,15 +36,15 @@ pub value_sound : Sound IsValue annot_value
 unfolding annot_value
 value_sound = sign_sound _ _ _ _ negative_sound (number_sound _ _ _ (λ x. pure_sound _ (grammar.number x)) (text_sound _ _ _ (λ x. pure_sound _ (grammar.one_text x)) (sign_sound _ _ _ _ braced_sound stop_sound)))
 
-named_value_sound : (name : Ident) → Sound (λ ts a. IsNamed (name_token name ∷ ts) a) (named_value name)
+pub named_value_sound : (name : Ident) → Sound (λ ts a. IsNamed (name_token name ∷ ts) a) (named_value name)
 unfolding named_value
 named_value_sound name = sign_sound _ _ _ _ (λ s. bind_sound _ _ value_sound (λ v seen d. pure_sound _ (grammar.named name s (subst (λ y. IsValue y v) (sym (append-nil seen)) d)))) stop_sound
 
-named_sound : Sound IsNamed named
+pub named_sound : Sound IsNamed named
 unfolding named
 named_sound = name_sound _ _ _ named_value_sound stop_sound
 
-pairs_sound : (name : Ident) → Sound (λ ts args. IsSeparated IsNamed alone joined (name_token name ∷ ts) args) (bind (named_value name) (λ arg. more_of named joined (alone arg)))
+pub pairs_sound : (name : Ident) → Sound (λ ts args. IsSeparated IsNamed alone joined (name_token name ∷ ts) args) (bind (named_value name) (λ arg. more_of named joined (alone arg)))
 pairs_sound name = bind_sound _ _ (named_value_sound name) (λ arg seen d. more_sound IsNamed alone joined named named_sound (alone arg) (name_token name ∷ seen) (first_item d))
 
 -- a name and the argument itself
@@ -79,7 +79,7 @@ annot_sound left = sign_fits _ _ _ _ (λ fits at. annot_behind_sound left at (le
 abbrev pub NotedAll : ℕ → List Token → Notes → Type 0
 NotedAll left ts notes = IsNotes ts notes × (notes.height ≤ left)
 
-next_annot_sound : (left : ℕ) (notes : Notes) (front : List Token) → NotedAll left front notes → Sound (After (NotedAll left) (NotedAll left) front) (next_annot left notes)
+pub next_annot_sound : (left : ℕ) (notes : Notes) (front : List Token) → NotedAll left front notes → Sound (After (NotedAll left) (NotedAll left) front) (next_annot left notes)
 unfolding next_annot
 next_annot_sound left notes front d = sign_fits _ _ _ _
     (λ fits at. bind_sound _ _ (annot_behind_sound left at (leb-true 2 left fits)) (λ a seen r. pure_sound _

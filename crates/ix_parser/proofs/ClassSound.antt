@@ -38,41 +38,41 @@ pub record PartsSound (parts : Parts) (rules : PartRules) : Type 0 where
 
 -- ---- package and import lines
 
-dot_on : {ts : List Token} → IsDotted ts → (dot : Span) (name : Ident) → IsDotted (ts ++ sign DOT dot ∷ name_token name ∷ [])
+pub dot_on : {ts : List Token} → IsDotted ts → (dot : Span) (name : Ident) → IsDotted (ts ++ sign DOT dot ∷ name_token name ∷ [])
 dot_on (grammar.dotted first d) dot name = grammar.dotted first (one_more d (grammar.dot_name dot name))
 
-abbrev Dotted : List Token → Unit {0} → Type 0
+abbrev pub Dotted : List Token → Unit {0} → Type 0
 Dotted ts u = IsDotted ts
 
-next_dot_sound : (u : Unit {0}) (front : List Token) → Dotted front u → Sound (After Dotted Dotted front) (next_dot u)
+pub next_dot_sound : (u : Unit {0}) (front : List Token) → Dotted front u → Sound (After Dotted Dotted front) (next_dot u)
 unfolding next_dot
 next_dot_sound u front d = sign_sound _ _ _ _ (λ dot. name_sound _ _ _ (λ x. pure_sound _ (dot_on d dot x)) stop_sound) (pure_sound _ (subst IsDotted (sym (append-nil front)) d))
 
-dotted_sound : Sound Dotted dotted
+pub dotted_sound : Sound Dotted dotted
 unfolding dotted
 dotted_sound = name_sound _ _ _ (λ x. loop_sound next_dot Dotted Dotted next_dot_sound tt (name_token x ∷ []) (grammar.dotted x no_item)) stop_sound
 
-package_sound : Sound IsPackage package_line
+pub package_sound : Sound IsPackage package_line
 unfolding package_line
 package_sound = sign_sound _ _ _ _ (λ span. bind_sound _ _ dotted_sound (λ u seen d. sign_sound _ _ _ _ (λ end. pure_sound _ (grammar.package_line span end d)) stop_sound)) (pure_sound _ grammar.none)
 
-abbrev Imported : List Token → Unit {0} → Type 0
+abbrev pub Imported : List Token → Unit {0} → Type 0
 Imported ts u = IsImported ts
 
-next_imported_sound : (u : Unit {0}) (front : List Token) → Dotted front u → Sound (After Dotted Imported front) (next_imported u)
+pub next_imported_sound : (u : Unit {0}) (front : List Token) → Dotted front u → Sound (After Dotted Imported front) (next_imported u)
 unfolding next_imported
 next_imported_sound u front d = sign_sound _ _ _ _ (λ dot. sign_sound _ _ _ _ (λ times. sign_sound _ _ _ _ (λ end. pure_sound _ (grammar.each dot times end d)) stop_sound)
     (name_sound _ _ _ (λ x. pure_sound _ (dot_on d dot x)) stop_sound))
     (sign_sound _ _ _ _ (λ end. pure_sound _ (grammar.one end d)) stop_sound)
 
-imported_sound : Sound Imported imported
+pub imported_sound : Sound Imported imported
 unfolding imported
 imported_sound = name_sound _ _ _ (λ x. loop_sound next_imported Dotted Imported next_imported_sound tt (name_token x ∷ []) (grammar.dotted x no_item)) stop_sound
 
-abbrev Imports : List Token → Unit {0} → Type 0
+abbrev pub Imports : List Token → Unit {0} → Type 0
 Imports = IsRepeated IsImport tt nothing_more
 
-next_import_sound : (u : Unit {0}) (front : List Token) → Imports front u → Sound (After Imports Imports front) (next_import u)
+pub next_import_sound : (u : Unit {0}) (front : List Token) → Imports front u → Sound (After Imports Imports front) (next_import u)
 unfolding next_import
 next_import_sound u front d = sign_sound _ _ _ _
     (λ span. bind_sound {R = λ ts u. IsImport (sign IMPORT span ∷ ts) u} _ _
@@ -80,26 +80,26 @@ next_import_sound u front d = sign_sound _ _ _ _
     (λ v seen i. pure_sound _ (subst (λ y. Imports (front ++ sign IMPORT span ∷ y) tt) (sym (append-nil seen)) (one_more d i))))
     (pure_sound _ (subst (λ y. Imports y u) (sym (append-nil front)) d))
 
-imports_sound : Sound Imports imports
+pub imports_sound : Sound Imports imports
 unfolding imports
 imports_sound = loop_sound next_import Imports Imports next_import_sound tt [] no_item
 
 -- ---- the words before a class, and what it extends
 
-class_word_sound : (first : Option Span) (front : List Token) → IsClassWords front first → Sound (After IsClassWords IsClassWords front) (next_class_word first)
+pub class_word_sound : (first : Option Span) (front : List Token) → IsClassWords front first → Sound (After IsClassWords IsClassWords front) (next_class_word first)
 unfolding next_class_word
 class_word_sound first front d = sign_sound _ _ _ _ (λ span. pure_sound _ (one_more d (grammar.public span)))
     (sign_sound _ _ _ _ (λ span. pure_sound _ (one_more d (grammar.final span)))
     (pure_sound _ (subst (λ y. IsClassWords y first) (sym (append-nil front)) d)))
 
-class_words_sound : (first : Option Span) (front : List Token) → IsClassWords front first → Sound (λ ts found. IsClassWords (front ++ ts) found) (class_words first)
+pub class_words_sound : (first : Option Span) (front : List Token) → IsClassWords front first → Sound (λ ts found. IsClassWords (front ++ ts) found) (class_words first)
 unfolding class_words
 class_words_sound first front d = loop_sound next_class_word IsClassWords IsClassWords class_word_sound first front d
 
-abbrev Opened : List Token → Option Ident → Type 0
+abbrev pub Opened : List Token → Option Ident → Type 0
 Opened ts found = (seen : List Token) × (left : Span) × (ts ≡ seen ++ sign OPEN_BRACE left ∷ []) × IsParent seen found
 
-parent_sound : Sound Opened parent
+pub parent_sound : Sound Opened parent
 unfolding parent
 parent_sound = sign_sound _ _ _ _ (λ span. name_sound _ _ _ (λ x. sign_sound _ _ _ _ (λ left. pure_sound _ (sign EXTENDS span ∷ name_token x ∷ [], left, refl, grammar.extends span x)) stop_sound) stop_sound)
     (sign_sound _ _ _ _ (λ left. pure_sound _ ([], left, refl, grammar.none)) stop_sound)
@@ -107,23 +107,23 @@ parent_sound = sign_sound _ _ _ _ (λ span. name_sound _ _ _ (λ x. sign_sound _
 module _ (parts : Parts) (rules : PartRules) (sound : PartsSound parts rules) where
   -- ---- bodies
 
-  abbrev Blocked : ℕ → List Token → At Stmts → Type 0
+  abbrev pub Blocked : ℕ → List Token → At Stmts → Type 0
   Blocked left ts found = Braces parts.IsStmt no_stmts with_stmt ts found × (found.value.height ≤ left)
 
-  statements_sound : (left : ℕ) → Sound (Blocked left) (statements rules left)
+  pub statements_sound : (left : ℕ) → Sound (Blocked left) (statements rules left)
   unfolding statements
   statements_sound left = braces_fits parts.IsStmt no_stmts with_stmt (rules.statement left) (λ s. s.height ≤ left) (λ s. s.height ≤ left) (omega arith) (λ s x q p. omega (arith, p, q)) (sound.statement left)
 
-  abbrev Bodied : ℕ → Bool → List Token → Body → Type 0
+  abbrev pub Bodied : ℕ → Bool → List Token → Body → Type 0
   Bodied left constructor ts found = IsBody parts constructor ts found × (found.height ≤ left)
 
-  block_sound : (left : ℕ) (constructor : Bool) (opening : Span) → Sound (λ ts found. Bodied left constructor (sign OPEN_BRACE opening ∷ ts) found) (block rules left)
+  pub block_sound : (left : ℕ) (constructor : Bool) (opening : Span) → Sound (λ ts found. Bodied left constructor (sign OPEN_BRACE opening ∷ ts) found) (block rules left)
   unfolding block
   block_sound left constructor opening = bind_sound _ _ (statements_sound left) (λ found seen r. pure_sound _ (
       let (stmts, is, d) = r.0 in
       (subst (λ y. IsBody parts constructor (sign OPEN_BRACE opening ∷ y) (body_of found.value found.span)) (sym (append-nil seen ∙ is)) (grammar.block opening found.span d), r.1)))
 
-  super_sound : (left : ℕ) (opening super : Span) → Sound (λ ts found. Bodied left true (sign OPEN_BRACE opening ∷ sign SUPER super ∷ ts) found) (super_behind rules left)
+  pub super_sound : (left : ℕ) (opening super : Span) → Sound (λ ts found. Bodied left true (sign OPEN_BRACE opening ∷ sign SUPER super ∷ ts) found) (super_behind rules left)
   unfolding super_behind
   super_sound left opening super = bind_sound _ _ (sound.args left) (λ args before a. sign_sound _ _ _ _ (λ end. bind_sound _ _ (statements_sound left) (λ found seen r. pure_sound _ (
       let (stmts, is, d) = r.0 in (
@@ -132,29 +132,29 @@ module _ (parts : Parts) (rules : PartRules) (sound : PartsSound parts rules) wh
         omega (arith, a.1, r.1),
       )))) stop_sound)
 
-  body_sound : (left : ℕ) (constructor : Bool) (opening : Span) → Sound (λ ts found. Bodied left constructor (sign OPEN_BRACE opening ∷ ts) found) (body rules left constructor)
+  pub body_sound : (left : ℕ) (constructor : Bool) (opening : Span) → Sound (λ ts found. Bodied left constructor (sign OPEN_BRACE opening ∷ ts) found) (body rules left constructor)
   unfolding body
   body_sound left true opening = sign_sound _ _ _ _ (λ super. super_sound left opening super) (block_sound left true opening)
   body_sound left false opening = block_sound left false opening
 
   -- ---- members
 
-  abbrev Followed : ℕ → Bool → List Token → Behind → Type 0
+  abbrev pub Followed : ℕ → Bool → List Token → Behind → Type 0
   Followed room constructor ts rest = IsBehind parts constructor ts rest × ((rest.params.height ≤ room) × (rest.body.height ≤ room))
 
-  behind_sound : (left : ℕ) (constructor : Bool) (opening : Span) → Sound (λ ts rest. Followed (left - 1) constructor (sign OPEN_PAREN opening ∷ ts) rest) (behind rules left constructor)
+  pub behind_sound : (left : ℕ) (constructor : Bool) (opening : Span) → Sound (λ ts rest. Followed (left - 1) constructor (sign OPEN_PAREN opening ∷ ts) rest) (behind rules left constructor)
   unfolding behind
   behind_sound left constructor opening = bind_sound _ _ (params_sound (left - 1) opening) (λ params first p. bind_sound _ _ throws_sound (λ u second t. sign_sound _ _ _ _ (λ brace.
       bind_sound _ _ (body_sound (left - 1) constructor brace) (λ body third b. pure_sound _
       (subst (λ y. IsBehind parts constructor (sign OPEN_PAREN opening ∷ (first ++ (second ++ sign OPEN_BRACE brace ∷ y))) (record { params = params; body = body })) (sym (append-nil third)) (grammar.behind p.0 t b.0), (p.1, b.1)))) stop_sound))
 
-  abbrev Membered : ℕ → List Token → Members → Type 0
+  abbrev pub Membered : ℕ → List Token → Members → Type 0
   Membered left ts found = IsMember parts ts found × (found.height ≤ left)
 
-  low_method : (left m r p b : ℕ) → m ≤ left - 1 → r ≤ left - 1 → 2 ≤ left → p ≤ left - 1 → b ≤ left - 1 → 1 + max (max (max m r) 1) (max p b) ≤ left
+  pub low_method : (left m r p b : ℕ) → m ≤ left - 1 → r ≤ left - 1 → 2 ≤ left → p ≤ left - 1 → b ≤ left - 1 → 1 + max (max (max m r) 1) (max p b) ≤ left
   low_method left m r p b hm hr two hp hb = omega (arith, hm, hr, two, hp, hb)
 
-  method_sound : (left : ℕ) (start : Span) (found : FoundMods) (result : Option FoundType) (constructor : Bool) (name : Ident) (front : List Token) (opening : Span)
+  pub method_sound : (left : ℕ) (start : Span) (found : FoundMods) (result : Option FoundType) (constructor : Bool) (name : Ident) (front : List Token) (opening : Span)
       → 2 ≤ left → found.height ≤ left - 1 → result_height result ≤ left - 1
       → ((ts : List Token) (rest : Behind) → IsBehind parts constructor ts rest → IsMember parts (front ++ ts) (method_of start found result constructor name rest))
       → Sound (λ ts m. Membered left (front ++ sign OPEN_PAREN opening ∷ ts) m) (method rules left start found result constructor name)
@@ -164,10 +164,10 @@ module _ (parts : Parts) (rules : PartRules) (sound : PartsSound parts rules) wh
     low_method left found.height (result_height result) rest.params.height rest.body.height hm hr two r.1.0 r.1.1,
   ))
 
-  regroup : (first second third : List Token) (t : Token) → (first ++ (second ++ t ∷ [])) ++ third ≡ first ++ (second ++ t ∷ third)
+  pub regroup : (first second third : List Token) (t : Token) → (first ++ (second ++ t ∷ [])) ++ third ≡ first ++ (second ++ t ∷ third)
   regroup first second third t = append_assoc first (second ++ t ∷ []) third ∙ ap (λ y. first ++ y) (append_assoc second (t ∷ []) third)
 
-  typed_member_sound : (left : ℕ) (found : FoundMods) (ty : FoundType) (first second : List Token) → IsMods member_words first found → found.height ≤ left - 1 → IsType second ty
+  pub typed_member_sound : (left : ℕ) (found : FoundMods) (ty : FoundType) (first second : List Token) → IsMods member_words first found → found.height ≤ left - 1 → IsType second ty
       → Sound (λ ts m. Membered left (first ++ (second ++ ts)) m) (typed_member rules left found ty)
   unfolding typed_member
   typed_member_sound left found ty first second m hm t = name_fits _ _ _ (λ fits name.
@@ -189,7 +189,7 @@ module _ (parts : Parts) (rules : PartRules) (sound : PartsSound parts rules) wh
       (λ ts rest d. subst (λ y. IsMember parts y (method_of (begins found.first name.span) found None true name rest)) (sym (append_assoc first (name_token name ∷ []) ts)) (grammar.constructor_of name m d))))
       (bind_sound _ _ (type_rest_sound (left - 1) (based (Named name) name.span)) (λ ty seen r. typed_member_sound left found ty first (name_token name ∷ seen) m hm (types.type (types.named name) r.0)))
 
-  regroup_void : (first third : List Token) (t u : Token) → (first ++ t ∷ u ∷ []) ++ third ≡ first ++ t ∷ u ∷ third
+  pub regroup_void : (first third : List Token) (t u : Token) → (first ++ t ∷ u ∷ []) ++ third ≡ first ++ t ∷ u ∷ third
   regroup_void first third t u = append_assoc first (t ∷ u ∷ []) third
 
   member_behind_sound : (left : ℕ) (found : FoundMods) (first : List Token) → IsMods member_words first found → found.height ≤ left - 1 → Sound (λ ts m. Membered left (first ++ ts) m) (member_behind rules left found)
@@ -208,10 +208,10 @@ module _ (parts : Parts) (rules : PartRules) (sound : PartsSound parts rules) wh
 
   -- ---- classes
 
-  abbrev Classed : ℕ → List Token → FoundClass → Type 0
+  abbrev pub Classed : ℕ → List Token → FoundClass → Type 0
   Classed left ts found = IsClass parts ts found × (found.height ≤ left)
 
-  class_behind_sound : (left : ℕ) (start : Option Span) (span : Span) (front : List Token) → 2 ≤ left → IsClassWords front start → Sound (λ ts found. Classed left (front ++ sign CLASS span ∷ ts) found) (class_behind rules left (begins start span))
+  pub class_behind_sound : (left : ℕ) (start : Option Span) (span : Span) (front : List Token) → 2 ≤ left → IsClassWords front start → Sound (λ ts found. Classed left (front ++ sign CLASS span ∷ ts) found) (class_behind rules left (begins start span))
   unfolding class_behind
   class_behind_sound left start span front two w = name_sound _ _ _ (λ name. bind_sound _ _ parent_sound (λ above second p. bind_sound _ _
       (braces_fits (IsMember parts) no_members with_members (member rules (left - 1)) (λ s. s.height ≤ left - 1) (λ s. s.height ≤ left - 1) (omega arith) (λ s x q p. omega (arith, p, q)) (member_sound (left - 1)))
@@ -224,11 +224,11 @@ module _ (parts : Parts) (rules : PartRules) (sound : PartsSound parts rules) wh
       ap (λ y. second ++ y) (append-nil third ∙ is) ∙ ap (λ y. y ++ (members ++ sign CLOSE_BRACE found.span ∷ [])) same ∙ append_assoc extended (sign OPEN_BRACE opening ∷ []) (members ++ sign CLOSE_BRACE found.span ∷ []) in
       (subst (λ y. IsClass parts (front ++ sign CLASS span ∷ name_token name ∷ y) c) (sym ends) made, omega (arith, two, r.1)))))) stop_sound
 
-  worded_class_sound : (left : ℕ) (first : Span) (token : Token) → 2 ≤ left → IsClassWord (token ∷ []) first → Sound (λ ts found. Classed left (token ∷ ts) found) (worded_class rules left first)
+  pub worded_class_sound : (left : ℕ) (first : Span) (token : Token) → 2 ≤ left → IsClassWord (token ∷ []) first → Sound (λ ts found. Classed left (token ∷ ts) found) (worded_class rules left first)
   unfolding worded_class
   worded_class_sound left first token two w = bind_sound _ _ (class_words_sound (Some first) (token ∷ []) (one_more no_item w)) (λ start seen d. sign_sound _ _ _ _ (λ span. class_behind_sound left start span (token ∷ seen) two d) stop_sound)
 
-  abbrev ClassedAll : ℕ → List Token → Classes → Type 0
+  abbrev pub ClassedAll : ℕ → List Token → Classes → Type 0
   ClassedAll left ts found = IsRepeated (IsClass parts) no_classes with_class ts found × (found.height ≤ left)
 
   another : (left : ℕ) (classes : Classes) (front : List Token) (token : Token) (rule : Rule FoundClass) → ClassedAll left front classes → Sound (λ ts found. Classed left (token ∷ ts) found) rule
@@ -236,7 +236,7 @@ module _ (parts : Parts) (rules : PartRules) (sound : PartsSound parts rules) wh
   another left classes front token rule d s = bind_sound _ _ s (λ found seen r. pure_sound _
       (subst (λ y. IsRepeated (IsClass parts) no_classes with_class (front ++ token ∷ y) (with_class classes found)) (sym (append-nil seen)) (one_more d.0 r.0), omega (arith, d.1, r.1)))
 
-  next_class_sound : (left : ℕ) (classes : Classes) (front : List Token) → ClassedAll left front classes → Sound (After (ClassedAll left) (ClassedAll left) front) (next_class rules left classes)
+  pub next_class_sound : (left : ℕ) (classes : Classes) (front : List Token) → ClassedAll left front classes → Sound (After (ClassedAll left) (ClassedAll left) front) (next_class rules left classes)
   unfolding next_class
   next_class_sound left classes front d =
       sign_fits _ _ _ _ (λ fits span. another left classes front (sign PUBLIC span) _ d (worded_class_sound left span _ (leb-true 2 left fits) (grammar.public span)))

@@ -42,13 +42,13 @@ mods_sound words left = loop_sound (next_mod words left) (Modified words left) (
 -- ---- declarators
 
 module _ (IsInit : List Token → FoundInit → Type 0) (init : ℕ → Rule FoundInit) (init_sound : (room : ℕ) → Sound (λ ts found. IsInit ts found × (found.height ≤ room)) (init room)) where
-  decl_behind_sound : (left : ℕ) (all : Shared) (name : Ident) → 1 + all.height ≤ left → Sound (λ ts d. IsDecl IsInit all (name_token name ∷ ts) d × (d.height ≤ left)) (decl_behind init left all name)
+  pub decl_behind_sound : (left : ℕ) (all : Shared) (name : Ident) → 1 + all.height ≤ left → Sound (λ ts d. IsDecl IsInit all (name_token name ∷ ts) d × (d.height ≤ left)) (decl_behind init left all name)
   unfolding decl_behind
   decl_behind_sound left all name room = sign_sound _ _ _ _ (λ assign. bind_sound _ _ (init_sound (left - 1)) (λ found seen r. pure_sound _
       (subst (λ y. IsDecl IsInit all (name_token name ∷ sign ASSIGN assign ∷ y) (init_decl all name found)) (sym (append-nil seen)) (grammar.with_init name assign r.0), omega (arith, room, r.1))))
       (pure_sound _ (grammar.plain name, room))
 
-  decl_sound : (left : ℕ) (all : Shared) → 1 + all.height ≤ left → Sound (λ ts d. IsDecl IsInit all ts d × (d.height ≤ left)) (decl init left all)
+  pub decl_sound : (left : ℕ) (all : Shared) → 1 + all.height ≤ left → Sound (λ ts d. IsDecl IsInit all ts d × (d.height ≤ left)) (decl init left all)
   unfolding decl
   decl_sound left all room = name_sound _ _ _ (λ name. decl_behind_sound left all name room) stop_sound
 
@@ -59,15 +59,15 @@ module _ (IsInit : List Token → FoundInit → Type 0) (init : ℕ → Rule Fou
 
 -- ---- parameters
 
-param_sound : (left : ℕ) → Sound (λ ts d. IsParam ts d × (d.height ≤ left)) (param left)
+pub param_sound : (left : ℕ) → Sound (λ ts d. IsParam ts d × (d.height ≤ left)) (param left)
 unfolding param
 param_sound left = bind_sound _ _ (mods_sound local_words (left - 1)) (λ found before m. bind_sound _ _ (type_sound (left - 1)) (λ ty tokens t. name_sound _ _ _
     (λ name. pure_sound _ (grammar.param name m.0 t.0, omega (arith, m.1, t.1, tall_type t.0))) stop_sound))
 
-abbrev ListedParams : ℕ → List Token → Params → Type 0
+abbrev pub ListedParams : ℕ → List Token → Params → Type 0
 ListedParams left ts found = IsSeparated IsParam one_param with_param ts found × (found.height ≤ left)
 
-some_params_sound : (left : ℕ) → Sound (ListedParams left) (some_params left)
+pub some_params_sound : (left : ℕ) → Sound (ListedParams left) (some_params left)
 unfolding some_params
 some_params_sound left = bind_sound _ _ (param_sound left) (λ first seen r.
     more_fits IsParam one_param with_param (param left) (λ d. d.height ≤ left) (λ ds. ds.height ≤ left) (λ ds d p q. omega (arith, p, q)) (param_sound left) (one_param first) seen (first_item r.0) r.1)
@@ -79,7 +79,7 @@ params_sound left opening = sign_sound _ _ _ _ (λ right. pure_sound _ (grammar.
 
 -- ---- what a method throws
 
-a_thrown_sound : Sound IsName a_thrown
+pub a_thrown_sound : Sound IsName a_thrown
 unfolding a_thrown
 a_thrown_sound = name_sound _ _ _ (λ x. pure_sound _ (grammar.ident x)) stop_sound
 

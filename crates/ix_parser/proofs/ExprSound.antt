@@ -89,7 +89,7 @@ inner_init_sound b s zero = let l = s.lower in l.init
 inner_init_sound b s (suc n) = let l = s.lowest in l.init
 
 -- A variable has no operators.
-as_primary : {n : ℕ} {ts : List Token} {f : Found} → IsExpr (Level n) ts f → f.form ≡ form.Variable → IsExpr Primary ts f
+pub as_primary : {n : ℕ} {ts : List Token} {f : Found} → IsExpr (Level n) ts f → f.form ≡ form.Variable → IsExpr Primary ts f
 as_primary (g.primary d) e = d
 as_primary (g.wider d) e = as_primary d e
 as_primary (g.least m l) e = absurd (cc)

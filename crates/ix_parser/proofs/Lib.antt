@@ -49,3 +49,17 @@ mod DeclPlaces
 mod StmtPlaces
 mod ClassPlaces
 mod SourcePlaces
+mod ViableRules
+mod ListsViable
+mod AnnotViable
+mod TypeViable
+mod ExactRules
+mod ExprExact
+mod ExprViable
+mod RunViable
+mod DeclViable
+mod ClassViable
+mod SourceViable
+mod StmtViable
+mod StmtsViable
+mod SourceStops

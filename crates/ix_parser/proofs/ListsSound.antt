@@ -39,10 +39,10 @@ one_fits table fits p q sp sq = fits_sound (one_of table) fits p q (λ f. one_so
 
 module _ {A S : Type 0} (Item : List Token → A → Type 0) (start : A → S) (add : S → A → S) (item : Rule A) (P : A → Type 0) (Q : S → Type 0)
     (keeps : (s : S) (x : A) → Q s → P x → Q (add s x)) (sound : Sound (λ ts x. Item ts x × P x) item) where
-  Read : List Token → S → Type 0
+  unfoldable pub Read : List Token → S → Type 0
   Read ts s = IsSeparated Item start add ts s × Q s
 
-  next_sound : (s : S) (front : List Token) → Read front s → Sound (After Read Read front) (next_of item add s)
+  pub next_sound : (s : S) (front : List Token) → Read front s → Sound (After Read Read front) (next_of item add s)
   unfolding next_of Read
   next_sound s front d = sign_sound _ _ _ _
       (λ c. bind_sound _ _ sound (λ x seen r. pure_sound _ (subst (λ y. IsSeparated Item start add (front ++ sign COMMA c ∷ y) (add s x)) (sym (append-nil seen)) (next_item c d.0 r.0), keeps s x d.1 r.1)))
@@ -63,13 +63,13 @@ Braces Item none add ts found = (seen : List Token) × (ts ≡ seen ++ sign CLOS
 
 module _ {A S : Type 0} (Item : List Token → A → Type 0) (none : S) (add : S → A → S) (item : Rule A) (P : A → Type 0) (Q : S → Type 0)
     (zero_items : Q none) (keeps : (s : S) (x : A) → Q s → P x → Q (add s x)) (sound : Sound (λ ts x. Item ts x × P x) item) where
-  Inside : List Token → S → Type 0
+  unfoldable pub Inside : List Token → S → Type 0
   Inside ts s = IsRepeated Item none add ts s × Q s
 
-  Closed : List Token → At S → Type 0
+  unfoldable pub Closed : List Token → At S → Type 0
   Closed ts found = Braces Item none add ts found × Q found.value
 
-  inside_sound : (s : S) (front : List Token) → Inside front s → Sound (After Inside Closed front) (next_inside item add s)
+  pub inside_sound : (s : S) (front : List Token) → Inside front s → Sound (After Inside Closed front) (next_inside item add s)
   unfolding next_inside Inside Closed
   inside_sound s front d = sign_sound _ _ _ _
       (λ right. pure_sound _ ((front, refl, d.0), d.1))

@@ -82,21 +82,21 @@ name_is (k.Int n) span x h = absurd (cc)
 name_is k.MinLit span x h = absurd (cc)
 name_is (k.Str t) span x h = absurd (cc)
 
-number_is : (kind : TokenKind) (span : Span) (x : At ℤ) → number_of kind span ≡ Some x → record { kind = kind; span = span } ≡ number_token x.value x.span
+pub number_is : (kind : TokenKind) (span : Span) (x : At ℤ) → number_of kind span ≡ Some x → record { kind = kind; span = span } ≡ number_token x.value x.span
 number_is (k.Int n) span x h = ap (λ (y : At ℤ). number_token y.value y.span) (some_same (record { value = n; span = span }) x h)
 number_is (k.Ident t) span x h = absurd (cc)
 number_is (k.Fixed m) span x h = absurd (cc)
 number_is k.MinLit span x h = absurd (cc)
 number_is (k.Str t) span x h = absurd (cc)
 
-least_is : (kind : TokenKind) (span s : Span) → least_of kind span ≡ Some s → record { kind = kind; span = span } ≡ least_token s
+pub least_is : (kind : TokenKind) (span s : Span) → least_of kind span ≡ Some s → record { kind = kind; span = span } ≡ least_token s
 least_is k.MinLit span s h = ap least_token (some_same span s h)
 least_is (k.Ident t) span s h = absurd (cc)
 least_is (k.Fixed m) span s h = absurd (cc)
 least_is (k.Int n) span s h = absurd (cc)
 least_is (k.Str t) span s h = absurd (cc)
 
-text_is : (kind : TokenKind) (span : Span) (x : At (List ℕ)) → text_of kind span ≡ Some x → record { kind = kind; span = span } ≡ string_token x.value x.span
+pub text_is : (kind : TokenKind) (span : Span) (x : At (List ℕ)) → text_of kind span ≡ Some x → record { kind = kind; span = span } ≡ string_token x.value x.span
 text_is (k.Str t) span x h = ap (λ (y : At (List ℕ)). string_token y.value y.span) (some_same (record { value = t; span = span }) x h)
 text_is (k.Ident t) span x h = absurd (cc)
 text_is (k.Fixed m) span x h = absurd (cc)
@@ -107,7 +107,7 @@ spanned : {V : Type 0} (o : Option V) (span : Span) (x : At V) → with_span o s
 spanned {V = V} (Some v) span x h = let e = some_same (record { value = v; span = span }) x h in (ap (λ (y : At V). y.span) e, ap (λ (y : At V). some_of y.value) e)
 spanned None span x h = absurd (cc)
 
-one_is : {V : Type 0} (table : List (ℕ × V)) (kind : TokenKind) (span : Span) (x : At V) → one_of_kind table kind span ≡ Some x
+pub one_is : {V : Type 0} (table : List (ℕ × V)) (kind : TokenKind) (span : Span) (x : At V) → one_of_kind table kind span ≡ Some x
     → (number : ℕ) × (record { kind = kind; span = span } ≡ sign number x.span) × (row table number ≡ Some x.value)
 one_is table (k.Fixed m) span x h = let e = spanned (row table m) span x h in (m, ap (sign m) e.0, e.1)
 one_is table (k.Ident t) span x h = absurd (cc)
@@ -182,7 +182,7 @@ at_level_is level (Some found) op h = elim (chosen (found.0 == level) (Some foun
   | inr w ↦ absurd (cc)
 ]
 
-operator_is : (level : ℕ) (kind : TokenKind) (span : Span) (x : At BinaryOp) → operator_of level kind span ≡ Some x
+pub operator_is : (level : ℕ) (kind : TokenKind) (span : Span) (x : At BinaryOp) → operator_of level kind span ≡ Some x
     → (number : ℕ) × (record { kind = kind; span = span } ≡ sign number x.span) × (row binary_signs number ≡ Some (level, x.value))
 operator_is level (k.Fixed m) span x h = let e = spanned (at_level level (row binary_signs m)) span x h in (m, ap (sign m) e.0, at_level_is level (row binary_signs m) x.value e.1)
 operator_is level (k.Ident t) span x h = absurd (cc)

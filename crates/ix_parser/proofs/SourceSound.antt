@@ -24,17 +24,17 @@ more_low : (left : ℕ) (s : Several) → s.height ≤ left → Gives (Turned (�
 unfolding more_exprs
 more_low left s q = take_gives _ _ _ _ (λ b c. bind_gives _ _ (expr_within left) (λ f w. pure_gives _ (omega (arith, q, w.1)))) (pure_gives _ q)
 
-args_low : (left : ℕ) → Gives (λ a. a.height ≤ left) (args (expr left))
+pub args_low : (left : ℕ) → Gives (λ a. a.height ≤ left) (args (expr left))
 unfolding args
 args_low left = take_gives _ _ _ _ (λ b r. pure_gives _ (omega arith))
     (bind_gives _ _ (expr_within left) (λ f w. bind_gives _ _ (loop_gives (more_exprs (expr left)) (λ s. s.height ≤ left) (λ s. s.height ≤ left) (more_low left) (with_expr no_exprs f) (omega (arith, w.1)))
     (λ s q. take_gives _ _ _ _ (λ b r. pure_gives _ q) stop_gives)))
 
-super_args_sound : (left : ℕ) → Sound (λ ts a. IsArgs ts a × (a.height ≤ left)) (super_args left)
+pub super_args_sound : (left : ℕ) → Sound (λ ts a. IsArgs ts a × (a.height ≤ left)) (super_args left)
 unfolding super_args
 super_args_sound left = sign_sound _ _ _ _ (λ opening. weaken _ (λ ts a r. (r.0 opening, r.1)) (both _ (args_sound (expr left) (expr_sound left)) (args_low left))) stop_sound
 
-init_fits : (left : ℕ) → Sound (λ ts i. IsInit ts i × (i.height ≤ left)) (init left)
+pub init_fits : (left : ℕ) → Sound (λ ts i. IsInit ts i × (i.height ≤ left)) (init left)
 init_fits left = weaken _ (λ ts i r. (r.0, r.1.1)) (both _ (init_is_sound left) (init_is_within left))
 
 pub source_sound : ((left : ℕ) → Gives (λ s. s.height ≤ left) (block_statement left)) → Sound (λ ts found. IsSource ts found × (found.height ≤ 200)) source

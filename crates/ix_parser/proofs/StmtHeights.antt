@@ -181,7 +181,7 @@ module _ (left : ℕ) (p : StmtParts) (l : LowStmts left p) where
   unfolding condition
   condition_low = take_gives _ _ _ _ (λ t o. bind_gives _ _ (expr_within (left - 1)) (λ f v. take_gives _ _ _ _ (λ t c. pure_gives _ v) stop_gives)) stop_gives
 
-  if_low : (start : Span) → Gives Fits (if_rule p left start)
+  pub if_low : (start : Span) → Gives Fits (if_rule p left start)
   unfolding if_rule else_part
   if_low start = bind_gives _ _ condition_low (λ f v. bind_gives _ _ l.plain (λ s w. take_gives _ _ _ _ (λ t m. bind_gives _ _ l.plain (λ o u. pure_gives _ (omega (arith, v.0, v.1, w, u)))) (pure_gives _ (omega (arith, v.0, v.1, w)))))
 
@@ -251,7 +251,7 @@ module _ (left : ℕ) (p : StmtParts) (l : LowStmts left p) where
       (take_gives _ _ _ _ (λ t s. take_gives _ _ _ _ (λ u e. pure_gives _ (leb-true 1 left t)) stop_gives) (take_gives _ _ _ _ (λ t s. take_gives _ _ _ _ (λ u e. pure_gives _ (leb-true 1 left t)) stop_gives)
       (take_gives _ _ _ _ (λ t s. return_low s (leb-true 1 left t)) (take_gives _ _ _ _ (λ t s. throw_low s (leb-true 2 left t)) (bind_gives _ _ (begun_within left true locals) finished_low))))))))))
 
-low_stmts : (left : ℕ) → LowStmts left (stmts_below left)
+pub low_stmts : (left : ℕ) → LowStmts left (stmts_below left)
 unfolding stmts_below
 low_stmts zero = record { plain = stop_gives; block = stop_gives }
 low_stmts (suc left) = record { plain = gives_more _ (λ s w. omega (arith, w)) (stmt_low left (stmts_below left) (low_stmts left) false); block = gives_more _ (λ s w. omega (arith, w)) (stmt_low left (stmts_below left) (low_stmts left) true) }

@@ -72,7 +72,7 @@ some_ident x = Some x
 ident_same : (x y : Ident) → some_ident x ≡ some_ident y → x ≡ y
 ident_same x y h = cc
 
-word_is : (text : List ℕ) (kind : TokenKind) (span : Span) (x : Ident) → word_of text kind span ≡ Some x → record { kind = kind; span = span } ≡ word_token text x.span
+pub word_is : (text : List ℕ) (kind : TokenKind) (span : Span) (x : Ident) → word_of text kind span ≡ Some x → record { kind = kind; span = span } ≡ word_token text x.span
 word_is text (k.Ident found) span x h = elim (chosen (same_text found text) (some_ident (record { text = found; span = span })) None (Some x) h) [
   | inl w ↦ (let p : found ≡ text = same_is found text w.0 in let q = ident_same (record { text = found; span = span }) x w.1 in rw p (ap (λ (y : Ident). word_token text y.span) q))
   | inr w ↦ absurd (cc)
@@ -82,7 +82,7 @@ word_is text (k.Int n) span x h = absurd (cc)
 word_is text k.MinLit span x h = absurd (cc)
 word_is text (k.Str t) span x h = absurd (cc)
 
-word_name : (text : List ℕ) (kind : TokenKind) (span : Span) (x : Ident) → word_of text kind span ≡ Some x → x ≡ record { text = text; span = x.span }
+pub word_name : (text : List ℕ) (kind : TokenKind) (span : Span) (x : Ident) → word_of text kind span ≡ Some x → x ≡ record { text = text; span = x.span }
 word_name text (k.Ident found) span x h = elim (chosen (same_text found text) (some_ident (record { text = found; span = span })) None (Some x) h) [
   | inl w ↦ (let p : found ≡ text = same_is found text w.0 in let q = ident_same (record { text = found; span = span }) x w.1 in rw (sym q) (rw p refl))
   | inr w ↦ absurd (cc)
@@ -92,10 +92,10 @@ word_name text (k.Int n) span x h = absurd (cc)
 word_name text k.MinLit span x h = absurd (cc)
 word_name text (k.Str t) span x h = absurd (cc)
 
-abbrev the_word : List ℕ → Span → Ident
+abbrev pub the_word : List ℕ → Span → Ident
 the_word text span = record { text = text; span = span }
 
-word_sound : {A : Type 0} {R : List Token → A → Type 0} (text : List ℕ) (fits : Bool) (p : Ident → Rule A) (q : Rule A) → ((s : Span) → Sound (λ seen a. R (word_token text s ∷ seen) a) (p (the_word text s))) → Sound R q → Sound R (take (a_word text) fits p q)
+pub word_sound : {A : Type 0} {R : List Token → A → Type 0} (text : List ℕ) (fits : Bool) (p : Ident → Rule A) (q : Rule A) → ((s : Span) → Sound (λ seen a. R (word_token text s ∷ seen) a) (p (the_word text s))) → Sound R q → Sound R (take (a_word text) fits p q)
 word_sound {R = R} text fits p q sp sq = take_sound (a_word text) fits p q (λ t x e.
     let is : t ≡ word_token text x.span = word_is text t.kind t.span x e in
     let same : x ≡ the_word text x.span = word_name text t.kind t.span x e in
@@ -319,11 +319,11 @@ other_begun locals left ts f us p h = at (nat_le 2 left) refl
         apart_err : (ts : List Token) (f : Found) (us : List Token) → of_deep ts ≡ of_run f us → ⊥
         apart_err ts f us h = cc
 
-not_print : (locals : Bool) (left : ℕ) (ts : List Token) (f : Found) (us : List Token) → run (begun true locals left) ts ≡ of_run f us → (b : Bool) → begins_print ts ≡ b → begins_print ts ≡ false
+pub not_print : (locals : Bool) (left : ℕ) (ts : List Token) (f : Found) (us : List Token) → run (begun true locals left) ts ≡ of_run f us → (b : Bool) → begins_print ts ≡ b → begins_print ts ≡ false
 not_print locals left ts f us h true e = absurd (other_begun locals left ts f us (printed ts e) h)
 not_print locals left ts f us h false e = e
 
-front_print : (seen us : List Token) → begins_print (seen ++ us) ≡ false → begins_print seen ≡ false
+pub front_print : (seen us : List Token) → begins_print (seen ++ us) ≡ false → begins_print seen ≡ false
 front_print (t0 ∷ t1 ∷ t2 ∷ t3 ∷ t4 ∷ t5 ∷ later) us h = h
 front_print [] us h = refl
 front_print (t0 ∷ []) us h = refl
@@ -354,7 +354,7 @@ pub record Flagged (R : List Token → FoundStmt → Bool → Type 0) (r : Rule 
 pub flag_false : {R : List Token → FoundStmt → Bool → Type 0} (r : Rule FoundStmt) → Sound (λ seen a. R seen a false) r → Flagged R r
 flag_false r s = record { at = λ ts us a h. let (seen, is, d) = s.at ts us a h in (seen, is, false, d, λ e. absurd (cc)) }
 
-cons_same : (t u : Token) (ts us : List Token) → t ≡ u → ts ≡ us → t ∷ ts ≡ u ∷ us
+pub cons_same : (t u : Token) (ts us : List Token) → t ≡ u → ts ≡ us → t ∷ ts ≡ u ∷ us
 cons_same t u ts us a b = rw (a, b) refl
 
 flag_taken : {R : List Token → FoundStmt → Bool → Type 0} (n : ℕ) (fits : Bool) (p : Span → Rule FoundStmt) (q : Rule FoundStmt) (t : Token) (ts us : List Token) (a : FoundStmt) → ((s : Span) → Flagged (λ seen a e. R (sign n s ∷ seen) a e) (p s)) → Flagged R q

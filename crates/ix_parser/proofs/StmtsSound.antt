@@ -37,19 +37,19 @@ pub record SoundStmts (p : StmtParts) : Type 0 where
   pub block : Sound IsBlockStmt p.block
 
 -- "(" Expr ")"
-record IsCondition (ts : List Token) (f : Found) : Type 0 where
-  left : Span
-  right : Span
-  inside : List Token
-  is : ts ≡ sign OPEN_PAREN left ∷ (inside ++ sign CLOSE_PAREN right ∷ [])
-  holds : IsExpr Whole inside f
+pub record IsCondition (ts : List Token) (f : Found) : Type 0 where
+  pub left : Span
+  pub right : Span
+  pub inside : List Token
+  pub is : ts ≡ sign OPEN_PAREN left ∷ (inside ++ sign CLOSE_PAREN right ∷ [])
+  pub holds : IsExpr Whole inside f
 
 condition_sound : (left : ℕ) → Sound IsCondition (condition left)
 unfolding condition
 condition_sound left = sign_sound OPEN_PAREN true _ _ (λ o. bind_sound _ _ (expr_sound (left - 1)) (λ f seen d. sign_sound CLOSE_PAREN true _ _ (λ c. pure_sound _ (record { left = o; right = c; inside = seen; is = refl; holds = d })) stop_sound)) stop_sound
 
 -- what follows a condition
-behind : (left right : Span) (inside later seen : List Token) → seen ≡ sign OPEN_PAREN left ∷ (inside ++ sign CLOSE_PAREN right ∷ []) → sign OPEN_PAREN left ∷ (inside ++ sign CLOSE_PAREN right ∷ later) ≡ seen ++ later
+pub behind : (left right : Span) (inside later seen : List Token) → seen ≡ sign OPEN_PAREN left ∷ (inside ++ sign CLOSE_PAREN right ∷ []) → sign OPEN_PAREN left ∷ (inside ++ sign CLOSE_PAREN right ∷ later) ≡ seen ++ later
 behind left right inside later seen is = rw is (ap (λ y. sign OPEN_PAREN left ∷ y) (sym (append_assoc inside (sign CLOSE_PAREN right ∷ []) later)))
 
 unflagged : {P : List Token → FoundStmt → Type 0} (r : Rule FoundStmt) → Flagged (λ ts a e. P ts a) r → Sound P r
@@ -100,7 +100,7 @@ module _ (left : ℕ) where
   with_no_local = both (begun true false left) (begun_stmt_sound false left) begun_runs
 
 module _ (parts : StmtParts) (s : SoundStmts parts) (left : ℕ) where
-  if_sound : (start : Span) → Flagged (λ ts a e. Plain (sign IF start ∷ ts) a e) (if_rule parts left start)
+  pub if_sound : (start : Span) → Flagged (λ ts a e. Plain (sign IF start ∷ ts) a e) (if_rule parts left start)
   unfolding if_rule else_part
   if_sound start = flag_bind _ _ (condition_sound left) (λ f seen c. flag_if _ _ (if_stmt start f) (if_else_stmt start f) s.plain s.plain
       (λ a later e d. subst (λ y. Plain (sign IF start ∷ y) (if_stmt start f a) true) (behind c.left c.right c.inside later seen c.is) (g.if_then start c.left c.right c.holds d))
@@ -180,7 +180,7 @@ module _ (parts : StmtParts) (s : SoundStmts parts) (left : ℕ) where
 
   -- ---- all of them; a declaration stands in a block alone
 
-  print_end : (system end c : Span) (f : Found) (front seen : List Token) → IsPrint front system → IsExpr Whole seen f → IsStmt false (front ++ (seen ++ (sign CLOSE_PAREN c ∷ sign SEMICOLON end ∷ []))) (g.print_stmt system f end)
+  pub print_end : (system end c : Span) (f : Found) (front seen : List Token) → IsPrint front system → IsExpr Whole seen f → IsStmt false (front ++ (seen ++ (sign CLOSE_PAREN c ∷ sign SEMICOLON end ∷ []))) (g.print_stmt system f end)
   print_end system end c f front seen p d = subst (λ y. IsStmt false (y ++ (seen ++ (sign CLOSE_PAREN c ∷ sign SEMICOLON end ∷ []))) (g.print_stmt system f end)) (sym p.is) (g.print system p.dot p.out p.second p.println p.left c end d)
 
   finish_stmt : (r : Begun) (front : List Token) → NoLocal r → IsBegunStmt left front r → Sound (λ ts a. IsStmt false (front ++ ts) a) (finished left r)

@@ -24,7 +24,7 @@ use Rattle.ix_parser.proofs.AnnotSound.{NotedAll, annot_behind_sound, annots_fro
 
 -- ---- pairs of brackets
 
-next_pair_sound : (found : At ℕ) (front : List Token) → IsPairs front found → Sound (After IsPairs IsPairs front) (next_pair found)
+pub next_pair_sound : (found : At ℕ) (front : List Token) → IsPairs front found → Sound (After IsPairs IsPairs front) (next_pair found)
 unfolding next_pair
 next_pair_sound found front d = sign_sound _ _ _ _ (λ left. sign_sound _ _ _ _ (λ right. pure_sound _ (grammar.more_pairs left right d)) stop_sound)
     (pure_sound _ (subst (λ y. IsPairs y found) (sym (append-nil front)) d))
@@ -44,10 +44,10 @@ unfolding brackets
 brackets_sound room base notes front opening d fits = sign_sound _ _ _ _ (λ right. bind_sound _ _ (pairs_sound 1 right (sign OPEN_BRACKET opening ∷ sign CLOSE_BRACKET right ∷ []) (grammar.pair opening right))
     (λ found seen r. pure_sound _ (subst (λ y. IsTypeRest base (front ++ sign OPEN_BRACKET opening ∷ sign CLOSE_BRACKET right ∷ y) (array_of base notes found)) (sym (append-nil seen)) (grammar.array d r), fits))) stop_sound
 
-notes_sound : (left : ℕ) (at : Span) → 3 ≤ left → Sound (λ ts notes. NotedAll (left - 1) (sign AT at ∷ ts) notes) (bind (annot_behind (left - 1) at) (λ first. annots_from (left - 1) (with_note no_notes first)))
+pub notes_sound : (left : ℕ) (at : Span) → 3 ≤ left → Sound (λ ts notes. NotedAll (left - 1) (sign AT at ∷ ts) notes) (bind (annot_behind (left - 1) at) (λ first. annots_from (left - 1) (with_note no_notes first)))
 notes_sound left at room = bind_sound _ _ (annot_behind_sound (left - 1) at (omega (arith, room))) (λ a seen r. annots_from_sound (left - 1) (with_note no_notes a) (sign AT at ∷ seen) (one_more no_item r.0, omega (arith, r.1)))
 
-low_base : (base : BaseTree) → base_height base ≤ 1
+pub low_base : (base : BaseTree) → base_height base ≤ 1
 low_base Int = omega arith
 low_base Boolean = omega arith
 low_base (Named n) = omega arith
