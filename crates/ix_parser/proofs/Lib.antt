@@ -44,3 +44,4 @@ mod TypeViable
 mod DeclViable
 mod ClassViable
 mod SourceViable
+mod OverRules
