@@ -45,3 +45,4 @@ mod DeclViable
 mod ClassViable
 mod SourceViable
 mod OverRules
+mod AnnotOver
