@@ -46,3 +46,5 @@ mod ClassViable
 mod SourceViable
 mod OverRules
 mod AnnotOver
+mod DeclOver
+mod ClassOver
