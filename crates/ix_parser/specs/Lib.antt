@@ -21,3 +21,4 @@ pub mod SourceGrammar
 pub mod Begins
 pub mod Reading
 pub mod Refusals
+pub mod Exact
