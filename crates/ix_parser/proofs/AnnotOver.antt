@@ -1,6 +1,6 @@
 -- Lists, annotations and types with more height left.
-use Rattle.std.proofs.Common.{◌≡◌, ℕ, ◌≤◌, ◌+◌, ◌-◌, nat_le, Bool, true, List, Option, refl, arith}
-use Rattle.std.proofs.lemmas.Bool.{le-leb, leb-true}
+use Rattle.std.proofs.Common.{ℕ, ◌≤◌, ◌+◌, ◌-◌, true, Option, refl, arith}
+use Rattle.std.proofs.lemmas.Bool.{le-leb}
 use Rattle.ix_text.specs.declared.span.Span.{Span}
 use Rattle.ix_lexer.specs.declared.token.Token.{Token}
 use Rattle.ix_tree.specs.declared.annot.BaseTree.{BaseTree}
@@ -14,7 +14,7 @@ use Rattle.ix_parser.specs.AnnotGrammar.{with_note, no_notes}
 use Rattle.ix_parser.specs.AnnotRules.{text, braced, negative, annot_value, named_value, named, named_args, plain_value, annot_args, annot_behind, annot, next_annot, annots_from, annots}
 use Rattle.ix_parser.specs.TypeGrammar.{based, base_height, counted}
 use Rattle.ix_parser.specs.TypeRules.{next_pair, pairs, brackets, noted_array, type_rest, type_tree}
-use Rattle.ix_parser.proofs.GiveRules.{Gives, Turned, any_gives}
+use Rattle.ix_parser.proofs.GiveRules.{Turned, any_gives}
 use Rattle.ix_parser.proofs.OverRules.{Over, over_pure, over_stop, over_take, over_bind, over_loop}
 use Rattle.ix_parser.proofs.TypeSound.{low_base}
 

@@ -1,5 +1,5 @@
 -- Members, classes and sources with more height left.
-use Rattle.std.proofs.Common.{◌≡◌, ℕ, ◌≤◌, ◌+◌, ◌-◌, max, Bool, true, false, Option, Some, None, arith}
+use Rattle.std.proofs.Common.{ℕ, ◌≤◌, ◌+◌, ◌-◌, max, Bool, true, false, Option, Some, None, arith}
 use Rattle.std.proofs.lemmas.Bool.{le-leb, leb-true}
 use Rattle.ix_text.specs.declared.span.Span.{Span}
 use Rattle.ix_tree.specs.declared.annot.BaseTree.TheVariants.{Named}
@@ -8,11 +8,10 @@ use Rattle.ix_parser.specs.declared.classes.Classes.{Classes}
 use Rattle.ix_parser.specs.declared.declarations.FoundMods.{FoundMods}
 use Rattle.ix_parser.specs.declared.found.FoundType.{FoundType}
 use Rattle.ix_parser.specs.TypeGrammar.{based}
-use Rattle.ix_parser.specs.TypeRules.{type_rest, type_tree}
 use Rattle.ix_parser.specs.DeclGrammar.{begins, member_words, shared}
 use Rattle.ix_parser.specs.ClassGrammar.{no_stmts, with_stmt, no_members, with_members, no_classes}
 use Rattle.ix_parser.specs.ClassRules.{PartRules, statements, block, super_behind, body, behind, method, typed_member, named_member, member_behind, member, next_class_word, class_words, parent, class_behind, worded_class, next_class, next_dot, dotted, package_line, next_imported, imported, next_import, imports, program}
-use Rattle.ix_parser.proofs.GiveRules.{Gives, sound_gives}
+use Rattle.ix_parser.proofs.GiveRules.{sound_gives}
 use Rattle.ix_parser.proofs.OverRules.{Over, over_pure, over_stop, over_take, over_bind}
 use Rattle.ix_parser.proofs.TypeSound.{type_sound, type_rest_sound}
 use Rattle.ix_parser.proofs.AnnotOver.{over_token, over_last, over_then, over_map, over_turns, braces_over, type_rest_over, type_over}

@@ -1,5 +1,5 @@
 -- Modifiers, parameters and declarators with more height left.
-use Rattle.std.proofs.Common.{◌≡◌, ℕ, ◌≤◌, ◌+◌, ◌-◌, List, arith}
+use Rattle.std.proofs.Common.{ℕ, ◌≤◌, ◌+◌, ◌-◌, List, arith}
 use Rattle.std.proofs.lemmas.Bool.{le-leb}
 use Rattle.ix_tree.specs.declared.annot.Ident.{Ident}
 use Rattle.ix_parser.specs.declared.declarations.FoundMods.{FoundMods}

@@ -15,9 +15,9 @@ use Rattle.ix_parser.specs.Begins.{IsLowSource, NoneBegins}
 use Rattle.ix_parser.specs.Exact.{BeginsLow, Begins, NoMore, Stops, Refused, unfinished, no_further, too_deep}
 use Rattle.ix_parser.specs.Refusals.{place, error_at}
 use Rattle.ix_parser.proofs.Runs.{left_of}
-use Rattle.ix_parser.proofs.OverRules.{Over, Further}
+use Rattle.ix_parser.proofs.OverRules.{Further}
 use Rattle.ix_parser.proofs.Refusing.{never_at_end}
-use Rattle.ix_parser.proofs.SourceLaws.{high_is, high_is_read, source_is, none_begins, none_goes_on, elsewhere, no_error, no_more}
+use Rattle.ix_parser.proofs.SourceLaws.{high_is, high_is_read, none_begins, none_goes_on, elsewhere, no_error, no_more}
 use Rattle.ix_parser.proofs.SourceOver.{TermsOver, source_over}
 use Rattle.ix_parser.proofs.SourceViable.{TermsViable, high_viable, source_goes}
 use Rattle.ix_parser.proofs.ViableRules.{Goes}
@@ -213,7 +213,7 @@ refused_end tokens seen is begins none =
     let all : length tokens ≡ place tokens [] = omega arith in
     subst (λ n. Refused tokens (error.Syntax n)) all (unfinished (stops_whole tokens (subst BeginsLow (sym (is ∙ append-nil seen)) begins) none))
 
--- ---- under the hypotheses
+-- ---- where expressions and statements go on, and are read with more height left
 
 module _ (viable : TermsViable) (over : TermsOver) where
   further : (tokens : List Token) (more : ℕ) (o : Outcome FoundUnit) → 205 ≤ more → run source tokens ≡ o → Further o (High more tokens)
