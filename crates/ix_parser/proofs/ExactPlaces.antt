@@ -1,6 +1,6 @@
 -- Where the rules of a source stop, their error is the one that the grammar alone tells, if that holds of expressions and statements.
 use Rattle.std.proofs.Common.{◌≡◌, ◌≢◌, ◌≤◌, ◌<◌, ◌+◌, ◌-◌, ℕ, zero, suc, List, [], ◌∷◌, ◌++◌, length, take, drop, Ok, Err, refl, sym, ap, subst, ◌∙◌, arith, append_assoc, ◌⊎◌, inl, inr}
-use Rattle.std.proofs.lemmas.List.{append-nil, length-append}
+use Rattle.std.proofs.lemmas.List.{append-nil, drop_all, length-append, take_all}
 use Rattle.ix_lexer.specs.declared.token.Token.{Token}
 use Rattle.ix_parser.specs.declared.classes.FoundUnit.{FoundUnit}
 use Rattle.ix_parser.specs.declared.error.ParseError.{ParseError}
@@ -54,14 +54,6 @@ drop_front : (seen left : List Token) → drop (length seen) (seen ++ left) ≡ 
 drop_front [] left = refl
 drop_front (t ∷ seen) left = drop_front seen left
 
-take_all : (tokens : List Token) → take (length tokens) tokens ≡ tokens
-take_all [] = refl
-take_all (t ∷ tokens) = ap (λ y. t ∷ y) (take_all tokens)
-
-drop_all : (tokens : List Token) → drop (length tokens) tokens ≡ []
-drop_all [] = refl
-drop_all (t ∷ tokens) = drop_all tokens
-
 before : (tokens seen left : List Token) → tokens ≡ seen ++ left → take (length seen) tokens ≡ seen
 before tokens seen left is = ap (λ y. take (length seen) y) is ∙ take_front seen left
 
@@ -109,7 +101,7 @@ stops_one tokens k l s t = elim (ordered k l) [
 ]
 
 no_next : (tokens later : List Token) (token : Token) (k : ℕ) → length tokens ≡ k → drop k tokens ≡ token ∷ later → ⊥
-no_next tokens later token k same is = let none : drop k tokens ≡ [] = subst (λ n. drop n tokens ≡ []) same (drop_all tokens) in cc
+no_next tokens later token k same is = let none : drop k tokens ≡ [] = subst (λ n. drop n tokens ≡ []) same (drop_all (length tokens) tokens (omega arith)) in cc
 
 same_next : (tokens later others : List Token) (t u : Token) (k l : ℕ) → k ≡ l → drop k tokens ≡ t ∷ later → drop l tokens ≡ u ∷ others → t ≡ u
 same_next tokens later others t u k l same a b = let e : t ∷ later ≡ u ∷ others = sym a ∙ ap (λ n. drop n tokens) same ∙ b in cc
@@ -144,8 +136,8 @@ no_source_behind tokens later token k found (a, b, none) is d =
 
 no_source_whole : (tokens : List Token) (found : FoundUnit) → Stops tokens (length tokens) → IsLowSource tokens found → ⊥
 no_source_whole tokens found (a, b, none) d =
-    let no : NoMore (take (length tokens) tokens) [] = subst (λ y. NoMore (take (length tokens) tokens) y) (drop_all tokens) none in
-    no found (subst (λ y. IsLowSource y found) (sym (take_all tokens)) d)
+    let no : NoMore (take (length tokens) tokens) [] = subst (λ y. NoMore (take (length tokens) tokens) y) (drop_all (length tokens) tokens (omega arith)) none in
+    no found (subst (λ y. IsLowSource y found) (sym (take_all (length tokens) tokens (omega arith))) d)
 
 pub refused_no_tree : (tokens : List Token) (e : ParseError) (found : FoundUnit) → Refused tokens e → IsLowSource tokens found → ⊥
 refused_no_tree tokens _ found (unfinished s) d = no_source_whole tokens found s d
@@ -193,8 +185,8 @@ stops_at tokens seen later token is begins none = (
 stops_whole : (tokens : List Token) → BeginsLow tokens → NoneBegins tokens [] → Stops tokens (length tokens)
 stops_whole tokens begins none = (
   omega arith,
-  subst BeginsLow (sym (take_all tokens)) begins,
-  subst (λ y. NoMore y (drop (length tokens) tokens)) (sym (take_all tokens)) (subst (λ y. NoMore tokens y) (sym (drop_all tokens)) none),
+  subst BeginsLow (sym (take_all (length tokens) tokens (omega arith))) begins,
+  subst (λ y. NoMore y (drop (length tokens) tokens)) (sym (take_all (length tokens) tokens (omega arith))) (subst (λ y. NoMore tokens y) (sym (drop_all (length tokens) tokens (omega arith))) none),
 )
 
 -- the error at this token
