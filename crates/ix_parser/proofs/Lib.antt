@@ -63,3 +63,9 @@ mod SourceViable
 mod StmtViable
 mod StmtsViable
 mod SourceStops
+mod OverRules
+mod AnnotOver
+mod DeclOver
+mod ClassOver
+mod SourceOver
+mod ExactPlaces

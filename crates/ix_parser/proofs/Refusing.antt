@@ -66,7 +66,7 @@ meets (loop body s) ts = meets_turns body (λ t us. meets (body t) us) (suc (len
 
 -- ---- the error of the rules
 
-never_at_end : (tokens : List Token) → run source tokens ≡ Err (stop.TooDeep, []) → ⊥
+pub never_at_end : (tokens : List Token) → run source tokens ≡ Err (stop.TooDeep, []) → ⊥
 never_at_end tokens h = let m : Met (run source tokens) = meets source tokens in subst (λ o. Met o) h m refl refl
 
 pub refused_by : (tokens left : List Token) (why : Stop) → why ≢ stop.Memory → run source tokens ≡ Err (why, left) → Refused tokens (error_at why tokens left)

@@ -13,6 +13,7 @@ use Rattle.ix_parser.specs.ExprGrammar.{IsArgs, IsInit}
 use Rattle.ix_parser.specs.ExprRules.{args, expr, init, whole_of, below, parts_of}
 use Rattle.ix_parser.specs.StmtGrammar.{IsBlockStmt}
 use Rattle.ix_parser.specs.StmtRules.{block_statement}
+use Rattle.ix_parser.specs.ClassRules.{program}
 use Rattle.ix_parser.specs.SourceGrammar.{IsSource, source_parts}
 use Rattle.ix_parser.specs.SourceRules.{super_args, parts, source}
 use Rattle.ix_parser.proofs.Follows.{AfterWhole, after_comma, after_semicolon}
@@ -45,9 +46,9 @@ args_read ts found d room le us =
     let r = complete_args d (suc room) 0 us (omega arith) (omega (arith, le)) in
     ap (λ y. run (super_args room) (y ++ us)) r.2 ∙ opened_args room r.0 (r.1 ++ us) us found r.3
 
-pub source_reads : StatementsComplete → (ts : List Token) (found : FoundUnit) → IsSource ts found → found.height ≤ 200 → run source ts ≡ Ok (found, [])
-unfolding source
-source_reads s ts found d le = program_reads source_parts parts (record {
+-- with any height left
+pub high_reads : StatementsComplete → (left : ℕ) (ts : List Token) (found : FoundUnit) → IsSource ts found → found.height ≤ left → run (program parts left) ts ≡ Ok (found, [])
+high_reads s left ts found d le = program_reads source_parts parts (record {
   init = init_reads;
   args = args_read;
   statement = s.statement;
@@ -55,4 +56,8 @@ source_reads s ts found d le = program_reads source_parts parts (record {
   no_brace = s.no_brace;
   no_super = s.no_super;
   takes = s.takes;
-}) 200 ts found d le
+}) left ts found d le
+
+pub source_reads : StatementsComplete → (ts : List Token) (found : FoundUnit) → IsSource ts found → found.height ≤ 200 → run source ts ≡ Ok (found, [])
+unfolding source
+source_reads s ts found d le = high_reads s 200 ts found d le

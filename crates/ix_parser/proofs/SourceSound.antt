@@ -7,6 +7,7 @@ use Rattle.ix_parser.specs.ExprGrammar.{IsArgs, IsInit}
 use Rattle.ix_parser.specs.ExprNodes.{no_exprs, with_expr}
 use Rattle.ix_parser.specs.ExprRules.{more_exprs, args, expr, init}
 use Rattle.ix_parser.specs.StmtRules.{block_statement}
+use Rattle.ix_parser.specs.ClassRules.{program}
 use Rattle.ix_parser.specs.SourceGrammar.{IsSource, source_parts}
 use Rattle.ix_parser.specs.SourceRules.{super_args, parts, source}
 use Rattle.ix_parser.proofs.SoundRules.{Sound, weaken, stop_sound, sign_sound}
@@ -37,6 +38,10 @@ super_args_sound left = sign_sound _ _ _ _ (λ opening. weaken _ (λ ts a r. (r.
 pub init_fits : (left : ℕ) → Sound (λ ts i. IsInit ts i × (i.height ≤ left)) (init left)
 init_fits left = weaken _ (λ ts i r. (r.0, r.1.1)) (both _ (init_is_sound left) (init_is_within left))
 
+-- with any height left
+pub high_sound : ((left : ℕ) → Gives (λ s. s.height ≤ left) (block_statement left)) → (left : ℕ) → 1 ≤ left → Sound (λ ts found. IsSource ts found × (found.height ≤ left)) (program parts left)
+high_sound low left one = program_sound source_parts parts (record { init = init_fits; args = super_args_sound; statement = λ left. both _ (block_statement_sound left) (low left) }) left one
+
 pub source_sound : ((left : ℕ) → Gives (λ s. s.height ≤ left) (block_statement left)) → Sound (λ ts found. IsSource ts found × (found.height ≤ 200)) source
 unfolding source
-source_sound low = program_sound source_parts parts (record { init = init_fits; args = super_args_sound; statement = λ left. both _ (block_statement_sound left) (low left) }) 200 (omega arith)
+source_sound low = high_sound low 200 (omega arith)

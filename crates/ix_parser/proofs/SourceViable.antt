@@ -15,7 +15,8 @@ use Rattle.ix_parser.specs.ExprNodes.{no_exprs, all_args}
 use Rattle.ix_parser.specs.ExprRules.{args, expr, init}
 use Rattle.ix_parser.specs.StmtGrammar.{IsBlockStmt}
 use Rattle.ix_parser.specs.StmtRules.{block_statement}
-use Rattle.ix_parser.specs.SourceGrammar.{source_parts}
+use Rattle.ix_parser.specs.ClassRules.{program}
+use Rattle.ix_parser.specs.SourceGrammar.{IsSource, source_parts}
 use Rattle.ix_parser.specs.SourceRules.{super_args, parts, source}
 use Rattle.ix_parser.proofs.StmtsSound.{block_statement_sound}
 use Rattle.ix_parser.proofs.StmtHeights.{block_statement_within}
@@ -35,11 +36,15 @@ unfolding super_args
 super_args_viable terms left = sign_viable _ _ _ _ (λ f. absurd (cc)) (λ f opening. terms.args left opening)
     (stop_viable (sign OPEN_PAREN here ∷ sign CLOSE_PAREN here ∷ [], all_args no_exprs here, (no_args here here, omega arith)))
 
+-- with any height left
+pub high_viable : TermsViable → (left : ℕ) → 5 ≤ left → Viable (λ ts found. IsSource ts found × (found.height ≤ left)) (program parts left)
+high_viable terms left room = program_viable source_parts parts
+    (record { init = init_fits; args = super_args_sound; statement = λ left. both _ (block_statement_sound left) (block_statement_within left) })
+    (record { init = terms.init; args = super_args_viable terms; statement = terms.statement }) left room
+
 pub source_viable : TermsViable → Viable IsLowSource source
 unfolding source
-source_viable terms = program_viable source_parts parts
-    (record { init = init_fits; args = super_args_sound; statement = λ left. both _ (block_statement_sound left) (block_statement_within left) })
-    (record { init = terms.init; args = super_args_viable terms; statement = terms.statement }) 200 (omega arith)
+source_viable terms = high_viable terms 200 (omega arith)
 
 -- Where the rules stop, the tokens before go on to a source.
 pub source_goes : TermsViable → (tokens : List Token) (why : Stop) (left : List Token) → run source tokens ≡ Err (why, left) → (seen : List Token) × (tokens ≡ seen ++ left) × Goes IsLowSource seen
