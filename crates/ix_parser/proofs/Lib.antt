@@ -48,3 +48,5 @@ mod OverRules
 mod AnnotOver
 mod DeclOver
 mod ClassOver
+mod ExprOver
+mod StmtOver
