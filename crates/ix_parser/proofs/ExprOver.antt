@@ -1,5 +1,5 @@
 -- Expressions with more height left.
-use Rattle.std.proofs.Common.{◌≡◌, ℕ, zero, suc, ◌+◌, ◌-◌, ◌<◌, ◌≤◌, nat_le, nat_lt, Bool, true, false, List, Option, Some, None, refl, arith, ◌⊎◌, inl, inr}
+use Rattle.std.proofs.Common.{ℕ, zero, suc, ◌+◌, ◌-◌, ◌<◌, ◌≤◌, Bool, true, false, arith}
 use Rattle.std.proofs.lemmas.Bool.{le-leb, lt-ltb, leb-true, ltb-true}
 use Rattle.ix_text.specs.declared.span.Span.{Span}
 use Rattle.ix_tree.specs.declared.annot.BaseTree.{BaseTree}
@@ -15,17 +15,14 @@ use Rattle.ix_parser.specs.declared.found.FoundInit.{FoundInit}
 use Rattle.ix_parser.specs.declared.found.FoundItems.{FoundItems}
 use Rattle.ix_parser.specs.declared.found.Notes.{Notes}
 use Rattle.ix_parser.specs.declared.found.Several.{Several}
-use Rattle.ix_parser.specs.Rule.{Rule, pure, take, bind, stop, loop, Turn, On, Done}
+use Rattle.ix_parser.specs.Rule.{Rule, stop}
 use Rattle.ix_parser.specs.AnnotGrammar.{no_notes, with_note}
-use Rattle.ix_parser.specs.AnnotRules.{annot_behind, annots_from}
 use Rattle.ix_parser.specs.TypeGrammar.{based}
-use Rattle.ix_parser.specs.TypeRules.{pairs}
 use Rattle.ix_parser.specs.ExprNodes.{no_exprs, with_expr, no_inits, with_init}
-use Rattle.ix_parser.specs.ExprRules.{extra, makes_array, Parts, Below, inner, inner_init, more_exprs, args, more_inits, items, name_or_call, enclosed, word, creation, object_or_array, noted_array, noted, array, array_rest, first_part, field_or_call, index, index_unless, further, primary_of, only_variable, variable_of, step_behind, value_of, prefixed, unary_of, operand, level_of, assignment, maybe_assigned, whole_of, to_statement, statement_of, init_of, parts_of, no_parts, nothing_below, below, expr, level, variable, init, statement_expr}
-use Rattle.ix_parser.proofs.GiveRules.{Gives, Turned, stop_gives}
+use Rattle.ix_parser.specs.ExprRules.{extra, makes_array, Below, inner, inner_init, more_exprs, args, more_inits, items, name_or_call, enclosed, word, creation, object_or_array, noted_array, noted, array, array_rest, first_part, field_or_call, index, index_unless, further, primary_of, only_variable, variable_of, step_behind, value_of, prefixed, unary_of, operand, level_of, assignment, maybe_assigned, whole_of, to_statement, statement_of, init_of, parts_of, below, expr, level, variable, init, statement_expr}
 use Rattle.ix_parser.proofs.OverRules.{Over, over_pure, over_stop, over_take, over_bind, over_loop}
 use Rattle.ix_parser.proofs.AnnotOver.{over_token, over_last, over_then, over_map, over_turns, annot_behind_over, annots_from_over, pairs_over}
-use Rattle.ix_parser.proofs.ExprHeights.{Within, Lower, LowParts, LowBelow, extra_at_most, first_within, further_within, primary_within, level_within, operand_within, stop_parts, low_below}
+use Rattle.ix_parser.proofs.ExprHeights.{Within, LowBelow, extra_at_most, first_within, further_within, primary_within, level_within, operand_within, stop_parts, low_below}
 
 -- the rules of the next two heights, where there is so much room that a token leads to them
 pub record OverBelow (left : ℕ) (b c : Below) : Type 0 where

@@ -1,6 +1,6 @@
 -- Statements with more height left.
-use Rattle.std.proofs.Common.{◌≡◌, ℕ, zero, suc, ◌+◌, ◌-◌, ◌<◌, ◌≤◌, nat_le, nat_lt, Bool, true, false, List, Option, Some, None, refl, sym, subst, arith}
-use Rattle.std.proofs.lemmas.Bool.{le-leb, lt-ltb, leb-true, ltb-true}
+use Rattle.std.proofs.Common.{◌≡◌, ℕ, zero, suc, ◌+◌, ◌-◌, ◌<◌, ◌≤◌, nat_le, Bool, true, false, Option, Some, None, refl, sym, subst, arith}
+use Rattle.std.proofs.lemmas.Bool.{le-leb, leb-true, ltb-true}
 use Rattle.ix_text.specs.declared.span.Span.{Span}
 use Rattle.ix_tree.specs.declared.annot.BaseTree.TheVariants.{Int, Boolean, Named}
 use Rattle.ix_tree.specs.declared.annot.Ident.{Ident}
@@ -15,13 +15,12 @@ use Rattle.ix_parser.specs.declared.found.FoundType.{FoundType}
 use Rattle.ix_parser.specs.declared.found.Several.{Several}
 use Rattle.ix_parser.specs.declared.statement_trees.Begun.{Begun}
 use Rattle.ix_parser.specs.declared.statement_trees.Begun.TheVariants.{Local, Run, Print}
-use Rattle.ix_parser.specs.Rule.{Rule, pure, take, bind, stop, loop, Turn, On, Done}
-use Rattle.ix_parser.specs.AnnotGrammar.{no_notes}
-use Rattle.ix_parser.specs.TypeGrammar.{based, plain_type}
+use Rattle.ix_parser.specs.Rule.{Rule, loop, Turn, On, Done}
+use Rattle.ix_parser.specs.TypeGrammar.{based}
 use Rattle.ix_parser.specs.DeclGrammar.{no_mods, with_word, with_annot, local_words, shared}
 use Rattle.ix_parser.specs.ClassGrammar.{no_stmts, with_stmt}
 use Rattle.ix_parser.specs.ExprNodes.{named, selected, element, no_exprs, with_expr}
-use Rattle.ix_parser.specs.ExprRules.{extra, makes_array, below, inner, name_or_call, field_or_call, index, index_unless, further, to_statement, expr, statement_expr, init}
+use Rattle.ix_parser.specs.ExprRules.{extra, makes_array, below, inner, name_or_call, field_or_call, index, index_unless, further, expr, init}
 use Rattle.ix_parser.specs.StmtGrammar.{one_run, with_run, one_expr}
 use Rattle.ix_parser.specs.StmtRules.{StmtParts, declared, named_type, typed, modified, local_or, chain, go_on, field, run_named, guarded, indexed, named_first, println_part, out_part, system_part, print_or, begun, finished, condition, else_part, if_rule, while_rule, do_rule, for_body, for_update, for_condition, for_part, for_rule, return_rule, throw_end, throw_rule, block_rule, stmt_of, stmts_below, stmt, block_statement}
 use Rattle.ix_parser.proofs.GiveRules.{Gives, gives_more, pure_gives, stop_gives, take_gives, bind_gives, Turned, loop_gives}
