@@ -14,7 +14,7 @@ use Rattle.ix_parser.proofs.AnnotOver.{over_token, over_last, over_then, over_ma
 
 -- ---- modifiers
 
-next_mod_over : (words : List (ℕ × Word)) (left more : ℕ) → 3 ≤ more → (found : FoundMods) → Over (next_mod words left found) (next_mod words more found)
+pub next_mod_over : (words : List (ℕ × Word)) (left more : ℕ) → 3 ≤ more → (found : FoundMods) → Over (next_mod words left found) (next_mod words more found)
 unfolding next_mod
 next_mod_over words left more room found = over_take _ _ _ _ _ _ _ (le-leb 1 more (omega (arith, room))) (λ word f. over_pure _)
     (over_take _ _ _ _ _ _ _ (le-leb 2 more (omega (arith, room))) (λ at f. over_map _ _ _ (annot_behind_over left more at room)) (over_pure _))

@@ -174,7 +174,7 @@ module _ (left : ℕ) (b : Below) (l : LowBelow left b) where
       (take_gives _ _ _ _ (λ t s. array_within a start (based Boolean s) no_notes (omega (arith, leb-true (extra a form.Array + 2) left t)))
       (take_gives _ _ _ _ (λ t at. noted_within a start at (leb-true (extra a form.Array + 4) left t)) stop_gives)))
 
-  first_within : (a : Aim) → Gives (Within left) (first_part b a left)
+  pub first_within : (a : Aim) → Gives (Within left) (first_part b a left)
   unfolding first_part
   first_within a = take_gives _ _ _ _ (λ t n. pure_gives _ (omega arith, omega (arith, leb-true (extra a form.Value + 1) left t))) (take_gives _ _ _ _ (λ t x. called_within a x (leb-true 2 left t))
       (take_gives _ _ _ _ (λ t o. enclosed_within a o) (take_gives _ _ _ _ (λ t s. creation_within a s (omega (arith, leb-true (extra a form.Statement + 2) left t))) (word_within a stop stop_gives))))
@@ -195,14 +195,14 @@ module _ (left : ℕ) (b : Below) (l : LowBelow left b) where
   unless_within true a f w = pure_gives _ w
   unless_within false a f w = index_within a f w
 
-  further_within : (a : Aim) (f : Found) → Within left f → Gives Next (further b a left f)
+  pub further_within : (a : Aim) (f : Found) → Within left f → Gives Next (further b a left f)
   unfolding further
   further_within a f w = take_gives _ _ _ _ (λ t d. take_gives _ _ _ _ (λ u x. field_within a f x w.0 (ltb-true f.height left t)) stop_gives) (unless_within (makes_array f.form) a f w)
 
   pub chain_within : (a : Aim) (f : Found) → Within left f → Gives (Within left) (loop (further b a left) f)
   chain_within a f w = loop_gives (further b a left) (Within left) (Within left) (further_within a) f w
 
-  primary_within : (a : Aim) → Gives (Within left) (primary_of b a left)
+  pub primary_within : (a : Aim) → Gives (Within left) (primary_of b a left)
   unfolding primary_of
   primary_within a = bind_gives _ _ (first_within a) (chain_within a)
 
@@ -237,11 +237,11 @@ module _ (left : ℕ) (b : Below) (l : LowBelow left b) where
   unary_within = take_gives _ _ _ _ (λ t m. take_gives _ _ _ _ (λ u s. pure_gives _ (omega arith, leb-true 1 left t)) (bind_gives _ _ (let p = l.lower in p.level 0) (λ f w. pure_gives _ (omega arith, w.1))))
       (take_gives _ _ _ _ (λ t o. bind_gives _ _ (let p = l.lower in p.level 0) (λ f w. pure_gives _ (omega arith, w.1))) (prefixed_within _ value_within))
 
-  operand_within : (n : ℕ) (f : Found) → Within left f → Gives Next (operand b left n f)
+  pub operand_within : (n : ℕ) (f : Found) → Within left f → Gives Next (operand b left n f)
   unfolding operand
   operand_within n f w = take_gives _ _ _ _ (λ t o. bind_gives _ _ (let p = l.lower in p.level n) (λ g v. pure_gives _ (omega arith, omega (arith, v.1, ltb-true f.height left t)))) (pure_gives _ w)
 
-  level_within : (n : ℕ) → Gives (Within left) (level_of b left n)
+  pub level_within : (n : ℕ) → Gives (Within left) (level_of b left n)
   unfolding level_of
   level_within zero = unary_within
   level_within (suc n) = bind_gives _ _ (level_within n) (λ f w. loop_gives (operand b left n) (Within left) (Within left) (operand_within n) f w)
@@ -284,7 +284,7 @@ module _ (left : ℕ) (b : Below) (l : LowBelow left b) where
 
 -- ---- every height
 
-stop_parts : (n left : ℕ) → LowParts n left no_parts
+pub stop_parts : (n left : ℕ) → LowParts n left no_parts
 stop_parts n left = record { whole = stop_gives; level = λ m. stop_gives; variable = stop_gives; init = stop_gives }
 
 parts_low : (n left more : ℕ) (b : Below) → LowBelow left b → (left ≡ 0) ⊎ (left + n ≤ more) → LowParts n more (parts_of b left)

@@ -69,3 +69,5 @@ mod DeclOver
 mod ClassOver
 mod SourceOver
 mod ExactPlaces
+mod ExprOver
+mod StmtOver
