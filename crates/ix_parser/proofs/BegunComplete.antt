@@ -14,12 +14,13 @@ use Rattle.ix_parser.specs.declared.found.Found.{Found}
 use Rattle.ix_parser.specs.declared.found.Form.TheVariants as form
 use Rattle.ix_parser.specs.declared.statement_trees.Begun.{Begun}
 use Rattle.ix_parser.specs.declared.statement_trees.Begun.TheVariants.{Run}
-use Rattle.ix_parser.specs.Rule.{Rule, pure, take, bind, stop, loop, Turn, On, Done, look, run, Outcome, Parser, and_then}
+use Rattle.ix_parser.specs.Rule.{Rule, pure, take, bind, stop, loop, Turn, On, Done, look, run, Outcome, and_then}
 use Rattle.ix_parser.specs.Patterns.{sign, name_token, a_sign, a_name, name_of, step_signs, assign_signs, one_of}
 use Rattle.ix_parser.specs.ExprNodes.{named, selected, element}
 use Rattle.ix_parser.specs.ExprRules.{below, inner, further, field_or_call, name_or_call, index_unless, index, first_part, primary_of, prefixed, to_statement, statement_of, assignment, statement_expr}
 use Rattle.ix_parser.specs.StmtGrammar.{SYSTEM, OUT, PRINTLN, same_text, begins_print}
 use Rattle.ix_parser.specs.StmtRules.{word_of, a_word, chain, go_on, field, run_named, guarded, indexed, named_first, println_part, out_part, system_part, print_or, local_or, begun}
+use Rattle.ix_parser.proofs.CompleteRules.{then_assoc}
 use Rattle.ix_parser.proofs.Runs.{loop_on, loop_done, loop_stops, front}
 use Rattle.ix_parser.proofs.SoundRules.{sign_is, name_is}
 use Rattle.ix_parser.proofs.GiveRules.{Gives, any_gives, pure_gives, take_gives, bind_gives}
@@ -305,10 +306,6 @@ module _ (left : ℕ) where
 
   abbrev pub run_expr : Rule Begun
   run_expr = bind (statement_expr (left - 1)) (λ f. pure (Run f))
-
-  then_assoc : {A B C : Type 0} (o : Outcome A) (p : A → Parser B) (q : B → Parser C) → and_then (and_then o p) q ≡ and_then o (λ a us. and_then (p a us) q)
-  then_assoc (Ok x) p q = refl
-  then_assoc (Err x) p q = refl
 
   expr_low : (x : Ident) (ts : List Token) → nat_le 2 (left - 1) ≡ true → run run_expr (name_token x ∷ ts) ≡ run (run_named left x) ts
   unfolding run_named chain statement_of prefixed primary_of first_part run

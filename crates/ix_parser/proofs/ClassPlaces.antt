@@ -96,32 +96,36 @@ member_stands lo hi _ _ (g.some_fields {first} {second} {third} {mods} {ty} {dec
     let (mid, a, b, c, p, q) = order_at lo hi inner (sign SEMICOLON end) [] (subst (λ y. InOrder lo hi y) same o) in
     let (few, s) = decls_stand decls.member_words lo mid first second third mods ty ds m t d p in
     let n = length (first ++ (second ++ (third ++ sign SEMICOLON end ∷ []))) in
-    let count : n ≡ length inner + 1 = ap (λ y. length y) same ∙ length-append inner (sign SEMICOLON end ∷ []) in
-    (omega (arith, few, count, field_count ds.decls),
-    subst (λ y. Stand lo hi n (together y)) (sym (field_parts ds.decls)) (wider s lo hi n (omega arith) (omega (arith, b, c)) (omega (arith, count))))
+    let count : n ≡ length inner + 1 = ap (λ y. length y) same ∙ length-append inner (sign SEMICOLON end ∷ []) in (
+      omega (arith, few, count, field_count ds.decls),
+      subst (λ y. Stand lo hi n (together y)) (sym (field_parts ds.decls)) (wider s lo hi n (omega arith) (omega (arith, b, c)) (omega (arith, count))),
+    )
 member_stands lo hi _ _ (g.method {first} {second} {third} {mods} {ty} {rest} name m t d) o =
     let (one, a, b, p, q) = order_both lo hi first (second ++ name_token name ∷ third) o in
     let (two, c, e, r, u) = order_both one hi second (name_token name ∷ third) q in
     let n = length (first ++ (second ++ name_token name ∷ third)) in
     let count = length-append first (second ++ name_token name ∷ third) in
-    let later = length-append second (name_token name ∷ third) in
-    (omega (arith, count, later),
-    method_stands rest mods (Some ty) (beside (mods_stand decls.member_words lo one first mods m p).1 (type_stands one two second ty t r).1 (length first + length second) a (omega arith) c (omega arith))
-    (behind_stands name.span.to hi false third rest d u.2) (begins mods.first ty.ty.span) false name n (omega (arith, a, c)) u.0 u.1 (omega arith) (order_within name.span.to hi third u.2) (omega (arith, count, later)))
+    let later = length-append second (name_token name ∷ third) in (
+      omega (arith, count, later),
+      method_stands rest mods (Some ty) (beside (mods_stand decls.member_words lo one first mods m p).1 (type_stands one two second ty t r).1 (length first + length second) a (omega arith) c (omega arith))
+          (behind_stands name.span.to hi false third rest d u.2) (begins mods.first ty.ty.span) false name n (omega (arith, a, c)) u.0 u.1 (omega arith) (order_within name.span.to hi third u.2) (omega (arith, count, later)),
+    )
 member_stands lo hi _ _ (g.void_method {first} {second} {mods} {rest} void name m d) o =
     let (one, a, b, p, q) = order_both lo hi first (sign VOID void ∷ name_token name ∷ second) o in
     let n = length (first ++ sign VOID void ∷ name_token name ∷ second) in
-    let count = length-append first (sign VOID void ∷ name_token name ∷ second) in
-    (omega (arith, count),
-    method_stands rest mods None (subst (λ y. Stand lo one (length first) y) (sym (append-nil (mods_parts mods.mods))) (mods_stand decls.member_words lo one first mods m p).1)
-    (behind_stands name.span.to hi false second rest d q.2.2) (begins mods.first void) false name n a (omega (arith, q.0, q.1, q.2.0)) q.2.1 (omega arith) (order_within name.span.to hi second q.2.2) (omega (arith, count)))
+    let count = length-append first (sign VOID void ∷ name_token name ∷ second) in (
+      omega (arith, count),
+      method_stands rest mods None (subst (λ y. Stand lo one (length first) y) (sym (append-nil (mods_parts mods.mods))) (mods_stand decls.member_words lo one first mods m p).1)
+          (behind_stands name.span.to hi false second rest d q.2.2) (begins mods.first void) false name n a (omega (arith, q.0, q.1, q.2.0)) q.2.1 (omega arith) (order_within name.span.to hi second q.2.2) (omega (arith, count)),
+    )
 member_stands lo hi _ _ (g.constructor_of {first} {second} {mods} {rest} name m d) o =
     let (one, a, b, p, q) = order_both lo hi first (name_token name ∷ second) o in
     let n = length (first ++ name_token name ∷ second) in
-    let count = length-append first (name_token name ∷ second) in
-    (omega (arith, count),
-    method_stands rest mods None (subst (λ y. Stand lo one (length first) y) (sym (append-nil (mods_parts mods.mods))) (mods_stand decls.member_words lo one first mods m p).1)
-    (behind_stands name.span.to hi true second rest d q.2) (begins mods.first name.span) true name n a q.0 q.1 (omega arith) (order_within name.span.to hi second q.2) (omega (arith, count)))
+    let count = length-append first (name_token name ∷ second) in (
+      omega (arith, count),
+      method_stands rest mods None (subst (λ y. Stand lo one (length first) y) (sym (append-nil (mods_parts mods.mods))) (mods_stand decls.member_words lo one first mods m p).1)
+          (behind_stands name.span.to hi true second rest d q.2) (begins mods.first name.span) true name n a q.0 q.1 (omega arith) (order_within name.span.to hi second q.2) (omega (arith, count)),
+    )
 
 members_stand : (lo hi : ℕ) (ts : List Token) (found : Members) → IsRepeated (IsMember source_parts) no_members with_members ts found → InOrder lo hi ts → MembersStand lo hi (length ts) found
 members_stand lo hi _ _ no_item o = (omega arith, stand_none lo hi 0)
@@ -129,9 +133,10 @@ members_stand lo hi _ _ (one_more {before} {tokens} {items} {item} d x) o =
     let (mid, a, b, p, q) = order_both lo hi before tokens o in
     let (few, s) = members_stand lo mid before items d p in
     let (more, t) = member_stands mid hi tokens item x q in
-    let n = length (before ++ tokens) in
-    (omega (arith, few, more, length-append before tokens, length-append items.members item.members),
-    subst (λ y. Stand lo hi n y) (sym (parts_both member_parts items.members item.members)) (beside s t n a (omega arith) b (omega (arith, length-append before tokens))))
+    let n = length (before ++ tokens) in (
+      omega (arith, few, more, length-append before tokens, length-append items.members item.members),
+      subst (λ y. Stand lo hi n y) (sym (parts_both member_parts items.members item.members)) (beside s t n a (omega arith) b (omega (arith, length-append before tokens))),
+    )
 
 -- ---- classes
 
@@ -152,8 +157,9 @@ class_stands lo hi _ _ (g.class {first} {second} {third} {start} {parent} {membe
     let counts = length-append second (sign OPEN_BRACE left ∷ last) in
     let ending = length-append third (sign CLOSE_BRACE right ∷ []) in
     let k = length second + length third in
-    let inner = beside (parent_stands name.span.to two second parent x o2) (listed_stand member_parts left.to far (length third) members.members few s) k a2 b2 a3 (omega arith) in
-    (omega (arith, count),
-    wider (stand_declaration name.span.from far k (elsewhere name ∷ (maybe other_name parent ++ listed (each member_parts members.members)))
-    (name_beside name inner name.span.from k (omega arith) p1.2.1 (omega arith) (omega (arith, a2, b2, a3)) (omega arith)))
-    lo hi (n + 0) (omega (arith, a1, p1.0, p1.1, p1.2.0)) (omega (arith, b3, c3)) (omega (arith, count, counts, ending)))
+    let inner = beside (parent_stands name.span.to two second parent x o2) (listed_stand member_parts left.to far (length third) members.members few s) k a2 b2 a3 (omega arith) in (
+      omega (arith, count),
+      wider (stand_declaration name.span.from far k (elsewhere name ∷ (maybe other_name parent ++ listed (each member_parts members.members)))
+          (name_beside name inner name.span.from k (omega arith) p1.2.1 (omega arith) (omega (arith, a2, b2, a3)) (omega arith)))
+          lo hi (n + 0) (omega (arith, a1, p1.0, p1.1, p1.2.0)) (omega (arith, b3, c3)) (omega (arith, count, counts, ending)),
+    )

@@ -245,7 +245,7 @@ module _ (parts : Parts) (rules : PartRules) (sound : PartsSound parts rules) (v
       → IsClass parts (front ++ sign CLASS span ∷ name_token name ∷ (second ++ third)) (class_of (begins start span) name above members right)
   class_made {extended = extended} {members_tokens = inside} {front = front} {second = second} {third = third} {start = start} {above = above} {members = members} span name opening right w q same d is =
       let ends : second ++ third ≡ extended ++ sign OPEN_BRACE opening ∷ (inside ++ sign CLOSE_BRACE right ∷ []) =
-          ap (λ y. second ++ y) is ∙ ap (λ y. y ++ (inside ++ sign CLOSE_BRACE right ∷ [])) same ∙ append_assoc extended (sign OPEN_BRACE opening ∷ []) (inside ++ sign CLOSE_BRACE right ∷ []) in
+      ap (λ y. second ++ y) is ∙ ap (λ y. y ++ (inside ++ sign CLOSE_BRACE right ∷ [])) same ∙ append_assoc extended (sign OPEN_BRACE opening ∷ []) (inside ++ sign CLOSE_BRACE right ∷ []) in
       subst (λ y. IsClass parts (front ++ sign CLASS span ∷ name_token name ∷ y) (class_of (begins start span) name above members right)) (sym ends) (grammar.class span name opening right w q d)
 
   class_behind_goes : (left : ℕ) (start : Option Span) (span : Span) (front : List Token) → 2 ≤ left → IsClassWords front start → Goes (λ ts found. Classed left (front ++ sign CLASS span ∷ ts) found) []

@@ -71,16 +71,18 @@ mods_stand words lo hi _ _ g.none o = (tt, stand_no_entries annot_parts lo hi 0)
 mods_stand words lo hi _ _ (g.word {tokens} {found} number span {word} r d) o =
     let (mid, a, b, p, q) = order_both lo hi tokens (sign number span ∷ []) o in
     let (f, s) = mods_stand words lo mid tokens found d p in
-    let n = length (tokens ++ sign number span ∷ []) in
-    (earlier_lies lo hi found.first span (first_more lo mid hi found.first b f) (omega (arith, a, q.0), q.1, q.2),
-    subst (λ y. Stand lo hi n y) (sym (marked_parts found word)) (wider s lo hi n (omega arith) b (omega (arith, length-append tokens (sign number span ∷ [])))))
+    let n = length (tokens ++ sign number span ∷ []) in (
+      earlier_lies lo hi found.first span (first_more lo mid hi found.first b f) (omega (arith, a, q.0), q.1, q.2),
+      subst (λ y. Stand lo hi n y) (sym (marked_parts found word)) (wider s lo hi n (omega arith) b (omega (arith, length-append tokens (sign number span ∷ [])))),
+    )
 mods_stand words lo hi _ _ (g.annot {before} {tokens} {found} {annot} d x) o =
     let (mid, a, b, p, q) = order_both lo hi before tokens o in
     let (f, s) = mods_stand words lo mid before found d p in
-    let (l, t) = annot_stands mid hi tokens annot x q in
-    (earlier_lies lo hi found.first annot.span (first_more lo mid hi found.first b f) (omega (arith, a, l.0), l.1, l.2),
-    stand_joined annot_parts lo mid mid hi (length before) (length tokens) (length (before ++ tokens)) found.mods.annots annot s t a (omega arith) b
-    (annot_tokens tokens annot x) (omega (arith, length-append before tokens)))
+    let (l, t) = annot_stands mid hi tokens annot x q in (
+      earlier_lies lo hi found.first annot.span (first_more lo mid hi found.first b f) (omega (arith, a, l.0), l.1, l.2),
+      stand_joined annot_parts lo mid mid hi (length before) (length tokens) (length (before ++ tokens)) found.mods.annots annot s t a (omega arith) b
+          (annot_tokens tokens annot x) (omega (arith, length-append before tokens)),
+    )
 
 -- ---- parts apart
 
@@ -141,9 +143,11 @@ turned (p ∷ ps) qs (i, is) (a, xs) =
 
 with_copy : (ts : List Part) → All InTypes ts → AllApart ts → Across ts ts
 with_copy [] i a = tt
-with_copy (t ∷ ts) (i, is) (a, xs) =
-    ((with_itself t i, a), all_with (λ q. Apart q t) (λ q. All (Apart q) ts) (λ q. All (Apart q) (t ∷ ts)) (λ q x y. (x, y)) ts
-    (all_more (Apart t) (λ q. Apart q t) (λ q. turned_part t q i) ts a) (with_copy ts is xs))
+with_copy (t ∷ ts) (i, is) (a, xs) = (
+  (with_itself t i, a),
+  all_with (λ q. Apart q t) (λ q. All (Apart q) ts) (λ q. All (Apart q) (t ∷ ts)) (λ q x y. (x, y)) ts
+      (all_more (Apart t) (λ q. Apart q t) (λ q. turned_part t q i) ts a) (with_copy ts is xs),
+)
 
 -- they are neither declarations nor nodes
 
@@ -194,18 +198,21 @@ shared_more lo mid hi next end n k m ts ps own t is p copies o a b c d le =
     let (first, later) = turned ts (declaration ∷ own) is shared in
     let pw = wider p lo end (k + m) (omega arith) (omega (arith, c, d)) (omega arith) in
     let tw = wider t lo end (k + m) (omega arith) (omega (arith, b, c, d)) (omega (arith, le)) in
-    let ow = wider o lo end (k + m) (omega (arith, a, b, c)) (omega arith) (omega arith) in
-    (record {
-      apart = apart_joined ps (declaration ∷ (ts ++ own)) p.apart
-          (all_both (Apart declaration) ts own first behind.0,
-          apart_joined ts own t.apart behind.1 (all_more (λ q. All (Apart q) (declaration ∷ own)) (λ q. All (Apart q) own) (λ q z. z.1) ts shared))
-          (all_with (λ q. All (Apart q) (declaration ∷ own)) (λ q. All (Apart q) ts) (λ q. All (Apart q) (declaration ∷ (ts ++ own)))
-          (λ q z w. (z.0, all_both (Apart q) ts own w z.1)) ps before copies);
-      inside = all_both (Inside lo end) ps (declaration ∷ (ts ++ own)) pw.inside (tt, all_both (Inside lo end) ts own tw.inside ow.inside.1);
-      short = all_both (Short (k + m)) ps (declaration ∷ (ts ++ own)) pw.short (tt, all_both (Short (k + m)) ts own tw.short ow.short.1);
-      few_declarations = omega (arith, x.few_declarations, same_declarations ps (declaration ∷ (ts ++ own)) (declaration ∷ own) (ap (λ n. suc n) (no_declarations ts own is)));
-      few_nodes = omega (arith, x.few_nodes, same_nodes ps (declaration ∷ (ts ++ own)) (declaration ∷ own) (no_nodes ts own is));
-    }, all_both (λ q. All (Apart q) ts) ps (declaration ∷ (ts ++ own)) copies (first, all_both (λ q. All (Apart q) ts) ts own (with_copy ts is t.apart) later))
+    let ow = wider o lo end (k + m) (omega (arith, a, b, c)) (omega arith) (omega arith) in (
+      record {
+        apart = apart_joined ps (declaration ∷ (ts ++ own)) p.apart (
+          all_both (Apart declaration) ts own first behind.0,
+          apart_joined ts own t.apart behind.1 (all_more (λ q. All (Apart q) (declaration ∷ own)) (λ q. All (Apart q) own) (λ q z. z.1) ts shared),
+        )
+            (all_with (λ q. All (Apart q) (declaration ∷ own)) (λ q. All (Apart q) ts) (λ q. All (Apart q) (declaration ∷ (ts ++ own)))
+            (λ q z w. (z.0, all_both (Apart q) ts own w z.1)) ps before copies);
+        inside = all_both (Inside lo end) ps (declaration ∷ (ts ++ own)) pw.inside (tt, all_both (Inside lo end) ts own tw.inside ow.inside.1);
+        short = all_both (Short (k + m)) ps (declaration ∷ (ts ++ own)) pw.short (tt, all_both (Short (k + m)) ts own tw.short ow.short.1);
+        few_declarations = omega (arith, x.few_declarations, same_declarations ps (declaration ∷ (ts ++ own)) (declaration ∷ own) (ap (λ n. suc n) (no_declarations ts own is)));
+        few_nodes = omega (arith, x.few_nodes, same_nodes ps (declaration ∷ (ts ++ own)) (declaration ∷ own) (no_nodes ts own is));
+      },
+      all_both (λ q. All (Apart q) ts) ps (declaration ∷ (ts ++ own)) copies (first, all_both (λ q. All (Apart q) ts) ts own (with_copy ts is t.apart) later),
+    )
 
 -- ---- lists of parts, joined
 
@@ -240,9 +247,12 @@ own_stand : (all : Shared) (lo hi : ℕ) (ts : List Token) (found : FoundDecl) �
     → (1 ≤ length ts) × Lies lo hi found.end × Stand lo hi (length ts) (declaration ∷ own_parts found.decl)
 own_stand all lo hi _ _ (g.plain name) o = (omega arith, o, wider (stand_declaration lo hi 0 (elsewhere name ∷ []) (stand_elsewhere lo hi 0 name o)) lo hi 1 (omega arith) (omega arith) (omega arith))
 own_stand all lo hi _ _ (g.with_init name assign {tokens} {found} d) (a, b, (c, e, o)) =
-    let (l, s) = init_stands assign.to hi tokens found d o in
-    (omega arith, (omega (arith, a, b, c, e, l.0), l.1, l.2), wider (stand_declaration lo hi (length tokens) (elsewhere name ∷ init_parts found.init)
-    (name_beside name s lo (length tokens) a b (omega (arith, c, e)) (omega (arith, l.0, l.1, l.2)) (omega arith))) lo hi (suc (suc (length tokens))) (omega arith) (omega arith) (omega arith))
+    let (l, s) = init_stands assign.to hi tokens found d o in (
+      omega arith,
+      (omega (arith, a, b, c, e, l.0), l.1, l.2),
+      wider (stand_declaration lo hi (length tokens) (elsewhere name ∷ init_parts found.init)
+          (name_beside name s lo (length tokens) a b (omega (arith, c, e)) (omega (arith, l.0, l.1, l.2)) (omega arith))) lo hi (suc (suc (length tokens))) (omega arith) (omega arith) (omega arith),
+    )
 
 -- the parts of all of them, and each of those with each of the shared ones
 abbrev DeclsStand : ℕ → ℕ → ℕ → Shared → List LocalDecl → Type 0
@@ -255,7 +265,7 @@ separate_decls all lo mid hi n _ _ (first_item {tokens} {item} d) s a o =
     let (one, l, own) = own_stand all mid hi tokens item d o in
     let same = parts_joined decl_parts [] item.decl ∙ decl_is all tokens item d in
     let (stands, copies) = shared_more lo mid mid mid hi n n (length tokens) (shared_parts all) [] (own_parts item.decl) s (shared_in_type all) (stand_none lo mid n) tt own
-        a (omega arith) (omega arith) (omega (arith, l.0, l.1, l.2)) (omega arith) in
+    a (omega arith) (omega arith) (omega (arith, l.0, l.1, l.2)) (omega arith) in
     (one, l, (subst (λ y. Stand lo hi (n + length tokens) y) (sym same) stands, subst (λ y. Across y (shared_parts all)) (sym same) copies))
 separate_decls all lo mid hi n _ _ (next_item {before} {tokens} {items} {item} comma d x) s a o =
     let (far, b, c, p, q) = order_both mid hi before (sign COMMA comma ∷ tokens) o in
@@ -264,12 +274,15 @@ separate_decls all lo mid hi n _ _ (next_item {before} {tokens} {items} {item} c
     let ps = together (each decl_parts items.decls) in
     let same = parts_joined decl_parts items.decls item.decl ∙ ap (λ y. ps ++ y) (decl_is all tokens item x) in
     let (stands, copies) = shared_more lo mid far comma.to hi n (n + length before) (length tokens) (shared_parts all) ps (own_parts item.decl) s (shared_in_type all) before_stand before_copies own
-        a b (omega (arith, q.0, q.1)) (omega (arith, m.0, m.1, m.2)) (omega arith) in
-    let k = n + length (before ++ sign COMMA comma ∷ tokens) in
-    (omega (arith, few, one, length-append before (sign COMMA comma ∷ tokens), length-append items.decls (item.decl ∷ [])),
-    (omega (arith, b, q.0, q.1, m.0), m.1, m.2),
-    (wider (subst (λ y. Stand lo hi ((n + length before) + length tokens) y) (sym same) stands) lo hi k (omega arith) (omega arith) (omega (arith, length-append before (sign COMMA comma ∷ tokens))),
-    subst (λ y. Across y (shared_parts all)) (sym same) copies))
+    a b (omega (arith, q.0, q.1)) (omega (arith, m.0, m.1, m.2)) (omega arith) in
+    let k = n + length (before ++ sign COMMA comma ∷ tokens) in (
+      omega (arith, few, one, length-append before (sign COMMA comma ∷ tokens), length-append items.decls (item.decl ∷ [])),
+      (omega (arith, b, q.0, q.1, m.0), m.1, m.2),
+      (
+        wider (subst (λ y. Stand lo hi ((n + length before) + length tokens) y) (sym same) stands) lo hi k (omega arith) (omega arith) (omega (arith, length-append before (sign COMMA comma ∷ tokens))),
+        subst (λ y. Across y (shared_parts all)) (sym same) copies,
+      ),
+    )
 
 -- modifiers, a type and declarators
 pub decls_stand : (words : List (ℕ × Word)) (lo hi : ℕ) (first second third : List Token) (mods : FoundMods) (ty : FoundType) (found : FoundDecls)
@@ -281,9 +294,10 @@ decls_stand words lo hi first second third mods ty found m t d o =
     let (f, s) = mods_stand words lo one first mods m p in
     let (l, y) = type_stands one two second ty t r in
     let (few, end, (stands, copies)) = separate_decls (shared mods ty) lo two hi (length first + length second) third found d
-        (beside s y (length first + length second) a (omega arith) c (omega arith)) (omega (arith, a, c)) u in
-    (omega (arith, few, length-append first (second ++ third), length-append second third),
-    wider stands lo hi (length (first ++ (second ++ third))) (omega arith) (omega arith) (omega (arith, length-append first (second ++ third), length-append second third)))
+    (beside s y (length first + length second) a (omega arith) c (omega arith)) (omega (arith, a, c)) u in (
+      omega (arith, few, length-append first (second ++ third), length-append second third),
+      wider stands lo hi (length (first ++ (second ++ third))) (omega arith) (omega arith) (omega (arith, length-append first (second ++ third), length-append second third)),
+    )
 
 -- as a list
 pub listed_stand : {A : Type 0} (parts : A → List Part) (lo hi n : ℕ) (xs : List A) → length xs ≤ n → Stand lo hi n (together (each parts xs)) → Stand lo hi n (listed (each parts xs))
@@ -331,11 +345,12 @@ param_stands lo hi _ _ (g.param {before} {tokens} {mods} {ty} name m t) o =
     let (f, s) = mods_stand g.local_words lo one before mods m p in
     let (l, y) = type_stands one two tokens ty t r in
     let n = length (before ++ (tokens ++ name_token name ∷ [])) in
-    let count : n ≡ length before + (length tokens + 1) = length-append before (tokens ++ name_token name ∷ []) ∙ ap (λ k. length before + k) (length-append tokens (name_token name ∷ [])) in
-    (omega (arith, count),
-    wider (stand_declaration lo hi (length before + length tokens) (mods_parts mods.mods ++ (type_parts ty.ty ++ elsewhere name ∷ []))
-    (beside s (beside y (stand_elsewhere two hi 0 name u) (length tokens) c (omega arith) (omega (arith, e)) (omega arith)) (length before + length tokens) a (omega arith) b (omega arith)))
-    lo hi (n + 0) (omega arith) (omega arith) (omega (arith, count)))
+    let count : n ≡ length before + (length tokens + 1) = length-append before (tokens ++ name_token name ∷ []) ∙ ap (λ k. length before + k) (length-append tokens (name_token name ∷ [])) in (
+      omega (arith, count),
+      wider (stand_declaration lo hi (length before + length tokens) (mods_parts mods.mods ++ (type_parts ty.ty ++ elsewhere name ∷ []))
+          (beside s (beside y (stand_elsewhere two hi 0 name u) (length tokens) c (omega arith) (omega (arith, e)) (omega arith)) (length before + length tokens) a (omega arith) b (omega arith)))
+          lo hi (n + 0) (omega arith) (omega arith) (omega (arith, count)),
+    )
 
 pub params_stand : (lo hi : ℕ) (ts : List Token) (params : Params) → IsParams ts params → InOrder lo hi ts → Stand lo hi (length ts) (listed (each decl_parts params.params))
 params_stand lo hi _ _ (g.none left right) o = stand_no_entries decl_parts lo hi 2

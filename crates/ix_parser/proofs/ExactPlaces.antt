@@ -1,5 +1,5 @@
 -- Where the rules of a source stop, their error is the one that the grammar alone tells, if that holds of expressions and statements.
-use Rattle.std.proofs.Common.{◌≡◌, ◌≢◌, ◌≤◌, ◌<◌, ◌+◌, ◌-◌, ℕ, zero, suc, List, [], ◌∷◌, ◌++◌, length, take, drop, Ok, Err, refl, sym, ap, subst, ◌∙◌, arith, append_assoc, ◌⊎◌, inl, inr}
+use Rattle.std.proofs.Common.{◌≡◌, ◌≢◌, ◌≤◌, ◌<◌, ◌+◌, ℕ, zero, suc, List, [], ◌∷◌, ◌++◌, length, take, drop, Ok, Err, refl, sym, ap, subst, ◌∙◌, arith, append_assoc, ◌⊎◌, inl, inr}
 use Rattle.std.proofs.lemmas.List.{append-nil, drop_all, length-append, take_all}
 use Rattle.ix_lexer.specs.declared.token.Token.{Token}
 use Rattle.ix_parser.specs.declared.classes.FoundUnit.{FoundUnit}
@@ -12,8 +12,8 @@ use Rattle.ix_parser.specs.ClassRules.{program}
 use Rattle.ix_parser.specs.SourceGrammar.{IsSource}
 use Rattle.ix_parser.specs.SourceRules.{parts, source}
 use Rattle.ix_parser.specs.Begins.{IsLowSource, NoneBegins}
-use Rattle.ix_parser.specs.Exact.{BeginsLow, Begins, NoMore, Stops, Refused, unfinished, no_further, too_deep}
-use Rattle.ix_parser.specs.Refusals.{place, error_at}
+use Rattle.ix_parser.specs.Refusals.{BeginsLow, Begins, NoMore, Stops, Refused, unfinished, no_further, too_deep}
+use Rattle.ix_parser.specs.Errors.{place, error_at}
 use Rattle.ix_parser.proofs.Runs.{left_of}
 use Rattle.ix_parser.proofs.OverRules.{Further}
 use Rattle.ix_parser.proofs.Refusing.{never_at_end}

@@ -1,5 +1,5 @@
 -- What is in the grammar of expressions is read, where the height that is left suffices and what follows doesn't go on with it.
-use Rattle.std.proofs.Common.{◌≡◌, ℕ, ℤ, zero, suc, ◌+◌, ◌-◌, ◌<◌, ◌≤◌, max, ◌==◌, Bool, true, false, cond, inl, inr, List, [], ◌∷◌, ◌++◌, length, Option, Some, None, Ok, Err, refl, sym, ap, subst, ◌∙◌, append_assoc, arith, length-append}
+use Rattle.std.proofs.Common.{◌≡◌, ℕ, ℤ, zero, suc, ◌+◌, ◌-◌, ◌<◌, ◌≤◌, max, ◌==◌, Bool, true, false, inl, inr, List, [], ◌∷◌, ◌++◌, length, Option, Some, None, Ok, refl, sym, ap, subst, ◌∙◌, append_assoc, arith, length-append}
 use Rattle.std.proofs.lemmas.Bool.{lt-ltb, le-leb, eq-eqb, eqb-true}
 use Rattle.ix_text.specs.declared.span.Span.{Span}
 use Rattle.ix_num.specs.declared.arith.Arith.{Arith}
@@ -19,7 +19,7 @@ use Rattle.ix_parser.specs.declared.found.FoundItems.{FoundItems}
 use Rattle.ix_parser.specs.declared.found.Several.{Several}
 use Rattle.ix_parser.specs.declared.found.Form.{Form}
 use Rattle.ix_parser.specs.declared.found.Form.TheVariants as form
-use Rattle.ix_parser.specs.Rule.{Rule, pure, take, bind, stop, loop, On, Done, look, run, Outcome, Parser, and_then}
+use Rattle.ix_parser.specs.Rule.{Rule, pure, take, bind, stop, loop, On, Done, look, run, Outcome, and_then}
 use Rattle.ix_parser.specs.Patterns.{sign, name_token, number_token, least_token, a_sign, a_least, row, binary_signs, unary_signs, step_signs, assign_signs, one_of, an_operator}
 use Rattle.ix_parser.specs.ExprNodes.{leaf, named, within, selected, element, called, called_on, created, created_type, new_array, new_items, unary, least_int, stepped_before, stepped_after, joined, assigned, no_exprs, with_expr, all_args, value_init, items_init, no_inits, with_init, closed_by}
 use Rattle.ix_parser.specs.ExprRules.{extra, makes_array, Below, inner, inner_init, more_exprs, args, more_inits, items, name_or_call, enclosed, word, creation, object_or_array, noted_array, noted, array, array_rest, first_part, field_or_call, index, index_unless, further, primary_of, only_variable, variable_of, step_behind, value_of, prefixed, unary_of, operand, level_of, assignment, maybe_assigned, whole_of, init_of, below, expr, level, primary, variable, init}
@@ -34,28 +34,18 @@ use Rattle.ix_parser.specs.AnnotRules.{next_annot, annots_from}
 use Rattle.ix_parser.specs.TypeGrammar as types
 use Rattle.ix_parser.specs.TypeGrammar.{based, base_height, counted, IsBase, IsPairs}
 use Rattle.ix_parser.specs.TypeRules.{next_pair, pairs}
+use Rattle.ix_parser.proofs.ExprHeights.{extra_at_most}
 use Rattle.ix_parser.proofs.ListsComplete.{some_reads}
 use Rattle.ix_parser.proofs.AnnotComplete.{NoParen, annot_marked, tall_annot, annot_starts, annot_takes, annot_turn, notes_done}
 use Rattle.ix_parser.proofs.TypeComplete.{pairs_read, pairs_done}
 use Rattle.ix_parser.specs.ExprGrammar as g
 use Rattle.ix_parser.specs.ExprGrammar.{IsMorePairs, Kind, Primary, Whole, Level, IsExpr, IsExprs, IsArgs, IsInit, IsInits, IsItems}
-use Rattle.ix_parser.proofs.Runs.{loop_on, loop_done, chosen}
+use Rattle.ix_parser.proofs.Runs.{loop_on, loop_done, chosen, b_cond}
 use Rattle.ix_parser.proofs.SoundRules.{some_same}
-use Rattle.ix_parser.proofs.CompleteRules.{other_reads, bind_reads}
+use Rattle.ix_parser.proofs.CompleteRules.{other_reads, bind_reads, then_assoc}
 use Rattle.ix_parser.proofs.Heights.{whole_below, level_below, variable_below, init_below, inner_below, inner_init_below}
 use Rattle.ix_parser.proofs.Tables.{other_sign, other_table}
 use Rattle.ix_parser.proofs.Follows.{Free, AfterPrimary, AfterUnary, AfterLevel, AfterWhole, tighter, after_close_paren, after_close_bracket, after_close_brace, after_comma, before_step, before_operator, before_assign, Starts, StartsPrimary, starts, starts_primary, tall, variable_tall, starts_exprs, init_starts, inits_start}
-
-pub extra_one : (a : Aim) (k : Form) → extra a k ≤ 1
-extra_one aim.Value k = omega arith
-extra_one aim.Statement form.Statement = omega arith
-extra_one aim.Statement form.Variable = omega arith
-extra_one aim.Statement form.Array = omega arith
-extra_one aim.Statement form.Value = omega arith
-extra_one aim.Variable form.Variable = omega arith
-extra_one aim.Variable form.Statement = omega arith
-extra_one aim.Variable form.Array = omega arith
-extra_one aim.Variable form.Value = omega arith
 
 abbrev pub Complete : Kind → List Token → Found → Type 0
 Complete Primary ts f = (a : Aim) (left : ℕ) (us : List Token) → f.height + extra a f.form ≤ left → Free OPEN_PAREN us → (makes_array f.form ≡ true → Free OPEN_BRACKET us) → run (primary a left) (ts ++ us) ≡ run (loop (further (below left) a left) f) us
@@ -76,14 +66,10 @@ lower_reads ts f c left us le a = rw (whole_below left (left - 1) (omega (arith,
 
 -- ---- lists of expressions
 
-then_assoc : {A B C : Type 0} (o : Outcome A) (p : A → Parser B) (k : B → Parser C) → and_then o (λ a us. and_then (p a us) k) ≡ and_then (and_then o p) k
-then_assoc (Ok x) p k = refl
-then_assoc (Err x) p k = refl
-
 -- one rule behind two
 pub bind_assoc : {A B C : Type 0} (p : Rule A) (q : A → Rule B) (k : B → Rule C) (ts us : List Token) (b : B) → run (bind p q) ts ≡ Ok (b, us) → run (bind p (λ a. bind (q a) k)) ts ≡ run (k b) us
 unfolding run
-bind_assoc p q k ts us b h = then_assoc (run p ts) (λ a. run (q a)) (λ b. run (k b)) ∙ ap (λ o. and_then o (λ b. run (k b))) h
+bind_assoc p q k ts us b h = sym (then_assoc (run p ts) (λ a. run (q a)) (λ b. run (k b))) ∙ ap (λ o. and_then o (λ b. run (k b))) h
 
 abbrev pub CompleteExprs : List Token → Several → Type 0
 CompleteExprs ts s = (left : ℕ) (us : List Token) → s.height ≤ left → AfterWhole us
@@ -334,13 +320,9 @@ lower_unary ts f c left us lt a = rw (level_below left (left - 1) 0 (omega (arit
 pub lower_variable : (ts : List Token) (f : Found) → f.form ≡ form.Variable → Complete Primary ts f → (left : ℕ) (us : List Token) → f.height < left → AfterPrimary us → run ((below left).lower.variable) (ts ++ us) ≡ Ok (f, us)
 lower_variable ts f v c left us lt a = rw (variable_below left (left - 1) (omega (arith, lt))) (variable_reads ts f v c (left - 1) us (omega (arith, lt)) a)
 
-both : (b : Bool) → cond b true false ≡ b
-both true = refl
-both false = refl
-
 signed_level : (number : ℕ) (o : UnaryOp) (s : Span) (ts : List Token) (f : Found) → row unary_signs number ≡ Some o → ((us : List Token) → Starts (ts ++ us)) → 0 < f.height → Complete (Level 0) ts f → Complete (Level 0) (sign number s ∷ ts) (unary o s f)
 unfolding level_of
-signed_level number o s ts f r st pos c = λ left us le a. elim (chosen (number == MINUS) true false (number == MINUS) (both (number == MINUS))) [
+signed_level number o s ts f r st pos c = λ left us le a. elim (chosen (number == MINUS) true false (number == MINUS) (b_cond (number == MINUS))) [
   | inl w ↦ (let n : number ≡ MINUS = eqb-true number MINUS w.0 in let m : row unary_signs MINUS ≡ Some o = subst (λ x. row unary_signs x ≡ Some o) n r in let k : op.Minus ≡ o = some_same op.Minus o m in
       rw (n, sym k) (let l = st us in minus_reads (below left) left s (ts ++ us) us f (omega (arith, le)) l.least (lower_unary ts f c left us (omega (arith, le)) a)))
   | inr w ↦ signed_reads (below left) left number o s (ts ++ us) us f (omega (arith, le, pos)) (rw w.0 refl) r (lower_unary ts f c left us (omega (arith, le)) a)
@@ -461,32 +443,32 @@ new_reads b a left start f ts us le h = rw (le-leb (extra a form.Statement + 2) 
 grown : (a : Aim) (left : ℕ) (f h : Found) (ts later us : List Token) → Complete Primary ts f → f.height < left → Free OPEN_PAREN (later ++ us) → (makes_array f.form ≡ true → Free OPEN_BRACKET (later ++ us)) → 0 < length later → run (further (below left) a left f) (later ++ us) ≡ Ok (On h, us)
     → run (primary a left) ((ts ++ later) ++ us) ≡ run (loop (further (below left) a left) h) us
 grown a left f h ts later us c lt o k pos t = rw append_assoc
-    (c a left (later ++ us) (omega (arith, lt, extra_one a f.form)) o k ∙ loop_on (further (below left) a left) f h (later ++ us) us t (omega (arith, pos, length-append later us)))
+    (c a left (later ++ us) (omega (arith, lt, extra_at_most a f.form)) o k ∙ loop_on (further (below left) a left) f h (later ++ us) us t (omega (arith, pos, length-append later us)))
 
 called_at : (x : Ident) (a : Aim) (left : ℕ) (r : Args) (ts us : List Token) → CompleteArgs ts r → max 1 r.height + 1 + extra a form.Statement ≤ left → run (first_part (below left) a left) (name_token x ∷ (ts ++ us)) ≡ Ok (called x r, us)
 called_at x a left r ts us c le =
-    let d = c left (extra a form.Statement) us (extra_one a form.Statement) (omega (arith, le)) in
+    let d = c left (extra a form.Statement) us (extra_at_most a form.Statement) (omega (arith, le)) in
     subst (λ y. run (first_part (below left) a left) (name_token x ∷ (y ++ us)) ≡ Ok (called x r, us)) (sym d.2) (call_reads (below left) a left x d.0 (d.1 ++ us) us r (omega (arith, le)) (omega (arith, le)) d.3)
 
 object_at : (start : Span) (x : Ident) (a : Aim) (left : ℕ) (r : Args) (ts us : List Token) → CompleteArgs ts r → max 1 r.height + 1 + extra a form.Statement ≤ left → run (first_part (below left) a left) (sign NEW start ∷ name_token x ∷ (ts ++ us)) ≡ Ok (created start x r, us)
 object_at start x a left r ts us c le =
-    let d = c left (extra a form.Statement) us (extra_one a form.Statement) (omega (arith, le)) in
+    let d = c left (extra a form.Statement) us (extra_at_most a form.Statement) (omega (arith, le)) in
     subst (λ y. run (first_part (below left) a left) (sign NEW start ∷ name_token x ∷ (y ++ us)) ≡ Ok (created start x r, us)) (sym d.2) (object_reads (below left) a left start x d.0 (d.1 ++ us) us r (omega (arith, le)) d.3)
 
 called_turn : (dot : Span) (x : Ident) (a : Aim) (left : ℕ) (f : Found) (r : Args) (ts us : List Token) → CompleteArgs ts r → max f.height (max 1 r.height) + 1 + extra a form.Statement ≤ left
     → run (further (below left) a left f) (sign DOT dot ∷ name_token x ∷ (ts ++ us)) ≡ Ok (On (called_on f x r), us)
 called_turn dot x a left f r ts us c le =
-    let d = c left (extra a form.Statement) us (extra_one a form.Statement) (omega (arith, le)) in
+    let d = c left (extra a form.Statement) us (extra_at_most a form.Statement) (omega (arith, le)) in
     subst (λ y. run (further (below left) a left f) (sign DOT dot ∷ name_token x ∷ (y ++ us)) ≡ Ok (On (called_on f x r), us)) (sym d.2) (call_turn (below left) a left f dot x d.0 (d.1 ++ us) us r (omega (arith, le)) (omega (arith, le)) d.3)
 
 element_turn : (o c : Span) (a : Aim) (left : ℕ) (f h : Found) (ts us : List Token) → CompleteExpr ts h → 0 < h.height → makes_array f.form ≡ false → max f.height h.height + 1 + extra a form.Variable ≤ left
     → run (further (below left) a left f) (sign OPEN_BRACKET o ∷ ((ts ++ sign CLOSE_BRACKET c ∷ []) ++ us)) ≡ Ok (On (element f h c), us)
 element_turn o c a left f h ts us x pos n le = rw append_assoc
-    (index_turn (below left) a left f h o c (ts ++ sign CLOSE_BRACKET c ∷ us) us n (omega (arith, le)) (inner_reads ts h x left (extra a form.Variable) (sign CLOSE_BRACKET c ∷ us) (extra_one a form.Variable) pos (omega (arith, le)) (after_close_bracket c us)))
+    (index_turn (below left) a left f h o c (ts ++ sign CLOSE_BRACKET c ∷ us) us n (omega (arith, le)) (inner_reads ts h x left (extra a form.Variable) (sign CLOSE_BRACKET c ∷ us) (extra_at_most a form.Variable) pos (omega (arith, le)) (after_close_bracket c us)))
 
 paren_at : (o c : Span) (a : Aim) (left : ℕ) (f : Found) (ts us : List Token) → CompleteExpr ts f → 0 < f.height → f.height + 1 + extra a form.Value ≤ left → run (first_part (below left) a left) (sign OPEN_PAREN o ∷ ((ts ++ sign CLOSE_PAREN c ∷ []) ++ us)) ≡ Ok (within o c f, us)
 paren_at o c a left f ts us x pos le = rw append_assoc
-    (paren_reads (below left) a left o c (ts ++ sign CLOSE_PAREN c ∷ us) us f (omega (arith, le, pos)) (inner_reads ts f x left (extra a form.Value) (sign CLOSE_PAREN c ∷ us) (extra_one a form.Value) pos (omega (arith, le)) (after_close_paren c us)))
+    (paren_reads (below left) a left o c (ts ++ sign CLOSE_PAREN c ∷ us) us f (omega (arith, le, pos)) (inner_reads ts f x left (extra a form.Value) (sign CLOSE_PAREN c ∷ us) (extra_at_most a form.Value) pos (omega (arith, le)) (after_close_paren c us)))
 
 length_at : (start o c : Span) (a : Aim) (left : ℕ) (before base_tokens ts later us : List Token) (notes : Notes) (base : At BaseTree) (h : Found) (found : At ℕ) → IsNotes before notes → IsBase base_tokens base → CompleteExpr ts h → 0 < h.height
     → ((us : List Token) → Starts (ts ++ us)) → IsMorePairs c later found → max (1 + max (base_height base.value) notes.height) h.height + 1 + extra a form.Array ≤ left → Free OPEN_BRACKET us
@@ -501,7 +483,7 @@ length_at start o c a left before base_tokens ts later us notes base h found n p
     ∙ sym (append_assoc before base_tokens (sign OPEN_BRACKET o ∷ (ts ++ (sign CLOSE_BRACKET c ∷ (later ++ us))))) in
     rw shape (new_reads (below left) a left start _ _ us (omega (arith, le, extra_less a)) (all o (ts ++ (sign CLOSE_BRACKET c ∷ (later ++ us)))
     ∙ length_rest (below left) a start base notes h c (ts ++ (sign CLOSE_BRACKET c ∷ (later ++ us))) (later ++ us) us found s.bracket
-    (inner_reads ts h x left (extra a form.Array) (sign CLOSE_BRACKET c ∷ (later ++ us)) (extra_one a form.Array) pos (omega (arith, le)) (after_close_bracket c (later ++ us)))
+    (inner_reads ts h x left (extra a form.Array) (sign CLOSE_BRACKET c ∷ (later ++ us)) (extra_at_most a form.Array) pos (omega (arith, le)) (after_close_bracket c (later ++ us)))
     (all_pairs c later found q us free)))
 
 items_at : (start o : Span) (a : Aim) (left : ℕ) (before base_tokens ts later us : List Token) (notes : Notes) (base : At BaseTree) (s : FoundItems) (found : At ℕ) → IsNotes before notes → IsBase base_tokens base → IsPairs ts found → CompleteItems later s
@@ -518,7 +500,7 @@ items_at start o a left before base_tokens ts later us notes base s found n p q 
     (pairs_read (λ w. run (creation (below left) a left start) ((before ++ base_tokens) ++ w)) (entries_behind (below left) a start base notes) (λ l r w. all l (sign CLOSE_BRACKET r ∷ w) ∙ pair_rest (below left) a start base notes r w) ts found q (sign OPEN_BRACE o ∷ (later ++ us))
     ∙ ap (entries_behind (below left) a start base notes) (pairs_done found (sign OPEN_BRACE o ∷ (later ++ us)) refl)
     ∙ entries_read (below left) a start base notes found s o (later ++ us) us
-    (rw (inner_init_below left (left - (extra a form.Array + 1)) (extra a form.Array) (extra_one a form.Array) (omega (arith, le))) (x o (left - (extra a form.Array + 1)) us (omega (arith, le))))))
+    (rw (inner_init_below left (left - (extra a form.Array + 1)) (extra a form.Array) (extra_at_most a form.Array) (omega (arith, le))) (x o (left - (extra a form.Array + 1)) us (omega (arith, le))))))
 
 step_minus : (number : ℕ) (up : Bool) (s : Span) (us : List Token) → row step_signs number ≡ Some up → Free MINUS (sign number s ∷ us)
 step_minus number up s us r = other_sign step_signs number MINUS up s us refl r

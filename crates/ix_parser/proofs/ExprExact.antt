@@ -150,8 +150,11 @@ pub record Prim (a : Aim) (left : ℕ) (ts : List Token) (f : Found) : Type 0 wh
 
 -- behind a primary: `.x()` and `.x`
 call_behind : (left : ℕ) (front : List Token) (f : Found) → IsExpr Primary front f → f.height + 1 ≤ left → Goes (Wanted aim.Statement left) front
-call_behind left front f d le = (sign DOT here ∷ name_token some_name ∷ sign OPEN_PAREN here ∷ sign CLOSE_PAREN here ∷ [], called_on f some_name (all_args no_exprs here),
-    (statement_of_level _ _ (g.primary (g.call_on here some_name d (g.no_args here here))) refl, omega (arith, le, tall d)))
+call_behind left front f d le = (
+  sign DOT here ∷ name_token some_name ∷ sign OPEN_PAREN here ∷ sign CLOSE_PAREN here ∷ [],
+  called_on f some_name (all_args no_exprs here),
+  (statement_of_level _ _ (g.primary (g.call_on here some_name d (g.no_args here here))) refl, omega (arith, le, tall d)),
+)
 
 field_behind : (left : ℕ) (front : List Token) (f : Found) → IsExpr Primary front f → f.height + 1 ≤ left → Goes (Wanted aim.Variable left) front
 field_behind left front f d le = (sign DOT here ∷ name_token some_name ∷ [], selected f some_name, ((g.select here some_name d, refl), omega (arith, le, tall d)))
@@ -187,9 +190,15 @@ prim_field aim.Variable left front f dot x d lt = prim_of aim.Variable left _ _ 
 prim_field aim.Statement left front f dot x d lt = record {
   is = g.select dot x d;
   low = λ e. absurd (omega (arith, e));
-  goes = (sign OPEN_PAREN here ∷ sign CLOSE_PAREN here ∷ [], called_on f x (all_args no_exprs here),
-      (subst (λ y. IsStatementExpr y (called_on f x (all_args no_exprs here))) (sym (append_assoc front (sign DOT dot ∷ name_token x ∷ []) (sign OPEN_PAREN here ∷ sign CLOSE_PAREN here ∷ [])))
-      (statement_of_level _ _ (g.primary (g.call_on dot x d (g.no_args here here))) refl), omega (arith, lt, tall d)));
+  goes = (
+    sign OPEN_PAREN here ∷ sign CLOSE_PAREN here ∷ [],
+    called_on f x (all_args no_exprs here),
+    (
+      subst (λ y. IsStatementExpr y (called_on f x (all_args no_exprs here))) (sym (append_assoc front (sign DOT dot ∷ name_token x ∷ []) (sign OPEN_PAREN here ∷ sign CLOSE_PAREN here ∷ [])))
+          (statement_of_level _ _ (g.primary (g.call_on dot x d (g.no_args here here))) refl),
+      omega (arith, lt, tall d),
+    ),
+  );
 }
 
 -- ---- creations

@@ -19,7 +19,7 @@ use Rattle.ix_parser.specs.Rule.{Rule, stop}
 use Rattle.ix_parser.specs.AnnotGrammar.{no_notes, with_note}
 use Rattle.ix_parser.specs.TypeGrammar.{based}
 use Rattle.ix_parser.specs.ExprNodes.{no_exprs, with_expr, no_inits, with_init}
-use Rattle.ix_parser.specs.ExprRules.{extra, makes_array, Below, inner, inner_init, more_exprs, args, more_inits, items, name_or_call, enclosed, word, creation, object_or_array, noted_array, noted, array, array_rest, first_part, field_or_call, index, index_unless, further, primary_of, only_variable, variable_of, step_behind, value_of, prefixed, unary_of, operand, level_of, assignment, maybe_assigned, whole_of, to_statement, statement_of, init_of, parts_of, below, expr, level, variable, init, statement_expr}
+use Rattle.ix_parser.specs.ExprRules.{extra, makes_array, Below, inner, inner_init, more_exprs, args, more_inits, items, name_or_call, enclosed, word, creation, object_or_array, noted_array, noted, array, array_rest, first_part, field_or_call, index, index_unless, further, primary_of, only_variable, variable_of, step_behind, value_of, prefixed, unary_of, operand, level_of, assignment, maybe_assigned, whole_of, to_statement, statement_of, init_of, parts_of, below, expr, init, statement_expr}
 use Rattle.ix_parser.proofs.OverRules.{Over, over_pure, over_stop, over_take, over_bind, over_loop}
 use Rattle.ix_parser.proofs.AnnotOver.{over_token, over_last, over_then, over_map, over_turns, annot_behind_over, annots_from_over, pairs_over}
 use Rattle.ix_parser.proofs.ExprHeights.{Within, LowBelow, extra_at_most, first_within, further_within, primary_within, level_within, operand_within, stop_parts, low_below}

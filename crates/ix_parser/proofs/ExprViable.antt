@@ -1,5 +1,5 @@
 -- Where the rules of expressions stop, what they took goes on to an expression that is low enough. Where nothing is low enough, they take nothing.
-use Rattle.std.proofs.Common.{◌≡◌, ℕ, zero, suc, ◌+◌, ◌-◌, ◌<◌, ◌≤◌, nat_le, nat_lt, arith, Bool, true, false, List, [], ◌∷◌, ◌++◌, refl, ap, ◌⊎◌, inl, inr}
+use Rattle.std.proofs.Common.{◌≡◌, ℕ, zero, suc, ◌+◌, ◌<◌, ◌≤◌, nat_le, nat_lt, arith, Bool, true, false, List, [], ◌∷◌, ◌++◌, refl, ap, ◌⊎◌, inl, inr}
 use Rattle.std.proofs.lemmas.Bool.{leb-true, ltb-true, ltb-false, false_from_ne_true}
 use Rattle.ix_text.specs.declared.span.Span.{Span}
 use Rattle.ix_lexer.specs.declared.token.Token.{Token}
@@ -13,7 +13,7 @@ use Rattle.ix_parser.specs.declared.found.Form.{Form}
 use Rattle.ix_parser.specs.declared.found.Form.TheVariants as form
 use Rattle.ix_parser.specs.declared.found.Found.{Found}
 use Rattle.ix_parser.specs.declared.found.FoundInit.{FoundInit}
-use Rattle.ix_parser.specs.Rule.{Rule, pure, take, stop, loop, On}
+use Rattle.ix_parser.specs.Rule.{Rule, pure, stop, loop, On}
 use Rattle.ix_parser.specs.Patterns.{sign, name_token, least_token, unary_signs, step_signs, assign_signs}
 use Rattle.ix_parser.specs.ExprNodes.{leaf, within, element, called, called_on, least_int, items_init, no_inits}
 use Rattle.ix_parser.specs.ExprRules.{extra, makes_array, Parts, Below, args, name_or_call, enclosed, word, first_part, field_or_call, index, index_unless, further, primary_of, only_variable, variable_of, step_behind, value_of, prefixed, unary_of, operand, level_of, assignment, maybe_assigned, whole_of, to_statement, statement_of, init_of, parts_of, no_parts, nothing_below, below, expr, level, variable, init, statement_expr}

@@ -14,6 +14,10 @@ gives_more r w g = record { at = λ ts us a h. w a (g.at ts us a h) }
 pub sound_gives : {A : Type 0} {R : List Token → A → Type 0} {P : A → Type 0} (r : Rule A) → Sound R r → ((ts : List Token) (a : A) → R ts a → P a) → Gives P r
 sound_gives r s w = record { at = λ ts us a h. let (seen, is, d) = s.at ts us a h in w seen a d }
 
+-- sound, with what holds of all that it gives
+pub both : {A : Type 0} {R : List Token → A → Type 0} {P : A → Type 0} (r : Rule A) → Sound R r → Gives P r → Sound (λ ts a. R ts a × P a) r
+both r s g = record { at = λ ts us a h. let (seen, is, d) = s.at ts us a h in (seen, is, (d, g.at ts us a h)) }
+
 pub pure_gives : {A : Type 0} {P : A → Type 0} (a : A) → P a → Gives P (pure a)
 unfolding run
 pure_gives {A = A} {P = P} a h = record { at = λ ts us b e. subst P (ap (λ (p : A × List Token). p.0) (same_ok (a, ts) (b, us) e)) h }

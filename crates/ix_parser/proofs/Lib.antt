@@ -28,7 +28,7 @@ mod LocalComplete
 mod StmtComplete
 mod SourceSound
 mod SourceComplete
-pub mod SourceLaws
+mod SourceLaws
 mod LowerParts
 mod Refusing
 mod Places
@@ -62,7 +62,6 @@ mod ClassViable
 mod SourceViable
 mod StmtViable
 mod StmtsViable
-mod SourceStops
 mod OverRules
 mod AnnotOver
 mod DeclOver
@@ -71,3 +70,4 @@ mod SourceOver
 mod ExactPlaces
 mod ExprOver
 mod StmtOver
+mod Answered

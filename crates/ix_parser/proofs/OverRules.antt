@@ -1,11 +1,11 @@
 -- Rules with more height left: what a rule reads, or refuses for a token that may not come, the one with more height reads or refuses
 -- alike; and where a rule stops for the height, the other one takes that token.
-use Rattle.std.proofs.Common.{◌≡◌, ℕ, zero, suc, ◌<◌, ◌≤◌, nat_lt, Bool, true, false, cond, List, [], ◌∷◌, ◌++◌, length, Option, Some, None, Result, Ok, Err, refl, sym, ap, subst, ◌∙◌, arith, length-append}
+use Rattle.std.proofs.Common.{◌≡◌, ℕ, zero, suc, ◌<◌, ◌≤◌, nat_lt, Bool, true, false, cond, List, [], ◌∷◌, length, Option, Some, None, Ok, Err, refl, ap, arith, length-append}
 use Rattle.ix_lexer.specs.declared.token.Token.{Token}
 use Rattle.ix_parser.specs.declared.error.Stop.{Stop}
 use Rattle.ix_parser.specs.declared.error.Stop.TheVariants.{Syntax, TooDeep, Memory}
-use Rattle.ix_parser.specs.Rule.{Rule, pure, take, bind, stop, loop, Turn, On, Done, Outcome, Parser, and_then, look, rest, taken, turned, turns, run}
-use Rattle.ix_parser.proofs.Runs.{local, Local, left_of}
+use Rattle.ix_parser.specs.Rule.{Rule, pure, take, bind, stop, loop, Turn, On, Done, Outcome, Parser, and_then, taken, turned, turns, run}
+use Rattle.ix_parser.proofs.Runs.{local, left_of}
 use Rattle.ix_parser.proofs.GiveRules.{Gives, Turned}
 
 abbrev pub Refused : {A : Type 0} → Stop → List Token → Outcome A → Type 0

@@ -96,7 +96,7 @@ enough body zero m s ts a b = absurd (omega (arith, a))
 enough body (suc n) zero s ts a b = absurd (omega (arith, b))
 enough body (suc n) (suc m) s ts a b = turned_enough n m (length ts) (turns body n) (turns body m) (omega (arith, a)) (omega (arith, b)) (λ t us l k. enough body n m t us l k) (body s ts)
 
-b_cond : (b : Bool) → cond b true false ≡ b
+pub b_cond : (b : Bool) → cond b true false ≡ b
 b_cond true = refl
 b_cond false = refl
 

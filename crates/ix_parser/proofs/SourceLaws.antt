@@ -1,5 +1,5 @@
 -- The rules of a source read exactly the sources of the grammar, and stop where none can go on.
-use Rattle.std.proofs.Common.{◌≡◌, ℕ, ◌≤◌, List, [], ◌∷◌, ◌++◌, length, Option, Some, None, Result, Ok, Err, refl, sym, ap, subst, ◌∙◌, append_assoc}
+use Rattle.std.proofs.Common.{◌≡◌, ℕ, ◌≤◌, List, [], ◌∷◌, ◌++◌, Ok, Err, refl, sym, ap, subst, ◌∙◌}
 use Rattle.std.proofs.lemmas.List.{append-nil, append_cancel_right}
 use Rattle.ix_lexer.specs.declared.token.Token.{Token}
 use Rattle.ix_parser.specs.declared.classes.FoundUnit.{FoundUnit}
@@ -9,7 +9,7 @@ use Rattle.ix_parser.specs.SourceGrammar.{IsSource}
 use Rattle.ix_parser.specs.ClassRules.{program}
 use Rattle.ix_parser.specs.SourceRules.{parts, source}
 use Rattle.ix_parser.specs.Begins.{IsLowSource, NoneBegins}
-use Rattle.ix_parser.proofs.Runs.{local, Local, first, left_of, Elsewhere, same_ok}
+use Rattle.ix_parser.proofs.Runs.{local, first, left_of, Elsewhere, same_ok}
 use Rattle.ix_parser.proofs.SoundRules.{Sound}
 use Rattle.ix_parser.proofs.SourceSound.{high_sound, source_sound}
 use Rattle.ix_parser.proofs.SourceComplete.{StatementsComplete, high_reads, source_reads}

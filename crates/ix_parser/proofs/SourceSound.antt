@@ -1,8 +1,6 @@
 -- A source that is read is in the grammar, and 200 nodes high at most, if that holds of the statements in it.
-use Rattle.std.proofs.Common.{ℕ, ◌≤◌, List, arith}
-use Rattle.ix_lexer.specs.declared.token.Token.{Token}
+use Rattle.std.proofs.Common.{ℕ, ◌≤◌, arith}
 use Rattle.ix_parser.specs.declared.found.Several.{Several}
-use Rattle.ix_parser.specs.Rule.{Rule}
 use Rattle.ix_parser.specs.ExprGrammar.{IsArgs, IsInit}
 use Rattle.ix_parser.specs.ExprNodes.{no_exprs, with_expr}
 use Rattle.ix_parser.specs.ExprRules.{more_exprs, args, expr, init}
@@ -11,15 +9,11 @@ use Rattle.ix_parser.specs.ClassRules.{program}
 use Rattle.ix_parser.specs.SourceGrammar.{IsSource, source_parts}
 use Rattle.ix_parser.specs.SourceRules.{super_args, parts, source}
 use Rattle.ix_parser.proofs.SoundRules.{Sound, weaken, stop_sound, sign_sound}
-use Rattle.ix_parser.proofs.GiveRules.{Gives, take_gives, bind_gives, pure_gives, stop_gives, loop_gives, Turned}
+use Rattle.ix_parser.proofs.GiveRules.{Gives, take_gives, bind_gives, pure_gives, stop_gives, loop_gives, Turned, both}
 use Rattle.ix_parser.proofs.ExprSound.{args_sound, expr_sound, init_is_sound}
 use Rattle.ix_parser.proofs.ExprHeights.{expr_within, init_is_within}
 use Rattle.ix_parser.proofs.StmtsSound.{block_statement_sound}
 use Rattle.ix_parser.proofs.ClassSound.{program_sound}
-
--- what a rule takes and gives, and how high it is
-pub both : {A : Type 0} {R : List Token → A → Type 0} {P : A → Type 0} (r : Rule A) → Sound R r → Gives P r → Sound (λ ts a. R ts a × P a) r
-both r s g = record { at = λ ts us a h. let (seen, is, d) = s.at ts us a h in (seen, is, (d, g.at ts us a h)) }
 
 more_low : (left : ℕ) (s : Several) → s.height ≤ left → Gives (Turned (λ s. s.height ≤ left) (λ s. s.height ≤ left)) (more_exprs (expr left) s)
 unfolding more_exprs

@@ -18,9 +18,10 @@ use Rattle.ix_parser.specs.StmtRules.{block_statement}
 use Rattle.ix_parser.specs.ClassRules.{program}
 use Rattle.ix_parser.specs.SourceGrammar.{IsSource, source_parts}
 use Rattle.ix_parser.specs.SourceRules.{super_args, parts, source}
+use Rattle.ix_parser.proofs.GiveRules.{both}
 use Rattle.ix_parser.proofs.StmtsSound.{block_statement_sound}
 use Rattle.ix_parser.proofs.StmtHeights.{block_statement_within}
-use Rattle.ix_parser.proofs.SourceSound.{both, super_args_sound, init_fits}
+use Rattle.ix_parser.proofs.SourceSound.{super_args_sound, init_fits}
 use Rattle.ix_parser.proofs.ViableRules.{Goes, Viable, stop_viable, sign_viable}
 use Rattle.ix_parser.proofs.ListsViable.{here}
 use Rattle.ix_parser.proofs.ClassViable.{program_viable}

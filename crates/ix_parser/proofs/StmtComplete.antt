@@ -1,5 +1,5 @@
 -- Statements that are in the grammar are read.
-use Rattle.std.proofs.Common.{◌≡◌, ℕ, suc, ◌+◌, ◌-◌, ◌<◌, ◌≤◌, ◌==◌, max, Bool, true, false, List, [], ◌∷◌, ◌++◌, length, Option, Some, None, Ok, Err, refl, sym, ap, subst, ◌∙◌, append_assoc, arith, length-append, ◌⊎◌, inl, inr}
+use Rattle.std.proofs.Common.{◌≡◌, ℕ, suc, ◌+◌, ◌-◌, ◌<◌, ◌≤◌, ◌==◌, max, Bool, true, false, List, [], ◌∷◌, ◌++◌, length, Option, Some, None, Ok, refl, sym, ap, subst, ◌∙◌, append_assoc, arith, length-append, ◌⊎◌, inl, inr}
 use Rattle.std.proofs.lemmas.Bool.{le-leb}
 use Rattle.ix_text.specs.declared.span.Span.{Span}
 use Rattle.ix_lexer.specs.declared.token.Token.{Token}
@@ -19,7 +19,7 @@ use Rattle.ix_parser.specs.declared.found.FoundType.{FoundType}
 use Rattle.ix_parser.specs.declared.found.Several.{Several}
 use Rattle.ix_parser.specs.declared.statement_trees.Begun.{Begun}
 use Rattle.ix_parser.specs.declared.statement_trees.Begun.TheVariants.{Local, Run, Print}
-use Rattle.ix_parser.specs.Rule.{Rule, take, bind, stop, loop, On, Done, look, rest, run, Outcome, Parser, and_then}
+use Rattle.ix_parser.specs.Rule.{Rule, take, bind, stop, loop, On, Done, look, rest, run, Outcome, and_then}
 use Rattle.ix_parser.specs.Patterns.{sign, name_token, string_token, a_sign, fixed_of, one_of, one_of_kind, row, unary_signs, step_signs}
 use Rattle.ix_parser.specs.Lists as lists
 use Rattle.ix_parser.specs.Lists.{IsSeparated, more_of, next_inside, braces_of, placed}
@@ -35,7 +35,7 @@ use Rattle.ix_parser.specs.StmtGrammar as g
 use Rattle.ix_parser.specs.StmtGrammar.{IsStmt, IsBlockStmt, IsStmts, IsForFirst, IsMaybe, IsUpdate, IsReason, IsLocal, begins_print, stmt_node, block_stmt, if_stmt, if_else_stmt, while_stmt, do_stmt, for_stmt, return_stmt, throw_stmt, print_stmt, run_stmt, one_run, with_run, one_expr, local_stmt}
 use Rattle.ix_parser.specs.StmtRules.{begun, finished, condition, else_part, if_rule, while_rule, do_rule, for_body, for_update, for_condition, for_part, for_rule, return_rule, throw_end, throw_rule, block_rule, stmt_of, stmts_below, stmt, block_statement}
 use Rattle.ix_parser.proofs.Runs.{chosen, loop_on, loop_done, same_ok}
-use Rattle.ix_parser.proofs.CompleteRules.{bind_reads}
+use Rattle.ix_parser.proofs.CompleteRules.{bind_reads, then_assoc}
 use Rattle.ix_parser.proofs.Tables.{other_sign}
 use Rattle.ix_parser.proofs.ListsComplete.{separated_reads, more_done}
 use Rattle.ix_parser.proofs.TypeComplete.{type_starts}
@@ -368,14 +368,10 @@ update_none left start first cond r ts = refl
 updates : ℕ → Rule Several
 updates left = bind (statement_expr (left - 1)) (λ f. more_of (statement_expr (left - 1)) with_expr (one_expr f))
 
-then_three : {A B C : Type 0} (o : Outcome A) (p : A → Parser B) (q : B → Parser C) → and_then (and_then o p) q ≡ and_then o (λ a us. and_then (p a us) q)
-then_three (Ok x) p q = refl
-then_three (Err x) p q = refl
-
 update_some : (left : ℕ) (start : Span) (first : Stmts) (cond : Option Found) (u : Several) (r : Span) (ts us : List Token) → Free CLOSE_PAREN ts → run (updates left) ts ≡ Ok (u, sign CLOSE_PAREN r ∷ us) → run (for_update (stmts_below left) left start first cond) ts ≡ run (for_body (stmts_below left) start first cond u) us
 unfolding for_update updates run
 update_some left start first cond u r ts us n h = rw n
-    (sym (then_three (run (statement_expr (left - 1)) ts) (λ f. run (more_of (statement_expr (left - 1)) with_expr (one_expr f))) (λ update. run (take (a_sign CLOSE_PAREN) true (λ right. for_body (stmts_below left) start first cond update) stop)))
+    (sym (then_assoc (run (statement_expr (left - 1)) ts) (λ f. run (more_of (statement_expr (left - 1)) with_expr (one_expr f))) (λ update. run (take (a_sign CLOSE_PAREN) true (λ right. for_body (stmts_below left) start first cond update) stop)))
     ∙ ap (λ o. and_then o (λ update. run (take (a_sign CLOSE_PAREN) true (λ right. for_body (stmts_below left) start first cond update) stop))) h)
 
 updates_begin : (left : ℕ) (ts : List Token) (f : Found) → IsStatementExpr ts f → f.height < left → (us : List Token) → AfterWhole us → run (updates left) (ts ++ us) ≡ run (more_of (statement_expr (left - 1)) with_expr (one_expr f)) us
@@ -421,7 +417,7 @@ firsts left = bind (begun false true (left - 1)) (for_part left)
 first_some : (left : ℕ) (start o end : Span) (first : Stmts) (ts us : List Token) → Free SEMICOLON ts → run (firsts left) ts ≡ Ok (first, sign SEMICOLON end ∷ us) → run (for_rule (stmts_below left) left start) (sign OPEN_PAREN o ∷ ts) ≡ run (for_condition (stmts_below left) left start first) us
 unfolding for_rule firsts run
 first_some left start o end first ts us n h = rw n
-    (sym (then_three (run (begun false true (left - 1)) ts) (λ r. run (for_part left r)) (λ stmts. run (take (a_sign SEMICOLON) true (λ end. for_condition (stmts_below left) left start stmts) stop)))
+    (sym (then_assoc (run (begun false true (left - 1)) ts) (λ r. run (for_part left r)) (λ stmts. run (take (a_sign SEMICOLON) true (λ end. for_condition (stmts_below left) left start stmts) stop)))
     ∙ ap (λ o. and_then o (λ stmts. run (take (a_sign SEMICOLON) true (λ end. for_condition (stmts_below left) left start stmts) stop))) h)
 
 firsts_from : (left : ℕ) (ts us : List Token) (r : Begun) → run (begun false true (left - 1)) ts ≡ Ok (r, us) → run (firsts left) ts ≡ run (for_part left r) us

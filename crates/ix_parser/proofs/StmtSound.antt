@@ -45,11 +45,7 @@ use Rattle.ix_parser.proofs.TypeSound.{pairs_sound, noted_array_sound, rest_fits
 use Rattle.ix_parser.proofs.DeclSound.{Modified, next_mod_sound, decls_sound}
 use Rattle.ix_parser.proofs.ExprSound.{inner_sound, sound_below, further_sound, field_or_call_sound, name_or_call_sound, to_statement_sound, expr_sound, init_is_sound, statement_expr_sound}
 use Rattle.ix_parser.proofs.ExprHeights.{init_is_within}
-use Rattle.ix_parser.proofs.GiveRules.{Gives}
-
--- a rule that reads what is in the grammar, and what holds of all that it gives
-pub both : {A : Type 0} {R : List Token → A → Type 0} {P : A → Type 0} (r : Rule A) → Sound R r → Gives P r → Sound (λ ts a. R ts a × P a) r
-both r s g = record { at = λ ts us a h. let (seen, is, d) = s.at ts us a h in (seen, is, (d, g.at ts us a h)) }
+use Rattle.ix_parser.proofs.GiveRules.{both}
 
 pub init_both : (left : ℕ) → Sound (λ ts i. IsInit ts i × (i.height ≤ left)) (init left)
 init_both left = weaken _ (λ ts i d. (d.0, d.1.1)) (both (init left) (init_is_sound left) (init_is_within left))

@@ -155,8 +155,11 @@ module _ (prints locals : Bool) (left : ℕ) where
 
   -- Behind a bracket: a type, which is lower than an assignment to an element.
   array_goes : locals ≡ true → (x : Ident) (o : Span) → 4 ≤ left → Goes (λ ts r. Begins (name_token x ∷ sign OPEN_BRACKET o ∷ ts) r) []
-  array_goes may x o four = (sign CLOSE_BRACKET here ∷ name_token some_name ∷ [], Local no_mods (array_of (based (Named x) x.span) no_notes (counted 1 here)) (one_decl (plain_decl (shared no_mods (array_of (based (Named x) x.span) no_notes (counted 1 here))) some_name)),
-      (may, g.local decl.none (types.type (types.named x) (types.array no_item (types.pair o here))) (first_item (decl.plain some_name)), omega (arith, four)))
+  array_goes may x o four = (
+    sign CLOSE_BRACKET here ∷ name_token some_name ∷ [],
+    Local no_mods (array_of (based (Named x) x.span) no_notes (counted 1 here)) (one_decl (plain_decl (shared no_mods (array_of (based (Named x) x.span) no_notes (counted 1 here))) some_name)),
+    (may, g.local decl.none (types.type (types.named x) (types.array no_item (types.pair o here))) (first_item (decl.plain some_name)), omega (arith, four)),
+  )
 
   named_first_exact : (c : Bool) (x : Ident) → locals ≡ c → Goes (λ ts r. Begins (name_token x ∷ ts) r) [] → Exact (λ ts r. Begins (name_token x ∷ ts) r) (named_first c left x)
   unfolding named_first
@@ -185,8 +188,11 @@ module _ (locals : Bool) (left : ℕ) (two : 2 ≤ left) where
 
   -- a call behind an expression, a dot and a name
   field_call : (f : Found) (front : List Token) (dot : Span) (y : Ident) → IsExpr Primary front f → f.height + 2 ≤ left → Goes (λ ts r. MaybePrint (front ++ (sign DOT dot ∷ name_token y ∷ ts)) r) []
-  field_call f front dot y d le = (sign OPEN_PAREN here ∷ sign CLOSE_PAREN here ∷ [], Run (called_on f y (all_args no_exprs here)),
-      (statement_of_level _ _ (e.primary (e.call_on dot y d (e.no_args here here))) refl, omega (arith, le, tall d)))
+  field_call f front dot y d le = (
+    sign OPEN_PAREN here ∷ sign CLOSE_PAREN here ∷ [],
+    Run (called_on f y (all_args no_exprs here)),
+    (statement_of_level _ _ (e.primary (e.call_on dot y d (e.no_args here here))) refl, omega (arith, le, tall d)),
+  )
 
   println_exact : (system dot out second println : Span)
       → Exact (λ ts r. MaybePrint (word_token SYSTEM system ∷ sign DOT dot ∷ word_token OUT out ∷ sign DOT second ∷ word_token PRINTLN println ∷ ts) r) (println_part left (the_word SYSTEM system) (the_word OUT out) (the_word PRINTLN println))
@@ -223,10 +229,16 @@ Roomy prints left = (3 ≤ left) ⊎ ((prints ≡ true) × (2 ≤ left))
 
 module _ (prints locals : Bool) (left : ℕ) where
   begins_goes : Roomy prints left → Goes (Beg prints locals left) []
-  begins_goes (inl three) = (name_token some_name ∷ sign OPEN_PAREN here ∷ sign CLOSE_PAREN here ∷ [], Run (called some_name (all_args no_exprs here)),
-      (statement_of_level _ _ (e.primary (e.call some_name (e.no_args here here))) refl, omega (arith, three)))
-  begins_goes (inr (may, two)) = (word_token SYSTEM here ∷ sign DOT here ∷ word_token OUT here ∷ sign DOT here ∷ word_token PRINTLN here ∷ sign OPEN_PAREN here ∷ [], Print here,
-      (may, record { dot = here; out = here; second = here; println = here; left = here; is = refl }, two))
+  begins_goes (inl three) = (
+    name_token some_name ∷ sign OPEN_PAREN here ∷ sign CLOSE_PAREN here ∷ [],
+    Run (called some_name (all_args no_exprs here)),
+    (statement_of_level _ _ (e.primary (e.call some_name (e.no_args here here))) refl, omega (arith, three)),
+  )
+  begins_goes (inr (may, two)) = (
+    word_token SYSTEM here ∷ sign DOT here ∷ word_token OUT here ∷ sign DOT here ∷ word_token PRINTLN here ∷ sign OPEN_PAREN here ∷ [],
+    Print here,
+    (may, record { dot = here; out = here; second = here; println = here; left = here; is = refl }, two),
+  )
 
   call_goes : (x : Ident) → 3 ≤ left → Goes (λ ts r. Beg prints locals left (name_token x ∷ ts) r) []
   call_goes x three = (sign OPEN_PAREN here ∷ sign CLOSE_PAREN here ∷ [], Run (called x (all_args no_exprs here)), (statement_of_level _ _ (e.primary (e.call x (e.no_args here here))) refl, omega (arith, three)))

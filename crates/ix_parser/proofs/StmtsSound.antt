@@ -26,8 +26,8 @@ use Rattle.ix_parser.proofs.ListsSound.{more_sound}
 use Rattle.ix_parser.proofs.ExprSound.{expr_sound, statement_expr_sound}
 use Rattle.ix_tree.specs.declared.stmt.StmtKind.TheVariants as k
 use Rattle.ix_parser.specs.Nodes.{across}
-use Rattle.ix_parser.proofs.GiveRules.{Gives, any_gives, pure_gives, stop_gives, take_gives, bind_gives}
-use Rattle.ix_parser.proofs.StmtSound.{both, Flagged, flag_false, flag_sign, flag_bind, flag_map, flag_if, flag_stop, flag_weaken, IsBegun, IsBegunStmt, IsPrint, begun_sound, begun_stmt_sound}
+use Rattle.ix_parser.proofs.GiveRules.{Gives, any_gives, pure_gives, stop_gives, take_gives, bind_gives, both}
+use Rattle.ix_parser.proofs.StmtSound.{Flagged, flag_false, flag_sign, flag_bind, flag_map, flag_if, flag_stop, flag_weaken, IsBegun, IsBegunStmt, IsPrint, begun_sound, begun_stmt_sound}
 
 abbrev pub Plain : List Token → FoundStmt → Bool → Type 0
 Plain seen a ends = IsStmt ends seen a

@@ -29,9 +29,10 @@ use Rattle.ix_parser.specs.ExprGrammar.{Whole, IsExpr, IsStatementExpr}
 use Rattle.ix_parser.specs.StmtGrammar as g
 use Rattle.ix_parser.specs.StmtGrammar.{IsStmt, IsBlockStmt, IsStmts, IsLocal, IsForFirst, IsMaybe, IsUpdate, IsReason, begins_print, maybe_height, if_stmt, if_else_stmt, while_stmt, do_stmt, for_stmt, one_run, with_run, one_expr}
 use Rattle.ix_parser.specs.StmtRules.{StmtParts, condition, else_part, if_rule, while_rule, do_rule, for_body, for_update, for_condition, for_part, for_rule, return_rule, throw_end, throw_rule, block_rule, finished, stmt_of, stmts_below, stmt, block_statement, begun}
+use Rattle.ix_parser.proofs.GiveRules.{both}
 use Rattle.ix_parser.proofs.SoundRules.{Sound, After, text_sound}
 use Rattle.ix_parser.proofs.ListsSound.{fits_sound, more_fits}
-use Rattle.ix_parser.proofs.StmtSound.{both, Flagged, IsPrint, six, print_reads, Printed, printed, not_print, front_print, cons_same}
+use Rattle.ix_parser.proofs.StmtSound.{Flagged, IsPrint, six, print_reads, Printed, printed, not_print, front_print, cons_same}
 use Rattle.ix_parser.proofs.StmtsSound.{SoundStmts, sound_stmts_below, IsCondition, behind, if_sound, print_end}
 use Rattle.ix_parser.proofs.StmtHeights.{LowStmts, low_stmts, if_low}
 use Rattle.ix_parser.proofs.ViableRules.{Goes, Viable, Nothing, nothing_bind, pure_viable, bind_viable, map_viable, weaken_viable, sign_viable, text_viable, bind_err, further_goes}
@@ -107,8 +108,10 @@ module _ (locals : Bool) (left : ℕ) (two : 2 ≤ left) where
   begun_stmt_exact : Exact (BegStmt locals left) (begun true locals left)
   begun_stmt_exact = let x = begun_exact true locals left (inr (refl, two)) in record {
     sound = record { at = λ ts us r h. let s = x.sound in let (seen, is, d) = s.at ts us r h in (seen, is, reads_print ts seen us r is h d) };
-    viable = record { at = λ ts us why h. let v = x.viable in let (seen, is, (others, r, d)) = v.at ts us why h in
-        (seen, is, goes_print seen others r d (front_print seen us (subst (λ y. begins_print y ≡ false) is (stops_before ts us why h (begins_print ts) refl)))) };
+    viable = record {
+      at = λ ts us why h. let v = x.viable in let (seen, is, (others, r, d)) = v.at ts us why h in
+          (seen, is, goes_print seen others r d (front_print seen us (subst (λ y. begins_print y ≡ false) is (stops_before ts us why h (begins_print ts) refl))));
+    };
     goes = (let (others, r, d) = x.goes in goes_print [] others r d refl);
   }
 
@@ -190,21 +193,34 @@ module _ (parts : StmtParts) (left : ℕ) (s : SoundStmts parts) (l : LowStmts l
   -- ---- `if`
 
   if_goes : (start : Span) (f : Found) (seen : List Token) → 2 ≤ left → IsCondition seen f → f.height + 1 ≤ left → Goes (λ later b. LowStmt left (sign IF start ∷ (seen ++ later)) b) []
-  if_goes start f seen two c h = (sign SEMICOLON here ∷ [], if_stmt start f empty_stmt,
-      ((true, subst (λ y. IsStmt true (sign IF start ∷ y) (if_stmt start f empty_stmt)) (behind c.left c.right c.inside (sign SEMICOLON here ∷ []) seen c.is) (g.if_then start c.left c.right c.holds (g.empty here))), omega (arith, h, two)))
+  if_goes start f seen two c h = (
+    sign SEMICOLON here ∷ [],
+    if_stmt start f empty_stmt,
+    ((true, subst (λ y. IsStmt true (sign IF start ∷ y) (if_stmt start f empty_stmt)) (behind c.left c.right c.inside (sign SEMICOLON here ∷ []) seen c.is) (g.if_then start c.left c.right c.holds (g.empty here))), omega (arith, h, two)),
+  )
 
   then_goes : (start : Span) (f : Found) (seen later : List Token) (a : FoundStmt) (ends : Bool) → IsCondition seen f → f.height + 1 ≤ left → IsStmt ends later a → a.height + 1 ≤ left
       → Goes (λ more b. LowStmt left (sign IF start ∷ (seen ++ (later ++ more))) b) []
-  then_goes start f seen later a ends c h d j = ([], if_stmt start f a, subst (λ y. LowStmt left (sign IF start ∷ (seen ++ y)) (if_stmt start f a)) (sym (append-nil later))
-      ((true, subst (λ y. IsStmt true (sign IF start ∷ y) (if_stmt start f a)) (behind c.left c.right c.inside later seen c.is) (g.if_then start c.left c.right c.holds d)), omega (arith, h, j)))
+  then_goes start f seen later a ends c h d j = (
+    [],
+    if_stmt start f a,
+    subst (λ y. LowStmt left (sign IF start ∷ (seen ++ y)) (if_stmt start f a)) (sym (append-nil later))
+        ((true, subst (λ y. IsStmt true (sign IF start ∷ y) (if_stmt start f a)) (behind c.left c.right c.inside later seen c.is) (g.if_then start c.left c.right c.holds d)), omega (arith, h, j)),
+  )
 
   else_viable : (start : Span) (f : Found) (seen later : List Token) (a : FoundStmt) (ends : Bool) → 2 ≤ left → IsCondition seen f → f.height + 1 ≤ left → IsStmt ends later a → a.height + 1 ≤ left
       → Cautious ends (λ more b. LowStmt left (sign IF start ∷ (seen ++ (later ++ more))) b) (else_part parts start f a)
   unfolding else_part
   else_viable start f seen later a true two c h d j = no_else _ _
   else_viable start f seen later a false two c h d j = cautious false _ (sign_viable ELSE true _ _ (λ t. absurd (cc))
-      (λ t m. map_viable parts.plain (if_else_stmt start f a) any_sound (v.plain two) (λ b more x. ((x.0.0, subst (λ y. IsStmt x.0.0 (sign IF start ∷ y) (if_else_stmt start f a b))
-      (behind c.left c.right c.inside (later ++ (sign ELSE m ∷ more)) seen c.is) (g.if_else start c.left c.right m c.holds d x.0.1)), omega (arith, h, j, x.1))))
+      (λ t m. map_viable parts.plain (if_else_stmt start f a) any_sound (v.plain two) (λ b more x. (
+        (
+          x.0.0,
+          subst (λ y. IsStmt x.0.0 (sign IF start ∷ y) (if_else_stmt start f a b))
+              (behind c.left c.right c.inside (later ++ (sign ELSE m ∷ more)) seen c.is) (g.if_else start c.left c.right m c.holds d x.0.1),
+        ),
+        omega (arith, h, j, x.1),
+      )))
       (pure_viable _))
 
   if_viable : (start : Span) → 2 ≤ left → Viable (λ ts a. LowStmt left (sign IF start ∷ ts) a) (if_rule parts left start)
@@ -225,12 +241,16 @@ module _ (parts : StmtParts) (left : ℕ) (s : SoundStmts parts) (l : LowStmts l
   while_exact : (start : Span) → 2 ≤ left → Exact (λ ts a. LowStmt left (sign WHILE start ∷ ts) a) (while_rule parts left start)
   unfolding while_rule
   while_exact start two = bind_exact _ _ (condition_exact left two) (λ f seen c. map_exact _ (while_stmt start f) (any_exact two) (λ a later d. (
-      (d.0.0, (let x = c.0 in subst (λ y. IsStmt d.0.0 (sign WHILE start ∷ y) (while_stmt start f a)) (behind x.left x.right x.inside later seen x.is) (g.while_do start x.left x.right x.holds d.0.1))), omega (arith, c.1, d.1))))
+    (d.0.0, (let x = c.0 in subst (λ y. IsStmt d.0.0 (sign WHILE start ∷ y) (while_stmt start f a)) (behind x.left x.right x.inside later seen x.is) (g.while_do start x.left x.right x.holds d.0.1))),
+    omega (arith, c.1, d.1),
+  )))
 
   do_exact : (start : Span) → 2 ≤ left → Exact (λ ts a. LowStmt left (sign DO start ∷ ts) a) (do_rule parts left start)
   unfolding do_rule
   do_exact start two = bind_exact _ _ (any_exact two) (λ a seen d. must_sign WHILE _ (λ w. bind_exact _ _ (condition_exact left two) (λ f more c. end_sign SEMICOLON (do_stmt start a f) (λ end. (
-      (false, (let x = c.0 in subst (λ y. IsStmt false (sign DO start ∷ (seen ++ (sign WHILE w ∷ y))) (do_stmt start a f end)) (behind x.left x.right x.inside (sign SEMICOLON end ∷ []) more x.is) (g.do_while start w x.left x.right end d.0.1 x.holds))), omega (arith, d.1, c.1))))))
+    (false, (let x = c.0 in subst (λ y. IsStmt false (sign DO start ∷ (seen ++ (sign WHILE w ∷ y))) (do_stmt start a f end)) (behind x.left x.right x.inside (sign SEMICOLON end ∷ []) more x.is) (g.do_while start w x.left x.right end d.0.1 x.holds))),
+    omega (arith, d.1, c.1),
+  )))))
 
   -- ---- `for`
 

@@ -1,5 +1,5 @@
 -- Where a rule stops, what it took goes on: to what stands in a relation to some node. For the ways in which rules are put together.
-use Rattle.std.proofs.Common.{◌≡◌, ℕ, zero, suc, nat_lt, ℤ, Bool, true, false, cond, List, [], ◌∷◌, ◌++◌, length, Option, Some, None, Result, Ok, Err, refl, sym, ap, subst, ◌∙◌, append_assoc, ◌⊎◌, inl, inr}
+use Rattle.std.proofs.Common.{◌≡◌, ℕ, zero, suc, nat_lt, ℤ, Bool, true, false, List, [], ◌∷◌, ◌++◌, length, Option, Some, None, Ok, Err, refl, sym, ap, subst, ◌∙◌, append_assoc, ◌⊎◌, inl, inr}
 use Rattle.std.proofs.lemmas.List.{append-nil}
 use Rattle.ix_text.specs.declared.span.Span.{Span}
 use Rattle.ix_lexer.specs.declared.token.Token.{Token}
@@ -8,9 +8,9 @@ use Rattle.ix_parser.specs.declared.error.Stop.TheVariants.{Syntax, TooDeep}
 use Rattle.ix_tree.specs.declared.annot.Ident.{Ident}
 use Rattle.ix_tree.specs.declared.expr.BinaryOp.{BinaryOp}
 use Rattle.ix_parser.specs.declared.found.At.{At}
-use Rattle.ix_parser.specs.Rule.{Rule, pure, take, bind, stop, loop, Turn, On, Done, Outcome, Parser, and_then, look, rest, taken, turned, turns, run}
+use Rattle.ix_parser.specs.Rule.{Rule, pure, take, bind, stop, loop, Turn, On, Done, Outcome, Parser, and_then, taken, turned, turns, run}
 use Rattle.ix_parser.specs.Patterns.{sign, name_token, number_token, least_token, string_token, a_sign, a_name, a_number, a_least, a_text, one_of, row, an_operator, binary_signs}
-use Rattle.ix_parser.proofs.Runs.{same_ok, chosen, bind_ok}
+use Rattle.ix_parser.proofs.Runs.{chosen, bind_ok}
 use Rattle.ix_parser.proofs.SoundRules.{Sound, After, sign_is, name_is, number_is, least_is, text_is, one_is, operator_is}
 
 -- these tokens go on to some that stand in the relation

@@ -23,4 +23,4 @@ pub mod Reading
 pub mod Refusals
 pub mod ReadingStatements
 pub mod Onto
-pub mod Exact
+pub mod Errors

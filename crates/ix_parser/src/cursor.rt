@@ -3,7 +3,7 @@ ghost use Rattle.std.specs.Prelude.{◌≡◌, ◌<◌, ◌-◌, length, option_
 ghost use Rattle.ix_parser.specs.declared.error.Stop.TheVariants.{Memory};
 ghost use Rattle.ix_parser.specs.Nodes as nodes;
 ghost use Rattle.ix_parser.specs.Rule.{look, rest};
-ghost use Rattle.ix_parser.specs.Refusals.{first};
+ghost use Rattle.ix_parser.specs.Errors.{first};
 ghost use Rattle.ix_parser.specs.Patterns.{a_sign, a_name, a_number, a_least, a_text};
 
 use crate::error::Stop;

@@ -5,10 +5,11 @@ use std::alloc::{AllocError, AllocFailed};
 /// Why tokens have no tree.
 #[derive(Clone, Copy, Debug, PartialEq, Eq)]
 pub enum ParseError {
-    /// The tokens up to and with this one go on to no source. The number is that of the token, from 0, or the number of tokens where all of
-    /// them are read and they are no source.
+    /// The tokens before this one begin a source of a height of at most 200, and with it they begin none of any height. The number is
+    /// that of the token, from 0, or the number of tokens where all of them begin one and are none.
     Syntax(u32),
-    /// What a token begins is higher than 200 nodes allow. The number is the byte at which that token starts.
+    /// The tokens before this one begin a source of a height of at most 200, and with it they begin only higher ones. The number is the
+    /// byte at which that token starts.
     TooDeep(u32),
     /// Want of memory.
     Memory,

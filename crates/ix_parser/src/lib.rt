@@ -26,7 +26,6 @@ mod found;
 mod grammar;
 mod high_variables;
 mod initialisers;
-mod laws;
 mod levels;
 mod locals;
 mod loops;

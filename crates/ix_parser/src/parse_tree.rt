@@ -3,7 +3,8 @@ ghost use Rattle.std.specs.Prelude.{◌≡◌, ◌≢◌, ◌≤◌, ◌⊎◌, 
 ghost use Rattle.ix_lexer.specs.Spans.{InOrder};
 ghost use Rattle.ix_tree.specs.declared.decl.Unit.{Unit as Source};
 ghost use Rattle.ix_tree.specs.Parts.{CanResolve};
-ghost use Rattle.ix_parser.specs.Refusals.{HasTree, Refused, NoneGoesOn, IsWithin, error_at as the_error};
+ghost use Rattle.ix_parser.specs.Errors.{error_at as the_error};
+ghost use Rattle.ix_parser.specs.Refusals.{HasTree, Refused, IsWithin};
 ghost use Rattle.ix_parser.specs.declared.error.ParseError.{ParseError as Refusal};
 ghost use Rattle.ix_parser.specs.declared.error.ParseError.TheVariants.{Memory};
 
@@ -16,7 +17,9 @@ use std::alloc::Global;
 
 /// The tree of the tokens of a text of `end` bytes (JLS 7.3, for the grammar of docs/LANGUAGE.md): the only one, of a height of at most 200.
 ///
-/// An error comes exactly where there is no such tree, and says where reading stopped; `ParseError` names the causes.
+/// An error comes exactly where there is no such tree. Let the tokens before one be the most that begin a source of a height of at most 200.
+/// Where with that token they begin none of any height, or where none is left, the error is `Syntax` with its number; where they begin a
+/// higher one, it is `TooDeep`.
 /// The time is near linear in the tokens, and the depth of calls is bounded by the height of 200.
 pub fn parse(alloc: Global, tokens: &[Token], end: u32) -> Result<Unit, ParseError>
     requires few { length tokens.now ≤ 200000 }
@@ -29,10 +32,9 @@ pub fn parse(alloc: Global, tokens: &[Token], end: u32) -> Result<Unit, ParseErr
     // Names can be looked up in it by their places.
     ensures resolvable { IfOk result CanResolve }
 
-    // The error, exactly where the rules stop; and what it says of the grammar.
+    // The error, exactly where there is no such tree, and no other; its place lies in the text.
     ensures refused { IfErr result (λ error. error ≢ Memory → Refused tokens.now error) }
     ensures only_refused { (error : Refusal) → Refused tokens.now error → MatchResult result (λ found. ⊥) (λ other. (other ≡ error) ⊎ (other ≡ Memory)) }
-    ensures none_goes_on { IfErr result (NoneGoesOn tokens.now) }
     ensures within { IfErr result (IsWithin (length tokens.now) end) }
 {
     let mut cursor = Cursor::new(tokens);
