@@ -1,0 +1,52 @@
+-- What one fact gives, where the fact is known.
+use Rattle.std.specs.Prelude.{◌≡◌, true, ℤ, pos, ◌+ℤ◌, ◌-ℤ◌, All, List, [], ◌∷◌, Option, Some}
+use Rattle.std.specs.Option.{option_map}
+use Rattle.std.proofs.Common.{sym, ap, subst, ◌∙◌}
+use Rattle.std.proofs.lemmas.List.Elements.{All-nil, All-cons, All-head, All-tail, All-append}
+use Rattle.ix_core.specs.declared.fact.Path.{Path}
+use Rattle.ix_core.specs.declared.fact.PathOff.TheVariants.{Nothing, Plus, Minus}
+use Rattle.ix_core.specs.declared.fact.Fact.{Fact}
+use Rattle.ix_core.specs.declared.fact.Fact.TheVariants.{Rng, LenRng, Low, Same, IsLen, Less, Sum, Search, Neg, Upper}
+use Rattle.ix_facts.specs.Facts.{orders, in_orders}
+use Rattle.ix_facts.specs.Small.{HasSmallEnds}
+use Rattle.ix_facts.specs.Bounds
+use Rattle.ix_facts.specs.Bounds.{is_path, when}
+
+module _ (facts : List Fact) (p : Path) (fact : Fact) where
+  pub lower_of_less : (q r : Path) (c n : ℤ) → fact ≡ Less q r c → is_path r p ≡ true → n ≡ Bounds.range_low facts q -ℤ c +ℤ pos 1 → Some n ≡ Bounds.lower_by facts p fact
+  lower_of_less q r c n e t i = subst (λ f. Some n ≡ Bounds.lower_by facts p f) (sym e) (ap Some i ∙ ap (λ x. when x (Some (Bounds.range_low facts q -ℤ c +ℤ pos 1))) (sym t))
+
+  pub limit_of_less : (r q : Path) (c n : ℤ) → fact ≡ Less r q c → is_path r p ≡ true → n ≡ Bounds.range_high facts q +ℤ c -ℤ pos 1 → Some n ≡ Bounds.limit_by facts p fact
+  limit_of_less r q c n e t i = subst (λ f. Some n ≡ Bounds.limit_by facts p f) (sym e) (ap Some i ∙ ap (λ x. when x (Some (Bounds.range_high facts q +ℤ c -ℤ pos 1))) (sym t))
+
+  pub limit_of_upper : (r a : Path) (c n : ℤ) → fact ≡ Upper r a Nothing c → is_path r p ≡ true → n ≡ Bounds.length_high facts a -ℤ pos 1 -ℤ c → Some n ≡ Bounds.limit_by facts p fact
+  limit_of_upper r a c n e t i = subst (λ f. Some n ≡ Bounds.limit_by facts p f) (sym e) (ap Some i ∙ ap (λ x. when x (Some (Bounds.length_high facts a -ℤ pos 1 -ℤ c))) (sym t))
+
+  pub less_of_length : (q r a : Path) (n : Option ℤ) → fact ≡ IsLen r a → is_path r q ≡ true → n ≡ option_map (λ c. pos 0 -ℤ c) (Bounds.stored_upper facts p a Nothing) → n ≡ Bounds.stored_less_by facts p q fact
+  less_of_length q r a n e t i = subst (λ f. n ≡ Bounds.stored_less_by facts p q f) (sym e) (i ∙ ap (λ x. when x (option_map (λ c. pos 0 -ℤ c) (Bounds.stored_upper facts p a Nothing))) (sym t))
+
+-- the ends of ranges are small in each order of a fact
+one_small : (f : Fact) → HasSmallEnds f → All HasSmallEnds (f ∷ [])
+one_small f s = All-cons HasSmallEnds f [] s (All-nil HasSmallEnds)
+
+two_small : (f g : Fact) → HasSmallEnds f → HasSmallEnds g → All HasSmallEnds (f ∷ g ∷ [])
+two_small f g s t = All-cons HasSmallEnds f (g ∷ []) s (one_small g t)
+
+orders_small : (f : Fact) → HasSmallEnds f → All HasSmallEnds (orders f)
+orders_small (Same a b) s = two_small (Same a b) (Same b a) tt tt
+orders_small (Sum t y z) s = two_small (Sum t y z) (Sum t z y) tt tt
+orders_small (Upper p a (Plus q) c) s = two_small (Upper p a (Plus q) c) (Upper q a (Plus p) c) tt tt
+orders_small (Upper p a Nothing c) s = one_small (Upper p a Nothing c) tt
+orders_small (Upper p a (Minus q) c) s = one_small (Upper p a (Minus q) c) tt
+orders_small (Rng p l h) s = one_small (Rng p l h) s
+orders_small (LenRng p l h) s = one_small (LenRng p l h) s
+orders_small (Low p c) s = one_small (Low p c) tt
+orders_small (IsLen p a) s = one_small (IsLen p a) tt
+orders_small (Less p q c) s = one_small (Less p q c) tt
+orders_small (Search p a) s = one_small (Search p a) tt
+orders_small (Neg p a) s = one_small (Neg p a) tt
+
+pub in_orders_small : (facts : List Fact) → All HasSmallEnds facts → All HasSmallEnds (in_orders facts)
+in_orders_small [] s = All-nil HasSmallEnds
+in_orders_small (f ∷ facts) s =
+    All-append HasSmallEnds (orders f) (in_orders facts) (orders_small f (All-head HasSmallEnds f facts s)) (in_orders_small facts (All-tail HasSmallEnds f facts s))

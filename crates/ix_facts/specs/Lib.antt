@@ -1,0 +1,17 @@
+pub mod Facts
+pub mod Bounds
+pub mod Forget
+pub mod Closure
+pub mod Exact
+pub mod AfterOperation
+pub mod Finish
+pub mod After
+pub mod AfterTest
+pub mod Assume
+pub mod Round
+pub mod Laws
+pub mod Systems
+pub mod MethodLandmarks
+pub mod Small
+pub mod SearchTable
+pub mod SearchLaws

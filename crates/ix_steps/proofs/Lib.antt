@@ -1,0 +1,3 @@
+pub mod MachineSteps
+pub mod MachineStates
+pub mod MachineTests
