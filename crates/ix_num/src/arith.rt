@@ -5,7 +5,7 @@ ghost use Rattle.ix_num.specs.Ints.{IsInt};
 ghost use Rattle.ix_num.specs.Arithmetic.{wrap_of, exact_of, java_of, flip_of, DividesByZero, gives_ints};
 
 /// An operator on two ints: `+ - * / % & | ^ << >> >>>` (JLS 15.17 to 15.19, 15.22.1).
-#[derive(Clone, Copy, Debug, PartialEq, Eq, PartialOrd, Ord)]
+#[derive(Clone, Copy)]
 pub enum Arith {
     Add,
     Sub,
@@ -80,6 +80,3 @@ pub fn java_not(x: i32) -> i32
 {
     -1 - x
 }
-
-#[cfg(test)]
-mod tests;

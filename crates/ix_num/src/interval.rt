@@ -10,7 +10,7 @@ ghost use Rattle.ix_num.specs.OpRanges.{op_range, row_of, add_range, sub_range, 
 use crate::arith::Arith;
 
 /// The whole numbers from `lo` to `hi`, both included: none where `lo > hi`.
-#[derive(Clone, Copy, Debug, PartialEq, Eq)]
+#[derive(Clone, Copy)]
 pub struct Interval {
     pub lo: i64,
     pub hi: i64,
@@ -374,6 +374,3 @@ fn greatest_after(distance: u32) -> i64
 {
     (1 << (32 - distance)) - 1
 }
-
-#[cfg(test)]
-mod tests;

