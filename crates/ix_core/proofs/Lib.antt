@@ -1,4 +1,11 @@
+pub mod Cases
+pub mod Heaps
+pub mod Kept
 pub mod GoodIsSafe
 pub mod RepeatedClaims
 pub mod Translated
-mod ModelRows
+pub mod Programs
+mod ConditionRows
+mod OperationRows
+mod CallRows
+mod ObjectRows

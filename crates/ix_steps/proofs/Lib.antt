@@ -1,3 +1,3 @@
 pub mod MachineSteps
-pub mod MachineStates
+pub mod MachineLoads
 pub mod MachineTests
