@@ -13,38 +13,43 @@ use Rattle.ix_core.specs.declared.program.Program.{Program}
 use Rattle.ix_core.specs.Heap.{Num}
 use Rattle.ix_core.specs.Machine.{Ended, no_limits}
 use Rattle.ix_core.specs.Safe.{Whole, Flag, Ints}
-use Rattle.ix_core.proofs.Programs.{span, int, boolean, ints, block, does, does_with, arg, calls, test, param, local, static_method, constructor_of, class_of, program, row, Rows}
+use Rattle.ix_core.proofs.Programs.{span, int, boolean, int_array, block, does, does_with, arg, calls, test, param, local, static_method, constructor_of, class_of, program, row, Rows}
 
--- class A { static boolean t(boolean b, int n) { System.out.println(n); return b; } static int and(boolean a, boolean b) { if (t(a, 1) && t(b, 2)) return 1; return 0; } static int or(boolean a, boolean b) { if (t(a, 1) || t(b, 2)) return 1; return 0; } static boolean not(int x) { return !(x < 1); } static int known() { if (true) { if (false) return 1; return 2; } return 3; } }
+-- class A {
+--   static boolean t(boolean b, int n) { System.out.println(n); return b; }
+--   static int and(boolean a, boolean b) { if (t(a, 1) && t(b, 2)) return 1; return 0; }
+--   static int or(boolean a, boolean b) { if (t(a, 1) || t(b, 2)) return 1; return 0; }
+--   static boolean not(int x) { return !(x < 1); }
+--   static int known() { if (true) { if (false) return 1; return 2; } return 3; } }
 abbrev pub conditions : Program
-conditions = program ((class_of None [] (0 ∷ 1 ∷ 2 ∷ 3 ∷ 4 ∷ 5 ∷ [])) ∷ []) [] 0
-    (static_method 0 ((param 0 []) ∷ (param 1 []) ∷ []) (boolean ∷ int ∷ []) boolean [] 2
+conditions = program (class_of None [] (0 ∷ 1 ∷ 2 ∷ 3 ∷ 4 ∷ 5 ∷ []) ∷ []) [] 0
+    (static_method 0 (param 0 [] ∷ param 1 [] ∷ []) (boolean ∷ int ∷ []) boolean [] 2
     (block (does (op.Print 1) 68 69
     ∷ item.Return (Some 0) (span 79 80)
     ∷ []))
-    ∷ static_method 0 ((param 0 []) ∷ (param 1 []) ∷ []) (boolean ∷ boolean ∷ []) int [] 6
+    ∷ static_method 0 (param 0 [] ∷ param 1 [] ∷ []) (boolean ∷ boolean ∷ []) int [] 6
     (block (item.If (cond.Both (cond.Truth (block (does (op.Const 2 (literal.Int (pos 1))) 134 135
-    ∷ does (op.StaticCall (calls 3 0 None ((arg 0 131 132) ∷ (arg 2 134 135) ∷ []) 0 (span 129 130))) 129 130
+    ∷ does (op.StaticCall (calls 3 0 None (arg 0 131 132 ∷ arg 2 134 135 ∷ []) 0 (span 129 130))) 129 130
     ∷ [])) 3) (cond.Truth (block (does (op.Const 4 (literal.Int (pos 2))) 145 146
-    ∷ does (op.StaticCall (calls 5 0 None ((arg 1 142 143) ∷ (arg 4 145 146) ∷ []) 0 (span 140 141))) 140 141
+    ∷ does (op.StaticCall (calls 5 0 None (arg 1 142 143 ∷ arg 4 145 146 ∷ []) 0 (span 140 141))) 140 141
     ∷ [])) 5)) (block (does (op.Const 2 (literal.Int (pos 1))) 156 157
     ∷ item.Return (Some 2) (span 156 157)
     ∷ [])) (block [])
     ∷ does (op.Const 2 (literal.Int (pos 0))) 166 167
     ∷ item.Return (Some 2) (span 166 167)
     ∷ []))
-    ∷ static_method 0 ((param 0 []) ∷ (param 1 []) ∷ []) (boolean ∷ boolean ∷ []) int [] 6
+    ∷ static_method 0 (param 0 [] ∷ param 1 [] ∷ []) (boolean ∷ boolean ∷ []) int [] 6
     (block (item.If (cond.Either (cond.Truth (block (does (op.Const 2 (literal.Int (pos 1))) 220 221
-    ∷ does (op.StaticCall (calls 3 0 None ((arg 0 217 218) ∷ (arg 2 220 221) ∷ []) 0 (span 215 216))) 215 216
+    ∷ does (op.StaticCall (calls 3 0 None (arg 0 217 218 ∷ arg 2 220 221 ∷ []) 0 (span 215 216))) 215 216
     ∷ [])) 3) (cond.Truth (block (does (op.Const 4 (literal.Int (pos 2))) 231 232
-    ∷ does (op.StaticCall (calls 5 0 None ((arg 1 228 229) ∷ (arg 4 231 232) ∷ []) 0 (span 226 227))) 226 227
+    ∷ does (op.StaticCall (calls 5 0 None (arg 1 228 229 ∷ arg 4 231 232 ∷ []) 0 (span 226 227))) 226 227
     ∷ [])) 5)) (block (does (op.Const 2 (literal.Int (pos 1))) 242 243
     ∷ item.Return (Some 2) (span 242 243)
     ∷ [])) (block [])
     ∷ does (op.Const 2 (literal.Int (pos 0))) 252 253
     ∷ item.Return (Some 2) (span 252 253)
     ∷ []))
-    ∷ static_method 0 ((param 0 []) ∷ []) (int ∷ []) boolean [] 3
+    ∷ static_method 0 (param 0 [] ∷ []) (int ∷ []) boolean [] 3
     (block (item.If (cond.Opposite (cond.Compare (block (does (op.Const 1 (literal.Int (pos 1))) 300 301
     ∷ [])) (test rel.Lt 0 1 int (span 296 297) (span 300 301)))) (block (does (op.Const 2 (literal.Bool true)) 294 302
     ∷ [])) (block (does (op.Const 2 (literal.Bool false)) 294 302
@@ -66,23 +71,26 @@ conditions = program ((class_of None [] (0 ∷ 1 ∷ 2 ∷ 3 ∷ 4 ∷ 5 ∷ [])
     ∷ [])
 
 conditions_rows : Rows conditions (
-    row 1 ((Flag true) ∷ (Flag true) ∷ []) no_limits 16 (Ended (value.Int (pos 1))) ((Num (pos 1)) ∷ (Num (pos 2)) ∷ []) false
-    ∷ row 1 ((Flag true) ∷ (Flag false) ∷ []) no_limits 16 (Ended (value.Int (pos 0))) ((Num (pos 1)) ∷ (Num (pos 2)) ∷ []) false
-    ∷ row 1 ((Flag false) ∷ (Flag true) ∷ []) no_limits 10 (Ended (value.Int (pos 0))) ((Num (pos 1)) ∷ []) false
-    ∷ row 2 ((Flag true) ∷ (Flag false) ∷ []) no_limits 10 (Ended (value.Int (pos 1))) ((Num (pos 1)) ∷ []) false
-    ∷ row 2 ((Flag false) ∷ (Flag true) ∷ []) no_limits 16 (Ended (value.Int (pos 1))) ((Num (pos 1)) ∷ (Num (pos 2)) ∷ []) false
-    ∷ row 2 ((Flag false) ∷ (Flag false) ∷ []) no_limits 16 (Ended (value.Int (pos 0))) ((Num (pos 1)) ∷ (Num (pos 2)) ∷ []) false
-    ∷ row 3 ((Whole (pos 0)) ∷ []) no_limits 7 (Ended (value.Bool false)) [] false
-    ∷ row 3 ((Whole (pos 1)) ∷ []) no_limits 7 (Ended (value.Bool true)) [] false
+    row 1 (Flag true ∷ Flag true ∷ []) no_limits 16 (Ended (value.Int (pos 1))) (Num (pos 1) ∷ Num (pos 2) ∷ []) false
+    ∷ row 1 (Flag true ∷ Flag false ∷ []) no_limits 16 (Ended (value.Int (pos 0))) (Num (pos 1) ∷ Num (pos 2) ∷ []) false
+    ∷ row 1 (Flag false ∷ Flag true ∷ []) no_limits 10 (Ended (value.Int (pos 0))) (Num (pos 1) ∷ []) false
+    ∷ row 2 (Flag true ∷ Flag false ∷ []) no_limits 10 (Ended (value.Int (pos 1))) (Num (pos 1) ∷ []) false
+    ∷ row 2 (Flag false ∷ Flag true ∷ []) no_limits 16 (Ended (value.Int (pos 1))) (Num (pos 1) ∷ Num (pos 2) ∷ []) false
+    ∷ row 2 (Flag false ∷ Flag false ∷ []) no_limits 16 (Ended (value.Int (pos 0))) (Num (pos 1) ∷ Num (pos 2) ∷ []) false
+    ∷ row 3 (Whole (pos 0) ∷ []) no_limits 7 (Ended (value.Bool false)) [] false
+    ∷ row 3 (Whole (pos 1) ∷ []) no_limits 7 (Ended (value.Bool true)) [] false
     ∷ row 4 [] no_limits 6 (Ended (value.Int (pos 2))) [] false
     ∷ [])
 unfolding hidden-the_row-Item-0 hidden-the_row-Cond-1 denote.Hole.Carrier.hidden int_wrap
 conditions_rows = refl
 
--- class A { static int rels(int x, int y) { int n = 0; if (x < y) n = n + 1; if (x <= y) n = n + 2; if (x > y) n = n + 4; if (x >= y) n = n + 8; if (x == y) n = n + 16; if (x != y) n = n + 32; return n; } static int flags(boolean p, boolean q) { int n = 0; if (p == q) n = n + 1; if (p != q) n = n + 2; return n; } static int arrays(int[] p) { int[] q = p; int n = 0; if (p == q) n = n + 1; q = new int[2]; if (p == q) n = n + 2; if (p != q) n = n + 4; if (q == null) n = n + 8; q = null; if (q == null) n = n + 16; return n; } }
+-- class A {
+--   static int rels(int x, int y) { int n = 0; if (x < y) n = n + 1; if (x <= y) n = n + 2; if (x > y) n = n + 4; if (x >= y) n = n + 8; if (x == y) n = n + 16; if (x != y) n = n + 32; return n; }
+--   static int flags(boolean p, boolean q) { int n = 0; if (p == q) n = n + 1; if (p != q) n = n + 2; return n; }
+--   static int arrays(int[] p) { int[] q = p; int n = 0; if (p == q) n = n + 1; q = new int[2]; if (p == q) n = n + 2; if (p != q) n = n + 4; if (q == null) n = n + 8; q = null; if (q == null) n = n + 16; return n; } }
 abbrev pub tests : Program
-tests = program ((class_of None [] (0 ∷ 1 ∷ 2 ∷ 3 ∷ [])) ∷ []) [] 0
-    (static_method 0 ((param 0 []) ∷ (param 1 []) ∷ []) (int ∷ int ∷ []) int ((local 2 [] (span 48 204)) ∷ []) 6
+tests = program (class_of None [] (0 ∷ 1 ∷ 2 ∷ 3 ∷ []) ∷ []) [] 0
+    (static_method 0 (param 0 [] ∷ param 1 [] ∷ []) (int ∷ int ∷ []) int (local 2 [] (span 48 204) ∷ []) 6
     (block (does (op.Const 3 (literal.Int (pos 0))) 52 53
     ∷ does_with (op.Copy 2 3 int) 52 53 ((span 48 49) ∷ (span 52 53) ∷ [])
     ∷ item.If (cond.Compare (block []) (test rel.Lt 0 1 int (span 59 60) (span 63 64))) (block (does (op.Copy 3 2 int) 70 71
@@ -117,7 +125,7 @@ tests = program ((class_of None [] (0 ∷ 1 ∷ 2 ∷ 3 ∷ [])) ∷ []) [] 0
     ∷ [])) (block [])
     ∷ item.Return (Some 2) (span 200 201)
     ∷ []))
-    ∷ static_method 0 ((param 0 []) ∷ (param 1 []) ∷ []) (boolean ∷ boolean ∷ []) int ((local 2 [] (span 252 316)) ∷ []) 6
+    ∷ static_method 0 (param 0 [] ∷ param 1 [] ∷ []) (boolean ∷ boolean ∷ []) int (local 2 [] (span 252 316) ∷ []) 6
     (block (does (op.Const 3 (literal.Int (pos 0))) 256 257
     ∷ does_with (op.Copy 2 3 int) 256 257 ((span 252 253) ∷ (span 256 257) ∷ [])
     ∷ item.If (cond.Compare (block []) (test rel.Eq 0 1 boolean (span 263 264) (span 268 269))) (block (does (op.Copy 3 2 int) 275 276
@@ -132,38 +140,38 @@ tests = program ((class_of None [] (0 ∷ 1 ∷ 2 ∷ 3 ∷ [])) ∷ []) [] 0
     ∷ [])) (block [])
     ∷ item.Return (Some 2) (span 312 313)
     ∷ []))
-    ∷ static_method 0 ((param 0 []) ∷ []) (ints ∷ []) int ((local 1 [] (span 354 531)) ∷ (local 2 [] (span 365 531)) ∷ []) 6
-    (block (does_with (op.Copy 1 0 ints) 358 359 ((span 354 355) ∷ (span 358 359) ∷ [])
+    ∷ static_method 0 (param 0 [] ∷ []) (int_array ∷ []) int (local 1 [] (span 354 531) ∷ local 2 [] (span 365 531) ∷ []) 6
+    (block (does_with (op.Copy 1 0 int_array) 358 359 ((span 354 355) ∷ (span 358 359) ∷ [])
     ∷ does (op.Const 3 (literal.Int (pos 0))) 369 370
     ∷ does_with (op.Copy 2 3 int) 369 370 ((span 365 366) ∷ (span 369 370) ∷ [])
-    ∷ item.If (cond.Compare (block []) (test rel.Eq 0 1 ints (span 376 377) (span 381 382))) (block (does (op.Copy 3 2 int) 388 389
+    ∷ item.If (cond.Compare (block []) (test rel.Eq 0 1 int_array (span 376 377) (span 381 382))) (block (does (op.Copy 3 2 int) 388 389
     ∷ does (op.Const 4 (literal.Int (pos 1))) 392 393
     ∷ does (op.Num 5 Add 3 4) 388 393
     ∷ does_with (op.Copy 2 5 int) 384 393 ((span 384 385) ∷ (span 388 393) ∷ [])
     ∷ [])) (block [])
     ∷ does (op.Const 3 (literal.Int (pos 2))) 407 408
-    ∷ does (op.NewArray 4 ints 3) 407 408
-    ∷ does_with (op.Copy 1 4 ints) 395 409 ((span 395 396) ∷ (span 399 409) ∷ [])
-    ∷ item.If (cond.Compare (block []) (test rel.Eq 0 1 ints (span 415 416) (span 420 421))) (block (does (op.Copy 3 2 int) 427 428
+    ∷ does (op.NewArray 4 int_array 3) 407 408
+    ∷ does_with (op.Copy 1 4 int_array) 395 409 ((span 395 396) ∷ (span 399 409) ∷ [])
+    ∷ item.If (cond.Compare (block []) (test rel.Eq 0 1 int_array (span 415 416) (span 420 421))) (block (does (op.Copy 3 2 int) 427 428
     ∷ does (op.Const 4 (literal.Int (pos 2))) 431 432
     ∷ does (op.Num 5 Add 3 4) 427 432
     ∷ does_with (op.Copy 2 5 int) 423 432 ((span 423 424) ∷ (span 427 432) ∷ [])
     ∷ [])) (block [])
-    ∷ item.If (cond.Compare (block []) (test rel.Ne 0 1 ints (span 438 439) (span 443 444))) (block (does (op.Copy 3 2 int) 450 451
+    ∷ item.If (cond.Compare (block []) (test rel.Ne 0 1 int_array (span 438 439) (span 443 444))) (block (does (op.Copy 3 2 int) 450 451
     ∷ does (op.Const 4 (literal.Int (pos 4))) 454 455
     ∷ does (op.Num 5 Add 3 4) 450 455
     ∷ does_with (op.Copy 2 5 int) 446 455 ((span 446 447) ∷ (span 450 455) ∷ [])
     ∷ [])) (block [])
-    ∷ item.If (cond.Compare (block (does (op.Const 3 (literal.NullOf ints)) 466 470
-    ∷ [])) (test rel.Eq 1 3 ints (span 461 462) (span 466 470))) (block (does (op.Copy 3 2 int) 476 477
+    ∷ item.If (cond.Compare (block (does (op.Const 3 (literal.NullOf int_array)) 466 470
+    ∷ [])) (test rel.Eq 1 3 int_array (span 461 462) (span 466 470))) (block (does (op.Copy 3 2 int) 476 477
     ∷ does (op.Const 4 (literal.Int (pos 8))) 480 481
     ∷ does (op.Num 5 Add 3 4) 476 481
     ∷ does_with (op.Copy 2 5 int) 472 481 ((span 472 473) ∷ (span 476 481) ∷ [])
     ∷ [])) (block [])
-    ∷ does (op.Const 3 (literal.NullOf ints)) 487 491
-    ∷ does_with (op.Copy 1 3 ints) 483 491 ((span 483 484) ∷ (span 487 491) ∷ [])
-    ∷ item.If (cond.Compare (block (does (op.Const 3 (literal.NullOf ints)) 502 506
-    ∷ [])) (test rel.Eq 1 3 ints (span 497 498) (span 502 506))) (block (does (op.Copy 3 2 int) 512 513
+    ∷ does (op.Const 3 (literal.NullOf int_array)) 487 491
+    ∷ does_with (op.Copy 1 3 int_array) 483 491 ((span 483 484) ∷ (span 487 491) ∷ [])
+    ∷ item.If (cond.Compare (block (does (op.Const 3 (literal.NullOf int_array)) 502 506
+    ∷ [])) (test rel.Eq 1 3 int_array (span 497 498) (span 502 506))) (block (does (op.Copy 3 2 int) 512 513
     ∷ does (op.Const 4 (literal.Int (pos 16))) 516 518
     ∷ does (op.Num 5 Add 3 4) 512 518
     ∷ does_with (op.Copy 2 5 int) 508 518 ((span 508 509) ∷ (span 512 518) ∷ [])
@@ -175,21 +183,24 @@ tests = program ((class_of None [] (0 ∷ 1 ∷ 2 ∷ 3 ∷ [])) ∷ []) [] 0
     ∷ [])
 
 tests_rows : Rows tests (
-    row 0 ((Whole (pos 1)) ∷ (Whole (pos 2)) ∷ []) no_limits 33 (Ended (value.Int (pos 35))) [] false
-    ∷ row 0 ((Whole (pos 2)) ∷ (Whole (pos 2)) ∷ []) no_limits 33 (Ended (value.Int (pos 26))) [] false
-    ∷ row 0 ((Whole (pos 3)) ∷ (Whole (pos 2)) ∷ []) no_limits 33 (Ended (value.Int (pos 44))) [] false
-    ∷ row 1 ((Flag true) ∷ (Flag true) ∷ []) no_limits 13 (Ended (value.Int (pos 1))) [] false
-    ∷ row 1 ((Flag true) ∷ (Flag false) ∷ []) no_limits 13 (Ended (value.Int (pos 2))) [] false
-    ∷ row 1 ((Flag false) ∷ (Flag false) ∷ []) no_limits 13 (Ended (value.Int (pos 1))) [] false
-    ∷ row 2 ((Ints ((pos 1) ∷ (pos 2) ∷ [])) ∷ []) no_limits 38 (Ended (value.Int (pos 21))) [] false
+    row 0 (Whole (pos 1) ∷ Whole (pos 2) ∷ []) no_limits 33 (Ended (value.Int (pos 35))) [] false
+    ∷ row 0 (Whole (pos 2) ∷ Whole (pos 2) ∷ []) no_limits 33 (Ended (value.Int (pos 26))) [] false
+    ∷ row 0 (Whole (pos 3) ∷ Whole (pos 2) ∷ []) no_limits 33 (Ended (value.Int (pos 44))) [] false
+    ∷ row 1 (Flag true ∷ Flag true ∷ []) no_limits 13 (Ended (value.Int (pos 1))) [] false
+    ∷ row 1 (Flag true ∷ Flag false ∷ []) no_limits 13 (Ended (value.Int (pos 2))) [] false
+    ∷ row 1 (Flag false ∷ Flag false ∷ []) no_limits 13 (Ended (value.Int (pos 1))) [] false
+    ∷ row 2 (Ints (pos 1 ∷ pos 2 ∷ []) ∷ []) no_limits 38 (Ended (value.Int (pos 21))) [] false
     ∷ [])
 unfolding hidden-the_row-Item-0 hidden-the_row-Cond-1 denote.Hole.Carrier.hidden int_wrap
 tests_rows = refl
 
--- class A { static int first(int n) { int s = 0; for (int i = 0; i < n; i++) { if (i == 1) continue; if (i == 3) break; s = s + 10 + i; } return s; } static int last(int n) { int i = 0; do { i = i + 1; if (i == 2) continue; System.out.println(i); if (i == 4) break; } while (i < n); return i; } static int nested(int n) { int s = 0; for (int i = 0; i < n; i++) { int j = 0; while (true) { if (j == 2) break; j = j + 1; if (j == 1) continue; s = s + 1; } s = s + 10; } return s; } }
+-- class A {
+--   static int first(int n) { int s = 0; for (int i = 0; i < n; i++) { if (i == 1) continue; if (i == 3) break; s = s + 10 + i; } return s; }
+--   static int last(int n) { int i = 0; do { i = i + 1; if (i == 2) continue; System.out.println(i); if (i == 4) break; } while (i < n); return i; }
+--   static int nested(int n) { int s = 0; for (int i = 0; i < n; i++) { int j = 0; while (true) { if (j == 2) break; j = j + 1; if (j == 1) continue; s = s + 1; } s = s + 10; } return s; } }
 abbrev pub loops : Program
-loops = program ((class_of None [] (0 ∷ 1 ∷ 2 ∷ 3 ∷ [])) ∷ []) [] 0
-    (static_method 0 ((param 0 []) ∷ []) (int ∷ []) int ((local 1 [] (span 42 149)) ∷ (local 2 [] (span 58 137)) ∷ []) 7
+loops = program (class_of None [] (0 ∷ 1 ∷ 2 ∷ 3 ∷ []) ∷ []) [] 0
+    (static_method 0 (param 0 [] ∷ []) (int ∷ []) int (local 1 [] (span 42 149) ∷ local 2 [] (span 58 137) ∷ []) 7
     (block (does (op.Const 2 (literal.Int (pos 0))) 46 47
     ∷ does_with (op.Copy 1 2 int) 46 47 ((span 42 43) ∷ (span 46 47) ∷ [])
     ∷ does (op.Const 3 (literal.Int (pos 0))) 62 63
@@ -212,7 +223,7 @@ loops = program ((class_of None [] (0 ∷ 1 ∷ 2 ∷ 3 ∷ [])) ∷ []) [] 0
     ∷ [])) 0 3
     ∷ item.Return (Some 1) (span 145 146)
     ∷ []))
-    ∷ static_method 0 ((param 0 []) ∷ []) (int ∷ []) int ((local 1 [] (span 181 296)) ∷ []) 5
+    ∷ static_method 0 (param 0 [] ∷ []) (int ∷ []) int (local 1 [] (span 181 296) ∷ []) 5
     (block (does (op.Const 2 (literal.Int (pos 0))) 185 186
     ∷ does_with (op.Copy 1 2 int) 185 186 ((span 181 182) ∷ (span 185 186) ∷ [])
     ∷ item.Loop false (cond.Compare (block []) (test rel.Lt 1 0 int (span 277 278) (span 281 282))) (block (does (op.Copy 2 1 int) 197 198
@@ -229,7 +240,7 @@ loops = program ((class_of None [] (0 ∷ 1 ∷ 2 ∷ 3 ∷ [])) ∷ []) [] 0
     ∷ [])) (block []) 0 2
     ∷ item.Return (Some 1) (span 292 293)
     ∷ []))
-    ∷ static_method 0 ((param 0 []) ∷ []) (int ∷ []) int ((local 1 [] (span 330 483)) ∷ (local 2 [] (span 346 471)) ∷ (local 3 [] (span 371 471)) ∷ []) 7
+    ∷ static_method 0 (param 0 [] ∷ []) (int ∷ []) int (local 1 [] (span 330 483) ∷ local 2 [] (span 346 471) ∷ local 3 [] (span 371 471) ∷ []) 7
     (block (does (op.Const 2 (literal.Int (pos 0))) 334 335
     ∷ does_with (op.Copy 1 2 int) 334 335 ((span 330 331) ∷ (span 334 335) ∷ [])
     ∷ does (op.Const 3 (literal.Int (pos 0))) 350 351
@@ -267,13 +278,13 @@ loops = program ((class_of None [] (0 ∷ 1 ∷ 2 ∷ 3 ∷ [])) ∷ []) [] 0
     ∷ [])
 
 loops_rows : Rows loops (
-    row 0 ((Whole (pos 0)) ∷ []) no_limits 10 (Ended (value.Int (pos 0))) [] false
-    ∷ row 0 ((Whole (pos 3)) ∷ []) no_limits 65 (Ended (value.Int (pos 22))) [] false
-    ∷ row 0 ((Whole (pos 9)) ∷ []) no_limits 73 (Ended (value.Int (pos 22))) [] false
-    ∷ row 1 ((Whole (pos 0)) ∷ []) no_limits 22 (Ended (value.Int (pos 1))) ((Num (pos 1)) ∷ []) false
-    ∷ row 1 ((Whole (pos 3)) ∷ []) no_limits 52 (Ended (value.Int (pos 3))) ((Num (pos 1)) ∷ (Num (pos 3)) ∷ []) false
-    ∷ row 1 ((Whole (pos 9)) ∷ []) no_limits 65 (Ended (value.Int (pos 4))) ((Num (pos 1)) ∷ (Num (pos 3)) ∷ (Num (pos 4)) ∷ []) false
-    ∷ row 2 ((Whole (pos 2)) ∷ []) no_limits 124 (Ended (value.Int (pos 22))) [] false
+    row 0 (Whole (pos 0) ∷ []) no_limits 10 (Ended (value.Int (pos 0))) [] false
+    ∷ row 0 (Whole (pos 3) ∷ []) no_limits 65 (Ended (value.Int (pos 22))) [] false
+    ∷ row 0 (Whole (pos 9) ∷ []) no_limits 73 (Ended (value.Int (pos 22))) [] false
+    ∷ row 1 (Whole (pos 0) ∷ []) no_limits 22 (Ended (value.Int (pos 1))) (Num (pos 1) ∷ []) false
+    ∷ row 1 (Whole (pos 3) ∷ []) no_limits 52 (Ended (value.Int (pos 3))) (Num (pos 1) ∷ Num (pos 3) ∷ []) false
+    ∷ row 1 (Whole (pos 9) ∷ []) no_limits 65 (Ended (value.Int (pos 4))) (Num (pos 1) ∷ Num (pos 3) ∷ Num (pos 4) ∷ []) false
+    ∷ row 2 (Whole (pos 2) ∷ []) no_limits 124 (Ended (value.Int (pos 22))) [] false
     ∷ [])
 unfolding hidden-the_row-Item-0 hidden-the_row-Cond-1 denote.Hole.Carrier.hidden int_wrap
 loops_rows = refl

@@ -37,8 +37,8 @@ boolean = type.Plain base.Bool
 abbrev pub object : ℕ → Type_
 object class = type.Plain (base.Class class)
 
-abbrev pub ints : Type_
-ints = type.Array base.Int 1 []
+abbrev pub int_array : Type_
+int_array = type.Array base.Int 1 []
 
 abbrev pub block : List Item → Block
 block items = record { items = items }

@@ -54,34 +54,7 @@ pub record Stands (world : World) (named runs : Method) : Type 0 where
       → AreTrue runs.result_claims (reading_of heap value) (param_readings world runs values heap)
       → AreTrue named.result_claims (reading_of heap value) (param_readings world named values heap)
 
--- ---- what a frame may use of the heap
-
--- Slots and heap, seen from a frame: no slot but the first of a constructor holds its object, all other objects are built, and arrays meet the claims on
--- their elements.
-pub record Seen (world : World) (method : Method) (slots : List Held) (heap : Heap) : Type 0 where
-  pub size : length slots ≡ method.slots
-  pub all_on : AllOn slots heap
-  pub ints : KeepsInts slots heap
-  pub apart : method.constructor ≡ true → (slot object : ℕ) → value_at slots 0 ≡ At object → value_at slots slot ≡ At object → slot ≡ 0
-  pub built : (slot object : ℕ) → value_at slots slot ≡ At object → (IsOwn method slot → ⊥) → MeetsFields world heap object
-  pub elements : (array : ℕ) → MeetsElements heap array
-
--- ---- what stays
-
-abbrev pub own_slot : Method → ℕ → Bool
-own_slot method slot = method.constructor && (slot == 0)
-
--- What a call leaves as it is: slots; and unless it is `super` on that object, the fields that are final or of `this` of a constructor, and all fields where
--- the callee is without effects.
-abbrev pub outlives : World → Method → Method → CallKind → Path → Bool
-outlives world caller callee kind (Slot slot) = true
-outlives world caller callee kind (FieldOf slot field) =
-    not (is_super kind && own_slot caller slot) && (callee.effect_free || (world.is_final field || own_slot caller slot))
-
--- What a write of a field through a slot leaves as it is: slots and other fields; in a constructor a write through another slot spares `this`.
-abbrev pub spared : Method → ℕ → ℕ → Path → Bool
-spared method through field (Slot slot) = true
-spared method through field (FieldOf slot other) = not (other == field) || (own_slot method slot && not (through == 0))
+-- ---- the laws
 
 -- what a frame's end shows of its value: nothing where there is none
 abbrev pub Results : World → Method → List Held → Heap → Option Held → Type 0
@@ -115,7 +88,6 @@ module _ (profile : Profile) (world : World) (know : Knowledge) where
   -- a frame's end: the result's claims are met, and so are those of all fields of the object that a constructor made
   pub record Leaves (building : ℕ → Type 0) (method : Method) (slots : List Held) (heap : Heap) (value : Option Held) : Type 0 where
     pub free : method.constructor ≡ false → IsFreeIf building heap value
-    pub int : IsIntIf value
     pub results : method.constructor ≡ false → Results world method slots heap value
     pub built : method.constructor ≡ true → (object field : ℕ) → value_at slots 0 ≡ At object → HasField world (ObjectOf method.class) field → MeetsField world heap object field
 

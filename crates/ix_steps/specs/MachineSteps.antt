@@ -1,5 +1,5 @@
 -- What ties the machine to the rules: when an operation is a step between the numbers of paths, and which claim on paths a claim is.
-use Rattle.std.specs.Prelude.{◌≡◌, ◌⊎◌, ℕ, ◌<◌, ◌≤◌, unsigned_abs, true, List, [], length}
+use Rattle.std.specs.Prelude.{◌≡◌, ◌⊎◌, ℕ, ◌<◌, ◌==◌, unsigned_abs, Bool, true, ◌&&◌, List, [], length}
 use Rattle.ix_core.specs.declared.claim.Claim.{Claim}
 use Rattle.ix_core.specs.declared.claim.Claim.TheVariants as claim
 use Rattle.ix_core.specs.declared.claim.Name.{Name}
@@ -84,3 +84,9 @@ own_path method (FieldNamed field) = FieldOf 0 field
 abbrev pub IsDeclared : Name → Type 0
 IsDeclared (Local number) = ⊥
 IsDeclared _ = Unit {0}
+
+-- ---- calls and writes of fields
+
+-- `this` of a constructor
+abbrev pub own_slot : Method → ℕ → Bool
+own_slot method slot = method.constructor && (slot == 0)

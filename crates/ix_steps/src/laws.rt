@@ -1,6 +1,6 @@
 //! That the machine steps as the rules do, as contracts of functions that do nothing.
 
-ghost use Rattle.std.specs.Prelude.{◌≡◌, Bool, true, false, ℕ, List, None};
+ghost use Rattle.std.specs.Prelude.{◌≡◌, ◌==◌, Bool, true, false, not, ◌&&◌, ◌||◌, ℕ, List, None, Some};
 ghost use Rattle.ix_num.specs.declared.rel.Rel.{Rel};
 ghost use Rattle.ix_core.specs.declared.claim.Claim.{Claim};
 ghost use Rattle.ix_core.specs.declared.claim.Name.{Name};
@@ -16,19 +16,21 @@ ghost use Rattle.ix_core.specs.declared.op.OpKind.{OpKind};
 ghost use Rattle.ix_core.specs.declared.op.OpKind.TheVariants.{Load, Print};
 ghost use Rattle.ix_core.specs.declared.program.Method.{Method};
 ghost use Rattle.ix_core.specs.Claims.{True};
-ghost use Rattle.ix_core.specs.Heap.{Held, At, Heap, Places, value_at};
+ghost use Rattle.ix_core.specs.Heap.{Held, At, Heap, Places, value_at, object_at, place_in, write_at};
 ghost use Rattle.ix_core.specs.Tables.{Tables, method_at};
 ghost use Rattle.ix_core.specs.World.{World};
 ghost use Rattle.ix_core.specs.Safe.{Input, HaveTypes, start};
 ghost use Rattle.ix_core.specs.declared.program.Program.{Program};
-ghost use Rattle.ix_core.specs.Machine.{Limits, Done, Wrapped, operate, test_of, State, effect_then, moved, step};
+ghost use Rattle.ix_core.specs.Machine.{CallKind, Limits, Done, Wrapped, operate, test_of, State, effect_then, moved, step};
 ghost use Rattle.ix_core.specs.Code.{Code, Do};
 ghost use Rattle.ix_core.specs.Tasks.{Tasks, Run, code_then};
 ghost use Rattle.ix_core.specs.Objects.{HeapKeeps, FrameKeeps, AllOn, KeepsInts, IntsOnly, field_readings};
-ghost use Rattle.ix_core.specs.Waits.{param_readings};
-ghost use Rattle.ix_steps.specs.MachineSteps.{HasTarget, LoadsMet, HoldsElements, reading_at, on_paths, own_path, IsDeclared};
+ghost use Rattle.ix_core.specs.Analysis.{IsWorld};
+ghost use Rattle.ix_core.specs.Waits.{Since, is_super, param_readings};
+ghost use Rattle.ix_steps.specs.MachineSteps.{HasTarget, LoadsMet, HoldsElements, reading_at, own_slot, on_paths, own_path, IsDeclared};
 ghost use Rattle.ix_core.specs.Numbers.{Numbers, HasInts, numbers_of};
 ghost use Rattle.ix_facts.specs.Facts.{AllHold};
+ghost use Rattle.ix_facts.specs.Forget.{SameBut, of_call, of_field, of_this};
 ghost use Rattle.ix_facts.specs.After.{Step, TargetApart, after_facts};
 ghost use Rattle.ix_facts.specs.AfterTest.{AllSo, when_true, when_false};
 ghost use Rattle.ix_facts.specs.Assume.{ClaimHolds};
@@ -60,4 +62,11 @@ pub fn meaning_laws()
     ensures claim_true { (v : Numbers) (path : Name → Path) (p : Path) (claim : Claim) → ClaimHolds (on_paths path claim) p v → True claim (reading_at v p) (λ name. reading_at v (path name)) }
     ensures parameters { (world : World) (method : Method) (slots : List Held) (heap : Heap) (ints : HasInts world.place slots heap) (name : Name) → IsDeclared name → param_readings world method slots heap name ≡ reading_at (numbers_of world.place slots heap ints) (own_path method name) }
     ensures fields { (world : World) (slots : List Held) (heap : Heap) (ints : HasInts world.place slots heap) (slot object field : ℕ) → value_at slots slot ≡ At object → field_readings world heap object (FieldNamed field) ≡ reading_at (numbers_of world.place slots heap ints) (FieldOf slot field) }
+{}
+
+/// What keeps its numbers across a call and a write of a field: all but the fields that the rules forget.
+pub fn stay_laws()
+    ensures call { (world : World) (caller callee : Method) (kind : CallKind) (slots : List Held) (began heap : Heap) (before : HasInts world.place slots began) (behind : HasInts world.place slots heap) → is_super kind ≡ false → AllOn slots began → Since world caller callee kind slots began heap → SameBut (of_call world.is_final (own_slot caller)) (numbers_of world.place slots began before) (numbers_of world.place slots heap behind) }
+    ensures super_call { (world : World) (caller callee : Method) (kind : CallKind) (slots : List Held) (began heap : Heap) (before : HasInts world.place slots began) (behind : HasInts world.place slots heap) → AllOn slots began → Since world caller callee kind slots began heap → SameBut (λ p. of_this p || of_call world.is_final (own_slot caller) p) (numbers_of world.place slots began before) (numbers_of world.place slots heap behind) }
+    ensures write { (world : World) → IsWorld world → (is_building : ℕ → Bool) (method : Method) (slots : List Held) (heap : Heap) → HeapKeeps world (λ object. is_building object ≡ true) heap → FrameKeeps (λ object. is_building object ≡ true) method slots heap → AllOn slots heap → (object field number at value : ℕ) → value_at slots object ≡ At number → place_in world.place (object_at heap number).kind field ≡ Some at → (before : HasInts world.place slots heap) (behind : HasInts world.place slots (write_at heap number at (value_at slots value))) → SameBut (of_field field (λ slot. own_slot method slot && not (object == 0))) (numbers_of world.place slots heap before) (numbers_of world.place slots (write_at heap number at (value_at slots value)) behind) }
 {}
