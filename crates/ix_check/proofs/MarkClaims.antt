@@ -8,7 +8,8 @@ use Rattle.ix_core.specs.declared.claim.Name.{Name}
 use Rattle.ix_core.specs.declared.claim.Name.TheVariants as name
 use Rattle.ix_core.specs.declared.error.Error.{Error}
 use Rattle.ix_core.specs.Claims.{AreTrue}
-use Rattle.ix_core.specs.Safe.{Input, MeetEach, input_number}
+use Rattle.ix_core.specs.Heap.{Reading}
+use Rattle.ix_core.specs.Safe.{Input, MeetEach, input_reading}
 use Rattle.ix_core.proofs.RepeatedClaims.{distinct_true}
 use Rattle.ix_text.specs.declared.span.Span.{Span}
 use Rattle.ix_check.specs.declared.form.Mark.{Mark}
@@ -37,29 +38,29 @@ claims_shown marks array span h = shown _ _ _ _ h
 
 -- ---- claims of a list
 
-front_true : (some others : List Claim) (v : ℤ) (numbers : Name → ℤ) → AreTrue (some ++ others) v numbers → AreTrue some v numbers
-front_true [] others v numbers h = tt
-front_true (claim ∷ some) others v numbers h = (h.0, front_true some others v numbers h.1)
+front_true : (some others : List Claim) (v : Reading) (names : Name → Reading) → AreTrue (some ++ others) v names → AreTrue some v names
+front_true [] others v names h = tt
+front_true (claim ∷ some) others v names h = (h.0, front_true some others v names h.1)
 
-back_true : (some others : List Claim) (v : ℤ) (numbers : Name → ℤ) → AreTrue (some ++ others) v numbers → AreTrue others v numbers
-back_true [] others v numbers h = h
-back_true (claim ∷ some) others v numbers h = back_true some others v numbers h.1
+back_true : (some others : List Claim) (v : Reading) (names : Name → Reading) → AreTrue (some ++ others) v names → AreTrue others v names
+back_true [] others v names h = h
+back_true (claim ∷ some) others v names h = back_true some others v names h.1
 
 one_or_rest : (a b : Bool) → (a || b) ≡ true → (a ≡ true) ⊎ (b ≡ true)
 one_or_rest true b h = inl refl
 one_or_rest false b h = inr h
 
-mark_low : (params : List Param) (mark : Mark) (v : ℤ) (numbers : Name → ℤ) → claims_low mark ≡ true → AreTrue (mark_claims params mark) v numbers → pos 0 ≤ℤ v
-mark_low params NonNegative v numbers is h = h.0
-mark_low params (LtLengthOf text) v numbers is h = cc
-mark_low params (IndexFor text) v numbers is h = h.0
+mark_low : (params : List Param) (mark : Mark) (v : Reading) (names : Name → Reading) → claims_low mark ≡ true → AreTrue (mark_claims params mark) v names → pos 0 ≤ℤ v.int
+mark_low params NonNegative v names is h = h.0
+mark_low params (LtLengthOf text) v names is h = cc
+mark_low params (IndexFor text) v names is h = h.0
 
 -- a number that meets the annotations is at least 0, where one claims so
-pub low_met : (params : List Param) (marks : List Mark) (v : ℤ) (numbers : Name → ℤ) → list_any claims_low marks ≡ true → AreTrue (all_claims params marks) v numbers → pos 0 ≤ℤ v
-low_met params [] v numbers any h = cc
-low_met params (mark ∷ marks) v numbers any h = elim (one_or_rest (claims_low mark) (list_any claims_low marks) any) [
-  | inl here ↦ mark_low params mark v numbers here (front_true (mark_claims params mark) (all_claims params marks) v numbers h)
-  | inr later ↦ low_met params marks v numbers later (back_true (mark_claims params mark) (all_claims params marks) v numbers h)
+pub low_met : (params : List Param) (marks : List Mark) (v : Reading) (names : Name → Reading) → list_any claims_low marks ≡ true → AreTrue (all_claims params marks) v names → pos 0 ≤ℤ v.int
+low_met params [] v names any h = cc
+low_met params (mark ∷ marks) v names any h = elim (one_or_rest (claims_low mark) (list_any claims_low marks) any) [
+  | inl here ↦ mark_low params mark v names here (front_true (mark_claims params mark) (all_claims params marks) v names h)
+  | inr later ↦ low_met params marks v names later (back_true (mark_claims params mark) (all_claims params marks) v names h)
 ]
 
 -- ---- the array that a text names
@@ -99,39 +100,39 @@ array_found params place param at is small =
     let e : 0 + place ≡ place = omega arith in
     subst (λ (n : ℕ). array_named 0 params (number_text n) ≡ Some n) e whole
 
-upper_true : (params : List Param) (array : ℕ) (text : List ℕ) (v : ℤ) (numbers : Name → ℤ) → array_named 0 params (number_text array) ≡ Some array → bytes_eq (number_text array) text ≡ true
-    → AreTrue (upper_claim (array_named 0 params text)) v numbers → v <ℤ numbers (name.Param array)
-upper_true params array text v numbers found same h =
-    let claim : AreTrue (upper_claim (Some array)) v numbers =
-    subst (λ (o : Option ℕ). AreTrue (upper_claim o) v numbers) (subst (λ (t : List ℕ). array_named 0 params t ≡ Some array) (same_bytes (number_text array) text same) found) h in
+upper_true : (params : List Param) (array : ℕ) (text : List ℕ) (v : Reading) (names : Name → Reading) → array_named 0 params (number_text array) ≡ Some array → bytes_eq (number_text array) text ≡ true
+    → AreTrue (upper_claim (array_named 0 params text)) v names → v.int <ℤ (names (name.Param array)).size
+upper_true params array text v names found same h =
+    let claim : AreTrue (upper_claim (Some array)) v names =
+    subst (λ (o : Option ℕ). AreTrue (upper_claim o) v names) (subst (λ (t : List ℕ). array_named 0 params t ≡ Some array) (same_bytes (number_text array) text same) found) h in
     omega (arith, ints, claim.0)
 
-mark_high : (params : List Param) (array : ℕ) (mark : Mark) (v : ℤ) (numbers : Name → ℤ) → array_named 0 params (number_text array) ≡ Some array → claims_high (number_text array) mark ≡ true
-    → AreTrue (mark_claims params mark) v numbers → v <ℤ numbers (name.Param array)
-mark_high params array NonNegative v numbers found is h = cc
-mark_high params array (LtLengthOf text) v numbers found is h = upper_true params array text v numbers found is h
-mark_high params array (IndexFor text) v numbers found is h = upper_true params array text v numbers found is h.1
+mark_high : (params : List Param) (array : ℕ) (mark : Mark) (v : Reading) (names : Name → Reading) → array_named 0 params (number_text array) ≡ Some array → claims_high (number_text array) mark ≡ true
+    → AreTrue (mark_claims params mark) v names → v.int <ℤ (names (name.Param array)).size
+mark_high params array NonNegative v names found is h = cc
+mark_high params array (LtLengthOf text) v names found is h = upper_true params array text v names found is h
+mark_high params array (IndexFor text) v names found is h = upper_true params array text v names found is h.1
 
 -- a number that meets the annotations is below the array's length, where one claims so
-pub high_met : (params : List Param) (array : ℕ) (marks : List Mark) (v : ℤ) (numbers : Name → ℤ) → array_named 0 params (number_text array) ≡ Some array
-    → list_any (claims_high (number_text array)) marks ≡ true → AreTrue (all_claims params marks) v numbers → v <ℤ numbers (name.Param array)
-high_met params array [] v numbers found any h = cc
-high_met params array (mark ∷ marks) v numbers found any h = elim (one_or_rest (claims_high (number_text array) mark) (list_any (claims_high (number_text array)) marks) any) [
-  | inl here ↦ mark_high params array mark v numbers found here (front_true (mark_claims params mark) (all_claims params marks) v numbers h)
-  | inr later ↦ high_met params array marks v numbers found later (back_true (mark_claims params mark) (all_claims params marks) v numbers h)
+pub high_met : (params : List Param) (array : ℕ) (marks : List Mark) (v : Reading) (names : Name → Reading) → array_named 0 params (number_text array) ≡ Some array
+    → list_any (claims_high (number_text array)) marks ≡ true → AreTrue (all_claims params marks) v names → v.int <ℤ (names (name.Param array)).size
+high_met params array [] v names found any h = cc
+high_met params array (mark ∷ marks) v names found any h = elim (one_or_rest (claims_high (number_text array) mark) (list_any (claims_high (number_text array)) marks) any) [
+  | inl here ↦ mark_high params array mark v names found here (front_true (mark_claims params mark) (all_claims params marks) v names h)
+  | inr later ↦ high_met params array marks v names found later (back_true (mark_claims params mark) (all_claims params marks) v names h)
 ]
 
 -- ---- inputs that meet their claims
 
 -- the input of a parameter meets its claims
-pub met_at : (inputs : List Input) (all : List Param) (slot : ℕ) (params : List Param) (numbers : Name → ℤ) (place : ℕ) (param : Param) (input : Input)
-    → MeetEach inputs (param_variables all slot params) (map type_of params) numbers → slice_get params place ≡ Some param → slice_get inputs place ≡ Some input
-    → AreTrue (all_claims all param.marks) (input_number input) numbers
-met_at [] all slot params numbers place param input meets at input_is = cc
-met_at (first ∷ inputs) all slot [] numbers place param input meets at input_is = cc
-met_at (first ∷ inputs) all slot (front ∷ params) numbers zero param input meets at input_is =
+pub met_at : (inputs : List Input) (all : List Param) (slot : ℕ) (params : List Param) (names : Name → Reading) (place : ℕ) (param : Param) (input : Input)
+    → MeetEach inputs (param_variables all slot params) (map type_of params) names → slice_get params place ≡ Some param → slice_get inputs place ≡ Some input
+    → AreTrue (all_claims all param.marks) (input_reading input) names
+met_at [] all slot params names place param input meets at input_is = cc
+met_at (first ∷ inputs) all slot [] names place param input meets at input_is = cc
+met_at (first ∷ inputs) all slot (front ∷ params) names zero param input meets at input_is =
     let p : front ≡ param = some_same front param at in
     let i : first ≡ input = some_same first input input_is in
-    subst (λ (x : Param). AreTrue (all_claims all x.marks) (input_number input) numbers) p
-    (subst (λ (x : Input). AreTrue (all_claims all front.marks) (input_number x) numbers) i (distinct_true (all_claims all front.marks) (input_number first) numbers meets.0))
-met_at (first ∷ inputs) all slot (front ∷ params) numbers (suc place) param input meets at input_is = met_at inputs all (slot + 1) params numbers place param input meets.2 at input_is
+    subst (λ (x : Param). AreTrue (all_claims all x.marks) (input_reading input) names) p
+    (subst (λ (x : Input). AreTrue (all_claims all front.marks) (input_reading x) names) i (distinct_true (all_claims all front.marks) (input_reading first) names meets.0))
+met_at (first ∷ inputs) all slot (front ∷ params) names (suc place) param input meets at input_is = met_at inputs all (slot + 1) params names place param input meets.2 at input_is

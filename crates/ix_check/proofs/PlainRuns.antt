@@ -1,5 +1,5 @@
 -- The runs of the plain form of a source that is judged and has no error.
-use Rattle.std.proofs.Common.{◌≡◌, ℕ, zero, suc, ◌+◌, ◌-◌, add-zero, zero-add, ◌<◌, ◌≤◌, ℤ, pos, ◌≤ℤ◌, ◌<ℤ◌, int_le, int_lt, unsigned_abs, Bool, true, false, List, [], ◌∷◌, ◌++◌, length, map, replicate, Option, Some, None, is_some, bytes_eq, ◌⊎◌, inl, inr, slice_get, refl, sym, ap, subst, ◌∙◌, arith, length-append}
+use Rattle.std.proofs.Common.{◌≡◌, ℕ, zero, suc, ◌+◌, ◌-◌, add-zero, zero-add, ◌<◌, ◌≤◌, ℤ, pos, ◌≤ℤ◌, ◌<ℤ◌, int_le, int_lt, unsigned_abs, Bool, true, false, List, [], ◌∷◌, ◌++◌, length, map, replicate, Option, Some, None, is_some, bytes_eq, ◌⊎◌, inl, inr, slice_get, slice_set, refl, sym, ap, subst, ◌∙◌, arith, length-append}
 use Rattle.std.proofs.lemmas.Int.{ints}
 use Rattle.std.proofs.lemmas.Bool.{leb-true}
 use Rattle.std.proofs.lemmas.Option.{slice_get_within}
@@ -11,11 +11,11 @@ use Rattle.ix_core.specs.declared.fact.Profile.{Profile}
 use Rattle.ix_core.specs.declared.program.Method.{Method}
 use Rattle.ix_core.specs.declared.program.Program.{Program}
 use Rattle.ix_core.specs.Code.{items_code}
-use Rattle.ix_core.specs.Heap.{Held, Num, At, Heap, value_at, array_at, is_within}
-use Rattle.ix_core.specs.Machine.{Ending, Ended, State, Limits, Done, Did, frame, operate, done_then, moved, step_from, step, run, set_slot, slots_with}
-use Rattle.ix_core.specs.Safe.{Input, Whole, HaveTypes, Meets, number_in, input_values, input_heap, input_numbers, start, IsBad, Safe}
+use Rattle.ix_core.specs.Heap.{Held, Num, At, Heap, int_reading, value_at, array_at, is_within}
+use Rattle.ix_core.specs.Machine.{Ending, Ended, State, Limits, Effect, Done, frame, operate, effect_then, result_shown, moved, step_from, step, run, slots_with}
+use Rattle.ix_core.specs.Safe.{Input, Whole, HaveTypes, Meets, reading_in, input_values, input_heap, input_names, start, IsBad, Safe}
+use Rattle.ix_core.specs.Tables.{Tables, tables_of}
 use Rattle.ix_core.specs.Tasks.{Empty, code_then}
-use Rattle.ix_core.specs.World.{World, world_of}
 use Rattle.ix_text.specs.declared.span.Span.{Span}
 use Rattle.ix_check.specs.declared.form.Form.{Form}
 use Rattle.ix_check.specs.declared.form.Local.{Local}
@@ -35,19 +35,19 @@ either false = inr refl
 
 -- ---- a run that ended
 
-step_ended : (limits : Limits) (world : World) (state : State) (ended : Option Ending) (ending : Ending) → ended ≡ Some ending → step_from limits world ended state ≡ state
-step_ended limits world state None ending is = cc
-step_ended limits world state (Some other) ending is = refl
+step_ended : (limits : Limits) (tables : Tables) (state : State) (ended : Option Ending) (ending : Ending) → ended ≡ Some ending → step_from limits tables ended state ≡ state
+step_ended limits tables state None ending is = cc
+step_ended limits tables state (Some other) ending is = refl
 
-final : (limits : Limits) (world : World) (steps : ℕ) (state : State) (ending : Ending) → state.ended ≡ Some ending → run limits world steps state ≡ state
-final limits world zero state ending is = refl
-final limits world (suc steps) state ending is =
-    ap (run limits world steps) (step_ended limits world state state.ended ending is) ∙ final limits world steps state ending is
+final : (limits : Limits) (tables : Tables) (steps : ℕ) (state : State) (ending : Ending) → state.ended ≡ Some ending → run limits tables steps state ≡ state
+final limits tables zero state ending is = refl
+final limits tables (suc steps) state ending is =
+    ap (run limits tables steps) (step_ended limits tables state state.ended ending is) ∙ final limits tables steps state ending is
 
 -- an ended run isn't bad
-ended_well : (limits : Limits) (world : World) (steps : ℕ) (state : State) (value : Option Held) → state.ended ≡ Some (Ended value) → IsBad (run limits world steps state).ended → ⊥
-ended_well limits world steps state value is bad =
-    let same : (run limits world steps state).ended ≡ Some (Ended value) = ap (λ (s : State). s.ended) (final limits world steps state (Ended value) is) ∙ is in
+ended_well : (limits : Limits) (tables : Tables) (steps : ℕ) (state : State) (value : _) → state.ended ≡ Some (Ended value) → IsBad (run limits tables steps state).ended → ⊥
+ended_well limits tables steps state value is bad =
+    let same : (run limits tables steps state).ended ≡ Some (Ended value) = ap (λ (s : State). s.ended) (final limits tables steps state (Ended value) is) ∙ is in
     subst (λ (o : Option Ending). IsBad o) same bad
 
 -- ---- lists of values
@@ -110,8 +110,8 @@ module _ (form : Form) (inputs : List Input) (limits : Limits) where
   abbrev program : Program
   program = plain_program form
 
-  abbrev world : World
-  world = world_of program
+  abbrev tables : Tables
+  tables = tables_of program
 
   abbrev types : List Type_
   types = map type_of form.params
@@ -128,26 +128,25 @@ module _ (form : Form) (inputs : List Input) (limits : Limits) where
     now = frame 0 (code_then (items_code items) Empty) slots;
     below = [];
     heap = heap;
-    printed = [];
     wrapped = false;
     ended = None;
   }
 
   abbrev Ends : List Item → List Held → Type 0
-  Ends items slots = (steps : ℕ) → IsBad (run limits world steps (at items slots)).ended → ⊥
+  Ends items slots = (steps : ℕ) → IsBad (run limits tables steps (at items slots)).ended → ⊥
 
-  starts : start world 0 inputs ≡ at (copies_from form.params form.locals 0 form.locals ++ return_items form form.value) first_slots
+  starts : start program 0 inputs ≡ at (copies_from form.params form.locals 0 form.locals ++ return_items form form.value) first_slots
   starts = refl
 
   -- a return ends the run well
   returns_well : (slot : ℕ) (span : Span) (slots : List Held) → Ends (Return (Some slot) span ∷ []) slots
   returns_well slot span slots zero bad = bad
-  returns_well slot span slots (suc steps) bad = ended_well limits world steps (step limits world (at (Return (Some slot) span ∷ []) slots)) (Some (value_at slots slot)) refl bad
+  returns_well slot span slots (suc steps) bad = ended_well limits tables steps (step limits tables (at (Return (Some slot) span ∷ []) slots)) (result_shown heap (Some (value_at slots slot))) refl bad
 
   -- a load within the array is done
   load_done : (array index target number size : ℕ) (n : ℤ) (place : ℕ) (slots : List Held) → value_at slots array ≡ At number → value_at slots index ≡ Num n → length (array_at heap number) ≡ size
       → pos 0 ≤ℤ n → n <ℤ pos size
-      → operate limits world (Load target array index int_array) place slots heap ≡ Did (set_slot slots target (value_at (array_at heap number) (unsigned_abs n))) heap
+      → operate limits tables place slots heap (Load target array index int_array) ≡ Done (slice_set slots target (value_at (array_at heap number) (unsigned_abs n))) heap
   load_done array index target number size n place slots at_array at_index count low high =
       let fits : is_within n (length (array_at heap number)) ≡ true = rw count (is_within_true n size low high) in
       rw (at_array, at_index, fits) refl
@@ -161,9 +160,9 @@ module _ (form : Form) (inputs : List Input) (limits : Limits) where
       let items : List Item = Return (Some slot) whole ∷ [] in
       let before : State = at (Do record { kind = Load target array index int_array; span = span; parts = [] } ∷ items) slots in
       let done = load_done array index target number size n span.from slots at_array at_index count low high in
-      let next : step limits world before ≡ at items (set_slot slots target (value_at (array_at heap number) (unsigned_abs n))) =
-      ap (λ (d : Done). moved limits world (done_then d (code_then (items_code items) Empty)) before) done in
-      returns_well slot whole (set_slot slots target (value_at (array_at heap number) (unsigned_abs n))) steps (subst (λ (s : State). IsBad (run limits world steps s).ended) next bad)
+      let next : step limits tables before ≡ at items (slice_set slots target (value_at (array_at heap number) (unsigned_abs n))) =
+      ap (λ (d : Effect). moved limits tables (effect_then d span.from (code_then (items_code items) Empty)) before) done in
+      returns_well slot whole (slice_set slots target (value_at (array_at heap number) (unsigned_abs n))) steps (subst (λ (s : State). IsBad (run limits tables steps s).ended) next bad)
 
   -- what the slots hold when so many locals are copied
   record Ready (scope : ℕ) (slots : List Held) : Type 0 where
@@ -190,7 +189,7 @@ module _ (form : Form) (inputs : List Input) (limits : Limits) where
       ap (λ (o : Option ℕ). value_at slots (slot_or_first o)) held.1 ∙ held.3
 
   ready_more : (scope : ℕ) (local : Local) (rest : List Local) (slots : List Held) → Rest scope (local ∷ rest) → Ready scope slots
-      → Ready (suc scope) (set_slot slots (length form.params + scope) (value_at slots (slot_or_first (slot_of form.params form.locals scope local.init))))
+      → Ready (suc scope) (slice_set slots (length form.params + scope) (value_at slots (slot_or_first (slot_of form.params form.locals scope local.init))))
   ready_more scope local rest slots tail ready =
       let here : slice_get form.locals scope ≡ Some local = ap (slice_get form.locals) (sym (add-zero scope)) ∙ tail.0 0 in
       let room : length form.params + scope < length slots = rw ready.size (count_room scope local rest tail) in
@@ -212,9 +211,9 @@ module _ (form : Form) (inputs : List Input) (limits : Limits) where
   copies_well items scope [] slots tail ready go steps bad = (go slots (let e : scope ≡ length form.locals = omega (arith, tail.1) in subst (λ (n : ℕ). Ready n slots) e ready)) steps bad
   copies_well items scope (local ∷ rest) slots tail ready go zero bad = bad
   copies_well items scope (local ∷ rest) slots tail ready go (suc steps) bad =
-      let next = copies_well items (suc scope) rest (set_slot slots (length form.params + scope) (value_at slots (slot_or_first (slot_of form.params form.locals scope local.init)))) (rest_more scope local rest tail) (ready_more scope local rest slots tail ready) go in
+      let next = copies_well items (suc scope) rest (slice_set slots (length form.params + scope) (value_at slots (slot_or_first (slot_of form.params form.locals scope local.init)))) (rest_more scope local rest tail) (ready_more scope local rest slots tail ready) go in
       let e : suc scope ≡ scope + 1 = omega arith in
-      (subst (λ (n : ℕ). Ends (copies_from form.params form.locals n rest ++ items) (set_slot slots (length form.params + scope) (value_at slots (slot_or_first (slot_of form.params form.locals scope local.init))))) e next) steps bad
+      (subst (λ (n : ℕ). Ends (copies_from form.params form.locals n rest ++ items) (slice_set slots (length form.params + scope) (value_at slots (slot_or_first (slot_of form.params form.locals scope local.init))))) e next) steps bad
 
   -- ---- the start
 
@@ -276,13 +275,13 @@ module _ (form : Form) (inputs : List Input) (limits : Limits) where
         ∙ ap (λ (o : Option ℕ). access_errors (marks_at form.params o) array_found_is.0 span) source_is.1
         ∙ ap (λ (o : Option Param). access_errors (marks_in o) array_found_is.0 span) index_is.1) ∙ none in
         let claims = claims_shown index_is.0.marks array_found_is.0 span errors in
-        let met = met_at inputs form.params 0 form.params (input_numbers inputs) source_is.0 index_is.0 (Whole whole_is.0) meets index_is.1 whole_is.1 in
-        let low = low_met form.params index_is.0.marks whole_is.0 (input_numbers inputs) claims.0 met in
+        let met = met_at inputs form.params 0 form.params (input_names inputs) source_is.0 index_is.0 (Whole whole_is.0) meets index_is.1 whole_is.1 in
+        let low = low_met form.params index_is.0.marks (int_reading whole_is.0) (input_names inputs) claims.0 met in
         let names_it = array_found form.params array_found_is.0 array_is.0 array_is.1 array_is.2 (omega (arith, array_within, few)) in
-        let high = high_met form.params array_found_is.0 index_is.0.marks whole_is.0 (input_numbers inputs) names_it claims.1 met in
+        let high = high_met form.params array_found_is.0 index_is.0.marks (int_reading whole_is.0) (input_names inputs) names_it claims.1 met in
         let size : length (array_at heap (0 + on_heap.0)) ≡ length ints_are.0 =
         ap (λ (n : ℕ). length (array_at heap n)) (zero-add on_heap.0) ∙ (ap (λ (l : List Held). length l) on_heap.2 ∙ numbers_length ints_are.0) in
-        let below : whole_is.0 <ℤ pos (length ints_are.0) = subst (λ (o : Option Input). whole_is.0 <ℤ number_in o) ints_are.1 high in
+        let below : whole_is.0 <ℤ pos (length ints_are.0) = subst (λ (o : Option Input). whole_is.0 <ℤ (reading_in o).size) ints_are.1 high in
         let array_value : value_at slots (slot_at_end form array) ≡ At (0 + on_heap.0) =
         ap (value_at slots) (array_slot array array_found_is.0 array_found_is.1) ∙ (ready.params array_found_is.0 array_within ∙ (first_value array_found_is.0 array_within ∙ on_heap.1)) in
         let index_value : value_at slots (slot_at_end form index) ≡ Num whole_is.0 =
@@ -297,7 +296,7 @@ module _ (form : Form) (inputs : List Input) (limits : Limits) where
 
     -- every run ends well
     run_ends : (few : length form.params ≤ 32) (meets : Meets (plain_method form) inputs) → is_value_in_scope form.params form.locals form.value ≡ true
-        → value_errors form.params form.locals form.value ≡ [] → (steps : ℕ) → IsBad (run limits world steps (start world 0 inputs)).ended → ⊥
+        → value_errors form.params form.locals form.value ≡ [] → (steps : ℕ) → IsBad (run limits tables steps (start program 0 inputs)).ended → ⊥
     run_ends few meets in_scope none =
         copies_well (return_items form form.value) 0 form.locals first_slots ((λ place. ap (slice_get form.locals) (zero-add place)), sym (zero-add (length form.locals))) first_ready
         (value_ends few meets form.value in_scope none)

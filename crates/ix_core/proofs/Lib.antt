@@ -1,4 +1,20 @@
+pub mod Cases
+pub mod Heaps
+pub mod Kept
 pub mod GoodIsSafe
+pub mod Waiting
+pub mod Entered
+pub mod Stack
+pub mod LawsAreSafe
+pub mod SlotSteps
+pub mod FieldSteps
+pub mod WorldTables
+pub mod LawsCanBeMet
 pub mod RepeatedClaims
 pub mod Translated
-mod ModelRows
+pub mod Programs
+mod ConditionRows
+mod OperationRows
+mod CallRows
+mod ObjectRows
+mod Unsafe

@@ -2,10 +2,12 @@ pub mod Code
 pub mod Heap
 pub mod Claims
 pub mod SameClaims
-pub mod World
+pub mod Tables
 pub mod Tasks
 pub mod Machine
 pub mod Safe
+pub mod World
 pub mod Objects
 pub mod Waits
+pub mod Analysis
 pub mod Numbers

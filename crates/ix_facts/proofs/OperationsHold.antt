@@ -25,6 +25,7 @@ use Rattle.ix_core.specs.declared.op.OpKind.TheVariants as op
 use Rattle.ix_core.specs.declared.op.UnaryNum.{UnaryNum}
 use Rattle.ix_core.specs.declared.op.UnaryNum.TheVariants.{Neg as Negated, Flip}
 use Rattle.ix_core.specs.Claims.{True, AreTrue}
+use Rattle.ix_core.specs.Heap.{Reading, int_reading, no_reading}
 use Rattle.ix_core.specs.Machine.{unary_of}
 use Rattle.ix_core.specs.Numbers.{Numbers}
 use Rattle.ix_facts.specs.Facts.{AllHold}
@@ -43,14 +44,14 @@ use Rattle.ix_facts.proofs.RulesHold.{range_facts_hold, low_facts_hold, copied_h
 
 -- ---- claims on an int that was loaded
 
-claimed_holds : (w : Numbers) (t : Path) (c : Claim) (names : Rattle.ix_core.specs.declared.claim.Name.Name → ℤ) → True c (w.int t) names → AllHold (after.claimed_by t c) w
+claimed_holds : (w : Numbers) (t : Path) (c : Claim) (names : Rattle.ix_core.specs.declared.claim.Name.Name → Reading) → True c (int_reading (w.int t)) names → AllHold (after.claimed_by t c) w
 claimed_holds w t (claim.Range low high) names h = (h, tt)
 claimed_holds w t (claim.Low low) names h =
     let u = w.int_to t in
     ((h, u), if_so_holds w (int_le (negsuc 0) low && int_le low (pos 1)) (Low t low ∷ []) (λ x. (h, tt)))
 claimed_holds w t _ names h = tt
 
-pub loaded_hold : (w : Numbers) (t : Path) (claims : List Claim) (names : Rattle.ix_core.specs.declared.claim.Name.Name → ℤ) → AreTrue claims (w.int t) names → AllHold (after.loaded_facts t claims) w
+pub loaded_hold : (w : Numbers) (t : Path) (claims : List Claim) (names : Rattle.ix_core.specs.declared.claim.Name.Name → Reading) → AreTrue claims (int_reading (w.int t)) names → AllHold (after.loaded_facts t claims) w
 loaded_hold w t [] names h = tt
 loaded_hold w t (c ∷ claims) names h = all_hold_app w (after.claimed_by t c) (after.loaded_facts t claims) (claimed_holds w t c names h.0) (loaded_hold w t claims names h.1)
 
@@ -190,7 +191,7 @@ module _ (w : Numbers) (facts : List Fact) (h : AllHold facts w) where
   new_facts_hold profile (op.Load t a i ty) r =
       all_hold_app w (if_so (after.holds_arrays ty) (Same (Slot t) (Slot t) ∷ [])) (after.loaded_facts (Slot t) (loaded_claims ty))
       (if_so_holds w (after.holds_arrays ty) (Same (Slot t) (Slot t) ∷ []) (λ x. (refl, tt)))
-      (loaded_hold w (Slot t) (loaded_claims ty) (λ name. pos 0) r)
+      (loaded_hold w (Slot t) (loaded_claims ty) (λ name. no_reading) r)
   new_facts_hold profile (op.Store a i v ty) r = tt
   new_facts_hold profile (op.ReadField t o f) r = tt
   new_facts_hold profile (op.WriteField o f v) r = tt

@@ -25,7 +25,7 @@ use Rattle.ix_core.specs.declared.op.OpKind.{OpKind}
 use Rattle.ix_core.specs.declared.op.OpKind.TheVariants as op
 use Rattle.ix_core.specs.declared.op.UnaryNum.{UnaryNum}
 use Rattle.ix_core.specs.declared.op.UnaryNum.TheVariants.{Neg as Negated, Flip}
-use Rattle.ix_core.specs.Claims.{AreTrue}
+use Rattle.ix_core.specs.Claims.{AreTrueOf}
 use Rattle.ix_core.specs.Machine.{unary_of}
 use Rattle.ix_core.specs.Numbers.{Numbers}
 use Rattle.ix_facts.specs.Bounds
@@ -57,7 +57,7 @@ Results profile (op.Unary t unary y) v w = Computed profile (Some (unary_of unar
 Results profile (op.Length t a) v w = w.int (Slot t) ≡ v.size (Slot a)
 Results profile (op.NewArray t ty n) v w = w.size (Slot t) ≡ v.int (Slot n)
 Results profile (op.Fill t ty entries) v w = w.size (Slot t) ≡ pos (length entries)
-Results profile (op.Load t a i ty) v w = AreTrue (loaded_claims ty) (w.int (Slot t)) (λ name. pos 0)
+Results profile (op.Load t a i ty) v w = AreTrueOf (loaded_claims ty) (w.int (Slot t))
 Results profile _ v w = Unit {0}
 
 -- ---- types

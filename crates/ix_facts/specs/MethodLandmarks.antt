@@ -10,8 +10,8 @@ use Rattle.ix_core.specs.declared.program.Field.{Field}
 use Rattle.ix_core.specs.declared.program.Local.{Local as Variable}
 use Rattle.ix_core.specs.declared.program.Method.{Method}
 use Rattle.ix_core.specs.declared.program.Program.{Program}
-use Rattle.ix_core.specs.Code.{Code, Question, End, Operate, Choose, LeaveLoop, NextTurn, Answer, Fail, Repeat, Known, Compare, Truth, Both, Either, Opposite}
-use Rattle.ix_core.specs.World.{method_at, field_at, all_fields, body_of}
+use Rattle.ix_core.specs.Code.{Code, Condition, End, Do, If, Break, Continue, Return, Throw, Loop, Known, Compare, Truth, Both, Either, Opposite}
+use Rattle.ix_core.specs.Tables.{method_at, field_at, all_fields, body_of}
 use Rattle.ix_core.specs.Safe.{element_claims}
 use Rattle.ix_facts.specs.Round.{AreLandmarks}
 
@@ -73,21 +73,21 @@ operation_numbers program _ = []
 abbrev mutual
   pub code_numbers : Program → Code → List ℤ
   code_numbers program End = []
-  code_numbers program (Operate done code) = operation_numbers program done.kind ++ code_numbers program code
-  code_numbers program (Choose asked first second code) = question_numbers program asked ++ (code_numbers program first ++ (code_numbers program second ++ code_numbers program code))
-  code_numbers program (LeaveLoop code) = code_numbers program code
-  code_numbers program (NextTurn code) = code_numbers program code
-  code_numbers program (Answer value span code) = code_numbers program code
-  code_numbers program (Fail name span code) = code_numbers program code
-  code_numbers program (Repeat first asked body next number scope code) = question_numbers program asked ++ (code_numbers program body ++ (code_numbers program next ++ code_numbers program code))
+  code_numbers program (Do done code) = operation_numbers program done.kind ++ code_numbers program code
+  code_numbers program (If asked first second code) = condition_numbers program asked ++ (code_numbers program first ++ (code_numbers program second ++ code_numbers program code))
+  code_numbers program (Break code) = code_numbers program code
+  code_numbers program (Continue code) = code_numbers program code
+  code_numbers program (Return value span code) = code_numbers program code
+  code_numbers program (Throw name span code) = code_numbers program code
+  code_numbers program (Loop first asked body next number scope code) = condition_numbers program asked ++ (code_numbers program body ++ (code_numbers program next ++ code_numbers program code))
 
-  pub question_numbers : Program → Question → List ℤ
-  question_numbers program (Known answer) = []
-  question_numbers program (Compare code test) = code_numbers program code
-  question_numbers program (Truth code slot) = code_numbers program code
-  question_numbers program (Both asked other) = question_numbers program asked ++ question_numbers program other
-  question_numbers program (Either asked other) = question_numbers program asked ++ question_numbers program other
-  question_numbers program (Opposite asked) = question_numbers program asked
+  pub condition_numbers : Program → Condition → List ℤ
+  condition_numbers program (Known answer) = []
+  condition_numbers program (Compare code test) = code_numbers program code
+  condition_numbers program (Truth code slot) = code_numbers program code
+  condition_numbers program (Both asked other) = condition_numbers program asked ++ condition_numbers program other
+  condition_numbers program (Either asked other) = condition_numbers program asked ++ condition_numbers program other
+  condition_numbers program (Opposite asked) = condition_numbers program asked
 
 abbrev pub locals_of : List (Variable × Rattle.ix_text.specs.declared.span.Span.Span) → List Variable
 locals_of [] = []

@@ -1,3 +1,4 @@
 pub mod MachineSteps
-pub mod MachineStates
+pub mod MachineLoads
 pub mod MachineTests
+pub mod KeptNumbers

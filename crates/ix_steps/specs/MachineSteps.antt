@@ -1,7 +1,5 @@
--- What ties the machine to the rules: its operations as steps between the numbers of paths, its tests as outcomes, and its claims as claims on paths.
-use Rattle.std.specs.Prelude.{◌≡◌, ◌⊎◌, ℕ, ◌<◌, ◌≤◌, pos, unsigned_abs, true, List, [], length}
-use Rattle.ix_num.specs.Ints.{IsInt}
-use Rattle.ix_core.specs.declared.claim.Base.TheVariants as base
+-- What ties the machine to the rules: when an operation is a step between the numbers of paths, and which claim on paths a claim is.
+use Rattle.std.specs.Prelude.{◌≡◌, ◌⊎◌, ℕ, ◌<◌, ◌==◌, unsigned_abs, Bool, true, ◌&&◌, List, [], length}
 use Rattle.ix_core.specs.declared.claim.Claim.{Claim}
 use Rattle.ix_core.specs.declared.claim.Claim.TheVariants as claim
 use Rattle.ix_core.specs.declared.claim.Name.{Name}
@@ -9,19 +7,19 @@ use Rattle.ix_core.specs.declared.claim.Name.TheVariants.{Param, Local, FieldNam
 use Rattle.ix_core.specs.declared.claim.Off.{Off}
 use Rattle.ix_core.specs.declared.claim.Off.TheVariants as off
 use Rattle.ix_core.specs.declared.claim.Type_.{Type_}
-use Rattle.ix_core.specs.declared.claim.Type_.TheVariants as type
 use Rattle.ix_core.specs.declared.fact.Path.{Path}
 use Rattle.ix_core.specs.declared.fact.Path.TheVariants.{Slot, FieldOf}
 use Rattle.ix_core.specs.declared.fact.PathClaim.{PathClaim}
 use Rattle.ix_core.specs.declared.fact.PathClaim.TheVariants as path_claim
 use Rattle.ix_core.specs.declared.fact.PathOff.{PathOff}
 use Rattle.ix_core.specs.declared.fact.PathOff.TheVariants.{Nothing, Plus, Minus}
-use Rattle.ix_core.specs.declared.op.Literal.TheVariants as literal
 use Rattle.ix_core.specs.declared.op.OpKind.{OpKind}
 use Rattle.ix_core.specs.declared.op.OpKind.TheVariants as op
 use Rattle.ix_core.specs.declared.program.Method.{Method}
-use Rattle.ix_core.specs.Claims.{AreTrue}
-use Rattle.ix_core.specs.Heap.{Held, Num, Null, At, Heap, value_at, thing_at, array_at, number_of, is_within}
+use Rattle.ix_core.specs.Claims.{AreTrueOf}
+use Rattle.ix_core.specs.Heap.{Held, Num, At, Heap, Reading, value_at, object_at, array_at, int_of, is_within}
+use Rattle.ix_core.specs.Machine.{int_at}
+use Rattle.ix_core.specs.Numbers.{Numbers}
 use Rattle.ix_core.specs.Objects.{param_slot, kind_claims}
 use Rattle.ix_facts.specs.AfterOperation.{loaded_claims}
 
@@ -42,8 +40,8 @@ HasTarget _ slots = Unit {0}
 
 -- What is loaded meets the claims on elements of the operation's type.
 abbrev pub LoadsMet : OpKind → List Held → Heap → Type 0
-LoadsMet (op.Load t a i ty) slots heap = (number : ℕ) → value_at slots a ≡ At number → is_within (number_of heap (value_at slots i)) (length (array_at heap number)) ≡ true
-    → AreTrue (loaded_claims ty) (number_of heap (value_at (array_at heap number) (unsigned_abs (number_of heap (value_at slots i))))) (λ name. pos 0)
+LoadsMet (op.Load t a i ty) slots heap = (number : ℕ) → value_at slots a ≡ At number → is_within (int_at slots i) (length (array_at heap number)) ≡ true
+    → AreTrueOf (loaded_claims ty) (int_of (value_at (array_at heap number) (unsigned_abs (int_at slots i))))
 LoadsMet _ slots heap = Unit {0}
 
 abbrev pub IsNumber : Held → Type 0
@@ -52,53 +50,13 @@ IsNumber _ = ⊥
 
 -- An array of ints was made with the claims on elements that the type has. Types say so.
 abbrev pub HoldsElements : Type_ → Heap → ℕ → Type 0
-HoldsElements ty heap number = (loaded_claims ty ≡ []) ⊎ ((kind_claims (thing_at heap number).kind ≡ loaded_claims ty) × ((place : ℕ) → IsNumber (value_at (array_at heap number) place)))
-
--- no reference to nowhere
-abbrev pub IsOn : Heap → Held → Type 0
-IsOn heap (At number) = number < length heap
-IsOn heap _ = Unit {0}
-
-pub record AllOn (slots : List Held) (heap : Heap) : Type 0 where
-  pub held : (slot : ℕ) → IsOn heap (value_at slots slot)
-  pub within : (number place : ℕ) → IsOn heap (value_at (thing_at heap number).cells place)
-
--- an int that is held is one of Java
-abbrev pub IsIntHeld : Held → Type 0
-IsIntHeld (Num n) = IsInt n
-IsIntHeld _ = Unit {0}
-
--- The ints of slots, cells and fields are ints, and no thing has more cells than the greatest int: each step keeps it.
-pub record KeepsInts (slots : List Held) (heap : Heap) : Type 0 where
-  pub held : (slot : ℕ) → IsIntHeld (value_at slots slot)
-  pub within : (number place : ℕ) → IsIntHeld (value_at (thing_at heap number).cells place)
-  pub sizes : (number : ℕ) → length (thing_at heap number).cells ≤ 2147483647
-
--- the numbers in an operation are ints: of a program that is formed each literal is one, and no array initialiser is longer than its source
-abbrev pub IntsOnly : OpKind → Type 0
-IntsOnly (op.Const t (literal.Int n)) = IsInt n
-IntsOnly (op.Fill t ty entries) = length entries ≤ 2147483647
-IntsOnly _ = Unit {0}
-
--- an operation that is no call
-abbrev pub IsNoCall : OpKind → Type 0
-IsNoCall (op.NewObject call) = ⊥
-IsNoCall (op.StaticCall call) = ⊥
-IsNoCall (op.InstanceCall call) = ⊥
-IsNoCall (op.SuperCall call) = ⊥
-IsNoCall _ = Unit {0}
-
--- ---- tests
-
--- the value is one of a type of ints or arrays; of others nothing is said
-abbrev pub FitsType : Type_ → Held → Type 0
-FitsType (type.Plain base.Int) held = IsNumber held
-FitsType (type.Array of depth element) Null = Unit {0}
-FitsType (type.Array of depth element) (At number) = Unit {0}
-FitsType (type.Array of depth element) _ = ⊥
-FitsType _ held = Unit {0}
+HoldsElements ty heap number = (loaded_claims ty ≡ []) ⊎ ((kind_claims (object_at heap number).kind ≡ loaded_claims ty) × ((place : ℕ) → IsNumber (value_at (array_at heap number) place)))
 
 -- ---- claims
+
+-- what a path has of a state's numbers
+abbrev pub reading_at : Numbers → Path → Reading
+reading_at v p = record { int = v.int p; size = v.size p }
 
 abbrev pub path_offset : (Name → Path) → Off → PathOff
 path_offset path off.Nothing = Nothing
@@ -127,16 +85,8 @@ abbrev pub IsDeclared : Name → Type 0
 IsDeclared (Local number) = ⊥
 IsDeclared _ = Unit {0}
 
--- what is held is no int
-abbrev pub IsNoInt : Held → Type 0
-IsNoInt (Num n) = ⊥
-IsNoInt _ = Unit {0}
+-- ---- calls and writes of fields
 
--- The paths of the claim that stand for arrays hold no int. Types say so.
-abbrev pub FitsClaim : (Path → Held) → PathClaim → Path → Type 0
-FitsClaim held (path_claim.Length least) p = IsNoInt (held p)
-FitsClaim held (path_claim.Same other) p = IsNoInt (held p) × IsNoInt (held other)
-FitsClaim held (path_claim.Upper a o c) p = IsNoInt (held a)
-FitsClaim held (path_claim.Search a) p = IsNoInt (held a)
-FitsClaim held (path_claim.Negative a) p = IsNoInt (held a)
-FitsClaim held _ p = Unit {0}
+-- `this` of a constructor
+abbrev pub own_slot : Method → ℕ → Bool
+own_slot method slot = method.constructor && (slot == 0)

@@ -8,4 +8,4 @@
 
 mod laws;
 
-pub use laws::{machine_laws, meaning_laws};
+pub use laws::{machine_laws, meaning_laws, stay_laws};
