@@ -1,6 +1,6 @@
 //! Sources that end too early, and sources at a limit and one past it.
-use crate::Status;
-use crate::tests::{Ended, GET, run};
+use crate::calls::{Ended, GET, run};
+use ix_tool::Status;
 use std::alloc::{AllocError, Global};
 use std::test::Fail;
 
@@ -49,12 +49,7 @@ fn most_tokens(rt: HostRuntime) -> Result<(), Fail> {
         line(alloc, 1, "syntax")?.as_bytes()
     );
     let past = check(alloc, repeated(alloc, ";", 200_001)?.as_bytes())?;
-    assert_eq!(rt; past.status, Status::Limit);
-    assert_eq!(rt; past.out.as_slice(), b"".as_slice());
-    assert_eq!(rt;
-        past.err.as_slice(),
-        b"A.java:1:200001: limit: tokens\n".as_slice()
-    );
+    assert!(rt; past.status == Status::Limit && past.out.is_empty() && past.err.as_slice() == b"A.java:1:200001: limit: tokens\n".as_slice());
     Ok(())
 }
 
@@ -73,12 +68,7 @@ fn greatest_height(rt: HostRuntime) -> Result<(), Fail> {
         Status::Unbuilt
     );
     let past = check(alloc, nested(alloc, 198)?.as_bytes())?;
-    assert_eq!(rt; past.status, Status::Limit);
-    assert_eq!(rt; past.out.as_slice(), b"".as_slice());
-    assert_eq!(rt;
-        past.err.as_slice(),
-        b"A.java:1:226: limit: height\n".as_slice()
-    );
+    assert!(rt; past.status == Status::Limit && past.out.is_empty() && past.err.as_slice() == b"A.java:1:226: limit: height\n".as_slice());
     Ok(())
 }
 
@@ -88,11 +78,6 @@ fn most_bytes(rt: HostRuntime) -> Result<(), Fail> {
     let at_most = check(alloc, repeated(alloc, " ", 1_048_576)?.as_bytes())?;
     assert_eq!(rt; at_most.status, Status::Unbuilt);
     let past = check(alloc, repeated(alloc, " ", 1_048_577)?.as_bytes())?;
-    assert_eq!(rt; past.status, Status::Limit);
-    assert_eq!(rt; past.out.as_slice(), b"".as_slice());
-    assert_eq!(rt;
-        past.err.as_slice(),
-        b"A.java: limit: source bytes\n".as_slice()
-    );
+    assert!(rt; past.status == Status::Limit && past.out.is_empty() && past.err.as_slice() == b"A.java: limit: source bytes\n".as_slice());
     Ok(())
 }
