@@ -30,28 +30,3 @@ impl Rel {
         }
     }
 }
-
-#[cfg(test)]
-mod tests {
-    use super::*;
-
-    // For each relation whether it holds of (1, 2), (2, 2) and (2, 1).
-    #[test]
-    fn compares(rt: HostRuntime) {
-        let rows = [
-            (Rel::Lt, true, false, false),
-            (Rel::Le, true, true, false),
-            (Rel::Gt, false, false, true),
-            (Rel::Ge, false, true, true),
-            (Rel::Eq, false, true, false),
-            (Rel::Ne, true, false, true),
-        ];
-        for (rel, below, same, above) in rows {
-            assert_eq!(rt;
-                (rel.holds(1, 2), rel.holds(2, 2), rel.holds(2, 1)),
-                (below, same, above),
-                "{rel:?}"
-            );
-        }
-    }
-}

@@ -1,6 +1,6 @@
 //! What a Java virtual machine (OpenJDK 17) computes.
 
-use ix_num::{Arith, java, java_neg, java_not, wrap};
+use ix_num::{Arith, Rel, java, java_neg, java_not, wrap};
 
 // x, y, then x + y, x - y, x * y, x & y, x | y, x ^ y.
 #[test]
@@ -270,5 +270,24 @@ fn low_bits(rt: HostRuntime) {
     ];
     for &(number, low) in rows {
         assert_eq!(rt; wrap(number), low);
+    }
+}
+
+// A relation, and whether it holds of (1, 2), (2, 2) and (2, 1).
+#[test]
+fn relations(rt: HostRuntime) {
+    let rows = &[
+        (Rel::Lt, [true, false, false]),
+        (Rel::Le, [true, true, false]),
+        (Rel::Gt, [false, false, true]),
+        (Rel::Ge, [false, true, true]),
+        (Rel::Eq, [false, true, false]),
+        (Rel::Ne, [true, false, true]),
+    ];
+    for &(rel, answers) in rows {
+        assert_eq!(rt;
+            [rel.holds(1, 2), rel.holds(2, 2), rel.holds(2, 1)],
+            answers
+        );
     }
 }
