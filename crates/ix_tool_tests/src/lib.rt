@@ -1,8 +1,8 @@
-//! Tests of the top call over files and sinks in memory.
+//! Tests of the top call over files and sinks in memory, and of the workload.
 //!
 //! What goes in: nothing. The contract: each row is answered as it says, by values worked out apart from the code.
-//! It stands on `ix_tool` and `ix_outside`, and is a crate of its own since a crate with tests is proved twice.
-//! It never looks at the inside of either.
+//! It stands on `ix_tool`, `ix_outside` and `ix_gen`, and is a crate of its own since a crate with tests is proved twice.
+//! It never looks at the inside of any of them.
 #![tactic(auto)]
 
 #[cfg(test)]
@@ -17,3 +17,5 @@ mod forms;
 mod limits;
 #[cfg(test)]
 mod slow;
+#[cfg(test)]
+mod workload;
