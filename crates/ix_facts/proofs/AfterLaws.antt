@@ -19,16 +19,14 @@ use Rattle.ix_facts.specs.AfterOperation.{Results, HasExact, is_int, is_array, h
 use Rattle.ix_facts.specs.Finish.{finish_int, finish_array}
 use Rattle.ix_facts.specs.After.{of_target, Step, TargetApart, holds_ints, finished_by, finished, beside_target, kept_new, after_facts, copy_facts}
 use Rattle.ix_facts.proofs.BoundsHold.{in_orders_hold}
-use Rattle.ix_facts.proofs.ClosureLaws.{kept_hold, kept_stronger}
+use Rattle.ix_facts.proofs.ClosureLaws.{kept_hold}
 use Rattle.ix_facts.proofs.ExactLaws.{exact_includes, unary_includes}
-use Rattle.ix_facts.proofs.FactLists.{all_hold_app, in_orders_stronger, stronger_app, stronger_none}
+use Rattle.ix_facts.proofs.FactLists.{all_hold_app, stronger_app, stronger_none}
 use Rattle.ix_facts.proofs.FinishLaws.{finish_int_holds, finish_array_holds, finish_int_mono, finish_array_mono}
-use Rattle.ix_facts.proofs.Frame.{without_holds, without_stays, without_stronger}
+use Rattle.ix_facts.proofs.Frame.{without_holds, without_stays}
 use Rattle.ix_facts.proofs.OperationsHold.{new_facts_hold}
-use Rattle.ix_facts.proofs.OperationsMonotone.{new_facts_mono}
 use Rattle.ix_facts.proofs.RuleForms.{if_so_holds, stronger_if}
 use Rattle.ix_facts.proofs.RulesHold.{Alike, copied_hold}
-use Rattle.ix_facts.proofs.RulesMonotone.{copied_mono}
 
 -- what an operation gives its target it gives of the operands as they are after the step, since it changes none
 pub results_now : (profile : Profile) (kind : OpKind) (v w : Numbers) → TargetApart kind → SameBut (of_target kind) v w → Results profile kind v w → Results profile kind w w
@@ -163,18 +161,3 @@ module _ (strong weak new weak_new : List Fact) (s : Stronger strong weak) (n : 
   finished_mono (op.InstanceCall call) = stronger_none []
   finished_mono (op.SuperCall call) = stronger_none []
   finished_mono (op.Print x) = stronger_none []
-
--- stronger facts have stronger facts after an operation whose exact interval is not empty
-pub after_mono : (profile : Profile) (kind : OpKind) (strong weak : List Fact) → Stronger strong weak → HasExact (beside_target kind strong) kind → Stronger (after_facts strong profile kind) (after_facts weak profile kind)
-after_mono profile kind strong weak s some =
-    let old = without_stronger (of_target kind) strong weak s in
-    let beside = in_orders_stronger (without (of_target kind) strong) (without (of_target kind) weak) old in
-    let new = kept_stronger _ _ (new_facts_mono (beside_target kind strong) (beside_target kind weak) beside profile kind some) in
-    stronger_app _ _ _ _ old
-    (stronger_app _ _ _ _ new (kept_stronger _ _ (finished_mono (beside_target kind strong) (beside_target kind weak) (kept_new (beside_target kind strong) profile kind) (kept_new (beside_target kind weak) profile kind) beside new kind)))
-
-pub copy_mono : (strong weak : List Fact) (ty : Type_) (t p : Path) → Stronger strong weak → Stronger (copy_facts strong ty t p) (copy_facts weak ty t p)
-copy_mono strong weak ty t p s =
-    let beside = in_orders_stronger strong weak s in
-    let new = kept_stronger _ _ (copied_mono (in_orders strong) (in_orders weak) beside ty t p) in
-    stronger_app _ _ _ _ s (stronger_app _ _ _ _ new (kept_stronger _ _ (finished_by_mono (in_orders strong) (in_orders weak) (kept (copied (in_orders strong) ty t p)) (kept (copied (in_orders weak) ty t p)) beside new ty t)))

@@ -7,7 +7,6 @@ use Rattle.ix_facts.specs.Bounds.{upper_bound}
 use Rattle.ix_facts.specs.Laws.{BoundsHold, BoundsNoWeaker}
 use Rattle.ix_facts.proofs.Gives.{Gives}
 use Rattle.ix_facts.proofs.Worse.{Up, Worse}
-use Rattle.ix_facts.proofs.FactLists.{in_orders_stronger}
 use Rattle.ix_facts.proofs.BoundsHold.{UpperIs, in_orders_hold, lower_holds, limit_holds, length_low_holds, length_high_holds, upper_holds, less_holds, are_same_holds}
 use Rattle.ix_facts.proofs.BoundsMonotone.{lower_mono, limit_mono, length_low_mono, length_high_mono, upper_mono, less_mono, are_same_mono}
 
@@ -43,6 +42,3 @@ bounds_no_weaker strong weak k = record {
   less = less_mono strong weak k;
   same = are_same_mono strong weak k;
 }
-
-pub bounds_monotone : (strong weak : List Fact) → Stronger strong weak → BoundsNoWeaker (in_orders strong) (in_orders weak)
-bounds_monotone strong weak s = bounds_no_weaker (in_orders strong) (in_orders weak) (in_orders_stronger strong weak s)

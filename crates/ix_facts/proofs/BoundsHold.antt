@@ -11,7 +11,7 @@ use Rattle.ix_core.specs.declared.fact.PathOff.TheVariants.{Nothing, Plus, Minus
 use Rattle.ix_core.specs.declared.fact.Fact.{Fact}
 use Rattle.ix_core.specs.declared.fact.Fact.TheVariants.{Rng, LenRng, Low, Same, IsLen, Less, Sum, Search, Neg, Upper}
 use Rattle.ix_core.specs.Numbers.{Numbers}
-use Rattle.ix_facts.specs.Facts.{Holds, AllHold, offset_number, orders, in_orders}
+use Rattle.ix_facts.specs.Facts.{Holds, AllHold, offset_number, orders, is_default, in_orders}
 use Rattle.ix_facts.specs.Bounds
 use Rattle.ix_facts.specs.Bounds.{is_path, is_offset, says_same, when, best, greatest, least}
 use Rattle.ix_facts.proofs.Gives.{Gives, max_chooses, min_chooses, gives_when, gives_map, gives_also, gives_best, gives_best_of, at_least_holds, at_most_holds}
@@ -218,4 +218,4 @@ orders_hold v (Neg p a) rest h k = (h, k)
 
 pub in_orders_hold : (v : Numbers) (facts : List Fact) → AllHold facts v → AllHold (in_orders facts) v
 in_orders_hold v [] h = tt
-in_orders_hold v (f ∷ facts) h = orders_hold v f (in_orders facts) h.0 (in_orders_hold v facts h.1)
+in_orders_hold v (f ∷ facts) h = by_test (is_default f) (λ t. rw t (in_orders_hold v facts h.1)) (λ t. rw t (orders_hold v f (in_orders facts) h.0 (in_orders_hold v facts h.1)))

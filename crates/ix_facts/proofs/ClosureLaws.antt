@@ -11,7 +11,7 @@ use Rattle.ix_core.specs.Numbers.{Numbers}
 use Rattle.ix_facts.specs.Facts.{Holds, AllHold, IsIn, Covers, Stronger, orders, in_orders, rng, len_rng, low, same, is_len, less, sum, search, neg, upper}
 use Rattle.ix_facts.specs.Closure.{Follows, given, weaker, any_int, any_size, met, len_met, class, class_one, turned, joined, both_len, len_along, is_len_along, search_along, neg_along, neg_search, search_neg, sum_turned, upper_turned, Default, Said, Closed, Contradicts, IsClosedOf, IsCommon, kept_fact, kept}
 use Rattle.ix_facts.proofs.Tests.{by_test}
-use Rattle.ix_facts.proofs.FactLists.{covers_holds, in_holds, in_either, in_left, in_right, all_hold_app, stronger_one, stronger_none, stronger_itself}
+use Rattle.ix_facts.proofs.FactLists.{covers_holds, in_holds, in_either, in_left, in_right, told_either, all_hold_app, stronger_one, stronger_none, stronger_itself}
 
 module _ (facts : List Fact) (v : Numbers) (k : AllHold facts v) where
   pub follows_hold : (f : Fact) → Follows facts f → Holds f v
@@ -58,10 +58,6 @@ module _ (facts others : List Fact) (k : (f : Fact) → IsIn f others → Follow
   follows_from _ (sum_turned t y z r) = sum_turned t y z (follows_from (Sum t y z) r)
   follows_from _ (upper_turned p a q c r) = upper_turned p a q c (follows_from (Upper p a (Plus q) c) r)
 
--- stronger facts say no less
-pub follows_mono : (strong weak : List Fact) → Stronger strong weak → (f : Fact) → Follows weak f → Follows strong f
-follows_mono strong weak s = follows_from strong weak (λ f i. let x = s.met f i in weaker x.0 f x.2 (given x.0 x.1))
-
 default_follows : (facts : List Fact) (f : Fact) → Default f → Follows facts f
 default_follows facts (Rng p l h) d = weaker (Rng p least_int greatest_int) (Rng p l h) (rng p least_int greatest_int l h d.0 d.1) (any_int p)
 default_follows facts (LenRng a l h) d = weaker (LenRng a (pos 0) greatest_int) (LenRng a l h) (len_rng a (pos 0) greatest_int l h d.0 d.1) (any_size a)
@@ -92,7 +88,8 @@ order_follows facts (Neg p a) g r i = ⊎_elim (λ e. subst (Follows facts) (sym
 in_orders_follows : (facts rest : List Fact) → ((f : Fact) → IsIn f rest → Follows facts f) → (g : Fact) → IsIn g (in_orders rest) → Follows facts g
 in_orders_follows facts [] k g i = absurd i
 in_orders_follows facts (f ∷ rest) k g i =
-    ⊎_elim (λ j. order_follows facts f g (k f (inl refl)) j) (λ j. in_orders_follows facts rest (λ h m. k h (inr m)) g j) (in_either g (orders f) (in_orders rest) i)
+    let x = told_either f rest g i in
+    ⊎_elim (λ j. order_follows facts f g (k f (inl refl)) j) (λ j. in_orders_follows facts rest (λ h m. k h (inr m)) g j) x
 
 pub said_follows : (facts : List Fact) (f : Fact) → Said facts f → Follows facts f
 said_follows facts f s = ⊎_elim (λ d. default_follows facts f d) (λ x. weaker x.0 f x.2 (in_orders_follows facts facts (λ g i. given g i) x.0 x.1)) s
@@ -107,10 +104,6 @@ closed_holds facts closed v c h f i = follows_hold facts v h f (c.only f i)
 -- the closed list is above each closed one that says the facts
 pub greatest_closed : (facts closed other : List Fact) → IsClosedOf facts closed → Closed other → ((f : Fact) → IsIn f facts → Said other f) → (f : Fact) → Said closed f → Said other f
 greatest_closed facts closed other c k h f s = k f (follows_from other closed (λ g i. follows_from other facts (λ x j. said_follows other x (h x j)) g (c.only g i)) f (said_follows closed f s))
-
--- stronger facts have a stronger closed list
-pub closed_mono : (strong weak closed other : List Fact) → Stronger strong weak → IsClosedOf strong closed → IsClosedOf weak other → (f : Fact) → Said other f → Said closed f
-closed_mono strong weak closed other s c d f k = c.says f (follows_mono strong weak s f (follows_from weak other d.only f (said_follows other f k)))
 
 -- the common part of two closed lists is closed
 pub common_closed : (first second common : List Fact) → Closed first → Closed second → IsCommon first second common → Closed common
@@ -143,7 +136,7 @@ pub kept_hold : (w : Numbers) (facts : List Fact) → AllHold facts w → AllHol
 kept_hold w [] h = tt
 kept_hold w (f ∷ facts) h = all_hold_app w (kept_fact f) (kept facts) (kept_fact_holds w f h.0) (kept_hold w facts h.1)
 
-kept_fact_stronger : (g f : Fact) → Covers g f → Stronger (kept_fact g) (kept_fact f)
+pub kept_fact_stronger : (g f : Fact) → Covers g f → Stronger (kept_fact g) (kept_fact f)
 kept_fact_stronger _ _ (less p q c d x) =
     by_test (int_lt greatest_int d)
     (λ t. rw t (stronger_none (kept_fact (Less p q c))))
@@ -165,12 +158,12 @@ kept_fact_stronger _ _ (sum t y z) = stronger_itself (Sum t y z ∷ [])
 kept_fact_stronger _ _ (search p a) = stronger_itself (Search p a ∷ [])
 kept_fact_stronger _ _ (neg p a) = stronger_itself (Neg p a ∷ [])
 
-in_kept : (x g : Fact) (facts : List Fact) → IsIn g facts → IsIn x (kept_fact g) → IsIn x (kept facts)
+pub in_kept : (x g : Fact) (facts : List Fact) → IsIn g facts → IsIn x (kept_fact g) → IsIn x (kept facts)
 in_kept x g [] i j = absurd i
 in_kept x g (f ∷ facts) i j =
     ⊎_elim (λ e. in_left x (kept_fact f) (kept facts) (subst (λ y. IsIn x (kept_fact y)) e j)) (λ k. in_right x (kept_fact f) (kept facts) (in_kept x g facts k j)) i
 
-from_kept : (x : Fact) (facts : List Fact) → IsIn x (kept facts) → (f : Fact) × IsIn f facts × IsIn x (kept_fact f)
+pub from_kept : (x : Fact) (facts : List Fact) → IsIn x (kept facts) → (f : Fact) × IsIn f facts × IsIn x (kept_fact f)
 from_kept x [] i = absurd i
 from_kept x (f ∷ facts) i = ⊎_elim (λ j. (f, inl refl, j)) (λ j. let y = from_kept x facts j in (y.0, inr y.1, y.2)) (in_either x (kept_fact f) (kept facts) i)
 

@@ -1,12 +1,14 @@
 -- Lists of facts: their members, what holds of all, and which lists are stronger.
-use Rattle.std.specs.Prelude.{List, [], ◌∷◌, ◌++◌, ◌⊎◌, refl}
-use Rattle.std.proofs.Common.{arith, inl, inr, sym, subst, ⊎_elim}
+use Rattle.std.specs.Prelude.{◌≡◌, false, List, [], ◌∷◌, ◌++◌, ◌⊎◌, refl}
+use Rattle.std.proofs.Common.{arith, inl, inr, ap, sym, ◌∙◌, subst, ⊎_elim}
+use Rattle.std.proofs.lemmas.Bool.{false≢true}
 use Rattle.std.proofs.lemmas.Int.{ints}
 use Rattle.ix_core.specs.declared.fact.PathOff.TheVariants.{Nothing, Plus, Minus}
 use Rattle.ix_core.specs.declared.fact.Fact.{Fact}
 use Rattle.ix_core.specs.declared.fact.Fact.TheVariants.{Rng, LenRng, Low, Same, IsLen, Less, Sum, Search, Neg, Upper}
 use Rattle.ix_core.specs.Numbers.{Numbers}
-use Rattle.ix_facts.specs.Facts.{Holds, AllHold, IsIn, Covers, Stronger, orders, in_orders, rng, len_rng, low, same, is_len, less, sum, search, neg, upper}
+use Rattle.ix_facts.proofs.Tests.{by_test}
+use Rattle.ix_facts.specs.Facts.{Holds, AllHold, IsIn, Covers, Stronger, orders, is_default, in_orders, rng, len_rng, low, same, is_len, less, sum, search, neg, upper}
 
 -- ---- what covers
 
@@ -99,14 +101,11 @@ stronger_none a = record { met = λ f i. absurd i }
 pub stronger_one : (g f : Fact) → Covers g f → Stronger (g ∷ []) (f ∷ [])
 stronger_one g f k = stronger_cons g f [] [] k (stronger_none [])
 
-pub stronger_more : (a b c : List Fact) → Stronger a c → Stronger (a ++ b) c
-stronger_more a b c s = record { met = λ f i. let x = s.met f i in (x.0, in_left x.0 a b x.1, x.2) }
-
 pub stronger_hold : (v : Numbers) (a b : List Fact) → Stronger a b → AllHold a v → AllHold b v
 stronger_hold v a b s h = all_hold_each v b (λ f i. let x = s.met f i in covers_holds v x.0 f x.2 (in_holds v x.0 a h x.1))
 
 -- stronger facts are stronger in all orders
-orders_stronger : (g f : Fact) → Covers g f → Stronger (orders g) (orders f)
+pub orders_stronger : (g f : Fact) → Covers g f → Stronger (orders g) (orders f)
 orders_stronger _ _ (rng p l h m k x y) = stronger_one _ _ (rng p l h m k x y)
 orders_stronger _ _ (len_rng p l h m k x y) = stronger_one _ _ (len_rng p l h m k x y)
 orders_stronger _ _ (low p k m x) = stronger_one _ _ (low p k m x)
@@ -120,15 +119,37 @@ orders_stronger _ _ (upper p a Nothing c d x) = stronger_one _ _ (upper p a Noth
 orders_stronger _ _ (upper p a (Minus q) c d x) = stronger_one _ _ (upper p a (Minus q) c d x)
 orders_stronger _ _ (upper p a (Plus q) c d x) = stronger_cons _ _ _ _ (upper p a (Plus q) c d x) (stronger_one _ _ (upper q a (Plus p) c d x))
 
-pub in_in_orders : (x f : Fact) (facts : List Fact) → IsIn f facts → IsIn x (orders f) → IsIn x (in_orders facts)
-in_in_orders x f [] i j = absurd i
-in_in_orders x f (g ∷ facts) i j =
-    ⊎_elim (λ e. in_left x (orders g) (in_orders facts) (subst (λ y. IsIn x (orders y)) e j)) (λ k. in_right x (orders g) (in_orders facts) (in_in_orders x f facts k j)) i
+-- ---- facts in all orders
 
-pub from_in_orders : (x : Fact) (facts : List Fact) → IsIn x (in_orders facts) → (f : Fact) × IsIn f facts × IsIn x (orders f)
+pub told_either : (f : Fact) (facts : List Fact) (g : Fact) → IsIn g (in_orders (f ∷ facts)) → IsIn g (orders f) ⊎ IsIn g (in_orders facts)
+told_either f facts g i = by_test (is_default f) (λ t. inr (rw t at i)) (λ t. in_either g (orders f) (in_orders facts) (rw t at i))
+
+pub in_in_orders : (x f : Fact) (facts : List Fact) → IsIn f facts → IsIn x (orders f) → is_default f ≡ false → IsIn x (in_orders facts)
+in_in_orders x f [] i j n = absurd i
+in_in_orders x f (g ∷ facts) i j n =
+    by_test (is_default g)
+    (λ t. rw t (⊎_elim (λ e. absurd (false≢true (sym n ∙ (ap is_default e ∙ t)))) (λ k. in_in_orders x f facts k j n) i))
+    (λ t. rw t (⊎_elim (λ e. in_left x (orders g) (in_orders facts) (subst (λ y. IsIn x (orders y)) e j)) (λ k. in_right x (orders g) (in_orders facts) (in_in_orders x f facts k j n)) i))
+
+pub from_in_orders : (x : Fact) (facts : List Fact) → IsIn x (in_orders facts) → (f : Fact) × IsIn f facts × IsIn x (orders f) × (is_default f ≡ false)
 from_in_orders x [] i = absurd i
 from_in_orders x (g ∷ facts) i =
-    ⊎_elim (λ j. (g, inl refl, j)) (λ j. let y = from_in_orders x facts j in (y.0, inr y.1, y.2)) (in_either x (orders g) (in_orders facts) i)
+    by_test (is_default g)
+    (λ t. let y = from_in_orders x facts (rw t at i) in (y.0, inr y.1, y.2, y.3))
+    (λ t. ⊎_elim (λ j. (g, inl refl, j, t)) (λ j. let y = from_in_orders x facts j in (y.0, inr y.1, y.2, y.3)) (in_either x (orders g) (in_orders facts) (rw t at i)))
+
+-- what covers a range that tells something tells something
+pub covers_told : (g f : Fact) → Covers g f → is_default f ≡ false → is_default g ≡ false
+covers_told _ _ (rng p l h m k x y) n = grind (arith, ints, n, x, y)
+covers_told _ _ (len_rng p l h m k x y) n = grind (arith, ints, n, x, y)
+covers_told _ _ (low p k m x) n = refl
+covers_told _ _ (same a b) n = refl
+covers_told _ _ (is_len p a) n = refl
+covers_told _ _ (less p q c d x) n = refl
+covers_told _ _ (sum t y z) n = refl
+covers_told _ _ (search p a) n = refl
+covers_told _ _ (neg p a) n = refl
+covers_told _ _ (upper p a o c d x) n = refl
 
 pub in_orders_stronger : (strong weak : List Fact) → Stronger strong weak → Stronger (in_orders strong) (in_orders weak)
 in_orders_stronger strong weak s = record {
@@ -136,5 +157,5 @@ in_orders_stronger strong weak s = record {
       let f = from_in_orders x weak i in
       let g = s.met f.0 f.1 in
       let y = (orders_stronger g.0 f.0 g.2).met x f.2 in
-      (y.0, in_in_orders y.0 g.0 strong g.1 y.1, y.2);
+      (y.0, in_in_orders y.0 g.0 strong g.1 y.1 (covers_told g.0 f.0 g.2 f.3), y.2);
 }

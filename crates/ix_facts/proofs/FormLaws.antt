@@ -36,7 +36,7 @@ met_here facts f x i e = (f, i, subst (Covers f) (sym e) (covers_itself f))
 -- a turned fact has no default
 met_turned : (facts : List Fact) (f x : Fact) → (Default f → ⊥) → ClosedAsItStands facts → Follows facts f → x ≡ f → IsMet facts x
 unfolding IsMet
-met_turned facts f x none closed r e = ⊎_elim (λ d. absurd (none d)) (λ y. (y.0, y.1, subst (Covers y.0) (sym e) y.2)) (closed f r)
+met_turned facts f x none closed r e = ⊎_elim (λ d. absurd (none d)) (λ y. (y.0, y.1, subst (Covers y.0) (sym e) y.2)) (closed.says f r)
 
 order_met : (facts : List Fact) → ClosedAsItStands facts → (f x : Fact) → IsIn f facts → IsIn x (orders f) → IsMet facts x
 order_met facts closed (Same a b) x i j =
@@ -73,13 +73,13 @@ first_order (Less p q c) = inl refl
 first_order (Search p a) = inl refl
 first_order (Neg p a) = inl refl
 
-pub orders_stronger_than : (facts : List Fact) → Stronger (in_orders facts) facts
-orders_stronger_than facts = record { met = λ f i. (f, in_in_orders f f facts i (first_order f), covers_itself f) }
+pub orders_stronger_than : (facts : List Fact) → ClosedAsItStands facts → Stronger (in_orders facts) facts
+orders_stronger_than facts closed = record { met = λ f i. (f, in_in_orders f f facts i (first_order f) (closed.tells f i), covers_itself f) }
 
 -- ---- bounds and rules
 
 pub same_bounds : (facts : List Fact) → ClosedAsItStands facts → SameBounds (in_orders facts) facts
-same_bounds facts closed = (bounds_no_weaker (in_orders facts) facts (orders_stronger_than facts), bounds_no_weaker facts (in_orders facts) (as_it_stands facts closed))
+same_bounds facts closed = (bounds_no_weaker (in_orders facts) facts (orders_stronger_than facts closed), bounds_no_weaker facts (in_orders facts) (as_it_stands facts closed))
 
 exact_stays : (strong weak : List Fact) → Stronger strong weak → (kind : OpKind) → HasExact strong kind → HasExact weak kind
 exact_stays strong weak s (op.Num t arith_op y z) some =
@@ -105,11 +105,11 @@ exact_stays strong weak s (op.Print value) some = tt
 
 pub same_rules : (facts : List Fact) (profile : Profile) (kind : OpKind) → ClosedAsItStands facts → HasExact (in_orders facts) kind → AsStrong (new_facts (in_orders facts) profile kind) (new_facts facts profile kind)
 same_rules facts profile kind closed some =
-    let s = orders_stronger_than facts in
+    let s = orders_stronger_than facts closed in
     (new_facts_mono (in_orders facts) facts s profile kind some, new_facts_mono facts (in_orders facts) (as_it_stands facts closed) profile kind (exact_stays (in_orders facts) facts s kind some))
 
 pub same_outcomes : (facts : List Fact) (outcome : Outcome) → ClosedAsItStands facts → AsStrong (outcome_facts (in_orders facts) outcome) (outcome_facts facts outcome)
-same_outcomes facts outcome closed = (outcome_mono (in_orders facts) facts (orders_stronger_than facts) outcome, outcome_mono facts (in_orders facts) (as_it_stands facts closed) outcome)
+same_outcomes facts outcome closed = (outcome_mono (in_orders facts) facts (orders_stronger_than facts closed) outcome, outcome_mono facts (in_orders facts) (as_it_stands facts closed) outcome)
 
 one_test : (s t : Bool) → (s ≡ true → t ≡ true) → (t ≡ true → s ≡ true) → s ≡ t
 one_test true t k l = sym (k refl)
@@ -120,4 +120,4 @@ pub same_proved : (facts : List Fact) (claim : PathClaim) (p : Path) → ClosedA
 same_proved facts claim p closed =
     one_test (proves (in_orders facts) claim p) (proves facts claim p)
     (proves_mono facts (in_orders facts) (as_it_stands facts closed) claim p)
-    (proves_mono (in_orders facts) facts (orders_stronger_than facts) claim p)
+    (proves_mono (in_orders facts) facts (orders_stronger_than facts closed) claim p)

@@ -159,7 +159,7 @@ module _ (facts : List Fact) (closed : ClosedAsItStands facts) where
       (λ t. subst (λ x. IsIn (IsLen q x) facts) (path_true b a t) i)
       (λ t.
       let j = same_stored facts b a (or_else (is_path b a) (Bounds.stored_same facts b a) h t) in
-      ⊎_elim (λ d. absurd d) (λ x. subst (λ g. IsIn g facts) (covers_len x.0 q a x.2) x.1) (closed (IsLen q a) (is_len_along q b a (given (Same b a) j) (given (IsLen q b) i))))
+      ⊎_elim (λ d. absurd d) (λ x. subst (λ g. IsIn g facts) (covers_len x.0 q a x.2) x.1) (closed.says (IsLen q a) (is_len_along q b a (given (Same b a) j) (given (IsLen q b) i))))
 
   stored_upper_extra : (p a : Path) (o : PathOff) (q b : Path) → IsIn (IsLen q b) facts → Worse Up (Bounds.stored_upper_by (with_lengths facts) p a o (Upper q b Nothing (negsuc 0))) (best_of int_max (Bounds.stored_upper_by facts p a o) facts)
   stored_upper_extra p a Nothing q b i =

@@ -49,7 +49,7 @@ some_weaker : (P : ℤ → Type 0) (make : ℤ → Fact) (c : ℤ) (a : Option �
 some_weaker P make c None k x = stronger_none (make c ∷ [])
 some_weaker P make c (Some d) k x = stronger_one (make c) (make d) (k d x)
 
-fact_weaker : (marks : List ℤ) (f : Fact) → Stronger (f ∷ []) (rounded_fact marks f)
+pub fact_weaker : (marks : List ℤ) (f : Fact) → Stronger (f ∷ []) (rounded_fact marks f)
 fact_weaker marks (Rng p l h) = both_weaker (Rng p) l h (mark_below marks l) (mark_above marks h) (λ m k x y. rng p l h m k x y) (below_gives marks l) (above_gives marks h)
 fact_weaker marks (LenRng p l h) = both_weaker (LenRng p) l h (mark_below marks l) (mark_above marks h) (λ m k x y. len_rng p l h m k x y) (below_gives marks l) (above_gives marks h)
 fact_weaker marks (Less p q c) = some_weaker (λ d. c ≤ℤ d) (Less p q) c (mark_above marks c) (λ d x. less p q c d x) (above_gives marks c)
@@ -79,7 +79,7 @@ both_mono make (Some m) (Some n) None d k x y = absurd x
 both_mono make (Some m) (Some n) (Some l) None k x y = absurd y
 both_mono make (Some m) (Some n) (Some l) (Some h) k x y = stronger_one (make l h) (make m n) (k l h m n x y)
 
-fact_mono : (marks : List ℤ) (g f : Fact) → Covers g f → Stronger (rounded_fact marks g) (rounded_fact marks f)
+pub fact_mono : (marks : List ℤ) (g f : Fact) → Covers g f → Stronger (rounded_fact marks g) (rounded_fact marks f)
 fact_mono marks _ _ (rng p l h m k x y) = both_mono (Rng p) (mark_below marks m) (mark_above marks k) (mark_below marks l) (mark_above marks h) (λ a b c d u w. rng p a b c d u w) (below_mono marks m l x) (above_mono marks h k y)
 fact_mono marks _ _ (len_rng p l h m k x y) = both_mono (LenRng p) (mark_below marks m) (mark_above marks k) (mark_below marks l) (mark_above marks h) (λ a b c d u w. len_rng p a b c d u w) (below_mono marks m l x) (above_mono marks h k y)
 fact_mono marks _ _ (less p q c d x) = stronger_some Down (Less p q) (mark_above marks d) (mark_above marks c) (λ i j h. less p q j i h) (above_mono marks c d x)

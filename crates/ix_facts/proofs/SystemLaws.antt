@@ -1,6 +1,6 @@
 -- The laws of a system of facts: what its tables say holds where the facts do, and is stronger where they are.
-use Rattle.std.specs.Prelude.{◌≡◌, Bool, true, pos, List, [], ◌∷◌, ◌++◌}
-use Rattle.std.proofs.Common.{arith, inl, inr, sym, ◌∙◌, subst, ⊎_elim}
+use Rattle.std.specs.Prelude.{◌≡◌, true, refl, pos, List, [], ◌∷◌, ◌++◌}
+use Rattle.std.proofs.Common.{arith, inl, inr, ap, sym, ◌∙◌, subst, ⊎_elim}
 use Rattle.std.proofs.lemmas.Bool.{false≢true}
 use Rattle.std.proofs.lemmas.Int.{ints, clamps}
 use Rattle.ix_num.specs.Ints.{least_int, greatest_int}
@@ -12,21 +12,22 @@ use Rattle.ix_core.specs.declared.fact.Fact.TheVariants.{Rng, LenRng, Low, Same,
 use Rattle.ix_core.specs.declared.fact.Profile.{Profile}
 use Rattle.ix_core.specs.declared.op.OpKind.{OpKind}
 use Rattle.ix_core.specs.Numbers.{Numbers}
-use Rattle.ix_facts.specs.Facts.{Holds, AllHold, IsIn, Covers, Stronger, orders, in_orders, rng, len_rng}
-use Rattle.ix_facts.specs.Closure.{Default, Said, kept}
+use Rattle.ix_facts.specs.Facts.{Holds, AllHold, IsIn, Covers, Stronger, orders, in_orders, rng, len_rng, low, same, is_len, less, sum, search, neg, upper}
+use Rattle.ix_facts.specs.Closure.{Default, SaysAll, kept}
 use Rattle.ix_facts.specs.Forget.{of_path, without, SameBut}
-use Rattle.ix_facts.specs.AfterOperation.{HasExact, copied, new_facts}
+use Rattle.ix_facts.specs.AfterOperation.{copied, new_facts}
 use Rattle.ix_facts.specs.After.{of_target, Step, TargetApart, finished_by, finished, beside_target, kept_new}
-use Rattle.ix_facts.specs.Systems.{Merges, given, weaker, any_int, any_size, met, len_met, turned, sum_turned, upper_turned, IsTable, only_own, IsByKey, system_after, system_copy, system_added}
-use Rattle.ix_facts.proofs.AfterLaws.{results_now, finished_by_holds, finished_by_mono, finished_holds, finished_mono}
+use Rattle.ix_facts.specs.declared.kind.Kind.{Kind}
+use Rattle.ix_facts.specs.Kinds.{kind_of, is_kind, is_of, of_kind}
+use Rattle.ix_facts.specs.Systems.{Merges, given, weaker, any_int, any_size, met, len_met, turned, sum_turned, upper_turned, IsTable, system_after, system_copy, system_added}
+use Rattle.ix_facts.proofs.AfterLaws.{results_now, finished_by_holds, finished_holds}
 use Rattle.ix_facts.proofs.BoundsHold.{in_orders_hold}
-use Rattle.ix_facts.proofs.ClosureLaws.{kept_hold, kept_stronger}
-use Rattle.ix_facts.proofs.FactLists.{covers_holds, in_holds, in_either, all_hold_app, all_hold_each, stronger_hold, stronger_app, stronger_one, in_orders_stronger}
-use Rattle.ix_facts.proofs.Frame.{without_stays, without_stronger}
+use Rattle.ix_facts.proofs.ClosureLaws.{kept_hold}
+use Rattle.ix_facts.proofs.FactLists.{covers_holds, in_holds, told_either, all_hold_app, all_hold_each}
+use Rattle.ix_facts.proofs.Frame.{without_stays}
 use Rattle.ix_facts.proofs.OperationsHold.{new_facts_hold}
-use Rattle.ix_facts.proofs.OperationsMonotone.{new_facts_mono}
+use Rattle.ix_facts.proofs.StoreLaws.{says_hold}
 use Rattle.ix_facts.proofs.RulesHold.{Alike, copied_hold}
-use Rattle.ix_facts.proofs.RulesMonotone.{copied_mono}
 use Rattle.ix_facts.proofs.Tests.{by_test}
 
 -- ---- tables
@@ -45,18 +46,7 @@ merges_hold facts v k _ (upper_turned p a q c r) = let e = merges_hold facts v k
 pub table_holds : (facts table : List Fact) (v : Numbers) → IsTable facts table → AllHold facts v → AllHold table v
 table_holds facts table v is h = all_hold_each v table (λ f i. merges_hold facts v h f (is.only f i))
 
-merges_mono : (strong weak : List Fact) → Stronger strong weak → (f : Fact) → Merges weak f → Merges strong f
-merges_mono strong weak s _ (given f i) = let x = s.met f i in weaker x.0 f x.2 (given x.0 x.1)
-merges_mono strong weak s _ (weaker g f c r) = weaker g f c (merges_mono strong weak s g r)
-merges_mono strong weak s _ (any_int p) = any_int p
-merges_mono strong weak s _ (any_size a) = any_size a
-merges_mono strong weak s _ (met p l h m n r t) = met p l h m n (merges_mono strong weak s (Rng p l h) r) (merges_mono strong weak s (Rng p m n) t)
-merges_mono strong weak s _ (len_met a l h m n r t) = len_met a l h m n (merges_mono strong weak s (LenRng a l h) r) (merges_mono strong weak s (LenRng a m n) t)
-merges_mono strong weak s _ (turned a b r) = turned a b (merges_mono strong weak s (Same a b) r)
-merges_mono strong weak s _ (sum_turned t y z r) = sum_turned t y z (merges_mono strong weak s (Sum t y z) r)
-merges_mono strong weak s _ (upper_turned p a q c r) = upper_turned p a q c (merges_mono strong weak s (Upper p a (Plus q) c) r)
-
-default_merges : (facts : List Fact) (f : Fact) → Default f → Merges facts f
+pub default_merges : (facts : List Fact) (f : Fact) → Default f → Merges facts f
 default_merges facts (Rng p l h) d = weaker (Rng p least_int greatest_int) (Rng p l h) (rng p least_int greatest_int l h d.0 d.1) (any_int p)
 default_merges facts (LenRng a l h) d = weaker (LenRng a (pos 0) greatest_int) (LenRng a l h) (len_rng a (pos 0) greatest_int l h d.0 d.1) (any_size a)
 default_merges facts (Low _ _) d = absurd d
@@ -82,94 +72,98 @@ order_merges facts (Less p q c) g r i = ⊎_elim (λ e. subst (Merges facts) (sy
 order_merges facts (Search p a) g r i = ⊎_elim (λ e. subst (Merges facts) (sym e) r) (λ x. absurd x) i
 order_merges facts (Neg p a) g r i = ⊎_elim (λ e. subst (Merges facts) (sym e) r) (λ x. absurd x) i
 
-in_orders_merges : (facts rest : List Fact) → ((f : Fact) → IsIn f rest → Merges facts f) → (g : Fact) → IsIn g (in_orders rest) → Merges facts g
+pub in_orders_merges : (facts rest : List Fact) → ((f : Fact) → IsIn f rest → Merges facts f) → (g : Fact) → IsIn g (in_orders rest) → Merges facts g
 in_orders_merges facts [] k g i = absurd i
 in_orders_merges facts (f ∷ rest) k g i =
-    ⊎_elim (λ j. order_merges facts f g (k f (inl Rattle.std.proofs.Common.refl)) j) (λ j. in_orders_merges facts rest (λ h m. k h (inr m)) g j) (in_either g (orders f) (in_orders rest) i)
+    ⊎_elim (λ j. order_merges facts f g (k f (inl Rattle.std.proofs.Common.refl)) j) (λ j. in_orders_merges facts rest (λ h m. k h (inr m)) g j) (told_either f rest g i)
 
--- the table of stronger facts says all that the other says
-pub table_mono : (strong weak table other : List Fact) → Stronger strong weak → IsTable strong table → IsTable weak other → (f : Fact) → Said other f → Said table f
-table_mono strong weak table other s is also f said =
-    is.says f (merges_mono strong weak s f (⊎_elim (λ d. default_merges weak f d) (λ x. weaker x.0 f x.2 (in_orders_merges weak other also.only x.0 x.1)) said))
+-- ---- kinds
 
--- ---- the own kinds
+pub covers_kind : (g f : Fact) → Covers g f → kind_of g ≡ kind_of f
+covers_kind _ _ (rng p l h m k x y) = refl
+covers_kind _ _ (len_rng p l h m k x y) = refl
+covers_kind _ _ (low p c d x) = refl
+covers_kind _ _ (same a b) = refl
+covers_kind _ _ (is_len p a) = refl
+covers_kind _ _ (less p q c d x) = refl
+covers_kind _ _ (sum t y z) = refl
+covers_kind _ _ (search p a) = refl
+covers_kind _ _ (neg p a) = refl
+covers_kind _ _ (upper p a o c d x) = refl
 
-only_own_holds : (own : Fact → Bool) (v : Numbers) (facts : List Fact) → AllHold facts v → AllHold (only_own own facts) v
-only_own_holds own v [] h = tt
-only_own_holds own v (f ∷ facts) h = by_test (own f) (λ t. rw t (h.0, only_own_holds own v facts h.1)) (λ t. rw t (only_own_holds own v facts h.1))
+one_kind : (f x : Fact) → IsIn x (f ∷ []) → kind_of x ≡ kind_of f
+one_kind f x i = ⊎_elim (λ e. ap kind_of e) (λ y. absurd y) i
 
-in_own : (own : Fact → Bool) (f : Fact) (facts : List Fact) → IsIn f (only_own own facts) → IsIn f facts × (own f ≡ true)
-in_own own f [] i = absurd i
-in_own own f (g ∷ facts) i =
-    by_test (own g)
-    (λ t. ⊎_elim (λ e. (inl e, subst (λ x. own x ≡ true) (sym e) t)) (λ j. let x = in_own own f facts j in (inr x.0, x.1)) (rw t at i))
-    (λ t. let x = in_own own f facts (rw t at i) in (inr x.0, x.1))
+two_kinds : (f g x : Fact) → kind_of g ≡ kind_of f → IsIn x (f ∷ g ∷ []) → kind_of x ≡ kind_of f
+two_kinds f g x e i = ⊎_elim (λ d. ap kind_of d) (λ j. one_kind g x j ∙ e) i
 
-own_in : (own : Fact → Bool) (f : Fact) (facts : List Fact) → IsIn f facts → own f ≡ true → IsIn f (only_own own facts)
-own_in own f [] i t = absurd i
-own_in own f (g ∷ facts) i t =
-    by_test (own g)
-    (λ x. rw x (⊎_elim (λ e. inl e) (λ j. inr (own_in own f facts j t)) i))
-    (λ x. ⊎_elim (λ e. absurd (false≢true (sym x ∙ subst (λ y. own y ≡ true) e t))) (λ j. rw x (own_in own f facts j t)) i)
+pub order_kind : (f x : Fact) → IsIn x (orders f) → kind_of x ≡ kind_of f
+order_kind (Same a b) x i = two_kinds (Same a b) (Same b a) x refl i
+order_kind (Sum t y z) x i = two_kinds (Sum t y z) (Sum t z y) x refl i
+order_kind (Upper p a (Plus q) c) x i = two_kinds (Upper p a (Plus q) c) (Upper q a (Plus p) c) x refl i
+order_kind (Upper p a Nothing c) x i = one_kind (Upper p a Nothing c) x i
+order_kind (Upper p a (Minus q) c) x i = one_kind (Upper p a (Minus q) c) x i
+order_kind (Rng p l h) x i = one_kind (Rng p l h) x i
+order_kind (LenRng p l h) x i = one_kind (LenRng p l h) x i
+order_kind (Low p c) x i = one_kind (Low p c) x i
+order_kind (IsLen p a) x i = one_kind (IsLen p a) x i
+order_kind (Less p q c) x i = one_kind (Less p q c) x i
+order_kind (Search p a) x i = one_kind (Search p a) x i
+order_kind (Neg p a) x i = one_kind (Neg p a) x i
 
-own_stronger : (own : Fact → Bool) → IsByKey own → (strong weak : List Fact) → Stronger strong weak → Stronger (only_own own strong) (only_own own weak)
-own_stronger own key strong weak s = record {
+of_kind_holds : (own : Kind) (v : Numbers) (facts : List Fact) → AllHold facts v → AllHold (of_kind own facts) v
+of_kind_holds own v [] h = tt
+of_kind_holds own v (f ∷ facts) h = by_test (is_of own f) (λ t. rw t (h.0, of_kind_holds own v facts h.1)) (λ t. rw t (of_kind_holds own v facts h.1))
+
+pub in_kind : (own : Kind) (f : Fact) (facts : List Fact) → IsIn f (of_kind own facts) → IsIn f facts × (is_of own f ≡ true)
+in_kind own f [] i = absurd i
+in_kind own f (g ∷ facts) i =
+    by_test (is_of own g)
+    (λ t. ⊎_elim (λ e. (inl e, ap (is_of own) e ∙ t)) (λ j. let x = in_kind own f facts j in (inr x.0, x.1)) (rw t at i))
+    (λ t. let x = in_kind own f facts (rw t at i) in (inr x.0, x.1))
+
+pub kind_in : (own : Kind) (f : Fact) (facts : List Fact) → IsIn f facts → is_of own f ≡ true → IsIn f (of_kind own facts)
+kind_in own f [] i t = absurd i
+kind_in own f (g ∷ facts) i t =
+    by_test (is_of own g)
+    (λ x. rw x (⊎_elim (λ e. inl e) (λ j. inr (kind_in own f facts j t)) i))
+    (λ x. ⊎_elim (λ e. absurd (false≢true (sym x ∙ (sym (ap (is_of own) e) ∙ t)))) (λ j. rw x (kind_in own f facts j t)) i)
+
+pub kind_stronger : (own : Kind) (strong weak : List Fact) → Stronger strong weak → Stronger (of_kind own strong) (of_kind own weak)
+kind_stronger own strong weak s = record {
   met = λ f i.
-      let x = in_own own f weak i in
+      let x = in_kind own f weak i in
       let y = s.met f x.0 in
-      (y.0, own_in own y.0 strong y.1 (key y.0 f y.2 ∙ x.1), y.2);
+      (y.0, kind_in own y.0 strong y.1 (ap (is_kind own) (covers_kind y.0 f y.2) ∙ x.1), y.2);
 }
 
 -- ---- after an operation
 
-pub system_sound : (own : Fact → Bool) (known table : List Fact) (profile : Profile) (kind : OpKind) (v w : Numbers) → TargetApart kind → Step profile kind v w
-    → Stronger (without (of_target kind) known) (without (of_target kind) table) → AllHold (without (of_target kind) known) v → AllHold (system_after own known table profile kind) w
+pub system_sound : (own : Kind) (known table : List Fact) (profile : Profile) (kind : OpKind) (v w : Numbers) → TargetApart kind → Step profile kind v w
+    → SaysAll (without (of_target kind) known) (without (of_target kind) table) → AllHold (without (of_target kind) known) v → AllHold (system_after own known table profile kind) w
 system_sound own known table profile kind v w apart step met_by h =
     let old = without_stays (of_target kind) v w step.others known h in
     let beside = beside_target kind known in
     let k = in_orders_hold w (without (of_target kind) known) old in
     let new = kept_hold w (new_facts beside profile kind) (new_facts_hold w beside k profile kind (results_now profile kind v w apart step.others step.results)) in
     let rest = kept_hold w (finished beside (kept_new beside profile kind) kind) (finished_holds w beside (kept_new beside profile kind) k new kind) in
-    all_hold_app w (without (of_target kind) table) (only_own own (kept_new beside profile kind ++ kept (finished beside (kept_new beside profile kind) kind)))
-    (stronger_hold w (without (of_target kind) known) (without (of_target kind) table) met_by old)
-    (only_own_holds own w (kept_new beside profile kind ++ kept (finished beside (kept_new beside profile kind) kind)) (all_hold_app w (kept_new beside profile kind) (kept (finished beside (kept_new beside profile kind) kind)) new rest))
-
-pub system_mono : (own : Fact → Bool) → IsByKey own → (known more table other : List Fact) (profile : Profile) (kind : OpKind) → Stronger known more → Stronger table other
-    → HasExact (beside_target kind known) kind → Stronger (system_after own known table profile kind) (system_after own more other profile kind)
-system_mono own key known more table other profile kind s t some =
-    let beside = in_orders_stronger (without (of_target kind) known) (without (of_target kind) more) (without_stronger (of_target kind) known more s) in
-    let new = kept_stronger _ _ (new_facts_mono (beside_target kind known) (beside_target kind more) beside profile kind some) in
-    let rest = kept_stronger _ _ (finished_mono (beside_target kind known) (beside_target kind more) (kept_new (beside_target kind known) profile kind) (kept_new (beside_target kind more) profile kind) beside new kind) in
-    stronger_app _ _ _ _ (without_stronger (of_target kind) table other t) (own_stronger own key _ _ (stronger_app _ _ _ _ new rest))
+    all_hold_app w (without (of_target kind) table) (of_kind own (kept_new beside profile kind ++ kept (finished beside (kept_new beside profile kind) kind)))
+    (says_hold (without (of_target kind) known) (without (of_target kind) table) w met_by old)
+    (of_kind_holds own w (kept_new beside profile kind ++ kept (finished beside (kept_new beside profile kind) kind)) (all_hold_app w (kept_new beside profile kind) (kept (finished beside (kept_new beside profile kind) kind)) new rest))
 
 -- ---- after a copy, rounded, forgotten and added
 
-pub system_copy_sound : (own : Fact → Bool) (known table : List Fact) (ty : Type_) (t s : Path) (v w : Numbers) → Alike w t s → SameBut (of_path t) v w
-    → Stronger (without (of_path t) known) (without (of_path t) table) → AllHold (without (of_path t) known) v → AllHold (system_copy own known table ty t s) w
-system_copy_sound own known table ty t s v w alike same met_by h =
-    let old = without_stays (of_path t) v w same known h in
+pub system_copy_sound : (own : Kind) (known table : List Fact) (ty : Type_) (t s : Path) (v w : Numbers) → Alike w t s → SameBut (of_path t) v w
+    → SaysAll (without (of_path t) known) (without (of_path t) table) → AllHold (without (of_path t) known) v → AllHold (system_copy own known table ty t s) w
+system_copy_sound own known table ty t s v w alike others met_by h =
+    let old = without_stays (of_path t) v w others known h in
     let beside = in_orders (without (of_path t) known) in
     let k = in_orders_hold w (without (of_path t) known) old in
     let new = kept_hold w (copied beside ty t s) (copied_hold w t s alike beside k ty) in
     let rest = kept_hold w (finished_by ty beside (kept (copied beside ty t s)) t) (finished_by_holds w beside (kept (copied beside ty t s)) k new ty t) in
-    all_hold_app w (without (of_path t) table) (only_own own (kept (copied beside ty t s) ++ kept (finished_by ty beside (kept (copied beside ty t s)) t)))
-    (stronger_hold w (without (of_path t) known) (without (of_path t) table) met_by old)
-    (only_own_holds own w (kept (copied beside ty t s) ++ kept (finished_by ty beside (kept (copied beside ty t s)) t)) (all_hold_app w (kept (copied beside ty t s)) (kept (finished_by ty beside (kept (copied beside ty t s)) t)) new rest))
+    all_hold_app w (without (of_path t) table) (of_kind own (kept (copied beside ty t s) ++ kept (finished_by ty beside (kept (copied beside ty t s)) t)))
+    (says_hold (without (of_path t) known) (without (of_path t) table) w met_by old)
+    (of_kind_holds own w (kept (copied beside ty t s) ++ kept (finished_by ty beside (kept (copied beside ty t s)) t)) (all_hold_app w (kept (copied beside ty t s)) (kept (finished_by ty beside (kept (copied beside ty t s)) t)) new rest))
 
-pub system_copy_mono : (own : Fact → Bool) → IsByKey own → (known more table other : List Fact) (ty : Type_) (t s : Path) → Stronger known more → Stronger table other
-    → Stronger (system_copy own known table ty t s) (system_copy own more other ty t s)
-system_copy_mono own key known more table other ty t p s u =
-    let left = without_stronger (of_path t) known more s in
-    let beside = in_orders_stronger (without (of_path t) known) (without (of_path t) more) left in
-    let new = kept_stronger _ _ (copied_mono (in_orders (without (of_path t) known)) (in_orders (without (of_path t) more)) beside ty t p) in
-    let rest = kept_stronger _ _ (finished_by_mono (in_orders (without (of_path t) known)) (in_orders (without (of_path t) more)) (kept (copied (in_orders (without (of_path t) known)) ty t p)) (kept (copied (in_orders (without (of_path t) more)) ty t p)) beside new ty t) in
-    stronger_app _ _ _ _ (without_stronger (of_path t) table other u) (own_stronger own key _ _ (stronger_app _ _ _ _ new rest))
-
-pub system_add_sound : (own : Fact → Bool) (table : List Fact) (fact : Fact) (v : Numbers) → AllHold table v → Holds fact v → AllHold (system_added own table fact) v
-system_add_sound own table fact v h k = all_hold_app v table (only_own own (kept (fact ∷ []))) h (only_own_holds own v (kept (fact ∷ [])) (kept_hold v (fact ∷ []) (k, tt)))
-
-pub system_add_mono : (own : Fact → Bool) → IsByKey own → (table other : List Fact) (strong weak : Fact) → Stronger table other → Covers strong weak
-    → Stronger (system_added own table strong) (system_added own other weak)
-system_add_mono own key table other strong weak s c =
-    stronger_app table (only_own own (kept (strong ∷ []))) other (only_own own (kept (weak ∷ []))) s
-    (own_stronger own key (kept (strong ∷ [])) (kept (weak ∷ [])) (kept_stronger (strong ∷ []) (weak ∷ []) (stronger_one strong weak c)))
+pub system_add_sound : (own : Kind) (table : List Fact) (fact : Fact) (v : Numbers) → AllHold table v → Holds fact v → AllHold (system_added own table fact) v
+system_add_sound own table fact v h k = all_hold_app v table (of_kind own (kept (fact ∷ []))) h (of_kind_holds own v (kept (fact ∷ [])) (kept_hold v (fact ∷ []) (k, tt)))

@@ -1,12 +1,12 @@
 -- What follows from facts, and closed lists of facts. The closing rules are this project's own.
-use Rattle.std.specs.Prelude.{ℤ, pos, negsuc, ◌≤ℤ◌, ◌<ℤ◌, int_lt, cond, List, [], ◌∷◌, ◌++◌, ◌⊎◌}
+use Rattle.std.specs.Prelude.{◌≡◌, false, ℤ, pos, negsuc, ◌≤ℤ◌, ◌<ℤ◌, int_lt, cond, List, [], ◌∷◌, ◌++◌, ◌⊎◌}
 use Rattle.std.specs.Int.{int_min, int_max}
 use Rattle.ix_num.specs.Ints.{least_int, greatest_int}
 use Rattle.ix_core.specs.declared.fact.Path.{Path}
 use Rattle.ix_core.specs.declared.fact.PathOff.TheVariants.{Plus}
 use Rattle.ix_core.specs.declared.fact.Fact.{Fact}
 use Rattle.ix_core.specs.declared.fact.Fact.TheVariants.{Rng, LenRng, Low, Same, IsLen, Less, Sum, Search, Neg, Upper}
-use Rattle.ix_facts.specs.Facts.{IsIn, Covers, in_orders}
+use Rattle.ix_facts.specs.Facts.{IsIn, Covers, is_default, in_orders}
 
 -- What follows from facts: a case for each rule of closing.
 pub data Follows (facts : List Fact) : Fact → Type 0 where
@@ -49,6 +49,10 @@ Default _ = ⊥
 abbrev pub Said : List Fact → Fact → Type 0
 Said facts f = Default f ⊎ ((g : Fact) × IsIn g (in_orders facts) × Covers g f)
 
+-- The first facts say all that the second say: the order of facts, in which every law of a rule is stated.
+abbrev pub SaysAll : List Fact → List Fact → Type 0
+SaysAll strong weak = (f : Fact) → Said weak f → Said strong f
+
 -- All that follows is said.
 abbrev pub Closed : List Fact → Type 0
 Closed facts = (f : Fact) → Follows facts f → Said facts f
@@ -57,16 +61,22 @@ Closed facts = (f : Fact) → Follows facts f → Said facts f
 abbrev pub Contradicts : List Fact → Type 0
 Contradicts facts = (p : Path) × (l : ℤ) × (h : ℤ) × (Follows facts (Rng p l h) ⊎ Follows facts (LenRng p l h)) × (h <ℤ l)
 
+-- No fact of the list is a range that is said of every path.
+abbrev pub AllTell : List Fact → Type 0
+AllTell facts = (f : Fact) → IsIn f facts → is_default f ≡ false
+
 -- The closed list of some facts: it says what follows from them, and nothing else.
 pub record IsClosedOf (facts closed : List Fact) : Type 0 where
   pub says : (f : Fact) → Follows facts f → Said closed f
   pub only : (f : Fact) → IsIn f closed → Follows facts f
+  pub tells : AllTell closed
 
 -- The join of two closed lists: it says what both say.
 pub record IsCommon (first second common : List Fact) : Type 0 where
   pub both : (f : Fact) → Said first f → Said second f → Said common f
   pub left : (f : Fact) → IsIn f common → Said first f
   pub right : (f : Fact) → IsIn f common → Said second f
+  pub tells : AllTell common
 
 -- ---- constants
 

@@ -8,7 +8,7 @@ use Rattle.ix_core.specs.declared.fact.Fact.TheVariants.{IsLen, Less, Upper}
 use Rattle.ix_core.specs.Numbers.{Numbers}
 use Rattle.ix_facts.specs.Facts.{Holds, IsIn, Covers, Stronger}
 use Rattle.ix_facts.specs.Bounds.{are_same, length_low, length_high, lower_bound, upper_limit, stored_upper, stored_less, upper_bound, less_bound}
-use Rattle.ix_facts.specs.Closure.{Default, Follows}
+use Rattle.ix_facts.specs.Closure.{Default, Follows, AllTell}
 
 -- each bound that the facts give is true of the numbers
 pub record BoundsHold (facts : List Fact) (v : Numbers) : Type 0 where
@@ -42,9 +42,10 @@ SameBounds facts others = BoundsNoWeaker facts others × BoundsNoWeaker others f
 abbrev pub AsStrong : List Fact → List Fact → Type 0
 AsStrong facts others = Stronger facts others × Stronger others facts
 
--- All that follows is said by a fact as it stands, in no other order, or is said of every path.
-abbrev pub ClosedAsItStands : List Fact → Type 0
-ClosedAsItStands facts = (f : Fact) → Follows facts f → Default f ⊎ ((g : Fact) × IsIn g facts × Covers g f)
+-- All that follows is said by a fact as it stands, in no other order, or is said of every path; and no fact is said of every path.
+pub record ClosedAsItStands (facts : List Fact) : Type 0 where
+  pub says : (f : Fact) → Follows facts f → Default f ⊎ ((g : Fact) × IsIn g facts × Covers g f)
+  pub tells : AllTell facts
 
 -- the facts, with each length of an array also as a bound from the array's end: `p = a.length` as `p - 1 < a.length`
 abbrev pub with_lengths : List Fact → List Fact

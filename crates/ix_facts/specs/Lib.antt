@@ -9,9 +9,14 @@ pub mod After
 pub mod AfterTest
 pub mod Assume
 pub mod Round
+pub mod FieldSteps
+pub mod Stores
+pub mod Decisions
 pub mod Laws
+pub mod Kinds
 pub mod Systems
 pub mod MethodLandmarks
 pub mod Small
-pub mod SearchTable
-pub mod SearchLaws
+pub mod PathOrder
+pub mod Named
+pub mod NamedLaws

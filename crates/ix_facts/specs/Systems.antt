@@ -1,26 +1,25 @@
--- What a system of facts answers: the part of the rules that is of its own kinds, before anything is closed.
-use Rattle.std.specs.Prelude.{◌≡◌, Bool, cond, ℤ, pos, negsuc, ◌^◌, ◌≤ℤ◌, ◌<ℤ◌, List, [], ◌∷◌, ◌++◌}
+-- What a system of facts answers: the part of the rules that is of its own kind, before anything is closed.
+use Rattle.std.specs.Prelude.{◌≡◌, false, ℤ, pos, ◌≤ℤ◌, List, [], ◌∷◌, ◌++◌}
 use Rattle.std.specs.Int.{int_min, int_max}
 use Rattle.ix_num.specs.Ints.{least_int, greatest_int}
 use Rattle.ix_core.specs.declared.claim.Type_.{Type_}
 use Rattle.ix_core.specs.declared.fact.Path.{Path}
 use Rattle.ix_core.specs.declared.fact.PathOff.TheVariants.{Plus}
 use Rattle.ix_core.specs.declared.fact.Fact.{Fact}
-use Rattle.ix_core.specs.declared.fact.Fact.TheVariants.{Rng, LenRng, Same, Sum, Upper}
+use Rattle.ix_core.specs.declared.fact.Fact.TheVariants.{Rng, LenRng, Low, Same, Less, Sum, Upper}
 use Rattle.ix_core.specs.declared.fact.Profile.{Profile}
 use Rattle.ix_core.specs.declared.op.OpKind.{OpKind}
-use Rattle.ix_facts.specs.Facts.{IsIn, Covers, in_orders}
-use Rattle.ix_facts.specs.Closure.{Said, kept}
+use Rattle.ix_facts.specs.Bounds.{is_path}
+use Rattle.ix_facts.specs.Facts.{IsIn, Covers, is_default, in_orders}
+use Rattle.ix_facts.specs.Closure.{Said, AllTell, kept}
+use Rattle.ix_facts.specs.Kinds.{of_kind}
+use Rattle.ix_facts.specs.declared.kind.Kind.{Kind}
 use Rattle.ix_facts.specs.Forget.{of_path, without}
 use Rattle.ix_facts.specs.Exact.{each}
 use Rattle.ix_facts.specs.AfterOperation.{copied}
 use Rattle.ix_facts.specs.After.{of_target, finished_by, finished, beside_target, kept_new}
 use Rattle.ix_facts.specs.Round.{rounded_fact}
-
--- a bound that sums of a few bounds keep far from the ends of 64 bits
-pub record IsSmall (n : ℤ) : Type 0 where
-  pub above : negsuc (2 ^ 40) <ℤ n
-  pub below : n <ℤ pos (2 ^ 40)
+use Rattle.ix_facts.specs.Small.{IsClass}
 
 -- What a list of facts says where nothing is closed: each fact, what is weaker at its key, two ranges of one path met, and
 -- each in all its orders.
@@ -39,36 +38,47 @@ pub data Merges (facts : List Fact) : Fact → Type 0 where
 pub record IsTable (facts table : List Fact) : Type 0 where
   pub says : (f : Fact) → Merges facts f → Said table f
   pub only : (f : Fact) → IsIn f table → Merges facts f
+  pub tells : AllTell table
 
--- the facts of a system's own kinds
-abbrev pub only_own : (Fact → Bool) → List Fact → List Fact
-only_own own [] = []
-only_own own (fact ∷ facts) = cond (own fact) (fact ∷ only_own own facts) (only_own own facts)
-
--- which facts are of the own kinds is told by their keys
-abbrev pub IsByKey : (Fact → Bool) → Type 0
-IsByKey own = (strong weak : Fact) → Covers strong weak → own strong ≡ own weak
-
--- After an operation: the table's facts that do not name the target, and the new facts of the own kinds, by the facts that are known.
-abbrev pub system_after : (Fact → Bool) → List Fact → List Fact → Profile → OpKind → List Fact
+-- After an operation: the table's facts that do not name the target, and the new facts of the own kind, by the facts that are known.
+abbrev pub system_after : Kind → List Fact → List Fact → Profile → OpKind → List Fact
 system_after own known table profile kind =
     without (of_target kind) table
-    ++ only_own own (kept_new (beside_target kind known) profile kind ++ kept (finished (beside_target kind known) (kept_new (beside_target kind known) profile kind) kind))
+    ++ of_kind own (kept_new (beside_target kind known) profile kind ++ kept (finished (beside_target kind known) (kept_new (beside_target kind known) profile kind) kind))
 
 -- After a copy from one path to another.
-abbrev pub system_copy : (Fact → Bool) → List Fact → List Fact → Type_ → Path → Path → List Fact
+abbrev pub system_copy : Kind → List Fact → List Fact → Type_ → Path → Path → List Fact
 system_copy own known table ty t s =
     without (of_path t) table
-    ++ only_own own (kept (copied (in_orders (without (of_path t) known)) ty t s) ++ kept (finished_by ty (in_orders (without (of_path t) known)) (kept (copied (in_orders (without (of_path t) known)) ty t s)) t))
+    ++ of_kind own (kept (copied (in_orders (without (of_path t) known)) ty t s) ++ kept (finished_by ty (in_orders (without (of_path t) known)) (kept (copied (in_orders (without (of_path t) known)) ty t s)) t))
 
 -- The table moved to landmarks.
 abbrev pub system_rounded : List ℤ → List Fact → List Fact
 system_rounded marks table = each (rounded_fact marks) table
 
--- The table with a fact, where the fact is of the own kinds.
-abbrev pub system_added : (Fact → Bool) → List Fact → Fact → List Fact
-system_added own table fact = table ++ only_own own (kept (fact ∷ []))
+-- The table with a fact, where the fact is of the own kind.
+abbrev pub system_added : Kind → List Fact → Fact → List Fact
+system_added own table fact = table ++ of_kind own (kept (fact ∷ []))
 
--- no range of the facts is empty
-abbrev pub HasNoEmptyRange : List Fact → Type 0
-HasNoEmptyRange facts = (p : Path) (l h : ℤ) → (IsIn (Rng p l h) facts → l ≤ℤ h) × (IsIn (LenRng p l h) facts → l ≤ℤ h)
+-- What is asked of a fact that is added: what an int is at least is -1, 0 or 1, and the two paths of a difference are two.
+abbrev pub IsProper : Fact → Type 0
+IsProper (Low p c) = IsClass c
+IsProper (Less p q c) = is_path p q ≡ false
+IsProper _ = Unit {0}
+
+-- What an int of a table is at least is -1, 0 or 1.
+abbrev pub HasClass : Fact → Type 0
+HasClass (Low p c) = IsClass c
+HasClass _ = Unit {0}
+
+-- The ends of a range that is not empty are ints, and those of a length are from 0 on.
+abbrev pub HasIntEnds : Fact → Type 0
+HasIntEnds (Rng p l h) = l ≤ℤ h → (least_int ≤ℤ l) × (h ≤ℤ greatest_int)
+HasIntEnds (LenRng a l h) = l ≤ℤ h → (pos 0 ≤ℤ l) × (h ≤ℤ greatest_int)
+HasIntEnds _ = Unit {0}
+
+-- A fact that may stand in a table. An empty range stands there as it was met.
+pub record MayStand (f : Fact) : Type 0 where
+  pub tells : is_default f ≡ false
+  pub class : HasClass f
+  pub ends : HasIntEnds f

@@ -8,7 +8,7 @@ ghost use Rattle.ix_core.specs.declared.fact.PathOff.TheVariants.{Nothing};
 ghost use Rattle.ix_core.specs.declared.fact.Fact.TheVariants.{Upper};
 ghost use Rattle.ix_facts.specs.Bounds as spec;
 ghost use Rattle.ix_facts.specs.Bounds.{is_path, is_offset, best, when};
-ghost use Rattle.ix_facts.specs.Small.{IsEnd, IsLimit, IsBound, HasSmallEnds};
+ghost use Rattle.ix_facts.specs.Small.{IsEnd, IsLimit, IsBound, HasSmallNumbers};
 
 use ix_core::{Fact, Path, PathOff};
 
@@ -18,7 +18,7 @@ const LEAST: i64 = -2147483648;
 /// The greatest int.
 const GREATEST: i64 = 2147483647;
 
-pub(crate) fn is_same_path(p: &Path, q: &Path) -> bool
+pub fn is_same_path(p: &Path, q: &Path) -> bool
     ensures { result ≡ is_path p.now q.now }
 {
     match (*p, *q) {
@@ -40,7 +40,7 @@ fn is_same_offset(x: &PathOff, o: &PathOff) -> bool
 }
 
 /// The greater number, where none is below every number.
-fn greater(x: Option<i64>, y: Option<i64>) -> Option<i64>
+pub(crate) fn greater(x: Option<i64>, y: Option<i64>) -> Option<i64>
     ensures { result ≡ best int_max x y }
 {
     match (x, y) {
@@ -50,7 +50,7 @@ fn greater(x: Option<i64>, y: Option<i64>) -> Option<i64>
 }
 
 /// The lesser number, where none is above every number.
-fn lesser(x: Option<i64>, y: Option<i64>) -> Option<i64>
+pub(crate) fn lesser(x: Option<i64>, y: Option<i64>) -> Option<i64>
     ensures { result ≡ best int_min x y }
 {
     match (x, y) {
@@ -79,7 +79,7 @@ fn at_most(default: i64, number: Option<i64>) -> i64
 
 /// The low end of a length's range.
 fn length_low_by(p: &Path, fact: &Fact) -> Option<i64>
-    requires { HasSmallEnds fact.now }
+    requires { HasSmallNumbers fact.now }
     ensures bound { result ≡ spec.length_low_by p.now fact.now }
     ensures small { IfSome result IsEnd }
 {
@@ -91,7 +91,7 @@ fn length_low_by(p: &Path, fact: &Fact) -> Option<i64>
 
 /// The high end of a length's range.
 fn length_high_by(p: &Path, fact: &Fact) -> Option<i64>
-    requires { HasSmallEnds fact.now }
+    requires { HasSmallNumbers fact.now }
     ensures bound { result ≡ spec.length_high_by p.now fact.now }
     ensures small { IfSome result IsEnd }
 {
@@ -103,7 +103,7 @@ fn length_high_by(p: &Path, fact: &Fact) -> Option<i64>
 
 /// The low end of an int's range, or the class that it is in.
 fn range_low_by(p: &Path, fact: &Fact) -> Option<i64>
-    requires { HasSmallEnds fact.now }
+    requires { HasSmallNumbers fact.now }
     ensures bound { result ≡ spec.range_low_by p.now fact.now }
     ensures small { IfSome result IsEnd }
 {
@@ -116,7 +116,7 @@ fn range_low_by(p: &Path, fact: &Fact) -> Option<i64>
 
 /// The high end of an int's range.
 fn range_high_by(p: &Path, fact: &Fact) -> Option<i64>
-    requires { HasSmallEnds fact.now }
+    requires { HasSmallNumbers fact.now }
     ensures bound { result ≡ spec.range_high_by p.now fact.now }
     ensures small { IfSome result IsEnd }
 {
@@ -128,7 +128,7 @@ fn range_high_by(p: &Path, fact: &Fact) -> Option<i64>
 
 /// The greatest number that the length is stored to be at least.
 pub(crate) fn length_low(facts: &[Fact], p: &Path) -> i64
-    requires { All HasSmallEnds facts.now }
+    requires { All HasSmallNumbers facts.now }
     ensures bound { result ≡ spec.length_low facts.now p.now }
     ensures small { IsEnd result }
 {
@@ -141,7 +141,7 @@ pub(crate) fn length_low(facts: &[Fact], p: &Path) -> i64
 
 /// The least number that the length is stored to be at most.
 pub(crate) fn length_high(facts: &[Fact], p: &Path) -> i64
-    requires { All HasSmallEnds facts.now }
+    requires { All HasSmallNumbers facts.now }
     ensures bound { result ≡ spec.length_high facts.now p.now }
     ensures small { IsEnd result }
 {
@@ -154,7 +154,7 @@ pub(crate) fn length_high(facts: &[Fact], p: &Path) -> i64
 
 /// The greatest number that the int is stored to be at least.
 fn range_low(facts: &[Fact], p: &Path) -> i64
-    requires { All HasSmallEnds facts.now }
+    requires { All HasSmallNumbers facts.now }
     ensures bound { result ≡ spec.range_low facts.now p.now }
     ensures small { IsEnd result }
 {
@@ -167,7 +167,7 @@ fn range_low(facts: &[Fact], p: &Path) -> i64
 
 /// The least number that the int is stored to be at most.
 fn range_high(facts: &[Fact], p: &Path) -> i64
-    requires { All HasSmallEnds facts.now }
+    requires { All HasSmallNumbers facts.now }
     ensures bound { result ≡ spec.range_high facts.now p.now }
     ensures small { IsEnd result }
 {
@@ -210,7 +210,7 @@ fn within(size: i64, c: i64) -> i64
 
 /// What a smaller int or an array's length gives of the int from below.
 fn lower_by(facts: &[Fact], p: &Path, fact: &Fact) -> Option<i64>
-    requires { All HasSmallEnds facts.now }
+    requires { All HasSmallNumbers facts.now }
     ensures bound { result ≡ spec.lower_by facts.now p.now fact.now }
     ensures small { IfSome result IsLimit }
 {
@@ -229,7 +229,7 @@ fn lower_by(facts: &[Fact], p: &Path, fact: &Fact) -> Option<i64>
 
 /// The greatest number that the int is known to be at least.
 pub(crate) fn lower_bound(facts: &[Fact], p: &Path) -> i64
-    requires { All HasSmallEnds facts.now }
+    requires { All HasSmallNumbers facts.now }
     ensures bound { result ≡ spec.lower_bound facts.now p.now }
     ensures small { IsLimit result }
 {
@@ -249,7 +249,7 @@ fn limit_by_upper(
     offset: &PathOff,
     c: i32,
 ) -> Option<i64>
-    requires { All HasSmallEnds facts.now }
+    requires { All HasSmallNumbers facts.now }
     ensures bound { result ≡ spec.limit_by facts.now p.now (Upper r.now a.now offset.now c) }
     ensures small { IfSome result IsLimit }
 {
@@ -267,7 +267,7 @@ fn limit_by_upper(
 
 /// What a greater int or an array's length gives of the int from above.
 fn limit_by(facts: &[Fact], p: &Path, fact: &Fact) -> Option<i64>
-    requires { All HasSmallEnds facts.now }
+    requires { All HasSmallNumbers facts.now }
     ensures bound { result ≡ spec.limit_by facts.now p.now fact.now }
     ensures small { IfSome result IsLimit }
 {
@@ -287,7 +287,7 @@ fn limit_by(facts: &[Fact], p: &Path, fact: &Fact) -> Option<i64>
 
 /// The least number that the int is known to be at most.
 pub(crate) fn upper_limit(facts: &[Fact], p: &Path) -> i64
-    requires { All HasSmallEnds facts.now }
+    requires { All HasSmallNumbers facts.now }
     ensures bound { result ≡ spec.upper_limit facts.now p.now }
     ensures small { IsLimit result }
 {
@@ -514,7 +514,7 @@ fn shifted_upper(facts: &[Fact], p: &Path, a: &Path, offset: &PathOff) -> Option
 
 /// A bound at an offset as one without, and the bound of a sum as one of its parts.
 fn upper_by(facts: &[Fact], p: &Path, a: &Path, offset: &PathOff, fact: &Fact) -> Option<i64>
-    requires { All HasSmallEnds facts.now }
+    requires { All HasSmallNumbers facts.now }
     ensures bound { result ≡ spec.upper_by facts.now p.now a.now offset.now fact.now }
     ensures small { IfSome result IsBound }
 {
@@ -577,7 +577,7 @@ fn more_by(number: Option<i64>, bound: i64) -> Option<i64>
 
 /// A bound by the ends of ranges: of the int and the length without an offset, of the offset else.
 fn upper_from_ends(facts: &[Fact], p: &Path, a: &Path, offset: &PathOff) -> Option<i64>
-    requires { All HasSmallEnds facts.now }
+    requires { All HasSmallNumbers facts.now }
     ensures bound { result ≡ spec.upper_from_ends facts.now p.now a.now offset.now }
     ensures small { IfSome result IsBound }
 {
@@ -605,7 +605,7 @@ fn upper_from_ends(facts: &[Fact], p: &Path, a: &Path, offset: &PathOff) -> Opti
 
 /// The greatest bound of what the facts give one by one.
 fn greatest_upper_by(facts: &[Fact], p: &Path, a: &Path, offset: &PathOff) -> Option<i64>
-    requires { All HasSmallEnds facts.now }
+    requires { All HasSmallNumbers facts.now }
     ensures bound { result ≡ spec.greatest (spec.upper_by facts.now p.now a.now offset.now) facts.now }
     ensures small { IfSome result IsBound }
 {
@@ -618,7 +618,7 @@ fn greatest_upper_by(facts: &[Fact], p: &Path, a: &Path, offset: &PathOff) -> Op
 
 /// The greatest c for which `p + offset + c < a.length` is known.
 pub(crate) fn upper_bound(facts: &[Fact], p: &Path, a: &Path, offset: &PathOff) -> Option<i64>
-    requires { All HasSmallEnds facts.now }
+    requires { All HasSmallNumbers facts.now }
     ensures bound { result ≡ spec.upper_bound facts.now p.now a.now offset.now }
     ensures small { IfSome result IsBound }
 {
@@ -639,7 +639,7 @@ fn apart(limit: i64, bound: i64) -> i64
 
 /// The least c for which `p < q + c` is known.
 pub(crate) fn less_bound(facts: &[Fact], p: &Path, q: &Path) -> i64
-    requires { All HasSmallEnds facts.now }
+    requires { All HasSmallNumbers facts.now }
     ensures bound { result ≡ spec.less_bound facts.now p.now q.now }
     ensures small { IsBound result }
 {
@@ -647,4 +647,32 @@ pub(crate) fn less_bound(facts: &[Fact], p: &Path, q: &Path) -> i64
         apart(upper_limit(facts, p), lower_bound(facts, q)),
         stored_less(facts, p, q),
     )
+}
+
+/// The least c of the facts `p < q + c` as they are stored.
+pub(crate) fn fact_less(facts: &[Fact], p: &Path, q: &Path) -> Option<i64>
+    ensures bound { result ≡ spec.fact_less facts.now p.now q.now }
+    ensures small { IfSome result IsEnd }
+{
+    let mut bound = None;
+    for fact in facts {
+        bound = lesser(bound, fact_less_by(facts, p, q, fact));
+    }
+    bound
+}
+
+fn fact_less_by(_facts: &[Fact], p: &Path, q: &Path, fact: &Fact) -> Option<i64>
+    ensures bound { result ≡ spec.fact_less_by _facts.now p.now q.now fact.now }
+    ensures small { IfSome result IsEnd }
+{
+    match *fact {
+        Fact::Less(r, s, c) => {
+            if is_same_path(&r, p) && is_same_path(&s, q) {
+                Some(c as i64)
+            } else {
+                None
+            }
+        }
+        _ => None,
+    }
 }

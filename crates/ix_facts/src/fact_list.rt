@@ -2,11 +2,13 @@
 
 ghost use Rattle.std.specs.Prelude.{◌≡◌, All, List, [], ◌∷◌, ◌++◌, IfOk, OnOk, option_to_list};
 ghost use Rattle.ix_core.specs.declared.fact.Fact.{Fact};
-ghost use Rattle.ix_facts.specs.Facts.{orders, in_orders};
+ghost use Rattle.ix_facts.specs.Facts.{orders, is_default, in_orders};
 ghost use Rattle.ix_facts.specs.Assume.{has, is_length, is_search, is_negative};
 ghost use Rattle.ix_facts.specs.Forget.{of_path, without};
 ghost use Rattle.ix_facts.specs.After.{of_target};
-ghost use Rattle.ix_facts.specs.Small.{HasSmallEnds};
+ghost use Rattle.ix_facts.specs.Exact.{offset_paths, ints_of, arrays_of, named_ints, named_arrays};
+ghost use Rattle.ix_facts.specs.Named.{has_path, with_path, with_paths};
+ghost use Rattle.ix_facts.specs.Small.{HasSmallNumbers};
 
 use crate::bounds;
 use crate::bounds::is_same_path;
@@ -23,6 +25,9 @@ pub struct FactList {
     facts: Vec<Fact>,
     /// The facts in all their orders.
     ordered: Vec<Fact>,
+    /// The ints and arrays that they name, each once.
+    ints: Vec<Path>,
+    arrays: Vec<Path>,
 }
 
 impl Model for FactList {
@@ -30,7 +35,8 @@ impl Model for FactList {
 
     ghost view = { λ list. list.facts.items };
 
-    ghost invariant = { λ list. (list.ordered.items ≡ in_orders list.facts.items) × (All HasSmallEnds list.ordered.items × All HasSmallEnds list.facts.items) };
+    ghost invariant = { λ list. (list.ordered.items ≡ in_orders list.facts.items) × (All HasSmallNumbers list.ordered.items × (All HasSmallNumbers list.facts.items
+        × ((list.ints.items ≡ with_paths [] (named_ints list.ordered.items)) × (list.arrays.items ≡ with_paths [] (named_arrays list.ordered.items))))) };
 }
 
 /// The fact in its other order, if it has one.
@@ -42,6 +48,17 @@ fn turned(fact: &Fact) -> Option<Fact>
         Fact::Sum(t, y, z) => Some(Fact::Sum(t, z, y)),
         Fact::Upper(p, a, PathOff::Plus(q), c) => Some(Fact::Upper(q, a, PathOff::Plus(p), c)),
         _ => None,
+    }
+}
+
+/// Whether the fact is a range that is said of every path.
+fn is_said_of_all(fact: &Fact) -> bool
+    ensures { result ≡ is_default fact.now }
+{
+    match *fact {
+        Fact::Rng(_, low, high) => low <= -2147483648 && high >= 2147483647,
+        Fact::LenRng(_, low, high) => low <= 0 && high >= 2147483647,
+        _ => false,
     }
 }
 
@@ -60,9 +77,116 @@ fn in_all_orders(alloc: Global, facts: &[Fact]) -> Result<Vec<Fact>, AllocError>
 {
     let mut ordered = Vec::new(alloc);
     for fact in facts {
-        push_orders(&mut ordered, fact)?;
+        if !is_said_of_all(fact) {
+            push_orders(&mut ordered, fact)?;
+        }
     }
     Ok(ordered)
+}
+
+fn contains(paths: &[Path], p: &Path) -> bool
+    ensures { result ≡ has_path p.now paths.now }
+{
+    for path in paths {
+        if is_same_path(p, path) {
+            return true;
+        }
+    }
+    false
+}
+
+fn push_once(paths: &mut Vec<Path>, p: Path) -> Result<(), AllocError>
+    ensures { OnOk result (paths.new.items ≡ with_path paths.old.items p) }
+{
+    if !contains(paths, &p) {
+        paths.push(p)?;
+    }
+    Ok(())
+}
+
+fn push_offset(paths: &mut Vec<Path>, offset: &PathOff) -> Result<(), AllocError>
+    ensures { OnOk result (paths.new.items ≡ with_paths paths.old.items (offset_paths offset.now)) }
+{
+    match *offset {
+        PathOff::Nothing => Ok(()),
+        PathOff::Plus(q) => push_once(paths, q),
+        PathOff::Minus(q) => push_once(paths, q),
+    }
+}
+
+fn push_three(paths: &mut Vec<Path>, t: Path, y: Path, z: Path) -> Result<(), AllocError>
+    ensures { OnOk result (paths.new.items ≡ with_paths paths.old.items (t ∷ y ∷ z ∷ [])) }
+{
+    push_once(paths, t)?;
+    push_once(paths, y)?;
+    push_once(paths, z)
+}
+
+fn push_two(paths: &mut Vec<Path>, p: Path, q: Path) -> Result<(), AllocError>
+    ensures { OnOk result (paths.new.items ≡ with_paths paths.old.items (p ∷ q ∷ [])) }
+{
+    push_once(paths, p)?;
+    push_once(paths, q)
+}
+
+fn push_with_offset(paths: &mut Vec<Path>, p: Path, offset: &PathOff) -> Result<(), AllocError>
+    ensures { OnOk result (paths.new.items ≡ with_paths paths.old.items (p ∷ offset_paths offset.now)) }
+{
+    push_once(paths, p)?;
+    push_offset(paths, offset)
+}
+
+fn push_ints(paths: &mut Vec<Path>, fact: &Fact) -> Result<(), AllocError>
+    ensures { OnOk result (paths.new.items ≡ with_paths paths.old.items (ints_of fact.now)) }
+{
+    match *fact {
+        Fact::Rng(p, _, _) => push_once(paths, p),
+        Fact::LenRng(_, _, _) => Ok(()),
+        Fact::Low(p, _) => push_once(paths, p),
+        Fact::Same(_, _) => Ok(()),
+        Fact::IsLen(p, _) => push_once(paths, p),
+        Fact::Less(p, q, _) => push_two(paths, p, q),
+        Fact::Sum(t, y, z) => push_three(paths, t, y, z),
+        Fact::Search(p, _) => push_once(paths, p),
+        Fact::Neg(p, _) => push_once(paths, p),
+        Fact::Upper(p, _, offset, _) => push_with_offset(paths, p, &offset),
+    }
+}
+
+fn push_arrays(paths: &mut Vec<Path>, fact: &Fact) -> Result<(), AllocError>
+    ensures { OnOk result (paths.new.items ≡ with_paths paths.old.items (arrays_of fact.now)) }
+{
+    match *fact {
+        Fact::LenRng(a, _, _) => push_once(paths, a),
+        Fact::Same(a, b) => push_two(paths, a, b),
+        Fact::IsLen(_, a) => push_once(paths, a),
+        Fact::Search(_, a) => push_once(paths, a),
+        Fact::Neg(_, a) => push_once(paths, a),
+        Fact::Upper(_, a, _, _) => push_once(paths, a),
+        _ => Ok(()),
+    }
+}
+
+#[tactic(auto, using(crate::specs::NamedLaws::with_paths_app))]
+fn all_ints(alloc: Global, facts: &[Fact]) -> Result<Vec<Path>, AllocError>
+    ensures { IfOk result (λ paths. paths.items ≡ with_paths [] (named_ints facts.now)) }
+{
+    let mut paths = Vec::new(alloc);
+    for fact in facts {
+        push_ints(&mut paths, fact)?;
+    }
+    Ok(paths)
+}
+
+#[tactic(auto, using(crate::specs::NamedLaws::with_paths_app))]
+fn all_arrays(alloc: Global, facts: &[Fact]) -> Result<Vec<Path>, AllocError>
+    ensures { IfOk result (λ paths. paths.items ≡ with_paths [] (named_arrays facts.now)) }
+{
+    let mut paths = Vec::new(alloc);
+    for fact in facts {
+        push_arrays(&mut paths, fact)?;
+    }
+    Ok(paths)
 }
 
 fn push_beside_target(facts: &mut Vec<Fact>, kind: &OpKind, fact: &Fact) -> Result<(), AllocError>
@@ -89,7 +213,7 @@ fn facts_beside_target<K: Know>(
     kind: &OpKind,
 ) -> Result<Vec<Fact>, AllocError>
     ensures facts { IfOk result (λ facts. facts.items ≡ without (of_target kind.now) (K.known know.now)) }
-    ensures small { IfOk result (λ facts. All HasSmallEnds facts.items) }
+    ensures small { IfOk result (λ facts. All HasSmallNumbers facts.items) }
 {
     let mut facts = Vec::new(alloc);
     for k in 0..know.facts() {
@@ -100,7 +224,7 @@ fn facts_beside_target<K: Know>(
 
 fn facts_beside_path<K: Know>(alloc: Global, know: &K, path: &Path) -> Result<Vec<Fact>, AllocError>
     ensures facts { IfOk result (λ facts. facts.items ≡ without (of_path path.now) (K.known know.now)) }
-    ensures small { IfOk result (λ facts. All HasSmallEnds facts.items) }
+    ensures small { IfOk result (λ facts. All HasSmallNumbers facts.items) }
 {
     let mut facts = Vec::new(alloc);
     for k in 0..know.facts() {
@@ -110,13 +234,20 @@ fn facts_beside_path<K: Know>(alloc: Global, know: &K, path: &Path) -> Result<Ve
 }
 
 impl FactList {
-    /// The facts, where the ends of ranges lie between -2^36 and 2^36, or want of memory.
+    /// The facts, where the ends of ranges lie between -2^36 and 2^36, and what an int is at least is -1, 0 or 1; or want of memory.
     pub fn new(alloc: Global, facts: Vec<Fact>) -> Result<Self, AllocError>
-        requires small { All HasSmallEnds facts.items }
+        requires small { All HasSmallNumbers facts.items }
         ensures facts { IfOk result (λ list. list ≡ facts.items) }
     {
         let ordered = in_all_orders(alloc, &facts)?;
-        Ok(FactList { facts, ordered })
+        let ints = all_ints(alloc, &ordered)?;
+        let arrays = all_arrays(alloc, &ordered)?;
+        Ok(FactList {
+            facts,
+            ordered,
+            ints,
+            arrays,
+        })
     }
 
     /// What is known beside the target of an operation: what the rules read.
@@ -199,7 +330,20 @@ fn has_negative(facts: &[Fact], p: &Path, a: &Path) -> bool
 }
 
 impl Know for FactList {
+    ghost use Rattle.ix_facts.specs.Facts.{in_orders};
+    ghost use Rattle.ix_facts.specs.Exact.{named_ints, named_arrays};
+    ghost use Rattle.ix_facts.specs.Named.{with_paths};
+    ghost use Rattle.ix_facts.specs.NamedLaws.{each_once};
+
     ghost known = { λ list. list };
+
+    ghost int_paths = { λ list. with_paths [] (named_ints (in_orders list)) };
+
+    ghost each_int = { λ list. each_once (named_ints (in_orders list)) };
+
+    ghost array_paths = { λ list. with_paths [] (named_arrays (in_orders list)) };
+
+    ghost each_array = { λ list. each_once (named_arrays (in_orders list)) };
 
     fn facts(&self) -> u128 {
         self.facts.len() as u128
@@ -233,6 +377,10 @@ impl Know for FactList {
         Some(bounds::less_bound(&self.ordered, p, q))
     }
 
+    fn difference(&self, p: &Path, q: &Path) -> Option<i64> {
+        bounds::fact_less(&self.ordered, p, q)
+    }
+
     fn same(&self, a: &Path, b: &Path) -> bool {
         bounds::stored_same(&self.ordered, a, b)
     }
@@ -247,5 +395,21 @@ impl Know for FactList {
 
     fn negative(&self, p: &Path, a: &Path) -> bool {
         has_negative(&self.facts, p, a)
+    }
+
+    fn ints(&self) -> u128 {
+        self.ints.len() as u128
+    }
+
+    fn int(&self, k: u128) -> Path {
+        self.ints[k as usize]
+    }
+
+    fn arrays(&self) -> u128 {
+        self.arrays.len() as u128
+    }
+
+    fn array(&self, k: u128) -> Path {
+        self.arrays[k as usize]
     }
 }

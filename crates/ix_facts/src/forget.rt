@@ -7,7 +7,7 @@ ghost use Rattle.ix_facts.specs.After.{of_target};
 use ix_core::{Fact, OpKind, Path, PathOff};
 
 /// Whether the second path is the first, or a field of the object in it.
-pub(crate) fn is_of_path(path: &Path, p: &Path) -> bool
+pub fn is_of_path(path: &Path, p: &Path) -> bool
     ensures { result ≡ of_path path.now p.now }
 {
     match (*path, *p) {
@@ -19,7 +19,7 @@ pub(crate) fn is_of_path(path: &Path, p: &Path) -> bool
 }
 
 /// Whether an operation may change the path.
-pub(crate) fn is_of_target(kind: &OpKind, p: &Path) -> bool
+pub fn is_of_target(kind: &OpKind, p: &Path) -> bool
     ensures { result ≡ of_target kind.now p.now }
 {
     match kind {
@@ -48,7 +48,7 @@ fn offset_names_path(path: &Path, offset: &PathOff) -> bool
 }
 
 /// Whether the fact names the path, or a field of the object in it.
-pub(crate) fn names_path(path: &Path, fact: &Fact) -> bool
+pub fn names_path(path: &Path, fact: &Fact) -> bool
     ensures { result ≡ names (of_path path.now) fact.now }
 {
     match *fact {
@@ -80,7 +80,7 @@ fn offset_names_target(kind: &OpKind, offset: &PathOff) -> bool
 }
 
 /// Whether the fact names a path that the operation may change.
-pub(crate) fn names_target(kind: &OpKind, fact: &Fact) -> bool
+pub fn names_target(kind: &OpKind, fact: &Fact) -> bool
     ensures { result ≡ names (of_target kind.now) fact.now }
 {
     match *fact {

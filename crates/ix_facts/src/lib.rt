@@ -7,20 +7,30 @@
 #![tactic(auto)]
 
 mod bounds;
+mod conditions;
 mod fact_list;
+mod filters;
 mod forget;
+mod kind;
 mod know;
 mod landmarks;
 mod laws;
-mod search_table;
+mod path_order;
+mod stores;
 mod system;
 
+pub use bounds::is_same_path;
+pub use conditions::{Blocks, condition_laws};
 pub use fact_list::FactList;
+pub use filters::{facts_without_path, facts_without_target, rounded_facts};
+pub use forget::{is_of_path, is_of_target, names_path, names_target};
+pub use kind::{Kind, is_of_kind, kind_of_fact};
 pub use know::Know;
 pub use landmarks::Landmarks;
 pub use laws::{
     bounds_laws, claim_laws, closing_laws, forget_laws, form_laws, operation_laws, system_laws,
     test_laws,
 };
-pub use search_table::SearchTable;
+pub use path_order::{compare_offsets, compare_paths, offset_order_laws, path_order_laws};
+pub use stores::{field_laws, rule_laws, store_laws};
 pub use system::System;

@@ -1,8 +1,8 @@
 use Rattle.ix_facts.proofs.laws.claim_laws.Goals as goal
 use Rattle.ix_facts.specs.Facts.{in_orders}
 use Rattle.ix_facts.proofs.BoundsHold.{in_orders_hold}
-use Rattle.ix_facts.proofs.ClaimLaws.{claim_facts_hold, proved_holds, proves_mono}
-use Rattle.ix_facts.proofs.FactLists.{in_orders_stronger}
+use Rattle.ix_facts.proofs.ClaimLaws.{claim_facts_hold, proved_holds}
+use Rattle.ix_facts.proofs.SaidRules.{proves_says}
 
 pub returns-clause-assumed : goal.returns-clause-assumed
 returns-clause-assumed c = claim_facts_hold
@@ -11,4 +11,4 @@ pub returns-clause-sound : goal.returns-clause-sound
 returns-clause-sound c = λ facts v claim p h t. proved_holds v (in_orders facts) (in_orders_hold v facts h) claim p t
 
 pub returns-clause-monotone : goal.returns-clause-monotone
-returns-clause-monotone c = λ strong weak claim p s t. proves_mono (in_orders strong) (in_orders weak) (in_orders_stronger strong weak s) claim p t
+returns-clause-monotone c = proves_says
