@@ -15,16 +15,45 @@ const CHECK: &[&str] = &["check", "A.java"];
 fn sources(rt: HostRuntime) -> Result<(), Fail> {
     let rows: &[(&str, Status, &str, &str)] = &[
         (GET, Status::Done, ACCEPTED, ""),
-        ("class A { static int get(int[] a, int i) { return a[i]; } }", Status::Rejected, "A.java:1:53: access.low\nA.java:1:53: access.high\nrejected: 2 errors\n", ""),
-        ("class A { static int first(int[] a) { return a[0]; } }", Status::Unbuilt, "", UNBUILT),
+        (
+            "class A { static int get(int[] a, int i) { return a[i]; } }",
+            Status::Rejected,
+            "A.java:1:53: access.low\nA.java:1:53: access.high\nrejected: 2 errors\n",
+            "",
+        ),
+        (
+            "class A { static int first(int[] a) { return a[0]; } }",
+            Status::Unbuilt,
+            "",
+            UNBUILT,
+        ),
         ("", Status::Unbuilt, "", UNBUILT),
-        ("class A { static int low() { return 2147483648; } }", Status::Rejected, "A.java:1:37: syntax\nrejected: 1 errors\n", ""),
-        ("class A { static int low() { return 017; } }", Status::Rejected, "A.java:1:37: bad.number\nrejected: 1 errors\n", ""),
-        ("package p; import q.R; public final class A { static int get(int[] a, @IndexFor(\"#1\") int i) { return (a[(i)]); } }", Status::Done, ACCEPTED, ""),
+        (
+            "class A { static int low() { return 2147483648; } }",
+            Status::Rejected,
+            "A.java:1:37: syntax\nrejected: 1 errors\n",
+            "",
+        ),
+        (
+            "class A { static int low() { return 017; } }",
+            Status::Rejected,
+            "A.java:1:37: bad.number\nrejected: 1 errors\n",
+            "",
+        ),
+        (
+            "package p; import q.R; public final class A { static int get(int[] a, @IndexFor(\"#1\") int i) { return (a[(i)]); } }",
+            Status::Done,
+            ACCEPTED,
+            "",
+        ),
     ];
     for &(text, status, out, err) in rows {
         let ended = run(rt.alloc(), CHECK, text.as_bytes())?;
-        assert!(rt; ended.status == status && ended.out.as_slice() == out.as_bytes() && ended.err.as_slice() == err.as_bytes());
+        assert!(rt;
+            ended.status == status
+                && ended.out.as_slice() == out.as_bytes()
+                && ended.err.as_slice() == err.as_bytes()
+        );
     }
     Ok(())
 }
@@ -33,7 +62,11 @@ fn sources(rt: HostRuntime) -> Result<(), Fail> {
 #[test]
 fn words(rt: HostRuntime) -> Result<(), Fail> {
     let rows: &[(&[&str], Status, &str)] = &[
-        (&["check", "B.java"], Status::Unbuilt, "B.java: not built yet\n"),
+        (
+            &["check", "B.java"],
+            Status::Unbuilt,
+            "B.java: not built yet\n",
+        ),
         (&[], Status::Usage, USAGE),
         (&["check"], Status::Usage, USAGE),
         (&["check", "-"], Status::Usage, USAGE),
@@ -43,7 +76,9 @@ fn words(rt: HostRuntime) -> Result<(), Fail> {
     ];
     for &(words, status, err) in rows {
         let ended = run(rt.alloc(), words, GET.as_bytes())?;
-        assert!(rt; ended.status == status && ended.out.is_empty() && ended.err.as_slice() == err.as_bytes());
+        assert!(rt;
+            ended.status == status && ended.out.is_empty() && ended.err.as_slice() == err.as_bytes()
+        );
     }
     Ok(())
 }

@@ -47,7 +47,11 @@ fn of_the_source(rt: HostRuntime) -> Result<(), Fail> {
     let alloc = rt.alloc();
     for call in 0..3 {
         let ended = run_failing_source(alloc, call)?;
-        assert!(rt; ended.status == Status::ReadFault && ended.out.is_empty() && ended.err.as_slice() == b"A.java: read failed\n".as_slice());
+        assert!(rt;
+            ended.status == Status::ReadFault
+                && ended.out.is_empty()
+                && ended.err.as_slice() == b"A.java: read failed\n".as_slice()
+        );
     }
     assert!(rt; run_failing_source(alloc, 3)?.status == Status::Done);
     Ok(())
@@ -64,7 +68,10 @@ fn of_a_sink(rt: HostRuntime) -> Result<(), Fail> {
     ];
     for &(words, is_out, status) in rows {
         let ended = run_failing_sink(rt.alloc(), words, is_out)?;
-        assert!(rt; ended.status == status && (status != Status::WriteFault || (ended.out.is_empty() && ended.err.is_empty())));
+        assert!(rt;
+            ended.status == status
+                && (status != Status::WriteFault || (ended.out.is_empty() && ended.err.is_empty()))
+        );
     }
     Ok(())
 }

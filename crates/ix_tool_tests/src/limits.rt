@@ -49,7 +49,11 @@ fn most_tokens(rt: HostRuntime) -> Result<(), Fail> {
         line(alloc, 1, "syntax")?.as_bytes()
     );
     let past = check(alloc, repeated(alloc, ";", 200_001)?.as_bytes())?;
-    assert!(rt; past.status == Status::Limit && past.out.is_empty() && past.err.as_slice() == b"A.java:1:200001: limit: tokens\n".as_slice());
+    assert!(rt;
+        past.status == Status::Limit
+            && past.out.is_empty()
+            && past.err.as_slice() == b"A.java:1:200001: limit: tokens\n".as_slice()
+    );
     Ok(())
 }
 
@@ -68,7 +72,11 @@ fn greatest_height(rt: HostRuntime) -> Result<(), Fail> {
         Status::Unbuilt
     );
     let past = check(alloc, nested(alloc, 198)?.as_bytes())?;
-    assert!(rt; past.status == Status::Limit && past.out.is_empty() && past.err.as_slice() == b"A.java:1:226: limit: height\n".as_slice());
+    assert!(rt;
+        past.status == Status::Limit
+            && past.out.is_empty()
+            && past.err.as_slice() == b"A.java:1:226: limit: height\n".as_slice()
+    );
     Ok(())
 }
 
@@ -78,6 +86,10 @@ fn most_bytes(rt: HostRuntime) -> Result<(), Fail> {
     let at_most = check(alloc, repeated(alloc, " ", 1_048_576)?.as_bytes())?;
     assert_eq!(rt; at_most.status, Status::Unbuilt);
     let past = check(alloc, repeated(alloc, " ", 1_048_577)?.as_bytes())?;
-    assert!(rt; past.status == Status::Limit && past.out.is_empty() && past.err.as_slice() == b"A.java: limit: source bytes\n".as_slice());
+    assert!(rt;
+        past.status == Status::Limit
+            && past.out.is_empty()
+            && past.err.as_slice() == b"A.java: limit: source bytes\n".as_slice()
+    );
     Ok(())
 }

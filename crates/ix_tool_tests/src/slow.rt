@@ -2,7 +2,9 @@
 ghost use Rattle.std.specs.Prelude.{◌≡◌, None};
 
 use crate::calls::{GET, one_file, words_of};
-use ix_outside::{Failed, OpenError, Sink, SinkLog, Source, SourceLog, SureSink, SureSource, WriteError};
+use ix_outside::{
+    Failed, OpenError, Sink, SinkLog, Source, SourceLog, SureSink, SureSource, WriteError,
+};
 use ix_tool::{Status, run_tool};
 use std::test::Fail;
 
