@@ -18,3 +18,5 @@ mod OperationRows
 mod CallRows
 mod ObjectRows
 mod Unsafe
+mod FormedRows
+mod BrokenRows

@@ -11,3 +11,5 @@ pub mod Objects
 pub mod Waits
 pub mod Analysis
 pub mod Numbers
+pub mod Types
+pub mod Formed
