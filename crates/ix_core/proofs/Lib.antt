@@ -1,6 +1,7 @@
 pub mod Cases
 pub mod Heaps
 pub mod Kept
+pub mod MetInputs
 pub mod GoodIsSafe
 pub mod Waiting
 pub mod Entered
@@ -20,3 +21,4 @@ mod ObjectRows
 mod Unsafe
 mod FormedRows
 mod BrokenRows
+mod InputRows

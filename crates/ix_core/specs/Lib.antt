@@ -6,6 +6,7 @@ pub mod Tables
 pub mod Tasks
 pub mod Machine
 pub mod Safe
+pub mod Inputs
 pub mod World
 pub mod Objects
 pub mod Waits
