@@ -70,6 +70,21 @@ wrong_type_formed : Formed wrong_type_mended
 unfolding hidden-the_row-Item-0 hidden-the_row-Cond-1 denote.Hole.Carrier.hidden
 wrong_type_formed = ([] ∷ [], refl)
 
+-- null as an int
+abbrev null_int : Program
+null_int = program (class_of None [] (0 ∷ []) ∷ []) [] 0 (static_method 0 [] [] int [] 3 (block (does (op.Const 0 (literal.NullOf int)) 0 1 ∷ item.Return (Some 0) (span 0 1) ∷ [])) ∷ [])
+
+not_null_int : Formed null_int → ⊥
+unfolding hidden-the_row-Item-0 hidden-the_row-Cond-1 denote.Hole.Carrier.hidden
+not_null_int = never null_int refl (λ all. refl) (λ ty types all. refl)
+
+abbrev null_int_mended : Program
+null_int_mended = program (class_of None [] (0 ∷ []) ∷ []) [] 0 (static_method 0 [] [] int [] 3 (block (does (op.Const 0 (literal.Int (pos 0))) 0 1 ∷ item.Return (Some 0) (span 0 1) ∷ [])) ∷ [])
+
+null_int_formed : Formed null_int_mended
+unfolding hidden-the_row-Item-0 hidden-the_row-Cond-1 denote.Hole.Carrier.hidden
+null_int_formed = ([] ∷ [], refl)
+
 -- a target that is an operand
 abbrev own_operand : Program
 own_operand = program (class_of None [] (0 ∷ []) ∷ []) [] 0 (static_method 0 [] [] int [] 3 (block (does (op.Const 0 (literal.Int (pos 0))) 0 1 ∷ does (op.Num 0 Add 0 0) 0 1 ∷ item.Return (Some 0) (span 0 1) ∷ [])) ∷ [])
@@ -160,6 +175,21 @@ wrong_number_formed : Formed wrong_number_mended
 unfolding hidden-the_row-Item-0 hidden-the_row-Cond-1 denote.Hole.Carrier.hidden
 wrong_number_formed = ([] ∷ [], refl)
 
+-- a loop whose turn leaves another type in a slot that was written before it
+abbrev other_at_turn : Program
+other_at_turn = program (class_of None [] (0 ∷ []) ∷ []) [] 0 (static_method 0 [] [] int [] 3 (block (does (op.Const 0 (literal.Int (pos 0))) 0 1 ∷ item.Loop true (cond.Known false) (block (does (op.Const 0 (literal.NullOf int_array)) 0 1 ∷ [])) (block []) 0 1 ∷ item.Return (Some 0) (span 0 1) ∷ [])) ∷ [])
+
+not_other_at_turn : Formed other_at_turn → ⊥
+unfolding hidden-the_row-Item-0 hidden-the_row-Cond-1 denote.Hole.Carrier.hidden
+not_other_at_turn = never other_at_turn refl (λ all. refl) (λ ty types all. refl)
+
+abbrev other_at_turn_mended : Program
+other_at_turn_mended = program (class_of None [] (0 ∷ []) ∷ []) [] 0 (static_method 0 [] [] int [] 3 (block (does (op.Const 0 (literal.Int (pos 0))) 0 1 ∷ item.Loop true (cond.Known false) (block (does (op.Const 0 (literal.Int (pos 0))) 0 1 ∷ [])) (block []) 0 1 ∷ item.Return (Some 0) (span 0 1) ∷ [])) ∷ [])
+
+other_at_turn_formed : Formed other_at_turn_mended
+unfolding hidden-the_row-Item-0 hidden-the_row-Cond-1 denote.Hole.Carrier.hidden
+other_at_turn_formed = ([] ∷ [], refl)
+
 -- a `return` in a block of a condition
 abbrev asking_return : Program
 asking_return = program (class_of None [] (0 ∷ []) ∷ []) [] 0 (static_method 0 [] [] int [] 3 (block (does (op.Const 0 (literal.Int (pos 0))) 0 1 ∷ item.If (cond.Compare (block (item.Return (Some 0) (span 0 1) ∷ [])) (test rel.Lt 0 0 int (span 0 1) (span 0 1))) (block []) (block []) ∷ item.Return (Some 0) (span 0 1) ∷ [])) ∷ [])
@@ -242,6 +272,14 @@ two_supers = program (class_of (Some 1) [] (0 ∷ []) ∷ class_of None [] (1 �
 not_two_supers : Formed two_supers → ⊥
 unfolding hidden-the_row-Item-0 hidden-the_row-Cond-1 denote.Hole.Carrier.hidden
 not_two_supers = never two_supers refl (λ all. refl) (λ ty types all. refl)
+
+-- a call of the parent's constructor that is no item of the body itself
+abbrev inner_super : Program
+inner_super = program (class_of (Some 1) [] (0 ∷ []) ∷ class_of None [] (1 ∷ []) ∷ []) [] 0 (constructor_of 0 [] [] [] 2 (block (item.If (cond.Known true) (block (does (op.SuperCall (calls 1 1 (Some 0) [] 1 (span 0 1))) 0 1 ∷ [])) (block []) ∷ [])) ∷ constructor_of 1 [] [] [] 1 (block []) ∷ [])
+
+not_inner_super : Formed inner_super → ⊥
+unfolding hidden-the_row-Item-0 hidden-the_row-Cond-1 denote.Hole.Carrier.hidden
+not_inner_super = never inner_super refl (λ all. refl) (λ ty types all. refl)
 
 -- a use of `this` before the parent's constructor has run
 abbrev early_this : Program

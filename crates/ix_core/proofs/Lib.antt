@@ -2,6 +2,11 @@ pub mod Cases
 pub mod Heaps
 pub mod Kept
 pub mod MetInputs
+pub mod Ancestors
+pub mod TypeLaws
+pub mod TypedValues
+pub mod TypedSteps
+pub mod TypedOperations
 pub mod GoodIsSafe
 pub mod Waiting
 pub mod Entered

@@ -14,3 +14,4 @@ pub mod Analysis
 pub mod Numbers
 pub mod Types
 pub mod Formed
+pub mod Typed

@@ -52,6 +52,12 @@ abbrev pub is_array_type : Type_ → Bool
 is_array_type (type.Array of depth element) = true
 is_array_type _ = false
 
+-- a class or an array type (JLS 4.3)
+abbrev pub is_reference_type : Type_ → Bool
+is_reference_type (type.Plain (base.Class class)) = true
+is_reference_type (type.Array of depth element) = true
+is_reference_type _ = false
+
 -- the type of a cell; only arrays have cells
 abbrev pub cell_type : Type_ → Type_
 cell_type (type.Array of (suc (suc depth)) element) = type.Array of (suc depth) element
@@ -84,6 +90,9 @@ module _ (program : Program) where
   is_type (type.Plain of) = is_base of
   is_type (type.Array of depth element) = is_base of && (nat_lt 0 depth && (if is_int_type (type.Plain of) then list_all is_element_claim element else is_empty element))
 
+  abbrev pub is_array : Type_ → Bool
+  is_array ty = is_array_type ty && is_type ty
+
   -- a class is another, or below it (JLS 8.1.4)
   abbrev pub is_below : ℕ → ℕ → Bool
   is_below class other = is_among (ancestors program class) other
@@ -100,8 +109,8 @@ abbrev pub Types : Type 0
 Types = ℕ → Option Type_
 
 -- the types at a point; none where no way leads there
-abbrev pub At_ : Type 0
-At_ = Option Types
+abbrev pub Point : Type 0
+Point = Option Types
 
 abbrev pub with_type : ℕ → Type_ → Types → Types
 with_type slot ty types other = if other == slot then Some ty else types other
@@ -111,7 +120,7 @@ if_same (Some ty) (Some other) = if same_type ty other then Some ty else None
 if_same _ _ = None
 
 -- where two ways meet: what both say
-abbrev pub meeting : At_ → At_ → At_
+abbrev pub meeting : Point → Point → Point
 meeting None other = other
 meeting types None = types
 meeting (Some types) (Some others) = Some (λ slot. if_same (types slot) (others slot))
@@ -120,9 +129,9 @@ meeting (Some types) (Some others) = Some (λ slot. if_same (types slot) (others
 abbrev pub types_below : ℕ → Types → Types
 types_below count types slot = if nat_lt slot count then types slot else None
 
-abbrev pub at_below : ℕ → At_ → At_
-at_below count None = None
-at_below count (Some types) = Some (types_below count types)
+abbrev pub point_below : ℕ → Point → Point
+point_below count None = None
+point_below count (Some types) = Some (types_below count types)
 
 -- it says no less than the other of one slot
 abbrev pub says : Option Type_ → Option Type_ → Bool
@@ -136,7 +145,7 @@ says_below zero types others = true
 says_below (suc count) types others = says (types count) (others count) && says_below count types others
 
 -- where there is a way, it says no less
-abbrev pub keeps_types : ℕ → At_ → At_ → Bool
+abbrev pub keeps_types : ℕ → Point → Point → Bool
 keeps_types count None kept = true
 keeps_types count types None = true
 keeps_types count (Some types) (Some kept) = says_below count types kept
