@@ -7,6 +7,8 @@ pub mod TypeLaws
 pub mod TypedValues
 pub mod TypedSteps
 pub mod TypedOperations
+pub mod TypedTasks
+pub mod TypedMoves
 pub mod GoodIsSafe
 pub mod Waiting
 pub mod Entered

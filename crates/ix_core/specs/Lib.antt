@@ -15,3 +15,4 @@ pub mod Numbers
 pub mod Types
 pub mod Formed
 pub mod Typed
+pub mod TypedStates
