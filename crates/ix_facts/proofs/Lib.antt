@@ -21,7 +21,10 @@ pub mod ClaimLaws
 pub mod RoundLaws
 pub mod BoundLaws
 pub mod SystemLaws
-pub mod Samples
+mod SameFacts
+mod RowsAfter
+mod RowsTests
+mod RowsKnown
 pub mod ShiftedWays
 pub mod FormLaws
 pub mod RunningBest
