@@ -27,9 +27,6 @@ mod RowsTests
 mod RowsKnown
 pub mod ShiftedWays
 pub mod FormLaws
-pub mod RunningBest
-pub mod BoundSteps
-pub mod KnownFacts
 pub mod LengthLaws
 pub mod PathOrders
 pub mod SaidLaws

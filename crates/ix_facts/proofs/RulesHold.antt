@@ -21,7 +21,7 @@ use Rattle.ix_facts.specs.Exact.{if_so, each, each_path, if_some, named_arrays, 
 use Rattle.ix_facts.specs.AfterOperation as after
 use Rattle.ix_facts.specs.AfterOperation.{Computed}
 use Rattle.ix_facts.proofs.Gives.{Gives}
-use Rattle.ix_facts.proofs.Tests.{by_test, at_most_true}
+use Rattle.ix_facts.proofs.Tests.{at_most_true}
 use Rattle.ix_facts.proofs.BoundsHold.{int_same, size_same, LessIs, UpperIs, lower_holds, limit_holds, length_low_holds, length_high_holds, fact_less_holds, upper_holds, less_holds}
 use Rattle.ix_facts.proofs.FactLists.{all_hold_app}
 use Rattle.ix_facts.proofs.RuleForms.{if_so_holds, each_holds, each_path_holds, if_some_holds}

@@ -1,7 +1,7 @@
 -- What an operation gives of its target: a rule for each operation. The facts of the rules are those that do not name the target, in all their
 -- orders. Checker Framework manual, Index Checker and Constant Value Checker; Kellogg et al., "Lightweight Verification of Array Indexing",
 -- ISSTA 2018, sections 4 and 5. Their form as facts is this project's own.
-use Rattle.std.specs.Prelude.{◌≡◌, zero, suc, cond, Bool, true, false, ◌&&◌, nat_lt, ℤ, pos, negsuc, ◌+ℤ◌, ◌-ℤ◌, ◌≤ℤ◌, int_le, List, [], ◌∷◌, ◌++◌, length, Option, Some, None}
+use Rattle.std.specs.Prelude.{◌≡◌, zero, suc, Bool, true, false, ◌&&◌, nat_lt, ℤ, pos, negsuc, ◌+ℤ◌, ◌-ℤ◌, ◌≤ℤ◌, int_le, List, [], ◌∷◌, ◌++◌, length, Option, Some, None}
 use Rattle.std.specs.Int.{int_min, int_max}
 use Rattle.ix_num.specs.declared.arith.Arith.{Arith}
 use Rattle.ix_num.specs.declared.arith.Arith.TheVariants.{Add, Sub, Mul, Div, Rem, And, Or, Xor, Shl, Shr, Ushr}
