@@ -4,7 +4,7 @@ use Rattle.ix_num.specs.declared.rel.Rel.TheVariants as rel
 use Rattle.ix_facts.specs.AfterTest.{when_true, when_false}
 use Rattle.ix_facts.proofs.SameFacts.{int, ints, same_facts, told}
 use Rattle.ix_core.specs.declared.fact.Path.TheVariants.{Slot, FieldOf}
-use Rattle.ix_core.specs.declared.fact.PathOff.TheVariants.{Nothing, Plus}
+use Rattle.ix_core.specs.declared.fact.PathOff.TheVariants.{Nothing, Plus, Minus}
 use Rattle.ix_core.specs.declared.fact.Fact.{Fact}
 use Rattle.ix_core.specs.declared.fact.Fact.TheVariants.{Rng, LenRng, Low, Same, IsLen, Less, Sum, Search, Neg, Upper}
 
@@ -89,20 +89,56 @@ row_9 : same_facts (told (when_true int rel.Eq (Slot 1) (Slot 0)) stored_9) (Les
 unfolding stored_9
 row_9 = refl
 
--- s0 < s2 - 2147483646
--- s2 == s0 is false
+-- nothing
+-- s2 <= s1 is false
 stored_10 : List Fact
-stored_10 = Less (Slot 0) (Slot 2) (negsuc 2147483645) ∷ []
+stored_10 = []
 
-row_10 : same_facts (told (when_false int rel.Eq (Slot 2) (Slot 0)) stored_10) (Rng (Slot 0) (negsuc 2147483647) (pos 2147483646) ∷ Rng (Slot 2) (negsuc 2147483646) (pos 2147483647) ∷ stored_10) ≡ true
+row_10 : same_facts (told (when_false int rel.Le (Slot 2) (Slot 1)) stored_10) (Rng (Slot 1) (negsuc 2147483647) (pos 2147483646) ∷ Rng (Slot 2) (negsuc 2147483646) (pos 2147483647) ∷ Less (Slot 1) (Slot 2) (pos 0) ∷ stored_10) ≡ true
 unfolding stored_10
 row_10 = refl
 
--- s1 in -5..-3; s0 >= 1
--- s1 != s0 is true
+-- s1 in 2..3; s1 >= 1
+-- s1 == s1 is false
 stored_11 : List Fact
-stored_11 = Rng (Slot 1) (negsuc 4) (negsuc 2) ∷ Low (Slot 0) (pos 1) ∷ []
+stored_11 = Rng (Slot 1) (pos 2) (pos 3) ∷ Low (Slot 1) (pos 1) ∷ []
 
-row_11 : same_facts (told (when_true int rel.Ne (Slot 1) (Slot 0)) stored_11) (Rng (Slot 0) (negsuc 3) (pos 2147483647) ∷ Less (Slot 1) (Slot 0) (pos 0) ∷ stored_11) ≡ true
+row_11 : same_facts (told (when_false int rel.Eq (Slot 1) (Slot 1)) stored_11) (stored_11) ≡ true
 unfolding stored_11
 row_11 = refl
+
+-- nothing
+-- s1 > s2 is false
+stored_12 : List Fact
+stored_12 = []
+
+row_12 : same_facts (told (when_false int rel.Gt (Slot 1) (Slot 2)) stored_12) (Less (Slot 1) (Slot 2) (pos 1) ∷ stored_12) ≡ true
+unfolding stored_12
+row_12 = refl
+
+-- s2 in 1..1; s1 >= 1; s2 >= 1
+-- s1 != s2 is true
+stored_13 : List Fact
+stored_13 = Rng (Slot 2) (pos 1) (pos 1) ∷ Low (Slot 1) (pos 1) ∷ Low (Slot 2) (pos 1) ∷ []
+
+row_13 : same_facts (told (when_true int rel.Ne (Slot 1) (Slot 2)) stored_13) (Rng (Slot 1) (pos 2) (pos 2147483647) ∷ Less (Slot 2) (Slot 1) (pos 0) ∷ stored_13) ≡ true
+unfolding stored_13
+row_13 = refl
+
+-- s2 = s9.f0 + s1; s0 = s5.length; s5, s5 same
+-- s2 >= s0 is false
+stored_14 : List Fact
+stored_14 = Sum (Slot 2) (FieldOf 9 0) (Slot 1) ∷ IsLen (Slot 0) (Slot 5) ∷ Same (Slot 5) (Slot 5) ∷ []
+
+row_14 : same_facts (told (when_false int rel.Ge (Slot 2) (Slot 0)) stored_14) (Rng (Slot 2) (negsuc 2147483647) (pos 2147483646) ∷ Rng (Slot 0) (negsuc 2147483646) (pos 2147483647) ∷ Less (Slot 2) (Slot 0) (pos 0) ∷ Upper (Slot 2) (Slot 5) Nothing (pos 0) ∷ Upper (FieldOf 9 0) (Slot 5) (Plus (Slot 1)) (pos 0) ∷ stored_14) ≡ true
+unfolding stored_14
+row_14 = refl
+
+-- s1 in 2147483647..2147483647; s1 >= 1
+-- s0 == s1 is false
+stored_15 : List Fact
+stored_15 = Rng (Slot 1) (pos 2147483647) (pos 2147483647) ∷ Low (Slot 1) (pos 1) ∷ []
+
+row_15 : same_facts (told (when_false int rel.Eq (Slot 0) (Slot 1)) stored_15) (Rng (Slot 0) (negsuc 2147483647) (pos 2147483646) ∷ Less (Slot 0) (Slot 1) (pos 0) ∷ stored_15) ≡ true
+unfolding stored_15
+row_15 = refl
