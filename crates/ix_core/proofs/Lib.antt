@@ -11,6 +11,7 @@ pub mod TypedOperations
 pub mod TypedTasks
 pub mod TypedMoves
 pub mod TypedCalls
+pub mod TypedRuns
 pub mod GoodIsSafe
 pub mod Waiting
 pub mod Entered

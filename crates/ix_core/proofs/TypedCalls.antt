@@ -40,7 +40,7 @@ types_are (ty ∷ types) (other ∷ others) e =
 types_are [] (other ∷ others) e = absurd (false≢true e)
 types_are (ty ∷ types) [] e = absurd (false≢true e)
 
-is_false : (t : Bool) → not t ≡ true → t ≡ false
+pub is_false : (t : Bool) → not t ≡ true → t ≡ false
 is_false true e = absurd (false≢true e)
 is_false false e = refl
 
@@ -93,7 +93,7 @@ module _ (program : Program) (locals : List (List Type_)) (formed : is_formed pr
       of_fits true false void e c = refl
       of_fits false static void e c = absurd (false≢true c)
 
-  params_count : (method : Method) (number : ℕ) (params : List Variable) (types : List Type_) → params_fit program method number params types ≡ true → length params ≡ length types
+  pub params_count : (method : Method) (number : ℕ) (params : List Variable) (types : List Type_) → params_fit program method number params types ≡ true → length params ≡ length types
   params_count method number [] [] e = refl
   params_count method number (param ∷ params) (ty ∷ types) e =
       let a = and_parts (param.slot == param_slot method number) _ e in
@@ -105,7 +105,7 @@ module _ (program : Program) (locals : List (List Type_)) (formed : is_formed pr
 
   -- ---- what is overridden is called in the same way
 
-  same_itself : (number : ℕ) → SameKind (at number) (at number)
+  pub same_itself : (number : ℕ) → SameKind (at number) (at number)
   same_itself number = record { params = refl; result = refl; static = refl; constructor = refl }
 
   abbrev over_of : ℕ → Option ℕ
@@ -206,7 +206,7 @@ module _ (program : Program) (locals : List (List Type_)) (formed : is_formed pr
   -- ---- a new frame
 
   -- the values of arguments that fit, by the slots of their parameters
-  args_given : (caller : Method) (types : Types) (slots : List Held) (heap : Heap) (size : length slots ≡ caller.slots) (typed : SlotsTyped program types slots heap) (args : List Arg) (params : List Type_) (first slot : ℕ) (ty : Type_)
+  pub args_given : (caller : Method) (types : Types) (slots : List Held) (heap : Heap) (size : length slots ≡ caller.slots) (typed : SlotsTyped program types slots heap) (args : List Arg) (params : List Type_) (first slot : ℕ) (ty : Type_)
       → args_fit program caller (Some types) args params ≡ true → param_type_from first params slot ≡ Some ty → (k : ℕ) × (slot ≡ first + k) × IsOfType program heap ty (value_at (map (λ (arg : Arg). value_at slots arg.slot) args) k)
   args_given caller types slots heap size typed [] [] first slot ty e is = absurd (no_type is)
     where
@@ -228,7 +228,7 @@ module _ (program : Program) (locals : List (List Type_)) (formed : is_formed pr
   args_given caller types slots heap size typed [] (param ∷ params) first slot ty e is = absurd (false≢true e)
   args_given caller types slots heap size typed (arg ∷ args) [] first slot ty e is = absurd (false≢true e)
 
-  args_count : (caller : Method) (types : Types) (args : List Arg) (params : List Type_) → args_fit program caller (Some types) args params ≡ true → length args ≡ length params
+  pub args_count : (caller : Method) (types : Types) (args : List Arg) (params : List Type_) → args_fit program caller (Some types) args params ≡ true → length args ≡ length params
   args_count caller types [] [] e = refl
   args_count caller types (arg ∷ args) (param ∷ params) e = ap suc (args_count caller types args params (and_parts (reads program caller (Some types) arg.slot param) (args_fit program caller (Some types) args params) e).1)
   args_count caller types [] (param ∷ params) e = absurd (false≢true e)

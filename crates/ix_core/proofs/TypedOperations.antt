@@ -81,7 +81,7 @@ module _ (program : Program) (ends : WaysEnd program) (method : Method) (local_t
   not_first true count slot e is = absurd (false≢true (sym is))
   not_first false count slot e is = grind (arith, nat_tests)
 
-  target_there : (slot : ℕ) → is_target program method slot ≡ true → CanTake method slots slot
+  pub target_there : (slot : ℕ) → is_target program method slot ≡ true → CanTake method slots slot
   target_there slot e =
       let parts = and_parts (is_slot program method slot) (at_most (param_slots method) slot) e in
       record { within = slot_there program ends method types slots heap size typed slot parts.0; apart = not_first method.is_static (length method.params) slot parts.1 }

@@ -98,11 +98,12 @@ module _ (program : Program) (locals : ℕ → List Type_) where
     pub slots : SlotsFit waiting.frame types heap
     pub resumes : Resumes waiting.frame types callee waiting.target
 
-  abbrev pub WaitsTyped : List Waiting → Frame → Heap → Type 0
+  -- all frames that wait, of which the first waits for a frame of the callee
+  abbrev pub WaitsTyped : List Waiting → ℕ → Heap → Type 0
   WaitsTyped [] callee heap = Unit {0}
-  WaitsTyped (waiting ∷ below) callee heap = WaitingTyped waiting (method_at program callee.method) heap × WaitsTyped below waiting.frame heap
+  WaitsTyped (waiting ∷ below) callee heap = WaitingTyped waiting (method_at program callee) heap × WaitsTyped below waiting.frame.method heap
 
   pub record StateTyped (state : State) : Type 0 where
     pub heap : HeapTyped program state.heap
     pub now : FrameTyped state.now state.heap
-    pub below : WaitsTyped state.below state.now state.heap
+    pub below : WaitsTyped state.below state.now.method state.heap
