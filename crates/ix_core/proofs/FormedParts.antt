@@ -1,7 +1,7 @@
 -- What each part of a formed program has, by its number.
-use Rattle.std.specs.Prelude.{◌≡◌, ◌⊎◌, ℕ, zero, suc, ◌+◌, ◌<◌, ◌≤◌, ◌==◌, nat_lt, Bool, true, false, not, ◌&&◌, ◌||◌, if◌then◌else◌, List, [], ◌∷◌, ◌++◌, length, reverse, flat_map, slice_get, count_by, Option, None, Some, unwrap_or, refl}
+use Rattle.std.specs.Prelude.{◌≡◌, ◌⊎◌, ℕ, zero, suc, ◌+◌, ◌<◌, ◌≤◌, ◌==◌, nat_lt, Bool, true, ◌&&◌, if◌then◌else◌, List, [], ◌∷◌, ◌++◌, length, flat_map, slice_get, count_by, Option, None, Some, unwrap_or, refl}
 use Rattle.std.specs.List.{list_all}
-use Rattle.std.proofs.Common.{arith, sym, ap, subst, ◌∙◌, inl, inr, ⊎_elim}
+use Rattle.std.proofs.Common.{arith, sym, ap, subst, inl, inr, ⊎_elim}
 use Rattle.std.proofs.lemmas.Bool.{and_parts, false≢true}
 use Rattle.std.proofs.lemmas.Bool.Decides.{nat_tests}
 use Rattle.std.proofs.lemmas.Option.{slice_get_past}
@@ -10,7 +10,7 @@ use Rattle.ix_core.specs.declared.program.Class.{Class}
 use Rattle.ix_core.specs.declared.program.Field.{Field}
 use Rattle.ix_core.specs.declared.program.Method.{Method}
 use Rattle.ix_core.specs.declared.program.Program.{Program}
-use Rattle.ix_core.specs.Formed.{ends_within, parent_fits, class_fits, classes_fit, fields_fit, methods_fit, method_fits, is_formed, are_same_numbers, are_distinct, numbers_where, at_most, overriding, numbers_from, claim_fits, others, field_type_of_name}
+use Rattle.ix_core.specs.Formed.{ends_within, parent_fits, class_fits, classes_fit, fields_fit, methods_fit, method_fits, is_formed, are_same_numbers, are_distinct, numbers_where, at_most, claim_fits, others, field_type_of_name}
 use Rattle.ix_core.specs.declared.claim.Name.TheVariants.{FieldNamed}
 use Rattle.ix_core.specs.Tables.{no_class, no_field, no_method, class_at, field_at, method_at, most_on_way, is_among}
 use Rattle.ix_core.specs.Types.{is_class, is_type}

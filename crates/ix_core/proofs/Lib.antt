@@ -12,6 +12,7 @@ pub mod TypedTasks
 pub mod TypedMoves
 pub mod TypedCalls
 pub mod TypedRuns
+pub mod TypedStarts
 pub mod GoodIsSafe
 pub mod Waiting
 pub mod Entered

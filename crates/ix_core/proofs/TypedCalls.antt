@@ -1,30 +1,28 @@
 -- A call of a formed program enters a frame that is typed.
-use Rattle.std.specs.Prelude.{◌≡◌, ◌⊎◌, ℕ, zero, suc, ◌+◌, ◌-◌, ◌<◌, ◌≤◌, ◌==◌, nat_lt, pos, Bool, true, false, not, ◌&&◌, ◌||◌, if◌then◌else◌, List, [], ◌∷◌, ◌++◌, length, map, reverse, flat_map, slice_get, option_map, Option, None, Some, unwrap_or, refl}
+use Rattle.std.specs.Prelude.{◌≡◌, ℕ, zero, suc, ◌+◌, ◌<◌, ◌==◌, nat_lt, Bool, true, false, not, ◌&&◌, ◌||◌, if◌then◌else◌, List, [], ◌∷◌, length, map, flat_map, Option, None, Some, unwrap_or, refl}
 use Rattle.std.specs.List.{list_all}
-use Rattle.std.proofs.Common.{arith, sym, ap, subst, ◌∙◌, inl, inr, ⊎_elim}
+use Rattle.std.proofs.Common.{arith, sym, ap, subst, ◌∙◌, ⊎_elim}
 use Rattle.std.proofs.lemmas.Bool.{and_parts, false≢true}
 use Rattle.std.proofs.lemmas.Bool.Decides.{nat_tests}
-use Rattle.ix_core.specs.declared.claim.Base.{Base}
 use Rattle.ix_core.specs.declared.claim.Base.TheVariants as base
 use Rattle.ix_core.specs.declared.claim.Name.TheVariants.{Param}
 use Rattle.ix_core.specs.declared.claim.Type_.{Type_}
 use Rattle.ix_core.specs.declared.claim.Type_.TheVariants as type
 use Rattle.ix_core.specs.declared.op.Arg.{Arg}
-use Rattle.ix_core.specs.declared.op.CallOp.{CallOp}
 use Rattle.ix_core.specs.declared.program.Local.{Local as Variable}
 use Rattle.ix_core.specs.declared.program.Method.{Method}
 use Rattle.ix_core.specs.declared.program.Program.{Program}
-use Rattle.ix_core.specs.Formed.{is_formed, method_fits, params_fit, result_fits, constructor_fits, overrides_fit, is_proper_ancestor, same_types, body_fits, entry_type, this_type, has_parent, first_type, param_type_from, args_fit, reads, at_most, is_there, code_ways, code_size, loop_numbers, same_numbers, numbers_from, locals_fit, super_calls_fit, claim_fits, others, named_type}
-use Rattle.ix_core.specs.Heap.{Held, Num, Boolean, Null, At, Heap, value_at, default_of, default_of_base}
+use Rattle.ix_core.specs.Formed.{is_formed, params_fit, result_fits, constructor_fits, overrides_fit, is_proper_ancestor, same_types, body_fits, entry_type, this_type, has_parent, first_type, param_type_from, args_fit, reads, at_most, is_there, code_size, loop_numbers, same_numbers, numbers_from, locals_fit, super_calls_fit, claim_fits, others, named_type}
+use Rattle.ix_core.specs.Heap.{Held, Heap, value_at, default_of}
 use Rattle.ix_core.specs.Tables.{param_slot, param_slots, method_at, class_at, most_on_way, way_up, overridden, ancestors, found_method, first_where, is_among, body_of, default_result, routine_of}
-use Rattle.ix_core.specs.Tasks.{Tasks, Empty, code_then, behind_loop, next_turn}
+use Rattle.ix_core.specs.Tasks.{Empty, code_then}
 use Rattle.ix_core.specs.Typed.{IsOfType, SlotsTyped}
-use Rattle.ix_core.specs.TypedStates.{Fit, Nothing, Lead, Leads, ResultTyped}
-use Rattle.ix_core.specs.Types.{is_class, is_empty, Types, Point, class_type, is_void, is_type, is_below, same_type}
+use Rattle.ix_core.specs.TypedStates.{Nothing, Lead, ResultTyped}
+use Rattle.ix_core.specs.Types.{is_class, is_empty, Types, class_type, is_void, is_type, is_below, same_type}
 use Rattle.ix_core.specs.Machine.{slots_with, result_of, returned_or}
 use Rattle.ix_core.proofs.Ancestors.{among_parts}
 use Rattle.ix_core.proofs.Cases.{by_test, equal}
-use Rattle.ix_core.proofs.Entered.{slots_are, slots_length}
+use Rattle.ix_core.proofs.Entered.{slots_are}
 use Rattle.ix_core.proofs.FormedParts.{locals_of, method_is, ways_end, method_listed, flat_parts, first_is}
 use Rattle.ix_core.proofs.TypeLaws.{type_is}
 use Rattle.ix_core.proofs.TypedTasks.{itself, straight_leads}
@@ -121,13 +119,15 @@ module _ (program : Program) (locals : List (List Type_)) (formed : is_formed pr
       let e = and_parts (not (at over).constructor) _ d.1 in
       let f = and_parts (is_proper_ancestor program (at number) (at over).class) _ e.1 in
       let g = and_parts (same_types (at number).param_types (at over).param_types) (same_type (at number).result (at over).result) f.1 in
-      let there : over < length program.methods = (let h = a.0 in grind (arith, nat_tests)) in
-      (there, record {
-        params = types_are (at number).param_types (at over).param_types g.0;
-        result = type_is (at number).result (at over).result g.1;
-        static = is_false (at number).is_static b.0 ∙ sym (is_false (at over).is_static d.0);
-        constructor = is_false (at number).constructor c.0 ∙ sym (is_false (at over).constructor e.0);
-      })
+      let there : over < length program.methods = (let h = a.0 in grind (arith, nat_tests)) in (
+        there,
+        record {
+          params = types_are (at number).param_types (at over).param_types g.0;
+          result = type_is (at number).result (at over).result g.1;
+          static = is_false (at number).is_static b.0 ∙ sym (is_false (at over).is_static d.0);
+          constructor = is_false (at number).constructor c.0 ∙ sym (is_false (at over).constructor e.0);
+        },
+      )
 
   same_through : (a b c : ℕ) → SameKind (at a) (at b) → SameKind (at b) (at c) → SameKind (at a) (at c)
   same_through a b c one two = record { params = one.params ∙ two.params; result = one.result ∙ two.result; static = one.static ∙ two.static; constructor = one.constructor ∙ two.constructor }

@@ -1,6 +1,6 @@
 -- Every state of a run of a formed program is typed.
-use Rattle.std.specs.Prelude.{◌≡◌, ◌⊎◌, ℕ, zero, suc, ◌+◌, ◌<◌, ◌≤◌, ◌==◌, nat_lt, pos, Bool, true, false, not, ◌&&◌, ◌||◌, if◌then◌else◌, List, [], ◌∷◌, ◌++◌, length, map, reverse, slice_get, slice_set, option_map, Option, None, Some, unwrap_or, refl}
-use Rattle.std.proofs.Common.{arith, sym, ap, subst, ◌∙◌, inl, inr, ⊎_elim}
+use Rattle.std.specs.Prelude.{◌≡◌, ℕ, zero, suc, ◌+◌, ◌<◌, ◌≤◌, ◌==◌, Bool, true, false, not, if◌then◌else◌, List, [], ◌∷◌, ◌++◌, length, map, reverse, slice_get, slice_set, option_map, Option, None, Some, unwrap_or, refl}
+use Rattle.std.proofs.Common.{arith, sym, ap, subst, ◌∙◌}
 use Rattle.std.proofs.lemmas.Bool.{and_parts, false≢true}
 use Rattle.std.proofs.lemmas.Bool.Decides.{nat_tests}
 use Rattle.std.proofs.lemmas.List.{length-set, length-map}
@@ -11,14 +11,14 @@ use Rattle.ix_core.specs.declared.op.CallOp.{CallOp}
 use Rattle.ix_core.specs.declared.program.Method.{Method}
 use Rattle.ix_core.specs.declared.program.Program.{Program}
 use Rattle.ix_core.specs.Formed.{is_formed, reads, args_fit, call_fits, static_fits, instance_fits, new_fits, super_fits, receiver_fits, is_target, is_argument, is_slot, at_most, is_there, is_some_of, is_this, is_parent, assigned, with_result, param_type_from, params_fit}
-use Rattle.ix_core.specs.Heap.{Held, Num, Boolean, Null, At, Heap, Object, Kind, ObjectOf, ArrayOf, value_at, object_at, default_of}
-use Rattle.ix_core.specs.Machine.{Limits, Ending, Frame, Waiting, State, is_past, CallKind, Static, Instance, New, Super, Move, Go, Wrap, Tell, Enter, Leave, Stop, frame, stopped, receiver_slot, call_values, call_heap, lacks_cells, target_of, found_at, found_for, callee_of, entered, called, result_of, set_target, resumed, moved, next_move, step_from, step, run, slots_with}
+use Rattle.ix_core.specs.Heap.{Held, Num, Boolean, Null, At, Heap, Object, ObjectOf, value_at, object_at, default_of}
+use Rattle.ix_core.specs.Machine.{Limits, Ending, Frame, Waiting, State, is_past, CallKind, Static, Instance, New, Super, Move, Go, Wrap, Tell, Enter, Leave, Stop, frame, stopped, receiver_slot, call_values, call_heap, lacks_cells, target_of, found_at, found_for, callee_of, entered, called, result_of, set_target, resumed, moved, next_move, step_from, step, run}
 use Rattle.ix_core.specs.Objects.{Later}
-use Rattle.ix_core.specs.Tables.{Tables, most_on_way, way_up, is_among, ancestors, all_fields, place_among, tables_of, method_at, class_at, field_at, param_slot, param_slots, found_method, default_result, routine_of, body_of}
-use Rattle.ix_core.specs.Tasks.{Tasks, Empty, code_then}
+use Rattle.ix_core.specs.Tables.{Tables, most_on_way, way_up, is_among, ancestors, all_fields, place_among, tables_of, method_at, class_at, field_at, param_slot, param_slots, found_method, default_result, routine_of}
+use Rattle.ix_core.specs.Tasks.{Tasks}
 use Rattle.ix_core.specs.Typed.{IsOfType, HeapTyped, SlotsTyped}
 use Rattle.ix_core.specs.TypedStates.{ResultTyped, SlotsFit, FrameTyped, Resumes, WaitingTyped, WaitsTyped, StateTyped, Lead}
-use Rattle.ix_core.specs.Types.{Types, Point, class_type, is_void, is_below, is_class, is_type, with_type}
+use Rattle.ix_core.specs.Types.{Types, class_type, is_void, is_below, is_class, is_type, with_type}
 use Rattle.ix_core.proofs.Ancestors.{first_among, rest_among, above}
 use Rattle.ix_core.proofs.Cases.{by_test, equal}
 use Rattle.ix_core.proofs.Entered.{none_some, slots_length}
@@ -412,8 +412,13 @@ module _ (program : Program) (locals : List (List Type_)) (formed : is_formed pr
           this = λ s. (class, ap (λ (o : Object). o.kind) (grown_new state.heap made), itself_below);
           types = types;
           typed = slots_typed;
-          resumes = (can.within, can.apart, class_type call.class,
-              (λ heap result is. let r = is.made two.0 in (r.0, r.1, subst (λ n. IsOfType program heap (class_type n) r.0) class_is r.2)), lead);
+          resumes = (
+            can.within,
+            can.apart,
+            class_type call.class,
+            (λ heap result is. let r = is.made two.0 in (r.0, r.1, subst (λ n. IsOfType program heap (class_type n) r.0) class_is r.2)),
+            lead,
+          );
         }
 
   -- ---- every move

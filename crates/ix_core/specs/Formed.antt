@@ -1,6 +1,6 @@
 -- What every program has that the lowering gives: numbers in range, types that fit, calls that fit. Each part stands beside the item that it speaks of, and
 -- each is computed. The types of locals are given, since the plain form has none.
-use Rattle.std.specs.Prelude.{◌≡◌, ℕ, zero, suc, ◌+◌, Bool, true, false, if◌then◌else◌, not, ◌==◌, nat_lt, ◌&&◌, ◌||◌, List, [], ◌∷◌, ◌++◌, length, slice_get, count_by, filter, Option, None, Some, unwrap_or}
+use Rattle.std.specs.Prelude.{◌≡◌, ℕ, zero, suc, ◌+◌, Bool, true, false, if◌then◌else◌, not, ◌==◌, nat_lt, ◌&&◌, ◌||◌, List, [], ◌∷◌, ◌++◌, length, slice_get, count_by, Option, None, Some, unwrap_or}
 use Rattle.std.specs.List.{list_all}
 use Rattle.ix_text.specs.declared.span.Span.{Span}
 use Rattle.ix_core.specs.declared.claim.Base.TheVariants as base
@@ -27,9 +27,9 @@ use Rattle.ix_core.specs.declared.program.Method.{Method}
 use Rattle.ix_core.specs.declared.program.Program.{Program}
 use Rattle.ix_core.specs.Code.{Code, End, Do, If, Break, Continue, Return, Throw, Loop, Condition, Known, Compare, Truth, Both, Either, Opposite}
 use Rattle.ix_core.specs.Machine.{is_int}
-use Rattle.ix_core.specs.Tables.{param_slot, param_slots, method_at, class_at, field_at, body_of, most_on_way, way_up, ancestors, overridden, all_fields, is_among}
+use Rattle.ix_core.specs.Tables.{param_slot, param_slots, method_at, class_at, field_at, body_of, most_on_way, overridden, all_fields, is_among}
 use Rattle.ix_core.specs.SameClaims.{same_name}
-use Rattle.ix_core.specs.Types.{int_type, bool_type, class_type, same_type, is_empty, is_void, is_int_type, is_array_type, is_reference_type, is_array, cell_type, is_class, is_type, is_below, is_of, Types, Point, with_type, meeting, point_below, keeps_types}
+use Rattle.ix_core.specs.Types.{int_type, bool_type, class_type, same_type, is_empty, is_void, is_int_type, is_array_type, is_reference_type, is_array, cell_type, is_class, is_type, is_below, is_of, Point, with_type, meeting, point_below, keeps_types}
 
 abbrev pub at_most : ℕ → ℕ → Bool
 at_most count most = nat_lt count (most + 1)

@@ -1,11 +1,11 @@
 -- A state of a formed program: its heap is typed, and each frame has types from which its tasks fit.
-use Rattle.std.specs.Prelude.{◌≡◌, ℕ, ◌<◌, ◌==◌, Bool, true, false, ◌&&◌, List, [], ◌∷◌, length, slice_get, Option, None, Some, unwrap_or}
+use Rattle.std.specs.Prelude.{◌≡◌, ℕ, ◌<◌, ◌==◌, Bool, true, false, List, [], ◌∷◌, length, Option, None, Some}
 use Rattle.ix_core.specs.declared.claim.Type_.{Type_}
 use Rattle.ix_core.specs.declared.op.Test.{Test}
 use Rattle.ix_core.specs.declared.program.Method.{Method}
 use Rattle.ix_core.specs.declared.program.Program.{Program}
 use Rattle.ix_core.specs.Code.{Code, Condition}
-use Rattle.ix_core.specs.Formed.{Ways, Answers, code_ways, condition_ways, operand_fits, reads}
+use Rattle.ix_core.specs.Formed.{code_ways, condition_ways, operand_fits, reads}
 use Rattle.ix_core.specs.Heap.{Held, Heap, value_at}
 use Rattle.ix_core.specs.Machine.{Frame, Waiting, State}
 use Rattle.ix_core.specs.Tables.{method_at}
