@@ -40,3 +40,4 @@ pub mod SplitSound
 pub mod StepLaws
 pub mod StoresHold
 pub mod StoreSamples
+pub mod ClassesStay

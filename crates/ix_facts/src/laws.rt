@@ -20,7 +20,7 @@ ghost use Rattle.ix_facts.specs.Bounds.{shifted_upper};
 ghost use Rattle.ix_facts.specs.AfterOperation.{HasExact, Results, new_facts};
 ghost use Rattle.ix_facts.specs.declared.kind.Kind.{Kind};
 ghost use Rattle.ix_facts.specs.Kinds.{kind_of};
-ghost use Rattle.ix_facts.specs.Systems.{IsTable, system_after, system_copy, system_rounded, system_added};
+ghost use Rattle.ix_facts.specs.Systems.{HaveClasses, IsTable, system_after, system_copy, system_rounded, system_added};
 ghost use Rattle.ix_facts.specs.After.{of_target, Step, TargetApart, beside_target, after_facts, copy_facts};
 ghost use Rattle.ix_facts.specs.AfterTest.{Outcome, IsSo, AllSo, int_outcomes, opposite, outcome_facts};
 ghost use Rattle.ix_facts.specs.Assume.{ClaimHolds, claim_facts, proves};
@@ -64,6 +64,8 @@ pub fn operation_laws()
     ensures sound { (profile : Profile) (kind : OpKind) (facts : List Fact) (v w : Numbers) → TargetApart kind → Step profile kind v w → AllHold facts v → AllHold (after_facts facts profile kind) w }
     ensures monotone { (profile : Profile) (kind : OpKind) (strong weak : List Fact) → SaysAll strong weak → Contradicts (after_facts strong profile kind) ⊎ SaysAll (after_facts strong profile kind) (after_facts weak profile kind) }
     ensures exact { (profile : Profile) (kind : OpKind) (facts : List Fact) (v w : Numbers) → TargetApart kind → Step profile kind v w → AllHold facts v → HasExact (beside_target kind facts) kind }
+    ensures classes { (facts : List Fact) (profile : Profile) (kind : OpKind) → HaveClasses facts → HaveClasses (after_facts facts profile kind) }
+    ensures copy_classes { (facts : List Fact) (ty : Type_) (t s : Path) → HaveClasses facts → HaveClasses (copy_facts facts ty t s) }
     ensures copy_sound { (facts : List Fact) (w : Numbers) (ty : Type_) (t s : Path) → Alike w t s → AllHold facts w → AllHold (copy_facts facts ty t s) w }
     ensures copy_monotone { (strong weak : List Fact) (ty : Type_) (t s : Path) → SaysAll strong weak → SaysAll (copy_facts strong ty t s) (copy_facts weak ty t s) }
 {}
@@ -81,6 +83,7 @@ pub fn claim_laws()
     ensures assumed { (v : Numbers) (claim : PathClaim) (p : Path) → ClaimHolds claim p v → AllHold (claim_facts claim p) v }
     ensures sound { (facts : List Fact) (v : Numbers) (claim : PathClaim) (p : Path) → AllHold facts v → proves (in_orders facts) claim p ≡ true → ClaimHolds claim p v }
     ensures monotone { (strong weak : List Fact) (claim : PathClaim) (p : Path) → SaysAll strong weak → proves (in_orders weak) claim p ≡ true → proves (in_orders strong) claim p ≡ true }
+    ensures classes { (claim : PathClaim) (p : Path) → HaveClasses (claim_facts claim p) }
 {}
 
 /// Forgets and rounding.
