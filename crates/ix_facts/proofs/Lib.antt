@@ -41,3 +41,4 @@ pub mod StepLaws
 pub mod StoresHold
 pub mod StoreSamples
 pub mod ClassesStay
+pub mod RoundedStays

@@ -24,7 +24,7 @@ ghost use Rattle.ix_facts.specs.Systems.{HaveClasses, IsTable, system_after, sys
 ghost use Rattle.ix_facts.specs.After.{of_target, Step, TargetApart, beside_target, after_facts, copy_facts};
 ghost use Rattle.ix_facts.specs.AfterTest.{Outcome, IsSo, AllSo, int_outcomes, opposite, outcome_facts};
 ghost use Rattle.ix_facts.specs.Assume.{ClaimHolds, claim_facts, proves};
-ghost use Rattle.ix_facts.specs.Round.{rounded};
+ghost use Rattle.ix_facts.specs.Round.{rounded, AreLandmarks};
 ghost use Rattle.ix_facts.specs.Laws.{BoundsHold, BoundsNoWeaker, Alike, SameBounds, AsStrong, ClosedAsItStands, Way, with_lengths};
 
 /// The derived bounds.
@@ -96,6 +96,7 @@ pub fn forget_laws()
     ensures rounded_weaker { (marks : List ℤ) (scope : ℕ) (facts : List Fact) → SaysAll facts (rounded marks scope facts) }
     ensures rounded_sound { (marks : List ℤ) (scope : ℕ) (facts : List Fact) (v : Numbers) → AllHold facts v → AllHold (rounded marks scope facts) v }
     ensures rounded_monotone { (marks : List ℤ) (scope : ℕ) (strong weak : List Fact) → SaysAll strong weak → SaysAll (rounded marks scope strong) (rounded marks scope weak) }
+    ensures rounded_closed { (numbers marks : List ℤ) (scope : ℕ) (facts : List Fact) → AreLandmarks numbers marks → Closed facts → Closed (rounded marks scope facts) }
 {}
 
 /// The answers of a system. A fact has the kind of each fact at its key and of each of its orders; a table holds where its facts do and says no less of
