@@ -1,0 +1,5 @@
+pub mod Texts
+pub mod Table
+pub mod Named
+pub mod Arguments
+pub mod Expansion

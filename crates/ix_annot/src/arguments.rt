@@ -1,0 +1,306 @@
+//! What an annotation claims, with the names as they are written.
+
+ghost use Rattle.std.specs.Prelude.{◌≡◌, [], false, option_map, drop, IfOk};
+ghost use Rattle.std.specs.Str.{chars};
+ghost use Rattle.ix_annot.specs.Texts.{array_text};
+ghost use Rattle.ix_annot.specs.Table.{arg_name};
+ghost use Rattle.ix_annot.specs.Arguments as spec;
+
+use crate::table::{EachArray, Says, argument};
+use crate::texts::{Naming, Offset, array_text, bound_text, offset_text};
+use ix_core::Claim;
+use ix_text::{List, Text};
+use ix_tree::{AnnotArg, AnnotValue};
+use std::alloc::{AllocError, Global};
+
+/// A claim that names variables, as it is written.
+#[derive(Drop)]
+pub enum Written {
+    OfArray(EachArray, Naming),
+    /// `v + offset < array.length`
+    Upper(Naming, Offset),
+    /// `v < variable + constant`
+    Less(Naming, i32),
+}
+
+/// What an annotation claims, as it is written.
+#[derive(Drop)]
+pub struct Plan {
+    /// The claims that name nothing; they come first.
+    pub first: List<Claim>,
+    pub written: List<Written>,
+    pub effect_free: bool,
+}
+
+fn takes(says: Says, name: &str) -> bool
+    ensures { result ≡ spec.takes says name.now }
+{
+    match says {
+        Says::Between => name == "from" || name == "to",
+        Says::Offsets => name == "value" || name == "offset",
+        Says::LengthAtLeast | Says::Arrays(_, _) | Says::Bounds => name == "value",
+        Says::Nothing | Says::EffectFree | Says::AtLeast(_) => false,
+    }
+}
+
+fn name_of(arg: &AnnotArg) -> &str
+    ensures { result.now ≡ arg_name arg.now.name }
+{
+    match &arg.name {
+        None => "value",
+        Some(name) => name.text.as_str(),
+    }
+}
+
+/// Whether each argument is one that the annotation takes, and none has the name of another.
+fn are_taken(says: Says, mut args: &[AnnotArg]) -> bool
+    ensures { result ≡ spec.are_taken says args.entry.now }
+{
+    while let [arg, others @ ..] = args {
+        let name = name_of(arg);
+        if !takes(says, name) || argument(name, others).is_some() {
+            return false;
+        }
+        args = others;
+    }
+    true
+}
+
+/// The int of an argument, where a missing one stands for `otherwise`; none where it is no int.
+fn int_or(otherwise: i32, value: Option<&AnnotValue>) -> Option<i32>
+    ensures { result ≡ spec.int_or otherwise (option_map (λ value. value.now) value.entry) }
+{
+    match value {
+        None => Some(otherwise),
+        Some(AnnotValue::Number(n)) => {
+            if -2_147_483_648 <= *n && *n <= 2_147_483_647 {
+                Some(*n as i32)
+            } else {
+                None
+            }
+        }
+        Some(_) => None,
+    }
+}
+
+fn range_of(args: &[AnnotArg]) -> Option<Claim>
+    ensures { result ≡ spec.range_of args.now }
+{
+    let low = int_or(i32::MIN, argument("from", args))?;
+    let high = int_or(i32::MAX, argument("to", args))?;
+    if low <= high {
+        Some(Claim::Range(low, high))
+    } else {
+        None
+    }
+}
+
+fn length_of(args: &[AnnotArg]) -> Option<Claim>
+    ensures { result ≡ spec.length_of args.now }
+{
+    let least = int_or(0, argument("value", args))?;
+    if 0 <= least {
+        Some(Claim::Length(least))
+    } else {
+        None
+    }
+}
+
+fn texts(value: Option<&AnnotValue>) -> Option<&[Text]>
+    ensures { option_map (λ texts. texts.now) result ≡ spec.texts (option_map (λ value. value.now) value.entry) }
+{
+    match value {
+        Some(AnnotValue::Texts(entries)) => Some(entries.as_slice()),
+        _ => None,
+    }
+}
+
+fn texts_or_none(value: Option<&AnnotValue>) -> Option<&[Text]>
+    ensures { option_map (λ texts. texts.now) result ≡ spec.texts_or_none (option_map (λ value. value.now) value.entry) }
+{
+    match value {
+        None => Some(&[]),
+        Some(_) => texts(value),
+    }
+}
+
+fn first_offset(alloc: Global, offsets: &[Text]) -> Result<Option<Offset>, AllocError>
+    ensures { IfOk result (λ offset. offset ≡ spec.first_offset offsets.now) }
+{
+    match offsets {
+        [] => Ok(Some(Offset::Constant(0))),
+        [offset, ..] => offset_text(alloc, offset),
+    }
+}
+
+fn upper_written(
+    alloc: Global,
+    entry: &Text,
+    offsets: &[Text],
+) -> Result<Option<Written>, AllocError>
+    ensures { IfOk result (λ written. written ≡ spec.upper (array_text (chars entry.now)) (spec.first_offset offsets.now)) }
+{
+    let Some(array) = array_text(alloc, entry)? else {
+        return Ok(None);
+    };
+    match first_offset(alloc, offsets)? {
+        None => Ok(None),
+        Some(offset) => Ok(Some(Written::Upper(array, offset))),
+    }
+}
+
+fn one_written(
+    alloc: Global,
+    says: Says,
+    entry: &Text,
+    offsets: &[Text],
+) -> Result<Option<Written>, AllocError>
+    ensures { IfOk result (λ written. written ≡ spec.written says entry.now offsets.now) }
+{
+    match says {
+        Says::Arrays(_, each) => match array_text(alloc, entry)? {
+            None => Ok(None),
+            Some(array) => Ok(Some(Written::OfArray(each, array))),
+        },
+        Says::Offsets => upper_written(alloc, entry, offsets),
+        _ => match bound_text(alloc, entry)? {
+            None => Ok(None),
+            Some((naming, c)) => Ok(Some(Written::Less(naming, c))),
+        },
+    }
+}
+
+fn behind_first(texts: &[Text]) -> &[Text]
+    ensures { result.now ≡ drop 1 texts.now }
+{
+    match texts {
+        [] => &[],
+        [_, others @ ..] => others,
+    }
+}
+
+#[tactic(auto, using(crate::proofs::WithOthers::one_more))]
+fn all_written(
+    alloc: Global,
+    says: Says,
+    mut entries: &[Text],
+    mut offsets: &[Text],
+) -> Result<Option<List<Written>>, AllocError>
+    ensures { IfOk result (λ written. written ≡ spec.all_written says entries.entry.now offsets.entry.now) }
+{
+    let mut all = List::new(alloc);
+    while let [entry, others @ ..] = entries {
+        let Some(written) = one_written(alloc, says, entry, offsets)? else {
+            return Ok(None);
+        };
+        all.push(written)?;
+        entries = others;
+        offsets = behind_first(offsets);
+    }
+    Ok(Some(all))
+}
+
+fn claims_written(
+    alloc: Global,
+    says: Says,
+    args: &[AnnotArg],
+) -> Result<Option<List<Written>>, AllocError>
+    ensures { IfOk result (λ written. written ≡ spec.claims_written says args.now) }
+{
+    let Some(entries) = texts(argument("value", args)) else {
+        return Ok(None);
+    };
+    let Some(offsets) = texts_or_none(argument("offset", args)) else {
+        return Ok(None);
+    };
+    if offsets.is_empty() || offsets.len() == entries.len() {
+        all_written(alloc, says, entries, offsets)
+    } else {
+        Ok(None)
+    }
+}
+
+fn one_claim(alloc: Global, claim: Claim) -> Result<Plan, AllocError>
+    ensures { IfOk result (λ plan. plan ≡ spec.one_claim claim) }
+{
+    let mut first = List::new(alloc);
+    first.push(claim)?;
+    Ok(Plan {
+        first,
+        written: List::new(alloc),
+        effect_free: false,
+    })
+}
+
+fn one_claim_or_none(alloc: Global, claim: Option<Claim>) -> Result<Option<Plan>, AllocError>
+    ensures { IfOk result (λ plan. plan ≡ option_map spec.one_claim claim) }
+{
+    match claim {
+        None => Ok(None),
+        Some(claim) => Ok(Some(one_claim(alloc, claim)?)),
+    }
+}
+
+fn no_claims(alloc: Global, effect_free: bool) -> Plan
+    ensures { result ≡ spec.plan_with effect_free [] [] }
+{
+    Plan {
+        first: List::new(alloc),
+        written: List::new(alloc),
+        effect_free,
+    }
+}
+
+fn lowest(alloc: Global, least: Option<i32>) -> Result<List<Claim>, AllocError>
+    ensures { IfOk result (λ claims. claims ≡ spec.lowest least) }
+{
+    let mut claims = List::new(alloc);
+    if let Some(least) = least {
+        claims.push(Claim::Low(least))?;
+    }
+    Ok(claims)
+}
+
+fn claims_behind(
+    alloc: Global,
+    first: List<Claim>,
+    says: Says,
+    args: &[AnnotArg],
+) -> Result<Option<Plan>, AllocError>
+    ensures { IfOk result (λ plan. plan ≡ option_map (spec.plan_with false first) (spec.claims_written says args.now)) }
+{
+    match claims_written(alloc, says, args)? {
+        None => Ok(None),
+        Some(written) => Ok(Some(Plan {
+            first,
+            written,
+            effect_free: false,
+        })),
+    }
+}
+
+fn plan_of(alloc: Global, says: Says, args: &[AnnotArg]) -> Result<Option<Plan>, AllocError>
+    ensures { IfOk result (λ plan. plan ≡ spec.plan_of says args.now) }
+{
+    match says {
+        Says::Nothing => Ok(Some(no_claims(alloc, false))),
+        Says::EffectFree => Ok(Some(no_claims(alloc, true))),
+        Says::AtLeast(least) => Ok(Some(one_claim(alloc, Claim::Low(least))?)),
+        Says::Between => one_claim_or_none(alloc, range_of(args)),
+        Says::LengthAtLeast => one_claim_or_none(alloc, length_of(args)),
+        Says::Arrays(least, _) => claims_behind(alloc, lowest(alloc, least)?, says, args),
+        Says::Offsets | Says::Bounds => claims_behind(alloc, List::new(alloc), says, args),
+    }
+}
+
+/// What an annotation claims, as it is written; none where an argument is bad.
+#[tactic(auto, unfolding(crate::specs::Arguments::plan))]
+pub fn planned(alloc: Global, says: Says, args: &[AnnotArg]) -> Result<Option<Plan>, AllocError>
+    ensures { IfOk result (λ plan. plan ≡ spec.plan says args.now) }
+{
+    if are_taken(says, args) {
+        plan_of(alloc, says, args)
+    } else {
+        Ok(None)
+    }
+}
