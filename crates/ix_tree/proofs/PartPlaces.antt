@@ -1,12 +1,10 @@
 -- Parts of trees that stand in a piece of text.
-use Rattle.std.proofs.Common.{◌≡◌, ◌≢◌, ◌≤◌, ◌<◌, ◌+◌, ℕ, List, [], ◌∷◌, ◌++◌, ap, arith, ◌⊎◌, inl, inr}
+use Rattle.std.proofs.Common.{◌≡◌, ◌≢◌, ◌≤◌, ◌<◌, ◌+◌, ℕ, List, [], ◌∷◌, ◌++◌, length, refl, sym, ap, subst, ◌∙◌, append_assoc, length-append, arith, ◌⊎◌, inl, inr}
+use Rattle.std.proofs.lemmas.List.{append-nil}
 use Rattle.ix_text.specs.declared.span.Span.{Span}
 use Rattle.ix_tree.specs.declared.annot.Ident.{Ident}
-use Rattle.ix_tree.specs.Parts.{Part, expression, statement, declaration, in_type, elsewhere, entries, Apart, All, AllApart, declarations, nodes}
-
--- it lies between these bytes, and isn't empty
-abbrev pub Lies : ℕ → ℕ → Span → Type 0
-Lies lo hi span = (lo ≤ span.from) × (span.from < span.to) × (span.to ≤ hi)
+use Rattle.ix_tree.specs.Parts.{Part, expression, statement, declaration, in_type, elsewhere, entries, Apart, All, AllApart, declarations, nodes, together, listed, each}
+use Rattle.ix_tree.proofs.Layouts.{Lies}
 
 abbrev pub Inside : ℕ → ℕ → Part → Type 0
 Inside lo hi (expression span) = Lies lo hi span
@@ -214,3 +212,44 @@ stand_expression lo hi n span ps lies free s = let m = stand_more lo hi n lo hi 
   few_declarations = m.few_declarations;
   few_nodes = omega (arith, s.few_nodes);
 }
+
+-- ---- one behind the other, with something between
+
+-- the first as far as `mid`, the second from `next`
+pub stand_two : (lo mid next hi n m k : ℕ) (ps qs : List Part) → Stand lo mid n ps → Stand next hi m qs → lo ≤ mid → mid ≤ next → next ≤ hi → n + m ≤ k → Stand lo hi k (ps ++ qs)
+stand_two lo mid next hi n m k ps qs s t a b c le =
+    stand_more lo hi (n + m) lo hi k (ps ++ qs) (omega arith) (omega arith) le
+    (stand_both lo mid hi n m ps qs s (stand_more next hi m mid hi m qs b (omega arith) (omega arith) t) a (omega (arith, b, c)))
+
+pub stand_rest : (lo hi n m : ℕ) (ps : List Part) → Stand lo hi n (entries m ∷ ps) → Stand lo hi n ps
+stand_rest lo hi n m ps s = record { apart = s.apart.1; inside = s.inside.1; short = s.short.1; few_declarations = s.few_declarations; few_nodes = s.few_nodes }
+
+-- ---- lists of parts
+
+together_joined : (ps : List (List Part)) (q : List Part) → together (ps ++ q ∷ []) ≡ together ps ++ q
+together_joined [] q = append-nil q
+together_joined (p ∷ ps) q = ap (λ y. p ++ y) (together_joined ps q) ∙ sym (append_assoc p (together ps) q)
+
+pub each_joined : {A : Type 0} (parts : A → List Part) (xs : List A) (x : A) → each parts (xs ++ x ∷ []) ≡ each parts xs ++ parts x ∷ []
+each_joined parts [] x = refl
+each_joined parts (y ∷ xs) x = ap (λ l. parts y ∷ l) (each_joined parts xs x)
+
+listed_joined : (lo mid next hi n m k : ℕ) (ps : List (List Part)) (q : List Part) → Stand lo mid n (listed ps) → Stand next hi m q → lo ≤ mid → mid ≤ next → next ≤ hi → 1 ≤ m → n + m ≤ k
+    → Stand lo hi k (listed (ps ++ q ∷ []))
+listed_joined lo mid next hi n m k ps q s t a b c one le =
+    subst (λ y. Stand lo hi k (entries (length (ps ++ q ∷ [])) ∷ y)) (sym (together_joined ps q))
+    (stand_entries lo hi k (length (ps ++ q ∷ [])) (together ps ++ q) (omega (arith, length-append ps (q ∷ []), s.short.0, one, le))
+    (stand_two lo mid next hi n m k (together ps) q (stand_rest lo mid n (length ps) (together ps) s) t a b c le))
+
+-- a list with one more entry
+pub stand_joined : {A : Type 0} (parts : A → List Part) (lo mid next hi n m k : ℕ) (xs : List A) (x : A) → Stand lo mid n (listed (each parts xs)) → Stand next hi m (parts x)
+    → lo ≤ mid → mid ≤ next → next ≤ hi → 1 ≤ m → n + m ≤ k → Stand lo hi k (listed (each parts (xs ++ x ∷ [])))
+stand_joined parts lo mid next hi n m k xs x s t a b c one le =
+    subst (λ y. Stand lo hi k (listed y)) (sym (each_joined parts xs x)) (listed_joined lo mid next hi n m k (each parts xs) (parts x) s t a b c one le)
+
+pub stand_no_entries : {A : Type 0} (parts : A → List Part) (lo hi n : ℕ) → Stand lo hi n (listed (each parts []))
+stand_no_entries parts lo hi n = stand_entries lo hi n 0 [] (omega arith) (stand_none lo hi n)
+
+-- a list with one entry
+pub stand_alone : {A : Type 0} (parts : A → List Part) (lo hi n : ℕ) (x : A) → Stand lo hi n (parts x) → 1 ≤ n → Stand lo hi n (listed (each parts (x ∷ [])))
+stand_alone parts lo hi n x s one = stand_entries lo hi n 1 (parts x ++ []) one (subst (λ y. Stand lo hi n y) (sym (append-nil (parts x))) s)
