@@ -99,17 +99,17 @@ fn is_plain(mods: &Mods, is_static: bool) -> bool
 fn param(alloc: Global, decl: &LocalDecl) -> Result<Param, UnitError>
     ensures { Decodes (spec.param_of decl.now) result }
 {
-    if !is_plain(&decl.mods, false) || decl.init.is_some() {
+    if !is_plain(decl.mods.get(), false) || decl.init.is_some() {
         return Err(UnitError::Unbuilt);
     }
-    if is_int(&decl.ty, 0) {
+    if is_int(decl.ty.get(), 0) {
         return Ok(Param {
             name: copied(alloc, &decl.name.text)?,
             is_array: false,
-            marks: marks(alloc, decl.mods.annots.as_slice())?,
+            marks: marks(alloc, decl.mods.get().annots.as_slice())?,
         });
     }
-    if is_int(&decl.ty, 1) && decl.mods.annots.is_empty() {
+    if is_int(decl.ty.get(), 1) && decl.mods.get().annots.is_empty() {
         return Ok(Param {
             name: copied(alloc, &decl.name.text)?,
             is_array: true,
@@ -190,7 +190,7 @@ fn decl_init(decl: &LocalDecl) -> Option<&Ident>
 fn local_decl(alloc: Global, decl: &LocalDecl) -> Result<Local, UnitError>
     ensures { Decodes (spec.local_of_decl decl.now) result }
 {
-    if !is_plain(&decl.mods, false) || !decl.mods.annots.is_empty() || !is_int(&decl.ty, 0) {
+    if !is_plain(decl.mods.get(), false) || !decl.mods.get().annots.is_empty() || !is_int(decl.ty.get(), 0) {
         return Err(UnitError::Unbuilt);
     }
     match decl_init(decl) {

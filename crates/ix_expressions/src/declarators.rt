@@ -16,7 +16,7 @@ use ix_grammar::found::{FoundDecls, FoundInit, FoundType};
 use ix_lexer::fixed::{ASSIGN, COMMA};
 use ix_nodes::copies::{copy_mods, copy_type};
 use ix_reading::cursor::Cursor;
-use ix_text::List;
+use ix_text::{Joint, List};
 use ix_tree::{Ident, LocalDecl};
 use std::alloc::Global;
 
@@ -26,6 +26,8 @@ pub fn shared(alloc: Global, found: &FoundMods, ty: &FoundType) -> Result<Shared
 {
     let mods = copy_mods(alloc, &found.mods)?;
     let tree = copy_type(alloc, &ty.ty)?;
+    let mods = Joint::new(alloc, mods)?;
+    let tree = Joint::new(alloc, tree)?;
     Ok(Shared {
         mods,
         ty: tree,
@@ -34,12 +36,12 @@ pub fn shared(alloc: Global, found: &FoundMods, ty: &FoundType) -> Result<Shared
 }
 
 /// What is declared without an initialiser.
-pub fn plain_decl(alloc: Global, all: &Shared, name: Ident) -> Result<FoundDecl, Stop>
+pub fn plain_decl(all: &Shared, name: Ident) -> Result<FoundDecl, Stop>
     requires low { all.now.height ≤ 4 }
     ensures { MatchResult result (λ found. found ≡ nodes.plain_decl all.now name) (λ stop. stop ≡ Memory) }
 {
-    let mods = copy_mods(alloc, &all.mods)?;
-    let ty = copy_type(alloc, &all.ty)?;
+    let mods = all.mods.join()?;
+    let ty = all.ty.join()?;
     let end = name.span;
     Ok(FoundDecl {
         decl: LocalDecl {
@@ -55,7 +57,6 @@ pub fn plain_decl(alloc: Global, all: &Shared, name: Ident) -> Result<FoundDecl,
 
 /// What is declared with an initialiser.
 fn init_decl(
-    alloc: Global,
     left: u32,
     all: &Shared,
     name: Ident,
@@ -65,8 +66,8 @@ fn init_decl(
     requires room { found.height + 1 ≤ left }
     ensures { MatchResult result (λ decl. decl ≡ nodes.init_decl all.now name found) (λ stop. stop ≡ Memory) }
 {
-    let mods = copy_mods(alloc, &all.mods)?;
-    let ty = copy_type(alloc, &all.ty)?;
+    let mods = all.mods.join()?;
+    let ty = all.ty.join()?;
     Ok(FoundDecl {
         decl: LocalDecl {
             mods,
@@ -98,9 +99,9 @@ pub fn decl_behind(
     if let Some(_assign) = cursor.sign(ASSIGN) {
         cursor.advance();
         let found = init(alloc, cursor, left - 1)?;
-        return init_decl(alloc, left, all, name, found);
+        return init_decl(left, all, name, found);
     }
-    plain_decl(alloc, all, name)
+    plain_decl(all, name)
 }
 
 /// The first of several declarations.

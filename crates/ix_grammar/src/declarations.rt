@@ -1,6 +1,6 @@
 //! Modifiers, parameters and declarators (JLS 8.3, 8.4.1, 14.4).
 
-use ix_text::{List, Span};
+use ix_text::{Joint, List, Span};
 use ix_tree::{LocalDecl, Mods, TypeTree};
 
 /// A word among modifiers.
@@ -46,8 +46,8 @@ pub struct Params {
 /// What all declarators of a declaration have.
 #[derive(Drop)]
 pub struct Shared {
-    pub mods: Mods,
-    pub ty: TypeTree,
+    pub mods: Joint<Mods>,
+    pub ty: Joint<TypeTree>,
     /// The greatest height of the annotations, the type and a name.
     pub height: u32,
 }

@@ -32,7 +32,7 @@ fn one_decl(
     ensures { MatchResult result (λ decl. decl ≡ nodes.plain_decl (nodes.shared found.now ty.now) name) (λ stop. stop ≡ Memory) }
 {
     let all = shared(alloc, found, ty)?;
-    plain_decl(alloc, &all, name)
+    plain_decl(&all, name)
 }
 
 /// `Param = {"final" | Annot} Type Ident`

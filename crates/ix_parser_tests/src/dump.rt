@@ -323,9 +323,9 @@ pub fn init(out: &mut Dump, whole: &Init) {
 
 fn decl(out: &mut Dump, decl: &LocalDecl) {
     out.put("(decl ");
-    mods(out, &decl.mods);
+    mods(out, decl.mods.get());
     out.put(" ");
-    type_tree(out, &decl.ty);
+    type_tree(out, decl.ty.get());
     named(out, &decl.name);
     if let Some(found) = &decl.init {
         out.put(" ");

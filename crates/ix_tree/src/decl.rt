@@ -3,14 +3,14 @@
 use crate::annot::{Ident, Mods, TypeTree};
 use crate::expr::{Expr, Init};
 use crate::stmt::Stmt;
-use ix_text::{List, Span};
+use ix_text::{Joint, List, Span};
 
-/// The declaration of one field, parameter or local.
+/// The declaration of one field, parameter or local. The declarators of one declaration hold its modifiers and its type jointly.
 #[derive(Drop)]
 pub struct LocalDecl {
     /// The modifiers. An annotation here is on an int or on the elements of an array.
-    pub mods: Mods,
-    pub ty: TypeTree,
+    pub mods: Joint<Mods>,
+    pub ty: Joint<TypeTree>,
     pub name: Ident,
     pub init: Option<Init>,
 }
