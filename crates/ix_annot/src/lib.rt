@@ -10,6 +10,7 @@ mod arguments;
 mod characters;
 mod expansion;
 mod naming;
+mod same;
 mod scope;
 mod table;
 mod texts;
@@ -17,7 +18,8 @@ mod words;
 
 pub use arguments::{Plan, Written};
 pub use expansion::{MOST_CLAIMS, claims, expand};
-pub use naming::{Names, what_holds};
+pub use naming::{Names, same_name, what_holds};
+pub use same::same_claim;
 pub use scope::{AnnotError, Claims, Found, Holds, Scope, Target};
 pub use table::{EachArray, Says, Targets, counted, fits, is_of_method, row_named};
 pub use texts::{Naming, Offset, array_text, bound_text, offset_text};

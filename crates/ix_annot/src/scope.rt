@@ -1,6 +1,5 @@
 //! What an annotation may name, what it stands on, and what it gives.
 
-
 use ix_core::{Claim, Name, Type_};
 use ix_text::{List, Text};
 use std::alloc::AllocError;

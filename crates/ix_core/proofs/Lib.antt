@@ -4,11 +4,15 @@ pub mod Kept
 pub mod MetInputs
 pub mod Ancestors
 pub mod TypeLaws
+pub mod FormedParts
 pub mod TypedValues
 pub mod TypedSteps
 pub mod TypedOperations
 pub mod TypedTasks
 pub mod TypedMoves
+pub mod TypedCalls
+pub mod TypedRuns
+pub mod TypedStarts
 pub mod GoodIsSafe
 pub mod Waiting
 pub mod Entered

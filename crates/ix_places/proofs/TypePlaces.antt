@@ -17,9 +17,10 @@ use Rattle.ix_grammar.specs.declared.found.FoundType.{FoundType}
 use Rattle.ix_grammar.specs.Patterns.{sign}
 use Rattle.ix_grammar.specs.TypeGrammar as grammar
 use Rattle.ix_grammar.specs.TypeGrammar.{IsBase, IsPairs, IsTypeRest, IsType}
-use Rattle.ix_places.proofs.OrderPlaces.{order_both}
-use Rattle.ix_places.proofs.ListPlaces.{stand_two, stand_no_entries}
-use Rattle.ix_places.proofs.Places.{Lies, Stand, stand_more, stand_none, stand_in_type}
+use Rattle.ix_lexer.proofs.SplitInOrder.{order_both}
+use Rattle.ix_tree.proofs.PartPlaces.{stand_two, stand_no_entries}
+use Rattle.ix_tree.proofs.Layouts.{Lies}
+use Rattle.ix_tree.proofs.PartPlaces.{Stand, stand_more, stand_none, stand_in_type}
 use Rattle.ix_places.proofs.AnnotPlaces.{notes_stand}
 
 -- ---- all of them are identifiers in types and lists
