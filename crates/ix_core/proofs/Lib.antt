@@ -13,6 +13,7 @@ pub mod TypedMoves
 pub mod TypedCalls
 pub mod TypedRuns
 pub mod TypedStarts
+pub mod TypedFields
 pub mod GoodIsSafe
 pub mod Waiting
 pub mod Entered
