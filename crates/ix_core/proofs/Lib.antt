@@ -14,6 +14,7 @@ pub mod TypedCalls
 pub mod TypedRuns
 pub mod TypedStarts
 pub mod TypedFields
+pub mod FormedWorld
 pub mod GoodIsSafe
 pub mod Waiting
 pub mod Entered
