@@ -15,6 +15,8 @@ pub mod TypedRuns
 pub mod TypedStarts
 pub mod TypedFields
 pub mod FormedWorld
+pub mod GoodStarts
+pub mod RunsAreSafe
 pub mod GoodIsSafe
 pub mod Waiting
 pub mod Entered
