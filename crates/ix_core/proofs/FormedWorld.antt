@@ -9,14 +9,14 @@ use Rattle.std.proofs.lemmas.Option.{slice_get_past}
 use Rattle.ix_core.specs.declared.claim.Claim.{Claim}
 use Rattle.ix_core.specs.declared.claim.Claim.TheVariants.{Range, Low, Length, Same, Less, Upper, Search, Negative}
 use Rattle.ix_core.specs.declared.claim.Name.{Name}
-use Rattle.ix_core.specs.declared.claim.Name.TheVariants.{Param, Local, FieldNamed}
+use Rattle.ix_core.specs.declared.claim.Name.TheVariants.{Local, FieldNamed}
 use Rattle.ix_core.specs.declared.claim.Off.{Off}
 use Rattle.ix_core.specs.declared.claim.Off.TheVariants.{Nothing, Plus, Minus}
 use Rattle.ix_core.specs.declared.claim.Type_.{Type_}
 use Rattle.ix_core.specs.declared.program.Method.{Method}
 use Rattle.ix_core.specs.declared.program.Program.{Program}
 use Rattle.ix_core.specs.Analysis.{IsWorld}
-use Rattle.ix_core.specs.Formed.{is_formed, ends_within, claim_fits, offset_fits, is_int_of, is_array_of, named_type, type_of_field, has_this, result_fits, constructor_fits}
+use Rattle.ix_core.specs.Formed.{is_formed, ends_within, claim_fits, offset_fits, is_int_of, is_array_of, named_type}
 use Rattle.ix_core.specs.Objects.{Names, claim_names, offset_names}
 use Rattle.ix_core.specs.Tables.{no_method, method_at, class_at, all_fields, ancestors, most_on_way, way_up, place_among}
 use Rattle.ix_core.specs.Types.{is_void, is_type, is_int_type, is_array_type, is_empty}

@@ -1,20 +1,14 @@
 -- A run starts good, where an analysis has the laws.
-use Rattle.std.specs.Prelude.{◌≡◌, ℕ, zero, suc, ◌+◌, ◌<◌, ◌≤◌, ℤ, pos, Bool, true, false, if◌then◌else◌, List, [], ◌∷◌, ◌++◌, length, map, slice_get, Option, None, Some, unwrap_or, refl}
+use Rattle.std.specs.Prelude.{◌≡◌, ℕ, zero, suc, ◌+◌, ◌<◌, ℤ, pos, List, [], ◌∷◌, ◌++◌, length, map, slice_get, refl}
 use Rattle.std.proofs.Common.{arith, sym, ap, subst, ◌∙◌}
-use Rattle.std.proofs.lemmas.Bool.{false≢true}
 use Rattle.std.proofs.lemmas.List.{length-map, length-append}
-use Rattle.ix_core.specs.declared.claim.Base.TheVariants as base
 use Rattle.ix_core.specs.declared.claim.Claim.{Claim}
 use Rattle.ix_core.specs.declared.claim.Name.{Name}
-use Rattle.ix_core.specs.declared.claim.Name.TheVariants.{Param, Local, FieldNamed}
 use Rattle.ix_core.specs.declared.claim.Type_.{Type_}
-use Rattle.ix_core.specs.declared.claim.Type_.TheVariants as type
 use Rattle.ix_core.specs.declared.program.Local.{Local as Variable}
-use Rattle.ix_core.specs.declared.program.Method.{Method}
-use Rattle.ix_core.specs.Claims.{AreTrue, AreTrueOf}
-use Rattle.ix_core.specs.Heap.{Held, Num, Boolean, Null, At, Heap, Object, Kind, ObjectOf, ArrayOf, Reading, no_reading, reading_of, Places, value_at, object_at, array_at, array_cells}
+use Rattle.ix_core.specs.Heap.{Num, Heap, Object, Kind, ObjectOf, ArrayOf, Reading, reading_of, value_at, object_at, array_at, array_cells}
 use Rattle.ix_core.specs.Objects.{IsFree, MeetsElement, kind_claims}
-use Rattle.ix_core.specs.Safe.{Input, Whole, Flag, Ints, HaveTypes, AllTrue, MeetEach, input_values, input_heap, input_reading, reading_in, input_names, element_claims, elements_of}
+use Rattle.ix_core.specs.Safe.{Input, Whole, Flag, Ints, HaveTypes, AllTrue, MeetEach, input_values, input_heap, reading_in, element_claims}
 use Rattle.ix_core.proofs.TypedStarts.{kind_at, one_more}
 
 -- ---- the cells of input arrays

@@ -1,5 +1,5 @@
 -- A program with an analysis that keeps the laws is safe.
-use Rattle.std.specs.Prelude.{◌≡◌, ℕ, zero, suc, ◌+◌, ◌<◌, ◌≤◌, Bool, true, false, if◌then◌else◌, List, [], ◌∷◌, length, slice_get, Option, None, Some, unwrap_or, refl}
+use Rattle.std.specs.Prelude.{◌≡◌, ℕ, zero, suc, ◌<◌, ◌≤◌, true, false, List, [], ◌∷◌, length, slice_get, Option, None, Some, unwrap_or, refl}
 use Rattle.std.proofs.Common.{arith, sym, ap, subst, ◌∙◌}
 use Rattle.std.proofs.lemmas.Bool.{false≢true}
 use Rattle.std.proofs.lemmas.Bool.Decides.{nat_tests}
@@ -15,11 +15,11 @@ use Rattle.ix_core.specs.Formed.{is_formed}
 use Rattle.ix_core.specs.Analysis.{Laws}
 use Rattle.ix_core.specs.Claims.{AreTrue}
 use Rattle.ix_core.specs.Heap.{Held, Num, Boolean, Null, At, Heap, Kind, ObjectOf, ArrayOf, Reading, no_reading, reading_of, value_at, object_at, place_in, field_value}
-use Rattle.ix_core.specs.Machine.{Limits, State, slots_with}
-use Rattle.ix_core.specs.Objects.{HeapKeeps, FrameKeeps, IsOwn, IsFree, HasField}
+use Rattle.ix_core.specs.Machine.{slots_with}
+use Rattle.ix_core.specs.Objects.{HeapKeeps, FrameKeeps, IsFree, HasField}
 use Rattle.ix_core.specs.Safe.{Input, HaveTypes, Begins, Meets, MeetEach, Safe, input_values, input_heap, input_reading, reading_in, input_names, start}
 use Rattle.ix_core.specs.Tables.{no_method, method_at, param_slot, param_slots}
-use Rattle.ix_core.specs.Waits.{Knowledge, MeetParams, param_readings, reading_through, Good, Runs, Running}
+use Rattle.ix_core.specs.Waits.{Knowledge, MeetParams, param_readings, reading_through, Good, Runs}
 use Rattle.ix_core.specs.World.{World, world_of}
 use Rattle.ix_core.proofs.Entered.{true_same, slots_are, slots_length}
 use Rattle.ix_core.proofs.GoodStarts.{inputs_free, inputs_elements, inputs_arrays, IsInstance, values_free, values_read}

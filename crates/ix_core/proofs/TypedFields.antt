@@ -1,22 +1,21 @@
 -- An object that an operation on a field finds has the field.
-use Rattle.std.specs.Prelude.{◌≡◌, ◌⊎◌, ℕ, zero, suc, ◌+◌, ◌<◌, ◌==◌, nat_lt, Bool, true, false, ◌&&◌, if◌then◌else◌, List, [], ◌∷◌, ◌++◌, length, reverse, flat_map, slice_get, option_map, Option, None, Some, unwrap_or, refl}
+use Rattle.std.specs.Prelude.{◌≡◌, ◌⊎◌, ℕ, zero, suc, ◌+◌, ◌<◌, ◌==◌, Bool, true, ◌&&◌, if◌then◌else◌, List, [], ◌∷◌, length, reverse, slice_get, option_map, Some, unwrap_or, refl}
 use Rattle.std.specs.List.{list_all}
-use Rattle.std.proofs.Common.{arith, sym, ap, subst, ◌∙◌, inl, inr, ⊎_elim}
+use Rattle.std.proofs.Common.{arith, sym, ap, subst, inl, inr, ⊎_elim}
 use Rattle.std.proofs.lemmas.Bool.{and_parts, false≢true}
 use Rattle.std.proofs.lemmas.Bool.Decides.{nat_tests}
 use Rattle.std.proofs.lemmas.Grind.{reverse_onto}
 use Rattle.ix_core.specs.declared.claim.Type_.{Type_}
-use Rattle.ix_core.specs.declared.program.Class.{Class}
 use Rattle.ix_core.specs.declared.program.Field.{Field}
 use Rattle.ix_core.specs.declared.program.Method.{Method}
 use Rattle.ix_core.specs.declared.program.Program.{Program}
 use Rattle.ix_core.specs.Formed.{is_formed, parent_fits, ends_within, are_same_numbers, are_distinct, numbers_where, fields_fit, field_fits, reads, is_there}
-use Rattle.ix_core.specs.Heap.{Held, Num, Boolean, Null, At, Heap, Kind, ObjectOf, value_at, object_at, place_in}
+use Rattle.ix_core.specs.Heap.{Held, Num, Boolean, Null, At, Heap, Kind, value_at, object_at, place_in}
 use Rattle.ix_core.specs.Tables.{class_at, field_at, no_field, all_fields, ancestors, most_on_way, is_among, place_among, tables_of}
 use Rattle.ix_core.specs.Typed.{IsOfType, SlotsTyped}
 use Rattle.ix_core.specs.Types.{Types, class_type, is_below, is_class}
 use Rattle.ix_core.proofs.Ancestors.{first_among, rest_among, among_parts, front_among, back_among, flat_among}
-use Rattle.ix_core.proofs.Cases.{by_test, equal}
+use Rattle.ix_core.proofs.Cases.{by_test}
 use Rattle.ix_core.proofs.FormedParts.{among_all, class_is, fields_all, ways_end}
 use Rattle.ix_core.proofs.TypedValues.{read_typed}
 
