@@ -24,6 +24,7 @@ pub mod Stack
 pub mod LawsAreSafe
 pub mod SlotSteps
 pub mod FieldSteps
+pub mod ArraySteps
 pub mod WorldTables
 pub mod LawsCanBeMet
 pub mod RepeatedClaims
