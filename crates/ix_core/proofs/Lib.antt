@@ -1,6 +1,7 @@
 pub mod Cases
 pub mod Heaps
 pub mod Kept
+pub mod Writes
 pub mod MetInputs
 pub mod Ancestors
 pub mod TypeLaws
