@@ -1,12 +1,12 @@
 -- A new array and a write of a cell: what they keep, whatever the analysis.
-use Rattle.std.specs.Prelude.{◌≡◌, ◌⊎◌, ℕ, ◌+◌, ◌<◌, ◌≤◌, ◌==◌, nat_lt, pos, List, [], ◌∷◌, ◌++◌, length, slice_set, Option, None, Some, unwrap_or, refl}
-use Rattle.std.proofs.Common.{arith, sym, ap, subst, ◌∙◌, inl, inr, ⊎_elim}
+use Rattle.std.specs.Prelude.{◌≡◌, ℕ, ◌+◌, ◌<◌, ◌≤◌, ◌==◌, nat_lt, pos, List, [], ◌∷◌, ◌++◌, length, slice_set, Option, Some, unwrap_or, refl}
+use Rattle.std.proofs.Common.{arith, sym, ap, subst, ◌∙◌, inl}
 use Rattle.std.proofs.lemmas.Bool.Decides.{nat_tests}
 use Rattle.std.proofs.lemmas.List.{length-append, length-set}
 use Rattle.std.proofs.lemmas.Option.{slice_get_past}
 use Rattle.ix_core.specs.declared.claim.Type_.{Type_}
 use Rattle.ix_core.specs.declared.program.Method.{Method}
-use Rattle.ix_core.specs.Heap.{Held, Num, Null, At, Heap, Object, Kind, ObjectOf, ArrayOf, nothing, value_at, object_at, array_cells, place_in, cell_of, field_value, reading_of, with_cells, write_at}
+use Rattle.ix_core.specs.Heap.{Held, Num, Null, At, Heap, Object, Kind, ArrayOf, nothing, value_at, object_at, array_cells, place_in, cell_of, field_value, reading_of, with_cells, write_at}
 use Rattle.ix_core.specs.Objects.{Later, IsSame, MeetsFields, MeetsElement, kind_claims, IsFree, HeapKeeps, FrameKeeps, IsOwn, IsInput, StepKeeps}
 use Rattle.ix_core.specs.Safe.{element_claims}
 use Rattle.ix_core.specs.World.{World}

@@ -1,9 +1,8 @@
 -- Each operation of a body that fits leaves slots and heap typed.
-use Rattle.std.specs.Prelude.{◌≡◌, ℕ, zero, suc, ◌<◌, ◌==◌, nat_lt, true, if◌then◌else◌, List, [], ◌∷◌, ◌++◌, length, replicate, slice_set, Some}
-use Rattle.std.proofs.Common.{arith, sym, ap, subst, ◌∙◌}
+use Rattle.std.specs.Prelude.{◌≡◌, ℕ, zero, suc, ◌<◌, nat_lt, true, if◌then◌else◌, List, [], ◌∷◌, ◌++◌, length, replicate, slice_set, Some}
+use Rattle.std.proofs.Common.{arith, sym, subst}
 use Rattle.std.proofs.lemmas.Bool.{false≢true}
 use Rattle.std.proofs.lemmas.Bool.Decides.{nat_tests}
-use Rattle.std.proofs.lemmas.List.{length-set}
 use Rattle.ix_core.specs.declared.claim.Base.TheVariants as base
 use Rattle.ix_core.specs.declared.claim.Type_.{Type_}
 use Rattle.ix_core.specs.declared.claim.Type_.TheVariants as type
@@ -13,10 +12,8 @@ use Rattle.ix_core.specs.Objects.{Later}
 use Rattle.ix_core.specs.Tables.{tables_of, field_at}
 use Rattle.ix_core.specs.Typed.{IsOfType, HeapTyped}
 use Rattle.ix_core.specs.Types.{cell_type, is_array}
-use Rattle.ix_core.proofs.Cases.{by_test, equal}
 use Rattle.ix_core.proofs.Entered.{at_pushed}
 use Rattle.ix_core.proofs.FieldSteps.{at_kept}
-use Rattle.ix_core.proofs.Heaps.{object_set, object_other}
 use Rattle.ix_core.proofs.TypedValues.{later_typed}
 use Rattle.ix_core.proofs.Waiting.{later_push}
 use Rattle.ix_core.proofs.Writes.{write_later}
