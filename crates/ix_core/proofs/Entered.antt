@@ -14,13 +14,14 @@ use Rattle.ix_core.specs.Claims.{AreTrue}
 use Rattle.ix_core.specs.Heap.{Held, Reading, no_reading, Num, Boolean, Null, At, Heap, Object, Kind, ObjectOf, ArrayOf, Places, nothing, value_at, object_at, array_cells, place_in, cell_of, field_value, reading_of}
 use Rattle.ix_core.specs.Machine.{CallKind, Static, Instance, New, Super, call_values, slots_with}
 use Rattle.ix_core.specs.Objects.{IsOn, IsIntHeld, KeepsInts}
-use Rattle.ix_core.specs.Objects.{Later, IsSame, MeetsField, MeetsFields, MeetsElement, kind_claims, field_readings, IsFree, HeapKeeps, IsOwn, param_slot}
+use Rattle.ix_core.specs.Objects.{Later, IsSame, MeetsField, MeetsFields, MeetsElement, kind_claims, field_readings, IsFree, HeapKeeps, IsOwn}
 use Rattle.ix_core.specs.Waits.{AreNotOwn, MeetParams, param_readings, reading_through, AreFresh}
 use Rattle.ix_core.specs.Analysis.{IsWorld, IsDefault}
 use Rattle.ix_core.specs.World.{World, tables_in}
 use Rattle.ix_core.proofs.Heaps.{grown_old, grown_new}
 use Rattle.ix_core.proofs.Waiting.{later_push, free_grows}
 use Rattle.ix_core.proofs.Cases.{by_test, equal, differ}
+use Rattle.ix_core.specs.Tables.{param_slot}
 
 -- ---- lists
 
@@ -211,7 +212,7 @@ module _ (world : World) (tables : IsWorld world) (building : ℕ → Type 0) (h
   new_ints slots ints = record {
     held = ints.held;
     within = at_pushed nothing (λ k th. (place : ℕ) → IsIntHeld (value_at th.cells place)) heap new_object (λ place. default_int (value_at (world.fresh_fields class) place) (tables.fresh class place)) ints.within;
-    sizes = at_pushed nothing (λ k th. length th.cells ≤ 2147483647) heap new_object (tables.short class) ints.sizes;
+    sizes = at_pushed nothing (λ k th. length (array_cells th.kind th.cells) ≤ 2147483647) heap new_object (omega arith) ints.sizes;
   }
 
   -- the new object's fields read as 0

@@ -2,10 +2,10 @@
 use Rattle.std.specs.Prelude.{◌≡◌, ℕ, ◌<◌, ◌≤◌, ◌==◌, nat_lt, pos, Bool, true, false, List, [], ◌∷◌, ◌++◌, length, slice_set, refl}
 use Rattle.std.proofs.Common.{arith, get_or, sym, ap, ◌∙◌, subst}
 use Rattle.std.proofs.lemmas.Bool.Decides.{nat_tests}
-use Rattle.std.proofs.lemmas.List.{set_past, get_or-set_same, get_or-set_other, get_or_append_left}
+use Rattle.std.proofs.lemmas.List.{length-set, set_past, get_or-set_same, get_or-set_other, get_or_append_left}
 use Rattle.std.proofs.lemmas.Option.{unwrap_or-slice_get}
 use Rattle.std.proofs.Math.Seq.{get_or-append_seam}
-use Rattle.ix_core.specs.Heap.{Held, Num, Object, Heap, nothing, value_at, object_at}
+use Rattle.ix_core.specs.Heap.{Held, Num, Object, Heap, Kind, ObjectOf, ArrayOf, nothing, value_at, object_at, array_cells}
 use Rattle.ix_core.proofs.Cases.{by_test, differ, equal}
 
 pub value_is : (held : List Held) (k : ℕ) → value_at held k ≡ get_or held k (Num (pos 0))
@@ -45,6 +45,11 @@ object_set heap n object h = object_is (slice_set heap n object) n ∙ get_or-se
 
 pub object_other : (heap : Heap) (n k : ℕ) (object : Object) → (k == n) ≡ false → object_at (slice_set heap n object) k ≡ object_at heap k
 object_other heap n k object e = object_is (slice_set heap n object) k ∙ (get_or-set_other heap n k object nothing (differ k n e) ∙ sym (object_is heap k))
+
+-- a write changes no length
+pub cells_length : (kind : Kind) (cells : List Held) (k : ℕ) (x : Held) → length (array_cells kind (slice_set cells k x)) ≡ length (array_cells kind cells)
+cells_length (ObjectOf class) cells k x = refl
+cells_length (ArrayOf ty) cells k x = length-set cells k x
 
 -- what is the same of an object and the one in its place is the same of every object
 pub written_same : {A : Type 0} (of : Object → A) (heap : Heap) (number : ℕ) (object : Object) → of object ≡ of (object_at heap number) → (k : ℕ) → of (object_at (slice_set heap number object) k) ≡ of (object_at heap k)

@@ -28,7 +28,7 @@ use Rattle.ix_core.specs.Safe.{Input, Whole, Flag, Ints, AreInts, HaveTypes, inp
 use Rattle.ix_core.specs.Tables.{Tables}
 use Rattle.ix_core.specs.World.{World}
 use Rattle.ix_core.proofs.Cases.{by_test, equal, differ}
-use Rattle.ix_core.proofs.Heaps.{value_is, object_is, set_keeps, grown_old, grown_new, object_set, object_other}
+use Rattle.ix_core.proofs.Heaps.{value_is, object_is, set_keeps, grown_old, grown_new, object_set, object_other, cells_length}
 
 pub int_is : (n : ℤ) → is_int n ≡ true → IsInt n
 int_is n e =
@@ -65,10 +65,6 @@ all_on world building method slots heap kept frame = record {
 
 -- ---- numbers that are ints
 
-pub array_short : (kind : Kind) (cells : List Held) → length cells ≤ 2147483647 → length (array_cells kind cells) ≤ 2147483647
-array_short (ObjectOf class) cells h = omega arith
-array_short (ArrayOf ty) cells h = h
-
 zero_is_int : IsInt (pos 0)
 zero_is_int = record { from = omega (arith, ints); to = omega (arith, ints) }
 
@@ -100,14 +96,14 @@ pub has_ints : (place : Places) (slots : List Held) (heap : Heap) → KeepsInts 
 has_ints place slots heap keeps = record {
   from = λ p. (int_of_is (held_at place slots heap p) (held_int place slots heap keeps p)).from;
   to = λ p. (int_of_is (held_at place slots heap p) (held_int place slots heap keeps p)).to;
-  sizes = λ number. array_short (object_at heap number).kind (object_at heap number).cells (keeps.sizes number);
+  sizes = keeps.sizes;
 }
 
 -- ---- each operation keeps ints
 
 -- the same of objects
 IsIntObject : Object → Type 0
-IsIntObject object = ((place : ℕ) → IsIntHeld (value_at object.cells place)) × (length object.cells ≤ 2147483647)
+IsIntObject object = ((place : ℕ) → IsIntHeld (value_at object.cells place)) × (length (array_cells object.kind object.cells) ≤ 2147483647)
 
 zero_int : IsIntHeld (Num (pos 0))
 zero_int = record { from = omega (arith, ints); to = omega (arith, ints) }
@@ -221,13 +217,13 @@ module _ (limits : Limits) (tables : Tables) (at : ℕ) (slots : List Held) (hea
   unfolding IsIntObject
   write_keeps number k v =
       let object = object_at heap number in
-      let long : length (slice_set object.cells k (value_at slots v)) ≤ 2147483647 = rw (length-set object.cells k (value_at slots v)) (keeps.sizes number) in
+      let long : length (array_cells object.kind (slice_set object.cells k (value_at slots v))) ≤ 2147483647 = rw (cells_length object.kind object.cells k (value_at slots v)) (keeps.sizes number) in
       keeps_of slots (write_at heap number k (value_at slots v)) keeps.held
       (written_keeps heap number (with_cells object (slice_set object.cells k (value_at slots v))) (set_keeps IsIntHeld object.cells k (value_at slots v) (keeps.held v) (keeps.within number), long) (objects slots heap keeps))
 
   length_keeps : (t number : ℕ) → KeepsInts (slice_set slots t (Num (pos (length (array_at heap number))))) heap
   length_keeps t number =
-      let h = array_short (object_at heap number).kind (object_at heap number).cells (keeps.sizes number) in
+      let h = keeps.sizes number in
       assigned_keeps t (Num (pos (length (array_at heap number)))) record { from = omega (arith, ints); to = omega (arith, ints) }
 
   pub operate_keeps : (kind : OpKind) → IntsOnly kind → Keeps (operate limits tables at slots heap kind)

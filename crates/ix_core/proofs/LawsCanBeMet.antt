@@ -44,7 +44,6 @@ tables = record {
   apart = λ class field other place e d. absurd cc;
   inherits = λ class parent field place e d. absurd cc;
   fresh = λ class place. refl;
-  short = λ class. omega (arith);
   constructors = λ method e. absurd (false≢true e);
   no_result = λ method e. refl;
   named = λ method field is. nowhere is.0 is.2 is.3;

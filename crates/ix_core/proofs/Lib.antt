@@ -1,6 +1,14 @@
 pub mod Cases
 pub mod Heaps
 pub mod Kept
+pub mod MetInputs
+pub mod Ancestors
+pub mod TypeLaws
+pub mod TypedValues
+pub mod TypedSteps
+pub mod TypedOperations
+pub mod TypedTasks
+pub mod TypedMoves
 pub mod GoodIsSafe
 pub mod Waiting
 pub mod Entered
@@ -18,3 +26,6 @@ mod OperationRows
 mod CallRows
 mod ObjectRows
 mod Unsafe
+mod FormedRows
+mod BrokenRows
+mod InputRows

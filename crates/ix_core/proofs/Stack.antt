@@ -21,13 +21,13 @@ use Rattle.ix_core.specs.declared.program.Method.{Method}
 use Rattle.ix_core.specs.Claims.{True, AreTrue, offset_of}
 use Rattle.ix_core.specs.Heap.{Held, Reading, Num, Boolean, Null, At, Heap, Object, Kind, ObjectOf, ArrayOf, value_at, object_at, default_of, reading_of}
 use Rattle.ix_core.specs.Machine.{CallKind, Static, Instance, New, Super, Frame, Waiting, State, Limits, is_past, frame, call_values, call_heap, slots_with, receiver_slot, found_at, found_for, callee_of, target_of, set_target, returned_or, result_of, result_shown, resumed, entered, stopped, called, lacks_cells, moved, next_move, step, step_from, Move, Go, Wrap, Tell, Enter, Leave, Stop, Ending, Ended, NullUsed, HeapFull, FrameFull}
-use Rattle.ix_core.specs.Objects.{IsOn, IsIntHeld, KeepsInts, Later, IsKept, IsSame, HasField, MeetsField, IsFree, HeapKeeps, FrameKeeps, IsOwn, IsInput, This, Named, Names, StepKeeps, param_slot, claim_names, offset_names}
+use Rattle.ix_core.specs.Objects.{IsOn, IsIntHeld, KeepsInts, Later, IsKept, IsSame, HasField, MeetsField, IsFree, HeapKeeps, FrameKeeps, IsOwn, IsInput, This, Named, Names, StepKeeps, claim_names, offset_names}
 use Rattle.ix_core.specs.Safe.{Counts, IsBad}
 use Rattle.ix_core.specs.Tasks.{Tasks, Empty, code_then}
-use Rattle.ix_core.specs.Waits.{Knowledge, AreNotOwn, FitsKind, FitsCall, MeetParams, param_readings, reading_through, Since, Stays, Reason, NoEffect, Final, Hidden, Constructs, Makes, is_super, param_slots, AreFresh, Running, Uncounted, Runs, Ends}
+use Rattle.ix_core.specs.Waits.{Knowledge, AreNotOwn, FitsKind, FitsCall, MeetParams, param_readings, reading_through, Since, Stays, Reason, NoEffect, Final, Hidden, Constructs, Makes, is_super, AreFresh, Running, Uncounted, Runs, Ends}
 use Rattle.ix_core.specs.Waits as waits
 use Rattle.ix_core.specs.Analysis.{Stands, Laws, Shows, Calls, Leaves, Behind, Results, IsFreeIf, IsIntIf}
-use Rattle.ix_core.specs.Tables.{default_result, routine_of, body_of}
+use Rattle.ix_core.specs.Tables.{param_slot, param_slots, default_result, routine_of, body_of}
 use Rattle.ix_core.specs.World.{World, tables_in}
 use Rattle.ix_core.proofs.Heaps.{grown_new, value_other, value_set, set_keeps}
 use Rattle.ix_core.proofs.Kept.{all_on}

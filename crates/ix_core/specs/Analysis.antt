@@ -13,8 +13,8 @@ use Rattle.ix_core.specs.Machine.{CallKind, Limits, Move, Go, Wrap, Tell, Enter,
 use Rattle.ix_core.specs.Objects.{IsOn, AllOn, IsIntHeld, KeepsInts, Later, IsSame, HasField, MeetsField, MeetsFields, MeetsElements, IsFree, HeapKeeps, FrameKeeps, IsOwn, StepKeeps, Names}
 use Rattle.ix_core.specs.Safe.{IsBad}
 use Rattle.ix_core.specs.Tasks.{Tasks, Empty, code_then}
-use Rattle.ix_core.specs.Waits.{Knowledge, FitsCall, MeetParams, param_readings, Since, is_super, AreFresh, param_slots}
-use Rattle.ix_core.specs.Tables.{routine_of, body_of}
+use Rattle.ix_core.specs.Waits.{Knowledge, FitsCall, MeetParams, param_readings, Since, is_super, AreFresh}
+use Rattle.ix_core.specs.Tables.{param_slots, routine_of, body_of}
 use Rattle.ix_core.specs.World.{World, tables_in}
 
 -- ---- the tables of a program that is formed
@@ -33,7 +33,6 @@ pub record IsWorld (world : World) : Type 0 where
   pub apart : (class field other place : ℕ) → world.place class field ≡ Some place → world.place class other ≡ Some place → field ≡ other
   pub inherits : (class parent field place : ℕ) → world.parent class ≡ Some parent → world.place parent field ≡ Some place → world.place class field ≡ Some place
   pub fresh : (class place : ℕ) → IsDefault (value_at (world.fresh_fields class) place)
-  pub short : (class : ℕ) → length (world.fresh_fields class) ≤ 2147483647
   pub constructors : (method : ℕ) → (world.methods method).constructor ≡ true → (world.methods method).is_static ≡ false
   pub no_result : (method : ℕ) → (world.methods method).constructor ≡ true → (world.methods method).result_claims ≡ []
   pub named : (method field : ℕ) → Names (world.methods method).result_claims (FieldNamed field) → (world.methods method).is_static ≡ false

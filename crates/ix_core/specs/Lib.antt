@@ -6,8 +6,13 @@ pub mod Tables
 pub mod Tasks
 pub mod Machine
 pub mod Safe
+pub mod Inputs
 pub mod World
 pub mod Objects
 pub mod Waits
 pub mod Analysis
 pub mod Numbers
+pub mod Types
+pub mod Formed
+pub mod Typed
+pub mod TypedStates

@@ -66,6 +66,14 @@ field_at program number = unwrap_or (slice_get program.fields number) no_field
 
 -- ---- methods
 
+-- the slot of a parameter: after `this`, but in a static method
+abbrev pub param_slot : Method → ℕ → ℕ
+param_slot method number = if method.is_static then number else number + 1
+
+-- the slots of `this` and of the parameters
+abbrev pub param_slots : Method → ℕ
+param_slots method = param_slot method (length method.params)
+
 -- the code of a method's body
 abbrev pub body_of : Method → Code
 body_of method = block_code method.body
@@ -86,13 +94,17 @@ way_up next zero number = []
 way_up next (suc most) None = []
 way_up next (suc most) (Some number) = number ∷ way_up next most (next number)
 
+-- the most classes on the way from one up, which the language limits; each method on a way of overriding ones is of another class
+abbrev pub most_on_way : ℕ
+most_on_way = 32
+
 -- a class and its ancestors, nearest first (JLS 8.1.4)
 abbrev pub ancestors : Program → ℕ → List ℕ
-ancestors program class = way_up (λ below. (class_at program below).parent) (length program.classes) (Some class)
+ancestors program class = way_up (λ below. (class_at program below).parent) most_on_way (Some class)
 
 -- a method and those that it overrides, directly or through others (JLS 8.4.8)
 abbrev pub overridden : Program → ℕ → List ℕ
-overridden program method = way_up (λ below. (method_at program below).overrides) (length program.methods) (Some method)
+overridden program method = way_up (λ below. (method_at program below).overrides) most_on_way (Some method)
 
 abbrev pub is_among : List ℕ → ℕ → Bool
 is_among [] number = false

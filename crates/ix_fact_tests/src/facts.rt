@@ -4,7 +4,8 @@ ghost use Rattle.std.specs.Prelude.{All, IfOk};
 ghost use Rattle.ix_facts.specs.Small.{HasSmallNumbers};
 
 use ix_core::{Fact, Path, PathOff};
-use ix_facts::{FactList, Know, compare_offsets, compare_paths};
+use ix_fact_list::FactList;
+use ix_facts::{Know, compare_offsets, compare_paths};
 use std::alloc::{AllocError, Global};
 use std::cmp::Ordering;
 use std::test::Fail;

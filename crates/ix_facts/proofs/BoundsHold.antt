@@ -125,7 +125,7 @@ module _ (v : Numbers) where
     pub stored_upper_holds : (p a : Path) (o : PathOff) → Gives (Bounds.stored_upper facts p a o) (UpperIs p a o)
     stored_upper_holds p a o = gives_best_of (UpperIs p a o) _ _ v max_chooses (stored_upper_one p a o) facts h
 
-    fact_less_one : (p q : Path) (f : Fact) → Holds f v → Gives (Bounds.fact_less_by facts p q f) (LessIs p q)
+    fact_less_one : (p q : Path) (f : Fact) → Holds f v → Gives (Bounds.fact_less_by p q f) (LessIs p q)
     fact_less_one p q (Less r s c) g =
         gives_when (LessIs p q) (Some c) (is_path r p && is_path s q)
         (λ t. let both = and_parts (is_path r p) (is_path s q) t in let e = int_same r p both.0 in let k = int_same s q both.1 in omega (arith, ints))

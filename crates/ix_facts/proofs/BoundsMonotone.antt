@@ -117,7 +117,7 @@ module _ (strong weak : List Fact) (s : Stronger strong weak) where
   pub stored_upper_mono : (p a : Path) (o : PathOff) → Worse Up (Bounds.stored_upper weak p a o) (Bounds.stored_upper strong p a o)
   stored_upper_mono p a o = worse_best_of Up int_max up_laws _ _ (stored_upper_one p a o) strong weak s
 
-  fact_less_one : (p q : Path) (g f : Fact) → Covers g f → Worse Down (Bounds.fact_less_by weak p q f) (Bounds.fact_less_by strong p q g)
+  fact_less_one : (p q : Path) (g f : Fact) → Covers g f → Worse Down (Bounds.fact_less_by p q f) (Bounds.fact_less_by p q g)
   fact_less_one p q _ _ (less r t c d x) = worse_when Down (Some d) (Some c) (is_path r p && is_path t q) (is_path r p && is_path t q) (λ u. u) (λ u. x)
   fact_less_one p q _ _ _ = tt
 

@@ -174,7 +174,7 @@ module _ (facts : List Fact) (closed : ClosedAsItStands facts) where
   stored_upper_mono : (p a : Path) (o : PathOff) → Worse Up (Bounds.stored_upper (with_lengths facts) p a o) (Bounds.stored_upper facts p a o)
   stored_upper_mono p a o = worse_lengths facts Up int_max up_laws _ _ (stored_upper_one p a o) (stored_upper_extra p a o)
 
-  fact_less_one : (p q : Path) (g f : Fact) → Covers g f → Worse Down (Bounds.fact_less_by (with_lengths facts) p q f) (Bounds.fact_less_by facts p q g)
+  fact_less_one : (p q : Path) (g f : Fact) → Covers g f → Worse Down (Bounds.fact_less_by p q f) (Bounds.fact_less_by p q g)
   fact_less_one p q _ _ (less r t c d x) = worse_when Down (Some d) (Some c) (is_path r p && is_path t q) (is_path r p && is_path t q) (λ u. u) (λ u. x)
   fact_less_one p q _ _ _ = tt
 

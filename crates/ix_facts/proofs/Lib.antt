@@ -21,12 +21,12 @@ pub mod ClaimLaws
 pub mod RoundLaws
 pub mod BoundLaws
 pub mod SystemLaws
-pub mod Samples
+mod SameFacts
+mod RowsAfter
+mod RowsTests
+mod RowsKnown
 pub mod ShiftedWays
 pub mod FormLaws
-pub mod RunningBest
-pub mod BoundSteps
-pub mod KnownFacts
 pub mod LengthLaws
 pub mod PathOrders
 pub mod SaidLaws

@@ -21,7 +21,7 @@ use Rattle.ix_facts.specs.Exact.{if_so, each, each_path, if_some, named_arrays, 
 use Rattle.ix_facts.specs.AfterOperation as after
 use Rattle.ix_facts.specs.AfterOperation.{Computed}
 use Rattle.ix_facts.proofs.Gives.{Gives}
-use Rattle.ix_facts.proofs.Tests.{by_test, at_most_true}
+use Rattle.ix_facts.proofs.Tests.{at_most_true}
 use Rattle.ix_facts.proofs.BoundsHold.{int_same, size_same, LessIs, UpperIs, lower_holds, limit_holds, length_low_holds, length_high_holds, fact_less_holds, upper_holds, less_holds}
 use Rattle.ix_facts.proofs.FactLists.{all_hold_app}
 use Rattle.ix_facts.proofs.RuleForms.{if_so_holds, each_holds, each_path_holds, if_some_holds}
@@ -61,38 +61,34 @@ pub record Alike (w : Numbers) (t s : Path) : Type 0 where
   pub size : w.size t ≡ w.size s
 
 module _ (w : Numbers) (t s : Path) (a : Alike w t s) where
-  -- a rule for a path and its copy holds where it holds of each path with the same numbers
-  or_copied_holds : (rule : Path → List Fact) (p : Path) → ((x : Path) → Alike w x p → AllHold (rule x) w) → AllHold (each_path rule (after.or_copied t s p)) w
-  or_copied_holds rule p one =
-      by_test (is_path p s)
-      (λ x. rw x (all_hold_app w (rule p) (rule t ++ []) (one p (record { int = refl; size = refl })) (all_hold_app w (rule t) [] (one t (record { int = a.int ∙ sym (int_same w p s x); size = a.size ∙ sym (size_same w p s x) })) tt)))
-      (λ x. rw x (all_hold_app w (rule p) [] (one p (record { int = refl; size = refl })) tt))
+  copy_like : (p : Path) → is_path p s ≡ true → Alike w t p
+  copy_like p x = record { int = a.int ∙ sym (int_same w p s x); size = a.size ∙ sym (size_same w p s x) }
 
-  past_first_holds : (facts : List Fact) → AllHold facts w → AllHold (after.past_first facts) w
-  past_first_holds [] h = tt
-  past_first_holds (f ∷ facts) h = h.1
+  itself : (p : Path) → Alike w p p
+  itself p = record { int = refl; size = refl }
+
+  -- a fact with a copy in its places holds where it holds of all paths with the same numbers
+  two_hold : (make : Path → Path → Fact) (p q : Path) → ((x y : Path) → Alike w x p → Alike w y q → Holds (make x y) w) → AllHold (after.two_copied make t s p q) w
+  two_hold make p q one =
+      all_hold_app w (if_so (is_path q s) (make p t ∷ [])) (if_so (is_path p s) (make t q ∷ []) ++ if_so (is_path p s && is_path q s) (make t t ∷ []))
+      (if_so_holds w (is_path q s) (make p t ∷ []) (λ x. (one p t (itself p) (copy_like q x), tt)))
+      (all_hold_app w (if_so (is_path p s) (make t q ∷ [])) (if_so (is_path p s && is_path q s) (make t t ∷ []))
+      (if_so_holds w (is_path p s) (make t q ∷ []) (λ x. (one t q (copy_like p x) (itself q), tt)))
+      (if_so_holds w (is_path p s && is_path q s) (make t t ∷ []) (λ x. let both = and_parts (is_path p s) (is_path q s) x in (one t t (copy_like p both.0) (copy_like q both.1), tt))))
 
   copied_one : (f : Fact) → Holds f w → AllHold (after.copied_by t s f) w
   copied_one (Rng p l h) g = if_so_holds w (is_path p s) (Rng t l h ∷ []) (λ x. let e = int_same w p s x in let k = a.int in ((omega (arith, ints), omega (arith, ints)), tt))
   copied_one (LenRng p l h) g = if_so_holds w (is_path p s) (LenRng t l h ∷ []) (λ x. let e = size_same w p s x in let k = a.size in ((omega (arith, ints), omega (arith, ints)), tt))
   copied_one (Low p c) g = if_so_holds w (is_path p s) (Low t c ∷ []) (λ x. let e = int_same w p s x in let k = a.int in (omega (arith, ints), tt))
-  copied_one (Same p q) g =
-      past_first_holds (each_path (λ x. each_path (λ y. Same x y ∷ []) (after.or_copied t s q)) (after.or_copied t s p))
-      (or_copied_holds (λ x. each_path (λ y. Same x y ∷ []) (after.or_copied t s q)) p (λ x i. or_copied_holds (λ y. Same x y ∷ []) q (λ y j. (i.size ∙ g ∙ sym j.size, tt))))
-  copied_one (IsLen p q) g =
-      past_first_holds (each_path (λ x. each_path (λ y. IsLen x y ∷ []) (after.or_copied t s q)) (after.or_copied t s p))
-      (or_copied_holds (λ x. each_path (λ y. IsLen x y ∷ []) (after.or_copied t s q)) p (λ x i. or_copied_holds (λ y. IsLen x y ∷ []) q (λ y j. (i.int ∙ g ∙ sym j.size, tt))))
-  copied_one (Search p q) g =
-      past_first_holds (each_path (λ x. each_path (λ y. Search x y ∷ []) (after.or_copied t s q)) (after.or_copied t s p))
-      (or_copied_holds (λ x. each_path (λ y. Search x y ∷ []) (after.or_copied t s q)) p (λ x i. or_copied_holds (λ y. Search x y ∷ []) q (λ y j. let e = i.int in let k = j.size in ((omega (arith, ints), omega (arith, ints)), tt))))
-  copied_one (Neg p q) g =
-      past_first_holds (each_path (λ x. each_path (λ y. Neg x y ∷ []) (after.or_copied t s q)) (after.or_copied t s p))
-      (or_copied_holds (λ x. each_path (λ y. Neg x y ∷ []) (after.or_copied t s q)) p (λ x i. or_copied_holds (λ y. Neg x y ∷ []) q (λ y j. let e = i.int in let k = j.size in ((omega (arith, ints), omega (arith, ints)), tt))))
+  copied_one (Same p q) g = two_hold Same p q (λ x y i j. i.size ∙ g ∙ sym j.size)
+  copied_one (IsLen p q) g = two_hold IsLen p q (λ x y i j. i.int ∙ g ∙ sym j.size)
+  copied_one (Search p q) g = two_hold Search p q (λ x y i j. let e = i.int in let k = j.size in (omega (arith, ints), omega (arith, ints)))
+  copied_one (Neg p q) g = two_hold Neg p q (λ x y i j. let e = i.int in let k = j.size in (omega (arith, ints), omega (arith, ints)))
   copied_one (Sum u p q) g =
-      past_first_holds (each_path (λ i. each_path (λ j. each_path (λ k. Sum i j k ∷ []) (after.or_copied t s q)) (after.or_copied t s p)) (after.or_copied t s u))
-      (or_copied_holds (λ i. each_path (λ j. each_path (λ k. Sum i j k ∷ []) (after.or_copied t s q)) (after.or_copied t s p)) u
-      (λ x i. or_copied_holds (λ j. each_path (λ k. Sum x j k ∷ []) (after.or_copied t s q)) p
-      (λ y j. or_copied_holds (λ k. Sum x y k ∷ []) q (λ z k. let e = i.int in let m = j.int in let n = k.int in (omega (arith, ints), tt)))))
+      all_hold_app w (after.two_copied (Sum u) t s p q) (if_so (is_path u s) (Sum t p q ∷ after.two_copied (Sum t) t s p q))
+      (two_hold (Sum u) p q (λ x y i j. let e = i.int in let k = j.int in omega (arith, ints)))
+      (if_so_holds w (is_path u s) (Sum t p q ∷ after.two_copied (Sum t) t s p q)
+      (λ z. let m = (copy_like u z).int in (omega (arith, ints), two_hold (Sum t) p q (λ x y i j. let e = i.int in let k = j.int in omega (arith, ints)))))
   copied_one (Less p q c) g = tt
   copied_one (Upper p b o c) g = tt
 

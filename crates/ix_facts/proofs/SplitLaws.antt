@@ -5,7 +5,7 @@ use Rattle.ix_core.specs.declared.fact.PathClaim.{PathClaim}
 use Rattle.ix_core.specs.declared.fact.Path.{Path}
 use Rattle.ix_core.specs.declared.fact.Profile.{Profile}
 use Rattle.ix_core.specs.declared.op.OpKind.{OpKind}
-use Rattle.ix_core.specs.Code.{Code, Question}
+use Rattle.ix_core.specs.Code.{Code, Condition}
 use Rattle.ix_core.specs.Numbers.{Numbers}
 use Rattle.ix_facts.specs.Facts.{AllHold, in_orders}
 use Rattle.ix_facts.specs.Closure.{kept}
@@ -48,7 +48,7 @@ told_closed _ s _ (none _) c = c
 told_closed _ s t (next outcome outcomes _ between _ first rest) c = told_closed outcomes between t rest (given_closed (with_outcome outcome) s between first)
 
 module _ (Runs : Code → Stored → Stored → Type 0) (kept_closed : (code : Code) (s t : Stored) → Runs code s t → IsClosedStore s → IsClosedStore t) where
-  pub split_closed : (asked : Question) (s holds fails : Stored) → Splits Runs asked s holds fails → IsClosedStore s → IsClosedStore holds × IsClosedStore fails
+  pub split_closed : (asked : Condition) (s holds fails : Stored) → Splits Runs asked s holds fails → IsClosedStore s → IsClosedStore holds × IsClosedStore fails
   split_closed _ s _ _ (yes _) c = (c, tt)
   split_closed _ s _ _ (no _) c = (tt, c)
   split_closed _ s h f (compared block test _ between _ _ run first second) c =
@@ -66,7 +66,7 @@ module _ (Runs : Code → Stored → Stored → Type 0) (kept_closed : (code : C
   split_closed _ s h f (opposite asked _ _ _ x) c = let a = split_closed asked s f h x c in (a.1, a.0)
 
   module _ (runs_mono : (code : Code) (s t u w : Stored) → IsBelow s t → Runs code s u → Runs code t w → IsBelow u w) where
-    pub split_mono : (asked : Question) (s t a b c d : Stored) → IsClosedStore t → IsBelow s t → Splits Runs asked s a b → Splits Runs asked t c d → IsBelow a c × IsBelow b d
+    pub split_mono : (asked : Condition) (s t a b c d : Stored) → IsClosedStore t → IsBelow s t → Splits Runs asked s a b → Splits Runs asked t c d → IsBelow a c × IsBelow b d
     split_mono _ s t _ _ _ _ k u (yes _) (yes _) = (u, tt)
     split_mono _ s t _ _ _ _ k u (no _) (no _) = (tt, u)
     split_mono _ s t a b c d k u (compared block test _ m _ _ run first second) (compared _ _ _ n _ _ ran third fourth) =

@@ -1,7 +1,7 @@
 -- A state that meets the store before a condition meets the one of the branch that it takes.
 use Rattle.std.specs.Prelude.{◌≡◌, Bool, true, false, not, refl}
 use Rattle.std.proofs.Common.{subst}
-use Rattle.ix_core.specs.Code.{Code, Question}
+use Rattle.ix_core.specs.Code.{Code, Condition}
 use Rattle.ix_core.specs.Numbers.{Numbers}
 use Rattle.ix_facts.specs.Stores.{Stored, Unreachable, Reached, Meets, IsJoined, left, right, both, Splits}
 use Rattle.ix_facts.specs.Stores as split
@@ -33,7 +33,7 @@ turned false holds fails = refl
 
 module _ (Runs : Code → Stored → Stored → Type 0) (Leads : Code → Numbers → Numbers → Type 0)
     (sound : (code : Code) (s t : Stored) (v w : Numbers) → Runs code s t → Leads code v w → Meets s v → Meets t w) where
-  split_branch : (asked : Question) (answer : Bool) (s holds fails : Stored) (v w : Numbers) → Splits Runs asked s holds fails → Decides Leads asked answer v w → Meets s v → Meets (branch answer holds fails) w
+  split_branch : (asked : Condition) (answer : Bool) (s holds fails : Stored) (v w : Numbers) → Splits Runs asked s holds fails → Decides Leads asked answer v w → Meets s v → Meets (branch answer holds fails) w
   unfolding branch
   split_branch _ _ s _ _ v _ (split.yes _) (decision.known _ _) m = m
   split_branch _ _ s _ _ v _ (split.no _) (decision.known _ _) m = m
@@ -56,10 +56,10 @@ module _ (Runs : Code → Stored → Stored → Type 0) (Leads : Code → Number
   split_branch _ _ s h f v w (split.opposite asked _ _ _ x) (decision.opposite _ answer _ _ a) m =
       subst (λ b. Meets b w) (turned answer h f) (split_branch asked answer s f h v w x a m)
 
-  pub split_true : (asked : Question) (s holds fails : Stored) (v w : Numbers) → Splits Runs asked s holds fails → Decides Leads asked true v w → Meets s v → Meets holds w
+  pub split_true : (asked : Condition) (s holds fails : Stored) (v w : Numbers) → Splits Runs asked s holds fails → Decides Leads asked true v w → Meets s v → Meets holds w
   unfolding branch
   split_true asked s holds fails v w x a m = split_branch asked true s holds fails v w x a m
 
-  pub split_false : (asked : Question) (s holds fails : Stored) (v w : Numbers) → Splits Runs asked s holds fails → Decides Leads asked false v w → Meets s v → Meets fails w
+  pub split_false : (asked : Condition) (s holds fails : Stored) (v w : Numbers) → Splits Runs asked s holds fails → Decides Leads asked false v w → Meets s v → Meets fails w
   unfolding branch
   split_false asked s holds fails v w x a m = split_branch asked false s holds fails v w x a m

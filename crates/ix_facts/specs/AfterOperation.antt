@@ -1,7 +1,7 @@
 -- What an operation gives of its target: a rule for each operation. The facts of the rules are those that do not name the target, in all their
 -- orders. Checker Framework manual, Index Checker and Constant Value Checker; Kellogg et al., "Lightweight Verification of Array Indexing",
 -- ISSTA 2018, sections 4 and 5. Their form as facts is this project's own.
-use Rattle.std.specs.Prelude.{◌≡◌, zero, suc, cond, Bool, true, false, ◌&&◌, nat_lt, ℤ, pos, negsuc, ◌+ℤ◌, ◌-ℤ◌, ◌≤ℤ◌, int_le, List, [], ◌∷◌, ◌++◌, length, Option, Some, None}
+use Rattle.std.specs.Prelude.{◌≡◌, zero, suc, Bool, true, false, ◌&&◌, nat_lt, ℤ, pos, negsuc, ◌+ℤ◌, ◌-ℤ◌, ◌≤ℤ◌, int_le, List, [], ◌∷◌, ◌++◌, length, Option, Some, None}
 use Rattle.std.specs.Int.{int_min, int_max}
 use Rattle.ix_num.specs.declared.arith.Arith.{Arith}
 use Rattle.ix_num.specs.declared.arith.Arith.TheVariants.{Add, Sub, Mul, Div, Rem, And, Or, Xor, Shl, Shr, Ushr}
@@ -77,13 +77,10 @@ holds_arrays _ = false
 
 -- ---- rules that take no bounds
 
--- A path and its copy.
-abbrev pub or_copied : Path → Path → Path → List Path
-or_copied t s p = p ∷ cond (is_path p s) (t ∷ []) []
-
-abbrev pub past_first : List Fact → List Fact
-past_first [] = []
-past_first (fact ∷ facts) = facts
+-- A fact of two paths, with t for s in one or both of its places.
+abbrev pub two_copied : (Path → Path → Fact) → Path → Path → Path → Path → List Fact
+two_copied make t s p q =
+    if_so (is_path q s) (make p t ∷ []) ++ (if_so (is_path p s) (make t q ∷ []) ++ if_so (is_path p s && is_path q s) (make t t ∷ []))
 
 -- Each stored fact of a copied int, with the copy in one or more of its places: `y = s + z` gives `y = t + z`. Differences and bounds from an
 -- array's end are left out: those with the copied int itself give them.
@@ -91,11 +88,11 @@ abbrev pub copied_by : Path → Path → Fact → List Fact
 copied_by t s (Rng p l h) = if_so (is_path p s) (Rng t l h ∷ [])
 copied_by t s (LenRng a l h) = if_so (is_path a s) (LenRng t l h ∷ [])
 copied_by t s (Low p c) = if_so (is_path p s) (Low t c ∷ [])
-copied_by t s (Same a b) = past_first (each_path (λ x. each_path (λ y. Same x y ∷ []) (or_copied t s b)) (or_copied t s a))
-copied_by t s (IsLen p a) = past_first (each_path (λ x. each_path (λ y. IsLen x y ∷ []) (or_copied t s a)) (or_copied t s p))
-copied_by t s (Search p a) = past_first (each_path (λ x. each_path (λ y. Search x y ∷ []) (or_copied t s a)) (or_copied t s p))
-copied_by t s (Neg p a) = past_first (each_path (λ x. each_path (λ y. Neg x y ∷ []) (or_copied t s a)) (or_copied t s p))
-copied_by t s (Sum u y z) = past_first (each_path (λ i. each_path (λ j. each_path (λ k. Sum i j k ∷ []) (or_copied t s z)) (or_copied t s y)) (or_copied t s u))
+copied_by t s (Same a b) = two_copied Same t s a b
+copied_by t s (IsLen p a) = two_copied IsLen t s p a
+copied_by t s (Search p a) = two_copied Search t s p a
+copied_by t s (Neg p a) = two_copied Neg t s p a
+copied_by t s (Sum u y z) = two_copied (Sum u) t s y z ++ if_so (is_path u s) (Sum t y z ∷ two_copied (Sum t) t s y z)
 copied_by t s (Less p q c) = []
 copied_by t s (Upper p a o c) = []
 

@@ -9,7 +9,7 @@ use Rattle.ix_core.specs.declared.fact.Fact.{Fact}
 use Rattle.ix_core.specs.declared.fact.Profile.{Profile}
 use Rattle.ix_core.specs.declared.op.OpKind.{OpKind}
 use Rattle.ix_core.specs.declared.op.Test.{Test}
-use Rattle.ix_core.specs.Code.{Code, Question}
+use Rattle.ix_core.specs.Code.{Code, Condition}
 use Rattle.ix_core.specs.Code as code
 use Rattle.ix_core.specs.Numbers.{Numbers}
 use Rattle.ix_facts.specs.Facts.{AllHold, in_orders}
@@ -153,7 +153,7 @@ IsTested answer test = AreTold (outcomes_of answer test)
 -- The two stores behind a condition: that where it is true, and that where it is false. Blocks may hold calls, whose rules are others': `Runs` says
 -- which store is behind a block.
 module _ (Runs : Code → Stored → Stored → Type 0) where
-  pub data Splits : Question → Stored → Stored → Stored → Type 0 where
+  pub data Splits : Condition → Stored → Stored → Stored → Type 0 where
     -- a constant: one of the two is unreachable
     yes : (store : Stored) → Splits (code.Known true) store store Unreachable
     no : (store : Stored) → Splits (code.Known false) store Unreachable store
@@ -162,11 +162,11 @@ module _ (Runs : Code → Stored → Stored → Type 0) where
     -- a boolean slot, of which no fact speaks
     truth : (block : Code) (slot : ℕ) (store between : Stored) → Runs block store between → Splits (code.Truth block slot) store between between
     -- `&&`: the second is asked where the first is true, and it is false where either is
-    and : (first second : Question) (store between holds fails later joined : Stored) → Splits first store between fails → Splits second between holds later → IsJoined fails later joined → Splits (code.Both first second) store holds joined
+    and : (first second : Condition) (store between holds fails later joined : Stored) → Splits first store between fails → Splits second between holds later → IsJoined fails later joined → Splits (code.Both first second) store holds joined
     -- `||`: the second is asked where the first is false, and it is true where either is
-    or : (first second : Question) (store between holds fails later joined : Stored) → Splits first store holds between → Splits second between later fails → IsJoined holds later joined → Splits (code.Either first second) store joined fails
+    or : (first second : Condition) (store between holds fails later joined : Stored) → Splits first store holds between → Splits second between later fails → IsJoined holds later joined → Splits (code.Either first second) store joined fails
     -- `!`
-    opposite : (asked : Question) (store holds fails : Stored) → Splits asked store holds fails → Splits (code.Opposite asked) store fails holds
+    opposite : (asked : Condition) (store holds fails : Stored) → Splits asked store holds fails → Splits (code.Opposite asked) store fails holds
 
 -- ---- the place where a method begins
 

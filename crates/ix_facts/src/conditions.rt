@@ -1,6 +1,6 @@
 //! Which store is behind a block, and both stores behind a condition.
 
-ghost use Rattle.ix_core.specs.Code.{Code, Question};
+ghost use Rattle.ix_core.specs.Code.{Code, Condition};
 ghost use Rattle.std.specs.Prelude.{true, false};
 ghost use Rattle.ix_core.specs.Numbers.{Numbers};
 ghost use Rattle.ix_facts.specs.Stores.{Stored, Meets, IsBelow, IsClosedStore, Splits};
@@ -23,8 +23,8 @@ pub trait Blocks {
 
 /// Conditions: a state that meets the store before meets the one of the branch that it takes; both stores are closed, and below those of a store above.
 pub fn condition_laws<B: Blocks>()
-    ensures held { (asked : Question) (s holds fails : Stored) (v w : Numbers) → Splits B.Runs asked s holds fails → Decides B.Leads asked true v w → Meets s v → Meets holds w }
-    ensures failed { (asked : Question) (s holds fails : Stored) (v w : Numbers) → Splits B.Runs asked s holds fails → Decides B.Leads asked false v w → Meets s v → Meets fails w }
-    ensures closed { (asked : Question) (s holds fails : Stored) → Splits B.Runs asked s holds fails → IsClosedStore s → IsClosedStore holds × IsClosedStore fails }
-    ensures monotone { (asked : Question) (s t a b c d : Stored) → IsClosedStore t → IsBelow s t → Splits B.Runs asked s a b → Splits B.Runs asked t c d → IsBelow a c × IsBelow b d }
+    ensures held { (asked : Condition) (s holds fails : Stored) (v w : Numbers) → Splits B.Runs asked s holds fails → Decides B.Leads asked true v w → Meets s v → Meets holds w }
+    ensures failed { (asked : Condition) (s holds fails : Stored) (v w : Numbers) → Splits B.Runs asked s holds fails → Decides B.Leads asked false v w → Meets s v → Meets fails w }
+    ensures closed { (asked : Condition) (s holds fails : Stored) → Splits B.Runs asked s holds fails → IsClosedStore s → IsClosedStore holds × IsClosedStore fails }
+    ensures monotone { (asked : Condition) (s t a b c d : Stored) → IsClosedStore t → IsBelow s t → Splits B.Runs asked s a b → Splits B.Runs asked t c d → IsBelow a c × IsBelow b d }
 {}

@@ -6,9 +6,7 @@
 //! It never looks at a state of the machine: of a state it knows the numbers of paths alone.
 #![tactic(auto)]
 
-mod bounds;
 mod conditions;
-mod fact_list;
 mod filters;
 mod forget;
 mod kind;
@@ -16,12 +14,11 @@ mod know;
 mod landmarks;
 mod laws;
 mod path_order;
+mod same;
 mod stores;
 mod system;
 
-pub use bounds::is_same_path;
 pub use conditions::{Blocks, condition_laws};
-pub use fact_list::FactList;
 pub use filters::{facts_without_path, facts_without_target, rounded_facts};
 pub use forget::{is_of_path, is_of_target, names_path, names_target};
 pub use kind::{Kind, is_of_kind, kind_of_fact};
@@ -32,5 +29,6 @@ pub use laws::{
     test_laws,
 };
 pub use path_order::{compare_offsets, compare_paths, offset_order_laws, path_order_laws};
+pub use same::{greater, is_same_offset, is_same_path, lesser};
 pub use stores::{field_laws, rule_laws, store_laws};
 pub use system::System;

@@ -9,7 +9,7 @@ ghost use Rattle.ix_lexer.specs.Scan as spec;
 use crate::fixed::SIGNS;
 
 /// The kinds of input elements (JLS 3.5).
-#[derive(Clone, Copy, Debug, PartialEq, Eq)]
+#[derive(Clone, Copy)]
 pub enum Element {
     /// White space or a comment.
     Gap,

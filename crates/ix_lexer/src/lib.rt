@@ -10,8 +10,6 @@ pub mod fixed;
 mod kinds;
 mod lexer;
 mod numbers;
-#[cfg(test)]
-mod tests;
 mod token;
 
 pub use lexer::lex;

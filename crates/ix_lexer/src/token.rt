@@ -2,7 +2,7 @@ use ix_text::{Span, Text};
 use std::alloc::{AllocError, AllocFailed};
 
 /// What a token is.
-#[derive(Debug, PartialEq, Eq, Drop)]
+#[derive(Drop)]
 pub enum TokenKind {
     /// An identifier (JLS 3.8), by its text.
     Ident(Text),
@@ -17,14 +17,14 @@ pub enum TokenKind {
 }
 
 /// A token, and where it stands in the source text.
-#[derive(Debug, PartialEq, Eq, Drop)]
+#[derive(Drop)]
 pub struct Token {
     pub kind: TokenKind,
     pub span: Span,
 }
 
 /// Why a text has no tokens. The number is the byte place of the cause.
-#[derive(Clone, Copy, Debug, PartialEq, Eq)]
+#[derive(Clone, Copy, PartialEq, Eq)]
 pub enum LexError {
     /// The text is not UTF-8: the first byte that belongs to no character.
     BadUtf8(u32),

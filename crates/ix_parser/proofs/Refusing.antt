@@ -4,15 +4,15 @@ use Rattle.ix_lexer.specs.declared.token.Token.{Token}
 use Rattle.ix_lexer.specs.Spans.{InOrder}
 use Rattle.ix_tree.specs.declared.decl.Unit.{Unit as Source}
 use Rattle.ix_tree.specs.Parts.{CanResolve}
-use Rattle.ix_parser.specs.declared.classes.FoundUnit.{FoundUnit}
-use Rattle.ix_parser.specs.declared.error.Stop.{Stop}
-use Rattle.ix_parser.specs.declared.error.Stop.TheVariants as stop
-use Rattle.ix_parser.specs.Rule.{Rule, pure, take, bind, stop, loop, Turn, On, Done, Outcome, Parser, and_then, taken, turned, turns, run}
-use Rattle.ix_parser.specs.SourceRules.{source}
-use Rattle.ix_parser.specs.Refusals.{HasTree}
-use Rattle.ix_parser.proofs.Runs.{same_ok}
-use Rattle.ix_parser.proofs.SourcePlaces.{source_can_resolve}
-use Rattle.ix_parser.proofs.SourceLaws.{source_is, source_is_read}
+use Rattle.ix_grammar.specs.declared.classes.FoundUnit.{FoundUnit}
+use Rattle.ix_descent.specs.declared.stop.Stop.{Stop}
+use Rattle.ix_descent.specs.declared.stop.Stop.TheVariants as stop
+use Rattle.ix_descent.specs.Rule.{Rule, pure, take, bind, stop, loop, Turn, On, Done, Outcome, Parser, and_then, taken, turned, turns, run}
+use Rattle.ix_descent.specs.SourceRules.{source}
+use Rattle.ix_grammar.specs.Refusals.{HasTree}
+use Rattle.ix_descent.proofs.Runs.{same_ok}
+use Rattle.ix_places.proofs.SourcePlaces.{source_can_resolve}
+use Rattle.ix_descent.proofs.SourceLaws.{source_is, source_is_read}
 
 -- ---- what is too high is a token
 

@@ -3,15 +3,16 @@ ghost use Rattle.std.specs.Prelude.{◌≡◌, ◌≢◌, ◌≤◌, ◌⊎◌, 
 ghost use Rattle.ix_lexer.specs.Spans.{InOrder};
 ghost use Rattle.ix_tree.specs.declared.decl.Unit.{Unit as Source};
 ghost use Rattle.ix_tree.specs.Parts.{CanResolve};
-ghost use Rattle.ix_parser.specs.Errors.{error_at as the_error};
-ghost use Rattle.ix_parser.specs.Refusals.{HasTree, Refused, IsWithin};
-ghost use Rattle.ix_parser.specs.declared.error.ParseError.{ParseError as Refusal};
-ghost use Rattle.ix_parser.specs.declared.error.ParseError.TheVariants.{Memory};
+ghost use Rattle.ix_descent.specs.Errors.{error_at as the_error};
+ghost use Rattle.ix_grammar.specs.Refusals.{HasTree, Refused, IsWithin};
+ghost use Rattle.ix_grammar.specs.declared.error.ParseError.{ParseError as Refusal};
+ghost use Rattle.ix_grammar.specs.declared.error.ParseError.TheVariants.{Memory};
 
-use crate::cursor::Cursor;
-use crate::error::{ParseError, Stop};
-use crate::sources::source;
+use ix_descent::stop::Stop;
+use ix_grammar::error::ParseError;
 use ix_lexer::Token;
+use ix_members::sources::source;
+use ix_reading::cursor::Cursor;
 use ix_tree::Unit;
 use std::alloc::Global;
 

@@ -26,7 +26,7 @@ use Rattle.ix_core.specs.Numbers.{Numbers, HasInts, field_of, held_at, numbers_o
 use Rattle.ix_core.specs.Objects.{IsOn, AllOn}
 use Rattle.ix_core.specs.Tables.{Tables}
 use Rattle.ix_core.specs.Tasks.{Tasks, Run, code_then}
-use Rattle.ix_core.proofs.Heaps.{value_set, value_other, grown_old, grown_new, written_same}
+use Rattle.ix_core.proofs.Heaps.{value_set, value_other, grown_old, grown_new, cells_length, written_same}
 use Rattle.ix_core.proofs.Kept.{int_is}
 use Rattle.ix_facts.specs.Forget.{of_slot}
 use Rattle.ix_facts.specs.AfterOperation.{Computed, Results, loaded_claims}
@@ -89,10 +89,6 @@ made_stays place slots heap object t x all p e =
     (ap int_of same, ap (size_of (heap ++ object ∷ [])) same ∙ grown_size heap object (held_at place slots heap p) on)
 
 -- ---- numbers in a heap where a cell of an array was written
-
-cells_length : (kind : Kind) (cells : List Held) (k : ℕ) (x : Held) → length (array_cells kind (slice_set cells k x)) ≡ length (array_cells kind cells)
-cells_length (ObjectOf class) cells k x = refl
-cells_length (ArrayOf ty) cells k x = length-set cells k x
 
 fields_same : (place : Places) (f : ℕ) (kind : Kind) (cells : List Held) (index : ℤ) (k : ℕ) (x : Held) → is_within index (length (array_cells kind cells)) ≡ true
     → cell_of (slice_set cells k x) (place_in place kind f) ≡ cell_of cells (place_in place kind f)

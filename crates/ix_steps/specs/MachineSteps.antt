@@ -20,8 +20,9 @@ use Rattle.ix_core.specs.Claims.{AreTrueOf}
 use Rattle.ix_core.specs.Heap.{Held, Num, At, Heap, Reading, value_at, object_at, array_at, int_of, is_within}
 use Rattle.ix_core.specs.Machine.{int_at}
 use Rattle.ix_core.specs.Numbers.{Numbers}
-use Rattle.ix_core.specs.Objects.{param_slot, kind_claims}
+use Rattle.ix_core.specs.Objects.{kind_claims}
 use Rattle.ix_facts.specs.AfterOperation.{loaded_claims}
+use Rattle.ix_core.specs.Tables.{param_slot}
 
 -- ---- operations
 

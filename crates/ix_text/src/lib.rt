@@ -9,8 +9,6 @@ mod boxed;
 mod lines;
 mod list;
 mod span;
-#[cfg(test)]
-mod tests;
 mod text;
 
 pub use boxed::Boxed;

@@ -4,7 +4,7 @@ use std::alloc::{AllocError, Global};
 use std::marker::Model;
 
 /// A text that is owned. A clause sees the list of its bytes, which are UTF-8.
-#[derive(Debug, Drop)]
+#[derive(Drop)]
 pub struct Text {
     bytes: String,
 }

@@ -6,11 +6,11 @@ use Rattle.ix_check.specs.declared.check_source.Counts.{Counts}
 use Rattle.ix_lexer.specs.declared.token.LexError.{LexError}
 use Rattle.ix_lexer.specs.declared.token.LexError.TheVariants as lexical
 use Rattle.ix_lexer.specs.declared.token.Token.{Token}
-use Rattle.ix_parser.specs.declared.error.ParseError.{ParseError}
-use Rattle.ix_parser.specs.Refusals.{HasTree, Refused, IsWithin}
+use Rattle.ix_grammar.specs.declared.error.ParseError.{ParseError}
+use Rattle.ix_grammar.specs.Refusals.{HasTree, Refused, IsWithin}
 use Rattle.ix_lexer.specs.Spans.{InOrder, IsWithin as LexWithin}
 use Rattle.ix_lexer.specs.Tokens.{Tokens, Fails, most_tokens}
-use Rattle.ix_parser.specs.declared.error.ParseError.TheVariants as syntax
+use Rattle.ix_grammar.specs.declared.error.ParseError.TheVariants as syntax
 use Rattle.ix_report.specs.Texts.{rejected}
 use Rattle.ix_tool.specs.Outside.{Files, bytes_under}
 use Rattle.ix_tool.specs.Statuses.{is_answer}

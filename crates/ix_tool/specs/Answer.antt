@@ -5,9 +5,9 @@ use Rattle.ix_lexer.specs.declared.token.LexError.TheVariants as lexical
 use Rattle.ix_lexer.specs.declared.token.Token.{Token}
 use Rattle.ix_lexer.specs.Tokens.{Tokens, Fails, most_tokens}
 use Rattle.ix_tree.specs.declared.decl.Unit.{Unit as Source}
-use Rattle.ix_parser.specs.declared.error.ParseError.{ParseError}
-use Rattle.ix_parser.specs.declared.error.ParseError.TheVariants as syntax
-use Rattle.ix_parser.specs.Refusals.{HasTree, Refused}
+use Rattle.ix_grammar.specs.declared.error.ParseError.{ParseError}
+use Rattle.ix_grammar.specs.declared.error.ParseError.TheVariants as syntax
+use Rattle.ix_grammar.specs.Refusals.{HasTree, Refused}
 use Rattle.ix_core.specs.declared.error.Error.{Error}
 use Rattle.ix_check.specs.declared.check_source.Counts.{Counts}
 use Rattle.ix_check.specs.Rules.{errors_of}

@@ -3,7 +3,7 @@ use Rattle.std.specs.Prelude.{◌≡◌, ℕ, List, [], Option, Some, None, take
 use Rattle.ix_lexer.specs.declared.token.Token.{Token}
 use Rattle.ix_lexer.specs.Tokens.{Tokens}
 use Rattle.ix_tree.specs.declared.decl.Unit.{Unit as Source}
-use Rattle.ix_parser.specs.Refusals.{HasTree}
+use Rattle.ix_grammar.specs.Refusals.{HasTree}
 use Rattle.ix_check.specs.Promise.{IsSafe}
 use Rattle.ix_tool.specs.Outside.{Files, bytes_under, Rose, with_more}
 use Rattle.ix_tool.specs.Answer.{Answer, Answers, read_failed, out_of_memory}

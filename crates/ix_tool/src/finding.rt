@@ -2,7 +2,7 @@
 ghost use Rattle.std.specs.Prelude.{◌≡◌, ◌≤◌, length, option_map, drop, IfOk};
 ghost use Rattle.ix_lexer.specs.Spans.{InOrder};
 ghost use Rattle.ix_tool.specs.Answer as spec;
-ghost use Rattle.ix_parser.specs.Refusals.{IsWithin as TokenWithin};
+ghost use Rattle.ix_grammar.specs.Refusals.{IsWithin as TokenWithin};
 ghost use Rattle.ix_tool.specs.Findings.{seen, IsPlaced};
 
 use crate::reading::MOST_BYTES;

@@ -1,5 +1,5 @@
 -- What stands in a tree, and what a tree must be so that names can be looked up in it by their places.
-use Rattle.std.specs.Prelude.{◌≡◌, ◌≢◌, ◌≤◌, ◌+◌, ℕ, zero, suc, List, [], ◌∷◌, ◌++◌, length, Option, Some, None}
+use Rattle.std.specs.Prelude.{◌≡◌, ◌≢◌, ◌≤◌, ℕ, suc, List, [], ◌∷◌, ◌++◌, length, Option, Some, None}
 use Rattle.ix_text.specs.declared.span.Span.{Span}
 use Rattle.ix_tree.specs.declared.annot.Annot.{Annot}
 use Rattle.ix_tree.specs.declared.annot.AnnotArg.{AnnotArg}
@@ -17,10 +17,10 @@ use Rattle.ix_tree.specs.declared.decl.Member.TheVariants.{Field, Method}
 use Rattle.ix_tree.specs.declared.decl.MethodDecl.{MethodDecl}
 use Rattle.ix_tree.specs.declared.decl.Unit.{Unit as Source}
 use Rattle.ix_tree.specs.declared.expr.Expr.{Expr, Expr-F, fold-Expr}
-use Rattle.ix_tree.specs.declared.expr.ExprKind.{ExprKind, ExprKind-F}
+use Rattle.ix_tree.specs.declared.expr.ExprKind.{ExprKind-F}
 use Rattle.ix_tree.specs.declared.expr.Init.{Init, Init-F, fold-Init}
 use Rattle.ix_tree.specs.declared.stmt.Stmt.{Stmt, Stmt-F, fold-Stmt}
-use Rattle.ix_tree.specs.declared.stmt.StmtKind.{StmtKind, StmtKind-F}
+use Rattle.ix_tree.specs.declared.stmt.StmtKind.{StmtKind-F}
 
 -- ---- what stands in a tree, from its first token to its last
 

@@ -5,7 +5,7 @@ use ix_num::{Arith, Rel};
 use ix_text::{Boxed, List, Span};
 
 /// An operator with one operand (JLS 15.15).
-#[derive(Clone, Copy, Debug, PartialEq, Eq)]
+#[derive(Clone, Copy)]
 pub enum UnaryOp {
     /// `+`
     Plus,
@@ -18,7 +18,7 @@ pub enum UnaryOp {
 }
 
 /// An operator with two operands (JLS 15.17 to 15.24).
-#[derive(Clone, Copy, Debug, PartialEq, Eq)]
+#[derive(Clone, Copy)]
 pub enum BinaryOp {
     Num(Arith),
     Compare(Rel),

@@ -1,5 +1,5 @@
 use Rattle.std.proofs.Common.{rules, length, sym, subst, ◌∙◌, inl}
-use Rattle.ix_parser.specs.Refusals.{Refused, IsWithin}
+use Rattle.ix_grammar.specs.Refusals.{Refused, IsWithin}
 use Rattle.ix_parser.proofs.Answered as answered
 use Rattle.ix_parser.proofs.Refusing as trees
 use Rattle.ix_parser.proofs.parse_tree.parse.Goals as goal

@@ -1,0 +1,2 @@
+pub mod LowerParts
+pub mod NothingBelow

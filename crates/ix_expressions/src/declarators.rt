@@ -1,0 +1,179 @@
+//! Declarators (JLS 8.3, 14.4).
+ghost use Rattle.std.specs.Prelude.{◌≡◌, ◌≤◌, ◌+◌, length, OnOk, IfOk, MatchResult};
+ghost use Rattle.ix_descent.specs.declared.stop.Stop.TheVariants.{Memory};
+ghost use Rattle.ix_grammar.specs.DeclGrammar as nodes;
+ghost use Rattle.ix_grammar.specs.DeclGrammar.{shared as the_shared};
+ghost use Rattle.ix_descent.specs.DeclRules as spec;
+ghost use Rattle.ix_descent.specs.ExprRules.{init as the_init};
+ghost use Rattle.ix_descent.specs.ListRules.{more_of};
+ghost use Rattle.ix_descent.specs.Rule.{run};
+ghost use Rattle.ix_descent.specs.Taking.{Follows};
+
+use crate::expressions::init;
+use ix_descent::stop::Stop;
+use ix_grammar::declarations::{FoundDecl, FoundMods, Shared};
+use ix_grammar::found::{FoundDecls, FoundInit, FoundType};
+use ix_lexer::fixed::{ASSIGN, COMMA};
+use ix_nodes::copies::{copy_mods, copy_type};
+use ix_reading::cursor::Cursor;
+use ix_text::List;
+use ix_tree::{Ident, LocalDecl};
+use std::alloc::Global;
+
+/// What all declarators have behind these modifiers and this type.
+pub fn shared(alloc: Global, found: &FoundMods, ty: &FoundType) -> Result<Shared, Stop>
+    ensures { MatchResult result (λ all. all ≡ the_shared found.now ty.now) (λ stop. stop ≡ Memory) }
+{
+    let mods = copy_mods(alloc, &found.mods)?;
+    let tree = copy_type(alloc, &ty.ty)?;
+    Ok(Shared {
+        mods,
+        ty: tree,
+        height: found.height.max(ty.height).max(1),
+    })
+}
+
+/// What is declared without an initialiser.
+pub fn plain_decl(alloc: Global, all: &Shared, name: Ident) -> Result<FoundDecl, Stop>
+    requires low { all.now.height ≤ 4 }
+    ensures { MatchResult result (λ found. found ≡ nodes.plain_decl all.now name) (λ stop. stop ≡ Memory) }
+{
+    let mods = copy_mods(alloc, &all.mods)?;
+    let ty = copy_type(alloc, &all.ty)?;
+    let end = name.span;
+    Ok(FoundDecl {
+        decl: LocalDecl {
+            mods,
+            ty,
+            name,
+            init: None,
+        },
+        height: 1 + all.height,
+        end,
+    })
+}
+
+/// What is declared with an initialiser.
+fn init_decl(
+    alloc: Global,
+    left: u32,
+    all: &Shared,
+    name: Ident,
+    found: FoundInit,
+) -> Result<FoundDecl, Stop>
+    requires low { all.now.height ≤ 4 }
+    requires room { found.height + 1 ≤ left }
+    ensures { MatchResult result (λ decl. decl ≡ nodes.init_decl all.now name found) (λ stop. stop ≡ Memory) }
+{
+    let mods = copy_mods(alloc, &all.mods)?;
+    let ty = copy_type(alloc, &all.ty)?;
+    Ok(FoundDecl {
+        decl: LocalDecl {
+            mods,
+            ty,
+            name,
+            init: Some(found.init.into_inner()),
+        },
+        height: 1 + all.height.max(found.height),
+        end: found.end,
+    })
+}
+
+/// `["=" Init]`, behind the name
+#[tactic(auto, unfolding(ix_descent::specs::Rule::run, ix_descent::specs::DeclRules::decl_behind))]
+pub fn decl_behind(
+    alloc: Global,
+    cursor: &mut Cursor<'_>,
+    left: u32,
+    all: &Shared,
+    name: Ident,
+) -> Result<FoundDecl, Stop>
+    requires few { length cursor.old ≤ 200000 }
+    requires low { all.now.height ≤ 4 }
+    requires room { all.now.height + 1 ≤ left }
+    ensures reads { Follows (run (spec.decl_behind the_init left all.now name) cursor.old) result cursor.new }
+    ensures no_longer { OnOk result (length cursor.new ≤ length cursor.old) }
+    ensures fits { IfOk result (λ found. found.height ≤ left) }
+{
+    if let Some(_assign) = cursor.sign(ASSIGN) {
+        cursor.advance();
+        let found = init(alloc, cursor, left - 1)?;
+        return init_decl(alloc, left, all, name, found);
+    }
+    plain_decl(alloc, all, name)
+}
+
+/// The first of several declarations.
+fn one_decl(alloc: Global, found: FoundDecl) -> Result<FoundDecls, Stop>
+    ensures { MatchResult result (λ decls. decls ≡ nodes.one_decl found) (λ stop. stop ≡ Memory) }
+{
+    let mut decls = List::new(alloc);
+    decls.push(found.decl)?;
+    Ok(FoundDecls {
+        decls,
+        height: found.height,
+        end: found.end,
+    })
+}
+
+/// Declarations with one more.
+fn with_decl(mut before: FoundDecls, found: FoundDecl) -> Result<FoundDecls, Stop>
+    ensures { MatchResult result (λ decls. decls ≡ nodes.with_decl before found) (λ stop. stop ≡ Memory) }
+{
+    before.decls.push(found.decl)?;
+    Ok(FoundDecls {
+        decls: before.decls,
+        height: before.height.max(found.height),
+        end: found.end,
+    })
+}
+
+/// `Decl {"," Decl}`, behind the first name, each of a height of at most `left`.
+#[tactic(auto, unfolding(ix_descent::specs::Rule::run, ix_descent::specs::DeclRules::decls))]
+pub fn decls(
+    alloc: Global,
+    cursor: &mut Cursor<'_>,
+    left: u32,
+    all: &Shared,
+    name: Ident,
+) -> Result<FoundDecls, Stop>
+    requires few { length cursor.old ≤ 200000 }
+    requires low { all.now.height ≤ 4 }
+    requires room { all.now.height + 1 ≤ left }
+    ensures reads { Follows (run (spec.decls the_init left all.now name) cursor.old) result cursor.new }
+    ensures no_longer { OnOk result (length cursor.new ≤ length cursor.old) }
+    ensures fits { IfOk result (λ found. found.height ≤ left) }
+{
+    let first = decl_behind(alloc, cursor, left, all, name)?;
+    more_decls(alloc, cursor, left, all, first)
+}
+
+/// `{"," Decl}`, behind the first declarator
+#[tactic(auto, unfolding(ix_descent::specs::Rule::run, ix_descent::specs::DeclRules::decl, ix_descent::specs::ListRules::next_of, ix_descent::specs::ListRules::more_of))]
+fn more_decls(
+    alloc: Global,
+    cursor: &mut Cursor<'_>,
+    left: u32,
+    all: &Shared,
+    first: FoundDecl,
+) -> Result<FoundDecls, Stop>
+    requires few { length cursor.old ≤ 200000 }
+    requires low { all.now.height ≤ 4 }
+    requires room { all.now.height + 1 ≤ left }
+    requires first { first.height ≤ left }
+    ensures reads { Follows (run (more_of (spec.decl the_init left all.now) nodes.with_decl (nodes.one_decl first)) cursor.old) result cursor.new }
+    ensures no_longer { OnOk result (length cursor.new ≤ length cursor.old) }
+    ensures fits { IfOk result (λ found. found.height ≤ left) }
+{
+    let mut found = one_decl(alloc, first)?;
+    'reading: while let Some(_comma) = cursor.sign(COMMA) {
+        cursor.advance();
+        let Some(name) = cursor.name(alloc)? else {
+            return Err(Stop::Syntax);
+        };
+        cursor.advance();
+        let decl = decl_behind(alloc, cursor, left, all, name)?;
+        found = with_decl(found, decl)?;
+    }
+    Ok(found)
+}

@@ -1,0 +1,2 @@
+mod BoundSteps
+mod KnownFacts

@@ -1,0 +1,10 @@
+use Rattle.std.proofs.Common.{◌≡◌, drop}
+use Rattle.ix_facts.specs.Bounds as spec
+use Rattle.ix_facts.specs.Small.{IsEnd}
+use Rattle.ix_fact_list.proofs.bounds.range_high.Given as goal
+
+abbrev pub invariant-loop-fact : goal.invariant-loop-fact
+invariant-loop-fact l = record {
+  bound : spec.at_most l.bound (spec.least (spec.range_high_by l.p) (drop l.fact-index l.facts)) ≡ spec.range_high l.facts l.p;
+  small : IsEnd l.bound;
+}

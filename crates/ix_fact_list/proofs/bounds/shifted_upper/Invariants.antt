@@ -1,0 +1,12 @@
+use Rattle.std.proofs.Common.{◌≡◌, drop}
+use Rattle.std.specs.Prelude.{IfSome}
+use Rattle.std.specs.Int.{int_max}
+use Rattle.ix_facts.specs.Bounds as spec
+use Rattle.ix_facts.specs.Small.{IsLimit}
+use Rattle.ix_fact_list.proofs.bounds.shifted_upper.Given as goal
+
+abbrev pub invariant-loop-fact : goal.invariant-loop-fact
+invariant-loop-fact l = record {
+  bound : spec.best int_max l.bound (spec.greatest (spec.shifted_by l.facts l.p l.a l.offset) (drop l.fact-index l.facts)) ≡ spec.shifted_upper l.facts l.p l.a l.offset;
+  small : IfSome l.bound IsLimit;
+}

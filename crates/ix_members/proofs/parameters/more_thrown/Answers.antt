@@ -1,0 +1,14 @@
+use Rattle.std.proofs.Common.{rules, ◌∙◌}
+use Rattle.ix_grammar.specs.DeclGrammar.{nothing_more}
+use Rattle.ix_descent.specs.DeclRules as spec
+use Rattle.ix_descent.specs.ListRules.{next_of, more_of}
+use Rattle.ix_descent.specs.Rule.{run}
+use Rattle.ix_descent.proofs.Runs.{loop_on}
+use Rattle.ix_members.proofs.parameters.more_thrown.Goals as goal
+
+pub reading-preserved : goal.reading-preserved
+unfolding run next_of more_of spec.a_thrown
+reading-preserved c = record {
+  leads = c.reading.invariant.leads ∙ loop_on (next_of spec.a_thrown nothing_more) tt tt c.reading.cursor c.advance-in-Some.new.self (search rules) (search rules);
+  no_longer = search rules;
+}

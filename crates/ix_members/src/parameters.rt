@@ -1,0 +1,183 @@
+//! Parameters and what a method throws (JLS 8.4.1, 8.4.6).
+ghost use Rattle.std.specs.Prelude.{◌≡◌, ◌≤◌, length, OnOk, IfOk, MatchResult};
+ghost use Rattle.ix_descent.specs.declared.stop.Stop.TheVariants.{Memory};
+ghost use Rattle.ix_grammar.specs.DeclGrammar as nodes;
+ghost use Rattle.ix_descent.specs.DeclRules as spec;
+ghost use Rattle.ix_descent.specs.ListRules.{more_of};
+ghost use Rattle.ix_descent.specs.Rule.{run};
+ghost use Rattle.ix_descent.specs.Taking.{Follows};
+
+use ix_descent::aims::Words;
+use ix_descent::stop::Stop;
+use ix_expressions::declarators::{plain_decl, shared};
+use ix_grammar::declarations::{FoundDecl, FoundMods, Params};
+use ix_grammar::found::FoundType;
+use ix_lexer::fixed::{CLOSE_PAREN, COMMA, THROWS};
+use ix_reading::cursor::Cursor;
+use ix_reading::modifiers::mods;
+use ix_reading::type_trees::type_tree;
+use ix_text::List;
+use ix_tree::Ident;
+use std::alloc::Global;
+
+/// A parameter.
+fn one_decl(
+    alloc: Global,
+    found: &FoundMods,
+    ty: &FoundType,
+    name: Ident,
+) -> Result<FoundDecl, Stop>
+    requires low { found.now.height ≤ 3 }
+    requires typed { ty.now.height ≤ 4 }
+    ensures { MatchResult result (λ decl. decl ≡ nodes.plain_decl (nodes.shared found.now ty.now) name) (λ stop. stop ≡ Memory) }
+{
+    let all = shared(alloc, found, ty)?;
+    plain_decl(alloc, &all, name)
+}
+
+/// `Param = {"final" | Annot} Type Ident`
+#[tactic(auto, unfolding(ix_descent::specs::Rule::run, ix_descent::specs::DeclRules::param))]
+fn param(alloc: Global, cursor: &mut Cursor<'_>, left: u32) -> Result<FoundDecl, Stop>
+    requires few { length cursor.old ≤ 200000 }
+    requires room { 1 ≤ left }
+    ensures reads { Follows (run (spec.param left) cursor.old) result cursor.new }
+    ensures no_longer { OnOk result (length cursor.new ≤ length cursor.old) }
+    ensures low { IfOk result (λ found. found.height ≤ 5) }
+    ensures fits { IfOk result (λ found. found.height ≤ left) }
+{
+    let found = mods(alloc, cursor, Words::Local, left - 1)?;
+    let ty = type_tree(alloc, cursor, left - 1)?;
+    let Some(name) = cursor.name(alloc)? else {
+        return Err(Stop::Syntax);
+    };
+    cursor.advance();
+    one_decl(alloc, &found, &ty, name)
+}
+
+/// No parameter.
+fn no_params(alloc: Global) -> Params
+    ensures { result ≡ nodes.no_params }
+{
+    Params {
+        params: List::new(alloc),
+        height: 0,
+    }
+}
+
+/// The first of several parameters.
+fn one_param(alloc: Global, found: FoundDecl) -> Result<Params, Stop>
+    ensures { MatchResult result (λ params. params ≡ nodes.one_param found) (λ stop. stop ≡ Memory) }
+{
+    let mut params = List::new(alloc);
+    params.push(found.decl)?;
+    Ok(Params {
+        params,
+        height: found.height,
+    })
+}
+
+/// Parameters with one more.
+fn with_param(mut before: Params, found: FoundDecl) -> Result<Params, Stop>
+    ensures { MatchResult result (λ params. params ≡ nodes.with_param before found) (λ stop. stop ≡ Memory) }
+{
+    before.params.push(found.decl)?;
+    Ok(Params {
+        params: before.params,
+        height: before.height.max(found.height),
+    })
+}
+
+/// `{"," Param}`, behind the first one
+#[tactic(auto, unfolding(ix_descent::specs::Rule::run, ix_descent::specs::ListRules::next_of, ix_descent::specs::ListRules::more_of))]
+fn more_params(
+    alloc: Global,
+    cursor: &mut Cursor<'_>,
+    left: u32,
+    first: FoundDecl,
+) -> Result<Params, Stop>
+    requires few { length cursor.old ≤ 200000 }
+    requires room { 1 ≤ left }
+    requires low { first.height ≤ 5 }
+    requires first { first.height ≤ left }
+    ensures reads { Follows (run (more_of (spec.param left) nodes.with_param (nodes.one_param first)) cursor.old) result cursor.new }
+    ensures no_longer { OnOk result (length cursor.new ≤ length cursor.old) }
+    ensures low { IfOk result (λ found. found.height ≤ 5) }
+    ensures fits { IfOk result (λ found. found.height ≤ left) }
+{
+    let mut found = one_param(alloc, first)?;
+    'reading: while let Some(_comma) = cursor.sign(COMMA) {
+        cursor.advance();
+        let next = param(alloc, cursor, left)?;
+        found = with_param(found, next)?;
+    }
+    Ok(found)
+}
+
+/// `Param {"," Param}`
+#[tactic(auto, unfolding(ix_descent::specs::Rule::run, ix_descent::specs::DeclRules::some_params))]
+fn some_params(alloc: Global, cursor: &mut Cursor<'_>, left: u32) -> Result<Params, Stop>
+    requires few { length cursor.old ≤ 200000 }
+    requires room { 1 ≤ left }
+    ensures reads { Follows (run (spec.some_params left) cursor.old) result cursor.new }
+    ensures no_longer { OnOk result (length cursor.new ≤ length cursor.old) }
+    ensures low { IfOk result (λ found. found.height ≤ 5) }
+    ensures fits { IfOk result (λ found. found.height ≤ left) }
+{
+    let first = param(alloc, cursor, left)?;
+    more_params(alloc, cursor, left, first)
+}
+
+/// `[Param {"," Param}] ")"`, behind the opening parenthesis
+#[tactic(auto, unfolding(ix_descent::specs::Rule::run, ix_descent::specs::DeclRules::params))]
+pub fn params(alloc: Global, cursor: &mut Cursor<'_>, left: u32) -> Result<Params, Stop>
+    requires few { length cursor.old ≤ 200000 }
+    requires room { 1 ≤ left }
+    ensures reads { Follows (run (spec.params left) cursor.old) result cursor.new }
+    ensures no_longer { OnOk result (length cursor.new ≤ length cursor.old) }
+    ensures low { IfOk result (λ found. found.height ≤ 5) }
+    ensures fits { IfOk result (λ found. found.height ≤ left) }
+{
+    if let Some(_right) = cursor.sign(CLOSE_PAREN) {
+        cursor.advance();
+        return Ok(no_params(alloc));
+    }
+    let found = some_params(alloc, cursor, left)?;
+    let Some(_right) = cursor.sign(CLOSE_PAREN) else {
+        return Err(Stop::Syntax);
+    };
+    cursor.advance();
+    Ok(found)
+}
+
+/// `{"," Ident}`, behind the first name of what a method throws
+#[tactic(auto, unfolding(ix_descent::specs::Rule::run, ix_descent::specs::DeclRules::a_thrown, ix_descent::specs::ListRules::next_of, ix_descent::specs::ListRules::more_of))]
+fn more_thrown(alloc: Global, cursor: &mut Cursor<'_>) -> Result<(), Stop>
+    ensures reads { Follows (run (more_of spec.a_thrown nodes.nothing_more tt) cursor.old) result cursor.new }
+    ensures no_longer { OnOk result (length cursor.new ≤ length cursor.old) }
+{
+    'reading: while let Some(_comma) = cursor.sign(COMMA) {
+        cursor.advance();
+        let Some(_name) = cursor.name(alloc)? else {
+            return Err(Stop::Syntax);
+        };
+        cursor.advance();
+    }
+    Ok(())
+}
+
+/// `Throws = ["throws" Ident {"," Ident}]`
+#[tactic(auto, unfolding(ix_descent::specs::Rule::run, ix_descent::specs::DeclRules::throws))]
+pub fn throws(alloc: Global, cursor: &mut Cursor<'_>) -> Result<(), Stop>
+    ensures reads { Follows (run spec.throws cursor.old) result cursor.new }
+    ensures no_longer { OnOk result (length cursor.new ≤ length cursor.old) }
+{
+    let Some(_throws) = cursor.sign(THROWS) else {
+        return Ok(());
+    };
+    cursor.advance();
+    let Some(_first) = cursor.name(alloc)? else {
+        return Err(Stop::Syntax);
+    };
+    cursor.advance();
+    more_thrown(alloc, cursor)
+}

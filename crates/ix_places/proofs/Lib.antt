@@ -1,0 +1,11 @@
+pub mod Places
+pub mod OrderPlaces
+pub mod ListPlaces
+pub mod TreeParts
+pub mod AnnotPlaces
+pub mod TypePlaces
+pub mod ExprPlaces
+pub mod DeclPlaces
+pub mod StmtPlaces
+pub mod ClassPlaces
+pub mod SourcePlaces

@@ -1,0 +1,4 @@
+pub mod LowerStatements
+pub mod HighVariables
+pub mod LowExpressions
+pub mod Words

@@ -1,0 +1,153 @@
+//! Declarations of locals (JLS 14.4), as far as their semicolon.
+ghost use Rattle.std.specs.Prelude.{◌≤◌, ◌+◌, ◌-◌, length, OnOk, IfOk};
+ghost use Rattle.ix_grammar.specs.declared.declarations.Word.TheVariants.{Final};
+ghost use Rattle.ix_descent.specs.AnnotRules.{annot_behind as the_annot};
+ghost use Rattle.ix_grammar.specs.DeclGrammar.{no_mods as none, with_word as worded, with_annot as noted};
+ghost use Rattle.ix_descent.specs.ReadingStatements.{begun_fits};
+ghost use Rattle.ix_descent.specs.Rule.{run, bind};
+ghost use Rattle.ix_descent.specs.StmtRules as spec;
+ghost use Rattle.ix_descent.specs.Taking.{Follows};
+ghost use Rattle.ix_grammar.specs.TypeGrammar.{base_height};
+ghost use Rattle.ix_descent.specs.TypeRules.{type_rest as the_rest};
+
+use ix_descent::aims::Words;
+use ix_descent::begun::Begun;
+use ix_descent::stop::Stop;
+use ix_expressions::declarators::{decls, shared};
+use ix_grammar::declarations::{FoundMods, Word};
+use ix_grammar::found::{At, FoundType};
+use ix_reading::annotations::annot_behind;
+use ix_reading::cursor::Cursor;
+use ix_reading::modifiers::{mods_from, no_mods, with_annot, with_word};
+use ix_reading::type_trees::{type_rest, type_tree};
+use ix_text::Span;
+use ix_tree::{BaseTree, Ident};
+use std::alloc::Global;
+
+/// `["=" Init] {"," Decl}`, behind the first name
+#[tactic(auto, unfolding(ix_descent::specs::Rule::run, ix_descent::specs::StmtRules::declared))]
+pub fn declared(
+    alloc: Global,
+    cursor: &mut Cursor<'_>,
+    left: u32,
+    mods: FoundMods,
+    ty: FoundType,
+    name: Ident,
+) -> Result<Begun, Stop>
+    requires few { length cursor.old ≤ 200000 }
+    requires room { 3 ≤ left }
+    requires mods_low { mods.height ≤ 3 }
+    requires mods_fit { mods.height + 2 ≤ left }
+    requires type_low { ty.height ≤ 4 }
+    requires type_fits { ty.height + 2 ≤ left }
+    ensures reads { Follows (run (spec.declared left mods ty name) cursor.old) result cursor.new }
+    ensures no_longer { OnOk result (length cursor.new ≤ length cursor.old) }
+    ensures fits { IfOk result (λ begun. begun_fits left begun) }
+{
+    let all = shared(alloc, &mods, &ty)?;
+    let found = decls(alloc, cursor, left - 1, &all, name)?;
+    Ok(Begun::Local(mods, ty, found))
+}
+
+/// `Decls`, behind the type
+#[tactic(auto, unfolding(ix_descent::specs::Rule::run, ix_descent::specs::StmtRules::named_type))]
+pub fn named_type(
+    alloc: Global,
+    cursor: &mut Cursor<'_>,
+    left: u32,
+    mods: FoundMods,
+    ty: FoundType,
+) -> Result<Begun, Stop>
+    requires few { length cursor.old ≤ 200000 }
+    requires room { 3 ≤ left }
+    requires mods_low { mods.height ≤ 3 }
+    requires mods_fit { mods.height + 2 ≤ left }
+    requires type_low { ty.height ≤ 4 }
+    requires type_fits { ty.height + 2 ≤ left }
+    ensures reads { Follows (run (spec.named_type left mods ty) cursor.old) result cursor.new }
+    ensures no_longer { OnOk result (length cursor.new ≤ length cursor.old) }
+    ensures fits { IfOk result (λ begun. begun_fits left begun) }
+{
+    let Some(name) = cursor.name(alloc)? else {
+        return Err(Stop::Syntax);
+    };
+    cursor.advance();
+    declared(alloc, cursor, left, mods, ty, name)
+}
+
+/// `{"final" | Annot} Type Decls`, behind the first modifier
+#[tactic(auto, unfolding(ix_descent::specs::Rule::run, ix_descent::specs::StmtRules::modified, ix_descent::specs::StmtRules::typed))]
+fn modified(
+    alloc: Global,
+    cursor: &mut Cursor<'_>,
+    left: u32,
+    first: FoundMods,
+) -> Result<Begun, Stop>
+    requires few { length cursor.old ≤ 200000 }
+    requires room { 3 ≤ left }
+    requires low { first.height ≤ 3 }
+    requires fits { first.height + 2 ≤ left }
+    ensures reads { Follows (run (spec.modified left first) cursor.old) result cursor.new }
+    ensures no_longer { OnOk result (length cursor.new ≤ length cursor.old) }
+    ensures fits { IfOk result (λ begun. begun_fits left begun) }
+{
+    let mods = mods_from(alloc, cursor, Words::Local, left - 2, first)?;
+    let ty = type_tree(alloc, cursor, left - 2)?;
+    named_type(alloc, cursor, left, mods, ty)
+}
+
+/// A declaration behind `final`.
+#[tactic(auto, unfolding(ix_descent::specs::Rule::run))]
+pub fn final_local(
+    alloc: Global,
+    cursor: &mut Cursor<'_>,
+    left: u32,
+    span: Span,
+) -> Result<Begun, Stop>
+    requires few { length cursor.old ≤ 200000 }
+    requires room { 3 ≤ left }
+    ensures reads { Follows (run (spec.modified left (worded none Final span)) cursor.old) result cursor.new }
+    ensures no_longer { OnOk result (length cursor.new ≤ length cursor.old) }
+    ensures fits { IfOk result (λ begun. begun_fits left begun) }
+{
+    let first = with_word(no_mods(alloc), Word::Final, span);
+    modified(alloc, cursor, left, first)
+}
+
+/// A declaration behind the `@` of its first annotation.
+#[tactic(auto, unfolding(ix_descent::specs::Rule::run))]
+pub fn noted_local(
+    alloc: Global,
+    cursor: &mut Cursor<'_>,
+    left: u32,
+    at: Span,
+) -> Result<Begun, Stop>
+    requires few { length cursor.old ≤ 200000 }
+    requires room { 4 ≤ left }
+    ensures reads { Follows (run (bind (the_annot (left - 2) at) (λ annot. spec.modified left (noted none annot))) cursor.old) result cursor.new }
+    ensures no_longer { OnOk result (length cursor.new ≤ length cursor.old) }
+    ensures fits { IfOk result (λ begun. begun_fits left begun) }
+{
+    let annot = annot_behind(alloc, cursor, left - 2, at)?;
+    let first = with_annot(no_mods(alloc), annot)?;
+    modified(alloc, cursor, left, first)
+}
+
+/// A declaration behind the base of its type, `int` or `boolean`.
+#[tactic(auto, unfolding(ix_descent::specs::Rule::run))]
+pub fn plain_local(
+    alloc: Global,
+    cursor: &mut Cursor<'_>,
+    left: u32,
+    base: At<BaseTree>,
+) -> Result<Begun, Stop>
+    requires few { length cursor.old ≤ 200000 }
+    requires room { 3 ≤ left }
+    requires low { base_height base.value ≤ 0 }
+    ensures reads { Follows (run (bind (the_rest (left - 2) base) (spec.named_type left none)) cursor.old) result cursor.new }
+    ensures no_longer { OnOk result (length cursor.new ≤ length cursor.old) }
+    ensures fits { IfOk result (λ begun. begun_fits left begun) }
+{
+    let ty = type_rest(alloc, cursor, left - 2, base)?;
+    named_type(alloc, cursor, left, no_mods(alloc), ty)
+}

@@ -1,0 +1,270 @@
+//! Statements with a word or a sign of their own that have no head of their own (JLS 14.2, 14.9, 14.12, 14.13, 14.15 to 14.18).
+ghost use Rattle.std.specs.Prelude.{◌<◌, ◌≤◌, ◌+◌, ◌^◌, true, length, OnOk, IfOk};
+ghost use Rattle.ix_tree.specs.declared.stmt.StmtKind.TheVariants as kinds;
+ghost use Rattle.ix_grammar.specs.ClassGrammar.{no_stmts as none, with_stmt as one_more};
+ghost use Rattle.ix_descent.specs.ListRules.{braces_of};
+ghost use Rattle.ix_descent.specs.ReadingStatements.{ReadsStatements};
+ghost use Rattle.ix_grammar.specs.Nodes.{across as the_span};
+ghost use Rattle.ix_grammar.specs.Patterns.{a_sign};
+ghost use Rattle.ix_descent.specs.Rule.{run, take, pure, stop};
+ghost use Rattle.ix_grammar.specs.StmtGrammar as nodes;
+ghost use Rattle.ix_descent.specs.StmtRules as spec;
+ghost use Rattle.ix_descent.specs.Taking.{Follows};
+
+use crate::statement_parts::Statements;
+use ix_descent::stop::Stop;
+use ix_expressions::expressions::expr;
+use ix_grammar::classes::Stmts;
+use ix_grammar::found::{At, Found, FoundStmt};
+use ix_grammar::spans::across;
+use ix_lexer::fixed::{CLOSE_BRACE, CLOSE_PAREN, ELSE, NEW, OPEN_PAREN, SEMICOLON, WHILE};
+use ix_nodes::statement_nodes::{
+    block_stmt, do_stmt, if_else_stmt, if_stmt, no_stmts, return_stmt, stmt_node, throw_stmt,
+    while_stmt, with_stmt,
+};
+use ix_reading::cursor::Cursor;
+use ix_text::Span;
+use ix_tree::{Ident, StmtKind};
+use std::alloc::Global;
+
+/// `"(" Expr ")"`
+#[tactic(auto, unfolding(ix_descent::specs::Rule::run, ix_descent::specs::StmtRules::condition))]
+fn condition(alloc: Global, cursor: &mut Cursor<'_>, left: u32) -> Result<Found, Stop>
+    requires few { length cursor.old ≤ 200000 }
+    requires room { 0 < left }
+    ensures reads { Follows (run (spec.condition left) cursor.old) result cursor.new }
+    ensures no_longer { OnOk result (length cursor.new ≤ length cursor.old) }
+    ensures fits { IfOk result (λ f. f.height + 1 ≤ left) }
+{
+    let Some(_opening) = cursor.sign(OPEN_PAREN) else {
+        return Err(Stop::Syntax);
+    };
+    cursor.advance();
+    let found = expr(alloc, cursor, left - 1)?;
+    let Some(_closing) = cursor.sign(CLOSE_PAREN) else {
+        return Err(Stop::Syntax);
+    };
+    cursor.advance();
+    Ok(found)
+}
+
+/// `";"`, behind `break`
+#[tactic(auto, unfolding(ix_descent::specs::Rule::run))]
+pub fn break_rule(alloc: Global, cursor: &mut Cursor<'_>, start: Span) -> Result<FoundStmt, Stop>
+    ensures reads { Follows (run (take (a_sign SEMICOLON) true (λ end. pure (nodes.stmt_node kinds.Break 0 (the_span start end))) stop) cursor.old) result cursor.new }
+    ensures no_longer { OnOk result (length cursor.new ≤ length cursor.old) }
+    ensures fits { IfOk result (λ found. found.height ≤ 1) }
+{
+    let Some(end) = cursor.sign(SEMICOLON) else {
+        return Err(Stop::Syntax);
+    };
+    cursor.advance();
+    stmt_node(alloc, StmtKind::Break, 0, across(start, end))
+}
+
+/// `";"`, behind `continue`
+#[tactic(auto, unfolding(ix_descent::specs::Rule::run))]
+pub fn continue_rule(alloc: Global, cursor: &mut Cursor<'_>, start: Span) -> Result<FoundStmt, Stop>
+    ensures reads { Follows (run (take (a_sign SEMICOLON) true (λ end. pure (nodes.stmt_node kinds.Continue 0 (the_span start end))) stop) cursor.old) result cursor.new }
+    ensures no_longer { OnOk result (length cursor.new ≤ length cursor.old) }
+    ensures fits { IfOk result (λ found. found.height ≤ 1) }
+{
+    let Some(end) = cursor.sign(SEMICOLON) else {
+        return Err(Stop::Syntax);
+    };
+    cursor.advance();
+    stmt_node(alloc, StmtKind::Continue, 0, across(start, end))
+}
+
+/// `[Expr] ";"`, behind `return`
+#[tactic(auto, unfolding(ix_descent::specs::Rule::run, ix_descent::specs::StmtRules::return_rule))]
+pub fn return_rule(
+    alloc: Global,
+    cursor: &mut Cursor<'_>,
+    left: u32,
+    start: Span,
+) -> Result<FoundStmt, Stop>
+    requires few { length cursor.old ≤ 200000 }
+    requires room { 0 < left }
+    ensures reads { Follows (run (spec.return_rule left start) cursor.old) result cursor.new }
+    ensures no_longer { OnOk result (length cursor.new ≤ length cursor.old) }
+    ensures fits { IfOk result (λ found. found.height ≤ left) }
+{
+    if let Some(end) = cursor.sign(SEMICOLON) {
+        cursor.advance();
+        return return_stmt(alloc, start, None, end);
+    }
+    let found = expr(alloc, cursor, left - 1)?;
+    let Some(end) = cursor.sign(SEMICOLON) else {
+        return Err(Stop::Syntax);
+    };
+    cursor.advance();
+    return_stmt(alloc, start, Some(found), end)
+}
+
+/// `")" ";"`, behind the reason
+#[tactic(auto, unfolding(ix_descent::specs::Rule::run, ix_descent::specs::StmtRules::throw_end))]
+fn throw_end(
+    alloc: Global,
+    cursor: &mut Cursor<'_>,
+    start: Span,
+    name: Ident,
+) -> Result<FoundStmt, Stop>
+    ensures reads { Follows (run (spec.throw_end start name) cursor.old) result cursor.new }
+    ensures no_longer { OnOk result (length cursor.new ≤ length cursor.old) }
+    ensures fits { IfOk result (λ found. found.height ≤ 2) }
+{
+    let Some(_closing) = cursor.sign(CLOSE_PAREN) else {
+        return Err(Stop::Syntax);
+    };
+    cursor.advance();
+    let Some(end) = cursor.sign(SEMICOLON) else {
+        return Err(Stop::Syntax);
+    };
+    cursor.advance();
+    throw_stmt(alloc, start, name, end)
+}
+
+/// `"new" Ident "(" [String] ")" ";"`, behind `throw`
+#[tactic(auto, unfolding(ix_descent::specs::Rule::run, ix_descent::specs::StmtRules::throw_rule))]
+pub fn throw_rule(alloc: Global, cursor: &mut Cursor<'_>, start: Span) -> Result<FoundStmt, Stop>
+    ensures reads { Follows (run (spec.throw_rule start) cursor.old) result cursor.new }
+    ensures no_longer { OnOk result (length cursor.new ≤ length cursor.old) }
+    ensures fits { IfOk result (λ found. found.height ≤ 2) }
+{
+    let Some(_new) = cursor.sign(NEW) else {
+        return Err(Stop::Syntax);
+    };
+    cursor.advance();
+    let Some(name) = cursor.name(alloc)? else {
+        return Err(Stop::Syntax);
+    };
+    cursor.advance();
+    let Some(_opening) = cursor.sign(OPEN_PAREN) else {
+        return Err(Stop::Syntax);
+    };
+    cursor.advance();
+    if let Some(_reason) = cursor.text(alloc)? {
+        cursor.advance();
+    }
+    throw_end(alloc, cursor, start, name)
+}
+
+impl<F: Fn(Global, &mut Cursor<'_>, u32, bool) -> Result<FoundStmt, Stop>> Statements<F> {
+    /// `{BStmt} "}"`, behind the opening brace
+    #[tactic(auto, unfolding(ix_descent::specs::Rule::run, ix_descent::specs::ListRules::braces_of, ix_descent::specs::ListRules::next_inside))]
+    fn statements(&self, cursor: &mut Cursor<'_>) -> Result<At<Stmts>, Stop>
+        requires parts { ReadsStatements self.now.left (F.pre self.now.part) (F.post self.now.part) }
+        requires few { length cursor.old ≤ 200000 }
+        requires room { 0 < self.now.left }
+        ensures reads { Follows (run (braces_of (spec.stmts_below self.now.left).block one_more none) cursor.old) result cursor.new }
+        ensures no_longer { OnOk result (length cursor.new ≤ length cursor.old) }
+        ensures fits { IfOk result (λ found. found.value.height + 1 ≤ self.now.left) }
+    {
+        let mut found = no_stmts(self.alloc);
+        'reading: loop {
+            if let Some(right) = cursor.sign(CLOSE_BRACE) {
+                cursor.advance();
+                return Ok(At {
+                    value: found,
+                    span: right,
+                });
+            }
+            found = with_stmt(found, self.block_part(cursor)?)?;
+        }
+    }
+
+    /// `{BStmt} "}"`, behind the opening brace
+    #[tactic(auto, unfolding(ix_descent::specs::Rule::run, ix_descent::specs::StmtRules::block_rule))]
+    pub fn block_rule(&self, cursor: &mut Cursor<'_>, left: Span) -> Result<FoundStmt, Stop>
+        requires parts { ReadsStatements self.now.left (F.pre self.now.part) (F.post self.now.part) }
+        requires few { length cursor.old ≤ 200000 }
+        requires number { self.now.left < 2 ^ 32 }
+        requires room { 0 < self.now.left }
+        ensures reads { Follows (run (spec.block_rule (spec.stmts_below self.now.left) left) cursor.old) result cursor.new }
+        ensures no_longer { OnOk result (length cursor.new ≤ length cursor.old) }
+        ensures fits { IfOk result (λ found. found.height ≤ self.now.left) }
+    {
+        let found = self.statements(cursor)?;
+        block_stmt(self.alloc, left, found.value, found.span)
+    }
+
+    /// `["else" Stmt]`, behind the inner statement, so that it belongs to the nearest `if`
+    #[tactic(auto, unfolding(ix_descent::specs::Rule::run, ix_descent::specs::StmtRules::else_part))]
+    fn else_part(
+        &self,
+        cursor: &mut Cursor<'_>,
+        start: Span,
+        condition: Found,
+        found: FoundStmt,
+    ) -> Result<FoundStmt, Stop>
+        requires parts { ReadsStatements self.now.left (F.pre self.now.part) (F.post self.now.part) }
+        requires few { length cursor.old ≤ 200000 }
+        requires number { self.now.left < 2 ^ 32 }
+        requires condition { condition.height + 1 ≤ self.now.left }
+        requires found { found.height + 1 ≤ self.now.left }
+        ensures reads { Follows (run (spec.else_part (spec.stmts_below self.now.left) start condition found) cursor.old) result cursor.new }
+        ensures no_longer { OnOk result (length cursor.new ≤ length cursor.old) }
+        ensures fits { IfOk result (λ found. found.height ≤ self.now.left) }
+    {
+        if let Some(_else) = cursor.sign(ELSE) {
+            cursor.advance();
+            let other = self.plain_part(cursor)?;
+            return if_else_stmt(self.alloc, start, condition, found, other);
+        }
+        if_stmt(self.alloc, start, condition, found)
+    }
+
+    /// `"(" Expr ")" Stmt ["else" Stmt]`, behind `if`
+    #[tactic(auto, unfolding(ix_descent::specs::Rule::run, ix_descent::specs::StmtRules::if_rule))]
+    pub fn if_rule(&self, cursor: &mut Cursor<'_>, start: Span) -> Result<FoundStmt, Stop>
+        requires parts { ReadsStatements self.now.left (F.pre self.now.part) (F.post self.now.part) }
+        requires few { length cursor.old ≤ 200000 }
+        requires room { 0 < self.now.left }
+        ensures reads { Follows (run (spec.if_rule (spec.stmts_below self.now.left) self.now.left start) cursor.old) result cursor.new }
+        ensures no_longer { OnOk result (length cursor.new ≤ length cursor.old) }
+        ensures fits { IfOk result (λ found. found.height ≤ self.now.left) }
+    {
+        let condition = condition(self.alloc, cursor, self.left)?;
+        let found = self.plain_part(cursor)?;
+        self.else_part(cursor, start, condition, found)
+    }
+
+    /// `"(" Expr ")" Stmt`, behind `while`
+    #[tactic(auto, unfolding(ix_descent::specs::Rule::run, ix_descent::specs::StmtRules::while_rule))]
+    pub fn while_rule(&self, cursor: &mut Cursor<'_>, start: Span) -> Result<FoundStmt, Stop>
+        requires parts { ReadsStatements self.now.left (F.pre self.now.part) (F.post self.now.part) }
+        requires few { length cursor.old ≤ 200000 }
+        requires room { 0 < self.now.left }
+        ensures reads { Follows (run (spec.while_rule (spec.stmts_below self.now.left) self.now.left start) cursor.old) result cursor.new }
+        ensures no_longer { OnOk result (length cursor.new ≤ length cursor.old) }
+        ensures fits { IfOk result (λ found. found.height ≤ self.now.left) }
+    {
+        let condition = condition(self.alloc, cursor, self.left)?;
+        let found = self.plain_part(cursor)?;
+        while_stmt(self.alloc, start, condition, found)
+    }
+
+    /// `Stmt "while" "(" Expr ")" ";"`, behind `do`
+    #[tactic(auto, unfolding(ix_descent::specs::Rule::run, ix_descent::specs::StmtRules::do_rule))]
+    pub fn do_rule(&self, cursor: &mut Cursor<'_>, start: Span) -> Result<FoundStmt, Stop>
+        requires parts { ReadsStatements self.now.left (F.pre self.now.part) (F.post self.now.part) }
+        requires few { length cursor.old ≤ 200000 }
+        requires room { 0 < self.now.left }
+        ensures reads { Follows (run (spec.do_rule (spec.stmts_below self.now.left) self.now.left start) cursor.old) result cursor.new }
+        ensures no_longer { OnOk result (length cursor.new ≤ length cursor.old) }
+        ensures fits { IfOk result (λ found. found.height ≤ self.now.left) }
+    {
+        let found = self.plain_part(cursor)?;
+        let Some(_while) = cursor.sign(WHILE) else {
+            return Err(Stop::Syntax);
+        };
+        cursor.advance();
+        let condition = condition(self.alloc, cursor, self.left)?;
+        let Some(end) = cursor.sign(SEMICOLON) else {
+            return Err(Stop::Syntax);
+        };
+        cursor.advance();
+        do_stmt(self.alloc, start, found, condition, end)
+    }
+}
