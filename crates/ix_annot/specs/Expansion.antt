@@ -1,6 +1,6 @@
 -- An annotation as its claims, or the one error that it has. The errors are tested in this order: unknown.annotation, too many claims,
 -- bad.argument, wrong.target, bad.name, inherited.name.
-use Rattle.std.specs.Prelude.{ℕ, nat_lt, ℤ, pos, Bool, true, false, ◌&&◌, ◌||◌, if◌then◌else◌, Option, Some, None, option_map, Result, Ok, Err, List, [], ◌∷◌, ◌++◌}
+use Rattle.std.specs.Prelude.{nat_lt, ℤ, Bool, true, false, ◌&&◌, ◌||◌, if◌then◌else◌, Option, Some, None, option_map, Result, Ok, Err, List, [], ◌∷◌, ◌++◌}
 use Rattle.std.specs.List.{list_any}
 use Rattle.ix_tree.specs.declared.annot.Annot.{Annot}
 use Rattle.ix_core.specs.declared.claim.Name.{Name}
@@ -9,7 +9,6 @@ use Rattle.ix_core.specs.declared.claim.Off.{Off}
 use Rattle.ix_core.specs.declared.claim.Off.TheVariants as off
 use Rattle.ix_core.specs.declared.claim.Claim.{Claim}
 use Rattle.ix_core.specs.declared.claim.Claim.TheVariants as claim
-use Rattle.ix_annot.specs.declared.texts.Naming.{Naming}
 use Rattle.ix_annot.specs.declared.texts.Offset.{Offset}
 use Rattle.ix_annot.specs.declared.texts.Offset.TheVariants.{Constant, Plus, Minus}
 use Rattle.ix_annot.specs.declared.table.Targets.{Targets}
