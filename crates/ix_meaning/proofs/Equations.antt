@@ -1,5 +1,5 @@
 -- Each case of the folds over expressions and statements, as an equation.
-use Rattle.std.proofs.Common.{◌≡◌, ℤ, ℕ, Bool, List, [], ◌∷◌, ◌++◌, Option, Some, None, option_map, map, refl, sym, ap, ◌∙◌}
+use Rattle.std.proofs.Common.{◌≡◌, ℤ, Bool, List, Option, Some, None, map, sym, ap, ◌∙◌}
 use Rattle.ix_text.specs.declared.span.Span.{Span}
 use Rattle.ix_num.specs.declared.arith.Arith.{Arith}
 use Rattle.ix_tree.specs.declared.annot.Ident.{Ident}

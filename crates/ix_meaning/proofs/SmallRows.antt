@@ -1,5 +1,5 @@
 -- One rule a source, against the answers of the independent checker.
-use Rattle.std.proofs.Common.{◌≡◌, ℕ, ℤ, pos, negsuc, Bool, true, false, Option, Some, None, List, [], ◌∷◌, codes, refl}
+use Rattle.std.proofs.Common.{◌≡◌, pos, true, false, Some, None, List, [], ◌∷◌, codes, refl}
 use Rattle.ix_tree.specs.declared.decl.ClassDecl.{ClassDecl}
 use Rattle.ix_tree.specs.declared.decl.Member.TheVariants as m
 use Rattle.ix_tree.specs.declared.annot.AnnotValue.TheVariants as t
@@ -9,17 +9,14 @@ use Rattle.ix_tree.specs.declared.expr.Init.TheVariants as i
 use Rattle.ix_tree.specs.declared.expr.UnaryOp.TheVariants as u
 use Rattle.ix_tree.specs.declared.expr.BinaryOp.TheVariants as bo
 use Rattle.ix_tree.specs.declared.stmt.StmtKind.TheVariants as s
-use Rattle.ix_num.specs.declared.arith.Arith.TheVariants as ar
 use Rattle.ix_num.specs.declared.rel.Rel.TheVariants as rl
 use Rattle.ix_meaning.specs.declared.note.Rule.TheVariants as rule
-use Rattle.ix_meaning.specs.declared.note.Which.TheVariants as which
 use Rattle.ix_annot.specs.Expansion.{expanded}
 use Rattle.ix_annot.specs.Table.{row_named}
 use Rattle.ix_annot.specs.Arguments.{plan}
 use Rattle.ix_meaning.specs.Source.{notes}
 use Rattle.ix_meaning.specs.Listed.{derived, listed}
 use Rattle.ix_meaning.proofs.Equations.{equations}
-use Rattle.ix_meaning.specs.Limits.{Passed, limit, inheritance_limit}
 
 -- class A { void k() { int t = t; } }
 abbrev own_initialiser : List ClassDecl

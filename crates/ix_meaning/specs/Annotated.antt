@@ -1,11 +1,10 @@
 -- What the annotations of a declaration give together.
-use Rattle.std.specs.Prelude.{ℕ, ◌==◌, Bool, true, false, not, ◌&&◌, ◌||◌, if◌then◌else◌, Option, Some, None, Result, Ok, Err, List, [], ◌∷◌, ◌++◌, filter}
+use Rattle.std.specs.Prelude.{ℕ, ◌==◌, Bool, true, false, not, ◌||◌, if◌then◌else◌, Option, Some, None, Result, Ok, Err, List, [], ◌∷◌, ◌++◌, filter}
 use Rattle.ix_text.specs.declared.span.Span.{Span}
 use Rattle.ix_tree.specs.declared.annot.Annot.{Annot}
 use Rattle.ix_tree.specs.declared.annot.BaseTree.{BaseTree}
 use Rattle.ix_tree.specs.declared.annot.BaseTree.TheVariants.{Int as IntTree, Boolean as BooleanTree, Named}
 use Rattle.ix_tree.specs.declared.annot.TypeTree.{TypeTree}
-use Rattle.ix_core.specs.declared.claim.Base.{Base}
 use Rattle.ix_core.specs.declared.claim.Base.TheVariants.{Int, Bool as Boolean, Class}
 use Rattle.ix_core.specs.declared.claim.Type_.{Type_ as Ty}
 use Rattle.ix_core.specs.declared.claim.Claim.{Claim}

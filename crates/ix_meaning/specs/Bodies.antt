@@ -1,5 +1,5 @@
 -- What statements say, and which names are in scope behind them (JLS 14, 6.3).
-use Rattle.std.specs.Prelude.{ℕ, ◌+◌, ◌==◌, nat_lt, Bool, true, false, not, ◌&&◌, ◌||◌, if◌then◌else◌, Option, Some, None, is_some, List, [], ◌∷◌, ◌++◌}
+use Rattle.std.specs.Prelude.{ℕ, ◌+◌, nat_lt, Bool, true, false, ◌&&◌, if◌then◌else◌, Option, Some, None, is_some, List, [], ◌∷◌, ◌++◌}
 use Rattle.ix_text.specs.declared.span.Span.{Span}
 use Rattle.ix_tree.specs.declared.annot.Ident.{Ident}
 use Rattle.ix_tree.specs.declared.decl.LocalDecl.{LocalDecl}
@@ -11,11 +11,10 @@ use Rattle.ix_core.specs.declared.claim.Claim.{Claim}
 use Rattle.ix_core.specs.declared.claim.Name.TheVariants as name
 use Rattle.ix_core.specs.declared.claim.Type_.{Type_ as Ty}
 use Rattle.ix_annot.specs.declared.scope.Scope.{Scope as AnnotScope}
-use Rattle.ix_annot.specs.declared.scope.Claims.{Claims}
 use Rattle.ix_meaning.specs.declared.note.Meaning.TheVariants.{Local}
 use Rattle.ix_meaning.specs.declared.note.Note.{Note}
 use Rattle.ix_meaning.specs.declared.note.Note.TheVariants.{Declares}
-use Rattle.ix_meaning.specs.Types.{boolean, Need, unknown, never, printed, of, need_like}
+use Rattle.ix_meaning.specs.Types.{boolean, Need, never, printed, of}
 use Rattle.ix_meaning.specs.Annotated.{Declaration, variable}
 use Rattle.ix_meaning.specs.Scope.{Scope, Known, meant, annot_scope}
 use Rattle.ix_meaning.specs.Rules.{duplicate_name, no_value, break_outside}

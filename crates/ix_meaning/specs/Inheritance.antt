@@ -1,15 +1,12 @@
 -- Hiding and overriding (JLS 8.3, 8.4.8).
-use Rattle.std.specs.Prelude.{ℕ, ◌==◌, Bool, true, false, not, ◌&&◌, ◌||◌, if◌then◌else◌, Option, Some, None, is_some, List, [], ◌∷◌, ◌++◌, length}
+use Rattle.std.specs.Prelude.{ℕ, ◌==◌, Bool, true, false, not, ◌&&◌, ◌||◌, if◌then◌else◌, Option, Some, None, is_some, List, [], ◌∷◌, ◌++◌}
 use Rattle.std.specs.List.{list_any}
-use Rattle.ix_text.specs.declared.span.Span.{Span}
 use Rattle.ix_core.specs.declared.claim.Type_.{Type_ as Ty}
-use Rattle.ix_core.specs.declared.claim.Type_.TheVariants.{Void}
 use Rattle.ix_meaning.specs.declared.note.Meaning.{Meaning}
 use Rattle.ix_meaning.specs.declared.note.Meaning.TheVariants.{FieldNamed}
-use Rattle.ix_meaning.specs.declared.note.Note.{Note}
 use Rattle.ix_meaning.specs.declared.members.Field.{Field}
 use Rattle.ix_meaning.specs.declared.members.Signature.{Signature}
-use Rattle.ix_meaning.specs.Types.{same_type, wrong_if}
+use Rattle.ix_meaning.specs.Types.{same_type}
 use Rattle.ix_meaning.specs.Members.{World, Callee, own_field, is_method_named, nearest}
 use Rattle.ix_meaning.specs.Scope.{type_or_void}
 

@@ -1,15 +1,13 @@
 -- The rules on names and types. Each is one definition, and the other files only say where it is asked.
-use Rattle.std.specs.Prelude.{ℕ, ◌==◌, Bool, true, false, not, ◌&&◌, ◌||◌, if◌then◌else◌, Option, Some, None, is_some, List, [], ◌∷◌, ◌++◌, length, bytes_eq}
+use Rattle.std.specs.Prelude.{ℕ, ◌==◌, Bool, true, false, not, ◌&&◌, ◌||◌, Option, Some, None, is_some, List, [], ◌∷◌}
 use Rattle.ix_text.specs.declared.span.Span.{Span}
-use Rattle.ix_tree.specs.declared.annot.Ident.{Ident}
 use Rattle.ix_core.specs.declared.claim.Type_.{Type_ as Ty}
 use Rattle.ix_meaning.specs.declared.note.Meaning.{Meaning}
 use Rattle.ix_meaning.specs.declared.note.Note.{Note}
 use Rattle.ix_meaning.specs.declared.note.Rule.TheVariants as rule
 use Rattle.ix_meaning.specs.declared.note.Note.TheVariants.{Use}
 use Rattle.ix_meaning.specs.declared.members.Field.{Field}
-use Rattle.ix_meaning.specs.declared.members.Signature.{Signature}
-use Rattle.ix_meaning.specs.Types.{Need, unknown, never, printed, of, need_like, fits, can_compare, is_primitive, is_reference, element, wrong, wrong_if}
+use Rattle.ix_meaning.specs.Types.{Need, unknown, never, printed, of, fits, can_compare, is_primitive, is_reference, element, wrong, wrong_if}
 use Rattle.ix_meaning.specs.Members.{World}
 use Rattle.ix_meaning.specs.Scope.{Scope}
 

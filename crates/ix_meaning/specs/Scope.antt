@@ -1,6 +1,5 @@
 -- What names mean at a place (JLS 6.3, 6.4).
-use Rattle.std.specs.Prelude.{ℕ, ◌+◌, ◌==◌, Bool, true, false, not, ◌&&◌, ◌||◌, if◌then◌else◌, Option, Some, None, List, [], ◌∷◌, ◌++◌, bytes_eq}
-use Rattle.ix_tree.specs.declared.annot.Ident.{Ident}
+use Rattle.std.specs.Prelude.{ℕ, Bool, false, if◌then◌else◌, Option, Some, None, List, [], ◌∷◌, ◌++◌, bytes_eq}
 use Rattle.ix_core.specs.declared.claim.Name.{Name}
 use Rattle.ix_core.specs.declared.claim.Type_.{Type_ as Ty}
 use Rattle.ix_core.specs.declared.claim.Type_.TheVariants.{Void}

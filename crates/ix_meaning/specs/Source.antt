@@ -1,22 +1,19 @@
 -- What a whole source says (JLS 7.3, 8): of each class, and in it of each member, in the order of the text.
-use Rattle.std.specs.Prelude.{ℕ, ◌+◌, ◌==◌, nat_lt, Bool, true, false, not, ◌&&◌, ◌||◌, if◌then◌else◌, Option, Some, None, is_some, List, [], ◌∷◌, ◌++◌, map, length, bytes_eq}
+use Rattle.std.specs.Prelude.{ℕ, ◌+◌, nat_lt, Bool, true, false, not, ◌&&◌, ◌||◌, if◌then◌else◌, Option, Some, None, is_some, List, [], ◌∷◌, ◌++◌, map, length, bytes_eq}
 use Rattle.std.specs.List.{list_any}
 use Rattle.ix_text.specs.declared.span.Span.{Span}
 use Rattle.ix_tree.specs.declared.annot.Annot.{Annot}
 use Rattle.ix_tree.specs.declared.annot.Ident.{Ident}
 use Rattle.ix_tree.specs.declared.annot.TypeTree.{TypeTree}
-use Rattle.ix_tree.specs.declared.decl.Unit.{Unit as Source}
 use Rattle.ix_tree.specs.declared.decl.ClassDecl.{ClassDecl}
 use Rattle.ix_tree.specs.declared.decl.LocalDecl.{LocalDecl}
 use Rattle.ix_tree.specs.declared.decl.MethodDecl.{MethodDecl}
 use Rattle.ix_tree.specs.declared.decl.Member.{Member}
 use Rattle.ix_tree.specs.declared.decl.Member.TheVariants as member
 use Rattle.ix_tree.specs.declared.expr.Expr.{Expr}
-use Rattle.ix_core.specs.declared.claim.Claim.{Claim}
 use Rattle.ix_core.specs.declared.claim.Name.TheVariants as name
 use Rattle.ix_core.specs.declared.claim.Type_.{Type_ as Ty}
 use Rattle.ix_core.specs.declared.claim.Type_.TheVariants.{Void}
-use Rattle.ix_annot.specs.declared.scope.Scope.{Scope as AnnotScope}
 use Rattle.ix_annot.specs.declared.scope.Target.TheVariants as on
 use Rattle.ix_meaning.specs.declared.note.Meaning.{Meaning}
 use Rattle.ix_meaning.specs.declared.note.Meaning.TheVariants.{Param, FieldNamed, ClassNamed}
@@ -25,11 +22,11 @@ use Rattle.ix_meaning.specs.declared.note.Rule.TheVariants as rule
 use Rattle.ix_meaning.specs.declared.note.Note.TheVariants.{Use}
 use Rattle.ix_meaning.specs.declared.members.Field.{Field}
 use Rattle.ix_meaning.specs.declared.members.Signature.{Signature}
-use Rattle.ix_meaning.specs.Types.{Need, need_like, wrong, wrong_if}
-use Rattle.ix_meaning.specs.Classes.{first_or, class_named, is_cyclic, parents}
-use Rattle.ix_meaning.specs.Annotated.{Given, given, aimed, Declaration, declaration, variable, static_field, target_before, of_method, of_result}
+use Rattle.ix_meaning.specs.Types.{Need, need_like, wrong_if}
+use Rattle.ix_meaning.specs.Classes.{first_or, is_cyclic, parents}
+use Rattle.ix_meaning.specs.Annotated.{Given, given, aimed, Declaration, variable, static_field, of_method, of_result}
 pub use Rattle.ix_meaning.specs.Members.{next_member, next_fields}
-use Rattle.ix_meaning.specs.Members.{World, world, field_of, fields, methods, methods_in, signature, param_type, constructor_params}
+use Rattle.ix_meaning.specs.Members.{World, world, field_of, fields, methods, signature, param_type, constructor_params}
 use Rattle.ix_meaning.specs.Scope.{Scope, Known, annot_scope}
 use Rattle.ix_meaning.specs.Rules.{unknown_name, duplicate_name, cyclic_class, wrong_arguments}
 use Rattle.ix_meaning.specs.Values.{arguments, given_to, reading}

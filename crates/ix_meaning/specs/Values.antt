@@ -1,8 +1,8 @@
 -- What expressions mean, and their types (JLS 15). An expression reads as what it says at each scope.
-use Rattle.std.specs.Prelude.{ℕ, ◌+◌, ◌==◌, Bool, true, false, not, ◌&&◌, ◌||◌, if◌then◌else◌, Option, Some, None, is_some, List, [], ◌∷◌, ◌++◌, length, drop, map, codes, bytes_eq}
+use Rattle.std.specs.Prelude.{ℕ, Bool, true, false, not, ◌||◌, if◌then◌else◌, Option, Some, None, is_some, List, [], ◌∷◌, ◌++◌, length, drop, codes, bytes_eq}
 use Rattle.ix_text.specs.declared.span.Span.{Span}
 use Rattle.ix_num.specs.declared.Rel.{Rel}
-use Rattle.ix_num.specs.declared.Rel.TheVariants.{Lt, Le, Gt, Ge, Eq, Ne}
+use Rattle.ix_num.specs.declared.Rel.TheVariants.{Eq, Ne}
 use Rattle.ix_tree.specs.declared.annot.Ident.{Ident}
 use Rattle.ix_tree.specs.declared.annot.TypeTree.{TypeTree}
 use Rattle.ix_tree.specs.declared.expr.Expr.{Expr, Expr-F, fold-Expr}
@@ -14,18 +14,16 @@ use Rattle.ix_tree.specs.declared.expr.UnaryOp.{UnaryOp}
 use Rattle.ix_tree.specs.declared.expr.UnaryOp.TheVariants.{Not}
 use Rattle.ix_core.specs.declared.claim.Base.TheVariants.{Class}
 use Rattle.ix_core.specs.declared.claim.Type_.{Type_ as Ty}
-use Rattle.ix_core.specs.declared.claim.Type_.TheVariants.{Void, Plain, Array}
+use Rattle.ix_core.specs.declared.claim.Type_.TheVariants.{Plain}
 use Rattle.ix_annot.specs.declared.scope.Target.{Target}
 use Rattle.ix_annot.specs.declared.scope.Target.TheVariants as on
 use Rattle.ix_core.specs.SameClaims.{distinct}
-use Rattle.ix_meaning.specs.declared.note.Meaning.{Meaning}
 use Rattle.ix_meaning.specs.declared.note.Meaning.TheVariants.{MethodNamed, ClassNamed, LengthOf}
 use Rattle.ix_meaning.specs.declared.note.Note.{Note}
 use Rattle.ix_meaning.specs.declared.note.Rule.TheVariants as rule
-use Rattle.ix_meaning.specs.declared.note.Note.TheVariants.{Use, Typed}
+use Rattle.ix_meaning.specs.declared.note.Note.TheVariants.{Use}
 use Rattle.ix_meaning.specs.declared.members.Field.{Field}
-use Rattle.ix_meaning.specs.declared.members.Signature.{Signature}
-use Rattle.ix_meaning.specs.Types.{int, boolean, Need, unknown, never, printed, of, need_like, is_reference, element, element_in, Judged, judged, type_note, typed, wrong, wrong_if}
+use Rattle.ix_meaning.specs.Types.{int, boolean, Need, unknown, of, need_like, is_reference, element, element_in, Judged, judged, type_note, typed, wrong, wrong_if}
 use Rattle.ix_meaning.specs.Annotated.{given, names_nothing, written, is_int_tree}
 use Rattle.ix_meaning.specs.Members.{World, Callee, field_named, method_named, constructor_params}
 use Rattle.ix_meaning.specs.Scope.{Scope, Known, meant, is_pending}

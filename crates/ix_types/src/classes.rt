@@ -29,10 +29,7 @@ pub fn note_class(
     Ok(())
 }
 
-fn noted_classes(
-    alloc: Global,
-    classes: &[ClassDecl],
-) -> Result<IndexMap<String, u32>, AllocError>
+fn noted_classes(alloc: Global, classes: &[ClassDecl]) -> Result<IndexMap<String, u32>, AllocError>
     requires { length classes.now < 2 ^ 32 }
     ensures { IfOk result (λ table. (n : Elements ℕ) → get_by_text table n ≡ spec.class_named classes.now n) }
 {

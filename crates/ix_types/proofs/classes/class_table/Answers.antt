@@ -1,4 +1,3 @@
-use Rattle.std.proofs.Common.{rules}
 use Rattle.std.proofs.lemmas.Result.{IfOk-weaker}
 use mathlib.Core.Path.{fun_ext}
 use Rattle.ix_types.proofs.classes.class_table.Goals as goal

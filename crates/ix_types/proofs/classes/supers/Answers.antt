@@ -1,4 +1,4 @@
-use Rattle.std.proofs.Common.{rules, ◌≡◌, ◌∙◌, sym, ap, Some, ◌++◌, ◌∷◌, [], refl, true, false, ℕ, List, drop, ◌+◌}
+use Rattle.std.proofs.Common.{rules, ◌≡◌, ◌∙◌, sym, ap, Some, ◌++◌, ◌∷◌, [], true, false, drop, ◌+◌}
 use Rattle.ix_meaning.specs.Classes as spec
 use Rattle.ix_types.proofs.Climbing.{unseen_stop, unseen_on}
 use Rattle.ix_types.proofs.classes.supers.Goals as goal
