@@ -49,25 +49,3 @@ some_differ _ _ = true
 abbrev pub differs_from : Signature → Option Callee → Bool
 differs_from m None = false
 differs_from m (Some other) = some_differ m.params other.signature.params || differ m.result other.signature.result
-
--- ---- the fields of `this` that an annotation may name: those of the class and then those that it inherits
-
-abbrev pub is_first : List Field → Field → Bool
-is_first seen f = not (is_some (own_field seen f.class f.name))
-
-abbrev pub claim_entry : ℕ → Option Meaning → Field → List (List ℕ × Ty × ℕ × Bool × Bool)
-claim_entry c (Some (FieldNamed k)) f = (f.name, type_or_void f.ty, k, not (f.class == c), f.is_final) ∷ []
-claim_entry c _ f = []
-
--- the instance fields of the class a, each name at its first place, as class c sees them
-abbrev pub claim_fields_in : ℕ → ℕ → List Field → List Field → List (List ℕ × Ty × ℕ × Bool × Bool)
-claim_fields_in c a seen [] = []
-claim_fields_in c a seen (f ∷ fs) =
-    (if f.class == a && is_first seen f then claim_entry c f.meaning f else []) ++ claim_fields_in c a (f ∷ seen) fs
-
-abbrev pub claim_fields_of : ℕ → List ℕ → List Field → List (List ℕ × Ty × ℕ × Bool × Bool)
-claim_fields_of c [] all = []
-claim_fields_of c (a ∷ cs) all = claim_fields_in c a [] all ++ claim_fields_of c cs all
-
-abbrev pub claim_fields : World → List Field → ℕ → List (List ℕ × Ty × ℕ × Bool × Bool)
-claim_fields w all c = claim_fields_of c (c ∷ w.supers c) all
