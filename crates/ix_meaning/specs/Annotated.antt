@@ -9,7 +9,7 @@ use Rattle.ix_core.specs.declared.claim.Base.TheVariants.{Int, Bool as Boolean, 
 use Rattle.ix_core.specs.declared.claim.Type_.{Type_ as Ty}
 use Rattle.ix_core.specs.declared.claim.Claim.{Claim}
 use Rattle.ix_core.specs.SameClaims.{distinct}
-use Rattle.ix_annot.specs.declared.scope.Scope.{Scope as AnnotScope}
+use Rattle.ix_annot.specs.Named.{Names}
 use Rattle.ix_annot.specs.declared.scope.Claims.{Claims}
 use Rattle.ix_annot.specs.declared.scope.AnnotError.{AnnotError}
 use Rattle.ix_annot.specs.declared.scope.AnnotError.TheVariants.{Unknown, BadName, WrongTarget, InheritedName}
@@ -53,19 +53,19 @@ abbrev pub errors_from : Result Claims AnnotError → Span → List Note
 errors_from (Ok c) p = []
 errors_from (Err e) p = WrongAnnot (record { rule = rule_of e; span = p }) ∷ []
 
-abbrev pub given : AnnotScope → List Annot → Given
-given scope [] = record { claims = []; effect_free = false; notes = [] }
-given scope (a ∷ annots) = record {
-  claims = claims_from (expanded a scope) ++ (given scope annots).claims;
-  effect_free = frees (expanded a scope) || (given scope annots).effect_free;
-  notes = errors_from (expanded a scope) a.span ++ (given scope annots).notes;
+abbrev pub given : Names → List Annot → Given
+given names [] = record { claims = []; effect_free = false; notes = [] }
+given names (a ∷ annots) = record {
+  claims = claims_from (expanded a names) ++ (given names annots).claims;
+  effect_free = frees (expanded a names) || (given names annots).effect_free;
+  notes = errors_from (expanded a names) a.span ++ (given names annots).notes;
 }
 
-abbrev pub names_nothing : Target → AnnotScope
-names_nothing target = record { params = []; locals = []; fields = []; target = target; own = None }
+abbrev pub names_nothing : Target → Names
+names_nothing target = record { found = λ naming. None; target = target; own = None }
 
-abbrev pub aimed : AnnotScope → Target → AnnotScope
-aimed scope target = record scope { target = target }
+abbrev pub aimed : Names → Target → Names
+aimed names target = record names { target = target }
 
 -- ---- a type as it is written
 
@@ -110,16 +110,16 @@ element_claims first before = if is_element first then distinct (given (names_no
 
 -- What a declaration says: its type, and its own claims, each once. `first` is what an annotation before the type stands on, and `second`
 -- what one behind the base stands on.
-abbrev pub declaration : (List ℕ → Option ℕ) → AnnotScope → Target → Target → List Annot → TypeTree → Declaration
-declaration class scope first second before ty = record {
+abbrev pub declaration : (List ℕ → Option ℕ) → Names → Target → Target → List Annot → TypeTree → Declaration
+declaration class names first second before ty = record {
   ty = (written class ty (element_claims first before)).ty;
-  claims = distinct (unless (is_element first) (given (aimed scope first) before).claims ++ (given (aimed scope second) ty.annots).claims);
-  notes = (written class ty []).notes ++ ((given (aimed scope first) before).notes ++ (given (aimed scope second) ty.annots).notes);
+  claims = distinct (unless (is_element first) (given (aimed names first) before).claims ++ (given (aimed names second) ty.annots).claims);
+  notes = (written class ty []).notes ++ ((given (aimed names first) before).notes ++ (given (aimed names second) ty.annots).notes);
 }
 
 -- of a variable that isn't static
-abbrev pub variable : (List ℕ → Option ℕ) → AnnotScope → List Annot → TypeTree → Declaration
-variable class scope before ty = declaration class scope (target_before ty) on.Array before ty
+abbrev pub variable : (List ℕ → Option ℕ) → Names → List Annot → TypeTree → Declaration
+variable class names before ty = declaration class names (target_before ty) on.Array before ty
 
 -- of a static field, on which no annotation may stand
 abbrev pub static_field : (List ℕ → Option ℕ) → List Annot → TypeTree → Declaration

@@ -10,13 +10,13 @@ use Rattle.ix_tree.specs.declared.stmt.StmtKind.{StmtKind, StmtKind-F, fold-Stmt
 use Rattle.ix_core.specs.declared.claim.Claim.{Claim}
 use Rattle.ix_core.specs.declared.claim.Name.TheVariants as name
 use Rattle.ix_core.specs.declared.claim.Type_.{Type_ as Ty}
-use Rattle.ix_annot.specs.declared.scope.Scope.{Scope as AnnotScope}
+use Rattle.ix_annot.specs.Named.{Names}
 use Rattle.ix_meaning.specs.declared.note.Meaning.TheVariants.{Local}
 use Rattle.ix_meaning.specs.declared.note.Note.{Note}
 use Rattle.ix_meaning.specs.declared.note.Note.TheVariants.{Declares}
 use Rattle.ix_meaning.specs.Types.{boolean, Need, never, printed, of}
 use Rattle.ix_meaning.specs.Annotated.{Declaration, variable}
-use Rattle.ix_meaning.specs.Scope.{Scope, Known, meant, annot_scope}
+use Rattle.ix_meaning.specs.Scope.{Scope, Known, meant, annot_names}
 use Rattle.ix_meaning.specs.Rules.{duplicate_name, no_value, break_outside}
 use Rattle.ix_meaning.specs.Values.{reading, filling, check}
 
@@ -63,15 +63,15 @@ then_noted t f = record { declares = t.declares; names = t.names; notes = λ s. 
 
 -- ---- declarations of locals (JLS 14.4)
 
-abbrev pub known_as : LocalDecl → Scope → Option Ty → Known
-known_as d s ty = record { name = d.name.text; meaning = Local s.next; ty = ty; is_fixed = d.mods.is_final && is_some d.init }
+abbrev pub local_known : LocalDecl → Scope → Option Ty → Known
+local_known d s ty = record { name = d.name.text; meaning = Local s.next; ty = ty; is_fixed = d.mods.is_final && is_some d.init }
 
--- An annotation on a local sees the local itself, which it may not name.
-abbrev pub own_scope : LocalDecl → Scope → AnnotScope
-own_scope d s = annot_scope (record s { names = s.names ++ known_as d s None ∷ [] }) (Some (name.Local s.next))
+-- An annotation on a local may name what is in scope before it.
+abbrev pub own_names : LocalDecl → Scope → Names
+own_names d s = annot_names s (Some (name.Local s.next)) (Some d.name.text)
 
 abbrev pub local_declaration : LocalDecl → Scope → Declaration
-local_declaration d s = variable s.world.class (own_scope d s) d.mods.annots d.ty
+local_declaration d s = variable s.world.class (own_names d s) d.mods.annots d.ty
 
 abbrev pub declares_note : Span → Option Ty → List Claim → Bool → List Note
 declares_note p None claims free = []
@@ -91,7 +91,7 @@ pending d s = record s { pending = Some d.name.text }
 abbrev pub declared : LocalDecl → Telling
 declared d = record {
   declares = 1;
-  names = λ s. if is_taken s d.name then s.names else s.names ++ known_as d s (local_declaration d s).ty ∷ [];
+  names = λ s. if is_taken s d.name then s.names else s.names ++ local_known d s (local_declaration d s).ty ∷ [];
   notes = λ s.
       (local_declaration d s).notes
       ++ (duplicate_name (is_taken s d.name) d.name.span

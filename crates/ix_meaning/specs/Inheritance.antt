@@ -1,14 +1,11 @@
 -- Hiding and overriding (JLS 8.3, 8.4.8).
-use Rattle.std.specs.Prelude.{ℕ, ◌==◌, Bool, true, false, not, ◌&&◌, ◌||◌, if◌then◌else◌, Option, Some, None, is_some, List, [], ◌∷◌, ◌++◌}
+use Rattle.std.specs.Prelude.{ℕ, Bool, true, false, not, ◌&&◌, ◌||◌, if◌then◌else◌, Option, Some, None, is_some, List, [], ◌∷◌}
 use Rattle.std.specs.List.{list_any}
 use Rattle.ix_core.specs.declared.claim.Type_.{Type_ as Ty}
-use Rattle.ix_meaning.specs.declared.note.Meaning.{Meaning}
-use Rattle.ix_meaning.specs.declared.note.Meaning.TheVariants.{FieldNamed}
 use Rattle.ix_meaning.specs.declared.members.Field.{Field}
 use Rattle.ix_meaning.specs.declared.members.Signature.{Signature}
 use Rattle.ix_meaning.specs.Types.{same_type}
-use Rattle.ix_meaning.specs.Members.{World, Callee, own_field, is_method_named, nearest}
-use Rattle.ix_meaning.specs.Scope.{type_or_void}
+use Rattle.ix_meaning.specs.Members.{World, Callee, is_method_named, nearest}
 
 -- duplicate.name: a field hides an inherited field.
 abbrev pub hides : World → Field → Bool
@@ -46,25 +43,3 @@ some_differ _ _ = true
 abbrev pub differs_from : Signature → Option Callee → Bool
 differs_from m None = false
 differs_from m (Some other) = some_differ m.params other.signature.params || differ m.result other.signature.result
-
--- ---- the fields of `this` that an annotation may name: those of the class and then those that it inherits
-
-abbrev pub is_first : List Field → Field → Bool
-is_first seen f = not (is_some (own_field seen f.class f.name))
-
-abbrev pub claim_entry : ℕ → Option Meaning → Field → List (List ℕ × Ty × ℕ × Bool × Bool)
-claim_entry c (Some (FieldNamed k)) f = (f.name, type_or_void f.ty, k, not (f.class == c), f.is_final) ∷ []
-claim_entry c _ f = []
-
--- the instance fields of the class a, each name at its first place, as class c sees them
-abbrev pub claim_fields_in : ℕ → ℕ → List Field → List Field → List (List ℕ × Ty × ℕ × Bool × Bool)
-claim_fields_in c a seen [] = []
-claim_fields_in c a seen (f ∷ fs) =
-    (if f.class == a && is_first seen f then claim_entry c f.meaning f else []) ++ claim_fields_in c a (f ∷ seen) fs
-
-abbrev pub claim_fields_of : ℕ → List ℕ → List Field → List (List ℕ × Ty × ℕ × Bool × Bool)
-claim_fields_of c [] all = []
-claim_fields_of c (a ∷ cs) all = claim_fields_in c a [] all ++ claim_fields_of c cs all
-
-abbrev pub claim_fields : World → List Field → ℕ → List (List ℕ × Ty × ℕ × Bool × Bool)
-claim_fields w all c = claim_fields_of c (c ∷ w.supers c) all

@@ -1,14 +1,19 @@
 -- What names mean at a place (JLS 6.3, 6.4).
-use Rattle.std.specs.Prelude.{ℕ, Bool, false, if◌then◌else◌, Option, Some, None, List, [], ◌∷◌, ◌++◌, bytes_eq}
+use Rattle.std.specs.Prelude.{ℕ, ◌==◌, Bool, false, not, ◌&&◌, if◌then◌else◌, Option, Some, None, List, [], ◌∷◌, bytes_eq}
 use Rattle.ix_core.specs.declared.claim.Name.{Name}
 use Rattle.ix_core.specs.declared.claim.Type_.{Type_ as Ty}
 use Rattle.ix_core.specs.declared.claim.Type_.TheVariants.{Void}
-use Rattle.ix_annot.specs.declared.scope.Scope.{Scope as AnnotScope}
+use Rattle.ix_core.specs.declared.claim.Name.TheVariants as name
+use Rattle.ix_annot.specs.declared.scope.Found.{Found}
+use Rattle.ix_annot.specs.declared.texts.Naming.{Naming}
+use Rattle.ix_annot.specs.declared.texts.Naming.TheVariants.{Parameter, OfThis, Variable}
+use Rattle.ix_annot.specs.Named.{Names, found_as, or_else}
 use Rattle.ix_annot.specs.declared.scope.Target.TheVariants as on
 use Rattle.ix_meaning.specs.declared.note.Meaning.{Meaning}
-use Rattle.ix_meaning.specs.declared.note.Meaning.TheVariants.{Local, Param}
+use Rattle.ix_meaning.specs.declared.note.Meaning.TheVariants.{Local, Param, FieldNamed}
+use Rattle.ix_meaning.specs.declared.members.Field.{Field}
 use Rattle.ix_meaning.specs.Types.{Need}
-use Rattle.ix_meaning.specs.Members.{World}
+use Rattle.ix_meaning.specs.Members.{World, nearest}
 
 -- A parameter or a local in scope.
 pub record Known : Type 0 where
@@ -35,8 +40,8 @@ pub record Scope : Type 0 where
   pub names : List Known
   -- the number of the next local
   pub next : ℕ
-  -- the fields of `this` that an annotation may name: each with its number, whether it is inherited, and whether it is final
-  pub fields : List (List ℕ × Ty × ℕ × Bool × Bool)
+  -- whether an annotation may name fields of `this`
+  pub names_fields : Bool
 
 -- The first with that name: of two declarations with one name the first stays the one that is meant.
 abbrev pub meant : List ℕ → List Known → Option Known
@@ -54,22 +59,42 @@ abbrev pub type_or_void : Option Ty → Ty
 type_or_void None = Void
 type_or_void (Some t) = t
 
-abbrev pub param_entry : Meaning → List ℕ → Option Ty → List (List ℕ × Ty)
-param_entry (Param k) name ty = (name, type_or_void ty) ∷ []
-param_entry _ name ty = []
+-- an instance field, as class `c` sees it; a static field is none
+abbrev pub instance_field : ℕ → Option Meaning → Field → Option Found
+instance_field c (Some (FieldNamed k)) f = Some (found_as (name.FieldNamed k) (type_or_void f.ty) (not (f.class == c) && not f.is_final))
+instance_field c _ f = None
 
-abbrev pub local_entry : Meaning → List ℕ → Option Ty → List (List ℕ × Ty × ℕ)
-local_entry (Local k) name ty = (name, type_or_void ty, k) ∷ []
-local_entry _ name ty = []
+abbrev pub instance_field_in : ℕ → Option Field → Option Found
+instance_field_in c None = None
+instance_field_in c (Some f) = instance_field c f.meaning f
 
-abbrev pub params_of : List Known → List (List ℕ × Ty)
-params_of [] = []
-params_of (k ∷ ks) = param_entry k.meaning k.name k.ty ++ params_of ks
+-- The instance field of that name in the class, or else in the nearest superclass that declares one.
+abbrev pub field_of_this : Scope → List ℕ → Option Found
+field_of_this s text = if s.names_fields then nearest (λ a. instance_field_in s.class (s.world.field a text)) (s.class ∷ s.world.supers s.class) else None
 
-abbrev pub locals_of : List Known → List (List ℕ × Ty × ℕ)
-locals_of [] = []
-locals_of (k ∷ ks) = local_entry k.meaning k.name k.ty ++ locals_of ks
+abbrev pub known_as : Meaning → Option Ty → Option Found
+known_as (Param k) ty = Some (found_as (name.Param k) (type_or_void ty) false)
+known_as (Local k) ty = Some (found_as (name.Local k) (type_or_void ty) false)
+known_as _ ty = None
+
+abbrev pub known_found : Option Known → Option Found
+known_found None = None
+known_found (Some k) = known_as k.meaning k.ty
+
+abbrev pub is_param : ℕ → Meaning → Bool
+is_param number (Param k) = k == number
+is_param number _ = false
+
+abbrev pub param_numbered : ℕ → List Known → Option Known
+param_numbered number [] = None
+param_numbered number (k ∷ ks) = if is_param number k.meaning then Some k else param_numbered number ks
+
+-- What a name in an annotation means. `own_local` is the name of the local that it stands on, which means nothing yet.
+abbrev pub found_at : Scope → Option (List ℕ) → Naming → Option Found
+found_at s own_local (Parameter number) = known_found (param_numbered number s.names)
+found_at s own_local (OfThis text) = field_of_this s text
+found_at s own_local (Variable text) = if is_pending own_local text then None else or_else (known_found (meant text s.names)) (field_of_this s text)
 
 -- the target is given with each annotation
-abbrev pub annot_scope : Scope → Option Name → AnnotScope
-annot_scope s own = record { params = params_of s.names; locals = locals_of s.names; fields = s.fields; target = on.Other; own = own }
+abbrev pub annot_names : Scope → Option Name → Option (List ℕ) → Names
+annot_names s own own_local = record { found = λ naming. found_at s own_local naming; target = on.Other; own = own }

@@ -12,7 +12,6 @@ use Rattle.ix_tree.specs.declared.decl.Member.{Member}
 use Rattle.ix_tree.specs.declared.decl.Member.TheVariants as member
 use Rattle.ix_tree.specs.declared.expr.Expr.{Expr}
 use Rattle.ix_core.specs.declared.claim.Name.TheVariants as name
-use Rattle.ix_core.specs.declared.claim.Type_.{Type_ as Ty}
 use Rattle.ix_core.specs.declared.claim.Type_.TheVariants.{Void}
 use Rattle.ix_annot.specs.declared.scope.Target.TheVariants as on
 use Rattle.ix_meaning.specs.declared.note.Meaning.{Meaning}
@@ -26,28 +25,24 @@ use Rattle.ix_meaning.specs.Types.{Need, need_like, wrong_if}
 use Rattle.ix_meaning.specs.Classes.{first_or, is_cyclic, parents}
 use Rattle.ix_meaning.specs.Annotated.{Given, given, aimed, Declaration, variable, static_field, of_method, of_result}
 pub use Rattle.ix_meaning.specs.Members.{next_member, next_fields}
-use Rattle.ix_meaning.specs.Members.{World, world, field_of, fields, methods, signature, param_type, constructor_params}
-use Rattle.ix_meaning.specs.Scope.{Scope, Known, annot_scope}
+use Rattle.ix_meaning.specs.Members.{World, world, field_of, methods, signature, param_type, constructor_params}
+use Rattle.ix_meaning.specs.Scope.{Scope, Known, annot_names}
 use Rattle.ix_meaning.specs.Rules.{unknown_name, duplicate_name, cyclic_class, wrong_arguments}
 use Rattle.ix_meaning.specs.Values.{arguments, given_to, reading}
 use Rattle.ix_meaning.specs.Bodies.{all_told, telling, declares_note, init_notes}
-use Rattle.ix_meaning.specs.Inheritance.{hides, clashes, overridden, differs_from, claim_fields}
+use Rattle.ix_meaning.specs.Inheritance.{hides, clashes, overridden, differs_from}
 
 -- ---- what a member stands in
-
-abbrev pub Nameable : Type 0
-Nameable = List (List ℕ × Ty × ℕ × Bool × Bool)
 
 pub record Place : Type 0 where
   pub world : World
   -- all methods of the source
   pub methods : List Signature
-  -- the class, its name, and the fields of `this` that an annotation in it may name
+  -- the class and its name
   pub class : ℕ
   pub class_name : List ℕ
   -- whether it extends a class, and which
   pub extends : Bool
-  pub fields : Nameable
 
 -- the scope of a member that declares no parameters
 abbrev pub member_scope : Place → Bool → Scope
@@ -61,7 +56,7 @@ member_scope l has_object = record {
   pending = None;
   names = [];
   next = 0;
-  fields = if has_object then l.fields else [];
+  names_fields = has_object;
 }
 
 -- ---- fields (JLS 8.3)
@@ -77,7 +72,7 @@ field_number _ = 0
 abbrev pub field_declaration : Place → Field → LocalDecl → Declaration
 field_declaration l f d =
     if f.is_static then static_field l.world.class d.mods.annots d.ty
-    else variable l.world.class (annot_scope (member_scope l true) (Some (name.FieldNamed (field_number f.meaning)))) d.mods.annots d.ty
+    else variable l.world.class (annot_names (member_scope l true) (Some (name.FieldNamed (field_number f.meaning))) None) d.mods.annots d.ty
 
 abbrev pub field_notes : Place → Field → LocalDecl → List Note
 field_notes l f d =
@@ -97,7 +92,7 @@ params_from l k [] = []
 params_from l k (d ∷ ds) = param_known l k d ∷ params_from l (k + 1) ds
 
 abbrev pub param_declaration : Place → Scope → ℕ → LocalDecl → Declaration
-param_declaration l s k d = variable l.world.class (annot_scope s (Some (name.Param k))) d.mods.annots d.ty
+param_declaration l s k d = variable l.world.class (annot_names s (Some (name.Param k)) None) d.mods.annots d.ty
 
 abbrev pub is_named_in : List LocalDecl → List ℕ → Bool
 is_named_in ds name = list_any (λ d. bytes_eq d.name.text name) ds
@@ -133,11 +128,11 @@ nothing_declared = record { ty = Some Void; claims = []; notes = [] }
 
 -- The result, with the annotations that speak of it. Without a type no annotation may speak of it.
 abbrev pub result_of : Place → Scope → List Annot → Option TypeTree → Declaration
-result_of l s annots None = record { ty = Some Void; claims = []; notes = (given (aimed (annot_scope s None) on.Other) annots).notes }
-result_of l s annots (Some ty) = variable l.world.class (annot_scope s None) annots ty
+result_of l s annots None = record { ty = Some Void; claims = []; notes = (given (aimed (annot_names s None None) on.Other) annots).notes }
+result_of l s annots (Some ty) = variable l.world.class (annot_names s None None) annots ty
 
 abbrev pub method_given : Place → Scope → Signature → List Annot → Given
-method_given l s m annots = given (aimed (annot_scope s None) (if m.constructor then on.Constructor else on.Method)) (if m.constructor then annots else of_method annots)
+method_given l s m annots = given (aimed (annot_names s None None) (if m.constructor then on.Constructor else on.Method)) (if m.constructor then annots else of_method annots)
 
 abbrev pub result_given : Place → Scope → Signature → MethodDecl → Declaration
 result_given l s m d = if m.constructor then nothing_declared else result_of l s (of_result d.mods.annots) d.result
@@ -241,8 +236,8 @@ abbrev pub parent_use : World → Option Ident → List Note
 parent_use w None = []
 parent_use w (Some name) = class_use_notes (w.class name.text) name.span
 
-abbrev pub place : World → List Field → List Signature → ℕ → ClassDecl → Place
-place w fs ms c k = record { world = w; methods = ms; class = c; class_name = k.name.text; extends = is_some k.parent; fields = claim_fields w fs c }
+abbrev pub place : World → List Signature → ℕ → ClassDecl → Place
+place w ms c k = record { world = w; methods = ms; class = c; class_name = k.name.text; extends = is_some k.parent }
 
 abbrev pub head_notes : World → Bool → ℕ → ClassDecl → List Note
 head_notes w cyclic c k =
@@ -250,16 +245,16 @@ head_notes w cyclic c k =
     ++ (parent_use w k.parent
     ++ cyclic_class cyclic k.name.span)
 
-abbrev pub class_notes : World → List (Option ℕ) → List Field → List Signature → ℕ → ℕ → ClassDecl → List Note
-class_notes w ps fs ms c next k =
+abbrev pub class_notes : World → List (Option ℕ) → List Signature → ℕ → ℕ → ClassDecl → List Note
+class_notes w ps ms c next k =
     head_notes w (is_cyclic ps c) c k
-    ++ (member_notes (place w fs ms c k) (member_named k.members) 0 next k.members ++ default_notes_of w c k)
+    ++ (member_notes (place w ms c k) (member_named k.members) 0 next k.members ++ default_notes_of w c k)
 
 -- the classes from that number on
-abbrev pub notes_from : World → List (Option ℕ) → List Field → List Signature → ℕ → ℕ → List ClassDecl → List Note
-notes_from w ps fs ms c next [] = []
-notes_from w ps fs ms c next (k ∷ ks) = class_notes w ps fs ms c next k ++ notes_from w ps fs ms (c + 1) (next_fields next k.members) ks
+abbrev pub notes_from : World → List (Option ℕ) → List Signature → ℕ → ℕ → List ClassDecl → List Note
+notes_from w ps ms c next [] = []
+notes_from w ps ms c next (k ∷ ks) = class_notes w ps ms c next k ++ notes_from w ps ms (c + 1) (next_fields next k.members) ks
 
 -- What a source says.
 abbrev pub notes : List ClassDecl → List Note
-notes all = notes_from (world all) (parents all) (fields all) (methods all) 0 0 all
+notes all = notes_from (world all) (parents all) (methods all) 0 0 all
