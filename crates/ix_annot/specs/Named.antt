@@ -7,6 +7,7 @@ use Rattle.ix_core.specs.declared.claim.Name.{Name}
 use Rattle.ix_core.specs.declared.claim.Name.TheVariants.{Param, Local, FieldNamed}
 use Rattle.ix_core.specs.SameClaims.{same_name}
 use Rattle.ix_annot.specs.declared.scope.Scope.{Scope}
+use Rattle.ix_annot.specs.declared.scope.Target.{Target}
 use Rattle.ix_annot.specs.declared.scope.Holds.{Holds}
 use Rattle.ix_annot.specs.declared.scope.Holds.TheVariants as holds
 use Rattle.ix_annot.specs.declared.scope.Found.{Found}
@@ -58,11 +59,21 @@ abbrev pub is_own_local : Scope → Option Name → List ℕ → Bool
 is_own_local scope (Some (Local number)) name = has_local scope.locals number name
 is_own_local scope _ name = false
 
--- What a name in an annotation means. The name of the local that the annotation stands on means nothing yet.
-abbrev pub found : Scope → Naming → Option Found
-found scope (Parameter k) = param_numbered scope.params k
-found scope (OfThis name) = field_named scope.fields name
-found scope (Variable name) = if is_own_local scope scope.own name then None else variable_named scope name
+-- What a name in an annotation means in a scope. The name of the local that the annotation stands on means nothing yet.
+abbrev pub found_in : Scope → Naming → Option Found
+found_in scope (Parameter k) = param_numbered scope.params k
+found_in scope (OfThis name) = field_named scope.fields name
+found_in scope (Variable name) = if is_own_local scope scope.own name then None else variable_named scope name
+
+-- What an annotation may name and what it stands on, however a scope is kept.
+pub record Names : Type 0 where
+  pub found : Naming → Option Found
+  pub target : Target
+  -- the declaration that it stands on
+  pub own : Option Name
+
+abbrev pub names_in : Scope → Names
+names_in scope = record { found = λ naming. found_in scope naming; target = scope.target; own = scope.own }
 
 abbrev pub is_own : Option Name → Name → Bool
 is_own None name = false
@@ -79,5 +90,5 @@ abbrev pub fitting : Holds → Option Name → Option Found → Option Name
 fitting need own None = None
 fitting need own (Some variable) = if same_holding need variable.holds && not (is_own own variable.name) then Some variable.name else None
 
-abbrev pub named : Scope → Holds → Naming → Option Name
-named scope need naming = fitting need scope.own (found scope naming)
+abbrev pub named : Names → Holds → Naming → Option Name
+named names need naming = fitting need names.own (names.found naming)

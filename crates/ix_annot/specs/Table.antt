@@ -1,5 +1,5 @@
 -- The annotations: what each may stand on and what it claims (Checker Framework manual, Index Checker and Constant Value Checker).
-use Rattle.std.specs.Prelude.{ℕ, ◌+◌, ℤ, pos, neg_ℤ, Bool, true, false, ◌||◌, if◌then◌else◌, Option, Some, None, List, [], ◌∷◌, length, codes, bytes_eq}
+use Rattle.std.specs.Prelude.{ℕ, ◌+◌, ℤ, pos, neg_ℤ, Bool, true, false, if◌then◌else◌, Option, Some, None, List, [], ◌∷◌, length, codes, bytes_eq}
 use Rattle.ix_tree.specs.declared.annot.Annot.{Annot}
 use Rattle.ix_tree.specs.declared.annot.AnnotArg.{AnnotArg}
 use Rattle.ix_tree.specs.declared.annot.AnnotValue.{AnnotValue}
@@ -9,7 +9,6 @@ use Rattle.ix_annot.specs.declared.scope.Target.{Target}
 use Rattle.ix_annot.specs.declared.scope.Target.TheVariants as on
 use Rattle.ix_annot.specs.declared.table.Targets.{Targets}
 use Rattle.ix_annot.specs.declared.table.Targets.TheVariants.{IntOrElement, Int, Array, Callable, Method}
-use Rattle.ix_annot.specs.declared.table.EachArray.{EachArray}
 use Rattle.ix_annot.specs.declared.table.EachArray.TheVariants.{Below, SameLength, SearchResult, NotFound}
 use Rattle.ix_annot.specs.declared.table.Says.{Says}
 use Rattle.ix_annot.specs.declared.table.Says.TheVariants.{Nothing, EffectFree, AtLeast, Between, LengthAtLeast, Arrays, Offsets, Bounds}

@@ -4,11 +4,10 @@ ghost use Rattle.std.specs.Prelude.{◌≡◌, ◌≢◌, ◌<◌, ◌^◌, leng
 ghost use Rattle.std.specs.List.{list_any};
 ghost use Rattle.ix_annot.specs.Expansion as spec;
 ghost use Rattle.ix_annot.specs.Arguments.{preceded_by};
-ghost use Rattle.ix_annot.specs.Named.{found};
 ghost use Rattle.ix_annot.specs.declared.scope.AnnotError.TheVariants as error;
 
 use crate::arguments::{Plan, Written, planned};
-use crate::naming::{Names, named};
+use crate::naming::{InScope, Names, named};
 use crate::scope::{AnnotError, Claims, Holds, Scope};
 use crate::table::{EachArray, counted, fits, row_named};
 use crate::texts::{Naming, Offset};
@@ -32,8 +31,7 @@ fn array_claim(each: EachArray, array: Name) -> Claim
 }
 
 fn offset_named<N: Names>(names: &N, offset: &Offset) -> Option<(Off, i32)>
-    requires few_params { length (N.scope names.now).params < 2 ^ 32 }
-    ensures { result ≡ spec.offset_named (N.scope names.now) offset.now }
+    ensures { result ≡ spec.offset_named (N.names names.now) offset.now }
 {
     match offset {
         Offset::Constant(c) => Some((Off::Nothing, *c)),
@@ -44,8 +42,7 @@ fn offset_named<N: Names>(names: &N, offset: &Offset) -> Option<(Off, i32)>
 
 /// The claim with what its names mean; none where a name is bad.
 fn claim_of<N: Names>(names: &N, written: &Written) -> Option<Claim>
-    requires few_params { length (N.scope names.now).params < 2 ^ 32 }
-    ensures { result ≡ spec.claim_of (N.scope names.now) written.now }
+    ensures { result ≡ spec.claim_of (N.names names.now) written.now }
 {
     match written {
         Written::OfArray(each, array) => {
@@ -65,8 +62,7 @@ fn claim_of<N: Names>(names: &N, written: &Written) -> Option<Claim>
 }
 
 fn may_change<N: Names>(names: &N, naming: &Naming) -> bool
-    requires few_params { length (N.scope names.now).params < 2 ^ 32 }
-    ensures { result ≡ spec.may_change (found (N.scope names.now) naming.now) }
+    ensures { result ≡ spec.may_change ((N.names names.now).found naming.now) }
 {
     match names.found(naming) {
         None => false,
@@ -75,8 +71,7 @@ fn may_change<N: Names>(names: &N, naming: &Naming) -> bool
 }
 
 fn offset_may_change<N: Names>(names: &N, offset: &Offset) -> bool
-    requires few_params { length (N.scope names.now).params < 2 ^ 32 }
-    ensures { result ≡ spec.offset_may_change (N.scope names.now) offset.now }
+    ensures { result ≡ spec.offset_may_change (N.names names.now) offset.now }
 {
     match offset {
         Offset::Constant(_) => false,
@@ -85,8 +80,7 @@ fn offset_may_change<N: Names>(names: &N, offset: &Offset) -> bool
 }
 
 fn names_inherited<N: Names>(names: &N, written: &Written) -> bool
-    requires few_params { length (N.scope names.now).params < 2 ^ 32 }
-    ensures { result ≡ spec.names_inherited (N.scope names.now) written.now }
+    ensures { result ≡ spec.names_inherited (N.names names.now) written.now }
 {
     match written {
         Written::OfArray(_, naming) | Written::Less(naming, _) => may_change(names, naming),
@@ -97,8 +91,7 @@ fn names_inherited<N: Names>(names: &N, written: &Written) -> bool
 }
 
 fn some_inherited<N: Names>(names: &N, mut written: &[Written]) -> bool
-    requires few_params { length (N.scope names.now).params < 2 ^ 32 }
-    ensures { result ≡ list_any (spec.names_inherited (N.scope names.now)) written.entry.now }
+    ensures { result ≡ list_any (spec.names_inherited (N.names names.now)) written.entry.now }
 {
     while let [one, others @ ..] = written {
         if names_inherited(names, one) {
@@ -116,8 +109,7 @@ fn claims_behind<N: Names>(
     names: &N,
     mut written: &[Written],
 ) -> Result<Option<List<Claim>>, AllocError>
-    requires few_params { length (N.scope names.now).params < 2 ^ 32 }
-    ensures { IfOk result (λ all. all ≡ preceded_by claims (spec.claims_of (N.scope names.now) written.entry.now)) }
+    ensures { IfOk result (λ all. all ≡ preceded_by claims (spec.claims_of (N.names names.now) written.entry.now)) }
 {
     while let [one, others @ ..] = written {
         let Some(claim) = claim_of(names, one) else {
@@ -136,9 +128,8 @@ fn is_field(own: Option<Name>) -> bool
 }
 
 fn with_plan<N: Names>(names: &N, plan: Plan) -> Result<Claims, AnnotError>
-    requires few_params { length (N.scope names.now).params < 2 ^ 32 }
-    ensures claims { IfOk result (λ claims. spec.with_claims (N.scope names.now) plan (spec.claims_of (N.scope names.now) plan.written) ≡ Good claims) }
-    ensures error { IfErr result (λ e. e ≢ error.Memory → spec.with_claims (N.scope names.now) plan (spec.claims_of (N.scope names.now) plan.written) ≡ Bad e) }
+    ensures claims { IfOk result (λ claims. spec.with_claims (N.names names.now) plan (spec.claims_of (N.names names.now) plan.written) ≡ Good claims) }
+    ensures error { IfErr result (λ e. e ≢ error.Memory → spec.with_claims (N.names names.now) plan (spec.claims_of (N.names names.now) plan.written) ≡ Bad e) }
 {
     let Plan {
         first,
@@ -157,9 +148,8 @@ fn with_plan<N: Names>(names: &N, plan: Plan) -> Result<Claims, AnnotError>
 /// The claims of an annotation, or its one error, with no regard to how many claims it counts.
 #[tactic(auto, unfolding(crate::specs::Expansion::expanded))]
 pub fn expand<N: Names>(alloc: Global, annot: &Annot, names: &N) -> Result<Claims, AnnotError>
-    requires few_params { length (N.scope names.now).params < 2 ^ 32 }
-    ensures claims { IfOk result (λ claims. spec.expanded annot.now (N.scope names.now) ≡ Good claims) }
-    ensures error { IfErr result (λ e. e ≢ error.Memory → spec.expanded annot.now (N.scope names.now) ≡ Bad e) }
+    ensures claims { IfOk result (λ claims. spec.expanded annot.now (N.names names.now) ≡ Good claims) }
+    ensures error { IfErr result (λ e. e ≢ error.Memory → spec.expanded annot.now (N.names names.now) ≡ Bad e) }
 {
     let Some((targets, says)) = row_named(&annot.name.text) else {
         return Err(AnnotError::Unknown);
@@ -184,6 +174,6 @@ pub fn claims(alloc: Global, annot: &Annot, scope: &Scope) -> Result<Claims, Ann
     if counted(annot) > MOST_CLAIMS {
         Err(AnnotError::TooMany)
     } else {
-        expand(alloc, annot, scope)
+        expand(alloc, annot, &InScope { scope })
     }
 }

@@ -18,7 +18,7 @@ mod words;
 
 pub use arguments::{Plan, Written};
 pub use expansion::{MOST_CLAIMS, claims, expand};
-pub use naming::{Names, same_name, what_holds};
+pub use naming::{InScope, Names, same_name, what_holds};
 pub use same::same_claim;
 pub use scope::{AnnotError, Claims, Found, Holds, Scope, Target};
 pub use table::{EachArray, Says, Targets, counted, fits, is_of_method, row_named};

@@ -3,30 +3,27 @@
 ghost use Rattle.std.specs.Prelude.{◌≡◌, ◌+◌, ◌<◌, ◌^◌, length};
 ghost use Rattle.ix_core.specs.SameClaims.{same_name};
 ghost use Rattle.ix_annot.specs.Named as spec;
-ghost use Rattle.ix_annot.specs.declared.scope.Scope.{Scope};
 
 use crate::scope::{Found, Holds, Scope, Target};
 use crate::texts::Naming;
 use ix_core::{Base, Name, Type_};
 use ix_text::Text;
 
-/// What an annotation may name, and what it stands on: a `Scope`, or what answers as one.
+/// What an annotation may name, and what it stands on, however a scope is kept.
 pub trait Names {
-    /// The scope as which it answers.
-    ghost scope: { Self → Scope };
+    ghost names: { Self → spec.Names };
 
-    /// What the name means, if it means a variable. A parameter's number has 32 bits.
+    /// What the name means, if it means a variable.
     fn found(&self, naming: &Naming) -> Option<Found>
-        requires few_params { length (scope self.now).params < 2 ^ 32 }
-        ensures found { result ≡ spec.found (scope self.now) naming.now };
+        ensures found { result ≡ (names self.now).found naming.now };
 
     /// What the annotation stands on.
     fn target(&self) -> Target
-        ensures target { result ≡ (scope self.now).target };
+        ensures target { result ≡ (names self.now).target };
 
     /// The declaration that it stands on.
     fn own(&self) -> Option<Name>
-        ensures own { result ≡ (scope self.now).own };
+        ensures own { result ≡ (names self.now).own };
 }
 
 /// Whether two names are one variable.
@@ -73,8 +70,7 @@ fn same_holding(a: Holds, b: Holds) -> bool
 
 /// The variable that is named, where it holds what the place needs and is not the declaration itself.
 pub fn named<N: Names>(names: &N, need: Holds, naming: &Naming) -> Option<Name>
-    requires few_params { length (N.scope names.now).params < 2 ^ 32 }
-    ensures { result ≡ spec.named (N.scope names.now) need naming.now }
+    ensures { result ≡ spec.named (N.names names.now) need naming.now }
 {
     let variable = names.found(naming)?;
     if same_holding(need, variable.holds) && !is_own(names.own(), variable.name) {
@@ -84,54 +80,59 @@ pub fn named<N: Names>(names: &N, need: Holds, naming: &Naming) -> Option<Name>
     }
 }
 
-impl Names for Scope {
-    ghost scope = { λ scope. scope };
+/// A scope whose parameters have numbers.
+#[derive(Drop)]
+pub struct InScope<'a> {
+    pub scope: &'a Scope,
+    ghost few_params: { length scope.now.params < 2 ^ 32 },
+}
+
+impl Names for InScope<'_> {
+    ghost names = { λ place. spec.names_in place.scope.now };
 
     fn found(&self, naming: &Naming) -> Option<Found> {
         match naming {
-            Naming::Parameter(k) => param_numbered(self.params.as_slice(), *k),
-            Naming::OfThis(name) => field_named(self.fields.as_slice(), name),
+            Naming::Parameter(k) => param_numbered(self.scope.params.as_slice(), *k),
+            Naming::OfThis(name) => field_named(self.scope.fields.as_slice(), name),
             Naming::Variable(name) => {
-                if self.is_own_local(name) {
+                if is_own_local(self.scope, name) {
                     None
                 } else {
-                    self.variable_named(name)
+                    variable_named(self.scope, name)
                 }
             }
         }
     }
 
     fn target(&self) -> Target {
-        self.target
+        self.scope.target
     }
 
     fn own(&self) -> Option<Name> {
-        self.own
+        self.scope.own
     }
 }
 
-impl Scope {
-    fn is_own_local(&self, name: &Text) -> bool
-        ensures { result ≡ spec.is_own_local self.now self.now.own name.now }
-    {
-        match self.own {
-            Some(Name::Local(number)) => has_local(self.locals.as_slice(), number, name),
-            _ => false,
-        }
+fn is_own_local(scope: &Scope, name: &Text) -> bool
+    ensures { result ≡ spec.is_own_local scope.now scope.now.own name.now }
+{
+    match scope.own {
+        Some(Name::Local(number)) => has_local(scope.locals.as_slice(), number, name),
+        _ => false,
     }
+}
 
-    fn variable_named(&self, name: &Text) -> Option<Found>
-        requires few_params { length self.now.params < 2 ^ 32 }
-        ensures { result ≡ spec.variable_named self.now name.now }
-    {
-        if let Some(local) = local_named(self.locals.as_slice(), name) {
-            return Some(local);
-        }
-        if let Some(param) = param_named(self.params.as_slice(), name) {
-            return Some(param);
-        }
-        field_named(self.fields.as_slice(), name)
+fn variable_named(scope: &Scope, name: &Text) -> Option<Found>
+    requires few_params { length scope.now.params < 2 ^ 32 }
+    ensures { result ≡ spec.variable_named scope.now name.now }
+{
+    if let Some(local) = local_named(scope.locals.as_slice(), name) {
+        return Some(local);
     }
+    if let Some(param) = param_named(scope.params.as_slice(), name) {
+        return Some(param);
+    }
+    field_named(scope.fields.as_slice(), name)
 }
 
 fn found_as(name: Name, ty: &Type_, may_change: bool) -> Found

@@ -20,7 +20,7 @@ use Rattle.ix_core.proofs.TypeLaws.{WaysEnd}
 
 -- ---- lists of numbers
 
-among_all : (test : ℕ → Bool) (numbers : List ℕ) (number : ℕ) → list_all test numbers ≡ true → is_among numbers number ≡ true → test number ≡ true
+pub among_all : (test : ℕ → Bool) (numbers : List ℕ) (number : ℕ) → list_all test numbers ≡ true → is_among numbers number ≡ true → test number ≡ true
 among_all test [] number all e = absurd (false≢true e)
 among_all test (first ∷ numbers) number all e =
     let parts = and_parts (test first) (list_all test numbers) all in
@@ -74,7 +74,7 @@ module _ (program : Program) where
     classes_all : classes_fit program 0 program.classes ≡ true
     classes_all = (and_parts (classes_fit program 0 program.classes) _ formed).0
 
-    fields_all : fields_fit program 0 program.fields ≡ true
+    pub fields_all : fields_fit program 0 program.fields ≡ true
     fields_all = (and_parts (fields_fit program 0 program.fields) _ (and_parts (classes_fit program 0 program.classes) _ formed).1).0
 
     methods_all : methods_fit program program.methods locals ≡ true
@@ -93,7 +93,7 @@ module _ (program : Program) where
     pub field_type_is : (number : ℕ) → number < length program.fields → is_type program (field_at program number).ty ≡ true
     field_type_is number lt = field_has 0 program.fields number fields_all lt
 
-    class_is : (number : ℕ) → number < length program.classes → class_fits program number (class_at program number) ≡ true
+    pub class_is : (number : ℕ) → number < length program.classes → class_fits program number (class_at program number) ≡ true
     class_is number lt = let h : 0 + number ≡ number = omega arith in subst (λ n. class_fits program n (class_at program number) ≡ true) h (class_has 0 program.classes number classes_all lt)
 
     past_class : (number : ℕ) → length program.classes ≤ number → class_at program number ≡ no_class

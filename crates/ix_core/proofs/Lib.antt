@@ -1,6 +1,7 @@
 pub mod Cases
 pub mod Heaps
 pub mod Kept
+pub mod Writes
 pub mod MetInputs
 pub mod Ancestors
 pub mod TypeLaws
@@ -13,6 +14,10 @@ pub mod TypedMoves
 pub mod TypedCalls
 pub mod TypedRuns
 pub mod TypedStarts
+pub mod TypedFields
+pub mod FormedWorld
+pub mod GoodStarts
+pub mod RunsAreSafe
 pub mod GoodIsSafe
 pub mod Waiting
 pub mod Entered
@@ -20,6 +25,7 @@ pub mod Stack
 pub mod LawsAreSafe
 pub mod SlotSteps
 pub mod FieldSteps
+pub mod ArraySteps
 pub mod WorldTables
 pub mod LawsCanBeMet
 pub mod RepeatedClaims

@@ -28,10 +28,11 @@ use Rattle.ix_core.proofs.Entered.{has_on, none_some}
 use Rattle.ix_core.proofs.FieldSteps.{at_kept}
 use Rattle.ix_core.proofs.Heaps.{value_other}
 use Rattle.ix_core.proofs.TypeLaws.{WaysEnd, of_above}
-use Rattle.ix_core.proofs.TypedSteps.{grown_typed, write_later, written_typed, default_typed, copies_typed, array_typed, all_later, AllTyped}
+use Rattle.ix_core.proofs.TypedSteps.{grown_typed, written_typed, default_typed, copies_typed, array_typed, all_later, AllTyped}
 use Rattle.ix_core.proofs.TypedValues.{array_there, slots_later, assign_typed, slot_there, read_typed}
 use Rattle.ix_core.proofs.Waiting.{later_push, later_refl}
 use Rattle.ix_core.proofs.WorldTables.{world_apart}
+use Rattle.ix_core.proofs.Writes.{write_later}
 
 -- What slots and a heap became: as many slots, `this` as it was, typed, on a later heap that is typed.
 pub record Became (program : Program) (method : Method) (slots : List Held) (heap : Heap) (types : Types) (later : List Held) (after : Heap) : Type 0 where
@@ -202,7 +203,7 @@ module _ (program : Program) (ends : WaysEnd program) (method : Method) (local_t
         let on = array_there program heap number ty is kind in
         let cell = unsigned_abs (int_at slots index) in
         let new : Object = with_cells object (slice_set object.cells cell (value_at slots value)) in
-        let later : Later heap (write_at heap number cell (value_at slots value)) = write_later program heap number new on refl (length-set object.cells cell (value_at slots value)) in record {
+        let later : Later heap (write_at heap number cell (value_at slots value)) = write_later heap number new on refl (length-set object.cells cell (value_at slots value)) in record {
           size = refl;
           this = λ e. refl;
           typed = slots_later program types slots heap (write_at heap number cell (value_at slots value)) later typed;
@@ -253,7 +254,7 @@ module _ (program : Program) (ends : WaysEnd program) (method : Method) (local_t
         found_good number (Some cell) placed =
             let here = object_at heap number in
             let new : Object = with_cells here (slice_set here.cells cell (value_at slots value)) in
-            let later : Later heap (write_at heap number cell (value_at slots value)) = write_later program heap number new (has_on tables.place heap number field cell placed) refl (length-set here.cells cell (value_at slots value)) in record {
+            let later : Later heap (write_at heap number cell (value_at slots value)) = write_later heap number new (has_on tables.place heap number field cell placed) refl (length-set here.cells cell (value_at slots value)) in record {
               size = refl;
               this = λ e. refl;
               typed = slots_later program types slots heap (write_at heap number cell (value_at slots value)) later typed;

@@ -30,6 +30,15 @@ use Rattle.ix_core.proofs.TypedCalls.{entry_typed, body_lead, params_count, meth
 use Rattle.ix_core.proofs.TypedRuns.{run_typed}
 use Rattle.ix_core.proofs.TypedSteps.{ObjectTyped}
 
+-- ---- heaps
+
+pub kind_at : (before : Heap) (object : Object) (rest : Heap) → object_at (before ++ object ∷ rest) (length before) ≡ object
+kind_at before object rest = object_is (before ++ object ∷ rest) (length before) ∙ get_or-append_seam before object rest nothing
+
+pub one_more : (before : Heap) (object : Object) (rest : Heap) → ((before ++ object ∷ []) ++ rest) ≡ (before ++ object ∷ rest)
+one_more [] object rest = refl
+one_more (first ∷ before) object rest = ap (λ l. first ∷ l) (one_more before object rest)
+
 -- ---- inputs
 
 module _ (program : Program) where
@@ -71,24 +80,17 @@ module _ (program : Program) where
   inputs_heap (Flag answer ∷ inputs) [] heap have number = nothing_typed heap
   inputs_heap (Ints ns ∷ inputs) [] heap have number = nothing_typed heap
 
-  inputs_count : (inputs : List Input) (types : List Type_) → HaveTypes inputs types → length inputs ≡ length types
+  pub inputs_count : (inputs : List Input) (types : List Type_) → HaveTypes inputs types → length inputs ≡ length types
   inputs_count [] [] have = refl
   inputs_count (input ∷ inputs) (ty ∷ types) have = ap suc (inputs_count inputs types have.1)
   inputs_count [] (ty ∷ types) have = absurd have
   inputs_count (input ∷ inputs) [] have = absurd have
 
-  values_count : (number : ℕ) (inputs : List Input) → length (input_values number inputs) ≡ length inputs
+  pub values_count : (number : ℕ) (inputs : List Input) → length (input_values number inputs) ≡ length inputs
   values_count number [] = refl
   values_count number (Whole n ∷ inputs) = ap suc (values_count number inputs)
   values_count number (Flag answer ∷ inputs) = ap suc (values_count number inputs)
   values_count number (Ints ns ∷ inputs) = ap suc (values_count (number + 1) inputs)
-
-  kind_at : (before : Heap) (object : Object) (rest : Heap) → object_at (before ++ object ∷ rest) (length before) ≡ object
-  kind_at before object rest = object_is (before ++ object ∷ rest) (length before) ∙ get_or-append_seam before object rest nothing
-
-  one_more : (before : Heap) (object : Object) (rest : Heap) → ((before ++ object ∷ []) ++ rest) ≡ (before ++ object ∷ rest)
-  one_more [] object rest = refl
-  one_more (first ∷ before) object rest = ap (λ l. first ∷ l) (one_more before object rest)
 
   -- the value of an input is of its parameter's type, where arrays stand before it
   abbrev Given : List Input → List Type_ → Heap → ℕ → ℕ → Type_ → Type 0

@@ -1,11 +1,10 @@
 -- What the grammar gives a list of tokens: one tree or one error, and never both.
-use Rattle.std.proofs.Common.{◌≡◌, ◌≢◌, List, [], ◌∷◌, length, Ok, Err, refl, ap, arith, ◌⊎◌, inl, inr}
+use Rattle.std.proofs.Common.{◌≡◌, List, [], ◌∷◌, Ok, Err, refl, arith, ◌⊎◌, inl, inr}
 use Rattle.ix_lexer.specs.declared.token.Token.{Token}
 use Rattle.ix_tree.specs.declared.decl.Unit.{Unit as Source}
 use Rattle.ix_grammar.specs.declared.classes.FoundUnit.{FoundUnit}
 use Rattle.ix_grammar.specs.declared.error.ParseError.{ParseError}
 use Rattle.ix_grammar.specs.Refusals.{HasTree, Refused}
-use Rattle.ix_descent.specs.declared.stop.Stop.{Stop}
 use Rattle.ix_descent.specs.declared.stop.Stop.TheVariants as stop
 use Rattle.ix_descent.specs.Rule.{Outcome, run}
 use Rattle.ix_descent.specs.SourceRules.{source}

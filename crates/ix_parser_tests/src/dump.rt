@@ -76,6 +76,7 @@ fn texts(out: &mut Dump, texts: &[Text]) {
 fn value(out: &mut Dump, value: &AnnotValue) {
     match value {
         AnnotValue::Number(number) => out.number(*number),
+        AnnotValue::Truth(truth) => out.put(if *truth { "true" } else { "false" }),
         AnnotValue::Texts(list) => {
             out.put("{");
             texts(out, list.as_slice());

@@ -48,12 +48,12 @@ const SOURCES: &[(&str, &str)] = &[
         "(class A@6-7 (decl [(@ X@11-12 10-14) ] (type int 0 15-18) a@19-20) (decl [(@ X@23-24 (arg 1 25-26) 22-27) ] (type int 0 28-31) b@32-33) (decl [(@ X@36-37 (arg -5 38-40) 35-41) ] (type int 0 42-45) c@46-47) (decl [(@ X@50-51 (arg -2147483648 52-63) 49-64) ] (type int 0 65-68) d@69-70) (decl [(@ X@73-74 (arg {\"s\"} 75-78) 72-79) ] (type int 0 80-83) e@84-85) 0-88) ",
     ),
     (
-        "class A { @X({}) int a; @X({\"s\"}) int b; @X({\"s\", \"t\"}) int c; }",
-        "(class A@6-7 (decl [(@ X@11-12 (arg {} 13-15) 10-16) ] (type int 0 17-20) a@21-22) (decl [(@ X@25-26 (arg {\"s\"} 27-32) 24-33) ] (type int 0 34-37) b@38-39) (decl [(@ X@42-43 (arg {\"s\" \"t\"} 44-54) 41-55) ] (type int 0 56-59) c@60-61) 0-64) ",
+        "class A { @X({}) int a; @X({\"s\"}) int b; @X({\"s\", \"t\"}) int c; @X(true) int d; @X(false) int e; }",
+        "(class A@6-7 (decl [(@ X@11-12 (arg {} 13-15) 10-16) ] (type int 0 17-20) a@21-22) (decl [(@ X@25-26 (arg {\"s\"} 27-32) 24-33) ] (type int 0 34-37) b@38-39) (decl [(@ X@42-43 (arg {\"s\" \"t\"} 44-54) 41-55) ] (type int 0 56-59) c@60-61) (decl [(@ X@64-65 (arg true 66-70) 63-71) ] (type int 0 72-75) d@76-77) (decl [(@ X@80-81 (arg false 82-87) 79-88) ] (type int 0 89-92) e@93-94) 0-97) ",
     ),
     (
-        "class A { @X(a = 1) int b; @X(a = \"s\", b = {\"t\"}, c = -1) int e; }",
-        "(class A@6-7 (decl [(@ X@11-12 (arg a@13-14 1 13-18) 10-19) ] (type int 0 20-23) b@24-25) (decl [(@ X@28-29 (arg a@30-31 {\"s\"} 30-37) (arg b@39-40 {\"t\"} 39-48) (arg c@50-51 -1 50-56) 27-57) ] (type int 0 58-61) e@62-63) 0-66) ",
+        "class A { @X(a = 1) int b; @X(a = \"s\", b = {\"t\"}, c = -1, d = true) int e; }",
+        "(class A@6-7 (decl [(@ X@11-12 (arg a@13-14 1 13-18) 10-19) ] (type int 0 20-23) b@24-25) (decl [(@ X@28-29 (arg a@30-31 {\"s\"} 30-37) (arg b@39-40 {\"t\"} 39-48) (arg c@50-51 -1 50-56) (arg d@58-59 true 58-66) 27-67) ] (type int 0 68-71) e@72-73) 0-76) ",
     ),
     (
         "class A { @X int a = 1, b = 2; @Y int c; }",

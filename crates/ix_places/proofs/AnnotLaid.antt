@@ -1,5 +1,5 @@
 -- Annotations stand where their tokens are, with their names and arguments in them.
-use Rattle.std.proofs.Common.{◌≤◌, ◌<◌, ℕ, List, [], ◌∷◌, ◌++◌, map, refl, arith}
+use Rattle.std.proofs.Common.{◌≤◌, ◌<◌, ℕ, List, [], ◌∷◌, map, refl, arith}
 use Rattle.ix_text.specs.declared.span.Span.{Span}
 use Rattle.ix_lexer.specs.declared.token.Token.{Token}
 use Rattle.ix_lexer.specs.declared.fixed.TheConstants.{CLOSE_BRACE, CLOSE_PAREN}
@@ -17,7 +17,7 @@ use Rattle.ix_grammar.specs.Patterns.{sign}
 use Rattle.ix_grammar.specs.Lists.{alone, joined}
 use Rattle.ix_grammar.specs.AnnotGrammar as grammar
 use Rattle.ix_grammar.specs.AnnotGrammar.{IsValue, IsNamed, IsAnnot, IsNotes, annot_to, plain_arg, named_arg, no_notes, with_note}
-use Rattle.ix_lexer.proofs.SplitInOrder.{order_within, order_both}
+use Rattle.ix_lexer.proofs.SplitInOrder.{order_both}
 use Rattle.ix_places.proofs.ListsLaid.{repeated_laid, separated_laid}
 
 value_lies : (lo hi : ℕ) (ts : List Token) (v : At AnnotValue) → IsValue ts v → InOrder lo hi ts → Lies lo hi v.span
@@ -25,6 +25,8 @@ value_lies lo hi _ _ (grammar.number found) o = o
 value_lies lo hi _ _ (grammar.minus_number minus found) (a, b, (c, d, e)) = (a, omega (arith, b, c, d), e)
 value_lies lo hi _ _ (grammar.least minus span) (a, b, (c, d, e)) = (a, omega (arith, b, c, d), e)
 value_lies lo hi _ _ (grammar.one_text found) o = o
+value_lies lo hi _ _ (grammar.truth span) o = o
+value_lies lo hi _ _ (grammar.falsity span) o = o
 value_lies lo hi _ _ (grammar.no_texts left right) (a, b, (c, d, e)) = (a, omega (arith, b, c, d), e)
 value_lies lo hi _ _ (grammar.texts left right {tokens} d) (a, b, o) =
     let (mid, k, l, p, q) = order_both left.to hi tokens (sign CLOSE_BRACE right ∷ []) o in (a, omega (arith, b, k, q.0, q.1), q.2)

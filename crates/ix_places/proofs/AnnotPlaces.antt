@@ -33,6 +33,8 @@ value_stands lo hi _ _ (grammar.number found) = stand_none lo hi 1
 value_stands lo hi _ _ (grammar.minus_number minus found) = stand_none lo hi 2
 value_stands lo hi _ _ (grammar.least minus span) = stand_none lo hi 2
 value_stands lo hi _ _ (grammar.one_text found) = stand_entries lo hi 1 1 [] (omega arith) (stand_none lo hi 1)
+value_stands lo hi _ _ (grammar.truth span) = stand_none lo hi 1
+value_stands lo hi _ _ (grammar.falsity span) = stand_none lo hi 1
 value_stands lo hi _ _ (grammar.no_texts left right) = stand_entries lo hi 2 0 [] (omega arith) (stand_none lo hi 2)
 value_stands lo hi _ _ (grammar.texts left right {tokens} {found} d) =
     let n = suc (length (tokens ++ sign CLOSE_BRACE right ∷ [])) in
@@ -43,6 +45,8 @@ value_tokens _ _ (grammar.number found) = omega arith
 value_tokens _ _ (grammar.minus_number minus found) = omega arith
 value_tokens _ _ (grammar.least minus span) = omega arith
 value_tokens _ _ (grammar.one_text found) = omega arith
+value_tokens _ _ (grammar.truth span) = omega arith
+value_tokens _ _ (grammar.falsity span) = omega arith
 value_tokens _ _ (grammar.no_texts left right) = omega arith
 value_tokens _ _ (grammar.texts left right d) = omega arith
 

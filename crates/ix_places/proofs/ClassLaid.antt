@@ -1,6 +1,5 @@
 -- Members, classes and sources stand where their tokens are, with their parts in them.
 use Rattle.std.proofs.Common.{◌≡◌, ◌≤◌, ◌<◌, ◌==◌, ◌&&◌, cond, ℕ, Bool, true, false, List, [], ◌∷◌, ◌++◌, map, Option, Some, None, refl, sym, ap, subst, ◌∙◌, append_assoc, arith}
-use Rattle.std.proofs.lemmas.List.{append-nil}
 use Rattle.std.proofs.lemmas.Bool.{eq-eqb, eqb-true}
 use Rattle.ix_text.specs.declared.span.Span.{Span}
 use Rattle.ix_lexer.specs.declared.token.Token.{Token}
@@ -11,7 +10,7 @@ use Rattle.ix_tree.specs.declared.decl.LocalDecl.{LocalDecl}
 use Rattle.ix_tree.specs.declared.decl.Member.{Member}
 use Rattle.ix_tree.specs.declared.decl.Member.TheVariants.{Field, Method}
 use Rattle.ix_tree.specs.Placed.{Layout, LaidOut, row, piece, again, maybe, name_piece, annot_piece, type_piece, expr_piece, stmt_piece, shared_pieces, own_pieces, params_pieces, further_pieces, locals_pieces, parent_pieces, method_piece, same_span, field_shared, members_pieces, class_piece, Placed}
-use Rattle.ix_tree.proofs.Layouts.{Lies, Laid, laid_more, laid_ends, laid_rows, laid_first, laid_one, laid_node, laid_name}
+use Rattle.ix_tree.proofs.Layouts.{Lies, Laid, laid_more, laid_rows, laid_first, laid_one, laid_node, laid_name}
 use Rattle.ix_grammar.specs.declared.classes.Behind.{Behind}
 use Rattle.ix_grammar.specs.declared.classes.Body.{Body}
 use Rattle.ix_grammar.specs.declared.classes.FoundClass.{FoundClass}
@@ -32,7 +31,6 @@ use Rattle.ix_grammar.specs.SourceGrammar.{source_parts, IsSource}
 use Rattle.ix_lexer.proofs.SplitInOrder.{order_within, order_both}
 use Rattle.ix_places.proofs.DeclPlaces.{FirstLies, mods_stand}
 use Rattle.ix_places.proofs.ListsLaid.{repeated_laid}
-use Rattle.ix_places.proofs.TypeLaid.{type_laid}
 use Rattle.ix_places.proofs.ExprLaid.{args_lie, args_laid}
 use Rattle.ix_places.proofs.DeclLaid.{HaveAll, head_laid, headed, mods_laid, first_behind, group_laid, params_laid}
 use Rattle.ix_places.proofs.StmtLaid.{block_stmt_laid}

@@ -6,7 +6,6 @@ use Rattle.ix_lexer.specs.declared.token.Token.{Token}
 use Rattle.ix_lexer.specs.declared.fixed.TheConstants.{COMMA, CLOSE_PAREN}
 use Rattle.ix_lexer.specs.Spans.{InOrder}
 use Rattle.ix_tree.specs.declared.annot.Annot.{Annot}
-use Rattle.ix_tree.specs.declared.annot.Ident.{Ident}
 use Rattle.ix_tree.specs.declared.decl.LocalDecl.{LocalDecl}
 use Rattle.ix_tree.specs.Placed.{Layout, LaidOut, row, again, name_piece, arg_piece, annot_piece, type_piece, init_piece, shared_pieces, own_pieces, decl_pieces, params_pieces, further_pieces, locals_pieces}
 use Rattle.ix_tree.proofs.Layouts.{Lies, Laid, laid_more, laid_ends, laid_rows, laid_first, laid_one, laid_two, laid_name, laid_again}
@@ -24,7 +23,7 @@ use Rattle.ix_grammar.specs.TypeGrammar.{IsType}
 use Rattle.ix_grammar.specs.ExprGrammar.{IsInit}
 use Rattle.ix_grammar.specs.DeclGrammar as g
 use Rattle.ix_grammar.specs.DeclGrammar.{IsMods, IsDecl, IsDecls, IsParam, IsParams, marked, earlier, begins, shared, one_decl, with_decl, one_param, with_param}
-use Rattle.ix_lexer.proofs.SplitInOrder.{order_within, order_both}
+use Rattle.ix_lexer.proofs.SplitInOrder.{order_both}
 use Rattle.ix_places.proofs.DeclPlaces.{FirstLies, mods_stand}
 use Rattle.ix_places.proofs.ExprPlaces.{init_stands}
 use Rattle.ix_places.proofs.ListsLaid.{laid_joined}

@@ -1,18 +1,16 @@
 -- Expressions and initialisers stand where their tokens are, with their parts in them.
-use Rattle.std.proofs.Common.{◌≡◌, ◌≤◌, ◌<◌, ◌+◌, ℕ, suc, negsuc, true, false, List, [], ◌∷◌, ◌++◌, map, Some, None, sym, ap, subst, ◌∙◌, arith}
+use Rattle.std.proofs.Common.{◌≡◌, ◌≤◌, ◌<◌, ℕ, suc, negsuc, true, false, List, [], ◌∷◌, ◌++◌, map, Some, None, sym, ap, subst, ◌∙◌, arith}
 use Rattle.ix_text.specs.declared.span.Span.{Span}
 use Rattle.ix_lexer.specs.declared.token.Token.{Token}
 use Rattle.ix_lexer.specs.declared.fixed.TheConstants.{DOT, COMMA, CLOSE_PAREN, OPEN_BRACKET, CLOSE_BRACKET, OPEN_BRACE, CLOSE_BRACE}
 use Rattle.ix_lexer.specs.Spans.{InOrder}
 use Rattle.ix_tree.specs.declared.annot.Ident.{Ident}
-use Rattle.ix_tree.specs.declared.expr.Expr.{Expr}
 use Rattle.ix_tree.specs.declared.expr.ExprKind.{ExprKind}
 use Rattle.ix_tree.specs.declared.expr.ExprKind.TheVariants as e
 use Rattle.ix_tree.specs.Placed.{Layout, LaidOut, row, piece, name_piece, new_type_piece, expr_piece, init_piece}
 use Rattle.ix_tree.proofs.Layouts.{Lies, Laid, laid_more, laid_first, laid_one, laid_two, laid_node, laid_name}
 use Rattle.ix_tree.proofs.LayoutParts.{kind_row, expr_is, int_kind, bool_kind, null_kind, this_kind, name_kind, select_kind, index_kind, call_kind, call_on_kind, new_kind, new_array_kind, new_items_kind, unary_kind, binary_kind, assign_kind, step_is, value_is, items_are}
 use Rattle.ix_grammar.specs.declared.found.Args.{Args}
-use Rattle.ix_grammar.specs.declared.found.At.{At}
 use Rattle.ix_grammar.specs.declared.found.Found.{Found}
 use Rattle.ix_grammar.specs.declared.found.FoundInit.{FoundInit}
 use Rattle.ix_grammar.specs.declared.found.FoundItems.{FoundItems}
@@ -22,11 +20,11 @@ use Rattle.ix_grammar.specs.Patterns.{sign, name_token}
 use Rattle.ix_grammar.specs.ExprNodes.{created_type}
 use Rattle.ix_grammar.specs.ExprGrammar as g
 use Rattle.ix_grammar.specs.ExprGrammar.{Kind, IsExpr, IsExprs, IsArgs, IsInit, IsInits, IsItems}
-use Rattle.ix_lexer.proofs.SplitInOrder.{order_within, order_both}
+use Rattle.ix_lexer.proofs.SplitInOrder.{order_both}
 use Rattle.ix_places.proofs.TypePlaces.{pairs_lie}
 use Rattle.ix_places.proofs.ExprPlaces.{expr_stands, args_stand, init_stands, items_stand, more_pairs_lie}
 use Rattle.ix_places.proofs.ListsLaid.{laid_joined}
-use Rattle.ix_places.proofs.TypeLaid.{NewType, new_type_laid}
+use Rattle.ix_places.proofs.TypeLaid.{new_type_laid}
 
 -- where a part of the grammar stands
 pub expr_lies : (lo hi : ℕ) (k : Kind) (ts : List Token) (f : Found) → IsExpr k ts f → InOrder lo hi ts → Lies lo hi f.outer

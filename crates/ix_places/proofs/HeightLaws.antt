@@ -1,18 +1,15 @@
 -- A tree of the grammar is at most as high as its derivation, which counts parentheses too.
-use Rattle.std.proofs.Common.{◌≡◌, ◌≤◌, ◌+◌, ℕ, max, suc, negsuc, Bool, true, false, List, [], ◌∷◌, ◌++◌, Option, Some, None, refl, sym, ap, subst, ◌∙◌, arith}
+use Rattle.std.proofs.Common.{◌≡◌, ◌≤◌, ℕ, max, suc, negsuc, true, false, List, [], ◌∷◌, ◌++◌, Option, Some, None, refl, ap, arith}
 use Rattle.ix_lexer.specs.declared.token.Token.{Token}
 use Rattle.ix_tree.specs.declared.annot.Annot.{Annot}
 use Rattle.ix_tree.specs.declared.annot.AnnotArg.{AnnotArg}
 use Rattle.ix_tree.specs.declared.annot.BaseTree.{BaseTree}
 use Rattle.ix_tree.specs.declared.annot.BaseTree.TheVariants.{Int, Boolean, Named}
 use Rattle.ix_tree.specs.declared.annot.Ident.{Ident}
-use Rattle.ix_tree.specs.declared.decl.LocalDecl.{LocalDecl}
-use Rattle.ix_tree.specs.declared.expr.Expr.{Expr}
-use Rattle.ix_tree.specs.declared.expr.ExprKind.{ExprKind}
 use Rattle.ix_tree.specs.declared.expr.ExprKind.TheVariants as e
 use Rattle.ix_tree.specs.Heights as t
 use Rattle.ix_tree.specs.Heights.{of_maybe, of_all, mods_height, type_height, expr_height, init_height, decl_height}
-use Rattle.ix_tree.proofs.HeightParts.{kind_high, expr_is, int_kind, bool_kind, null_kind, this_kind, name_kind, select_kind, index_kind, call_kind, call_on_kind, new_kind, new_array_kind, new_items_kind, unary_kind, binary_kind, assign_kind, step_is, value_is, items_are, of_joined}
+use Rattle.ix_tree.proofs.HeightParts.{expr_is, int_kind, bool_kind, null_kind, this_kind, name_kind, select_kind, index_kind, call_kind, call_on_kind, new_kind, new_array_kind, new_items_kind, unary_kind, binary_kind, assign_kind, step_is, value_is, items_are, of_joined}
 use Rattle.ix_grammar.specs.declared.declarations.FoundDecl.{FoundDecl}
 use Rattle.ix_grammar.specs.declared.declarations.FoundMods.{FoundMods}
 use Rattle.ix_grammar.specs.declared.declarations.Params.{Params}

@@ -4,10 +4,10 @@ use Rattle.ix_lexer.specs.declared.token.Token.{Token}
 use Rattle.ix_lexer.specs.declared.fixed.TheConstants.{COMMA}
 use Rattle.ix_lexer.specs.Spans.{InOrder}
 use Rattle.ix_tree.specs.Placed.{Layout, LaidOut}
-use Rattle.ix_tree.proofs.Layouts.{Laid, laid_more, laid_rows, laid_one}
+use Rattle.ix_tree.proofs.Layouts.{Laid, laid_rows, laid_one}
 use Rattle.ix_grammar.specs.Patterns.{sign}
 use Rattle.ix_grammar.specs.Lists.{IsSeparated, IsRepeated, first_item, next_item, no_item, one_more}
-use Rattle.ix_lexer.proofs.SplitInOrder.{order_within, order_both}
+use Rattle.ix_lexer.proofs.SplitInOrder.{order_both}
 
 map_joined : {A B : Type 0} (of : A → B) (xs : List A) (x : A) → map of (xs ++ x ∷ []) ≡ map of xs ++ of x ∷ []
 map_joined of [] x = refl

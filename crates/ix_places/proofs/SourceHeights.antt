@@ -1,15 +1,14 @@
 -- Statements, members, classes and sources are at most as high as their derivations.
-use Rattle.std.proofs.Common.{◌≡◌, ◌≤◌, ◌+◌, ℕ, max, Bool, true, false, List, [], ◌∷◌, ◌++◌, Option, Some, None, refl, sym, ap, ◌∙◌, arith}
+use Rattle.std.proofs.Common.{◌≡◌, ◌≤◌, max, Bool, true, false, List, [], ◌∷◌, ◌++◌, Option, Some, None, refl, ap, arith}
 use Rattle.ix_text.specs.declared.span.Span.{Span}
 use Rattle.ix_lexer.specs.declared.token.Token.{Token}
 use Rattle.ix_tree.specs.declared.annot.Ident.{Ident}
 use Rattle.ix_tree.specs.declared.decl.LocalDecl.{LocalDecl}
 use Rattle.ix_tree.specs.declared.decl.Member.{Member}
-use Rattle.ix_tree.specs.declared.stmt.StmtKind.{StmtKind}
 use Rattle.ix_tree.specs.declared.stmt.StmtKind.TheVariants as s
 use Rattle.ix_tree.specs.Heights.{of_maybe, of_all, name_height, mods_height, type_height, expr_height, decl_height, stmt_height, args_height, member_height, class_height, unit_height}
 use Rattle.ix_tree.proofs.HeightParts.{of_joined}
-use Rattle.ix_tree.proofs.StatementHeights.{stmt_kind_high, stmt_is, block_kind, empty_kind, local_kind, if_kind, if_else_kind, while_kind, do_kind, for_kind, break_kind, continue_kind, return_kind, throw_kind, print_kind, run_kind}
+use Rattle.ix_tree.proofs.StatementHeights.{stmt_is, block_kind, empty_kind, local_kind, if_kind, if_else_kind, while_kind, do_kind, for_kind, break_kind, continue_kind, return_kind, throw_kind, print_kind, run_kind}
 use Rattle.ix_grammar.specs.declared.classes.Behind.{Behind}
 use Rattle.ix_grammar.specs.declared.classes.Body.{Body}
 use Rattle.ix_grammar.specs.declared.classes.FoundClass.{FoundClass}

@@ -19,12 +19,12 @@ use Rattle.ix_grammar.specs.declared.found.FoundType.{FoundType}
 use Rattle.ix_grammar.specs.declared.found.Several.{Several}
 use Rattle.ix_grammar.specs.Nodes.{across}
 use Rattle.ix_grammar.specs.Patterns.{sign}
-use Rattle.ix_grammar.specs.DeclGrammar.{local_words, begins}
+use Rattle.ix_grammar.specs.DeclGrammar.{local_words}
 use Rattle.ix_grammar.specs.ExprNodes.{with_expr}
 use Rattle.ix_grammar.specs.ExprGrammar.{Whole, IsExpr, IsStatementExpr}
 use Rattle.ix_grammar.specs.StmtGrammar as g
 use Rattle.ix_grammar.specs.StmtGrammar.{maybe_expr, run_part, one_run, with_run, one_expr, local_stmt, IsLocal, IsForFirst, IsMaybe, IsUpdate, IsStmt, IsBlockStmt, IsStmts}
-use Rattle.ix_lexer.proofs.SplitInOrder.{order_within, order_both}
+use Rattle.ix_lexer.proofs.SplitInOrder.{order_both}
 use Rattle.ix_places.proofs.StmtPlaces.{order_at}
 use Rattle.ix_places.proofs.ListsLaid.{laid_joined, separated_laid}
 use Rattle.ix_places.proofs.ExprLaid.{expr_lies, whole_in, expr_laid}

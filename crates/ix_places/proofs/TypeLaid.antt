@@ -1,5 +1,5 @@
 -- Types stand where their tokens are, with their bases and annotations in them.
-use Rattle.std.proofs.Common.{◌≡◌, ◌≤◌, ◌<◌, ℕ, List, [], ◌∷◌, ◌++◌, map, sym, ap, subst, ◌∙◌, append_assoc, arith}
+use Rattle.std.proofs.Common.{◌≤◌, ◌<◌, ℕ, List, [], ◌∷◌, ◌++◌, map, arith}
 use Rattle.ix_text.specs.declared.span.Span.{Span}
 use Rattle.ix_lexer.specs.declared.token.Token.{Token}
 use Rattle.ix_lexer.specs.Spans.{InOrder}
@@ -15,7 +15,7 @@ use Rattle.ix_grammar.specs.AnnotGrammar.{IsNotes}
 use Rattle.ix_grammar.specs.TypeGrammar as grammar
 use Rattle.ix_grammar.specs.TypeGrammar.{IsBase, IsTypeRest, IsType, array_of}
 use Rattle.ix_grammar.specs.ExprNodes.{created_type, type_start}
-use Rattle.ix_lexer.proofs.SplitInOrder.{order_within, order_both}
+use Rattle.ix_lexer.proofs.SplitInOrder.{order_both}
 use Rattle.ix_places.proofs.TypePlaces.{pairs_lie}
 use Rattle.ix_places.proofs.AnnotLaid.{notes_laid}
 

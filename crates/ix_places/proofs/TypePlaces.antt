@@ -6,7 +6,7 @@ use Rattle.ix_lexer.specs.Spans.{InOrder}
 use Rattle.ix_tree.specs.declared.annot.Annot.{Annot}
 use Rattle.ix_tree.specs.declared.annot.AnnotArg.{AnnotArg}
 use Rattle.ix_tree.specs.declared.annot.AnnotValue.{AnnotValue}
-use Rattle.ix_tree.specs.declared.annot.AnnotValue.TheVariants.{Number, Texts}
+use Rattle.ix_tree.specs.declared.annot.AnnotValue.TheVariants.{Number, Truth, Texts}
 use Rattle.ix_tree.specs.declared.annot.BaseTree.{BaseTree}
 use Rattle.ix_tree.specs.declared.annot.BaseTree.TheVariants.{Int, Boolean, Named}
 use Rattle.ix_tree.specs.declared.annot.Ident.{Ident}
@@ -44,6 +44,7 @@ name_in_type (Some name) = (tt, tt)
 
 value_in_type : (value : AnnotValue) → All InTypes (value_parts value)
 value_in_type (Number n) = tt
+value_in_type (Truth b) = tt
 value_in_type (Texts texts) = (tt, tt)
 
 arg_in_type : (arg : AnnotArg) → All InTypes (arg_parts arg)

@@ -5,7 +5,7 @@ use Rattle.ix_annot.proofs.expansion.claims_behind.Given as goal
 
 abbrev pub invariant-loop-written : goal.invariant-loop-written
 invariant-loop-written g l =
-    preceded_by l.claims (spec.claims_of (g.N.Names.scope l.names) l.written) ≡ preceded_by l.initial.claims (spec.claims_of (g.N.Names.scope l.names) l.initial.written)
+    preceded_by l.claims (spec.claims_of (g.N.Names.names l.names) l.written) ≡ preceded_by l.initial.claims (spec.claims_of (g.N.Names.names l.names) l.initial.written)
 
 abbrev pub decreases-loop-written : goal.decreases-loop-written
 decreases-loop-written g l = length l.written

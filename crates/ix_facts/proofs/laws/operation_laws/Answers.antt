@@ -20,7 +20,7 @@ pub returns-clause-copy_classes : goal.returns-clause-copy_classes
 returns-clause-copy_classes c = copy_classes
 
 pub returns-clause-copy_sound : goal.returns-clause-copy_sound
-returns-clause-copy_sound c = λ facts w ty t s alike h. copy_hold facts w ty t s (record { int = alike.0; size = alike.1 }) h
+returns-clause-copy_sound c = copy_hold
 
 pub returns-clause-copy_monotone : goal.returns-clause-copy_monotone
 returns-clause-copy_monotone c = copy_says

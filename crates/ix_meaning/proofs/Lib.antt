@@ -1,0 +1,3 @@
+pub mod Equations
+pub mod Rows
+pub mod SmallRows

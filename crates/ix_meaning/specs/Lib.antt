@@ -1,0 +1,13 @@
+pub mod Classes
+pub mod Types
+pub mod Annotated
+pub mod Members
+pub mod Scope
+pub mod Rules
+pub mod Values
+pub mod Bodies
+pub mod Inheritance
+pub mod Source
+pub mod Limits
+pub mod Listed
+pub mod Resolved

@@ -1,0 +1,13 @@
+//! What each name of a source means, the type of each expression, and which rules on names, types and annotations are broken.
+//!
+//! What goes in: nothing; these are definitions and the types that they speak of. What comes out: what the crates above answer.
+//! The contract: `notes` of `specs/Source.antt`, the JLS's scopes, members and types, with the rules of `specs/Rules.antt`.
+//! It stands on the trees of `ix_tree`, the types of `ix_core` and the claims of `ix_annot`.
+//! It never looks at tokens or at the text, and at no value.
+#![tactic(auto)]
+
+mod members;
+mod note;
+
+pub use members::{Field, Signature};
+pub use note::{Declared, Meaning, NameError, NameErrors, Note, Rule, Which};
