@@ -1,38 +1,45 @@
 //! The files of the process.
-ghost use Rattle.std.specs.Prelude.{◌≡◌, ◌+◌, ◌-◌, ◌^◌, ◌<◌, ◌⊎◌, ℕ, List, None};
-ghost use Rattle.ix_tool.specs.Outside.{Rose};
+ghost use Rattle.std.specs.Prelude.{◌≡◌, ◌≤◌, ℕ, List, [], None, length, IfOk};
 
-use ix_tool::{Failed, OpenError, Reads, Source};
+use ix_outside::{Failed, OpenError, Source, SourceLog, raised};
 use std::fs::{self, File};
-use std::io::{ErrorKind, Read};
+use std::io::{self, ErrorKind, Read};
 
-/// Files by their paths. It tells nothing of what they hold, and no name is sure.
+/// Files by their paths. It tells nothing of what they hold, and no name is sure: its log says what the system handed out.
 #[derive(Drop)]
 pub(crate) struct FileSource<'a> {
     rt: &'a HostRuntime,
     opened: Option<File>,
     faults: u64,
-    reads: Reads,
+    log: SourceLog,
 }
 
 impl<'a> FileSource<'a> {
     pub(crate) fn new(rt: &'a HostRuntime) -> FileSource<'a>
+        ensures names { ⟦<FileSource<'a> as Source>⟧.names result ≡ [] }
+        ensures given { ⟦<FileSource<'a> as Source>⟧.given result ≡ [] }
         ensures reads { ⟦<FileSource<'a> as Source>⟧.reads result ≡ 0 }
     {
         FileSource {
             rt,
             opened: None,
             faults: 0,
-            reads: Reads::none(),
+            log: SourceLog::new(),
         }
     }
 }
 
-/// A count of faults after one more.
-pub(crate) fn raised(count: u64) -> u64
-    ensures { Rose count result }
+/// Reads from the file, again after each interruption.
+fn read_from(file: &mut File, buf: &mut [u8]) -> io::Result<usize>
+    ensures within { IfOk result (λ n. n ≤ length buf.old) }
 {
-    if count < u64::MAX { count + 1 } else { count }
+    for _turn in 0..u64::MAX {
+        match file.read(buf) {
+            Err(error) if error.kind() == ErrorKind::Interrupted => {}
+            answer => return answer,
+        }
+    }
+    file.read(buf)
 }
 
 impl<'a> Source for FileSource<'a> {
@@ -48,9 +55,14 @@ impl<'a> Source for FileSource<'a> {
 
     ghost faults = { λ source. source.faults };
 
-    ghost reads = { λ source. source.reads.count };
+    ghost names = { λ source. source.log.names };
+
+    ghost given = { λ source. source.log.given };
+
+    ghost reads = { λ source. source.log.reads };
 
     fn open(&mut self, name: &str) -> Result<(), OpenError> {
+        self.log.opening(name.as_bytes());
         match fs::open(self.rt, name) {
             Ok(file) => {
                 self.opened = Some(file);
@@ -67,14 +79,17 @@ impl<'a> Source for FileSource<'a> {
     }
 
     fn read(&mut self, buf: &mut [u8]) -> Result<usize, Failed> {
-        self.reads = self.reads.and_one();
         let read = match &mut self.opened {
-            Some(file) => file.read(buf).ok(),
+            Some(file) => read_from(file, buf).ok(),
             None => None,
         };
         match read {
-            Some(n) => Ok(n),
+            Some(n) => {
+                self.log.reading(&buf[..n]);
+                Ok(n)
+            }
             None => {
+                self.log.failing();
                 self.faults = raised(self.faults);
                 Err(Failed)
             }

@@ -5,7 +5,7 @@ use Rattle.ix_text.specs.declared.span.Span.{Span}
 use Rattle.ix_tree.specs.declared.annot.Annot.{Annot}
 use Rattle.ix_tree.specs.declared.annot.AnnotArg.{AnnotArg}
 use Rattle.ix_tree.specs.declared.annot.AnnotValue.{AnnotValue}
-use Rattle.ix_tree.specs.declared.annot.AnnotValue.TheVariants.{Texts, Number}
+use Rattle.ix_tree.specs.declared.annot.AnnotValue.TheVariants.{Texts, Number, Truth}
 use Rattle.ix_tree.specs.declared.annot.BaseTree.{BaseTree}
 use Rattle.ix_tree.specs.declared.annot.BaseTree.TheVariants as base
 use Rattle.ix_tree.specs.declared.annot.Ident.{Ident}
@@ -41,6 +41,7 @@ only (x ∷ more ∷ rest) = None
 abbrev pub only_text : AnnotValue → Option (List ℕ)
 only_text (Texts texts) = only texts
 only_text (Number n) = None
+only_text (Truth b) = None
 
 abbrev pub arg_text : AnnotArg → Option (List ℕ)
 arg_text arg = if is_none arg.name then only_text arg.value else None

@@ -1,5 +1,5 @@
 -- Programs that are not formed, each for one reason, and beside each the same without it. Their methods have no locals, so no types of locals make them so.
-use Rattle.std.proofs.Common.{◌≡◌, ℕ, pos, Bool, true, false, List, [], ◌∷◌, Some, None, refl, sym, ◌∙◌}
+use Rattle.std.proofs.Common.{◌≡◌, pos, true, false, List, [], ◌∷◌, Some, None, refl, sym, ◌∙◌}
 use Rattle.std.proofs.lemmas.Bool.{false≢true}
 use Rattle.ix_num.specs.declared.arith.Arith.TheVariants.{Add}
 use Rattle.ix_num.specs.declared.rel.Rel.TheVariants as rel
@@ -10,11 +10,9 @@ use Rattle.ix_core.specs.declared.claim.Type_.{Type_}
 use Rattle.ix_core.specs.declared.claim.Type_.TheVariants as type
 use Rattle.ix_core.specs.declared.code.Cond.TheBlock.{hidden-the_row-Item-0, hidden-the_row-Cond-1}
 use Rattle.ix_core.specs.declared.code.Cond.TheVariants as cond
-use Rattle.ix_core.specs.declared.code.Item.{Item}
 use Rattle.ix_core.specs.declared.code.Item.TheVariants as item
 use Rattle.ix_core.specs.declared.op.Literal.TheVariants as literal
 use Rattle.ix_core.specs.declared.op.OpKind.TheVariants as op
-use Rattle.ix_core.specs.declared.program.Method.{Method}
 use Rattle.ix_core.specs.declared.program.Program.{Program}
 use Rattle.ix_core.specs.Formed.{Formed, is_formed}
 use Rattle.ix_core.proofs.Programs.{span, int, boolean, int_array, block, does, does_with, arg, calls, test, param, static_method, instance_method, constructor_of, field, class_of, program}

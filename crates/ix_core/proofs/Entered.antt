@@ -1,5 +1,5 @@
 -- A call: the slots of the new frame, and a new object.
-use Rattle.std.specs.Prelude.{◌≡◌, ◌⊎◌, ℕ, zero, suc, ◌+◌, ◌-◌, ◌<◌, ◌≤◌, ◌==◌, nat_lt, ℤ, pos, List, [], ◌∷◌, ◌++◌, length, map, replicate, slice_get, Option, None, Some, unwrap_or, refl}
+use Rattle.std.specs.Prelude.{◌≡◌, ◌⊎◌, ℕ, zero, suc, ◌+◌, ◌-◌, ◌<◌, ◌≤◌, ◌==◌, nat_lt, pos, List, [], ◌∷◌, ◌++◌, length, map, replicate, slice_get, Option, None, Some, unwrap_or, refl}
 use Rattle.std.proofs.Common.{arith, sym, ap, ◌∙◌, subst, inl, inr, ⊎_elim}
 use Rattle.std.proofs.lemmas.Bool.Decides.{nat_tests}
 use Rattle.std.proofs.lemmas.Int.{ints}
@@ -17,7 +17,7 @@ use Rattle.ix_core.specs.Objects.{IsOn, IsIntHeld, KeepsInts}
 use Rattle.ix_core.specs.Objects.{Later, IsSame, MeetsField, MeetsFields, MeetsElement, kind_claims, field_readings, IsFree, HeapKeeps, IsOwn}
 use Rattle.ix_core.specs.Waits.{AreNotOwn, MeetParams, param_readings, reading_through, AreFresh}
 use Rattle.ix_core.specs.Analysis.{IsWorld, IsDefault}
-use Rattle.ix_core.specs.World.{World, tables_in}
+use Rattle.ix_core.specs.World.{World}
 use Rattle.ix_core.proofs.Heaps.{grown_old, grown_new}
 use Rattle.ix_core.proofs.Waiting.{later_push, free_grows}
 use Rattle.ix_core.proofs.Cases.{by_test, equal, differ}

@@ -6,7 +6,7 @@ use Rattle.ix_core.specs.declared.program.Method.{Method}
 use Rattle.ix_core.specs.Heap.{Held, Num, At, Heap, Object, Kind, ObjectOf, ArrayOf, nothing, value_at, object_at, array_cells, place_in, cell_of, field_value, reading_of, with_cells, write_at}
 use Rattle.ix_core.specs.Objects.{Later, IsSame, HasField, MeetsFields, MeetsElement, kind_claims, IsFree, HeapKeeps, FrameKeeps, IsOwn, MayWrite, StepKeeps}
 use Rattle.ix_core.specs.Analysis.{IsWorld}
-use Rattle.ix_core.specs.World.{World, tables_in}
+use Rattle.ix_core.specs.World.{World}
 use Rattle.ix_core.proofs.Heaps.{object_set, object_other, value_other, value_set}
 use Rattle.ix_core.proofs.Waiting.{free_later}
 use Rattle.ix_core.proofs.Entered.{has_on, meets_same, reading_later, field_on}

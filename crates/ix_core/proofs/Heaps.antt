@@ -1,5 +1,5 @@
 -- What slots and heaps hold after an assignment, a new object and a write.
-use Rattle.std.specs.Prelude.{◌≡◌, ℕ, ◌<◌, ◌≤◌, ◌==◌, nat_lt, pos, Bool, true, false, List, [], ◌∷◌, ◌++◌, length, slice_set, refl}
+use Rattle.std.specs.Prelude.{◌≡◌, ℕ, ◌<◌, ◌≤◌, ◌==◌, nat_lt, pos, false, List, [], ◌∷◌, ◌++◌, length, slice_set, refl}
 use Rattle.std.proofs.Common.{arith, get_or, sym, ap, ◌∙◌, subst}
 use Rattle.std.proofs.lemmas.Bool.Decides.{nat_tests}
 use Rattle.std.proofs.lemmas.List.{length-set, set_past, get_or-set_same, get_or-set_other, get_or_append_left}

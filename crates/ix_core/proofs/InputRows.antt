@@ -1,17 +1,15 @@
 -- Words of inputs, and claims that inputs don't meet.
-use Rattle.std.proofs.Common.{◌≡◌, ℕ, pos, negsuc, true, false, List, [], ◌∷◌, Option, Some, None, refl}
+use Rattle.std.proofs.Common.{◌≡◌, ℕ, pos, negsuc, true, [], ◌∷◌, Option, Some, None, refl}
 use Rattle.std.specs.Fmt.{digits}
 use Rattle.ix_core.specs.declared.claim.Base.TheVariants as base
 use Rattle.ix_core.specs.declared.claim.Claim.{Claim}
 use Rattle.ix_core.specs.declared.claim.Claim.TheVariants as claim
 use Rattle.ix_core.specs.declared.claim.Name.TheVariants as name
 use Rattle.ix_core.specs.declared.claim.Off.TheVariants as off
-use Rattle.ix_core.specs.declared.claim.Type_.{Type_}
 use Rattle.ix_core.specs.declared.claim.Type_.TheVariants as type
-use Rattle.ix_core.specs.declared.program.Local.{Local}
 use Rattle.ix_core.specs.declared.program.Method.{Method}
 use Rattle.ix_core.specs.Inputs.{Unmet, first_unmet, word_of}
-use Rattle.ix_core.specs.Safe.{Input, Whole, Flag, Ints}
+use Rattle.ix_core.specs.Safe.{Whole, Flag, Ints}
 use Rattle.ix_core.proofs.Programs.{int, block, param, static_method}
 
 -- `5`, `-2147483648`, `true`, `[]`, `[1,-20]`

@@ -1,9 +1,8 @@
 -- No claim is unmet exactly where the inputs meet their method.
-use Rattle.std.specs.Prelude.{◌≡◌, ◌↔◌, ℕ, ◌+◌, ℤ, pos, neg_ℤ, ◌-ℤ◌, int_le, int_lt, Bool, true, false, ◌&&◌, List, [], ◌∷◌, Option, None, Some, refl}
+use Rattle.std.specs.Prelude.{◌≡◌, ◌↔◌, ℕ, ◌+◌, ℤ, pos, neg_ℤ, ◌-ℤ◌, int_le, Bool, true, false, ◌&&◌, List, [], ◌∷◌, Option, None, Some, refl}
 use Rattle.std.specs.List.{list_all}
-use Rattle.std.specs.Ordering.{int_eq}
-use Rattle.std.proofs.Common.{arith, sym, ◌∙◌, subst}
-use Rattle.std.proofs.lemmas.Bool.{and_parts, false≢true}
+use Rattle.std.proofs.Common.{arith}
+use Rattle.std.proofs.lemmas.Bool.{and_parts}
 use Rattle.std.proofs.lemmas.Bool.Decides.{Decides-int_eq}
 use Rattle.std.proofs.lemmas.Int.{ints}
 use Rattle.ix_core.specs.declared.claim.Claim.{Claim}
@@ -12,7 +11,7 @@ use Rattle.ix_core.specs.declared.claim.Name.{Name}
 use Rattle.ix_core.specs.declared.claim.Type_.{Type_}
 use Rattle.ix_core.specs.declared.program.Local.{Local as Variable}
 use Rattle.ix_core.specs.declared.program.Method.{Method}
-use Rattle.ix_core.specs.Claims.{True, AreTrue, AreTrueOf, IsFrom}
+use Rattle.ix_core.specs.Claims.{True, AreTrue, IsFrom}
 use Rattle.ix_core.specs.Heap.{Reading, int_reading, no_reading}
 use Rattle.ix_core.specs.Inputs.{is_from, is_true_of, Unmet, or_else, unless_true, first_own, first_of_elements, first_from, first_unmet}
 use Rattle.ix_core.specs.Safe.{Input, AllTrue, MeetEach, Meets, input_reading, input_names, element_claims, elements_of}

@@ -1,5 +1,5 @@
 -- Words for small programs, and for what their runs must do.
-use Rattle.std.proofs.Common.{◌≡◌, ◌-◌, ℕ, pos, Bool, true, false, List, [], ◌∷◌, map, Option, Some, None}
+use Rattle.std.proofs.Common.{◌≡◌, ◌-◌, ℕ, Bool, true, false, List, [], map, Option, Some, None}
 use Rattle.ix_text.specs.declared.span.Span.{Span}
 use Rattle.ix_num.specs.declared.rel.Rel.{Rel}
 use Rattle.ix_core.specs.declared.claim.Base.TheVariants as base

@@ -1,5 +1,5 @@
 -- All frames: a step from a state that runs gives a state that runs, or an outcome that isn't bad.
-use Rattle.std.specs.Prelude.{◌≡◌, ◌⊎◌, ℕ, suc, ◌+◌, ◌<◌, ◌≤◌, ◌==◌, nat_lt, Bool, true, false, if◌then◌else◌, ℤ, pos, List, [], ◌∷◌, ◌++◌, length, map, slice_get, slice_set, option_map, Option, None, Some, unwrap_or, refl}
+use Rattle.std.specs.Prelude.{◌≡◌, ◌⊎◌, ℕ, suc, ◌+◌, ◌<◌, ◌≤◌, ◌==◌, nat_lt, Bool, true, false, if◌then◌else◌, pos, List, [], ◌∷◌, ◌++◌, length, map, slice_get, slice_set, option_map, Option, None, Some, unwrap_or, refl}
 use Rattle.std.proofs.Common.{arith, sym, ap, ◌∙◌, subst, inl, inr, ⊎_elim}
 use Rattle.std.proofs.lemmas.Bool.{false≢true}
 use Rattle.std.proofs.lemmas.Bool.Decides.{nat_tests}
@@ -19,7 +19,7 @@ use Rattle.ix_core.specs.declared.op.Arg.{Arg}
 use Rattle.ix_core.specs.declared.op.CallOp.{CallOp}
 use Rattle.ix_core.specs.declared.program.Method.{Method}
 use Rattle.ix_core.specs.Claims.{True, AreTrue, offset_of}
-use Rattle.ix_core.specs.Heap.{Held, Reading, Num, Boolean, Null, At, Heap, Object, Kind, ObjectOf, ArrayOf, value_at, object_at, default_of, reading_of}
+use Rattle.ix_core.specs.Heap.{Held, Reading, Num, Boolean, Null, At, Heap, Object, Kind, ObjectOf, ArrayOf, value_at, object_at, reading_of}
 use Rattle.ix_core.specs.Machine.{CallKind, Static, Instance, New, Super, Frame, Waiting, State, Limits, is_past, frame, call_values, call_heap, slots_with, receiver_slot, found_at, found_for, callee_of, target_of, set_target, returned_or, result_of, result_shown, resumed, entered, stopped, called, lacks_cells, moved, next_move, step, step_from, Move, Go, Wrap, Tell, Enter, Leave, Stop, Ending, Ended, NullUsed, HeapFull, FrameFull}
 use Rattle.ix_core.specs.Objects.{IsOn, IsIntHeld, KeepsInts, Later, IsKept, IsSame, HasField, MeetsField, IsFree, HeapKeeps, FrameKeeps, IsOwn, IsInput, This, Named, Names, StepKeeps, claim_names, offset_names}
 use Rattle.ix_core.specs.Safe.{Counts, IsBad}

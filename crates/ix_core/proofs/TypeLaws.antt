@@ -1,6 +1,6 @@
 -- Types that are the same, and values of them.
-use Rattle.std.specs.Prelude.{◌≡◌, ℕ, ◌==◌, Bool, true, false, ◌&&◌, List, [], ◌∷◌, Some, refl}
-use Rattle.std.proofs.Common.{ap, sym, subst, ◌∙◌}
+use Rattle.std.specs.Prelude.{◌≡◌, ℕ, ◌==◌, true, ◌&&◌, List, [], ◌∷◌, Some, refl}
+use Rattle.std.proofs.Common.{ap, subst}
 use Rattle.std.proofs.lemmas.Bool.{and_parts, false≢true}
 use Rattle.ix_core.specs.declared.claim.Base.{Base}
 use Rattle.ix_core.specs.declared.claim.Base.TheVariants as base
@@ -9,9 +9,9 @@ use Rattle.ix_core.specs.declared.claim.Type_.{Type_}
 use Rattle.ix_core.specs.declared.claim.Type_.TheVariants as type
 use Rattle.ix_core.specs.declared.program.Program.{Program}
 use Rattle.ix_core.specs.Formed.{ends_within}
-use Rattle.ix_core.specs.Heap.{Held, Num, Boolean, Null, At, Heap, ObjectOf, object_at}
+use Rattle.ix_core.specs.Heap.{Held, Num, Boolean, Null, At, Heap}
 use Rattle.ix_core.specs.SameClaims.{same_claim}
-use Rattle.ix_core.specs.Tables.{ancestors, most_on_way}
+use Rattle.ix_core.specs.Tables.{most_on_way}
 use Rattle.ix_core.specs.Typed.{IsOfType}
 use Rattle.ix_core.specs.Types.{same_base, same_claims, same_type, is_below, is_of}
 use Rattle.ix_core.proofs.Ancestors.{above}

@@ -1,7 +1,7 @@
 -- What a step of a frame that is typed does: each of its moves is one that types allow.
-use Rattle.std.specs.Prelude.{◌≡◌, ℕ, ◌<◌, ◌==◌, Bool, true, false, ◌&&◌, not, if◌then◌else◌, List, length, Option, None, Some, unwrap_or, refl}
-use Rattle.std.proofs.Common.{sym, ap, subst, ◌∙◌}
-use Rattle.std.proofs.lemmas.Bool.{and_parts, false≢true}
+use Rattle.std.specs.Prelude.{◌≡◌, ℕ, Bool, true, false, not, if◌then◌else◌, List, length, Option, None, Some, unwrap_or, refl}
+use Rattle.std.proofs.Common.{ap, subst}
+use Rattle.std.proofs.lemmas.Bool.{and_parts}
 use Rattle.ix_core.specs.declared.claim.Type_.{Type_}
 use Rattle.ix_core.specs.declared.op.CallOp.{CallOp}
 use Rattle.ix_core.specs.declared.op.Op.{Op}
@@ -16,12 +16,12 @@ use Rattle.ix_core.specs.Machine.{Limits, Effect, Done, Wrapped, Printed, Called
 use Rattle.ix_core.specs.Tables.{tables_of, method_at}
 use Rattle.ix_core.specs.Tasks.{Tasks, Empty, Run, Ask, Decide, DecideTruth, Head, Again, Out, code_then, followed_by}
 use Rattle.ix_core.specs.Typed.{IsOfType, HeapTyped, SlotsTyped}
-use Rattle.ix_core.specs.TypedStates.{Gives, Fit, Nothing, Running, Asking, Comparing, Reading, Turning, Returning, Leaving, Lead, Giving, Leads}
+use Rattle.ix_core.specs.TypedStates.{Fit, Nothing, Running, Asking, Comparing, Reading, Turning, Returning, Leaving, Lead, Giving, Leads}
 use Rattle.ix_core.specs.Types.{Types, Point, class_type, is_void, with_type}
 use Rattle.ix_core.proofs.Cases.{by_test}
 use Rattle.ix_core.proofs.TypeLaws.{WaysEnd}
 use Rattle.ix_core.proofs.TypedOperations.{Became, Leaves, IsNoCall, types_of, operation_good}
-use Rattle.ix_core.proofs.TypedTasks.{itself, lead_from, code_leads, condition_step, head_step, again_step, if_step, loop_step, leads_first}
+use Rattle.ix_core.proofs.TypedTasks.{itself, code_leads, condition_step, head_step, again_step, if_step, loop_step, leads_first}
 use Rattle.ix_core.proofs.TypedValues.{read_typed}
 use Rattle.ix_core.proofs.Waiting.{later_refl}
 
@@ -75,7 +75,7 @@ module _ (program : Program) (ends : WaysEnd program) (method : Method) (local_t
       plain_typed done kind tasks after plain fits is leads =
           effect_typed (operate limits (tables_of program) done.span.from slots heap kind) done.span.from tasks after
           (subst (λ p. Leaves program method slots heap (types_of p types) (operate limits (tables_of program) done.span.from slots heap kind)) is
-            (operation_good program ends method local_types types slots heap size typed heap_typed limits done.span.from done kind plain fits))
+          (operation_good program ends method local_types types slots heap size typed heap_typed limits done.span.from done kind plain fits))
           (leads after is)
 
       operation_typed : (done : Op) (kind : OpKind) (tasks : Tasks) → op_fits program method local_types (Some types) done kind ≡ true

@@ -1,13 +1,12 @@
 -- An operation that fits, on slots and a heap that are typed: no slot lies past the frame, each operand is of its type, and what it leaves is typed.
-use Rattle.std.specs.Prelude.{◌≡◌, ◌⊎◌, ℕ, zero, suc, ◌+◌, ◌<◌, ◌≤◌, ◌==◌, nat_lt, ℤ, pos, negsuc, int_le, int_lt, unsigned_abs, Bool, true, false, not, ◌&&◌, ◌||◌, if◌then◌else◌, List, [], ◌∷◌, ◌++◌, length, map, replicate, slice_get, slice_set, Option, None, Some, unwrap_or, refl}
-use Rattle.std.proofs.Common.{arith, sym, ap, subst, ◌∙◌, inl, inr, ⊎_elim}
+use Rattle.std.specs.Prelude.{◌≡◌, ℕ, ◌+◌, ◌<◌, ◌==◌, ℤ, pos, negsuc, int_le, int_lt, unsigned_abs, Bool, true, false, not, ◌&&◌, if◌then◌else◌, List, [], ◌∷◌, ◌++◌, length, map, replicate, slice_set, Option, None, Some, unwrap_or, refl}
+use Rattle.std.proofs.Common.{arith, sym, ap, subst, ◌∙◌}
 use Rattle.std.proofs.lemmas.Bool.{and_parts, false≢true}
 use Rattle.std.proofs.lemmas.Bool.Decides.{nat_tests}
 use Rattle.std.proofs.lemmas.Int.{ints}
 use Rattle.std.proofs.lemmas.List.{length-set}
 use Rattle.ix_num.specs.Arithmetic.{exact_of, wrap_of}
 use Rattle.ix_text.specs.declared.span.Span.{Span}
-use Rattle.ix_core.specs.declared.claim.Base.{Base}
 use Rattle.ix_core.specs.declared.claim.Base.TheVariants as base
 use Rattle.ix_core.specs.declared.claim.Type_.{Type_}
 use Rattle.ix_core.specs.declared.claim.Type_.TheVariants as type
@@ -18,22 +17,22 @@ use Rattle.ix_core.specs.declared.op.OpKind.{OpKind}
 use Rattle.ix_core.specs.declared.op.OpKind.TheVariants as op
 use Rattle.ix_core.specs.declared.program.Method.{Method}
 use Rattle.ix_core.specs.declared.program.Program.{Program}
-use Rattle.ix_core.specs.Formed.{is_array_at, reads, is_slot, is_target, variable_type, copy_fits, op_fits, op_types, literal_type, literal_fits, are_entries, field_fits, at_most, may_be_written}
+use Rattle.ix_core.specs.Formed.{is_array_at, reads, is_slot, is_target, variable_type, copy_fits, op_fits, op_types, literal_type, literal_fits, are_entries, field_fits, at_most}
 use Rattle.ix_core.specs.Heap.{Held, Num, Boolean, Null, At, Heap, Object, Kind, ObjectOf, ArrayOf, value_at, object_at, array_at, array_cells, place_in, cell_default, cells_used, is_within, with_cells, write_at}
-use Rattle.ix_core.specs.Machine.{Limits, Effect, Done, Wrapped, Printed, Called, Stopped, Ending, is_past, is_int, int_at, literal_value, unary_of, assign_int, assign_result, through, at_index, at_place, allocate, new_array, operate}
+use Rattle.ix_core.specs.Machine.{Limits, Effect, Done, Wrapped, Printed, Called, Stopped, is_past, is_int, int_at, literal_value, unary_of, assign_int, assign_result, through, at_place, allocate, new_array, operate}
 use Rattle.ix_core.specs.Objects.{Later}
 use Rattle.ix_core.specs.Tables.{Tables, tables_of, field_at, param_slot, param_slots}
 use Rattle.ix_core.specs.Typed.{IsOfType, HeapTyped, SlotsTyped}
-use Rattle.ix_core.specs.Types.{Types, Point, with_type, int_type, bool_type, cell_type, is_array_type, is_reference_type, is_array, is_of, is_type}
-use Rattle.ix_core.proofs.Cases.{by_test, equal}
+use Rattle.ix_core.specs.Types.{Types, Point, with_type, int_type, cell_type, is_reference_type, is_array, is_of, is_type}
 use Rattle.ix_core.proofs.Entered.{has_on, none_some}
 use Rattle.ix_core.proofs.FieldSteps.{at_kept}
 use Rattle.ix_core.proofs.Heaps.{value_other}
 use Rattle.ix_core.proofs.TypeLaws.{WaysEnd, of_above}
-use Rattle.ix_core.proofs.TypedSteps.{grown_typed, write_later, written_typed, default_typed, copies_typed, array_typed, all_later, AllTyped, ObjectTyped, object_of}
-use Rattle.ix_core.proofs.TypedValues.{array_there, later_typed, slots_later, assign_typed, slot_there, read_typed}
+use Rattle.ix_core.proofs.TypedSteps.{grown_typed, written_typed, default_typed, copies_typed, array_typed, all_later, AllTyped}
+use Rattle.ix_core.proofs.TypedValues.{array_there, slots_later, assign_typed, slot_there, read_typed}
 use Rattle.ix_core.proofs.Waiting.{later_push, later_refl}
 use Rattle.ix_core.proofs.WorldTables.{world_apart}
+use Rattle.ix_core.proofs.Writes.{write_later}
 
 -- What slots and a heap became: as many slots, `this` as it was, typed, on a later heap that is typed.
 pub record Became (program : Program) (method : Method) (slots : List Held) (heap : Heap) (types : Types) (later : List Held) (after : Heap) : Type 0 where
@@ -81,7 +80,7 @@ module _ (program : Program) (ends : WaysEnd program) (method : Method) (local_t
   not_first true count slot e is = absurd (false≢true (sym is))
   not_first false count slot e is = grind (arith, nat_tests)
 
-  target_there : (slot : ℕ) → is_target program method slot ≡ true → CanTake method slots slot
+  pub target_there : (slot : ℕ) → is_target program method slot ≡ true → CanTake method slots slot
   target_there slot e =
       let parts = and_parts (is_slot program method slot) (at_most (param_slots method) slot) e in
       record { within = slot_there program ends method types slots heap size typed slot parts.0; apart = not_first method.is_static (length method.params) slot parts.1 }
@@ -204,7 +203,7 @@ module _ (program : Program) (ends : WaysEnd program) (method : Method) (local_t
         let on = array_there program heap number ty is kind in
         let cell = unsigned_abs (int_at slots index) in
         let new : Object = with_cells object (slice_set object.cells cell (value_at slots value)) in
-        let later : Later heap (write_at heap number cell (value_at slots value)) = write_later program heap number new on refl (length-set object.cells cell (value_at slots value)) in record {
+        let later : Later heap (write_at heap number cell (value_at slots value)) = write_later heap number new on refl (length-set object.cells cell (value_at slots value)) in record {
           size = refl;
           this = λ e. refl;
           typed = slots_later program types slots heap (write_at heap number cell (value_at slots value)) later typed;
@@ -255,7 +254,7 @@ module _ (program : Program) (ends : WaysEnd program) (method : Method) (local_t
         found_good number (Some cell) placed =
             let here = object_at heap number in
             let new : Object = with_cells here (slice_set here.cells cell (value_at slots value)) in
-            let later : Later heap (write_at heap number cell (value_at slots value)) = write_later program heap number new (has_on tables.place heap number field cell placed) refl (length-set here.cells cell (value_at slots value)) in record {
+            let later : Later heap (write_at heap number cell (value_at slots value)) = write_later heap number new (has_on tables.place heap number field cell placed) refl (length-set here.cells cell (value_at slots value)) in record {
               size = refl;
               this = λ e. refl;
               typed = slots_later program types slots heap (write_at heap number cell (value_at slots value)) later typed;

@@ -1,37 +1,22 @@
 -- Each operation of a body that fits leaves slots and heap typed.
-use Rattle.std.specs.Prelude.{◌≡◌, ◌⊎◌, ℕ, zero, suc, ◌+◌, ◌<◌, ◌≤◌, ◌==◌, nat_lt, ℤ, pos, negsuc, int_le, int_lt, unsigned_abs, Bool, true, false, not, ◌&&◌, ◌||◌, if◌then◌else◌, List, [], ◌∷◌, ◌++◌, length, map, replicate, slice_get, slice_set, Option, None, Some, unwrap_or, refl}
-use Rattle.std.proofs.Common.{arith, sym, ap, subst, ◌∙◌, inl, inr, ⊎_elim}
-use Rattle.std.proofs.lemmas.Bool.{and_parts, false≢true}
+use Rattle.std.specs.Prelude.{◌≡◌, ℕ, zero, suc, ◌<◌, nat_lt, true, if◌then◌else◌, List, [], ◌∷◌, ◌++◌, length, replicate, slice_set, Some}
+use Rattle.std.proofs.Common.{arith, sym, subst}
+use Rattle.std.proofs.lemmas.Bool.{false≢true}
 use Rattle.std.proofs.lemmas.Bool.Decides.{nat_tests}
-use Rattle.std.proofs.lemmas.Int.{ints}
-use Rattle.std.proofs.lemmas.List.{length-set, length-replicate, length-map}
-use Rattle.ix_num.specs.Arithmetic.{exact_of, wrap_of}
-use Rattle.ix_core.specs.declared.claim.Base.{Base}
 use Rattle.ix_core.specs.declared.claim.Base.TheVariants as base
-use Rattle.ix_core.specs.declared.claim.Claim.{Claim}
 use Rattle.ix_core.specs.declared.claim.Type_.{Type_}
 use Rattle.ix_core.specs.declared.claim.Type_.TheVariants as type
-use Rattle.ix_core.specs.declared.op.Literal.{Literal}
-use Rattle.ix_core.specs.declared.op.Literal.TheVariants as literal
-use Rattle.ix_core.specs.declared.op.Op.{Op}
-use Rattle.ix_core.specs.declared.op.OpKind.{OpKind}
-use Rattle.ix_core.specs.declared.op.OpKind.TheVariants as op
-use Rattle.ix_core.specs.declared.program.Method.{Method}
 use Rattle.ix_core.specs.declared.program.Program.{Program}
-use Rattle.ix_core.specs.Formed.{reads, is_slot, is_target, variable_type, copy_fits, op_fits, op_types, literal_type, literal_fits, are_entries, field_fits, at_most, may_be_written}
-use Rattle.ix_core.specs.Heap.{Held, Num, Boolean, Null, At, Heap, Object, Kind, ObjectOf, ArrayOf, nothing, value_at, object_at, array_at, array_cells, place_in, default_of_base, cell_default, cells_used, is_within, with_cells, write_at}
-use Rattle.ix_core.specs.Machine.{Limits, Effect, Done, Wrapped, Stopped, Ending, is_past, is_int, int_at, literal_value, unary_of, assign_int, assign_result, through, at_array, at_index, at_place, at_field, allocate, new_array, operate}
+use Rattle.ix_core.specs.Heap.{Held, Null, Heap, Object, ArrayOf, nothing, value_at, object_at, place_in, default_of_base, cell_default}
 use Rattle.ix_core.specs.Objects.{Later}
 use Rattle.ix_core.specs.Tables.{tables_of, field_at}
-use Rattle.ix_core.specs.Typed.{IsOfType, HeapTyped, SlotsTyped}
-use Rattle.ix_core.specs.Types.{Types, Point, with_type, int_type, bool_type, cell_type, is_array_type, is_array, is_of, is_type}
-use Rattle.ix_core.proofs.Cases.{by_test, equal, differ}
+use Rattle.ix_core.specs.Typed.{IsOfType, HeapTyped}
+use Rattle.ix_core.specs.Types.{cell_type, is_array}
 use Rattle.ix_core.proofs.Entered.{at_pushed}
 use Rattle.ix_core.proofs.FieldSteps.{at_kept}
-use Rattle.ix_core.proofs.Heaps.{object_set, object_other, grown_new, value_is}
-use Rattle.ix_core.proofs.TypeLaws.{WaysEnd, of_above}
-use Rattle.ix_core.proofs.TypedValues.{later_typed, slots_later, assign_typed, slot_there, read_typed}
+use Rattle.ix_core.proofs.TypedValues.{later_typed}
 use Rattle.ix_core.proofs.Waiting.{later_push}
+use Rattle.ix_core.proofs.Writes.{write_later}
 
 -- ---- heaps
 
@@ -67,28 +52,12 @@ grown_typed program heap object typed here =
 
 -- an object of the same kind and size in the place of one
 module _ (program : Program) (heap : Heap) (number : ℕ) (new : Object) (on : number < length heap) (kind : new.kind ≡ (object_at heap number).kind) (size : length new.cells ≡ length (object_at heap number).cells) where
-  pub write_later : Later heap (slice_set heap number new)
-  write_later = λ j lt.
-      let long : j < length (slice_set heap number new) = subst (λ n. j < n) (sym (length-set heap number new)) lt in
-      by_test (j == number)
-      (λ t.
-      let is : j ≡ number = equal j number t in
-      let there : object_at (slice_set heap number new) j ≡ new = ap (object_at (slice_set heap number new)) is ∙ object_set heap number new on in
-      record {
-        on = long;
-        kind = ap (λ i. (object_at heap i).kind) is ∙ (sym kind ∙ sym (ap (λ (o : Object). o.kind) there));
-        size = ap (λ i. length (object_at heap i).cells) is ∙ (sym size ∙ sym (ap (λ (o : Object). length o.cells) there));
-      })
-      (λ t.
-      let there : object_at (slice_set heap number new) j ≡ object_at heap j = object_other heap number j new t in
-      record { on = long; kind = ap (λ (o : Object). o.kind) (sym there); size = ap (λ (o : Object). length o.cells) (sym there) })
-
   pub written_typed : HeapTyped program heap → ObjectTyped program heap new → HeapTyped program (slice_set heap number new)
   written_typed typed here =
       heap_of program (slice_set heap number new)
       (at_kept nothing (λ k o. ObjectTyped program (slice_set heap number new) o) heap number new
-      (object_later program heap (slice_set heap number new) new write_later here)
-      (λ k. object_later program heap (slice_set heap number new) (object_at heap k) write_later (object_of program heap typed k)))
+      (object_later program heap (slice_set heap number new) new (write_later heap number new on kind size) here)
+      (λ k. object_later program heap (slice_set heap number new) (object_at heap k) (write_later heap number new on kind size) (object_of program heap typed k)))
 
 -- ---- defaults
 

@@ -1,5 +1,5 @@
 -- Each step of a frame that is no operation leaves tasks that fit.
-use Rattle.std.specs.Prelude.{◌≡◌, ℕ, zero, suc, ◌<◌, nat_lt, ◌==◌, Bool, true, false, ◌&&◌, not, if◌then◌else◌, List, Option, None, Some, unwrap_or, refl}
+use Rattle.std.specs.Prelude.{◌≡◌, ℕ, zero, suc, ◌<◌, nat_lt, ◌==◌, Bool, true, false, ◌&&◌, if◌then◌else◌, List, Option, None, Some, unwrap_or, refl}
 use Rattle.std.proofs.lemmas.Bool.Decides.{nat_tests}
 use Rattle.std.proofs.Common.{arith, sym, ap, subst, ◌∙◌}
 use Rattle.std.proofs.lemmas.Bool.{and_parts, false≢true}
@@ -8,13 +8,12 @@ use Rattle.ix_core.specs.declared.op.Test.{Test}
 use Rattle.ix_core.specs.declared.program.Method.{Method}
 use Rattle.ix_core.specs.declared.program.Program.{Program}
 use Rattle.ix_core.specs.Code.{Code, Condition, End, Do, If, Break, Continue, Return, Throw, Loop, Known, Compare, Truth, Both, Either, Opposite}
-use Rattle.ix_core.specs.Formed.{Ways, Answers, code_ways, condition_ways, operand_fits, reads, is_straight, is_straight_condition, op_fits, op_types, return_fits, body_start}
-use Rattle.ix_core.specs.Heap.{Held, Heap}
+use Rattle.ix_core.specs.Formed.{Ways, Answers, code_ways, condition_ways, operand_fits, reads, is_straight, is_straight_condition, return_fits, body_start}
 use Rattle.ix_core.specs.Machine.{step_condition}
 use Rattle.ix_core.specs.Tasks.{Tasks, Empty, Run, Ask, Decide, DecideTruth, Head, Again, Out, code_then, followed_by, behind_loop, next_turn}
 use Rattle.ix_core.specs.Typed.{SlotsTyped}
-use Rattle.ix_core.specs.TypedStates.{Gives, TurnFits, Fit, Nothing, Running, Asking, Comparing, Reading, Turning, Returning, Leaving, Lead, Giving, Leads}
-use Rattle.ix_core.specs.Types.{Types, Point, if_same, meeting, same_type, bool_type, types_below, point_below, says, says_below, keeps_types}
+use Rattle.ix_core.specs.TypedStates.{Gives, TurnFits, Fit, Running, Asking, Comparing, Reading, Turning, Returning, Leaving, Lead, Giving, Leads}
+use Rattle.ix_core.specs.Types.{Types, Point, if_same, meeting, same_type, bool_type, types_below, says, says_below, keeps_types}
 use Rattle.ix_core.proofs.Cases.{by_test, equal, differ}
 use Rattle.ix_core.proofs.TypeLaws.{type_is}
 
@@ -309,13 +308,13 @@ module _ (program : Program) where
         = code_leads in_loop rest tasks (meeting one.ends two.ends) c.1 ends (leads_second two.breaks three.breaks (behind_loop tasks) behind) (leads_second two.turns three.turns (next_turn tasks) turning) in
         asks asked (code_then first Empty) (code_then second Empty) (code_then rest tasks) (Some types) a.0
         (subst (λ t. Leads program method local_types answers.holds t) (sym (followed_code first Empty (code_then rest tasks)))
-          (code_leads in_loop first (code_then rest tasks) answers.holds b.0 (leads_first one.ends two.ends (code_then rest tasks) later)
-          (subst (λ t. Leads program method local_types one.breaks t) (sym (behind_code rest tasks)) (leads_first one.breaks (meeting two.breaks three.breaks) (behind_loop tasks) breaks))
-          (subst (λ t. Leads program method local_types one.turns t) (sym (turn_code rest tasks)) (leads_first one.turns (meeting two.turns three.turns) (next_turn tasks) turns))))
+        (code_leads in_loop first (code_then rest tasks) answers.holds b.0 (leads_first one.ends two.ends (code_then rest tasks) later)
+        (subst (λ t. Leads program method local_types one.breaks t) (sym (behind_code rest tasks)) (leads_first one.breaks (meeting two.breaks three.breaks) (behind_loop tasks) breaks))
+        (subst (λ t. Leads program method local_types one.turns t) (sym (turn_code rest tasks)) (leads_first one.turns (meeting two.turns three.turns) (next_turn tasks) turns))))
         (subst (λ t. Leads program method local_types answers.fails t) (sym (followed_code second Empty (code_then rest tasks)))
-          (code_leads in_loop second (code_then rest tasks) answers.fails c.0 (leads_second one.ends two.ends (code_then rest tasks) later)
-          (subst (λ t. Leads program method local_types two.breaks t) (sym (behind_code rest tasks)) (leads_first two.breaks three.breaks (behind_loop tasks) behind))
-          (subst (λ t. Leads program method local_types two.turns t) (sym (turn_code rest tasks)) (leads_first two.turns three.turns (next_turn tasks) turning))))
+        (code_leads in_loop second (code_then rest tasks) answers.fails c.0 (leads_second one.ends two.ends (code_then rest tasks) later)
+        (subst (λ t. Leads program method local_types two.breaks t) (sym (behind_code rest tasks)) (leads_first two.breaks three.breaks (behind_loop tasks) behind))
+        (subst (λ t. Leads program method local_types two.turns t) (sym (turn_code rest tasks)) (leads_first two.turns three.turns (next_turn tasks) turning))))
         types refl
 
     pub loop_step : (in_loop test_first : Bool) (asked : Condition) (body next : Code) (number scope : ℕ) (rest : Code) (tasks : Tasks) (types : Types) → (Ways_ in_loop (Loop test_first asked body next number scope rest) (Some types)).fits ≡ true
@@ -361,7 +360,7 @@ module _ (program : Program) where
         let back : Leads program method local_types (meeting one.ends one.turns) (Again asked body next (Out behind)) = λ at is. lead_from _ at kept (turn.body_keeps at is) again in
         subst (λ x. Lead program method local_types (if x then Head asked body next (Out behind) else code_then body (Again asked body next (Out behind))) types) (sym t)
         (lead_from _ types kept (gives_below scope types)
-          (code_leads true body (Again asked body next (Out behind)) start c.0 (leads_first one.ends one.turns (Again asked body next (Out behind)) back) leave (leads_second one.ends one.turns (Again asked body next (Out behind)) back) kept from_kept)))
+        (code_leads true body (Again asked body next (Out behind)) start c.0 (leads_first one.ends one.turns (Again asked body next (Out behind)) back) leave (leads_second one.ends one.turns (Again asked body next (Out behind)) back) kept from_kept)))
       where
         out_lead : {behind : Tasks} (at : Types) → Lead program method local_types behind at → Lead program method local_types (Out behind) at
         out_lead {behind} at (Giving _ _ needed gives fit) = Giving (Out behind) at needed gives (Leaving behind needed fit)

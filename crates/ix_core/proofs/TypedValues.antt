@@ -1,6 +1,6 @@
 -- Values of types on a later heap, and what a slot holds that fits.
-use Rattle.std.specs.Prelude.{◌≡◌, ◌⊎◌, ℕ, ◌+◌, ◌<◌, ◌≤◌, ◌==◌, nat_lt, ℤ, pos, Bool, true, false, ◌&&◌, if◌then◌else◌, List, [], ◌∷◌, ◌++◌, length, slice_set, Option, None, Some, unwrap_or, refl}
-use Rattle.std.proofs.Common.{arith, sym, ap, subst, ◌∙◌, inl, inr, ⊎_elim}
+use Rattle.std.specs.Prelude.{◌≡◌, ◌⊎◌, ℕ, ◌<◌, ◌≤◌, ◌==◌, nat_lt, ℤ, Bool, true, List, length, slice_set, Option, None, Some, unwrap_or, refl}
+use Rattle.std.proofs.Common.{arith, sym, ap, subst, ◌∙◌, inl, inr}
 use Rattle.std.proofs.lemmas.Bool.{and_parts, false≢true}
 use Rattle.std.proofs.lemmas.Bool.Decides.{nat_tests}
 use Rattle.std.proofs.lemmas.Option.{slice_get_past}
@@ -11,10 +11,10 @@ use Rattle.ix_core.specs.declared.claim.Type_.TheVariants as type
 use Rattle.ix_core.specs.declared.program.Method.{Method}
 use Rattle.ix_core.specs.declared.program.Program.{Program}
 use Rattle.ix_core.specs.Formed.{reads, type_at, type_fits, is_slot}
-use Rattle.ix_core.specs.Heap.{Held, Num, Boolean, Null, At, Heap, Object, Kind, ObjectOf, ArrayOf, nothing, value_at, object_at, default_of}
+use Rattle.ix_core.specs.Heap.{Held, Num, Boolean, Null, At, Heap, Object, Kind, ArrayOf, nothing, value_at, object_at}
 use Rattle.ix_core.specs.Objects.{Later}
 use Rattle.ix_core.specs.Typed.{IsOfType, SlotsTyped}
-use Rattle.ix_core.specs.Types.{Types, Point, with_type, int_type, bool_type, is_array, is_of}
+use Rattle.ix_core.specs.Types.{Types, with_type, int_type, bool_type, is_array}
 use Rattle.ix_core.proofs.Cases.{by_test, equal}
 use Rattle.ix_core.proofs.Heaps.{value_set, value_other}
 use Rattle.ix_core.proofs.TypeLaws.{WaysEnd, of_above}

@@ -13,7 +13,7 @@ use Rattle.ix_core.specs.World.{World, world_of}
 use Rattle.ix_core.proofs.Cases.{equal}
 
 -- the place is one later, and the number stands there
-IsThere : List ℕ → ℕ → ℕ → Type 0
+abbrev pub IsThere : List ℕ → ℕ → ℕ → Type 0
 IsThere numbers number place = (place < length numbers) × (unwrap_or (slice_get numbers place) 0 ≡ number)
 
 later_there : (first : ℕ) (rest : List ℕ) (number place : ℕ) (found : Option ℕ) → ((at : ℕ) → found ≡ Some at → IsThere rest number at) → option_map (λ (at : ℕ). at + 1) found ≡ Some place → IsThere (first ∷ rest) number place
@@ -32,7 +32,7 @@ if_there true first rest number place t rec e =
     subst (λ p. (p < suc (length rest)) × (unwrap_or (slice_get (first ∷ rest) p) 0 ≡ number)) is (omega (arith), equal first number t)
 if_there false first rest number place t rec e = later_there first rest number place (place_among rest number) rec e
 
-there : (numbers : List ℕ) (number place : ℕ) → place_among numbers number ≡ Some place → IsThere numbers number place
+pub there : (numbers : List ℕ) (number place : ℕ) → place_among numbers number ≡ Some place → IsThere numbers number place
 there [] number place e = absurd cc
 there (first ∷ rest) number place e = if_there (first == number) first rest number place refl (λ at d. there rest number at d) e
 

@@ -1,16 +1,14 @@
 -- What an analysis owes so that a program in which it derives no error is safe: laws over any stores, which speak of one frame and of one step.
-use Rattle.std.specs.Prelude.{◌≡◌, ℕ, ◌<◌, ◌≤◌, ◌==◌, ◌&&◌, ◌||◌, not, Bool, true, false, pos, List, [], length, Option, None, Some}
+use Rattle.std.specs.Prelude.{◌≡◌, ℕ, ◌<◌, ◌≤◌, true, false, pos, List, [], length, Option, None, Some}
 use Rattle.ix_core.specs.declared.claim.Name.TheVariants.{Local, FieldNamed}
-use Rattle.ix_core.specs.declared.fact.Path.{Path}
-use Rattle.ix_core.specs.declared.fact.Path.TheVariants.{Slot, FieldOf}
 use Rattle.ix_core.specs.declared.fact.Profile.{Profile}
 use Rattle.ix_core.specs.declared.fact.Profile.TheVariants.{Int32}
 use Rattle.ix_core.specs.declared.op.CallOp.{CallOp}
 use Rattle.ix_core.specs.declared.program.Method.{Method}
 use Rattle.ix_core.specs.Claims.{AreTrue}
-use Rattle.ix_core.specs.Heap.{Held, Num, Boolean, Null, At, Heap, ObjectOf, value_at, reading_of, default_of}
+use Rattle.ix_core.specs.Heap.{Held, Num, Boolean, Null, At, Heap, ObjectOf, value_at, reading_of}
 use Rattle.ix_core.specs.Machine.{CallKind, Limits, Move, Go, Wrap, Tell, Enter, Leave, Stop, step_tasks, call_values, call_heap, result_of, set_target, target_of}
-use Rattle.ix_core.specs.Objects.{IsOn, AllOn, IsIntHeld, KeepsInts, Later, IsSame, HasField, MeetsField, MeetsFields, MeetsElements, IsFree, HeapKeeps, FrameKeeps, IsOwn, StepKeeps, Names}
+use Rattle.ix_core.specs.Objects.{IsOn, AllOn, IsIntHeld, KeepsInts, Later, IsSame, HasField, MeetsField, IsFree, HeapKeeps, FrameKeeps, StepKeeps, Names}
 use Rattle.ix_core.specs.Safe.{IsBad}
 use Rattle.ix_core.specs.Tasks.{Tasks, Empty, code_then}
 use Rattle.ix_core.specs.Waits.{Knowledge, FitsCall, MeetParams, param_readings, Since, is_super, AreFresh}

@@ -1,6 +1,6 @@
 -- What every program has that the lowering gives: numbers in range, types that fit, calls that fit. Each part stands beside the item that it speaks of, and
 -- each is computed. The types of locals are given, since the plain form has none.
-use Rattle.std.specs.Prelude.{◌≡◌, ℕ, zero, suc, ◌+◌, Bool, true, false, if◌then◌else◌, not, ◌==◌, nat_lt, ◌&&◌, ◌||◌, List, [], ◌∷◌, ◌++◌, length, slice_get, count_by, filter, Option, None, Some, unwrap_or}
+use Rattle.std.specs.Prelude.{◌≡◌, ℕ, zero, suc, ◌+◌, Bool, true, false, if◌then◌else◌, not, ◌==◌, nat_lt, ◌&&◌, ◌||◌, List, [], ◌∷◌, ◌++◌, length, slice_get, count_by, Option, None, Some, unwrap_or}
 use Rattle.std.specs.List.{list_all}
 use Rattle.ix_text.specs.declared.span.Span.{Span}
 use Rattle.ix_core.specs.declared.claim.Base.TheVariants as base
@@ -27,9 +27,9 @@ use Rattle.ix_core.specs.declared.program.Method.{Method}
 use Rattle.ix_core.specs.declared.program.Program.{Program}
 use Rattle.ix_core.specs.Code.{Code, End, Do, If, Break, Continue, Return, Throw, Loop, Condition, Known, Compare, Truth, Both, Either, Opposite}
 use Rattle.ix_core.specs.Machine.{is_int}
-use Rattle.ix_core.specs.Tables.{param_slot, param_slots, method_at, class_at, field_at, body_of, most_on_way, way_up, ancestors, overridden, all_fields, is_among}
+use Rattle.ix_core.specs.Tables.{param_slot, param_slots, method_at, class_at, field_at, body_of, most_on_way, overridden, all_fields, is_among}
 use Rattle.ix_core.specs.SameClaims.{same_name}
-use Rattle.ix_core.specs.Types.{int_type, bool_type, class_type, same_type, is_empty, is_void, is_int_type, is_array_type, is_reference_type, is_array, cell_type, is_class, is_type, is_below, is_of, Types, Point, with_type, meeting, point_below, keeps_types}
+use Rattle.ix_core.specs.Types.{int_type, bool_type, class_type, same_type, is_empty, is_void, is_int_type, is_array_type, is_reference_type, is_array, cell_type, is_class, is_type, is_below, is_of, Point, with_type, meeting, point_below, keeps_types}
 
 abbrev pub at_most : ℕ → ℕ → Bool
 at_most count most = nat_lt count (most + 1)
@@ -436,11 +436,19 @@ module _ (program : Program) (method : Method) where
   result_fits = if is_void method.result then is_empty method.result_claims
       else is_type program method.result && list_all (claim_fits method.result named_type) method.result_claims
 
+  -- a constructor is no static method, and has no result
+  abbrev pub constructor_fits : Bool
+  constructor_fits = not method.constructor || (not method.is_static && is_void method.result)
+
+  abbrev pub has_parent : Bool
+  has_parent = is_some_of (class_at program method.class).parent
+
+  -- a constructor of a class with a parent calls the parent's once, as an item of its body itself (JLS 8.8.7.1)
   abbrev pub super_calls_fit : Bool
-  super_calls_fit = (super_calls (body_of method) == wanted) && (own_super_calls (body_of method) == wanted)
-    where
-      wanted : ℕ
-      wanted = one_if (method.constructor && is_some_of (class_at program method.class).parent)
+  super_calls_fit = (super_calls (body_of method) == one_if (method.constructor && has_parent)) && (own_super_calls (body_of method) == one_if (method.constructor && has_parent))
+
+  abbrev pub is_proper_ancestor : ℕ → Bool
+  is_proper_ancestor class = not (class == method.class) && is_below program method.class class
 
   -- An overriding method and the overridden one are instance methods and no constructors, of the same types, and its class is below the other's (JLS 8.4.8).
   abbrev pub overrides_fit : Option ℕ → Bool
@@ -448,16 +456,14 @@ module _ (program : Program) (method : Method) where
   overrides_fit (Some over) = is_there program.methods over && (not method.is_static && (not method.constructor
       && (not (method_at program over).is_static && (not (method_at program over).constructor
       && (is_proper_ancestor (method_at program over).class && (same_types method.param_types (method_at program over).param_types && same_type method.result (method_at program over).result))))))
-    where
-      is_proper_ancestor : ℕ → Bool
-      is_proper_ancestor class = not (class == method.class) && is_below program method.class class
 
-  -- at the entry: `this`, but not where the parent's constructor has to run first, and the parameters
+  -- `this`, but not where the parent's constructor has to run first
+  abbrev pub this_type : ℕ → Option Type_
+  this_type slot = if not method.is_static && ((slot == 0) && not (method.constructor && has_parent)) then Some (class_type method.class) else None
+
+  -- at the entry: the parameters, and `this`
   abbrev pub entry_type : ℕ → Option Type_
   entry_type slot = first_type (param_type_from (param_slot method 0) method.param_types slot) (this_type slot)
-    where
-      this_type : ℕ → Option Type_
-      this_type slot = if not method.is_static && ((slot == 0) && not (method.constructor && is_some_of (class_at program method.class).parent)) then Some (class_type method.class) else None
 
   -- the types of the method's locals, by their numbers
   module _ (local_types : List Type_) where
@@ -571,9 +577,6 @@ module _ (program : Program) (method : Method) where
         && (nat_lt (code_size (body_of method)) 268435456
         && (super_calls_fit
         && body_fits)))))))))))
-      where
-        constructor_fits : Bool
-        constructor_fits = not method.constructor || (not method.is_static && is_void method.result)
 
 -- ---- classes and fields
 

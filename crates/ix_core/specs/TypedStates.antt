@@ -1,11 +1,11 @@
 -- A state of a formed program: its heap is typed, and each frame has types from which its tasks fit.
-use Rattle.std.specs.Prelude.{◌≡◌, ℕ, ◌<◌, ◌==◌, Bool, true, false, ◌&&◌, List, [], ◌∷◌, length, slice_get, Option, None, Some, unwrap_or}
+use Rattle.std.specs.Prelude.{◌≡◌, ℕ, ◌<◌, ◌==◌, Bool, true, false, List, [], ◌∷◌, length, Option, None, Some}
 use Rattle.ix_core.specs.declared.claim.Type_.{Type_}
 use Rattle.ix_core.specs.declared.op.Test.{Test}
 use Rattle.ix_core.specs.declared.program.Method.{Method}
 use Rattle.ix_core.specs.declared.program.Program.{Program}
 use Rattle.ix_core.specs.Code.{Code, Condition}
-use Rattle.ix_core.specs.Formed.{Ways, Answers, code_ways, condition_ways, operand_fits, reads}
+use Rattle.ix_core.specs.Formed.{code_ways, condition_ways, operand_fits, reads}
 use Rattle.ix_core.specs.Heap.{Held, Heap, value_at}
 use Rattle.ix_core.specs.Machine.{Frame, Waiting, State}
 use Rattle.ix_core.specs.Tables.{method_at}
@@ -98,11 +98,12 @@ module _ (program : Program) (locals : ℕ → List Type_) where
     pub slots : SlotsFit waiting.frame types heap
     pub resumes : Resumes waiting.frame types callee waiting.target
 
-  abbrev pub WaitsTyped : List Waiting → Frame → Heap → Type 0
+  -- all frames that wait, of which the first waits for a frame of the callee
+  abbrev pub WaitsTyped : List Waiting → ℕ → Heap → Type 0
   WaitsTyped [] callee heap = Unit {0}
-  WaitsTyped (waiting ∷ below) callee heap = WaitingTyped waiting (method_at program callee.method) heap × WaitsTyped below waiting.frame heap
+  WaitsTyped (waiting ∷ below) callee heap = WaitingTyped waiting (method_at program callee) heap × WaitsTyped below waiting.frame.method heap
 
   pub record StateTyped (state : State) : Type 0 where
     pub heap : HeapTyped program state.heap
     pub now : FrameTyped state.now state.heap
-    pub below : WaitsTyped state.below state.now state.heap
+    pub below : WaitsTyped state.below state.now.method state.heap

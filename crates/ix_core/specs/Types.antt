@@ -1,5 +1,5 @@
 -- Types as values: when two are one, when a value of one is a value of another, and what each slot of a frame holds at a point of a body.
-use Rattle.std.specs.Prelude.{ℕ, zero, suc, ◌+◌, Bool, true, false, if◌then◌else◌, not, ◌==◌, nat_lt, ◌&&◌, List, [], ◌∷◌, length, Option, None, Some}
+use Rattle.std.specs.Prelude.{ℕ, zero, suc, Bool, true, false, if◌then◌else◌, ◌==◌, nat_lt, ◌&&◌, List, [], ◌∷◌, length, Option, None, Some}
 use Rattle.std.specs.List.{list_all}
 use Rattle.ix_core.specs.declared.claim.Base.{Base}
 use Rattle.ix_core.specs.declared.claim.Base.TheVariants as base

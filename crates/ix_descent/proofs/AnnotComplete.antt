@@ -62,6 +62,8 @@ value_reads _ _ (grammar.number found) us = refl
 value_reads _ _ (grammar.minus_number minus found) us = refl
 value_reads _ _ (grammar.least minus span) us = refl
 value_reads _ _ (grammar.one_text found) us = refl
+value_reads _ _ (grammar.truth span) us = refl
+value_reads _ _ (grammar.falsity span) us = refl
 value_reads _ _ (grammar.no_texts left right) us = refl
 value_reads _ _ (grammar.texts left right {tokens} {found} d) us =
     ap (λ y. run annot_value (sign OPEN_BRACE left ∷ y)) (append_assoc tokens (sign CLOSE_BRACE right ∷ []) us) ∙ value_brace left (tokens ++ sign CLOSE_BRACE right ∷ us) ∙ braced_reads left right tokens found d us
@@ -71,6 +73,8 @@ value_starts _ _ (grammar.number found) us = (refl, refl)
 value_starts _ _ (grammar.minus_number minus found) us = (refl, refl)
 value_starts _ _ (grammar.least minus span) us = (refl, refl)
 value_starts _ _ (grammar.one_text found) us = (refl, refl)
+value_starts _ _ (grammar.truth span) us = (refl, refl)
+value_starts _ _ (grammar.falsity span) us = (refl, refl)
 value_starts _ _ (grammar.no_texts left right) us = (refl, refl)
 value_starts _ _ (grammar.texts left right d) us = (refl, refl)
 

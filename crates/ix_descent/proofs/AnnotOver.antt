@@ -68,7 +68,8 @@ negative_over minus = over_token _ _ _ _ _ (λ n. over_pure _) (over_last _ _)
 
 pub value_over : Over annot_value annot_value
 unfolding annot_value
-value_over = over_token _ _ _ _ _ negative_over (over_token _ _ _ _ _ (λ n. over_pure _) (over_token _ _ _ _ _ (λ text. over_pure _) (over_token _ _ _ _ _ braced_over over_stop)))
+value_over = over_token _ _ _ _ _ negative_over (over_token _ _ _ _ _ (λ n. over_pure _) (over_token _ _ _ _ _ (λ text. over_pure _)
+    (over_token _ _ _ _ _ (λ s. over_pure _) (over_token _ _ _ _ _ (λ s. over_pure _) (over_token _ _ _ _ _ braced_over over_stop)))))
 
 named_value_over : (name : Ident) → Over (named_value name) (named_value name)
 unfolding named_value

@@ -35,7 +35,8 @@ negative_sound minus = number_sound _ _ _ (λ x. pure_sound _ (grammar.minus_num
 
 pub value_sound : Sound IsValue annot_value
 unfolding annot_value
-value_sound = sign_sound _ _ _ _ negative_sound (number_sound _ _ _ (λ x. pure_sound _ (grammar.number x)) (text_sound _ _ _ (λ x. pure_sound _ (grammar.one_text x)) (sign_sound _ _ _ _ braced_sound stop_sound)))
+value_sound = sign_sound _ _ _ _ negative_sound (number_sound _ _ _ (λ x. pure_sound _ (grammar.number x)) (text_sound _ _ _ (λ x. pure_sound _ (grammar.one_text x))
+    (sign_sound _ _ _ _ (λ s. pure_sound _ (grammar.truth s)) (sign_sound _ _ _ _ (λ s. pure_sound _ (grammar.falsity s)) (sign_sound _ _ _ _ braced_sound stop_sound)))))
 
 pub named_value_sound : (name : Ident) → Sound (λ ts a. IsNamed (name_token name ∷ ts) a) (named_value name)
 unfolding named_value

@@ -54,7 +54,8 @@ value_goes = (_, _, grammar.one_text some_text)
 pub value_viable : Viable IsValue annot_value
 unfolding annot_value
 value_viable = sign_viable _ _ _ _ (λ f. absurd (cc)) (λ f minus. negative_viable minus) (number_viable _ _ _ (λ f. absurd (cc)) (λ f x. pure_viable _)
-    (text_viable _ _ _ (λ f. absurd (cc)) (λ f x. pure_viable _) (sign_viable _ _ _ _ (λ f. absurd (cc)) (λ f left. braced_viable left) (stop_viable value_goes))))
+    (text_viable _ _ _ (λ f. absurd (cc)) (λ f x. pure_viable _) (sign_viable _ _ _ _ (λ f. absurd (cc)) (λ f s. pure_viable _) (sign_viable _ _ _ _ (λ f. absurd (cc)) (λ f s. pure_viable _)
+    (sign_viable _ _ _ _ (λ f. absurd (cc)) (λ f left. braced_viable left) (stop_viable value_goes))))))
 
 -- ---- arguments
 

@@ -1,12 +1,12 @@
 -- How annotations are read (JLS 9.7). The number is the height that is left for an annotation.
-use Rattle.std.specs.Prelude.{ℕ, neg_ℤ, negsuc, nat_le, true, List, [], ◌∷◌}
+use Rattle.std.specs.Prelude.{ℕ, neg_ℤ, negsuc, nat_le, true, false, List, [], ◌∷◌}
 use Rattle.ix_text.specs.declared.span.Span.{Span}
-use Rattle.ix_lexer.specs.declared.fixed.TheConstants.{AT, ASSIGN, MINUS, OPEN_BRACE, CLOSE_BRACE, OPEN_PAREN, CLOSE_PAREN}
+use Rattle.ix_lexer.specs.declared.fixed.TheConstants.{AT, ASSIGN, MINUS, TRUE, FALSE, OPEN_BRACE, CLOSE_BRACE, OPEN_PAREN, CLOSE_PAREN}
 use Rattle.ix_tree.specs.declared.annot.Ident.{Ident}
 use Rattle.ix_tree.specs.declared.annot.Annot.{Annot}
 use Rattle.ix_tree.specs.declared.annot.AnnotArg.{AnnotArg}
 use Rattle.ix_tree.specs.declared.annot.AnnotValue.{AnnotValue}
-use Rattle.ix_tree.specs.declared.annot.AnnotValue.TheVariants.{Number, Texts}
+use Rattle.ix_tree.specs.declared.annot.AnnotValue.TheVariants.{Number, Truth, Texts}
 use Rattle.ix_grammar.specs.Nodes.{across}
 use Rattle.ix_grammar.specs.declared.found.At.{At}
 use Rattle.ix_grammar.specs.declared.found.Notes.{Notes}
@@ -33,13 +33,15 @@ negative minus =
     take a_number true (λ n. pure (valued (Number (neg_ℤ n.value)) (across minus n.span)))
     (take a_least true (λ least. pure (valued (Number (negsuc 2147483647)) (across minus least))) stop)
 
--- Value = ["-"] IntLit | "-" MinLit | String | "{" [String {"," String}] "}"
+-- Value = ["-"] IntLit | "-" MinLit | String | "true" | "false" | "{" [String {"," String}] "}"
 unfoldable pub annot_value : Rule (At AnnotValue)
 annot_value =
     take (a_sign MINUS) true negative
     (take a_number true (λ n. pure (valued (Number n.value) n.span))
     (take a_text true (λ text. pure (valued (Texts (text.value ∷ [])) text.span))
-    (take (a_sign OPEN_BRACE) true braced stop)))
+    (take (a_sign TRUE) true (λ span. pure (valued (Truth true) span))
+    (take (a_sign FALSE) true (λ span. pure (valued (Truth false) span))
+    (take (a_sign OPEN_BRACE) true braced stop)))))
 
 -- "=" Value, behind the name
 unfoldable pub named_value : Ident → Rule AnnotArg

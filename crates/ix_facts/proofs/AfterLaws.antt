@@ -26,7 +26,8 @@ use Rattle.ix_facts.proofs.FinishLaws.{finish_int_holds, finish_array_holds, fin
 use Rattle.ix_facts.proofs.Frame.{without_holds, without_stays}
 use Rattle.ix_facts.proofs.OperationsHold.{new_facts_hold}
 use Rattle.ix_facts.proofs.RuleForms.{if_so_holds, stronger_if}
-use Rattle.ix_facts.proofs.RulesHold.{Alike, copied_hold}
+use Rattle.ix_facts.specs.Laws.{Alike}
+use Rattle.ix_facts.proofs.RulesHold.{copied_hold}
 
 -- what an operation gives its target it gives of the operands as they are after the step, since it changes none
 pub results_now : (profile : Profile) (kind : OpKind) (v w : Numbers) → TargetApart kind → SameBut (of_target kind) v w → Results profile kind v w → Results profile kind w w

@@ -40,3 +40,5 @@ pub mod SplitSound
 pub mod StepLaws
 pub mod StoresHold
 pub mod StoreSamples
+pub mod ClassesStay
+pub mod RoundedStays

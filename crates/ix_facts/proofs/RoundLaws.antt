@@ -26,13 +26,13 @@ above_gives : (marks : List ℤ) (n : ℤ) → Gives (mark_above marks n) (λ m.
 above_gives [] n = tt
 above_gives (mark ∷ marks) n = gives_best (λ m. n ≤ℤ m) int_min min_chooses (when (int_le n mark) (Some mark)) (mark_above marks n) (gives_when (λ m. n ≤ℤ m) (Some mark) (int_le n mark) (λ t. at_most_true n mark t)) (above_gives marks n)
 
-below_mono : (marks : List ℤ) (m n : ℤ) → m ≤ℤ n → Worse Up (mark_below marks m) (mark_below marks n)
+pub below_mono : (marks : List ℤ) (m n : ℤ) → m ≤ℤ n → Worse Up (mark_below marks m) (mark_below marks n)
 below_mono [] m n h = tt
 below_mono (mark ∷ marks) m n h =
     worse_best Up int_max up_laws (when (int_le mark m) (Some mark)) (mark_below marks m) (when (int_le mark n) (Some mark)) (mark_below marks n)
     (worse_when Up (Some mark) (Some mark) (int_le mark m) (int_le mark n) (still_at_least m n mark h) (λ t. omega (arith, ints))) (below_mono marks m n h)
 
-above_mono : (marks : List ℤ) (m n : ℤ) → m ≤ℤ n → Worse Down (mark_above marks n) (mark_above marks m)
+pub above_mono : (marks : List ℤ) (m n : ℤ) → m ≤ℤ n → Worse Down (mark_above marks n) (mark_above marks m)
 above_mono [] m n h = tt
 above_mono (mark ∷ marks) m n h =
     worse_best Down int_min down_laws (when (int_le n mark) (Some mark)) (mark_above marks n) (when (int_le m mark) (Some mark)) (mark_above marks m)

@@ -1,5 +1,5 @@
 -- Bounds, claims, rounding and forgets, computed by the definitions. What is expected comes from an independent checker.
-use Rattle.std.specs.Prelude.{◌≡◌, true, false, ◌==◌, pos, negsuc, List, [], ◌∷◌, Some, None, refl}
+use Rattle.std.specs.Prelude.{◌≡◌, true, false, ◌==◌, pos, negsuc, List, [], ◌∷◌, Some, refl}
 use Rattle.ix_core.specs.declared.fact.PathClaim.TheVariants as claim
 use Rattle.ix_facts.specs.Facts.{in_orders}
 use Rattle.ix_facts.specs.Bounds

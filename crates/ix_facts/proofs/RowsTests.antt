@@ -4,7 +4,7 @@ use Rattle.ix_num.specs.declared.rel.Rel.TheVariants as rel
 use Rattle.ix_facts.specs.AfterTest.{when_true, when_false}
 use Rattle.ix_facts.proofs.SameFacts.{int, ints, same_facts, told}
 use Rattle.ix_core.specs.declared.fact.Path.TheVariants.{Slot, FieldOf}
-use Rattle.ix_core.specs.declared.fact.PathOff.TheVariants.{Nothing, Plus, Minus}
+use Rattle.ix_core.specs.declared.fact.PathOff.TheVariants.{Nothing, Plus}
 use Rattle.ix_core.specs.declared.fact.Fact.{Fact}
 use Rattle.ix_core.specs.declared.fact.Fact.TheVariants.{Rng, LenRng, Low, Same, IsLen, Less, Sum, Search, Neg, Upper}
 

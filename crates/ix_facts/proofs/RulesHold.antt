@@ -20,6 +20,7 @@ use Rattle.ix_facts.specs.Bounds.{is_path}
 use Rattle.ix_facts.specs.Exact.{if_so, each, each_path, if_some, named_arrays, lies_in_int, fits, range_facts, low_facts, class_facts, class_number}
 use Rattle.ix_facts.specs.AfterOperation as after
 use Rattle.ix_facts.specs.AfterOperation.{Computed}
+use Rattle.ix_facts.specs.Laws.{Alike}
 use Rattle.ix_facts.proofs.Gives.{Gives}
 use Rattle.ix_facts.proofs.Tests.{at_most_true}
 use Rattle.ix_facts.proofs.BoundsHold.{int_same, size_same, LessIs, UpperIs, lower_holds, limit_holds, length_low_holds, length_high_holds, fact_less_holds, upper_holds, less_holds}
@@ -55,10 +56,6 @@ module _ (w : Numbers) (profile : Profile) (t : Path) (exact : Interval) (result
 
 -- ---- copies
 
--- two paths with the same numbers
-pub record Alike (w : Numbers) (t s : Path) : Type 0 where
-  pub int : w.int t ≡ w.int s
-  pub size : w.size t ≡ w.size s
 
 module _ (w : Numbers) (t s : Path) (a : Alike w t s) where
   copy_like : (p : Path) → is_path p s ≡ true → Alike w t p

@@ -39,7 +39,7 @@ step_exact profile kind facts v w apart step h =
     goes_on_exact profile kind (beside_target kind facts) w (in_orders_hold w (without (of_target kind) facts) (unnamed_stay (of_target kind) v w step.others facts h)) (results_now profile kind v w apart step.others step.results)
 
 pub copied_meets : (ty : Type_) (t p : Path) (v w : Numbers) → Alike w t p → SameBut (of_path t) v w → (s u : Stored) → IsCopied ty t p s u → Meets s v → Meets u w
-copied_meets ty t p v w alike others = given_meets (with_copy ty t p) v w (λ facts h. copy_hold (without (of_path t) facts) w ty t p (record { int = alike.0; size = alike.1 }) (unnamed_stay (of_path t) v w others facts h))
+copied_meets ty t p v w alike others = given_meets (with_copy ty t p) v w (λ facts h. copy_hold (without (of_path t) facts) w ty t p alike (unnamed_stay (of_path t) v w others facts h))
 
 pub forgotten_meets : (is : Path → Bool) (v w : Numbers) → SameBut is v w → (s t : Stored) → IsForgotten is s t → Meets s v → Meets t w
 forgotten_meets is v w others = given_meets (without is) v w (unnamed_stay is v w others)
@@ -78,11 +78,11 @@ added_two more fewer (Reached x) (Reached y) u w a b g h =
 
 pub read_meets : (ty : Type_) (t o f : ℕ) (v w : Numbers) → of_slot t (Slot o) ≡ false → IsRead t o f v w → (s u : Stored) → IsCopied ty (Slot t) (FieldOf o f) s u → Meets s v → Meets u w
 read_meets ty t o f v w apart read =
-    copied_meets ty (Slot t) (FieldOf o f) v w (let e = read.others (FieldOf o f) apart in (read.int ∙ sym e.0, read.size ∙ sym e.1)) read.others
+    copied_meets ty (Slot t) (FieldOf o f) v w (let e = read.others (FieldOf o f) apart in record { int = read.int ∙ sym e.0; size = read.size ∙ sym e.1 }) read.others
 
 pub written_meets : (ty : Type_) (o f x : ℕ) (spared : ℕ → Bool) (v w : Numbers) → IsWritten o f x spared v w
     → (s between u : Stored) → IsForgotten (of_field f spared) s between → IsCopied ty (FieldOf o f) (Slot x) between u → Meets s v → Meets u w
 written_meets ty o f x spared v w written s between u forgotten copied m =
     let e = written.others (Slot x) refl in
-    copied_meets ty (FieldOf o f) (Slot x) w w (written.int ∙ sym e.0, written.size ∙ sym e.1) (λ p n. (refl, refl)) between u copied
+    copied_meets ty (FieldOf o f) (Slot x) w w (record { int = written.int ∙ sym e.0; size = written.size ∙ sym e.1 }) (λ p n. (refl, refl)) between u copied
     (forgotten_meets (of_field f spared) v w written.others s between forgotten m)

@@ -27,7 +27,8 @@ use Rattle.ix_facts.proofs.FactLists.{covers_holds, in_holds, told_either, all_h
 use Rattle.ix_facts.proofs.Frame.{without_stays}
 use Rattle.ix_facts.proofs.OperationsHold.{new_facts_hold}
 use Rattle.ix_facts.proofs.StoreLaws.{says_hold}
-use Rattle.ix_facts.proofs.RulesHold.{Alike, copied_hold}
+use Rattle.ix_facts.specs.Laws.{Alike}
+use Rattle.ix_facts.proofs.RulesHold.{copied_hold}
 use Rattle.ix_facts.proofs.Tests.{by_test}
 
 -- ---- tables

@@ -31,8 +31,9 @@ pub record BoundsNoWeaker (strong weak : List Fact) : Type 0 where
   pub same : (a b : Path) → are_same weak a b ≡ true → are_same strong a b ≡ true
 
 -- two paths with the same numbers
-abbrev pub Alike : Numbers → Path → Path → Type 0
-Alike v t s = (v.int t ≡ v.int s) × (v.size t ≡ v.size s)
+pub record Alike (v : Numbers) (t s : Path) : Type 0 where
+  pub int : v.int t ≡ v.int s
+  pub size : v.size t ≡ v.size s
 
 -- each bound of the two lists of facts is the same
 abbrev pub SameBounds : List Fact → List Fact → Type 0

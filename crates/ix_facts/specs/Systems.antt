@@ -71,6 +71,9 @@ abbrev pub HasClass : Fact → Type 0
 HasClass (Low p c) = IsClass c
 HasClass _ = Unit {0}
 
+abbrev pub HaveClasses : List Fact → Type 0
+HaveClasses facts = (f : Fact) → IsIn f facts → HasClass f
+
 -- The ends of a range that is not empty are ints, and those of a length are from 0 on.
 abbrev pub HasIntEnds : Fact → Type 0
 HasIntEnds (Rng p l h) = l ≤ℤ h → (least_int ≤ℤ l) × (h ≤ℤ greatest_int)

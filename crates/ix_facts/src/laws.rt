@@ -20,11 +20,11 @@ ghost use Rattle.ix_facts.specs.Bounds.{shifted_upper};
 ghost use Rattle.ix_facts.specs.AfterOperation.{HasExact, Results, new_facts};
 ghost use Rattle.ix_facts.specs.declared.kind.Kind.{Kind};
 ghost use Rattle.ix_facts.specs.Kinds.{kind_of};
-ghost use Rattle.ix_facts.specs.Systems.{IsTable, system_after, system_copy, system_rounded, system_added};
+ghost use Rattle.ix_facts.specs.Systems.{HaveClasses, IsTable, system_after, system_copy, system_rounded, system_added};
 ghost use Rattle.ix_facts.specs.After.{of_target, Step, TargetApart, beside_target, after_facts, copy_facts};
 ghost use Rattle.ix_facts.specs.AfterTest.{Outcome, IsSo, AllSo, int_outcomes, opposite, outcome_facts};
 ghost use Rattle.ix_facts.specs.Assume.{ClaimHolds, claim_facts, proves};
-ghost use Rattle.ix_facts.specs.Round.{rounded};
+ghost use Rattle.ix_facts.specs.Round.{rounded, AreLandmarks};
 ghost use Rattle.ix_facts.specs.Laws.{BoundsHold, BoundsNoWeaker, Alike, SameBounds, AsStrong, ClosedAsItStands, Way, with_lengths};
 
 /// The derived bounds.
@@ -64,6 +64,8 @@ pub fn operation_laws()
     ensures sound { (profile : Profile) (kind : OpKind) (facts : List Fact) (v w : Numbers) → TargetApart kind → Step profile kind v w → AllHold facts v → AllHold (after_facts facts profile kind) w }
     ensures monotone { (profile : Profile) (kind : OpKind) (strong weak : List Fact) → SaysAll strong weak → Contradicts (after_facts strong profile kind) ⊎ SaysAll (after_facts strong profile kind) (after_facts weak profile kind) }
     ensures exact { (profile : Profile) (kind : OpKind) (facts : List Fact) (v w : Numbers) → TargetApart kind → Step profile kind v w → AllHold facts v → HasExact (beside_target kind facts) kind }
+    ensures classes { (facts : List Fact) (profile : Profile) (kind : OpKind) → HaveClasses facts → HaveClasses (after_facts facts profile kind) }
+    ensures copy_classes { (facts : List Fact) (ty : Type_) (t s : Path) → HaveClasses facts → HaveClasses (copy_facts facts ty t s) }
     ensures copy_sound { (facts : List Fact) (w : Numbers) (ty : Type_) (t s : Path) → Alike w t s → AllHold facts w → AllHold (copy_facts facts ty t s) w }
     ensures copy_monotone { (strong weak : List Fact) (ty : Type_) (t s : Path) → SaysAll strong weak → SaysAll (copy_facts strong ty t s) (copy_facts weak ty t s) }
 {}
@@ -81,6 +83,7 @@ pub fn claim_laws()
     ensures assumed { (v : Numbers) (claim : PathClaim) (p : Path) → ClaimHolds claim p v → AllHold (claim_facts claim p) v }
     ensures sound { (facts : List Fact) (v : Numbers) (claim : PathClaim) (p : Path) → AllHold facts v → proves (in_orders facts) claim p ≡ true → ClaimHolds claim p v }
     ensures monotone { (strong weak : List Fact) (claim : PathClaim) (p : Path) → SaysAll strong weak → proves (in_orders weak) claim p ≡ true → proves (in_orders strong) claim p ≡ true }
+    ensures classes { (claim : PathClaim) (p : Path) → HaveClasses (claim_facts claim p) }
 {}
 
 /// Forgets and rounding.
@@ -93,6 +96,7 @@ pub fn forget_laws()
     ensures rounded_weaker { (marks : List ℤ) (scope : ℕ) (facts : List Fact) → SaysAll facts (rounded marks scope facts) }
     ensures rounded_sound { (marks : List ℤ) (scope : ℕ) (facts : List Fact) (v : Numbers) → AllHold facts v → AllHold (rounded marks scope facts) v }
     ensures rounded_monotone { (marks : List ℤ) (scope : ℕ) (strong weak : List Fact) → SaysAll strong weak → SaysAll (rounded marks scope strong) (rounded marks scope weak) }
+    ensures rounded_closed { (numbers marks : List ℤ) (scope : ℕ) (facts : List Fact) → AreLandmarks numbers marks → Closed facts → Closed (rounded marks scope facts) }
 {}
 
 /// The answers of a system. A fact has the kind of each fact at its key and of each of its orders; a table holds where its facts do and says no less of

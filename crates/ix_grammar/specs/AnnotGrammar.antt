@@ -1,13 +1,13 @@
 -- Annotations (JLS 9.7), as a relation between lists of tokens and what they are: one case per alternative, which splits the list.
-use Rattle.std.specs.Prelude.{ℕ, ◌+◌, ℤ, neg_ℤ, negsuc, max, List, [], ◌∷◌, ◌++◌, Option, Some, None}
+use Rattle.std.specs.Prelude.{ℕ, ◌+◌, ℤ, neg_ℤ, negsuc, max, true, false, List, [], ◌∷◌, ◌++◌, Option, Some, None}
 use Rattle.ix_text.specs.declared.span.Span.{Span}
 use Rattle.ix_lexer.specs.declared.token.Token.{Token}
-use Rattle.ix_lexer.specs.declared.fixed.TheConstants.{AT, ASSIGN, MINUS, OPEN_BRACE, CLOSE_BRACE, OPEN_PAREN, CLOSE_PAREN}
+use Rattle.ix_lexer.specs.declared.fixed.TheConstants.{AT, ASSIGN, MINUS, TRUE, FALSE, OPEN_BRACE, CLOSE_BRACE, OPEN_PAREN, CLOSE_PAREN}
 use Rattle.ix_tree.specs.declared.annot.Ident.{Ident}
 use Rattle.ix_tree.specs.declared.annot.Annot.{Annot}
 use Rattle.ix_tree.specs.declared.annot.AnnotArg.{AnnotArg}
 use Rattle.ix_tree.specs.declared.annot.AnnotValue.{AnnotValue}
-use Rattle.ix_tree.specs.declared.annot.AnnotValue.TheVariants.{Number, Texts}
+use Rattle.ix_tree.specs.declared.annot.AnnotValue.TheVariants.{Number, Truth, Texts}
 use Rattle.ix_grammar.specs.Nodes.{across}
 use Rattle.ix_grammar.specs.declared.found.At.{At}
 use Rattle.ix_grammar.specs.declared.found.Notes.{Notes}
@@ -57,13 +57,15 @@ with_note notes annot = record { annots = notes.annots ++ annot ∷ []; height =
 pub data IsText : List Token → List ℕ → Type 0 where
   text : (found : At (List ℕ)) → IsText (string_token found.value found.span ∷ []) found.value
 
--- Value = ["-"] IntLit | "-" MinLit | String | "{" [String {"," String}] "}"
+-- Value = ["-"] IntLit | "-" MinLit | String | "true" | "false" | "{" [String {"," String}] "}"
 pub data IsValue : List Token → At AnnotValue → Type 0 where
   number : (found : At ℤ) → IsValue (number_token found.value found.span ∷ []) (valued (Number found.value) found.span)
   minus_number : (minus : Span) (found : At ℤ)
       → IsValue (sign MINUS minus ∷ number_token found.value found.span ∷ []) (valued (Number (neg_ℤ found.value)) (across minus found.span))
   least : (minus span : Span) → IsValue (sign MINUS minus ∷ least_token span ∷ []) (valued (Number (negsuc 2147483647)) (across minus span))
   one_text : (found : At (List ℕ)) → IsValue (string_token found.value found.span ∷ []) (valued (Texts (found.value ∷ [])) found.span)
+  truth : (span : Span) → IsValue (sign TRUE span ∷ []) (valued (Truth true) span)
+  falsity : (span : Span) → IsValue (sign FALSE span ∷ []) (valued (Truth false) span)
   no_texts : (left right : Span) → IsValue (sign OPEN_BRACE left ∷ sign CLOSE_BRACE right ∷ []) (valued (Texts []) (across left right))
   texts : (left right : Span) {tokens : List Token} {found : List (List ℕ)} → IsSeparated IsText alone joined tokens found
       → IsValue (sign OPEN_BRACE left ∷ (tokens ++ sign CLOSE_BRACE right ∷ [])) (valued (Texts found) (across left right))

@@ -6,3 +6,4 @@ pub mod OneAnswer
 pub mod ReadingSteps
 pub mod WholeText
 pub mod TokensInOrder
+pub mod SplitInOrder

@@ -38,6 +38,7 @@ fn copy_value(alloc: Global, value: &AnnotValue) -> Result<AnnotValue, Stop>
 {
     match value {
         AnnotValue::Number(number) => Ok(AnnotValue::Number(*number)),
+        AnnotValue::Truth(truth) => Ok(AnnotValue::Truth(*truth)),
         AnnotValue::Texts(texts) => {
             let texts = copy_texts(alloc, texts.as_slice())?;
             Ok(AnnotValue::Texts(texts))

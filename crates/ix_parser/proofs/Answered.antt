@@ -15,7 +15,8 @@ use Rattle.ix_grammar.specs.Refusals.{HasTree, Refused, unfinished, no_further, 
 use Rattle.ix_parser.proofs.ExactPlaces.{refused_exact, refused_behind, refused_one, refused_no_tree}
 use Rattle.ix_descent.proofs.ExprOver.{init_over, args_over}
 use Rattle.ix_descent.proofs.ExprViable.{init_viable, args_viable}
-use Rattle.ix_parser.proofs.Refusing.{no_tree, drop_starts}
+use Rattle.ix_lexer.proofs.SplitInOrder.{drop_starts}
+use Rattle.ix_parser.proofs.Refusing.{no_tree}
 use Rattle.ix_descent.proofs.SourceOver.{TermsOver}
 use Rattle.ix_descent.proofs.SourceViable.{TermsViable}
 use Rattle.ix_descent.proofs.StmtOver.{block_statement_over}
@@ -23,14 +24,14 @@ use Rattle.ix_descent.proofs.StmtsViable.{block_statement_viable}
 
 -- ---- expressions and statements
 
-viable : TermsViable
+pub viable : TermsViable
 viable = record {
   init = init_viable;
   args = λ left opening. args_viable opening left;
   statement = block_statement_viable;
 }
 
-over : TermsOver
+pub over : TermsOver
 over = record { init = init_over; args = args_over; statement = block_statement_over }
 
 -- ---- what was read from the start

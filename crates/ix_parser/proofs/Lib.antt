@@ -1,3 +1,4 @@
 pub mod Refusing
 pub mod ExactPlaces
 pub mod Answered
+pub mod Laws

@@ -1,9 +1,11 @@
--- What the rules of a source give is a tree; they never stop for the height at the end of the tokens; and where a token starts that is left.
-use Rattle.std.proofs.Common.{◌≡◌, ◌≤◌, ◌<◌, ℕ, zero, suc, List, [], ◌∷◌, length, drop, Bool, true, false, cond, Option, Some, None, Ok, Err, refl, sym, ap, subst, ◌∙◌, arith, nat_lt}
+-- What the rules of a source give is a tree; they never stop for the height at the end of the tokens, and never for want of memory.
+use Rattle.std.proofs.Common.{◌≡◌, ◌≤◌, ℕ, zero, suc, List, [], ◌∷◌, length, Bool, true, false, cond, Option, Some, None, Ok, Err, refl, sym, ap, subst, ◌∙◌, arith, nat_lt}
 use Rattle.ix_lexer.specs.declared.token.Token.{Token}
 use Rattle.ix_lexer.specs.Spans.{InOrder}
 use Rattle.ix_tree.specs.declared.decl.Unit.{Unit as Source}
 use Rattle.ix_tree.specs.Parts.{CanResolve}
+use Rattle.ix_tree.specs.Heights.{unit_height}
+use Rattle.ix_tree.specs.Placed.{Placed}
 use Rattle.ix_grammar.specs.declared.classes.FoundUnit.{FoundUnit}
 use Rattle.ix_descent.specs.declared.stop.Stop.{Stop}
 use Rattle.ix_descent.specs.declared.stop.Stop.TheVariants as stop
@@ -11,26 +13,35 @@ use Rattle.ix_descent.specs.Rule.{Rule, pure, take, bind, stop, loop, Turn, On, 
 use Rattle.ix_descent.specs.SourceRules.{source}
 use Rattle.ix_grammar.specs.Refusals.{HasTree}
 use Rattle.ix_descent.proofs.Runs.{same_ok}
+use Rattle.ix_places.proofs.ClassLaid.{source_placed}
+use Rattle.ix_places.proofs.SourceHeights.{source_low}
 use Rattle.ix_places.proofs.SourcePlaces.{source_can_resolve}
 use Rattle.ix_descent.proofs.SourceLaws.{source_is, source_is_read}
 
--- ---- what is too high is a token
+-- ---- what is too high is a token, and no rule wants memory
 
--- it did not stop for the height at the end of the tokens
+-- not for the height at the end of the tokens, and not for want of memory
+abbrev MetAt : Stop × List Token → Type 0
+MetAt x = (x.0 ≡ stop.TooDeep → x.1 ≡ [] → ⊥) × (x.0 ≡ stop.Memory → ⊥)
+
+-- it did not stop so
 abbrev Met : {A : Type 0} → Outcome A → Type 0
 Met (Ok p) = Unit {0}
-Met (Err x) = x.0 ≡ stop.TooDeep → x.1 ≡ [] → ⊥
+Met (Err x) = MetAt x
 
 some : (t : Token) (ts : List Token) → t ∷ ts ≡ [] → ⊥
 some t ts h = cc
 
-no_stop : stop.Syntax ≡ stop.TooDeep → ⊥
-no_stop h = cc
+syntax_met : (us : List Token) → MetAt (stop.Syntax, us)
+syntax_met us = (λ h. cc, λ h. cc)
+
+deep_met : (t : Token) (ts : List Token) → MetAt (stop.TooDeep, t ∷ ts)
+deep_met t ts = (λ deep end. some t ts end, λ h. cc)
 
 meets_taken : {A V : Type 0} (want : Token → Option V) (fits : Bool) (here : V → Rule A) (other : Rule A) (t : Token) (ts : List Token)
     → ((v : V) → Met (run (here v) ts)) → Met (run other (t ∷ ts)) → (o : Option V) → Met (taken fits (λ v. run (here v)) (run other) o (t ∷ ts))
 meets_taken want true here other t ts h o (Some v) = h v
-meets_taken want false here other t ts h o (Some v) = λ deep end. some t ts end
+meets_taken want false here other t ts h o (Some v) = deep_met t ts
 meets_taken want fits here other t ts h o None = o
 
 meets_then : {A B : Type 0} (o : Outcome A) (f : A → Parser B) → Met o → ((a : A) (us : List Token) → Met (f a us)) → Met (and_then o f)
@@ -39,14 +50,14 @@ meets_then (Err x) f m each = m
 
 meets_choice : {A : Type 0} (b : Bool) (o : Outcome A) (us : List Token) → Met o → Met (cond b o (Err (stop.Syntax, us)))
 meets_choice true o us m = m
-meets_choice false o us m = λ deep end. no_stop deep
+meets_choice false o us m = syntax_met us
 
 meets_turned : {S B : Type 0} (before : ℕ) (go : S → Parser B) → ((s : S) (us : List Token) → Met (go s us)) → (r : Turn S B) (us : List Token) → Met (turned before go r us)
 meets_turned before go each (On s) us = meets_choice (nat_lt (length us) before) (go s us) us (each s us)
 meets_turned before go each (Done b) us = tt
 
 meets_turns : {S B : Type 0} (body : S → Rule (Turn S B)) → ((s : S) (us : List Token) → Met (run (body s) us)) → (n : ℕ) (s : S) (us : List Token) → Met (turns (λ t. run (body t)) n s us)
-meets_turns body each zero s us = λ deep end. no_stop deep
+meets_turns body each zero s us = syntax_met us
 meets_turns body each (suc n) s us =
     meets_then (run (body s) us) (turned (length us) (turns (λ t. run (body t)) n)) (each s us)
     (λ r vs. meets_turned (length us) (turns (λ t. run (body t)) n) (λ t ws. meets_turns body each n t ws) r vs)
@@ -57,11 +68,14 @@ meets (pure a) ts = tt
 meets (take want fits here other) [] = meets other []
 meets (take want fits here other) (t ∷ ts) = meets_taken want fits here other t ts (λ v. meets (here v) ts) (meets other (t ∷ ts)) (want t)
 meets (bind p f) ts = meets_then (run p ts) (λ a. run (f a)) (meets p ts) (λ a us. meets (f a) us)
-meets stop ts = λ deep end. no_stop deep
+meets stop ts = syntax_met ts
 meets (loop body s) ts = meets_turns body (λ t us. meets (body t) us) (suc (length ts)) s ts
 
 pub never_at_end : (tokens : List Token) → run source tokens ≡ Err (stop.TooDeep, []) → ⊥
-never_at_end tokens h = let m : Met (run source tokens) = meets source tokens in subst (λ o. Met o) h m refl refl
+never_at_end tokens h = let m : Met (run source tokens) = meets source tokens in (subst (λ o. Met o) h m).0 refl refl
+
+pub never_memory : (tokens left : List Token) → run source tokens ≡ Err (stop.Memory, left) → ⊥
+never_memory tokens left h = let m : Met (run source tokens) = meets source tokens in (subst (λ o. Met o) h m).1 refl
 
 -- ---- one outcome
 
@@ -86,6 +100,14 @@ pub has_tree : (tokens left : List Token) (found : FoundUnit) → length left �
 has_tree tokens [] found none h = (found.height, source_is tokens found h)
 has_tree tokens (token ∷ later) found none h = absurd (omega (arith, none))
 
+pub placed : (tokens left : List Token) (found : FoundUnit) (end : ℕ) → length left ≡ 0 → run source tokens ≡ Ok (found, left) → InOrder 0 end tokens → Placed end found.unit
+placed tokens [] found end none h order = let (is, low) = source_is tokens found h in source_placed tokens found end is order
+placed tokens (token ∷ later) found end none h order = absurd (omega (arith, none))
+
+pub low_tree : (tokens left : List Token) (found : FoundUnit) → length left ≡ 0 → run source tokens ≡ Ok (found, left) → unit_height found.unit ≤ 200
+low_tree tokens [] found none h = let (is, low) = source_is tokens found h in omega (arith, low, source_low tokens found is)
+low_tree tokens (token ∷ later) found none h = absurd (omega (arith, none))
+
 pub can_resolve : (tokens left : List Token) (found : FoundUnit) (end : ℕ) → length left ≡ 0 → run source tokens ≡ Ok (found, left) → InOrder 0 end tokens → length tokens ≤ 200000 → CanResolve found.unit
 can_resolve tokens [] found end none h order few = let (is, low) = source_is tokens found h in source_can_resolve tokens found end is order few
 can_resolve tokens (token ∷ later) found end none h order few = absurd (omega (arith, none))
@@ -98,19 +120,3 @@ only_tree tokens left found unit h (height, low) =
 pub no_tree : (tokens left : List Token) (why : Stop) (unit : Source) → run source tokens ≡ Err (why, left) → HasTree tokens unit → ⊥
 no_tree tokens left why unit h (height, low) =
     not_both (run source tokens) (record { unit = unit; height = height }) why [] left (source_is_read tokens (record { unit = unit; height = height }) low) h
-
--- ---- a token that is left starts before the end
-
-ends_later : (from end : ℕ) (tokens : List Token) → InOrder from end tokens → from ≤ end
-ends_later from end [] o = o
-ends_later from end (t ∷ tokens) (a, b, c) = omega (arith, a, b, ends_later t.span.to end tokens c)
-
-starts_within : (from end : ℕ) (tokens later : List Token) (token : Token) → InOrder from end tokens → tokens ≡ token ∷ later → token.span.from < end
-starts_within from end [] later token o h = absurd (some token later (sym h))
-starts_within from end (t ∷ tokens) later token (a, b, c) h =
-    let same : t ≡ token = cc in rw (sym same) (omega (arith, b, ends_later t.span.to end tokens c))
-
-pub drop_starts : (n from end : ℕ) (tokens later : List Token) (token : Token) → InOrder from end tokens → drop n tokens ≡ token ∷ later → token.span.from < end
-drop_starts zero from end tokens later token o h = starts_within from end tokens later token o h
-drop_starts (suc n) from end [] later token o h = absurd (some token later (sym h))
-drop_starts (suc n) from end (t ∷ tokens) later token (a, b, c) h = drop_starts n t.span.to end tokens later token c h

@@ -2,7 +2,9 @@
 ghost use Rattle.std.specs.Prelude.{◌≡◌, ◌≢◌, ◌≤◌, ◌⊎◌, length, IfOk, IfErr, MatchResult};
 ghost use Rattle.ix_lexer.specs.Spans.{InOrder};
 ghost use Rattle.ix_tree.specs.declared.decl.Unit.{Unit as Source};
+ghost use Rattle.ix_tree.specs.Heights.{unit_height};
 ghost use Rattle.ix_tree.specs.Parts.{CanResolve};
+ghost use Rattle.ix_tree.specs.Placed.{Placed};
 ghost use Rattle.ix_descent.specs.Errors.{error_at as the_error};
 ghost use Rattle.ix_grammar.specs.Refusals.{HasTree, Refused, IsWithin};
 ghost use Rattle.ix_grammar.specs.declared.error.ParseError.{ParseError as Refusal};
@@ -21,7 +23,8 @@ use std::alloc::Global;
 /// An error comes exactly where there is no such tree. Let the tokens before one be the most that begin a source of a height of at most 200.
 /// Where with that token they begin none of any height, or where none is left, the error is `Syntax` with its number; where they begin a
 /// higher one, it is `TooDeep`.
-/// The time is near linear in the tokens, and the depth of calls is bounded by the height of 200.
+/// The depth of calls is bounded by the height of 200. Each declarator of a declaration gets a copy of its modifiers and type, so n annotations
+/// before n declarators take time and memory of the order of n times n.
 pub fn parse(alloc: Global, tokens: &[Token], end: u32) -> Result<Unit, ParseError>
     requires few { length tokens.now ≤ 200000 }
     requires in_order { InOrder 0 end tokens.now }
@@ -29,6 +32,12 @@ pub fn parse(alloc: Global, tokens: &[Token], end: u32) -> Result<Unit, ParseErr
     // The tree, exactly where there is one, and no other.
     ensures found { IfOk result (λ unit. HasTree tokens.now unit) }
     ensures only { (unit : Source) → HasTree tokens.now unit → MatchResult result (λ found. found ≡ unit) (λ error. error ≡ Memory) }
+
+    // It is at most 200 high.
+    ensures low { IfOk result (λ unit. unit_height unit ≤ 200) }
+
+    // Each of its nodes stands in the text, within the node that it is a part of, and one behind the other.
+    ensures placed { IfOk result (Placed end) }
 
     // Names can be looked up in it by their places.
     ensures resolvable { IfOk result CanResolve }

@@ -13,9 +13,11 @@ use Rattle.ix_grammar.specs.Patterns.{sign}
 use Rattle.ix_grammar.specs.Lists.{IsSeparated, first_item, next_item, alone, joined}
 use Rattle.ix_grammar.specs.AnnotGrammar as grammar
 use Rattle.ix_grammar.specs.AnnotGrammar.{IsText, IsValue, IsNamed, IsAnnot, IsNotes, annot_to, plain_arg, no_notes, with_note}
-use Rattle.ix_places.proofs.OrderPlaces.{order_within, order_both}
-use Rattle.ix_places.proofs.ListPlaces.{stand_two, stand_alone, stand_no_entries, repeated_stand, separated_stand}
-use Rattle.ix_places.proofs.Places.{Lies, Stand, stand_more, stand_none, stand_entries, stand_in_type}
+use Rattle.ix_lexer.proofs.SplitInOrder.{order_within, order_both}
+use Rattle.ix_tree.proofs.PartPlaces.{stand_two, stand_alone, stand_no_entries}
+use Rattle.ix_places.proofs.ListPlaces.{repeated_stand, separated_stand}
+use Rattle.ix_tree.proofs.Layouts.{Lies}
+use Rattle.ix_tree.proofs.PartPlaces.{Stand, stand_more, stand_none, stand_entries, stand_in_type}
 
 -- There are at least as many tokens as strings.
 text_tokens : (ts : List Token) (x : List ℕ) → IsText ts x → 1 ≤ length ts
@@ -31,6 +33,8 @@ value_stands lo hi _ _ (grammar.number found) = stand_none lo hi 1
 value_stands lo hi _ _ (grammar.minus_number minus found) = stand_none lo hi 2
 value_stands lo hi _ _ (grammar.least minus span) = stand_none lo hi 2
 value_stands lo hi _ _ (grammar.one_text found) = stand_entries lo hi 1 1 [] (omega arith) (stand_none lo hi 1)
+value_stands lo hi _ _ (grammar.truth span) = stand_none lo hi 1
+value_stands lo hi _ _ (grammar.falsity span) = stand_none lo hi 1
 value_stands lo hi _ _ (grammar.no_texts left right) = stand_entries lo hi 2 0 [] (omega arith) (stand_none lo hi 2)
 value_stands lo hi _ _ (grammar.texts left right {tokens} {found} d) =
     let n = suc (length (tokens ++ sign CLOSE_BRACE right ∷ [])) in
@@ -41,6 +45,8 @@ value_tokens _ _ (grammar.number found) = omega arith
 value_tokens _ _ (grammar.minus_number minus found) = omega arith
 value_tokens _ _ (grammar.least minus span) = omega arith
 value_tokens _ _ (grammar.one_text found) = omega arith
+value_tokens _ _ (grammar.truth span) = omega arith
+value_tokens _ _ (grammar.falsity span) = omega arith
 value_tokens _ _ (grammar.no_texts left right) = omega arith
 value_tokens _ _ (grammar.texts left right d) = omega arith
 

@@ -23,8 +23,8 @@ use Rattle.ix_grammar.specs.StmtGrammar.{IsBlockStmt}
 use Rattle.ix_grammar.specs.ClassGrammar as g
 use Rattle.ix_grammar.specs.ClassGrammar.{IsBody, IsBehind, IsMember, IsParent, IsClass, result_tree, method_of, fields, no_stmts, with_stmt, no_members, with_members}
 use Rattle.ix_grammar.specs.SourceGrammar.{source_parts}
-use Rattle.ix_places.proofs.OrderPlaces.{order_within, order_both}
-use Rattle.ix_places.proofs.Places.{Stand, stand_none, stand_declaration, stand_elsewhere}
+use Rattle.ix_lexer.proofs.SplitInOrder.{order_within, order_both}
+use Rattle.ix_tree.proofs.PartPlaces.{Stand, stand_none, stand_declaration, stand_elsewhere}
 use Rattle.ix_places.proofs.TypePlaces.{type_stands}
 use Rattle.ix_places.proofs.ExprPlaces.{args_stand}
 use Rattle.ix_places.proofs.DeclPlaces.{wider, beside, name_beside, mods_stand, parts_both, decls_stand, listed_stand, repeated_trees, params_stand}

@@ -22,9 +22,10 @@ use Rattle.ix_grammar.specs.TypeGrammar.{IsType}
 use Rattle.ix_grammar.specs.ExprGrammar.{IsInit}
 use Rattle.ix_grammar.specs.DeclGrammar as g
 use Rattle.ix_grammar.specs.DeclGrammar.{IsMods, IsDecl, IsDecls, IsParam, IsParams, marked, earlier, begins, shared, one_decl, with_decl, one_param, with_param}
-use Rattle.ix_places.proofs.OrderPlaces.{order_within, order_both}
-use Rattle.ix_places.proofs.ListPlaces.{stand_two, stand_joined, stand_alone, stand_no_entries}
-use Rattle.ix_places.proofs.Places.{Lies, Inside, Short, Stand, stand_more, stand_none, stand_entries, stand_declaration, stand_elsewhere, all_more, all_both}
+use Rattle.ix_lexer.proofs.SplitInOrder.{order_within, order_both}
+use Rattle.ix_tree.proofs.PartPlaces.{stand_two, stand_joined, stand_alone, stand_no_entries}
+use Rattle.ix_tree.proofs.Layouts.{Lies}
+use Rattle.ix_tree.proofs.PartPlaces.{Inside, Short, Stand, stand_more, stand_none, stand_entries, stand_declaration, stand_elsewhere, all_more, all_both}
 use Rattle.ix_places.proofs.AnnotPlaces.{annot_stands, annot_tokens}
 use Rattle.ix_places.proofs.TypePlaces.{InTypes, notes_in_type, type_in_type, type_stands}
 use Rattle.ix_places.proofs.ExprPlaces.{init_stands}

@@ -25,12 +25,13 @@ use Rattle.ix_grammar.specs.TypeGrammar.{IsBase}
 use Rattle.ix_grammar.specs.ExprNodes.{selected, called, called_on, created_type, new_array, new_items}
 use Rattle.ix_grammar.specs.ExprGrammar as g
 use Rattle.ix_grammar.specs.ExprGrammar.{Kind, IsMorePairs, IsExpr, IsExprs, IsArgs, IsInit, IsInits, IsItems}
-use Rattle.ix_places.proofs.OrderPlaces.{order_within, order_both}
-use Rattle.ix_places.proofs.ListPlaces.{stand_two, stand_joined, stand_alone, stand_no_entries}
-use Rattle.ix_places.proofs.Places.{Lies, Inside, Stand, stand_more, stand_none, stand_elsewhere, Free, free_beyond, free_both, stand_expression}
+use Rattle.ix_lexer.proofs.SplitInOrder.{order_within, order_both}
+use Rattle.ix_tree.proofs.PartPlaces.{stand_two, stand_joined, stand_alone, stand_no_entries}
+use Rattle.ix_tree.proofs.Layouts.{Lies}
+use Rattle.ix_tree.proofs.PartPlaces.{Inside, Stand, stand_more, stand_none, stand_elsewhere, Free, free_beyond, free_both, stand_expression}
 use Rattle.ix_places.proofs.AnnotPlaces.{notes_stand}
 use Rattle.ix_places.proofs.TypePlaces.{base_stands}
-use Rattle.ix_places.proofs.TreeParts.{kind_parts, expr_is, int_kind, bool_kind, null_kind, this_kind, name_kind, select_kind, index_kind, call_kind, call_on_kind, new_kind, new_array_kind, new_items_kind, unary_kind, binary_kind, assign_kind, step_is, value_is, items_are}
+use Rattle.ix_tree.proofs.TreeParts.{kind_parts, expr_is, int_kind, bool_kind, null_kind, this_kind, name_kind, select_kind, index_kind, call_kind, call_on_kind, new_kind, new_array_kind, new_items_kind, unary_kind, binary_kind, assign_kind, step_is, value_is, items_are}
 
 abbrev pub Stands : ℕ → ℕ → ℕ → Found → Type 0
 Stands lo hi n f = Lies lo hi f.outer × Stand lo hi n (expr_parts f.expr)
@@ -149,7 +150,7 @@ created_stands lo mid hi k before tokens notes base d b p q le =
     base_behind lo mid hi (length before) (length tokens) k base.value (listed (each annot_parts notes.annots)) (notes_stand lo mid before notes d p) (base_stands mid hi tokens base b q).1 (order_within lo mid before p) (order_within mid hi tokens q) le
 
 -- the last bracket
-more_pairs_lie : (lo mid hi : ℕ) (last : Span) (ts : List Token) (pairs : At ℕ) → IsMorePairs last ts pairs → Lies lo mid last → InOrder mid hi ts → Lies lo hi pairs.span
+pub more_pairs_lie : (lo mid hi : ℕ) (last : Span) (ts : List Token) (pairs : At ℕ) → IsMorePairs last ts pairs → Lies lo mid last → InOrder mid hi ts → Lies lo hi pairs.span
 more_pairs_lie lo mid hi last _ _ g.no_more l o = (l.0, l.1, omega (arith, l.2, o))
 more_pairs_lie lo mid hi last _ _ (g.one_more left right {tokens} {pairs} d) l o =
     let (next, a, b, p, q) = order_both mid hi tokens (sign OPEN_BRACKET left ∷ sign CLOSE_BRACKET right ∷ []) o in

@@ -1,7 +1,4 @@
-pub mod Places
-pub mod OrderPlaces
 pub mod ListPlaces
-pub mod TreeParts
 pub mod AnnotPlaces
 pub mod TypePlaces
 pub mod ExprPlaces
@@ -9,3 +6,12 @@ pub mod DeclPlaces
 pub mod StmtPlaces
 pub mod ClassPlaces
 pub mod SourcePlaces
+pub mod ListsLaid
+pub mod AnnotLaid
+pub mod TypeLaid
+pub mod ExprLaid
+pub mod DeclLaid
+pub mod StmtLaid
+pub mod ClassLaid
+pub mod HeightLaws
+pub mod SourceHeights

@@ -7,8 +7,8 @@ use Rattle.ix_tree.specs.Parts.{Part, expression, statement, declaration, in_typ
 use Rattle.ix_grammar.specs.declared.classes.FoundUnit.{FoundUnit}
 use Rattle.ix_grammar.specs.ClassGrammar.{IsClass, program, no_classes, with_class}
 use Rattle.ix_grammar.specs.SourceGrammar.{source_parts, IsSource}
-use Rattle.ix_places.proofs.OrderPlaces.{order_both}
-use Rattle.ix_places.proofs.Places.{Short, Stand, all_more}
+use Rattle.ix_lexer.proofs.SplitInOrder.{order_both}
+use Rattle.ix_tree.proofs.PartPlaces.{Short, Stand, all_more}
 use Rattle.ix_places.proofs.DeclPlaces.{wider, repeated_trees}
 use Rattle.ix_places.proofs.ClassPlaces.{class_stands}
 

@@ -25,10 +25,10 @@ use Rattle.ix_grammar.specs.ExprNodes.{with_expr}
 use Rattle.ix_grammar.specs.ExprGrammar.{Whole, IsStatementExpr}
 use Rattle.ix_grammar.specs.StmtGrammar as g
 use Rattle.ix_grammar.specs.StmtGrammar.{maybe_expr, run_part, one_run, with_run, one_expr, local_stmt, IsLocal, IsForFirst, IsMaybe, IsUpdate, IsStmt, IsBlockStmt, IsStmts}
-use Rattle.ix_places.proofs.TreeParts.{mapped}
-use Rattle.ix_places.proofs.OrderPlaces.{order_within, order_both}
-use Rattle.ix_places.proofs.ListPlaces.{stand_joined, stand_alone, stand_no_entries}
-use Rattle.ix_places.proofs.Places.{Stand, stand_none, stand_statement, stand_elsewhere}
+use Rattle.ix_tree.proofs.TreeParts.{mapped}
+use Rattle.ix_lexer.proofs.SplitInOrder.{order_within, order_both}
+use Rattle.ix_tree.proofs.PartPlaces.{stand_joined, stand_alone, stand_no_entries}
+use Rattle.ix_tree.proofs.PartPlaces.{Stand, stand_none, stand_statement, stand_elsewhere}
 use Rattle.ix_places.proofs.ExprPlaces.{expr_tokens, expr_stands}
 use Rattle.ix_places.proofs.DeclPlaces.{wider, beside, decls_stand, listed_stand, separated_trees}
 

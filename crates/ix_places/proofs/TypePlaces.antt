@@ -6,7 +6,7 @@ use Rattle.ix_lexer.specs.Spans.{InOrder}
 use Rattle.ix_tree.specs.declared.annot.Annot.{Annot}
 use Rattle.ix_tree.specs.declared.annot.AnnotArg.{AnnotArg}
 use Rattle.ix_tree.specs.declared.annot.AnnotValue.{AnnotValue}
-use Rattle.ix_tree.specs.declared.annot.AnnotValue.TheVariants.{Number, Texts}
+use Rattle.ix_tree.specs.declared.annot.AnnotValue.TheVariants.{Number, Truth, Texts}
 use Rattle.ix_tree.specs.declared.annot.BaseTree.{BaseTree}
 use Rattle.ix_tree.specs.declared.annot.BaseTree.TheVariants.{Int, Boolean, Named}
 use Rattle.ix_tree.specs.declared.annot.Ident.{Ident}
@@ -17,9 +17,10 @@ use Rattle.ix_grammar.specs.declared.found.FoundType.{FoundType}
 use Rattle.ix_grammar.specs.Patterns.{sign}
 use Rattle.ix_grammar.specs.TypeGrammar as grammar
 use Rattle.ix_grammar.specs.TypeGrammar.{IsBase, IsPairs, IsTypeRest, IsType}
-use Rattle.ix_places.proofs.OrderPlaces.{order_both}
-use Rattle.ix_places.proofs.ListPlaces.{stand_two, stand_no_entries}
-use Rattle.ix_places.proofs.Places.{Lies, Stand, stand_more, stand_none, stand_in_type}
+use Rattle.ix_lexer.proofs.SplitInOrder.{order_both}
+use Rattle.ix_tree.proofs.PartPlaces.{stand_two, stand_no_entries}
+use Rattle.ix_tree.proofs.Layouts.{Lies}
+use Rattle.ix_tree.proofs.PartPlaces.{Stand, stand_more, stand_none, stand_in_type}
 use Rattle.ix_places.proofs.AnnotPlaces.{notes_stand}
 
 -- ---- all of them are identifiers in types and lists
@@ -43,6 +44,7 @@ name_in_type (Some name) = (tt, tt)
 
 value_in_type : (value : AnnotValue) → All InTypes (value_parts value)
 value_in_type (Number n) = tt
+value_in_type (Truth b) = tt
 value_in_type (Texts texts) = (tt, tt)
 
 arg_in_type : (arg : AnnotArg) → All InTypes (arg_parts arg)

@@ -1,6 +1,6 @@
 //! Annotations (JLS 9.7).
 ghost use Rattle.std.specs.Prelude.{◌≡◌, ◌≤◌, [], ◌∷◌, length, max, OnOk, IfOk, MatchResult};
-ghost use Rattle.ix_tree.specs.declared.annot.AnnotValue.TheVariants.{Texts};
+ghost use Rattle.ix_tree.specs.declared.annot.AnnotValue.TheVariants.{Texts, Truth};
 ghost use Rattle.ix_descent.specs.declared.stop.Stop.TheVariants.{Memory};
 ghost use Rattle.ix_descent.specs.AnnotRules as spec;
 ghost use Rattle.ix_grammar.specs.AnnotGrammar as nodes;
@@ -13,7 +13,9 @@ use crate::cursor::Cursor;
 use ix_descent::stop::Stop;
 use ix_grammar::found::{At, Notes};
 use ix_grammar::spans::across;
-use ix_lexer::fixed::{ASSIGN, AT, CLOSE_BRACE, CLOSE_PAREN, COMMA, MINUS, OPEN_BRACE, OPEN_PAREN};
+use ix_lexer::fixed::{
+    ASSIGN, AT, CLOSE_BRACE, CLOSE_PAREN, COMMA, FALSE, MINUS, OPEN_BRACE, OPEN_PAREN, TRUE,
+};
 use ix_text::{List, Span, Text};
 use ix_tree::{Annot, AnnotArg, AnnotValue, Ident};
 use std::alloc::Global;
@@ -101,7 +103,17 @@ fn one_text(alloc: Global, text: At<Text>) -> Result<At<AnnotValue>, Stop>
     })
 }
 
-/// `Value = ["-"] IntLit | "-" MinLit | String | "{" [String {"," String}] "}"`
+/// `true` or `false` as a value.
+fn truth(truth: bool, span: Span) -> At<AnnotValue>
+    ensures { result ≡ nodes.valued (Truth truth) span }
+{
+    At {
+        value: AnnotValue::Truth(truth),
+        span,
+    }
+}
+
+/// `Value = ["-"] IntLit | "-" MinLit | String | "true" | "false" | "{" [String {"," String}] "}"`
 #[tactic(auto, unfolding(ix_descent::specs::Rule::run, ix_descent::specs::AnnotRules::annot_value))]
 fn annot_value(alloc: Global, cursor: &mut Cursor<'_>) -> Result<At<AnnotValue>, Stop>
     ensures reads { Follows (run spec.annot_value cursor.old) result cursor.new }
@@ -121,6 +133,14 @@ fn annot_value(alloc: Global, cursor: &mut Cursor<'_>) -> Result<At<AnnotValue>,
     if let Some(text) = cursor.text(alloc)? {
         cursor.advance();
         return one_text(alloc, text);
+    }
+    if let Some(span) = cursor.sign(TRUE) {
+        cursor.advance();
+        return Ok(truth(true, span));
+    }
+    if let Some(span) = cursor.sign(FALSE) {
+        cursor.advance();
+        return Ok(truth(false, span));
     }
     let Some(left) = cursor.sign(OPEN_BRACE) else {
         return Err(Stop::Syntax);

@@ -1,6 +1,6 @@
 -- The numbers of the paths that a call and a write of a field leave as they were.
 use Rattle.std.specs.Prelude.{◌≡◌, ℕ, ◌==◌, ◌&&◌, ◌||◌, not, Bool, true, false, List, Option, Some, unwrap_or, refl}
-use Rattle.std.proofs.Common.{arith, sym, ap, ◌∙◌, subst, inl, ⊎_elim}
+use Rattle.std.proofs.Common.{arith, sym, ap, ◌∙◌, subst, ⊎_elim}
 use Rattle.std.proofs.lemmas.Bool.{false≢true, and_parts}
 use Rattle.std.proofs.lemmas.Bool.Decides.{nat_tests}
 use Rattle.ix_core.specs.declared.fact.Path.{Path}
@@ -11,14 +11,14 @@ use Rattle.ix_core.specs.Machine.{CallKind}
 use Rattle.ix_core.specs.Objects.{IsOn, AllOn}
 use Rattle.ix_facts.specs.Forget.{SameBut, of_call, of_field, of_this}
 use Rattle.ix_core.specs.Numbers.{HasInts, numbers_of, held_at, field_of}
-use Rattle.ix_core.specs.Objects.{Later, IsSame, MeetsField, IsFree, HeapKeeps, FrameKeeps, IsOwn, IsInput, StepKeeps}
+use Rattle.ix_core.specs.Objects.{Later, IsSame, IsFree, HeapKeeps, FrameKeeps, IsOwn}
 use Rattle.ix_core.specs.Waits.{Stays, NoEffect, Final, Hidden, Since, is_super}
 use Rattle.ix_core.specs.Analysis.{IsWorld}
 use Rattle.ix_core.specs.World.{World}
 use Rattle.ix_steps.specs.MachineSteps.{own_slot}
 use Rattle.ix_core.proofs.Entered.{cell_each, reading_later}
 use Rattle.ix_core.proofs.FieldSteps.{write_same, write_later}
-use Rattle.ix_core.proofs.Cases.{by_test, equal, differ}
+use Rattle.ix_core.proofs.Cases.{by_test, equal}
 
 -- ---- which paths keep their numbers
 

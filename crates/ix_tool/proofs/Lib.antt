@@ -1,4 +1,1 @@
-mod FilesHeld
-mod PrefixesTaken
-mod PartsRead
 mod Verdicts

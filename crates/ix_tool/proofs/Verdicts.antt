@@ -12,12 +12,12 @@ use Rattle.ix_lexer.specs.Spans.{InOrder, IsWithin as LexWithin}
 use Rattle.ix_lexer.specs.Tokens.{Tokens, Fails, most_tokens}
 use Rattle.ix_grammar.specs.declared.error.ParseError.TheVariants as syntax
 use Rattle.ix_report.specs.Texts.{rejected}
-use Rattle.ix_tool.specs.Outside.{Files, bytes_under}
+use Rattle.ix_outside.specs.Outside.{Files, bytes_under}
 use Rattle.ix_tool.specs.Statuses.{is_answer}
-use Rattle.ix_tool.specs.Answer.{Answer, Answers, Finding, TooLong, Broken, Past, NotBuilt, Judged, Found, too_long, no_tokens, lexed, FoundOf, no_tree, tree, of_lex_error, of_parse_error, start_of, judged_by, of_source, answer_on, out_answer, IsVerdict, verdict, usage, most_bytes}
+use Rattle.ix_tool.specs.Answer.{Answer, Answers, Finding, TooLong, Broken, Past, NotBuilt, Judged, Found, too_long, no_tokens, lexed, FoundOf, no_tree, tree, of_lex_error, of_parse_error, start_of, judged_by, of_source, answer_on, out_answer, IsVerdict, verdict, usage}
 use Rattle.ix_tool.specs.Findings.{IsPlaced}
-use Rattle.ix_tool.specs.Reading.{IsAllOrPast}
-use Rattle.ix_tool.specs.Ends.{IsAnswer, bytes_of, SafeBytes, ReadSafely}
+use Rattle.ix_outside.specs.Reading.{IsAllOrPast, most_bytes}
+use Rattle.ix_tool.specs.Ends.{bytes_of, SafeBytes}
 use Rattle.ix_tree.specs.declared.decl.Unit.{Unit as Source}
 use Rattle.ix_check.specs.Rules.{errors_of}
 use Rattle.ix_check.specs.Counts.{counts_of}
@@ -56,12 +56,10 @@ verdict-read file all read answer (inl same) v = subst (λ (bytes : List ℕ). I
 verdict-read file all read answer (inr past) v = past_verdict file all read answer (long all read past.0 past.1) past.0 v
 
 -- the answer on what was read is the answer to the command
-pub IsAnswer-read : (files : Option Files) (command : Option (List ℕ)) (file read : List ℕ) (answer : Answer) → command ≡ Some file
-    → ((held : Files) → files ≡ Some held → IsAllOrPast (bytes_under file held) read)
-    → IsVerdict file read answer → IsAnswer files command answer
-IsAnswer-read None command file read answer is known v = (read, λ held none. absurd (cc), subst (λ (c : Option (List ℕ)). Answers c read answer) (sym is) v)
-IsAnswer-read (Some held) command file read answer is known v =
-    subst (λ (c : Option (List ℕ)). IsAnswer (Some held) c answer) (sym is) (bytes_under file held, λ other same. cc, verdict-whole file (bytes_under file held) read answer (known held refl) v)
+pub Answers-given : (command : Option (List ℕ)) (file read given : List ℕ) (answer : Answer) → command ≡ Some file → given ≡ read
+    → IsVerdict file read answer → Answers command given answer
+Answers-given command file read given answer is same v =
+    subst (λ (c : Option (List ℕ)). Answers c given answer) (sym is) (subst (λ (bytes : List ℕ). IsVerdict file bytes answer) (sym same) v)
 
 -- an answer to the command is one on what was read
 pub Answers-read : (command : Option (List ℕ)) (file read : List ℕ) (answer : Answer) (held : Files) → command ≡ Some file
@@ -69,10 +67,9 @@ pub Answers-read : (command : Option (List ℕ)) (file read : List ℕ) (answer 
 Answers-read command file read answer held is known right =
     verdict-read file (bytes_under file held) read answer known (subst (λ (c : Option (List ℕ)). Answers c (bytes_of c held) answer) is right)
 
--- some bytes that may have been read, and the answer on them
-pub IsAnswer-usage : (files : Option Files) (command : Option (List ℕ)) (answer : Answer) → command ≡ None → answer ≡ usage → IsAnswer files command answer
-IsAnswer-usage files command answer is same =
-    subst (λ (c : Option (List ℕ)). IsAnswer files c answer) (sym is) ([], λ held told. refl, same)
+-- words that are no command
+pub Answers-usage : (command : Option (List ℕ)) (given : List ℕ) (answer : Answer) → command ≡ None → answer ≡ usage → Answers command given answer
+Answers-usage command given answer is same = subst (λ (c : Option (List ℕ)). Answers c given answer) (sym is) same
 
 -- ---- answers speak of no fault
 
@@ -93,9 +90,6 @@ is_answer-IsVerdict file bytes answer (finding, found, is) = rw is (is_answer-on
 pub is_answer-Answers : (command : Option (List ℕ)) (bytes : List ℕ) (answer : Answer) → Answers command bytes answer → is_answer answer.status ≡ true
 is_answer-Answers None bytes answer right = rw right refl
 is_answer-Answers (Some file) bytes answer right = is_answer-IsVerdict file bytes answer right
-
-pub IsAnswer-is_answer : (files : Option Files) (command : Option (List ℕ)) (answer : Answer) → IsAnswer files command answer → is_answer answer.status ≡ true
-IsAnswer-is_answer files command answer right = is_answer-Answers command right.0 answer right.2
 
 -- a status of an answer is no fault and no want of memory
 pub is_answer-other : (result other : Status) → is_answer result ≡ true → is_answer other ≡ false → result ≡ other → ⊥
@@ -154,14 +148,10 @@ found_safe law file bytes _ (lexed tokens short lexing few (tree source has)) do
 IsVerdict-safe : Law → (file bytes : List ℕ) (answer : Answer) → IsVerdict file bytes answer → answer.status ≡ Done → SafeBytes bytes
 IsVerdict-safe law file bytes answer (finding, found, is) done = found_safe law file bytes finding found (ap (λ (a : Answer). a.status) (sym is) ∙ done)
 
-Answers-safe : Law → (command : Option (List ℕ)) (bytes : List ℕ) (answer : Answer) → Answers command bytes answer → answer.status ≡ Done → SafeBytes bytes
+-- an answer that accepts is of bytes that are safe
+pub Answers-safe : Law → (command : Option (List ℕ)) (bytes : List ℕ) (answer : Answer) → Answers command bytes answer → answer.status ≡ Done → SafeBytes bytes
 Answers-safe law None bytes answer right done = let status : answer.status ≡ Usage = ap (λ (a : Answer). a.status) right in absurd (cc)
 Answers-safe law (Some file) bytes answer right done = IsVerdict-safe law file bytes answer right done
-
--- an answer that accepts is of bytes that are safe
-pub IsAnswer-safe : Law → (files : Option Files) (command : Option (List ℕ)) (answer : Answer) → IsAnswer files command answer → answer.status ≡ Done
-    → ReadSafely files command
-IsAnswer-safe law files command answer right done = (right.0, right.1, Answers-safe law command right.0 answer right.2 done)
 
 -- ---- what the calls below answer is what is found
 

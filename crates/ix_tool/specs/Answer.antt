@@ -13,6 +13,7 @@ use Rattle.ix_check.specs.declared.check_source.Counts.{Counts}
 use Rattle.ix_check.specs.Rules.{errors_of}
 use Rattle.ix_check.specs.Counts.{counts_of}
 use Rattle.ix_report.specs.Texts.{line, accepted, rejected, broken, past_limit, past_bytes}
+use Rattle.ix_outside.specs.Reading.{most_bytes}
 use Rattle.ix_tool.specs.declared.reply.Reply.{Reply}
 use Rattle.ix_tool.specs.declared.status.Status.{Status}
 use Rattle.ix_tool.specs.declared.status.Status.TheVariants.{Done, Rejected, Usage, Limit, Unbuilt}
@@ -33,10 +34,6 @@ out_answer status text = record { status = status; out = text; err = [] }
 
 abbrev pub err_answer : Status → List ℕ → Answer
 err_answer status text = record { status = status; out = []; err = text }
-
--- how many bytes a source may have
-abbrev pub most_bytes : ℕ
-most_bytes = 1048576
 
 -- ---- what the bytes of a file turn out to be
 

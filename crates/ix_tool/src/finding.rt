@@ -5,10 +5,10 @@ ghost use Rattle.ix_tool.specs.Answer as spec;
 ghost use Rattle.ix_grammar.specs.Refusals.{IsWithin as TokenWithin};
 ghost use Rattle.ix_tool.specs.Findings.{seen, IsPlaced};
 
-use crate::reading::MOST_BYTES;
 use ix_check::{Counts, UnitError, check_unit, count_unit};
 use ix_core::Error;
 use ix_lexer::{LexError, Token, lex};
+use ix_outside::MOST_BYTES;
 use ix_parser::{ParseError, parse};
 use ix_tree::Unit;
 use std::alloc::{AllocError, Global};

@@ -4,7 +4,7 @@ use Rattle.ix_text.specs.declared.span.Span.{Span}
 use Rattle.ix_tree.specs.declared.annot.Annot.{Annot}
 use Rattle.ix_tree.specs.declared.annot.AnnotArg.{AnnotArg}
 use Rattle.ix_tree.specs.declared.annot.AnnotValue.{AnnotValue}
-use Rattle.ix_tree.specs.declared.annot.AnnotValue.TheVariants.{Number, Texts}
+use Rattle.ix_tree.specs.declared.annot.AnnotValue.TheVariants.{Number, Truth, Texts}
 use Rattle.ix_tree.specs.declared.annot.BaseTree.{BaseTree}
 use Rattle.ix_tree.specs.declared.annot.BaseTree.TheVariants.{Int, Boolean, Named}
 use Rattle.ix_tree.specs.declared.annot.Ident.{Ident}
@@ -59,6 +59,7 @@ type_name name = in_type name ∷ []
 
 abbrev pub value_parts : AnnotValue → List Part
 value_parts (Number n) = []
+value_parts (Truth b) = []
 value_parts (Texts texts) = entries (length texts) ∷ []
 
 abbrev pub arg_parts : AnnotArg → List Part

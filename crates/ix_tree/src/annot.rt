@@ -14,6 +14,8 @@ pub struct Ident {
 pub enum AnnotValue {
     /// An int literal, with a minus before it or without.
     Number(i64),
+    /// `true` or `false`.
+    Truth(bool),
     /// A string, or the strings in braces, each as it is written between its quotes.
     Texts(List<Text>),
 }

@@ -1,6 +1,7 @@
 use Rattle.ix_facts.proofs.laws.claim_laws.Goals as goal
 use Rattle.ix_facts.specs.Facts.{in_orders}
 use Rattle.ix_facts.proofs.BoundsHold.{in_orders_hold}
+use Rattle.ix_facts.proofs.ClassesStay.{claim_classes}
 use Rattle.ix_facts.proofs.ClaimLaws.{claim_facts_hold, proved_holds}
 use Rattle.ix_facts.proofs.SaidRules.{proves_says}
 
@@ -12,3 +13,6 @@ returns-clause-sound c = λ facts v claim p h t. proved_holds v (in_orders facts
 
 pub returns-clause-monotone : goal.returns-clause-monotone
 returns-clause-monotone c = proves_says
+
+pub returns-clause-classes : goal.returns-clause-classes
+returns-clause-classes c = claim_classes

@@ -3,6 +3,7 @@ use Rattle.ix_facts.specs.Round.{rounded}
 use Rattle.ix_facts.proofs.ClosedStays.{without_closed}
 use Rattle.ix_facts.proofs.FactLists.{stronger_hold}
 use Rattle.ix_facts.proofs.Frame.{without_holds, without_stays}
+use Rattle.ix_facts.proofs.RoundedStays.{rounded_closed}
 use Rattle.ix_facts.proofs.RoundLaws.{rounded_weaker}
 use Rattle.ix_facts.proofs.SaidLaws.{without_says}
 use Rattle.ix_facts.proofs.SaidRules.{rounded_says, rounded_above}
@@ -31,3 +32,6 @@ returns-clause-rounded_sound c = λ marks scope facts v h. stronger_hold v facts
 
 pub returns-clause-rounded_monotone : goal.returns-clause-rounded_monotone
 returns-clause-rounded_monotone c = rounded_says
+
+pub returns-clause-rounded_closed : goal.returns-clause-rounded_closed
+returns-clause-rounded_closed c = rounded_closed

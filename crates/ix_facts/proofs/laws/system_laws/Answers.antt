@@ -27,7 +27,7 @@ pub returns-clause-after_monotone : goal.returns-clause-after_monotone
 returns-clause-after_monotone c = system_says
 
 pub returns-clause-copy_sound : goal.returns-clause-copy_sound
-returns-clause-copy_sound c = λ own known table ty t s v w alike same met_by h. system_copy_sound own known table ty t s v w (record { int = alike.0; size = alike.1 }) same met_by h
+returns-clause-copy_sound c = system_copy_sound
 
 pub returns-clause-copy_monotone : goal.returns-clause-copy_monotone
 returns-clause-copy_monotone c = system_copy_says

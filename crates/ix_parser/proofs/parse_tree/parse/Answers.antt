@@ -24,6 +24,12 @@ returns-then-left-eq0-clause-found c = trees.has_tree _ _ _ (search rules) (answ
 pub returns-then-left-eq0-clause-only : goal.returns-then-left-eq0-clause-only
 returns-then-left-eq0-clause-only c = λ unit d. let o = trees.only_tree _ _ _ unit (answered.from_whole _ _ _ _ c.new-cursor.ensures c.in-Ok.ensures.reads) d in o.1
 
+pub returns-then-left-eq0-clause-placed : goal.returns-then-left-eq0-clause-placed
+returns-then-left-eq0-clause-placed c = trees.placed _ _ _ _ (search rules) (answered.from_whole _ _ _ _ c.new-cursor.ensures c.in-Ok.ensures.reads) c.requires.in_order
+
+pub returns-then-left-eq0-clause-low : goal.returns-then-left-eq0-clause-low
+returns-then-left-eq0-clause-low c = trees.low_tree _ _ _ (search rules) (answered.from_whole _ _ _ _ c.new-cursor.ensures c.in-Ok.ensures.reads)
+
 pub returns-then-left-eq0-clause-resolvable : goal.returns-then-left-eq0-clause-resolvable
 returns-then-left-eq0-clause-resolvable c =
     trees.can_resolve _ _ _ _ (search rules) (answered.from_whole _ _ _ _ c.new-cursor.ensures c.in-Ok.ensures.reads) c.requires.in_order c.requires.few

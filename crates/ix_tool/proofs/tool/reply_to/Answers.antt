@@ -1,12 +1,12 @@
-use Rattle.std.proofs.Common.{inl, inr, refl, sym}
+use Rattle.std.proofs.Common.{inl, inr, refl, sym, ◌∙◌, subst, List, ℕ, Option, Some}
 use Rattle.std.proofs.lemmas.Result.{IfOk-weaker}
-use Rattle.ix_tool.proofs.Verdicts.{IsAnswer-read, Answers-read}
+use Rattle.ix_tool.proofs.Verdicts.{Answers-given, Answers-read}
 use Rattle.ix_tool.proofs.tool.reply_to.Goals as goal
 
 pub returns-in-Ok-clause-reply : goal.returns-in-Ok-clause-reply
 returns-in-Ok-clause-reply g c =
     IfOk-weaker c.reply_on.result _ _
-    (λ reply right. inl (IsAnswer-read _ _ c.in-Some.name.now c.in-Ok.bytes.items _ (sym c.in-Some.ensures) c.in-Ok.ensures.bytes (rw (sym c.deref.ensures.value) right), c.in-Ok.ensures.ok))
+    (λ reply right. inl (Answers-given _ c.in-Some.name.now c.in-Ok.bytes.items _ _ (sym c.in-Some.ensures) c.in-Ok.ensures.given (rw (sym c.deref.ensures.value) right), c.in-Ok.ensures.ok))
     c.reply_on.ensures.right
 
 pub returns-in-Ok-clause-only : goal.returns-in-Ok-clause-only

@@ -2,8 +2,8 @@ use Rattle.std.proofs.Common.{◌≡◌, true, inl, inr, refl, ap, sym, ◌∙�
 use Rattle.ix_tool.specs.Answer.{Answer, shown}
 use Rattle.ix_tool.specs.Statuses.{is_answer}
 use Rattle.ix_tool.specs.declared.status.Status.TheVariants.{WriteFault}
-use Rattle.ix_tool.proofs.PrefixesTaken.{TookPrefix-none}
-use Rattle.ix_tool.proofs.Verdicts.{IsAnswer-is_answer, IsAnswer-safe, is_answer-Answers, is_answer-other}
+use Rattle.ix_outside.proofs.PrefixesTaken.{TookPrefix-none}
+use Rattle.ix_tool.proofs.Verdicts.{Answers-safe, is_answer-Answers, is_answer-other}
 use Rattle.ix_tool.proofs.tool.run_tool.Goals as goal
 
 pub returns-in-Ok-clause-answer : goal.returns-in-Ok-clause-answer
@@ -18,7 +18,7 @@ pub returns-in-Ok-clause-read_fault : goal.returns-in-Ok-clause-read_fault
 returns-in-Ok-clause-read_fault g c = λ fault.
     let whole = c.deliver.ensures.whole (λ other. cc (fault, other)) (λ other. cc (fault, other)) in
     elim c.in-Ok.ensures.reply [
-      | inl w ↦ absurd (is_answer-other _ _ (IsAnswer-is_answer _ _ _ w.0) refl (sym whole.0 ∙ fault))
+      | inl w ↦ absurd (is_answer-other _ _ (is_answer-Answers _ _ _ w.0) refl (sym whole.0 ∙ fault))
       | inr w ↦ record {
         file = w.file;
         command_is = w.command_is;
@@ -33,7 +33,7 @@ pub returns-in-Ok-clause-write_fault : goal.returns-in-Ok-clause-write_fault
 returns-in-Ok-clause-write_fault g c = λ fault.
     elim c.in-Ok.ensures.reply [
       | inl w ↦ (
-        c.deliver.ensures.fault fault (is_answer-other _ _ (IsAnswer-is_answer _ _ _ w.0) refl),
+        c.deliver.ensures.fault fault (is_answer-other _ _ (is_answer-Answers _ _ _ w.0) refl),
         inl record {
           answer = shown c.in-Ok.reply;
           right = w.0;
@@ -46,6 +46,7 @@ returns-in-Ok-clause-write_fault g c = λ fault.
         inr record {
           file = w.file;
           command_is = w.command_is;
+          unsure = w.unsure;
           rose = w.rose;
           out = TookPrefix-none _ _ _ w.out c.deliver.ensures.out;
           err = elim c.deliver.ensures.err [ inl p ↦ rw w.err at p | inr q ↦ absurd (cc (q.0, fault)) ];
@@ -61,7 +62,7 @@ returns-in-Ok-clause-memory g c = λ wanted.
         | inr q ↦ inr (inr (inl record { answer = shown c.in-Ok.reply; right = w.0; out = c.deliver.ensures.out; err = q.1 }))
       ]
       | inr w ↦ elim c.deliver.ensures.err [
-        | inl p ↦ inr (inl record { file = w.file; command_is = w.command_is; rose = w.rose; out = TookPrefix-none _ _ _ w.out c.deliver.ensures.out; err = rw w.err at p })
+        | inl p ↦ inr (inl record { file = w.file; command_is = w.command_is; unsure = w.unsure; rose = w.rose; out = TookPrefix-none _ _ _ w.out c.deliver.ensures.out; err = rw w.err at p })
         | inr q ↦ inr (inr (inr record { out = TookPrefix-none _ _ _ w.out c.deliver.ensures.out; err = q.1 }))
       ]
     ]
@@ -83,4 +84,4 @@ pub returns-in-Ok-clause-safe : goal.returns-in-Ok-clause-safe
 returns-in-Ok-clause-safe g c = λ done.
     let ok : is_answer c.deliver.result ≡ true = ap is_answer done in
     let ends = returns-in-Ok-clause-answer g c ok in
-    IsAnswer-safe c.accepted_is_safe.ensures _ _ ends.answer ends.right (sym ends.status ∙ done)
+    Answers-safe c.accepted_is_safe.ensures _ _ ends.answer ends.right (sym ends.status ∙ done)

@@ -1,0 +1,3 @@
+mod FilesHeld
+pub mod PrefixesTaken
+mod PartsRead

@@ -1,0 +1,84 @@
+//! Rows of answers: words, a source under `A.java`, and the status and texts that they are to get.
+use crate::calls::{GET, run};
+use ix_tool::Status;
+use std::test::Fail;
+
+const ACCEPTED: &str = "accepted: 1 methods, 1 accesses\n";
+
+const USAGE: &str = "usage: indexcheck check FILE | run FILE CLASS.METHOD -- INPUTS | bench N\n";
+
+const UNBUILT: &str = "A.java: not built yet\n";
+
+const CHECK: &[&str] = &["check", "A.java"];
+
+#[test]
+fn sources(rt: HostRuntime) -> Result<(), Fail> {
+    let rows: &[(&str, Status, &str, &str)] = &[
+        (GET, Status::Done, ACCEPTED, ""),
+        (
+            "class A { static int get(int[] a, int i) { return a[i]; } }",
+            Status::Rejected,
+            "A.java:1:53: access.low\nA.java:1:53: access.high\nrejected: 2 errors\n",
+            "",
+        ),
+        (
+            "class A { static int first(int[] a) { return a[0]; } }",
+            Status::Unbuilt,
+            "",
+            UNBUILT,
+        ),
+        ("", Status::Unbuilt, "", UNBUILT),
+        (
+            "class A { static int low() { return 2147483648; } }",
+            Status::Rejected,
+            "A.java:1:37: syntax\nrejected: 1 errors\n",
+            "",
+        ),
+        (
+            "class A { static int low() { return 017; } }",
+            Status::Rejected,
+            "A.java:1:37: bad.number\nrejected: 1 errors\n",
+            "",
+        ),
+        (
+            "package p; import q.R; public final class A { static int get(int[] a, @IndexFor(\"#1\") int i) { return (a[(i)]); } }",
+            Status::Done,
+            ACCEPTED,
+            "",
+        ),
+    ];
+    for &(text, status, out, err) in rows {
+        let ended = run(rt.alloc(), CHECK, text.as_bytes())?;
+        assert!(rt;
+            ended.status == status
+                && ended.out.as_slice() == out.as_bytes()
+                && ended.err.as_slice() == err.as_bytes()
+        );
+    }
+    Ok(())
+}
+
+// `B.java` isn't held, so it is an empty file.
+#[test]
+fn words(rt: HostRuntime) -> Result<(), Fail> {
+    let rows: &[(&[&str], Status, &str)] = &[
+        (
+            &["check", "B.java"],
+            Status::Unbuilt,
+            "B.java: not built yet\n",
+        ),
+        (&[], Status::Usage, USAGE),
+        (&["check"], Status::Usage, USAGE),
+        (&["check", "-"], Status::Usage, USAGE),
+        (&["check", ""], Status::Usage, USAGE),
+        (&["check", "A.java", "A.java"], Status::Usage, USAGE),
+        (&["chek", "A.java"], Status::Usage, USAGE),
+    ];
+    for &(words, status, err) in rows {
+        let ended = run(rt.alloc(), words, GET.as_bytes())?;
+        assert!(rt;
+            ended.status == status && ended.out.is_empty() && ended.err.as_slice() == err.as_bytes()
+        );
+    }
+    Ok(())
+}

@@ -1,0 +1,76 @@
+//! Words, and the command that they are.
+use ix_words::{Command, Sums, read_words};
+use std::alloc::{AllocError, Global};
+use std::test::Fail;
+
+/// The command in words of its own; `none` where there is none.
+fn told(alloc: Global, line: &str) -> Result<String, AllocError> {
+    let mut words = Vec::new(alloc);
+    for word in line.split(' ') {
+        words.push(String::from_str(alloc, word)?)?;
+    }
+    match read_words(alloc, words.as_slice())? {
+        None => String::from_str(alloc, "none"),
+        Some(Command::Check { sums, file }) => match sums {
+            Sums::Ideal => format!(in alloc; "check ideal {file}"),
+            Sums::Int32 => format!(in alloc; "check int32 {file}"),
+        },
+        Some(
+            Command::Run {
+                limits,
+                file,
+                entry,
+                inputs,
+            },
+        ) => {
+            let mut text = format!(in alloc; "run {} {} {} {file} {entry}", limits.steps, limits.cells, limits.frames)?;
+            for input in &inputs {
+                write!(text, " {input}")?;
+            }
+            Ok(text)
+        }
+        Some(Command::Bench(count)) => format!(in alloc; "bench {count}"),
+    }
+}
+
+#[test]
+fn commands(rt: HostRuntime) -> Result<(), Fail> {
+    let rows: &[(&str, &str)] = &[
+        ("check A.java", "check int32 A.java"),
+        ("check --sums=ideal A.java", "check ideal A.java"),
+        ("check A.java --sums int32", "check int32 A.java"),
+        ("check --sums=odd A.java", "none"),
+        ("check --sums A.java", "none"),
+        ("check --sums=ideal --sums=ideal A.java", "none"),
+        ("check -- --sums", "check int32 --sums"),
+        ("check --help", "none"),
+        ("check A.java B.java", "none"),
+        ("check -", "none"),
+        ("check -x", "none"),
+        ("check", "none"),
+        ("", "none"),
+        ("chek A.java", "none"),
+        ("run A.java A.f", "run 1000000 1000000 1000 A.java A.f"),
+        ("run --steps 7 --cells=8 --frames 9 A.java A.f -- -5 --trace", "run 7 8 9 A.java A.f -5 --trace"),
+        ("run A.java A.f 5 true", "run 1000000 1000000 1000 A.java A.f 5 true"),
+        ("run A.java A.f -5", "none"),
+        ("run A.java", "none"),
+        ("run --steps=1000000000 A.java A.f", "run 1000000000 1000000 1000 A.java A.f"),
+        ("run --steps=1000000001 A.java A.f", "none"),
+        ("run --steps 0 A.java A.f", "none"),
+        ("run --cells 16777217 A.java A.f", "none"),
+        ("run --frames 10001 A.java A.f", "none"),
+        ("bench 1", "bench 1"),
+        ("bench 1000", "bench 1000"),
+        ("bench -- 3", "bench 3"),
+        ("bench 0", "none"),
+        ("bench 1001", "none"),
+        ("bench 01", "none"),
+        ("bench +1", "none"),
+        ("verify A B", "none"),
+    ];
+    for &(line, wanted) in rows {
+        assert_eq!(rt; told(rt.alloc(), line)?.as_str(), wanted);
+    }
+    Ok(())
+}

@@ -1,0 +1,107 @@
+-- What clap found, as what the words say.
+use Rattle.std.proofs.Common.{◌≡◌, ◌∙◌, ℕ, Bool, true, refl, sym, ap, subst, List, [], ◌∷◌, Option, Some, None, map, length, get_or, drop, ◌≤◌, ◌<◌, arith}
+use Rattle.std.specs.Borrow.{Bor}
+use Rattle.std.specs.Prelude.{codes, option_map, option_and_then, slice_get, is_some, unwrap_or}
+use Rattle.clap.specs.Matches.{first_value, matched_of, raw_values, found_of}
+use Rattle.clap.specs.declared.parser.matches.ArgMatches.{ArgMatches}
+use Rattle.clap.specs.declared.parser.matches.MatchedArg.{MatchedArg}
+use Rattle.clap.specs.Walk.{Row}
+use Rattle.clap.proofs.WalkLemmas.{first_value-rows, raw_values-rows}
+use Rattle.ix_words.specs.Words.{Text, Options, Parsed, knows, parsed, value_of, text_of, has, words_id}
+use Rattle.ix_words.specs.Values.{number_in, limits_of, sums_of}
+use Rattle.ix_words.specs.declared.values.Sums.{Sums}
+use Rattle.ix_words.specs.declared.values.Limits.{Limits}
+use Rattle.ix_words.specs.Commands.{Command, Check, Run, Bench, check_of, run_of, bench_of, command_with}
+use Rattle.ix_words.specs.Clap.{Says, Parses, Reads, row, rows_in, words_row, positionals_in}
+
+listed : (ps : List Text) → unwrap_or (option_map (λ (r : Row). r.values) (words_row ps)) [] ≡ ps
+listed [] = refl
+listed (p ∷ ps) = refl
+
+says_rest : (options : Options) (q : Parsed) (m : ArgMatches) → Says options q (rows_in m) → positionals_in m ≡ q.positionals
+says_rest options q m says = ap (λ o. unwrap_or (option_map (λ (r : Row). r.values) o) []) says.words ∙ listed q.positionals
+
+pub says_text : (options : Options) (q : Parsed) (m : ArgMatches) (n : Text) → knows options n ≡ true → Says options q (rows_in m) → first_value (found_of m) n ≡ text_of n q
+says_text options q m n k says = first_value-rows (found_of m) n ∙ (ap (option_and_then (λ (r : Row). slice_get r.values 0)) (says.options n k) ∙ go (value_of n q.options))
+  where
+    go : (o : Option (List Text)) → option_and_then (λ (r : Row). slice_get r.values 0) (option_map (row n) o) ≡ option_and_then (λ vs. slice_get vs 0) o
+    go None = refl
+    go (Some vs) = refl
+
+pub says_has : (options : Options) (q : Parsed) (m : ArgMatches) (n : Text) → knows options n ≡ true → Says options q (rows_in m) → is_some (matched_of (found_of m) n) ≡ has n q
+says_has options q m n k says = sym (some_of (matched_of (found_of m) n)) ∙ (ap is_some (raw_values-rows (found_of m) n) ∙ (ap (λ o. is_some (option_map (λ (r : Row). r.values) o)) (says.options n k) ∙ go (value_of n q.options)))
+  where
+    some_of : (o : Option MatchedArg) → is_some (option_map raw_values o) ≡ is_some o
+    some_of None = refl
+    some_of (Some a) = refl
+
+    go : (o : Option (List Text)) → is_some (option_map (λ (r : Row). r.values) (option_map (row n) o)) ≡ is_some o
+    go None = refl
+    go (Some vs) = refl
+
+-- the positionals as the code gets them
+pub some_rest : (m : ArgMatches) (list : List (Bor Text)) → Some (map (λ w. w.now) list) ≡ option_map raw_values (matched_of (found_of m) words_id) → map (λ w. w.now) list ≡ positionals_in m
+some_rest m list is = ap (λ o. unwrap_or o []) (is ∙ raw_values-rows (found_of m) words_id)
+
+pub no_rest : (m : ArgMatches) → None ≡ option_map raw_values (matched_of (found_of m) words_id) → [] ≡ positionals_in m
+no_rest m is = ap (λ o. unwrap_or o []) (is ∙ raw_values-rows (found_of m) words_id)
+
+pub parses_some : (options : Options) (ws : List Text) (o : Option ArgMatches) (m : ArgMatches) → Reads options ws o → o ≡ Some m → Parses options ws m
+parses_some options ws None m reads is = cc
+parses_some options ws (Some n) m reads is = let one : n ≡ m = cc in subst (Parses options ws) one reads
+
+abbrev pub some_text : Bor Text
+some_text = record { ref_ptr = (0, 0); now = [] }
+
+-- a command from what is found; `list` are the positionals of the code
+pub made : (options : Options) (make : Parsed → List Text → Option Command) (ws : List Text) (m : ArgMatches) (list : List (Bor Text)) (command : Option Command)
+    → Parses options ws m → map (λ w. w.now) list ≡ positionals_in m → ((q : Parsed) → Says options q (rows_in m) → command ≡ make q (map (λ w. w.now) list)) → command ≡ command_with options make ws
+made options make ws m list command (q, is, says) rest each =
+    each q says ∙ (ap (make q) (rest ∙ says_rest options q m says) ∙ sym (ap (option_and_then (λ p. make p p.positionals)) is))
+
+pub refused : (options : Options) (make : Parsed → List Text → Option Command) (ws : List Text) → parsed options ws ≡ None → None ≡ command_with options make ws
+refused options make ws none = sym (ap (option_and_then (λ p. make p p.positionals)) none)
+
+-- ---- check
+
+pub no_check : (q : Parsed) (list : List (Bor Text)) → (length list ≡ 1 → ⊥) → None ≡ check_of q (map (λ w. w.now) list)
+no_check q [] other = refl
+no_check q (x ∷ []) other = absurd (other refl)
+no_check q (x ∷ y ∷ list) other = refl
+
+pub one_check : (q : Parsed) (list : List (Bor Text)) (d : Bor Text) (sums : Option Sums) (word : Option Text) → length list ≡ 1
+    → sums ≡ sums_of word → word ≡ text_of (codes "sums") q → option_map (λ s. Check s (get_or list 0 d).now) sums ≡ check_of q (map (λ w. w.now) list)
+one_check q (x ∷ []) d sums word one is a = ap (option_map (λ s. Check s x.now)) (is ∙ ap sums_of a)
+one_check q [] d sums word one is a = absurd (omega arith)
+one_check q (x ∷ y ∷ list) d sums word one is a = absurd (omega arith)
+
+-- ---- bench
+
+pub no_bench : (q : Parsed) (list : List (Bor Text)) → (length list ≡ 1 → ⊥) → None ≡ bench_of q (map (λ w. w.now) list)
+no_bench q [] other = refl
+no_bench q (x ∷ []) other = absurd (other refl)
+no_bench q (x ∷ y ∷ list) other = refl
+
+pub one_bench : (q : Parsed) (list : List (Bor Text)) (d : Bor Text) (number : Option ℕ) → length list ≡ 1 → number ≡ number_in 1 1000 (get_or list 0 d).now
+    → option_map Bench number ≡ bench_of q (map (λ w. w.now) list)
+one_bench q (x ∷ []) d number one is = ap (option_map Bench) is
+one_bench q [] d number one is = absurd (omega arith)
+one_bench q (x ∷ y ∷ list) d number one is = absurd (omega arith)
+
+-- ---- run
+
+pub no_run : (q : Parsed) (list : List (Bor Text)) → length list < 2 → None ≡ run_of q (map (λ w. w.now) list)
+no_run q [] few = refl
+no_run q (x ∷ []) few = refl
+no_run q (x ∷ y ∷ list) few = absurd (omega arith)
+
+pub one_run : (q : Parsed) (list : List (Bor Text)) (d : Bor Text) (limits : Option Limits) (steps cells frames : Option Text) (inputs : List Text) → 2 ≤ length list
+    → limits ≡ limits_of steps cells frames → steps ≡ text_of (codes "steps") q → cells ≡ text_of (codes "cells") q → frames ≡ text_of (codes "frames") q
+    → inputs ≡ map (λ w. w.now) (drop 2 list)
+    → option_map (λ l. Run l (get_or list 0 d).now (get_or list 1 d).now inputs) limits ≡ run_of q (map (λ w. w.now) list)
+one_run q [] d limits steps cells frames inputs two is a b e i = absurd (omega arith)
+one_run q (x ∷ []) d limits steps cells frames inputs two is a b e i = absurd (omega arith)
+one_run q (x ∷ y ∷ list) d limits steps cells frames inputs two is a b e i =
+    ap (λ s. option_map (λ l. Run l x.now y.now s) limits) i
+    ∙ ap (option_map (λ l. Run l x.now y.now (map (λ w. w.now) list)))
+    (is ∙ (ap (λ s. limits_of s cells frames) a ∙ (ap (λ s. limits_of (text_of (codes "steps") q) s frames) b ∙ ap (limits_of (text_of (codes "steps") q) (text_of (codes "cells") q)) e)))

@@ -1,0 +1,47 @@
+-- Which words are a command, and which.
+use Rattle.std.specs.Prelude.{ℕ, Bool, true, List, [], ◌∷◌, Option, Some, None, if◌then◌else◌, codes, option_map, option_and_then}
+use Rattle.std.specs.Str.{bytes_eq}
+use Rattle.ix_words.specs.Values.{number_in, limits_of, sums_of}
+use Rattle.ix_words.specs.declared.values.Limits.{Limits}
+use Rattle.ix_words.specs.declared.values.Sums.{Sums}
+use Rattle.ix_words.specs.Words.{Text, Options, Parsed, parsed, text_of}
+
+-- a command, with what it is given
+pub data Command : Type 0 where
+  Check : (sums : Sums) (file : Text) → Command
+  Run : (limits : Limits) (file entry : Text) (inputs : List Text) → Command
+  Bench : (count : ℕ) → Command
+
+-- `check [--sums ideal|int32] FILE`
+abbrev pub check_options : Options
+check_options = (codes "sums", true) ∷ []
+
+abbrev pub check_of : Parsed → List Text → Option Command
+check_of p (file ∷ []) = option_map (λ sums. Check sums file) (sums_of (text_of (codes "sums") p))
+check_of p _ = None
+
+-- `run [--steps N] [--cells N] [--frames N] FILE CLASS.METHOD INPUTS`
+abbrev pub run_options : Options
+run_options = (codes "steps", true) ∷ (codes "cells", true) ∷ (codes "frames", true) ∷ []
+
+abbrev pub run_of : Parsed → List Text → Option Command
+run_of p (file ∷ entry ∷ inputs) = option_map (λ limits. Run limits file entry inputs) (limits_of (text_of (codes "steps") p) (text_of (codes "cells") p) (text_of (codes "frames") p))
+run_of p _ = None
+
+-- `bench N`
+abbrev pub bench_of : Parsed → List Text → Option Command
+bench_of p (word ∷ []) = option_map Bench (number_in 1 1000 word)
+bench_of p _ = None
+
+-- the command of these options, of which each list of positionals makes one or none
+abbrev pub command_with : Options → (Parsed → List Text → Option Command) → List Text → Option Command
+command_with options make words = option_and_then (λ p. make p p.positionals) (parsed options words)
+
+-- the command that the words are: the first picks it, and is compared exactly
+abbrev pub command_of : List Text → Option Command
+command_of [] = None
+command_of (first ∷ words) =
+    if bytes_eq first (codes "check") then command_with check_options check_of words
+    else if bytes_eq first (codes "run") then command_with run_options run_of words
+    else if bytes_eq first (codes "bench") then command_with [] bench_of words
+    else None

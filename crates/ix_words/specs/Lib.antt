@@ -1,0 +1,5 @@
+pub mod Words
+pub mod Values
+pub mod Commands
+pub mod Shown
+pub mod Clap

@@ -1,0 +1,131 @@
+//! The commands: each with its options and its positionals.
+ghost use Rattle.std.specs.Prelude.{◌≡◌, ◌<◌, ◌≤◌, IfOk, [], drop, map, length, option_map};
+ghost use Rattle.ix_words.specs.Commands.{check_options, check_of, run_options, run_of, bench_of, command_with, command_of};
+ghost use Rattle.ix_words.specs.Shown.{shown, words_of};
+
+use crate::matching::matches_of;
+use crate::values::{Limits, Sums, number, read_limits, read_sums};
+use std::alloc::{AllocError, Global};
+
+/// A command, with the words that it is given.
+#[derive(Drop)]
+pub enum Command<'a> {
+    /// Checks a file.
+    Check {
+        sums: Sums,
+        file: &'a str,
+    },
+    /// Runs a method of a file: `entry` is `CLASS.METHOD`.
+    Run {
+        limits: Limits,
+        file: &'a str,
+        entry: &'a str,
+        inputs: Vec<&'a str>,
+    },
+    /// Checks the workload of that many methods, from 1 to 1,000.
+    Bench(u32),
+}
+
+static CHECK: [(&str, bool); 1] = [("sums", true)];
+
+/// `check [--sums ideal|int32] FILE`.
+fn check<'a>(alloc: Global, words: &'a [String]) -> Result<Option<Command<'a>>, AllocError>
+    requires { 0 < length words.now }
+    ensures { IfOk result (λ r. option_map shown r ≡ command_with check_options check_of (drop 1 (words_of words.entry.now))) }
+{
+    let Some(matches) = matches_of(alloc, &CHECK, words)? else {
+        return Ok(None);
+    };
+    let Some(list) = matches.get_raw("words") else {
+        return Ok(None);
+    };
+    if list.len() != 1 {
+        return Ok(None);
+    }
+    let Some(sums) = read_sums(matches.get_str("sums")) else {
+        return Ok(None);
+    };
+    Ok(Some(Command::Check {
+        sums,
+        file: list[0],
+    }))
+}
+
+static RUN: [(&str, bool); 3] = [("steps", true), ("cells", true), ("frames", true)];
+
+/// The words behind the first two.
+fn behind_two<'a>(alloc: Global, words: &[&'a str]) -> Result<Vec<&'a str>, AllocError>
+    requires { 2 ≤ length words.now }
+    ensures { IfOk result (λ v. map (λ s. s.now) v.items ≡ map (λ s. s.now) (drop 2 words.now)) }
+{
+    words[2..].iter().copied().collect(alloc)
+}
+
+/// `run [--steps N] [--cells N] [--frames N] FILE CLASS.METHOD INPUTS`.
+fn run<'a>(alloc: Global, words: &'a [String]) -> Result<Option<Command<'a>>, AllocError>
+    requires { 0 < length words.now }
+    ensures { IfOk result (λ r. option_map shown r ≡ command_with run_options run_of (drop 1 (words_of words.entry.now))) }
+{
+    let Some(matches) = matches_of(alloc, &RUN, words)? else {
+        return Ok(None);
+    };
+    let Some(list) = matches.get_raw("words") else {
+        return Ok(None);
+    };
+    if list.len() < 2 {
+        return Ok(None);
+    }
+    let Some(limits) = read_limits(
+        matches.get_str("steps"),
+        matches.get_str("cells"),
+        matches.get_str("frames"),
+    ) else {
+        return Ok(None);
+    };
+    let inputs = behind_two(alloc, list)?;
+    Ok(Some(Command::Run {
+        limits,
+        file: list[0],
+        entry: list[1],
+        inputs,
+    }))
+}
+
+/// `bench N`.
+fn bench<'a>(alloc: Global, words: &'a [String]) -> Result<Option<Command<'a>>, AllocError>
+    requires { 0 < length words.now }
+    ensures { IfOk result (λ r. option_map shown r ≡ command_with [] bench_of (drop 1 (words_of words.entry.now))) }
+{
+    let Some(matches) = matches_of(alloc, &[], words)? else {
+        return Ok(None);
+    };
+    let Some(list) = matches.get_raw("words") else {
+        return Ok(None);
+    };
+    if list.len() != 1 {
+        return Ok(None);
+    }
+    let Some(count) = number(list[0], 1, 1000) else {
+        return Ok(None);
+    };
+    Ok(Some(Command::Bench(count)))
+}
+
+/// The command that the words are; none exactly where they are no command. The one error is want of memory.
+pub fn read_words<'a>(alloc: Global, words: &'a [String]) -> Result<Option<Command<'a>>, AllocError>
+    ensures { IfOk result (λ r. option_map shown r ≡ command_of (words_of words.entry.now)) }
+{
+    if words.is_empty() {
+        return Ok(None);
+    }
+    let first = words[0].as_str();
+    if first == "check" {
+        check(alloc, words)
+    } else if first == "run" {
+        run(alloc, words)
+    } else if first == "bench" {
+        bench(alloc, words)
+    } else {
+        Ok(None)
+    }
+}
