@@ -306,6 +306,27 @@ const ARGUMENTS: &[Row] = &[
         Want::Error(2),
     ),
     ("SameLen", &[], Target::Array, None, Want::Error(2)),
+    (
+        "MinLen",
+        &[("", Value::Truth(true))],
+        Target::Array,
+        None,
+        Want::Error(2),
+    ),
+    (
+        "IndexFor",
+        &[("", Value::Truth(false))],
+        Target::Int,
+        None,
+        Want::Error(2),
+    ),
+    (
+        "IntRange",
+        &[("from", Value::Truth(true))],
+        Target::Int,
+        None,
+        Want::Error(2),
+    ),
 ];
 
 const COUNTS: &[Row] = &[

@@ -9,6 +9,7 @@ use std::alloc::{AllocError, Global};
 #[derive(Clone, Copy)]
 pub enum Value {
     Number(i64),
+    Truth(bool),
     Texts(&'static [&'static str]),
 }
 
@@ -40,6 +41,7 @@ fn ident(alloc: Global, name: &str) -> Result<Ident, AllocError> {
 fn made_value(alloc: Global, value: Value) -> Result<AnnotValue, AllocError> {
     match value {
         Value::Number(n) => Ok(AnnotValue::Number(n)),
+        Value::Truth(b) => Ok(AnnotValue::Truth(b)),
         Value::Texts(texts) => {
             let mut entries = List::new(alloc);
             for text in texts {
