@@ -190,7 +190,10 @@ fn decl_init(decl: &LocalDecl) -> Option<&Ident>
 fn local_decl(alloc: Global, decl: &LocalDecl) -> Result<Local, UnitError>
     ensures { Decodes (spec.local_of_decl decl.now) result }
 {
-    if !is_plain(decl.mods.get(), false) || !decl.mods.get().annots.is_empty() || !is_int(decl.ty.get(), 0) {
+    if !is_plain(decl.mods.get(), false)
+        || !decl.mods.get().annots.is_empty()
+        || !is_int(decl.ty.get(), 0)
+    {
         return Err(UnitError::Unbuilt);
     }
     match decl_init(decl) {

@@ -56,12 +56,7 @@ pub fn plain_decl(all: &Shared, name: Ident) -> Result<FoundDecl, Stop>
 }
 
 /// What is declared with an initialiser.
-fn init_decl(
-    left: u32,
-    all: &Shared,
-    name: Ident,
-    found: FoundInit,
-) -> Result<FoundDecl, Stop>
+fn init_decl(left: u32, all: &Shared, name: Ident, found: FoundInit) -> Result<FoundDecl, Stop>
     requires low { all.now.height ≤ 4 }
     requires room { found.height + 1 ≤ left }
     ensures { MatchResult result (λ decl. decl ≡ nodes.init_decl all.now name found) (λ stop. stop ≡ Memory) }

@@ -56,7 +56,6 @@ module _ (w : Numbers) (profile : Profile) (t : Path) (exact : Interval) (result
 
 -- ---- copies
 
-
 module _ (w : Numbers) (t s : Path) (a : Alike w t s) where
   copy_like : (p : Path) → is_path p s ≡ true → Alike w t p
   copy_like p x = record { int = a.int ∙ sym (int_same w p s x); size = a.size ∙ sym (size_same w p s x) }

@@ -57,11 +57,7 @@ fn read_rest<S: Source>(alloc: Global, files: &mut S) -> Result<Vec<u8>, ReadErr
 
 /// Opens the file of that name, no other and once, and reads it to its end, or past the most bytes: the bytes read are those that the source's
 /// log says it handed out. `Failed` comes only where the count of faults of `files` rose, and never for a sure name.
-pub fn read_file<S: Source>(
-    alloc: Global,
-    files: &mut S,
-    name: &str,
-) -> Result<Vec<u8>, ReadError>
+pub fn read_file<S: Source>(alloc: Global, files: &mut S, name: &str) -> Result<Vec<u8>, ReadError>
     ensures bytes { IfOk result (λ read. (held : Files) → S.files files.old ≡ Some held → IsAllOrPast (bytes_under name.now held) read.items) }
     ensures given { IfOk result (λ read. S.given files.new ≡ read.items) }
 

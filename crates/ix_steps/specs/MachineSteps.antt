@@ -1,5 +1,5 @@
 -- What ties the machine to the rules: when an operation is a step between the numbers of paths, and which claim on paths a claim is.
-use Rattle.std.specs.Prelude.{◌≡◌, ◌⊎◌, ℕ, ◌<◌, ◌==◌, unsigned_abs, Bool, true, ◌&&◌, List, [], length}
+use Rattle.std.specs.Prelude.{◌≡◌, ◌⊎◌, ℕ, ◌<◌, ◌==◌, unsigned_abs, Bool, true, ◌&&◌, List, [], length, slice_get, option_map, unwrap_or}
 use Rattle.ix_core.specs.declared.claim.Claim.{Claim}
 use Rattle.ix_core.specs.declared.claim.Claim.TheVariants as claim
 use Rattle.ix_core.specs.declared.claim.Name.{Name}
@@ -75,10 +75,14 @@ on_paths path (claim.Upper array offset constant) = path_claim.Upper (path array
 on_paths path (claim.Search array) = path_claim.Search (path array)
 on_paths path (claim.Negative array) = path_claim.Negative (path array)
 
--- Inside a method a parameter has its own slot, and a field is one of the object in slot 0.
+-- the slot of a local; 0 where the method has no such local
+abbrev pub local_slot : Method → ℕ → ℕ
+local_slot method number = unwrap_or (option_map (λ local. local.0.slot) (slice_get method.locals number)) 0
+
+-- Inside a method a parameter and a local have their own slots, and a field is one of the object in slot 0.
 abbrev pub own_path : Method → Name → Path
 own_path method (Param number) = Slot (param_slot method number)
-own_path method (Local number) = Slot number
+own_path method (Local number) = Slot (local_slot method number)
 own_path method (FieldNamed field) = FieldOf 0 field
 
 -- A claim on a parameter names parameters, and one on a field names fields.

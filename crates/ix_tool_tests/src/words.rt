@@ -23,7 +23,10 @@ fn told(alloc: Global, line: &str) -> Result<String, AllocError> {
                 inputs,
             },
         ) => {
-            let mut text = format!(in alloc; "run {} {} {} {file} {entry}", limits.steps, limits.cells, limits.frames)?;
+            let mut text = format!(in alloc;
+                "run {} {} {} {file} {entry}",
+                limits.steps, limits.cells, limits.frames
+            )?;
             for input in &inputs {
                 write!(text, " {input}")?;
             }
@@ -51,11 +54,20 @@ fn commands(rt: HostRuntime) -> Result<(), Fail> {
         ("", "none"),
         ("chek A.java", "none"),
         ("run A.java A.f", "run 1000000 1000000 1000 A.java A.f"),
-        ("run --steps 7 --cells=8 --frames 9 A.java A.f -- -5 --trace", "run 7 8 9 A.java A.f -5 --trace"),
-        ("run A.java A.f 5 true", "run 1000000 1000000 1000 A.java A.f 5 true"),
+        (
+            "run --steps 7 --cells=8 --frames 9 A.java A.f -- -5 --trace",
+            "run 7 8 9 A.java A.f -5 --trace",
+        ),
+        (
+            "run A.java A.f 5 true",
+            "run 1000000 1000000 1000 A.java A.f 5 true",
+        ),
         ("run A.java A.f -5", "none"),
         ("run A.java", "none"),
-        ("run --steps=1000000000 A.java A.f", "run 1000000000 1000000 1000 A.java A.f"),
+        (
+            "run --steps=1000000000 A.java A.f",
+            "run 1000000000 1000000 1000 A.java A.f",
+        ),
         ("run --steps=1000000001 A.java A.f", "none"),
         ("run --steps 0 A.java A.f", "none"),
         ("run --cells 16777217 A.java A.f", "none"),

@@ -13,7 +13,7 @@ use Rattle.ix_tree.specs.declared.expr.ExprKind.TheVariants as e
 use Rattle.ix_tree.specs.declared.expr.Init.{Init, Init-F, fold-roll-Init}
 use Rattle.ix_tree.specs.declared.expr.Init.TheVariants.{rolls-Value, rolls-Items}
 use Rattle.ix_tree.specs.declared.expr.Init.TheVariants as i
-use Rattle.ix_tree.specs.Heights.{greatest, of_all, type_height, kind_height, height_of_init, height_of_expr, expr_height, init_height}
+use Rattle.ix_tree.specs.Heights.{of_all, type_height, kind_height, height_of_init, height_of_expr, expr_height, init_height}
 
 abbrev pub kind_high : ExprKind → ℕ
 kind_high = fold-ExprKind ℕ ℕ ℕ kind_height height_of_init height_of_expr

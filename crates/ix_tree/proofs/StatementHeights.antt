@@ -8,7 +8,7 @@ use Rattle.ix_tree.specs.declared.stmt.Stmt.{Stmt, fold-roll-Stmt}
 use Rattle.ix_tree.specs.declared.stmt.StmtKind.{StmtKind, StmtKind-F, fold-StmtKind, fold-roll-StmtKind}
 use Rattle.ix_tree.specs.declared.stmt.StmtKind.TheVariants.{rolls-Block, rolls-Empty, rolls-Local, rolls-If, rolls-While, rolls-Do, rolls-For, rolls-Break, rolls-Continue, rolls-Return, rolls-Throw, rolls-Print, rolls-Run}
 use Rattle.ix_tree.specs.declared.stmt.StmtKind.TheVariants as s
-use Rattle.ix_tree.specs.Heights.{greatest, of_maybe, of_all, expr_height, decl_height, stmt_kind_height, height_of_stmt, stmt_height}
+use Rattle.ix_tree.specs.Heights.{of_maybe, of_all, expr_height, decl_height, stmt_kind_height, height_of_stmt, stmt_height}
 
 abbrev pub stmt_kind_high : StmtKind → ℕ
 stmt_kind_high = fold-StmtKind ℕ ℕ stmt_kind_height height_of_stmt

@@ -36,7 +36,7 @@ use denote.Builtin.{u8}
 use denote.Exit.{yes}
 use denote.Slice.{ShrSlice, slice_val, shr_slice_vals, shr_slice_Tells}
 use denote.Triple.Walked.{stay_none_slice, Goes-none_slice}
-use Rattle.std.proofs.Common.{◌+◌, ◌<◌, ◌^◌, ◌++◌, length}
+use Rattle.std.proofs.Common.{◌<◌, ◌^◌, ◌++◌, length}
 
 abbrev Arg : Type 0
 Arg = MutBor SinkLog × (Bor (List ℕ) × Unit {0})
