@@ -23,8 +23,7 @@ use std::alloc::Global;
 /// An error comes exactly where there is no such tree. Let the tokens before one be the most that begin a source of a height of at most 200.
 /// Where with that token they begin none of any height, or where none is left, the error is `Syntax` with its number; where they begin a
 /// higher one, it is `TooDeep`.
-/// The depth of calls is bounded by the height of 200. Each declarator of a declaration gets a copy of its modifiers and type, so n annotations
-/// before n declarators take time and memory of the order of n times n.
+/// The depth of calls is bounded by the height of 200. The declarators of a declaration hold its modifiers and its type jointly.
 pub fn parse(alloc: Global, tokens: &[Token], end: u32) -> Result<Unit, ParseError>
     requires few { length tokens.now ≤ 200000 }
     requires in_order { InOrder 0 end tokens.now }
