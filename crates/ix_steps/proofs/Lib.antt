@@ -2,3 +2,5 @@ pub mod MachineSteps
 pub mod MachineLoads
 pub mod MachineTests
 pub mod KeptNumbers
+pub mod FieldReads
+pub mod FieldWrites

@@ -1,1 +1,2 @@
 pub mod MachineSteps
+pub mod FieldAccess

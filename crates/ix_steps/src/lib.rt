@@ -6,6 +6,8 @@
 //! It never looks at a table of facts.
 #![tactic(auto)]
 
+mod fields;
 mod laws;
 
+pub use fields::field_steps;
 pub use laws::{machine_laws, meaning_laws, stay_laws};
