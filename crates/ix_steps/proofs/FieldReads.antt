@@ -8,6 +8,7 @@ use Rattle.ix_core.specs.Heap.{Held, Heap, value_at, object_at, place_in, cell_o
 use Rattle.ix_core.specs.Machine.{Limits, Effect, Done, assign, at_place, operate}
 use Rattle.ix_core.specs.Numbers.{HasInts, field_of, held_at, numbers_of}
 use Rattle.ix_core.specs.Tables.{Tables}
+use Rattle.ix_core.proofs.Heaps.{value_set}
 use Rattle.ix_facts.specs.Forget.{of_slot}
 use Rattle.ix_facts.specs.FieldSteps.{IsRead}
 use Rattle.ix_steps.proofs.MachineSteps.{kept_held, of_done, of_through}
@@ -22,7 +23,7 @@ of_place later after limits tables at slots heap (Some cell) next e = (cell, ref
 module _ (limits : Limits) (tables : Tables) (at : ℕ) (slots : List Held) (heap : Heap) (later : List Held) (after : Heap) (before : HasInts tables.place slots heap) (behind : HasInts tables.place later after) where
   module _ (t o f : ℕ) (x : Held) (within : t < length slots) (source : held_at tables.place slots heap (FieldOf o f) ≡ x) (now : slice_set slots t x ≡ later) (same : heap ≡ after) where
     target : value_at later t ≡ x
-    target = subst (λ l. value_at l t ≡ x) now (Rattle.ix_core.proofs.Heaps.value_set slots t x within)
+    target = subst (λ l. value_at l t ≡ x) now (value_set slots t x within)
 
     path_kept : (p : Path) → of_slot t p ≡ false → held_at tables.place later heap p ≡ held_at tables.place slots heap p
     path_kept p e = subst (λ l. held_at tables.place l heap p ≡ held_at tables.place slots heap p) now (kept_held tables.place slots heap t x p e)

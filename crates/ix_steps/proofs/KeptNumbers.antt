@@ -24,7 +24,7 @@ use Rattle.ix_core.proofs.Cases.{by_test, equal}
 
 -- What a call leaves as it is: slots; and unless it is `super` on that object, the fields that are final or of `this` of a constructor, and all fields where
 -- the callee is without effects.
-abbrev outlives : World → Method → Method → CallKind → Path → Bool
+abbrev pub outlives : World → Method → Method → CallKind → Path → Bool
 outlives world caller callee kind (Slot slot) = true
 outlives world caller callee kind (FieldOf slot field) =
     not (is_super kind && own_slot caller slot) && (callee.effect_free || (world.is_final field || own_slot caller slot))
@@ -109,7 +109,7 @@ module _ (world : World) (tables : IsWorld world) (building : ℕ → Type 0) (m
 
 -- ---- the same, as the forgets of the rules are said
 
-or_true : (b : Bool) → (b || true) ≡ true
+pub or_true : (b : Bool) → (b || true) ≡ true
 or_true true = refl
 or_true false = refl
 

@@ -4,3 +4,4 @@ pub mod MachineTests
 pub mod KeptNumbers
 pub mod FieldReads
 pub mod FieldWrites
+pub mod ReturnedCalls
