@@ -4,4 +4,6 @@ pub mod MachineTests
 pub mod KeptNumbers
 pub mod FieldReads
 pub mod FieldWrites
+pub mod CallStack
 pub mod ReturnedCalls
+pub mod WholeCalls

@@ -1,5 +1,5 @@
 -- Across a call, from the state that calls to the state in which it has returned, the numbers stay but for the call's target and the fields that it may write.
-use Rattle.std.specs.Prelude.{◌≡◌, ℕ, ◌+◌, ◌==◌, Bool, true, false, not, ◌&&◌, ◌||◌, if◌then◌else◌, List, [], ◌∷◌, ◌++◌, length, Option, Some, None, option_map, unwrap_or, refl}
+use Rattle.std.specs.Prelude.{◌≡◌, ℕ, suc, ◌==◌, Bool, true, false, not, ◌&&◌, ◌||◌, List, [], ◌∷◌, ◌++◌, Option, Some, None, option_map, unwrap_or, refl}
 use Rattle.std.proofs.Common.{sym, ap, ◌∙◌, subst}
 use Rattle.std.proofs.lemmas.Bool.{false≢true}
 use Rattle.ix_core.specs.declared.fact.Path.{Path}
@@ -7,7 +7,7 @@ use Rattle.ix_core.specs.declared.fact.Path.TheVariants.{Slot, FieldOf}
 use Rattle.ix_core.specs.declared.op.CallOp.{CallOp}
 use Rattle.ix_core.specs.declared.program.Method.{Method}
 use Rattle.ix_core.specs.Heap.{Held, Reading, At, Object, Heap, ObjectOf, Places, value_at, place_in, cell_of, int_of, size_of}
-use Rattle.ix_core.specs.Machine.{CallKind, Static, Instance, New, Super, Limits, Ending, HeapFull, FrameFull, State, Waiting, Move, Enter, Leave, call_heap, callee_of, target_of, set_target, result_of, resumed, entered, called, stopped, lacks_cells, is_past, moved, next_move, step, step_from}
+use Rattle.ix_core.specs.Machine.{CallKind, Static, Instance, New, Super, Limits, State, Enter, call_heap, callee_of, target_of, set_target, next_move, run}
 use Rattle.ix_core.specs.Numbers.{HasInts, held_at, numbers_of}
 use Rattle.ix_core.specs.Objects.{IsOn, AllOn, Later, IsSame}
 use Rattle.ix_core.specs.Tables.{Tables}
@@ -19,7 +19,8 @@ use Rattle.ix_core.proofs.Waiting.{later_refl, later_trans, later_push}
 use Rattle.ix_facts.specs.Forget.{SameBut, of_slot, of_this, of_call}
 use Rattle.ix_facts.specs.FieldSteps.{IsCalled}
 use Rattle.ix_steps.specs.MachineSteps.{own_slot}
-use Rattle.ix_steps.specs.CallEffects.{spared_in}
+use Rattle.ix_steps.specs.CallEffects.{spared_in, HasReturned}
+use Rattle.ix_steps.proofs.CallStack.{returns_to}
 use Rattle.ix_steps.proofs.KeptNumbers.{outlives, call_before}
 use Rattle.ix_steps.proofs.MachineSteps.{kept_held}
 
@@ -108,27 +109,6 @@ module _ (world : World) (caller callee : Method) (kind : CallKind) (slots : Lis
       let same = call_before world caller callee kind slots began heap all since p (stays_in_super world caller callee kind p e) in
       (ap (λ (r : Reading). r.int) (sym same), ap (λ (r : Reading). r.size) (sym same))
 
--- ---- the state that calls
-
-running_if : (lacks : Bool) (ending : Ending) (state next : State) → (if lacks then stopped ending state else next).ended ≡ None → (if lacks then stopped ending state else next) ≡ next
-running_if true ending state next e = absurd cc
-running_if false ending state next e = refl
-
-module _ (limits : Limits) (tables : Tables) (state : State) (running : state.ended ≡ None) where
-  pub step_is : (move : Move) → next_move limits tables state ≡ move → step limits tables state ≡ moved limits tables move state
-  step_is move next = ap (λ e. step_from limits tables e state) running ∙ ap (λ m. moved limits tables m state) next
-
-  pub enters : (kind : CallKind) (call : CallOp) (place : ℕ) (tasks : Tasks) (method : ℕ) → next_move limits tables state ≡ Enter kind call place tasks
-      → callee_of tables kind call state.now.slots state.heap ≡ Some method → (step limits tables state).ended ≡ None → step limits tables state ≡ entered tables kind call method tasks state
-  enters kind call place tasks method next found goes =
-      let is : step limits tables state ≡ called limits tables kind call place tasks state (Some method)
-      = step_is (Enter kind call place tasks) next ∙ ap (called limits tables kind call place tasks state) found in
-      let rest : State = if is_past limits.frames (length state.below + 2) then stopped (FrameFull place) state else entered tables kind call method tasks state in
-      let first = running_if (lacks_cells limits tables kind state.heap) (HeapFull place) state rest (ap (λ (s : State). s.ended) (sym is) ∙ goes) in
-      let second = running_if (is_past limits.frames (length state.below + 2)) (FrameFull place) state (entered tables kind call method tasks state)
-      (ap (λ (s : State). s.ended) (sym first) ∙ (ap (λ (s : State). s.ended) (sym is) ∙ goes)) in
-      is ∙ (first ∙ second)
-
 -- ---- the heap while the call runs
 
 grown_since : (world : World) (caller callee : Method) (kind : CallKind) (slots : List Held) (heap : Heap) (object : Object) → AllOn slots heap → Since world caller callee kind slots heap (heap ++ object ∷ [])
@@ -154,28 +134,35 @@ since_later world caller callee kind slots began heap after since later same = r
   same = λ slot field object at stays. since.same slot field object at stays ∙ same slot field object at stays;
 }
 
--- ---- the state in which it has returned
+-- ---- a run from the state that calls to the one in which it has returned
 
-module _ (limits : Limits) (world : World) (state : State) (running : state.ended ≡ None) (returned : Option ℕ) (leaves : next_move limits (tables_in world) state ≡ Leave returned)
-    (waiting : Waiting) (below : List Waiting) (waits : state.below ≡ waiting ∷ below) (kind : CallKind) (call : CallOp) (target : waiting.target ≡ target_of (tables_in world) kind call)
-    (began : Heap) (all : AllOn waiting.frame.slots began) (since : Since world (world.methods waiting.frame.method) (world.methods state.now.method) kind waiting.frame.slots began state.heap) where
-  abbrev result : Option Held
-  result = result_of ((tables_in world).routines state.now.method) state.now.slots returned
+module _ (limits : Limits) (world : World) (state : State) (running : state.ended ≡ None) (call : CallOp) (place : ℕ) (tasks : Tasks) (m steps : ℕ)
+    (before : HasInts world.place state.now.slots state.heap)
+    (behind : HasInts world.place (run limits (tables_in world) steps state).now.slots (run limits (tables_in world) steps state).heap) (all : AllOn state.now.slots state.heap) where
+  abbrev caller : Method
+  caller = world.methods state.now.method
 
-  abbrev behind_call : State
-  behind_call = resumed result state (waiting ∷ below)
+  abbrev last : State
+  last = run limits (tables_in world) steps state
 
-  returns : step limits (tables_in world) state ≡ behind_call
-  returns = step_is limits (tables_in world) state running (Leave returned) leaves ∙ ap (resumed result state) waits
+  pub returned_call : (kind : CallKind) → next_move limits (tables_in world) state ≡ Enter kind call place tasks → callee_of (tables_in world) kind call state.now.slots state.heap ≡ Some m
+      → HasReturned limits (tables_in world) state steps → is_super kind ≡ false → Since world caller (world.methods m) kind state.now.slots state.heap last.heap
+      → IsCalled call.target world.is_final (spared_in caller (world.methods m)) (numbers_of world.place state.now.slots state.heap before) (numbers_of world.place last.now.slots last.heap behind)
+  returned_call kind next found has plain since =
+      let back = returns_to limits (tables_in world) state running kind call place tasks m next found steps has in
+      subst (λ (s : State). (now : HasInts world.place s.now.slots s.heap) → Since world caller (world.methods m) kind state.now.slots state.heap s.heap
+      → IsCalled call.target world.is_final (spared_in caller (world.methods m)) (numbers_of world.place state.now.slots state.heap before) (numbers_of world.place s.now.slots s.heap now))
+      (sym back.3)
+      (λ now kept. called_step world caller (world.methods m) kind state.now.slots state.heap (run limits (tables_in world) (suc back.0) state).heap before all kept call back.2 now plain)
+      behind since
 
-  pub returned_step : is_super kind ≡ false → (before : HasInts world.place waiting.frame.slots began)
-      (behind : HasInts world.place (step limits (tables_in world) state).now.slots (step limits (tables_in world) state).heap)
-      → IsCalled call.target world.is_final (spared_in (world.methods waiting.frame.method) (world.methods state.now.method)) (numbers_of world.place waiting.frame.slots began before)
-      (numbers_of world.place (step limits (tables_in world) state).now.slots (step limits (tables_in world) state).heap behind)
-  returned_step s before behind =
-      subst (λ (next : State). (now : HasInts world.place next.now.slots next.heap)
-      → IsCalled call.target world.is_final (spared_in (world.methods waiting.frame.method) (world.methods state.now.method)) (numbers_of world.place waiting.frame.slots began before) (numbers_of world.place next.now.slots next.heap now))
-      (sym returns)
-      (λ now. called_by world (world.methods waiting.frame.method) (world.methods state.now.method) kind waiting.frame.slots began state.heap before all since call.target waiting.target result
-      (λ at e. target_is_call (tables_in world) kind call at (sym target ∙ e)) now s)
-      behind
+  pub returned_super : next_move limits (tables_in world) state ≡ Enter Super call place tasks → callee_of (tables_in world) Super call state.now.slots state.heap ≡ Some m
+      → HasReturned limits (tables_in world) state steps → Since world caller (world.methods m) Super state.now.slots state.heap last.heap
+      → SameBut (λ p. of_this p || of_call world.is_final (spared_in caller (world.methods m)) p) (numbers_of world.place state.now.slots state.heap before) (numbers_of world.place last.now.slots last.heap behind)
+  returned_super next found has since =
+      let back = returns_to limits (tables_in world) state running Super call place tasks m next found steps has in
+      subst (λ (s : State). (now : HasInts world.place s.now.slots s.heap) → Since world caller (world.methods m) Super state.now.slots state.heap s.heap
+      → SameBut (λ p. of_this p || of_call world.is_final (spared_in caller (world.methods m)) p) (numbers_of world.place state.now.slots state.heap before) (numbers_of world.place s.now.slots s.heap now))
+      (sym back.3)
+      (λ now kept. super_step world caller (world.methods m) Super state.now.slots state.heap (run limits (tables_in world) (suc back.0) state).heap before all kept now)
+      behind since

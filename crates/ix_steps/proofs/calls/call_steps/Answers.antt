@@ -7,7 +7,7 @@ use Rattle.ix_facts.specs.Forget.{of_this, of_call}
 use Rattle.ix_facts.proofs.StoresHold.{forgotten_meets}
 use Rattle.ix_steps.specs.CallEffects.{spared_in}
 use Rattle.ix_steps.proofs.calls.call_steps.Goals as goal
-use Rattle.ix_steps.proofs.ReturnedCalls.{called_step, super_step, enters, since_entered, since_later, returned_step}
+use Rattle.ix_steps.proofs.ReturnedCalls.{called_step, super_step, since_entered, since_later, returned_call, returned_super}
 
 pub returns-clause-called : goal.returns-clause-called
 returns-clause-called c = λ world caller callee kind call slots began heap value before behind plain all since. called_step world caller callee kind slots began heap before all since call value behind plain
@@ -26,9 +26,6 @@ returns-clause-super_facts c = λ world caller callee kind slots began heap befo
     forgotten_meets (λ p. of_this p || of_call world.is_final (spared_in caller callee) p) (numbers_of world.place slots began before) (numbers_of world.place slots heap behind)
     (super_step world caller callee kind slots began heap before all since behind) known told forgotten meets
 
-pub returns-clause-enters : goal.returns-clause-enters
-returns-clause-enters c = λ limits tables state kind call place tasks method running next found goes. enters limits tables state running kind call place tasks method next found goes
-
 pub returns-clause-began : goal.returns-clause-began
 returns-clause-began c = since_entered
 
@@ -36,5 +33,9 @@ pub returns-clause-goes_on : goal.returns-clause-goes_on
 returns-clause-goes_on c = since_later
 
 pub returns-clause-returned : goal.returns-clause-returned
-returns-clause-returned c = λ limits world state value waiting below kind call began before behind running leaves waits target plain all since.
-    returned_step limits world state running value leaves waiting below waits kind call target began all since plain before behind
+returns-clause-returned c = λ limits world state call place tasks method steps before behind all running has kind plain next found since.
+    returned_call limits world state running call place tasks method steps before behind all kind next found has plain since
+
+pub returns-clause-super_returned : goal.returns-clause-super_returned
+returns-clause-super_returned c = λ limits world state call place tasks method steps before behind all running has next found since.
+    returned_super limits world state running call place tasks method steps before behind all next found has since
