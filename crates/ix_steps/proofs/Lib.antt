@@ -7,3 +7,5 @@ pub mod FieldWrites
 pub mod CallStack
 pub mod ReturnedCalls
 pub mod WholeCalls
+mod FieldRows
+mod ReturnRows

@@ -1,5 +1,5 @@
 use Rattle.std.specs.Prelude.{◌||◌}
-use Rattle.ix_core.specs.Machine.{set_target, target_of}
+use Rattle.ix_core.specs.Machine.{set_target, target_of, run}
 use Rattle.ix_core.specs.Numbers.{numbers_of}
 use Rattle.ix_core.specs.World.{tables_in}
 use Rattle.ix_facts.specs.FieldSteps.{of_called}
@@ -35,6 +35,13 @@ returns-clause-goes_on c = since_later
 pub returns-clause-returned : goal.returns-clause-returned
 returns-clause-returned c = λ limits world state call place tasks method steps before behind all running has kind plain next found since.
     returned_call limits world state running call place tasks method steps before behind all kind next found has plain since
+
+pub returns-clause-returned_facts : goal.returns-clause-returned_facts
+returns-clause-returned_facts c = λ limits world state call place tasks method steps before behind all running has kind known told plain next found since forgotten meets.
+    let last = run limits (tables_in world) steps state in
+    forgotten_meets (of_called call.target world.is_final (spared_in (world.methods state.now.method) (world.methods method)))
+    (numbers_of world.place state.now.slots state.heap before) (numbers_of world.place last.now.slots last.heap behind)
+    (returned_call limits world state running call place tasks method steps before behind all kind next found has plain since) known told forgotten meets
 
 pub returns-clause-super_returned : goal.returns-clause-super_returned
 returns-clause-super_returned c = λ limits world state call place tasks method steps before behind all running has next found since.
