@@ -1,4 +1,5 @@
--- A whole call: in a run of a program without errors, a call that returns is a step of the rules, however long the callee runs and whatever it calls.
+-- A whole call: where an analysis keeps its laws, a call of a state that runs is a step of the rules when it has returned, however long the callee runs and
+-- whatever it calls. No frame of the call writes what the call may not change.
 use Rattle.std.specs.Prelude.{◌≡◌, ◌⊎◌, ℕ, zero, suc, ◌+◌, ◌<◌, ◌≤◌, ◌==◌, Bool, true, false, ◌||◌, if◌then◌else◌, List, [], ◌∷◌, ◌++◌, length, Option, Some, None, unwrap_or, refl}
 use Rattle.std.proofs.Common.{arith, sym, ap, ◌∙◌, subst, inl, ⊎_elim}
 use Rattle.std.proofs.lemmas.Bool.{false≢true}

@@ -6,7 +6,7 @@ use Rattle.ix_core.specs.Machine.{Limits, State, run}
 use Rattle.ix_core.specs.Tables.{Tables}
 use Rattle.ix_steps.specs.MachineSteps.{own_slot}
 
--- Every object where the callee is free of side effects, else `this` of a constructor, to which the callee has no reference.
+-- Every object where the callee is free of side effects, else `this` of a constructor, to which no callee but the parent's constructor has a reference.
 abbrev pub spared_in : Method → Method → ℕ → Bool
 spared_in caller callee slot = callee.effect_free || own_slot caller slot
 

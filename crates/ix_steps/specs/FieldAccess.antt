@@ -1,5 +1,5 @@
--- When a write of a field is one, and which slots it spares: two slots may hold one object, so a write through one changes the field of the other
--- (JLS 15.26.1, 4.3.1).
+-- What a write of a field rests on, and which slots it spares: two slots may hold one object, so a write through one of them changes the field of the
+-- object in the other too (JLS 4.3.1, 15.26.1).
 use Rattle.std.specs.Prelude.{◌≡◌, ℕ, ◌<◌, ◌==◌, Bool, true, not, ◌&&◌, List, length, Some}
 use Rattle.ix_core.specs.declared.program.Method.{Method}
 use Rattle.ix_core.specs.Heap.{Held, At, Heap, Places, value_at, object_at, place_in}

@@ -17,10 +17,10 @@ ghost use Rattle.ix_facts.specs.Stores.{Stored, Meets, IsForgotten};
 ghost use Rattle.ix_steps.specs.CallEffects.{spared_in, HasReturned};
 
 /// A call, from the state that makes it to the state in which it has returned: only the target's numbers and those of fields that aren't final and of objects that aren't spared may
-/// have changed (`called`, and of a run of the machine `returned`), and what a store says without them holds behind the call (`called_facts`, `returned_facts`). A call of the parent's constructor has no
-/// target, and may also change each field of `this` (`super_called`, `super_returned`, `super_facts`). The premise is that the heap behind the call has kept what the call may not
-/// change. It is so as the call begins (`began`), and stays so with each step that keeps it (`goes_on`); that each step of a run of a program without errors does is proved in
-/// `WholeCalls.antt`, for which no clause can speak, since it speaks of all analyses.
+/// have changed (`called`, and of a run of the machine `returned`), and what a store says without them holds behind the call (`called_facts`, `returned_facts`). A call of the parent's
+/// constructor has no target, and may also change each field of `this` (`super_called`, `super_returned`, `super_facts`). The premise is that the heap behind the call has kept what the
+/// call may not change. It is so as the call begins (`began`), and stays so with each step that keeps it (`goes_on`). That each step does, where an analysis keeps the laws of ix_core,
+/// is a lemma, `since_call` of `WholeCalls.antt`: no clause can speak of every analysis.
 pub fn call_steps()
     ensures called { (world : World) (caller callee : Method) (kind : CallKind) (call : CallOp) (slots : List Held) (began heap : Heap) (value : Option Held) (before : HasInts world.place slots began) (behind : HasInts world.place (set_target (target_of (tables_in world) kind call) value slots) heap) → is_super kind ≡ false → AllOn slots began → Since world caller callee kind slots began heap → IsCalled call.target world.is_final (spared_in caller callee) (numbers_of world.place slots began before) (numbers_of world.place (set_target (target_of (tables_in world) kind call) value slots) heap behind) }
     ensures called_facts { (world : World) (caller callee : Method) (kind : CallKind) (call : CallOp) (slots : List Held) (began heap : Heap) (value : Option Held) (before : HasInts world.place slots began) (behind : HasInts world.place (set_target (target_of (tables_in world) kind call) value slots) heap) (known told : Stored) → is_super kind ≡ false → AllOn slots began → Since world caller callee kind slots began heap → IsForgotten (of_called call.target world.is_final (spared_in caller callee)) known told → Meets known (numbers_of world.place slots began before) → Meets told (numbers_of world.place (set_target (target_of (tables_in world) kind call) value slots) heap behind) }
