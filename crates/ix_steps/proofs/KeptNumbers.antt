@@ -24,7 +24,7 @@ use Rattle.ix_core.proofs.Cases.{by_test, equal}
 
 -- What a call leaves as it is: slots; and unless it is `super` on that object, the fields that are final or of `this` of a constructor, and all fields where
 -- the callee is without effects.
-abbrev outlives : World → Method → Method → CallKind → Path → Bool
+abbrev pub outlives : World → Method → Method → CallKind → Path → Bool
 outlives world caller callee kind (Slot slot) = true
 outlives world caller callee kind (FieldOf slot field) =
     not (is_super kind && own_slot caller slot) && (callee.effect_free || (world.is_final field || own_slot caller slot))
@@ -40,11 +40,11 @@ own_of method slot e = let both = and_parts method.constructor (slot == 0) e in 
 own_is : (method : Method) (slot : ℕ) → IsOwn method slot → own_slot method slot ≡ true
 own_is method slot own = let a = own.0 in let b = own.1 in grind (arith, nat_tests)
 
-not_true : (b : Bool) → not b ≡ true → b ≡ true → ⊥
+pub not_true : (b : Bool) → not b ≡ true → b ≡ true → ⊥
 not_true true n e = false≢true n
 not_true false n e = false≢true e
 
-both_true : {a b : Bool} → a ≡ true → b ≡ true → (a && b) ≡ true
+pub both_true : {a b : Bool} → a ≡ true → b ≡ true → (a && b) ≡ true
 both_true a b = rw a (rw b refl)
 
 last_of : (a b c : Bool) → a ≡ false → b ≡ false → (a || (b || c)) ≡ true → c ≡ true
@@ -53,7 +53,7 @@ last_of a b c x y e = subst (λ t. (t || c) ≡ true) y (subst (λ t. (t || (b |
 some_number : (a b : ℕ) → ◌≡◌ {A = Option ℕ} (Some a) (Some b) → a ≡ b
 some_number a b e = ap (λ (o : Option ℕ). unwrap_or o 0) e
 
-same_true : (n m : ℕ) → n ≡ m → (n == m) ≡ true
+pub same_true : (n m : ℕ) → n ≡ m → (n == m) ≡ true
 same_true n m e = grind (arith, nat_tests)
 
 -- what is spared of the written field is `this`, and it was written through another slot
@@ -109,7 +109,7 @@ module _ (world : World) (tables : IsWorld world) (building : ℕ → Type 0) (m
 
 -- ---- the same, as the forgets of the rules are said
 
-or_true : (b : Bool) → (b || true) ≡ true
+pub or_true : (b : Bool) → (b || true) ≡ true
 or_true true = refl
 or_true false = refl
 

@@ -35,7 +35,7 @@ use Rattle.ix_steps.specs.MachineSteps.{HasTarget, LoadsMet}
 
 -- ---- what a path holds after an assignment
 
-kept_held : (place : Places) (slots : List Held) (heap : Heap) (t : ℕ) (x : Held) (p : Path) → of_slot t p ≡ false → held_at place (slice_set slots t x) heap p ≡ held_at place slots heap p
+pub kept_held : (place : Places) (slots : List Held) (heap : Heap) (t : ℕ) (x : Held) (p : Path) → of_slot t p ≡ false → held_at place (slice_set slots t x) heap p ≡ held_at place slots heap p
 kept_held place slots heap t x (Slot s) e = value_other slots t s x e
 kept_held place slots heap t x (FieldOf s f) e = ap (field_of place heap f) (value_other slots t s x e)
 
@@ -129,7 +129,7 @@ stored_stays place slots heap number k index x e =
 -- ---- what was done
 
 module _ (later : List Held) (after : Heap) where
-  of_done : (slots : List Held) (heap : Heap) → Done slots heap ≡ Done later after → (slots ≡ later) × (heap ≡ after)
+  pub of_done : (slots : List Held) (heap : Heap) → Done slots heap ≡ Done later after → (slots ≡ later) × (heap ≡ after)
   of_done slots heap e = (cc, cc)
 
   of_within : (t : Bool) (effect : Effect) (ending : Ending) → (if t then effect else Stopped ending) ≡ Done later after → (t ≡ true) × (effect ≡ Done later after)
@@ -145,7 +145,7 @@ module _ (later : List Held) (after : Heap) where
   of_kept false slots others heap e = absurd cc
 
   module _ (limits : Limits) (tables : Tables) (at : ℕ) (slots : List Held) (heap : Heap) where
-    of_through : (held : Held) (next : ℕ → Effect) → through limits tables at slots heap held next ≡ Done later after → (number : ℕ) × (held ≡ At number) × (next number ≡ Done later after)
+    pub of_through : (held : Held) (next : ℕ → Effect) → through limits tables at slots heap held next ≡ Done later after → (number : ℕ) × (held ≡ At number) × (next number ≡ Done later after)
     of_through (Num n) next e = absurd cc
     of_through (Boolean answer) next e = absurd cc
     of_through Null next e = absurd cc

@@ -1,1 +1,3 @@
 pub mod MachineSteps
+pub mod FieldAccess
+pub mod CallEffects

@@ -6,6 +6,10 @@
 //! It never looks at a table of facts.
 #![tactic(auto)]
 
+mod calls;
+mod fields;
 mod laws;
 
+pub use calls::call_steps;
+pub use fields::field_steps;
 pub use laws::{machine_laws, meaning_laws, stay_laws};
