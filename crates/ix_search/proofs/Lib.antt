@@ -1,0 +1,5 @@
+pub mod Steps
+pub mod AnswerTables
+pub mod NoAnswers
+pub mod AnswersAfter
+mod Rows

@@ -1,0 +1,5 @@
+pub mod Answers
+pub mod StandsOrder
+pub mod SearchTable
+pub mod SearchLaws
+pub mod NewAnswers
