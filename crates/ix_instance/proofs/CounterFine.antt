@@ -37,7 +37,7 @@ low_claim (Upper array offset most ∷ claims) k claim low at = absurd low
 low_claim (Search array ∷ claims) k claim low at = absurd low
 low_claim (Negative array ∷ claims) k claim low at = absurd low
 
-none_there : {A T : Type 0} (k : ℕ) (x : T) → slice_get [] k ≡ Some x → A
+pub none_there : {A T : Type 0} (k : ℕ) (x : T) → slice_get [] k ≡ Some x → A
 none_there k x e = absurd cc
 
 low_names_nothing : (claims : List Claim) (name : Name) → AreLow claims → Names claims name → ⊥

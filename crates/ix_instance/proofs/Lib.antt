@@ -1,8 +1,9 @@
 mod Truths
-mod ValuelessReturn
 mod StepsKeep
 mod FrameMoves
 mod CallReturns
 mod CounterFormed
 mod CounterFine
 mod CounterLaws
+mod ValuelessReturn
+mod StoresAreLost
