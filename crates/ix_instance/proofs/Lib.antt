@@ -3,6 +3,7 @@ mod StepsKeep
 mod FrameMoves
 mod CallReturns
 mod CounterFormed
+mod CounterRows
 mod CounterFine
 mod CounterLaws
 mod ValuelessReturn

@@ -28,27 +28,27 @@ use Rattle.ix_instance.specs.Rules.{facts_from}
 abbrev pub counter : Program
 counter = program (class_of None (0 ∷ []) (0 ∷ 1 ∷ 3 ∷ []) ∷ class_of None [] (2 ∷ 4 ∷ []) ∷ []) (field 0 int (claim.Low (pos 0) ∷ []) ∷ []) 1
     (instance_method 0 (param 1 (claim.Low (pos 0) ∷ []) ∷ []) (int ∷ []) type.Void None [] 2
-    (block (does_with (op.WriteField 0 0 1) 72 82 ((span 72 78) ∷ (span 81 82) ∷ [])
+    (block (does_with (op.WriteField 0 0 1) 67 77 ((span 67 73) ∷ (span 76 77) ∷ [])
     ∷ []))
     ∷ record (instance_method 0 [] [] int None [] 2
-    (block (does (op.ReadField 1 0 0) 137 143
-    ∷ item.Return (Some 1) (span 137 143)
+    (block (does (op.ReadField 1 0 0) 129 135
+    ∷ item.Return (Some 1) (span 129 135)
     ∷ []))) { effect_free = true; result_claims = claim.Low (pos 0) ∷ [] }
-    ∷ static_method 1 (param 0 [] ∷ param 1 (claim.Low (pos 0) ∷ []) ∷ []) (int_array ∷ int ∷ []) int (local 2 [] (span 220 350) ∷ []) 5
-    (block (does (op.NewObject (calls 3 3 None [] 0 (span 224 237))) 224 237
-    ∷ does_with (op.Copy 2 3 (object 0)) 224 237 ((span 220 221) ∷ (span 224 237) ∷ [])
-    ∷ does (op.InstanceCall (calls 3 0 (Some 2) (arg 1 246 247 ∷ []) 0 (span 240 248))) 240 248
-    ∷ item.If (cond.Compare (block (does (op.ReadField 3 2 0) 254 257
-    ∷ does (op.Length 4 0) 260 268
-    ∷ [])) (test rel.Lt 3 4 int (span 254 257) (span 260 268)))
-    (block (does (op.InstanceCall (calls 3 1 (Some 2) [] 0 (span 292 299))) 292 299
-    ∷ does (op.Print 3) 292 299
-    ∷ does (op.ReadField 3 2 0) 311 314
-    ∷ does (op.Load 4 0 3 int_array) 309 315
-    ∷ item.Return (Some 4) (span 309 315)
+    ∷ static_method 1 (param 0 [] ∷ param 1 (claim.Low (pos 0) ∷ []) ∷ []) (int_array ∷ int ∷ []) int (local 2 [] (span 209 317) ∷ []) 5
+    (block (does (op.NewObject (calls 3 3 None [] 0 (span 213 226))) 213 226
+    ∷ does_with (op.Copy 2 3 (object 0)) 213 226 ((span 209 210) ∷ (span 213 226) ∷ [])
+    ∷ does (op.InstanceCall (calls 3 0 (Some 2) (arg 1 234 235 ∷ []) 0 (span 230 233))) 230 233
+    ∷ item.If (cond.Compare (block (does (op.ReadField 3 2 0) 242 245
+    ∷ does (op.Length 4 0) 248 256
+    ∷ [])) (test rel.Lt 3 4 int (span 242 245) (span 248 256)))
+    (block (does (op.InstanceCall (calls 3 1 (Some 2) [] 0 (span 281 284))) 281 284
+    ∷ does (op.Print 3) 279 286
+    ∷ does (op.ReadField 3 2 0) 298 301
+    ∷ does (op.Load 4 0 3 int_array) 298 301
+    ∷ item.Return (Some 4) (span 296 302)
     ∷ [])) (block [])
-    ∷ does (op.Const 3 (literal.Int (pos 0))) 326 327
-    ∷ item.Return (Some 3) (span 326 327)
+    ∷ does (op.Const 3 (literal.Int (pos 0))) 313 314
+    ∷ item.Return (Some 3) (span 313 314)
     ∷ []))
     ∷ constructor_of 0 [] [] [] 1
     (block [])

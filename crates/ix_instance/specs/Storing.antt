@@ -1,4 +1,4 @@
--- A program that is formed and safe, and stores an int in the array of a parameter.
+-- A program that stores an int in the array of a parameter, of which at least one cell is there.
 use Rattle.std.specs.Prelude.{pos, negsuc, [], ◌∷◌, None}
 use Rattle.ix_core.specs.declared.claim.Claim.TheVariants as claim
 use Rattle.ix_core.specs.declared.claim.Type_.TheVariants as type
@@ -13,9 +13,9 @@ use Rattle.ix_core.proofs.Programs.{span, int_array, block, does, does_with, par
 abbrev pub storing : Program
 storing = program (class_of None [] (0 ∷ 1 ∷ []) ∷ []) [] 0
     (static_method 0 (param 0 (claim.Length (pos 1) ∷ []) ∷ []) (int_array ∷ []) type.Void [] 3
-    (block (does (op.Const 1 (literal.Int (pos 0))) 56 57
-    ∷ does (op.Const 2 (literal.Int (negsuc 0))) 61 63
-    ∷ does_with (op.Store 0 1 2 int_array) 54 63 ((span 54 58) ∷ [])
+    (block (does (op.Const 1 (literal.Int (pos 0))) 54 55
+    ∷ does (op.Const 2 (literal.Int (negsuc 0))) 59 61
+    ∷ does_with (op.Store 0 1 2 int_array) 54 55 ((span 59 61) ∷ [])
     ∷ []))
     ∷ constructor_of 0 [] [] [] 1
     (block [])
