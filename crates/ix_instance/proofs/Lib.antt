@@ -1,0 +1,10 @@
+mod Truths
+mod StepsKeep
+mod FrameMoves
+mod CallReturns
+mod CounterFormed
+mod CounterRows
+mod CounterFine
+mod CounterLaws
+mod ValuelessReturn
+mod StoresAreLost
