@@ -1,5 +1,5 @@
 -- What a table of answers says of its facts.
-use Rattle.std.specs.Prelude.{◌≡◌, Bool, true, false, ◌||◌, List, [], ◌∷◌, ◌++◌, refl}
+use Rattle.std.specs.Prelude.{◌≡◌, true, false, List, [], ◌∷◌, ◌++◌, refl}
 use Rattle.std.proofs.Common.{arith, inl, inr, sym, ap, ◌∙◌, subst, ⊎_elim}
 use Rattle.std.proofs.lemmas.Bool.{false≢true}
 use Rattle.std.proofs.lemmas.Int.{ints, clamps}
@@ -13,32 +13,20 @@ use Rattle.ix_facts.specs.Facts as facts
 use Rattle.ix_facts.specs.Closure.{Default, Said}
 use Rattle.ix_facts.specs.Kinds.{is_of, of_kind}
 use Rattle.ix_facts.specs.Systems.{Merges, given, weaker, any_int, any_size, met, len_met, turned, sum_turned, upper_turned, IsTable}
+use Rattle.ix_facts.proofs.SaidLaws.{said_weaker}
+use Rattle.ix_facts.proofs.SystemLaws.{in_kind, kind_in}
+use Rattle.ix_facts.proofs.Tests.{or_first, or_second}
 use Rattle.ix_search.specs.declared.answer.Answer.{Answer}
 use Rattle.ix_search.specs.declared.answer.Answer.TheVariants as answer
 use Rattle.ix_search.specs.Answers.{fact_of, answer_same}
 use Rattle.ix_search.specs.SearchTable.{Entries, facts_of, has_answer, is_answer, among_facts}
-use Rattle.ix_search.specs.SearchLaws.{answer_itself, covered, own, tells, in_has, said_of, has_said}
+use Rattle.ix_search.specs.SearchLaws.{answer_itself, own, tells, in_has, said_of, has_said}
 
 -- ---- facts of one kind
 
 pub own_app : (a b : List Fact) → of_kind kind.Search (a ++ b) ≡ of_kind kind.Search a ++ of_kind kind.Search b
 own_app [] b = refl
 own_app (f ∷ a) b = by_test (is_of kind.Search f) (λ t. rw t (ap (λ l. f ∷ l) (own_app a b))) (λ t. rw t (own_app a b))
-
-pub in_own : (f : Fact) (l : List Fact) → IsIn f (of_kind kind.Search l) → IsIn f l × (is_of kind.Search f ≡ true)
-in_own f [] i = absurd i
-in_own f (g ∷ l) i =
-    by_test (is_of kind.Search g)
-    (λ t. ⊎_elim (λ e. (inl e, ap (is_of kind.Search) e ∙ t)) (λ j. let rest = in_own f l j in (inr rest.0, rest.1)) (rw t at i))
-    (λ t. let rest = in_own f l (rw t at i) in (inr rest.0, rest.1))
-
-pub own_in : (f : Fact) (l : List Fact) → IsIn f l → is_of kind.Search f ≡ true → IsIn f (of_kind kind.Search l)
-own_in f [] i h = absurd i
-own_in f (g ∷ l) i h =
-    ⊎_elim
-    (λ e. let t : is_of kind.Search g ≡ true = ap (is_of kind.Search) (sym e) ∙ h in rw t (inl e))
-    (λ j. by_test (is_of kind.Search g) (λ t. rw t (inr (own_in f l j h))) (λ t. rw t (own_in f l j h)))
-    i
 
 pub own_all : (l : List Fact) → ((f : Fact) → IsIn f l → is_of kind.Search f ≡ true) → of_kind kind.Search l ≡ l
 own_all [] all = refl
@@ -86,14 +74,6 @@ among_in : (x : Answer) (l : List Fact) → among_facts l x ≡ true → IsIn (f
 among_in x [] h = absurd (false≢true h)
 among_in x (f ∷ l) h = by_test (is_answer f x) (λ t. inl (sym (answer_is f x t))) (λ t. inr (among_in x l (rw t at h)))
 
-or_first : (s t : Bool) → s ≡ true → (s || t) ≡ true
-or_first true t h = refl
-or_first false t h = absurd (false≢true h)
-
-or_second : (s t : Bool) → t ≡ true → (s || t) ≡ true
-or_second true t h = refl
-or_second false t h = h
-
 in_among : (x : Answer) (l : List Fact) → IsIn (fact_of x) l → among_facts l x ≡ true
 in_among x [] i = absurd i
 in_among x (f ∷ l) i =
@@ -116,28 +96,7 @@ an_answer (Upper p a o c) h = absurd (false≢true h)
 
 -- ---- a table says what the list says
 
-default_weaker : (g f : Fact) → Covers g f → Default g → Default f
-default_weaker _ _ (facts.rng p l h m k x y) d = (omega (arith, ints, d.0), omega (arith, ints, d.1))
-default_weaker _ _ (facts.len_rng p l h m k x y) d = (omega (arith, ints, d.0), omega (arith, ints, d.1))
-default_weaker _ _ (facts.low p c e x) d = absurd d
-default_weaker _ _ (facts.same a b) d = d
-default_weaker _ _ (facts.is_len p a) d = d
-default_weaker _ _ (facts.less p q c e x) d = absurd d
-default_weaker _ _ (facts.sum t y z) d = d
-default_weaker _ _ (facts.search p a) d = d
-default_weaker _ _ (facts.neg p a) d = d
-default_weaker _ _ (facts.upper p a o c e x) d = absurd d
-
 module _ (entries : Entries) where
-  said_weaker : (g f : Fact) → Covers g f → Said (facts_of entries) g → Said (facts_of entries) f
-  said_weaker g f c said =
-      ⊎_elim
-      (λ d. inl (default_weaker g f c d))
-      (λ y.
-      let is : f ≡ fact_of y.0 = covered y.0 f (subst (λ h. Covers h f) y.1 c) in
-      subst (λ h. Said (facts_of entries) h) (sym is) (has_said y.0 entries y.2))
-      (said_of g entries said)
-
   -- of other kinds it says what is said of every path
   other_default : (f : Fact) → is_of kind.Search f ≡ false → Said (facts_of entries) f → Default f
   other_default f other said = ⊎_elim (λ d. d) (λ y. absurd (false≢true (sym other ∙ (ap (is_of kind.Search) y.1 ∙ own y.0)))) (said_of f entries said)
@@ -145,7 +104,7 @@ module _ (entries : Entries) where
   module _ (l : List Fact) (all : (f : Fact) → IsIn f l → Said (facts_of entries) f) where
     merges_said : (f : Fact) → Merges l f → Said (facts_of entries) f
     merges_said _ (given f i) = all f i
-    merges_said _ (weaker g f c r) = said_weaker g f c (merges_said g r)
+    merges_said _ (weaker g f c r) = said_weaker (facts_of entries) g f c (merges_said g r)
     merges_said _ (any_int p) = inl (omega (arith, ints), omega (arith, ints))
     merges_said _ (any_size a) = inl (omega (arith, ints), omega (arith, ints))
     merges_said _ (met p low high m k r s) =
@@ -163,13 +122,13 @@ module _ (entries : Entries) where
 pub table_of : (l : List Fact) (entries : Entries) → ((x : Answer) → has_answer entries x ≡ among_facts l x) → IsTable (of_kind kind.Search l) (facts_of entries)
 table_of l entries same = record {
   says = merges_said entries (of_kind kind.Search l) (λ f i.
-      let both = in_own f l i in
+      let both = in_kind kind.Search f l i in
       let x = an_answer f both.1 in
       let among : among_facts l x.0 ≡ true = in_among x.0 l (subst (λ g. IsIn g l) x.1 both.0) in
       subst (λ g. Said (facts_of entries) g) (sym x.1) (has_said x.0 entries (same x.0 ∙ among)));
   only = λ f i.
       let y = in_has f entries i in
       let there : IsIn (fact_of y.0) l = among_in y.0 l (sym (same y.0) ∙ y.2) in
-      given f (subst (λ g. IsIn g (of_kind kind.Search l)) (sym y.1) (own_in (fact_of y.0) l there (own y.0)));
+      given f (subst (λ g. IsIn g (of_kind kind.Search l)) (sym y.1) (kind_in kind.Search (fact_of y.0) l there (own y.0)));
   tells = λ f i. let y = in_has f entries i in ap Rattle.ix_facts.specs.Facts.is_default y.1 ∙ tells y.0;
 }

@@ -29,12 +29,13 @@ use Rattle.ix_facts.specs.After.{of_target, finished_by, finished, kept_new}
 use Rattle.ix_facts.specs.Systems.{IsTable, system_after, system_copy, system_rounded, system_added}
 use Rattle.ix_facts.proofs.FactLists.{in_either, in_left, in_right}
 use Rattle.ix_facts.proofs.Frame.{in_without}
+use Rattle.ix_facts.proofs.SystemLaws.{in_kind, kind_in}
 use Rattle.ix_search.specs.declared.search_facts.SearchFacts.{SearchFacts}
 use Rattle.ix_search.specs.declared.answer.Answer.TheVariants as answer
 use Rattle.ix_search.specs.SearchTable.{Entries, facts_of, search_facts}
 use Rattle.ix_search.specs.SearchLaws.{all_answers}
 use Rattle.ix_search.specs.NewAnswers.{answer_copies, copied_answers, answers_after}
-use Rattle.ix_search.proofs.AnswerTables.{own_app, in_own, own_in, own_all, same_table}
+use Rattle.ix_search.proofs.AnswerTables.{own_app, own_all, same_table}
 use Rattle.ix_search.proofs.NoAnswers.{Free, free_none, free_cons, free_app, free_if, free_each, free_kept_fact, free_kept, copied_free, array_copied_free, by_free, finished_free, range_free, low_free, flip_by_free, new_free, gives_answers, none_own}
 
 -- ---- constants of answers
@@ -236,11 +237,11 @@ kept_own is table f i = all_answers table f (in_without is f (search_facts table
 with_rules : (l new given out : List Fact) → ((f : Fact) → IsIn f l → is_of fact_kind.Search f ≡ true) → SameMembers new (of_kind fact_kind.Search given) → IsTable (of_kind fact_kind.Search (l ++ new)) out → IsTable (l ++ of_kind fact_kind.Search given) out
 with_rules l new given out own same is =
     same_table (of_kind fact_kind.Search (l ++ new)) (l ++ of_kind fact_kind.Search given) out
-    (λ f i. ⊎_elim (λ j. in_left f l (of_kind fact_kind.Search given) j) (λ j. in_right f l (of_kind fact_kind.Search given) (same.more f j)) (in_either f l new (in_own f (l ++ new) i).0))
+    (λ f i. ⊎_elim (λ j. in_left f l (of_kind fact_kind.Search given) j) (λ j. in_right f l (of_kind fact_kind.Search given) (same.more f j)) (in_either f l new (in_kind fact_kind.Search f (l ++ new) i).0))
     (λ f i.
     ⊎_elim
-    (λ j. own_in f (l ++ new) (in_left f l new j) (own f j))
-    (λ j. own_in f (l ++ new) (in_right f l new (same.back f j)) (in_own f given j).1)
+    (λ j. kind_in fact_kind.Search f (l ++ new) (in_left f l new j) (own f j))
+    (λ j. kind_in fact_kind.Search f (l ++ new) (in_right f l new (same.back f j)) (in_kind fact_kind.Search f given j).1)
     (in_either f l (of_kind fact_kind.Search given) i))
     is
 
