@@ -26,7 +26,7 @@ use Rattle.ix_core.specs.Safe.{Counts, IsBad}
 use Rattle.ix_core.specs.Tasks.{Tasks, Empty, code_then}
 use Rattle.ix_core.specs.Waits.{Knowledge, AreNotOwn, FitsKind, FitsCall, MeetParams, param_readings, reading_through, Since, Stays, Reason, NoEffect, Final, Hidden, Constructs, Makes, is_super, AreFresh, Running, Uncounted, Runs, Ends}
 use Rattle.ix_core.specs.Waits as waits
-use Rattle.ix_core.specs.Analysis.{Stands, Laws, Shows, Calls, Leaves, Behind, Results, IsFreeIf, IsIntIf}
+use Rattle.ix_core.specs.Analysis.{Stands, Laws, Shows, Calls, Leaves, Behind, Results, IsFreeIf, IsIntIf, IsGiven}
 use Rattle.ix_core.specs.Tables.{param_slot, param_slots, default_result, routine_of, body_of}
 use Rattle.ix_core.specs.World.{World, tables_in}
 use Rattle.ix_core.proofs.Heaps.{grown_new, value_other, value_set, set_keeps}
@@ -101,6 +101,18 @@ result_int method slots heap returned ints_ =
     let e : result_of (routine_of method) slots returned ≡ option_map (λ value. returned_or value slots returned) (default_result method.result) = rw c refl in
     subst IsIntIf (sym e) (given_int (default_result method.result) slots returned (default_int method.result) ints_.held))
 
+-- what a method ends with that is no constructor: a value where its result's type has a default
+result_given : (named ends : Method) (target : ℕ) (slots : List Held) (returned : Option ℕ) → ends.constructor ≡ false → named.result ≡ ends.result
+    → IsGiven (result_of (routine_of ends) slots returned) (option_map (λ default. target) (default_result named.result))
+result_given named ends target slots returned plain same =
+    let e : result_of (routine_of ends) slots returned ≡ option_map (λ value. returned_or value slots returned) (default_result ends.result) = rw plain refl in
+    subst (λ value. IsGiven value (option_map (λ default. target) (default_result named.result))) (sym e)
+    (subst (λ ty. IsGiven (option_map (λ value. returned_or value slots returned) (default_result ends.result)) (option_map (λ default. target) (default_result ty))) (sym same) (both (default_result ends.result)))
+  where
+    both : (default : Option Held) → IsGiven (option_map (λ value. returned_or value slots returned) default) (option_map (λ of. target) default)
+    both None = tt
+    both (Some value) = tt
+
 pub free_set : (building : ℕ → Type 0) (method : Method) (slots : List Held) (heap : Heap) (target : Option ℕ) (value : Option Held) → ((at : ℕ) → target ≡ Some at → IsOwn method at → ⊥) → ((at : ℕ) → target ≡ Some at → IsFreeIf building heap value)
     → FrameKeeps building method slots heap → FrameKeeps building method (set_target target value slots) heap
 free_set building method slots heap None value inner free frame = frame
@@ -137,7 +149,7 @@ true_not_false e = false≢true (sym e)
 some_same : (a b : ℕ) → ◌≡◌ {A = Option ℕ} (Some a) (Some b) → a ≡ b
 some_same a b e = ap (λ (o : Option ℕ). unwrap_or o 0) e
 
-module _ (profile : Profile) (world : World) (know : Knowledge) (laws : Laws profile world know) where
+module _ (profile : Profile) (world : World) (Typed : ℕ → Tasks → List Held → Heap → Type 0) (know : Knowledge) (laws : Laws profile world Typed know) where
   abbrev Waits : List Waiting → Frame → (ℕ → ℕ → Type 0) → (ℕ → Type 0) → Heap → Type 0
   Waits below callee above building heap = waits.Waits world know below callee above building heap
 
@@ -471,13 +483,13 @@ module _ (profile : Profile) (world : World) (know : Knowledge) (laws : Laws pro
     weaker slot field effect (Hidden own) = Hidden own
 
     leave_with : (more : ℕ → Type 0) (value : Option Held) → HeapKeeps world more state.heap → FrameKeeps more waiter w.frame.slots state.heap
-        → ((at : ℕ) → w.target ≡ Some at → IsFreeIf more state.heap value) → IsIntIf value
+        → ((at : ℕ) → w.target ≡ Some at → IsFreeIf more state.heap value) → IsIntIf value → IsGiven value (target_of (tables_in world) all.0.kind all.0.call)
         → Results world named given state.heap value
         → (named.effect_free ≡ true → ends.effect_free ≡ true) → (is_super all.0.kind ≡ true → named ≡ ends)
         → (is_super all.0.kind ≡ true → (object : ℕ) → value_at w.frame.slots 0 ≡ At object → (field : ℕ) → HasField world (ObjectOf named.class) field → MeetsField world state.heap object field)
         → Waits below w.frame Over more state.heap
         → Running world know (resumed value state (w ∷ below))
-    leave_with more value heap_keeps frame_keeps free is_int results effect same_class claims rest =
+    leave_with more value heap_keeps frame_keeps free is_int is_given results effect same_class claims rest =
         let wait = all.0 in
         let no_in : (at : ℕ) → w.target ≡ Some at → IsInput waiter at → ⊥ = λ at e. wait.fits.target at (sym wait.target ∙ e) in
         let slots : List Held = set_target w.target value w.frame.slots in
@@ -499,7 +511,7 @@ module _ (profile : Profile) (world : World) (know : Knowledge) (laws : Laws pro
                       reason = weaker slot field effect stays.reason;
                     });
               })
-              ints_now is_int results (λ s object at. (wait.untouched s object at, claims s object at)));
+              ints_now is_int is_given results (λ s object at. (wait.untouched s object at, claims s object at)));
           fine = wait.fine;
           waits = with_callee more state.heap heap_keeps.bound below w.frame w.frame.tasks slots Over (Constructs world (frame w.frame.method w.frame.tasks slots)) same
               (λ object class is. inr (same_object w.frame w.frame.tasks slots same object class is)) rest;
@@ -538,7 +550,7 @@ module _ (profile : Profile) (world : World) (know : Knowledge) (laws : Laws pro
         leave_with (without building n) (Some (value_at state.now.slots 0)) heap_keeps
         (frame_without world know building n waiter w.frame.slots heap (λ c at. not_gone waiter.class (record { constructor = c; this = at; of = refl })) wait.frame_keeps)
         (λ at to. subst (IsFree (without building n) heap) (sym this) (kept.on, λ is. is.1 refl))
-        (int.held 0)
+        (int.held 0) tt
         (subst (λ (x : Method). AreTrue x.result_claims (reading_of heap (value_at state.now.slots 0)) (param_readings world x given heap)) (sym same)
         (subst (λ claims. AreTrue claims (reading_of heap (value_at state.now.slots 0)) (param_readings world ends given heap)) (sym (laws.tables.no_result state.now.method fits.0)) tt))
         (λ q. subst (λ (x : Method). x.effect_free ≡ true) same q)
@@ -565,13 +577,13 @@ module _ (profile : Profile) (world : World) (know : Knowledge) (laws : Laws pro
     results_of (Some x) is stands = stands x (result_named x all.0.inputs is)
 
     -- a method ends
-    leave_plain : (kind : CallKind) (value : Option Held) → all.0.kind ≡ kind → is_super kind ≡ false → ends.constructor ≡ false → IsIntIf value
+    leave_plain : (kind : CallKind) (value : Option Held) → all.0.kind ≡ kind → is_super kind ≡ false → ends.constructor ≡ false → IsIntIf value → IsGiven value (target_of (tables_in world) kind all.0.call)
         → ((x : Held) → AreTrue ends.result_claims (reading_of state.heap x) (param_readings world ends given state.heap) → AreTrue named.result_claims (reading_of state.heap x) (param_readings world named given state.heap))
         → (named.effect_free ≡ true → ends.effect_free ≡ true)
         → Leaves profile world know building ends state.now.slots state.heap value
         → Running world know (resumed value state (w ∷ below))
-    leave_plain kind value e isnt plain is_int stands effect leaving =
-        leave_with building value keeps all.0.frame_keeps (λ at to. leaving.free plain) is_int (results_of value (leaving.results plain) stands)
+    leave_plain kind value e isnt plain is_int is_given stands effect leaving =
+        leave_with building value keeps all.0.frame_keeps (λ at to. leaving.free plain) is_int (subst (λ k. IsGiven value (target_of (tables_in world) k all.0.call)) (sym e) is_given) (results_of value (leaving.results plain) stands)
         effect (λ s. not_super kind e isnt s) (λ s. not_super kind e isnt s)
         all.1
 
@@ -585,7 +597,7 @@ module _ (profile : Profile) (world : World) (know : Knowledge) (laws : Laws pro
         let none : w.target ≡ None = wait.target ∙ ap (λ k. target_of (tables_in world) k wait.call) e in
         leave_with building (Some (value_at state.now.slots 0)) keeps wait.frame_keeps
         (λ at to. none_some at (sym none ∙ to))
-        (int.held 0)
+        (int.held 0) tt
         (subst (λ (x : Method). AreTrue x.result_claims (reading_of heap (value_at state.now.slots 0)) (param_readings world x given heap)) (sym same)
         (subst (λ claims. AreTrue claims (reading_of heap (value_at state.now.slots 0)) (param_readings world ends given heap)) (sym (laws.tables.no_result state.now.method fits.1)) tt))
         (λ q. subst (λ (x : Method). x.effect_free ≡ true) same q)
@@ -611,7 +623,7 @@ module _ (profile : Profile) (world : World) (know : Knowledge) (laws : Laws pro
         → Running world know (resumed (result returned) state (w ∷ below))
     leave_by Static returned e fits runs met inputs makes leaving =
         let same : named ≡ ends = ap world.methods (some_same all.0.call.method state.now.method runs) in
-        (leave_plain Static (result returned) e refl fits (is_int_result returned) (λ x is. subst (λ (m : Method). AreTrue m.result_claims (reading_of state.heap x) (param_readings world m given state.heap)) (sym same) is)
+        (leave_plain Static (result returned) e refl fits (is_int_result returned) (result_given named ends all.0.call.target state.now.slots returned fits (ap (λ (m : Method). m.result) same)) (λ x is. subst (λ (m : Method). AreTrue m.result_claims (reading_of state.heap x) (param_readings world m given state.heap)) (sym same) is)
         (λ q. subst (λ (m : Method). m.effect_free ≡ true) same q) leaving)
     leave_by Instance returned e fits runs met inputs makes leaving =
         let wait = all.0 in
@@ -621,7 +633,7 @@ module _ (profile : Profile) (world : World) (know : Knowledge) (laws : Laws pro
         let on : (k : ℕ) → IsOn wait.began (value_at (call_values Instance wait.call (length wait.began) w.frame.slots) k)
         = first_and (λ k x. IsOn wait.began x) (value_at w.frame.slots (receiver_slot wait.call.receiver)) _ (wait.all_on.held (receiver_slot wait.call.receiver))
         (args_each waiter (IsOn wait.began) w.frame.slots wait.call.args wait.fits.hidden tt (λ slot other. wait.all_on.held slot)) in
-        (leave_plain Instance (result returned) e refl fits.0 (is_int_result returned)
+        (leave_plain Instance (result returned) e refl fits.0 (is_int_result returned) (result_given named ends all.0.call.target state.now.slots returned fits.0 stands.result)
         (λ x is. subst (λ values. AreTrue named.result_claims (reading_of state.heap x) (param_readings world named values state.heap)) is_given
         (stands.promises (call_values Instance wait.call (length wait.began) w.frame.slots) wait.began state.heap x on wait.since.later
         (λ q object field lt. wait.quiet q (ap is_super e) object field lt) met
@@ -704,8 +716,8 @@ module _ (profile : Profile) (world : World) (know : Knowledge) (laws : Laws pro
     good_moved state r runs (Stop ending) shown = Ends ending refl shown
 
     -- A step of a state that runs gives one that runs, or an outcome that isn't bad, or one that the profile doesn't count.
-    pub step_good : (state : State) → Running world know state → state.ended ≡ None → IsGood (step limits (tables_in world) state)
-    step_good state r runs =
+    pub step_good : (state : State) → Typed state.now.method state.now.tasks state.now.slots state.heap → Running world know state → state.ended ≡ None → IsGood (step limits (tables_in world) state)
+    step_good state typed r runs =
         subst (λ e. IsGood (step_from limits (tables_in world) e state)) (sym runs)
         (good_moved state r runs (next_move limits (tables_in world) state)
-        (laws.step limits r.building state.now.method state.now.tasks r.store state.now.slots state.heap r.heap_keeps r.frame_keeps r.ints r.holds r.fine))
+        (laws.step limits r.building state.now.method state.now.tasks r.store state.now.slots state.heap typed r.heap_keeps r.frame_keeps r.ints r.holds r.fine))
