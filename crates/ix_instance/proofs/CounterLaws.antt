@@ -6,6 +6,8 @@ use Rattle.ix_core.specs.declared.fact.Profile.{Profile}
 use Rattle.ix_core.specs.Analysis.{IsWorld, Stands, Laws}
 use Rattle.ix_core.specs.Heap.{Held, Num, Boolean, Null, At, Heap, Reading, value_at, int_of}
 use Rattle.ix_core.specs.Safe.{Safe}
+use Rattle.ix_core.specs.TypedStates.{NowTyped}
+use Rattle.ix_core.proofs.LawsAreSafe.{types_in}
 use Rattle.ix_core.specs.Tables.{method_at, class_at, param_slots, way_up, ancestors, overridden, is_among, first_where, found_method}
 use Rattle.ix_core.specs.Waits.{MeetParams, AreFresh}
 use Rattle.ix_core.proofs.Cases.{by_test, equal}
@@ -88,15 +90,15 @@ lows (suc field) = tt
 tables : IsWorld counter_world
 tables = formed_world counter counter_formed.0 counter_formed.1
 
-pub counter_keeps_laws : (profile : Profile) → Laws profile counter_world counter_facts
+pub counter_keeps_laws : (profile : Profile) → Laws profile counter_world (NowTyped counter (types_in counter counter_formed.0 counter_formed.1)) counter_facts
 counter_keeps_laws profile = record {
   tables = tables;
   stands = stands;
   body = bodies_fine;
   entry = λ method slots heap met on int fresh. entries method slots heap met fresh;
-  step = λ limits building method tasks store slots heap keeps frame int holds fine.
+  step = λ limits building method tasks store slots heap typed keeps frame int holds fine.
       shown profile counter_world facts_at_entry tables lows limits building method slots heap keeps frame int tasks store fine holds;
-  after_call = λ caller named kind call store slots began heap value fits size on int holds since now is results built. behind_true counter_world caller named kind call slots began heap value on since store holds;
+  after_call = λ caller named kind call store slots began heap value fits size on int holds since now is given results built. behind_true counter_world caller named kind call slots began heap value on since store holds;
 }
 
 pub counter_safe : (profile : Profile) → Safe counter profile

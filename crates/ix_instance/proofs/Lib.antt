@@ -5,5 +5,3 @@ mod CallReturns
 mod CounterFormed
 mod CounterFine
 mod CounterLaws
-mod ValuelessReturn
-mod StoresAreLost
