@@ -26,7 +26,7 @@ use Rattle.ix_core.specs.Safe.{Counts, IsBad}
 use Rattle.ix_core.specs.Tasks.{Tasks, Empty, code_then}
 use Rattle.ix_core.specs.Waits.{Knowledge, AreNotOwn, FitsKind, FitsCall, MeetParams, param_readings, reading_through, Since, Stays, Reason, NoEffect, Final, Hidden, Constructs, Makes, is_super, AreFresh, Running, Uncounted, Runs, Ends}
 use Rattle.ix_core.specs.Waits as waits
-use Rattle.ix_core.specs.Analysis.{Stands, Laws, Shows, Calls, Leaves, Behind, Results, IsFreeIf, IsIntIf, IsGiven}
+use Rattle.ix_core.specs.Analysis.{Stands, Laws, Shows, Calls, Leaves, Behind, Results, IsFreeIf, IsIntIf, FillsTarget}
 use Rattle.ix_core.specs.Tables.{param_slot, param_slots, default_result, routine_of, body_of}
 use Rattle.ix_core.specs.World.{World, tables_in}
 use Rattle.ix_core.proofs.Heaps.{grown_new, value_other, value_set, set_keeps}
@@ -103,13 +103,13 @@ result_int method slots heap returned ints_ =
 
 -- what a method ends with that is no constructor: a value where its result's type has a default
 result_given : (named ends : Method) (target : ℕ) (slots : List Held) (returned : Option ℕ) → ends.constructor ≡ false → named.result ≡ ends.result
-    → IsGiven (result_of (routine_of ends) slots returned) (option_map (λ default. target) (default_result named.result))
+    → FillsTarget (result_of (routine_of ends) slots returned) (option_map (λ default. target) (default_result named.result))
 result_given named ends target slots returned plain same =
     let e : result_of (routine_of ends) slots returned ≡ option_map (λ value. returned_or value slots returned) (default_result ends.result) = rw plain refl in
-    subst (λ value. IsGiven value (option_map (λ default. target) (default_result named.result))) (sym e)
-    (subst (λ ty. IsGiven (option_map (λ value. returned_or value slots returned) (default_result ends.result)) (option_map (λ default. target) (default_result ty))) (sym same) (both (default_result ends.result)))
+    subst (λ value. FillsTarget value (option_map (λ default. target) (default_result named.result))) (sym e)
+    (subst (λ ty. FillsTarget (option_map (λ value. returned_or value slots returned) (default_result ends.result)) (option_map (λ default. target) (default_result ty))) (sym same) (both (default_result ends.result)))
   where
-    both : (default : Option Held) → IsGiven (option_map (λ value. returned_or value slots returned) default) (option_map (λ of. target) default)
+    both : (default : Option Held) → FillsTarget (option_map (λ value. returned_or value slots returned) default) (option_map (λ of. target) default)
     both None = tt
     both (Some value) = tt
 
@@ -418,6 +418,7 @@ module _ (profile : Profile) (world : World) (Typed : ℕ → Tasks → List Hel
           count = good.fits.count ∙ as_many;
           room = stands.slots;
           effect = λ q. stands.effect (good.fits.effect q);
+          within = good.fits.within;
           target = good.fits.target;
         };
         demands = stands.demands (call_values Instance call (length state.heap) state.now.slots) state.heap;
@@ -483,7 +484,7 @@ module _ (profile : Profile) (world : World) (Typed : ℕ → Tasks → List Hel
     weaker slot field effect (Hidden own) = Hidden own
 
     leave_with : (more : ℕ → Type 0) (value : Option Held) → HeapKeeps world more state.heap → FrameKeeps more waiter w.frame.slots state.heap
-        → ((at : ℕ) → w.target ≡ Some at → IsFreeIf more state.heap value) → IsIntIf value → IsGiven value (target_of (tables_in world) all.0.kind all.0.call)
+        → ((at : ℕ) → w.target ≡ Some at → IsFreeIf more state.heap value) → IsIntIf value → FillsTarget value (target_of (tables_in world) all.0.kind all.0.call)
         → Results world named given state.heap value
         → (named.effect_free ≡ true → ends.effect_free ≡ true) → (is_super all.0.kind ≡ true → named ≡ ends)
         → (is_super all.0.kind ≡ true → (object : ℕ) → value_at w.frame.slots 0 ≡ At object → (field : ℕ) → HasField world (ObjectOf named.class) field → MeetsField world state.heap object field)
@@ -577,13 +578,13 @@ module _ (profile : Profile) (world : World) (Typed : ℕ → Tasks → List Hel
     results_of (Some x) is stands = stands x (result_named x all.0.inputs is)
 
     -- a method ends
-    leave_plain : (kind : CallKind) (value : Option Held) → all.0.kind ≡ kind → is_super kind ≡ false → ends.constructor ≡ false → IsIntIf value → IsGiven value (target_of (tables_in world) kind all.0.call)
+    leave_plain : (kind : CallKind) (value : Option Held) → all.0.kind ≡ kind → is_super kind ≡ false → ends.constructor ≡ false → IsIntIf value → FillsTarget value (target_of (tables_in world) kind all.0.call)
         → ((x : Held) → AreTrue ends.result_claims (reading_of state.heap x) (param_readings world ends given state.heap) → AreTrue named.result_claims (reading_of state.heap x) (param_readings world named given state.heap))
         → (named.effect_free ≡ true → ends.effect_free ≡ true)
         → Leaves profile world know building ends state.now.slots state.heap value
         → Running world know (resumed value state (w ∷ below))
     leave_plain kind value e isnt plain is_int is_given stands effect leaving =
-        leave_with building value keeps all.0.frame_keeps (λ at to. leaving.free plain) is_int (subst (λ k. IsGiven value (target_of (tables_in world) k all.0.call)) (sym e) is_given) (results_of value (leaving.results plain) stands)
+        leave_with building value keeps all.0.frame_keeps (λ at to. leaving.free plain) is_int (subst (λ k. FillsTarget value (target_of (tables_in world) k all.0.call)) (sym e) is_given) (results_of value (leaving.results plain) stands)
         effect (λ s. not_super kind e isnt s) (λ s. not_super kind e isnt s)
         all.1
 

@@ -98,10 +98,10 @@ module _ (profile : Profile) (world : World) (know : Knowledge) where
   Shows building method slots heap (Stop ending) = IsBad (Some ending) → ⊥
 
 -- Where a call has a target, its method ended with a value.
-abbrev pub IsGiven : Option Held → Option ℕ → Type 0
-IsGiven (Some value) target = Unit {0}
-IsGiven None None = Unit {0}
-IsGiven None (Some target) = ⊥
+abbrev pub FillsTarget : Option Held → Option ℕ → Type 0
+FillsTarget (Some value) target = Unit {0}
+FillsTarget None None = Unit {0}
+FillsTarget None (Some target) = ⊥
 
 -- `Typed` is what types say of the frame that runs: of its method, tasks and slots, and of the heap.
 module _ (profile : Profile) (world : World) (Typed : ℕ → Tasks → List Held → Heap → Type 0) (know : Knowledge) where
@@ -126,7 +126,7 @@ module _ (profile : Profile) (world : World) (Typed : ℕ → Tasks → List Hel
         → FitsCall world caller named kind call → length slots ≡ caller.slots → AllOn slots began → KeepsInts slots began
         → know.Holds store slots began
         → Since world caller named kind slots began heap
-        → KeepsInts slots heap → IsIntIf value → IsGiven value (target_of (tables_in world) kind call)
+        → KeepsInts slots heap → IsIntIf value → FillsTarget value (target_of (tables_in world) kind call)
         → Results world named (call_values kind call (length began) slots) heap value
         → (is_super kind ≡ true → (object : ℕ) → value_at slots 0 ≡ At object
         → AreFresh world began object caller.class × ((field : ℕ) → HasField world (ObjectOf named.class) field → MeetsField world heap object field))
