@@ -20,7 +20,7 @@ use Rattle.ix_core.specs.Tables.{body_of}
 use Rattle.ix_core.specs.Tasks.{Empty, code_then}
 use Rattle.ix_core.specs.Waits.{FitsCall}
 use Rattle.ix_instance.specs.Facts.{Fact, NotNegative, Below, IsIn, AreLow, Proves}
-use Rattle.ix_instance.specs.Rules.{MayAssign, IsGiven, constant, copy, load, read, write, of_path, of_slot, Fine, ends, returns, does, prints, enters, chooses, asks, decides, knows}
+use Rattle.ix_instance.specs.Rules.{MayAssign, IsGiven, constant, copy, load, read, store, write, of_path, of_slot, Fine, ends, returns, does, prints, enters, chooses, asks, decides, knows}
 use Rattle.ix_instance.specs.Rules as rules
 use Rattle.ix_instance.specs.Counter.{counter_world, facts_at_entry}
 
@@ -66,10 +66,13 @@ abbrev set_call : CallOp
 set_call = calls 3 0 (Some 2) (arg 1 246 247 ∷ []) 0 (span 240 248)
 
 abbrev get_call : CallOp
-get_call = calls 3 1 (Some 2) [] 0 (span 292 299)
+get_call = calls 4 1 (Some 2) [] 0 (span 289 296)
 
 no_static : {A : Type 0} → true ≡ false → A
 no_static e = absurd (false≢true (sym e))
+
+target_within : (target at : ℕ) → target < 7 → ◌≡◌ {A = Option ℕ} (Some target) (Some at) → at < 7
+target_within target at lt e = (let is : target ≡ at = ap (λ (o : Option ℕ). unwrap_or o 0) e in omega (arith, is, lt))
 
 new_fits : FitsCall counter_world (methods 2) (methods 3) (New 0) new_counter
 new_fits = record {
@@ -78,6 +81,7 @@ new_fits = record {
   count = refl;
   room = omega (arith);
   effect = λ e. absurd (false≢true e);
+  within = λ at e. target_within 3 at (omega (arith)) e;
   target = λ at e is. no_target 3 at (λ z. omega (arith, z)) e is;
 }
 
@@ -88,6 +92,7 @@ set_fits = record {
   count = refl;
   room = omega (arith);
   effect = λ e. absurd (false≢true e);
+  within = λ at e. none_some at e;
   target = λ at e is. none_some at e;
 }
 
@@ -98,7 +103,8 @@ get_fits = record {
   count = refl;
   room = omega (arith);
   effect = λ e. absurd (false≢true e);
-  target = λ at e is. no_target 3 at (λ z. omega (arith, z)) e is;
+  within = λ at e. target_within 4 at (omega (arith)) e;
+  target = λ at e is. no_target 4 at (λ z. omega (arith, z)) e is;
 }
 
 set_given : (facts : List Fact) → IsIn (NotNegative (Slot 1)) facts → (number : ℕ) (variable : Variable) → slice_get (methods 0).params number ≡ Some variable
@@ -122,7 +128,7 @@ get_fine =
     does _ _ _ _ _ (read _ 1 0 0 (may_assign (methods 1) 1 tt (λ z. omega (arith, z)) (omega (arith))) (λ z. omega (arith, z)) (λ own. false≢true own.0))
     (returns _ 1 _ _ _ refl (omega (arith, ints), inl refl, tt))
 
-pick_assigns : (target : ℕ) → (target ≡ 0 → ⊥) → target < 5 → MayAssign (methods 2) target
+pick_assigns : (target : ℕ) → (target ≡ 0 → ⊥) → target < 7 → MayAssign (methods 2) target
 pick_assigns target apart lt = may_assign (methods 2) target tt apart lt
 
 pick_fine : Fine counter_world 2 (code_then (body_of (methods 2)) Empty) (facts_at_entry 2)
@@ -137,12 +143,16 @@ pick_fine =
     (does _ _ _ _ _ (rules.length _ 4 0 (pick_assigns 4 (λ z. omega (arith, z)) (omega (arith))) (λ z. omega (arith, z)))
     (decides _ _ 0 _ _ _ refl refl (inl refl)
     (knows _ (Below (FieldOf 2 0) 0) _ (of_path 3 0 (FieldOf 2 0) (inr (inr (inr (inl refl)))) (inl refl))
-    (enters _ _ Instance get_call _ _ (λ limits tables place slots heap. refl) refl get_fits (λ number variable at. none_there number variable at)
-    (prints _ _ 3 _ _ refl
     (does _ _ _ _ _ (read _ 3 2 0 (pick_assigns 3 (λ z. omega (arith, z)) (omega (arith))) (λ z. omega (arith, z)) (λ own. false≢true own.0))
     (knows _ (Below (Slot 3) 0) _ (of_slot 3 0 (FieldOf 2 0) (inr (inl refl)) (inr (inr (inl refl))))
+    (enters _ _ Instance get_call _ _ (λ limits tables place slots heap. refl) refl get_fits (λ number variable at. none_there number variable at)
+    (does _ _ _ _ _ (rules.new_array _ 5 4 _ (pick_assigns 5 (λ z. omega (arith, z)) (omega (arith))) refl (inl refl))
+    (does _ _ _ _ _ (rules.length _ 6 5 (pick_assigns 6 (λ z. omega (arith, z)) (omega (arith))) (λ z. omega (arith, z)))
+    (does _ _ _ _ _ (store _ 0 3 6 _ (λ own. false≢true own.0) (inr (inr (inr (inl refl)))) (inr (inr (inl refl))) tt)
+    (does _ _ _ _ _ (read _ 3 2 0 (pick_assigns 3 (λ z. omega (arith, z)) (omega (arith))) (λ z. omega (arith, z)) (λ own. false≢true own.0))
+    (knows _ (Below (Slot 3) 0) _ (of_slot 3 0 (FieldOf 2 0) (inr (inl refl)) (inr (inr (inr (inr (inl refl))))))
     (does _ _ _ _ _ (load _ 4 0 3 _ (pick_assigns 4 (λ z. omega (arith, z)) (omega (arith))) (inr (inl refl)) (inl refl))
-    (returns _ 4 _ _ _ refl tt)))))))
+    (returns _ 4 _ _ _ refl tt)))))))))))
     (does _ _ _ _ _ (constant _ 3 (pos 0) (record { from = omega (arith, ints); to = omega (arith, ints) }) (pick_assigns 3 (λ z. omega (arith, z)) (omega (arith))))
     (returns _ 3 _ _ _ refl tt)))))))))
 

@@ -19,6 +19,7 @@ use Rattle.ix_instance.proofs.CallReturns.{behind_true}
 use Rattle.ix_instance.proofs.CounterFine.{bodies_fine}
 use Rattle.ix_instance.proofs.CounterFormed.{counter_formed}
 use Rattle.ix_instance.proofs.FrameMoves.{shown}
+use Rattle.ix_instance.proofs.TypedArrays.{stores_typed}
 
 -- ---- dispatch: no method overrides another
 
@@ -97,8 +98,9 @@ counter_keeps_laws profile = record {
   body = bodies_fine;
   entry = λ method slots heap met on int fresh. entries method slots heap met fresh;
   step = λ limits building method tasks store slots heap typed keeps frame int holds fine.
-      shown profile counter_world facts_at_entry tables lows limits building method slots heap keeps frame int tasks store fine holds;
-  after_call = λ caller named kind call store slots began heap value fits size on int holds since now is given results built. behind_true counter_world caller named kind call slots began heap value on since store holds;
+      shown profile counter_world facts_at_entry tables lows limits building method slots heap keeps frame int tasks store fine holds
+      (stores_typed counter counter_formed.0 counter_formed.1 method slots heap tasks typed);
+  after_call = λ caller named kind call store slots began heap value fits size on int holds since now is given results built. behind_true counter_world caller named kind call slots began heap value on since store fits size given results holds;
 }
 
 pub counter_safe : (profile : Profile) → Safe counter profile

@@ -1,3 +1,4 @@
+mod TypedArrays
 mod Truths
 mod StepsKeep
 mod FrameMoves

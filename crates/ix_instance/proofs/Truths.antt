@@ -43,6 +43,16 @@ module _ (world : World) where
     by_kept fact facts true e is rest = (fact_stays fact e is, rest)
     by_kept fact facts false e is rest = rest
 
+    pub all_stay : ((path : Path) → kept path ≡ true) → (facts : List Fact) → AllTrue world facts slots heap → AllTrue world facts later after
+    all_stay every [] all = tt
+    all_stay every (fact ∷ facts) all = (fact_stays fact (every_name fact) all.0, all_stay every facts all.1)
+      where
+        every_name : (fact : Fact) → names_only kept fact ≡ true
+        every_name (NotNegative path) = every path
+        every_name (Below path array) = rw (every path) (every (Slot array))
+        every_name (IsLength slot array) = rw (every (Slot slot)) (every (Slot array))
+        every_name (Holds slot path) = rw (every (Slot slot)) (every path)
+
     pub only_true : (facts : List Fact) → AllTrue world facts slots heap → AllTrue world (only kept facts) later after
     only_true [] all = tt
     only_true (fact ∷ facts) all = by_kept fact facts (names_only kept fact) refl all.0 (only_true facts all.1)

@@ -23,7 +23,7 @@ use Rattle.ix_instance.specs.Rules.{facts_from}
 --   static int pick(int[] a, @NonNegative int k) {
 --     Counter c = new Counter();
 --     c.set(k);
---     if (c.n < a.length) { System.out.println(c.get()); return a[c.n]; }
+--     if (c.n < a.length) { a[c.n] = new int[c.get()].length; return a[c.n]; }
 --     return 0; } }
 abbrev pub counter : Program
 counter = program (class_of None (0 ∷ []) (0 ∷ 1 ∷ 3 ∷ []) ∷ class_of None [] (2 ∷ 4 ∷ []) ∷ []) (field 0 int (claim.Low (pos 0) ∷ []) ∷ []) 1
@@ -34,21 +34,24 @@ counter = program (class_of None (0 ∷ []) (0 ∷ 1 ∷ 3 ∷ []) ∷ class_of 
     (block (does (op.ReadField 1 0 0) 137 143
     ∷ item.Return (Some 1) (span 137 143)
     ∷ []))) { effect_free = true; result_claims = claim.Low (pos 0) ∷ [] }
-    ∷ static_method 1 (param 0 [] ∷ param 1 (claim.Low (pos 0) ∷ []) ∷ []) (int_array ∷ int ∷ []) int (local 2 [] (span 220 350) ∷ []) 5
+    ∷ static_method 1 (param 0 [] ∷ param 1 (claim.Low (pos 0) ∷ []) ∷ []) (int_array ∷ int ∷ []) int (local 2 [] (span 220 354) ∷ []) 7
     (block (does (op.NewObject (calls 3 3 None [] 0 (span 224 237))) 224 237
     ∷ does_with (op.Copy 2 3 (object 0)) 224 237 ((span 220 221) ∷ (span 224 237) ∷ [])
     ∷ does (op.InstanceCall (calls 3 0 (Some 2) (arg 1 246 247 ∷ []) 0 (span 240 248))) 240 248
     ∷ item.If (cond.Compare (block (does (op.ReadField 3 2 0) 254 257
     ∷ does (op.Length 4 0) 260 268
     ∷ [])) (test rel.Lt 3 4 int (span 254 257) (span 260 268)))
-    (block (does (op.InstanceCall (calls 3 1 (Some 2) [] 0 (span 292 299))) 292 299
-    ∷ does (op.Print 3) 292 299
-    ∷ does (op.ReadField 3 2 0) 311 314
-    ∷ does (op.Load 4 0 3 int_array) 309 315
-    ∷ item.Return (Some 4) (span 309 315)
+    (block (does (op.ReadField 3 2 0) 274 277
+    ∷ does (op.InstanceCall (calls 4 1 (Some 2) [] 0 (span 289 296))) 289 296
+    ∷ does (op.NewArray 5 int_array 4) 281 297
+    ∷ does (op.Length 6 5) 281 304
+    ∷ does_with (op.Store 0 3 6 int_array) 272 304 ((span 272 278) ∷ [])
+    ∷ does (op.ReadField 3 2 0) 315 318
+    ∷ does (op.Load 4 0 3 int_array) 313 319
+    ∷ item.Return (Some 4) (span 313 319)
     ∷ [])) (block [])
-    ∷ does (op.Const 3 (literal.Int (pos 0))) 326 327
-    ∷ item.Return (Some 3) (span 326 327)
+    ∷ does (op.Const 3 (literal.Int (pos 0))) 330 331
+    ∷ item.Return (Some 3) (span 330 331)
     ∷ []))
     ∷ constructor_of 0 [] [] [] 1
     (block [])
