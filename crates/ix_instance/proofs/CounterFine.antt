@@ -60,13 +60,13 @@ no_target : (target at : ℕ) → (target ≡ 0 → ⊥) → ◌≡◌ {A = Opti
 no_target target at apart e is = no_input (methods 2) at tt (λ zero. apart (ap (λ (o : Option ℕ). unwrap_or o 0) e ∙ zero)) is
 
 abbrev new_counter : CallOp
-new_counter = calls 3 3 None [] 0 (span 224 237)
+new_counter = calls 3 3 None [] 0 (span 213 226)
 
 abbrev set_call : CallOp
-set_call = calls 3 0 (Some 2) (arg 1 246 247 ∷ []) 0 (span 240 248)
+set_call = calls 3 0 (Some 2) (arg 1 234 235 ∷ []) 0 (span 230 233)
 
 abbrev get_call : CallOp
-get_call = calls 4 1 (Some 2) [] 0 (span 289 296)
+get_call = calls 4 1 (Some 2) [] 0 (span 279 282)
 
 no_static : {A : Type 0} → true ≡ false → A
 no_static e = absurd (false≢true (sym e))

@@ -4,5 +4,6 @@ mod StepsKeep
 mod FrameMoves
 mod CallReturns
 mod CounterFormed
+mod CounterRows
 mod CounterFine
 mod CounterLaws

@@ -28,30 +28,30 @@ use Rattle.ix_instance.specs.Rules.{facts_from}
 abbrev pub counter : Program
 counter = program (class_of None (0 ∷ []) (0 ∷ 1 ∷ 3 ∷ []) ∷ class_of None [] (2 ∷ 4 ∷ []) ∷ []) (field 0 int (claim.Low (pos 0) ∷ []) ∷ []) 1
     (instance_method 0 (param 1 (claim.Low (pos 0) ∷ []) ∷ []) (int ∷ []) type.Void None [] 2
-    (block (does_with (op.WriteField 0 0 1) 72 82 ((span 72 78) ∷ (span 81 82) ∷ [])
+    (block (does_with (op.WriteField 0 0 1) 67 77 ((span 67 73) ∷ (span 76 77) ∷ [])
     ∷ []))
     ∷ record (instance_method 0 [] [] int None [] 2
-    (block (does (op.ReadField 1 0 0) 137 143
-    ∷ item.Return (Some 1) (span 137 143)
+    (block (does (op.ReadField 1 0 0) 129 135
+    ∷ item.Return (Some 1) (span 129 135)
     ∷ []))) { effect_free = true; result_claims = claim.Low (pos 0) ∷ [] }
-    ∷ static_method 1 (param 0 [] ∷ param 1 (claim.Low (pos 0) ∷ []) ∷ []) (int_array ∷ int ∷ []) int (local 2 [] (span 220 354) ∷ []) 7
-    (block (does (op.NewObject (calls 3 3 None [] 0 (span 224 237))) 224 237
-    ∷ does_with (op.Copy 2 3 (object 0)) 224 237 ((span 220 221) ∷ (span 224 237) ∷ [])
-    ∷ does (op.InstanceCall (calls 3 0 (Some 2) (arg 1 246 247 ∷ []) 0 (span 240 248))) 240 248
-    ∷ item.If (cond.Compare (block (does (op.ReadField 3 2 0) 254 257
-    ∷ does (op.Length 4 0) 260 268
-    ∷ [])) (test rel.Lt 3 4 int (span 254 257) (span 260 268)))
-    (block (does (op.ReadField 3 2 0) 274 277
-    ∷ does (op.InstanceCall (calls 4 1 (Some 2) [] 0 (span 289 296))) 289 296
-    ∷ does (op.NewArray 5 int_array 4) 281 297
-    ∷ does (op.Length 6 5) 281 304
-    ∷ does_with (op.Store 0 3 6 int_array) 272 304 ((span 272 278) ∷ [])
-    ∷ does (op.ReadField 3 2 0) 315 318
-    ∷ does (op.Load 4 0 3 int_array) 313 319
-    ∷ item.Return (Some 4) (span 313 319)
+    ∷ static_method 1 (param 0 [] ∷ param 1 (claim.Low (pos 0) ∷ []) ∷ []) (int_array ∷ int ∷ []) int (local 2 [] (span 209 322) ∷ []) 7
+    (block (does (op.NewObject (calls 3 3 None [] 0 (span 213 226))) 213 226
+    ∷ does_with (op.Copy 2 3 (object 0)) 213 226 ((span 209 210) ∷ (span 213 226) ∷ [])
+    ∷ does (op.InstanceCall (calls 3 0 (Some 2) (arg 1 234 235 ∷ []) 0 (span 230 233))) 230 233
+    ∷ item.If (cond.Compare (block (does (op.ReadField 3 2 0) 242 245
+    ∷ does (op.Length 4 0) 248 256
+    ∷ [])) (test rel.Lt 3 4 int (span 242 245) (span 248 256)))
+    (block (does (op.ReadField 3 2 0) 262 265
+    ∷ does (op.InstanceCall (calls 4 1 (Some 2) [] 0 (span 279 282))) 279 282
+    ∷ does (op.NewArray 5 int_array 4) 277 284
+    ∷ does (op.Length 6 5) 269 292
+    ∷ does_with (op.Store 0 3 6 int_array) 262 265 ((span 269 292) ∷ [])
+    ∷ does (op.ReadField 3 2 0) 303 306
+    ∷ does (op.Load 4 0 3 int_array) 303 306
+    ∷ item.Return (Some 4) (span 301 307)
     ∷ [])) (block [])
-    ∷ does (op.Const 3 (literal.Int (pos 0))) 330 331
-    ∷ item.Return (Some 3) (span 330 331)
+    ∷ does (op.Const 3 (literal.Int (pos 0))) 318 319
+    ∷ item.Return (Some 3) (span 318 319)
     ∷ []))
     ∷ constructor_of 0 [] [] [] 1
     (block [])
