@@ -106,6 +106,7 @@ module _ (program : Program) where
         let a = values_count program 0 inputs in
         let b = inputs_count program inputs found.param_types have in record {
           size = slots_length found.slots (input_values 0 inputs) (omega (arith, a, b, params, room));
+          made = λ c. absurd (false≢true (sym plain ∙ c));
           this = λ c object at. absurd (false≢true (sym plain ∙ c));
           free = λ slot other. subst (IsFree (λ object. ⊥) heap) (sym (slots_are found.slots (input_values 0 inputs) slot)) (values_free inputs found.param_types have slot);
         }
@@ -139,7 +140,7 @@ formed_is_safe program locals formed profile know laws = laws_are_safe program l
           store = know.entry method;
           holds = laws.entry method (slots_with here.slots (input_values 0 inputs)) (input_heap inputs here.param_types) (params_met program method inputs here refl static have meets params room)
               (all_on (world_of program) (λ object. ⊥) here (slots_with here.slots (input_values 0 inputs)) (input_heap inputs here.param_types) heap_fits frame_fits) ints
-              (λ c object at. absurd (false≢true (sym plain ∙ c)));
+              (λ c. absurd (false≢true (sym plain ∙ c)));
           fine = laws.body method;
           waits = tt;
         })

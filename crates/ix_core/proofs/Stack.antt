@@ -31,7 +31,7 @@ use Rattle.ix_core.specs.Tables.{param_slot, param_slots, default_result, routin
 use Rattle.ix_core.specs.World.{World, tables_in}
 use Rattle.ix_core.proofs.Heaps.{grown_new, value_other, value_set, set_keeps}
 use Rattle.ix_core.proofs.Kept.{all_on}
-use Rattle.ix_core.proofs.Waiting.{free_grows, later_refl, later_push, without, free_without, as_it_is, Grows, waits_kept, waits_grow, waits_built, frame_grows, frame_without, suspended}
+use Rattle.ix_core.proofs.Waiting.{super_parts, free_grows, later_refl, later_push, without, free_without, as_it_is, Grows, waits_kept, waits_grow, waits_built, frame_grows, frame_without, suspended}
 use Rattle.ix_core.proofs.Entered.{none_some, slots_are, slots_length, values_length, args_each, first_and, params_same, new_keeps, new_ints, new_fresh, new_same, new_old, with_new, grown, new_object}
 use Rattle.ix_core.proofs.Cases.{by_test, equal, differ}
 
@@ -119,6 +119,7 @@ free_set building method slots heap None value inner free frame = frame
 free_set building method slots heap (Some t) None inner free frame = frame
 free_set building method slots heap (Some t) (Some x) inner free frame = record {
   size = length-set slots t x ∙ frame.size;
+  made = λ c. ((frame.made c).0, by_test (0 == t) (λ e. absurd (inner t refl (c, sym (equal 0 t e)))) (λ e. value_other slots t 0 x e ∙ (frame.made c).1));
   this = λ c object at.
       by_test (0 == t)
       (λ e. absurd (inner t refl (c, sym (equal 0 t e))))
@@ -267,6 +268,7 @@ module _ (profile : Profile) (world : World) (Typed : ℕ → Tasks → List Hel
       pub free : (k : ℕ) → (IsOwn (world.methods m) k → ⊥) → IsFree building after (value_at values k)
       pub held : (k : ℕ) → IsIntHeld (value_at values k)
       pub makes : Makes world kind values state.now.slots state.heap after
+      pub made : (world.methods m).constructor ≡ true → (object : ℕ) × (value_at values 0 ≡ At object)
       -- a constructor's object is new, or the caller's own
       pub this : (world.methods m).constructor ≡ true → (object : ℕ) → value_at values 0 ≡ At object → building object × AreFresh world after object (world.methods m).class
           × (((is_super kind ≡ false) × (length state.heap ≤ object)) ⊎ ((is_super kind ≡ true) × Constructs world state.now object caller.class × (world.parent caller.class ≡ Some (world.methods m).class)))
@@ -298,6 +300,7 @@ module _ (profile : Profile) (world : World) (Typed : ℕ → Tasks → List Hel
         } in
         let frame_keeps : FrameKeeps e.building new slots after = record {
           size = slots_length new.slots values (let x = e.fits.room in omega (arith, count, x));
+          made = λ c. ((e.made c).0, are 0 ∙ (e.made c).1);
           this = λ c object at. (e.this c object (sym (are 0) ∙ at)).0;
           free = λ slot other. subst (IsFree e.building after) (sym (are slot)) (e.free slot other);
         } in
@@ -308,7 +311,7 @@ module _ (profile : Profile) (world : World) (Typed : ℕ → Tasks → List Hel
           ints = new_ints_;
           store = know.entry m;
           holds = laws.entry m slots after (params_same world new values slots after (λ k. sym (are k)) (e.demands good.met)) (all_on world e.building new slots after e.heap_keeps frame_keeps) new_ints_
-              (λ c object at. (e.this c object (sym (are 0) ∙ at)).1);
+              (λ c. ((e.made c).0, are 0 ∙ (e.made c).1, (e.this c (e.made c).0 (e.made c).1).1));
           fine = laws.body m;
           waits = (
             record {
@@ -374,6 +377,7 @@ module _ (profile : Profile) (world : World) (Typed : ℕ → Tasks → List Hel
             (λ slot apart. free_grows r.building bl heap after (value_at state.now.slots slot) later (new_old world laws.tables r.building heap class) (r.frame_keeps.free slot apart)) k);
         held = first_and (λ k x. IsIntHeld x) (At (length heap)) _ tt (λ k. args_int state.now.slots heap (world.methods state.now.method) call.args good.fits.hidden r.ints k);
         makes = (refl, later_refl after);
+        made = λ c. (length state.heap, refl);
         this = λ c object at.
             let is : length heap ≡ object = number_at at in
             (inr (sym is), subst (λ k. AreFresh world after object k) (sym good.fits.kinds.1) (subst (λ o. AreFresh world after o class) is (new_fresh world laws.tables r.building heap class)), inl (refl, omega (arith, is)));
@@ -394,6 +398,7 @@ module _ (profile : Profile) (world : World) (Typed : ℕ → Tasks → List Hel
     free = λ k other. args_each (world.methods state.now.method) (IsFree r.building state.heap) state.now.slots call.args good.fits.hidden tt r.frame_keeps.free k;
     held = λ k. args_int state.now.slots state.heap (world.methods state.now.method) call.args good.fits.hidden r.ints k;
     makes = tt;
+    made = λ c. absurd (false≢true (sym good.fits.kinds ∙ c));
     this = λ c object at. absurd (false≢true (sym good.fits.kinds ∙ c));
   }
 
@@ -427,6 +432,7 @@ module _ (profile : Profile) (world : World) (Typed : ℕ → Tasks → List Hel
         held = first_and (λ k x. IsIntHeld x) (value_at state.now.slots (receiver_slot call.receiver)) _ (r.ints.held (receiver_slot call.receiver))
             (λ k. args_int state.now.slots state.heap (world.methods state.now.method) call.args good.fits.hidden r.ints k);
         makes = tt;
+        made = λ c. absurd (false≢true (sym (stands.plain good.fits.kinds.0) ∙ c));
         this = λ c object at. absurd (false≢true (sym (stands.plain good.fits.kinds.0) ∙ c));
       }
 
@@ -451,6 +457,7 @@ module _ (profile : Profile) (world : World) (Typed : ℕ → Tasks → List Hel
         held = first_and (λ k x. IsIntHeld x) (value_at state.now.slots (receiver_slot call.receiver)) _ (r.ints.held (receiver_slot call.receiver))
             (λ k. args_int state.now.slots state.heap caller call.args good.fits.hidden r.ints k);
         makes = this_is;
+        made = λ c. ((r.frame_keeps.made fits.0).0, this_is ∙ (r.frame_keeps.made fits.0).1);
         this = λ c object at.
             let here : value_at state.now.slots 0 ≡ At object = sym this_is ∙ at in (
               r.frame_keeps.this fits.0 object here,
@@ -512,7 +519,8 @@ module _ (profile : Profile) (world : World) (Typed : ℕ → Tasks → List Hel
                       reason = weaker slot field effect stays.reason;
                     });
               })
-              ints_now is_int is_given results (λ s object at. (wait.untouched s object at, claims s object at)));
+              ints_now is_int is_given results
+              (λ s. let made = wait.frame_keeps.made (super_parts world wait.kind waiter ends wait.call wait.fits.kinds s).0 in (made.0, made.1, wait.untouched s made.0 made.1, claims s made.0 made.1)));
           fine = wait.fine;
           waits = with_callee more state.heap heap_keeps.bound below w.frame w.frame.tasks slots Over (Constructs world (frame w.frame.method w.frame.tasks slots)) same
               (λ object class is. inr (same_object w.frame w.frame.tasks slots same object class is)) rest;

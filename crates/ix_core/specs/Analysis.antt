@@ -114,7 +114,7 @@ module _ (profile : Profile) (world : World) (Typed : ℕ → Tasks → List Hel
     pub body : (method : ℕ) → know.Fine method (code_then (body_of (world.methods method)) Empty) (know.entry method)
     -- what the claims of a method's parameters say, the store at its entry may say; of a constructor's object also that its fields count as 0
     pub entry : (method : ℕ) (slots : List Held) (heap : Heap) → MeetParams world (world.methods method) slots heap → AllOn slots heap → KeepsInts slots heap
-        → ((world.methods method).constructor ≡ true → (object : ℕ) → value_at slots 0 ≡ At object → AreFresh world heap object (world.methods method).class)
+        → ((world.methods method).constructor ≡ true → (object : ℕ) × (value_at slots 0 ≡ At object) × AreFresh world heap object (world.methods method).class)
         → know.Holds (know.entry method) slots heap
     -- a step of a frame that has no error
     pub step : (limits : Limits) (building : ℕ → Type 0) (method : ℕ) (tasks : Tasks) (store : know.Store) (slots : List Held) (heap : Heap)
@@ -128,6 +128,5 @@ module _ (profile : Profile) (world : World) (Typed : ℕ → Tasks → List Hel
         → Since world caller named kind slots began heap
         → KeepsInts slots heap → IsIntIf value → FillsTarget value (target_of (tables_in world) kind call)
         → Results world named (call_values kind call (length began) slots) heap value
-        → (is_super kind ≡ true → (object : ℕ) → value_at slots 0 ≡ At object
-        → AreFresh world began object caller.class × ((field : ℕ) → HasField world (ObjectOf named.class) field → MeetsField world heap object field))
+        → (is_super kind ≡ true → (object : ℕ) × (value_at slots 0 ≡ At object) × AreFresh world began object caller.class × ((field : ℕ) → HasField world (ObjectOf named.class) field → MeetsField world heap object field))
         → know.Holds (know.after_call caller named kind call store) (set_target (target_of (tables_in world) kind call) value slots) heap
