@@ -67,19 +67,17 @@ stands class named = subst (λ runs. Stands counter_world (counter_world.methods
 
 -- ---- entries
 
-fresh_field : (heap : Heap) (this : Held) → ((object : ℕ) → this ≡ At object → AreFresh counter_world heap object 0) → pos 0 ≤ℤ int_of (held_through counter_world heap this 0)
-fresh_field heap (At object) fresh = subst (λ n. pos 0 ≤ℤ n) (sym (ap (λ (r : Reading). r.int) (fresh object refl 0 (0, refl)))) (omega (arith, ints))
-fresh_field heap (Num n) fresh = omega (arith, ints)
-fresh_field heap (Boolean answer) fresh = omega (arith, ints)
-fresh_field heap Null fresh = omega (arith, ints)
+fresh_field : (heap : Heap) (this : Held) (object : ℕ) → this ≡ At object → AreFresh counter_world heap object 0 → pos 0 ≤ℤ int_of (held_through counter_world heap this 0)
+fresh_field heap this object at fresh =
+    subst (λ held. pos 0 ≤ℤ int_of (held_through counter_world heap held 0)) (sym at) (subst (λ n. pos 0 ≤ℤ n) (sym (ap (λ (r : Reading). r.int) (fresh 0 (0, refl)))) (omega (arith, ints)))
 
 entries : (method : ℕ) (slots : List Held) (heap : Heap) → MeetParams counter_world (counter_world.methods method) slots heap
-    → ((counter_world.methods method).constructor ≡ true → (object : ℕ) → value_at slots 0 ≡ At object → AreFresh counter_world heap object (counter_world.methods method).class)
+    → ((counter_world.methods method).constructor ≡ true → (object : ℕ) × (value_at slots 0 ≡ At object) × AreFresh counter_world heap object (counter_world.methods method).class)
     → AllTrue counter_world (facts_at_entry method) slots heap
 entries zero slots heap met fresh = ((met 0 _ refl).0, tt)
 entries (suc zero) slots heap met fresh = tt
 entries (suc (suc zero)) slots heap met fresh = ((met 1 _ refl).0, tt)
-entries (suc (suc (suc zero))) slots heap met fresh = (fresh_field heap (value_at slots 0) (fresh refl), tt)
+entries (suc (suc (suc zero))) slots heap met fresh = (let this = fresh refl in fresh_field heap (value_at slots 0) this.0 this.1 this.2, tt)
 entries (suc (suc (suc (suc method)))) slots heap met fresh = tt
 
 lows : (field : ℕ) → AreLow (counter_world.field_claims field)
