@@ -9,8 +9,8 @@ use Rattle.ix_core.proofs.Programs.{row, Rows}
 use Rattle.ix_instance.specs.Counter.{counter}
 
 counter_rows : Rows counter (
-    row 2 (Ints (pos 5 ∷ pos 9 ∷ []) ∷ Whole (pos 1) ∷ []) no_limits 21 (Ended (value.Int (pos 1))) [] false
-    ∷ row 2 (Ints (pos 5 ∷ pos 9 ∷ []) ∷ Whole (pos 2) ∷ []) no_limits 13 (Ended (value.Int (pos 0))) [] false
+    row 2 (Ints (pos 5 ∷ pos 9 ∷ []) ∷ Whole (pos 1) ∷ []) no_limits 23 (Ended (value.Int (pos 1))) [] false
+    ∷ row 2 (Ints (pos 5 ∷ pos 9 ∷ []) ∷ Whole (pos 2) ∷ []) no_limits 15 (Ended (value.Int (pos 0))) [] false
     ∷ [])
 unfolding hidden-the_row-Item-0 hidden-the_row-Cond-1 denote.Hole.Carrier.hidden int_wrap
 counter_rows = refl

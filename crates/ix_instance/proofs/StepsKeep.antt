@@ -14,7 +14,7 @@ use Rattle.ix_core.specs.declared.fact.Path.TheVariants.{Slot, FieldOf}
 use Rattle.ix_core.specs.declared.op.OpKind.{OpKind}
 use Rattle.ix_core.specs.declared.program.Method.{Method}
 use Rattle.ix_core.specs.Analysis.{IsWorld}
-use Rattle.ix_core.specs.Heap.{Held, Num, Boolean, Null, At, Heap, Kind, ObjectOf, ArrayOf, Reading, Object, cell_default, default_of_base, cells_used, with_cells, array_cells, cell_of, value_at, object_at, array_at, place_in, field_value, is_within, int_of, size_of, write_at}
+use Rattle.ix_core.specs.Heap.{Held, Num, Boolean, Null, At, Heap, Kind, ObjectOf, ArrayOf, Object, cell_default, default_of_base, cells_used, with_cells, array_cells, cell_of, value_at, object_at, array_at, place_in, field_value, is_within, int_of, size_of, write_at}
 use Rattle.ix_core.specs.Machine.{Limits, HeapFull, new_array, is_past, Effect, Done, Stopped, Wrapped, Printed, Called, operate, through, at_place, at_index, int_at}
 use Rattle.ix_core.specs.Objects.{IsOn, MeetsElement, AllOn, Later, IsSame, HasField, MeetsField, MeetsFields, field_readings, IsFree, HeapKeeps, FrameKeeps, IsOwn, MayWrite, StepKeeps}
 use Rattle.ix_core.specs.Safe.{IsBad, element_claims}
@@ -22,7 +22,6 @@ use Rattle.ix_core.specs.World.{World, tables_in}
 use Rattle.ix_core.proofs.Cases.{by_test, equal, differ}
 use Rattle.ix_core.proofs.Heaps.{value_set, value_other, object_set, object_other, grown_old}
 use Rattle.ix_core.proofs.Kept.{all_on}
-use Rattle.ix_core.proofs.Entered.{reading_later}
 use Rattle.ix_core.proofs.SlotSteps.{read_meets, assign_keeps, read_keeps}
 use Rattle.ix_core.proofs.ArraySteps.{array_keeps, cell_keeps}
 use Rattle.ix_core.proofs.FieldSteps.{write_later, write_same, write_value, write_keeps}
@@ -30,7 +29,7 @@ use Rattle.ix_instance.specs.Facts.{Fact, NotNegative, Below, IsLength, Holds, h
 use Rattle.ix_instance.specs.Rules.{MayAssign, Step, constant, copy, load, read, store, write}
 use Rattle.ix_instance.specs.Rules as rules
 use Rattle.ix_instance.proofs.TypedArrays.{HoldsArray}
-use Rattle.ix_instance.proofs.Truths.{in_true, Stays, only_true, all_stay, claims_true, proves_true, low_same}
+use Rattle.ix_instance.proofs.Truths.{in_true, Stays, later_stays, only_true, all_stay, claims_true, proves_true, low_same}
 
 pub not_true : (b : Bool) → not b ≡ true → b ≡ false
 not_true false e = refl
@@ -56,7 +55,7 @@ module _ (world : World) (tables : IsWorld world) (lows : (field : ℕ) → AreL
   on = all_on world building method slots heap keeps frame
 
   slot_stays : (target : ℕ) (x : Held) → Stays world (off_slot target) slots heap (slice_set slots target x) heap
-  slot_stays target x = record { held = held; size = λ slot e. ap (size_of heap) (sym (value_other slots target slot x (not_true (slot == target) e))) }
+  slot_stays target x = record { held = held; size = λ path e. ap (size_of heap) (held path e) }
     where
       held : (path : Path) → off_slot target path ≡ true → held_at world slots heap path ≡ held_at world (slice_set slots target x) heap path
       held (Slot slot) e = sym (value_other slots target slot x (not_true (slot == target) e))
@@ -122,7 +121,7 @@ module _ (world : World) (tables : IsWorld world) (lows : (field : ℕ) → AreL
     through_same g apart Null = refl
 
     field_stays : Stays world (off_field field) slots heap slots heap_after
-    field_stays = record { held = held; size = λ slot e. ap (λ (r : Reading). r.size) (reading_later heap heap_after (value_at slots slot) later (on.held slot)) }
+    field_stays = later_stays world (off_field field) slots heap slots heap_after on later held
       where
         held : (path : Path) → off_field field path ≡ true → held_at world slots heap path ≡ held_at world slots heap_after path
         held (Slot slot) e = refl
@@ -184,7 +183,7 @@ module _ (world : World) (tables : IsWorld world) (lows : (field : ℕ) → AreL
     through_stored field Null = refl
 
     stored_stays : Stays world (λ path. true) slots heap slots stored_heap
-    stored_stays = record { held = held; size = λ slot e. ap (λ (r : Reading). r.size) (reading_later heap stored_heap (value_at slots slot) stored_keeps.later (on.held slot)) }
+    stored_stays = later_stays world (λ path. true) slots heap slots stored_heap on stored_keeps.later held
       where
         held : (path : Path) → true ≡ true → held_at world slots heap path ≡ held_at world slots stored_heap path
         held (Slot slot) e = refl
@@ -233,10 +232,7 @@ module _ (world : World) (tables : IsWorld world) (lows : (field : ℕ) → AreL
       through_grown field Null lt = refl
 
       grown_stays : Stays world (off_slot target) slots heap (slice_set slots target (At (length heap))) grown
-      grown_stays = record {
-        held = held;
-        size = λ slot e. ap (λ (r : Reading). r.size) (reading_later heap grown (value_at slots slot) made_keeps.later (on.held slot)) ∙ ap (size_of grown) (sym (value_other slots target slot (At (length heap)) (not_true (slot == target) e)));
-      }
+      grown_stays = later_stays world (off_slot target) slots heap (slice_set slots target (At (length heap))) grown on made_keeps.later held
         where
           held : (path : Path) → off_slot target path ≡ true → held_at world slots heap path ≡ held_at world (slice_set slots target (At (length heap))) grown path
           held (Slot slot) e = sym (value_other slots target slot (At (length heap)) (not_true (slot == target) e))
