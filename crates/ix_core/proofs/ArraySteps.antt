@@ -84,7 +84,7 @@ module _ (world : World) (building : ℕ → Type 0) (method : Method) (slots : 
     heap_keeps = array_heap;
     frame_keeps = free_set building method slots after (Some t) (Some (At (length heap))) (λ a e own. apart (subst (IsOwn method) (sym (some_number t a e)) own))
         (λ a e. (let l = long in omega (arith, l), λ is. let lt = keeps.bound (length heap) is in absurd (omega (arith, lt))))
-        (record { size = frame.size; this = frame.this; free = λ slot own. free_later building heap after (value_at slots slot) later (frame.free slot own) });
+        (record { size = frame.size; made = frame.made; this = frame.this; free = λ slot own. free_later building heap after (value_at slots slot) later (frame.free slot own) });
     inputs = λ slot is. by_test (slot == t) (λ e. absurd (other (subst (IsInput method) (equal slot t e) is))) (λ e. sym (value_other slots t slot (At (length heap)) e));
     fields = λ object field. inl (same object field);
   }
@@ -142,7 +142,7 @@ module _ (world : World) (building : ℕ → Type 0) (method : Method) (slots : 
       elements = at_kept nothing (λ k o. (place : ℕ) → place < length (array_cells o.kind o.cells) → MeetsElement (kind_claims o.kind) (value_at (array_cells o.kind o.cells) place)) heap number new new_elements keeps.elements;
       room = at_kept nothing (λ k o. (field place : ℕ) → place_in world.place o.kind field ≡ Some place → place < length o.cells) heap number new (λ field place e. no_field field place e) keeps.room;
     };
-    frame_keeps = record { size = frame.size; this = frame.this; free = λ slot own. free_later building heap written (value_at slots slot) written_later (frame.free slot own) };
+    frame_keeps = record { size = frame.size; made = frame.made; this = frame.this; free = λ slot own. free_later building heap written (value_at slots slot) written_later (frame.free slot own) };
     inputs = λ slot input. refl;
     fields = λ object field. inl (cell_same object field);
   }

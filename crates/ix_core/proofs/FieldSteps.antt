@@ -110,7 +110,7 @@ module _ (world : World) (tables : IsWorld world) (building : ℕ → Type 0) (m
             room = at_kept nothing (λ j th. (field place : ℕ) → place_in world.place th.kind field ≡ Some place → place < length th.cells) heap k new
                 (λ field place e. subst (λ n. place < n) (sym (length-set (object_at heap k).cells at x)) (keeps.room k field place e)) keeps.room;
           };
-          frame_keeps = record { size = frame.size; this = frame.this; free = λ slot other. free_later building heap after (value_at slots slot) later (frame.free slot other) };
+          frame_keeps = record { size = frame.size; made = frame.made; this = frame.this; free = λ slot other. free_later building heap after (value_at slots slot) later (frame.free slot other) };
           inputs = λ slot is. refl;
           fields = λ object g. ⊎_elim (λ same. inl same)
               (λ is. inr (record { through = o; at = holds ∙ ap At (sym is.0); may = subst (MayWrite world method o) (sym is.1) may }))

@@ -6,7 +6,13 @@ use Rattle.ix_core.specs.declared.fact.Profile.{Profile}
 use Rattle.ix_core.specs.declared.fact.Profile.TheVariants.{Ideal, Int32}
 use Rattle.ix_core.specs.declared.op.CallOp.{CallOp}
 use Rattle.ix_core.specs.declared.program.Program.{Program}
-use Rattle.ix_core.specs.Heap.{Held}
+use Rattle.ix_core.specs.Heap.{Held, Heap}
+use Rattle.ix_core.specs.declared.claim.Type_.{Type_}
+use Rattle.ix_core.specs.Formed.{is_formed}
+use Rattle.ix_core.specs.TypedStates.{StateTyped, NowTyped}
+use Rattle.ix_core.proofs.FormedParts.{locals_of}
+use Rattle.ix_core.proofs.TypedStarts.{start_typed}
+use Rattle.ix_core.proofs.TypedRuns.{step_typed}
 use Rattle.ix_core.specs.Machine.{Limits, State, Waiting, Move, Go, Wrap, Tell, Enter, Leave, Stop, Ending, CallKind, HeapFull, FrameFull, is_past, step, step_from, next_move, moved, resumed, called, entered, stopped, lacks_cells, result_of, callee_of}
 use Rattle.ix_core.specs.Safe.{Begins, Counts, Safe, start}
 use Rattle.ix_core.specs.Tasks.{Tasks}
@@ -51,13 +57,22 @@ module _ (limits : Limits) (tables : Tables) where
   uncounted Ideal state counts = wrapped_step state.ended state counts
   uncounted Int32 state counts = tt
 
-module _ (profile : Profile) (world : World) (know : Knowledge) (laws : Laws profile world know) where
-  pub good_next : (limits : Limits) (state : State) → Good world know profile state → Good world know profile (step limits (tables_in world) state)
-  good_next limits state (Uncounted past) = Uncounted (λ counts. past (uncounted limits (tables_in world) profile state counts))
-  good_next limits state (Runs is running) = step_good profile world know laws limits state running is
-  good_next limits state (Ends ending is fine) = Ends ending (ap (λ (s : State). s.ended) (ap (λ e. step_from limits (tables_in world) e state) is) ∙ is) fine
+module _ (profile : Profile) (world : World) (Typed : ℕ → Tasks → List Held → Heap → Type 0) (know : Knowledge) (laws : Laws profile world Typed know) where
+  pub good_next : (limits : Limits) (state : State) → Typed state.now.method state.now.tasks state.now.slots state.heap → Good world know profile state → Good world know profile (step limits (tables_in world) state)
+  good_next limits state typed (Uncounted past) = Uncounted (λ counts. past (uncounted limits (tables_in world) profile state counts))
+  good_next limits state typed (Runs is running) = step_good profile world Typed know laws limits state typed running is
+  good_next limits state typed (Ends ending is fine) = Ends ending (ap (λ (s : State). s.ended) (ap (λ e. step_from limits (tables_in world) e state) is) ∙ is) fine
 
-pub laws_are_safe : (program : Program) (know : Knowledge) (profile : Profile) → Laws profile (world_of program) know
-    → ((method : ℕ) (inputs : _) → Begins program method inputs → Good (world_of program) know profile (start program method inputs))
-    → Safe program profile
-laws_are_safe program know profile laws starts = good_is_safe program know profile starts (good_next profile (world_of program) know laws)
+module _ (program : Program) (locals : List (List Type_)) (formed : is_formed program locals ≡ true) where
+  -- the types of a method's locals
+  abbrev pub types_in : ℕ → List Type_
+  types_in number = locals_of program locals formed number
+
+  pub laws_are_safe : (know : Knowledge) (profile : Profile) → Laws profile (world_of program) (NowTyped program types_in) know
+      → ((method : ℕ) (inputs : _) → Begins program method inputs → Good (world_of program) know profile (start program method inputs))
+      → Safe program profile
+  laws_are_safe know profile laws starts =
+      good_is_safe program know profile (StateTyped program types_in)
+      (λ method inputs begins. (start_typed program locals formed method inputs begins, starts method inputs begins))
+      (λ limits state typed. step_typed program locals formed limits state typed)
+      (λ limits state typed good. good_next profile (world_of program) (NowTyped program types_in) know laws limits state (record { heap_typed = typed.heap; frame_typed = typed.now }) good)

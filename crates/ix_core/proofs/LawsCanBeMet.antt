@@ -77,12 +77,12 @@ shown profile limits building method (Head asked body next tasks) slots heap fin
 shown profile limits building method (Again asked body next tasks) slots heap fine = absurd fine
 shown profile limits building method (Out tasks) slots heap fine = absurd fine
 
-pub laws_met : (profile : Profile) → Laws profile no_world knows_nothing
-laws_met profile = record {
+pub laws_met : (profile : Profile) (Typed : ℕ → Tasks → List Held → Heap → Type 0) → Laws profile no_world Typed knows_nothing
+laws_met profile Typed = record {
   tables = tables;
   stands = λ class named. itself;
   body = λ method. tt;
   entry = λ method slots heap met on int fresh. tt;
-  step = λ limits building method tasks store slots heap keeps frame int holds fine. shown profile limits building method tasks slots heap fine;
-  after_call = λ caller named kind call store slots began heap value fits size on int holds since now is results claims. tt;
+  step = λ limits building method tasks store slots heap typed keeps frame int holds fine. shown profile limits building method tasks slots heap fine;
+  after_call = λ caller named kind call store slots began heap value fits size on int holds since now is given results claims. tt;
 }

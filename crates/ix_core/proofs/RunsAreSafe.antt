@@ -24,12 +24,13 @@ use Rattle.ix_core.specs.World.{World, world_of}
 use Rattle.ix_core.proofs.Entered.{true_same, slots_are, slots_length}
 use Rattle.ix_core.proofs.GoodStarts.{inputs_free, inputs_elements, inputs_arrays, IsInstance, values_free, values_read}
 use Rattle.ix_core.proofs.Kept.{all_on, start_keeps}
-use Rattle.ix_core.proofs.LawsAreSafe.{laws_are_safe}
+use Rattle.ix_core.specs.TypedStates.{NowTyped}
+use Rattle.ix_core.proofs.LawsAreSafe.{types_in, laws_are_safe}
 use Rattle.ix_core.proofs.Cases.{by_test}
 use Rattle.ix_core.proofs.TypedCalls.{method_has, params_count, not_static}
 use Rattle.ix_core.proofs.TypedStarts.{inputs_count, values_count}
 
-module _ (program : Program) (profile : Profile) (know : Knowledge) (laws : Laws profile (world_of program) know) where
+module _ (program : Program) where
   abbrev world : World
   world = world_of program
 
@@ -105,13 +106,14 @@ module _ (program : Program) (profile : Profile) (know : Knowledge) (laws : Laws
         let a = values_count program 0 inputs in
         let b = inputs_count program inputs found.param_types have in record {
           size = slots_length found.slots (input_values 0 inputs) (omega (arith, a, b, params, room));
+          made = λ c. absurd (false≢true (sym plain ∙ c));
           this = λ c object at. absurd (false≢true (sym plain ∙ c));
           free = λ slot other. subst (IsFree (λ object. ⊥) heap) (sym (slots_are found.slots (input_values 0 inputs) slot)) (values_free inputs found.param_types have slot);
         }
 
 -- Of a formed program: from the laws alone.
-pub formed_is_safe : (program : Program) (locals : List (List Type_)) → is_formed program locals ≡ true → (profile : Profile) (know : Knowledge) → Laws profile (world_of program) know → Safe program profile
-formed_is_safe program locals formed profile know laws = laws_are_safe program know profile laws starts
+pub formed_is_safe : (program : Program) (locals : List (List Type_)) (formed : is_formed program locals ≡ true) → (profile : Profile) (know : Knowledge) → Laws profile (world_of program) (NowTyped program (types_in program locals formed)) know → Safe program profile
+formed_is_safe program locals formed profile know laws = laws_are_safe program locals formed know profile laws starts
   where
     starts : (method : ℕ) (inputs : List Input) → Begins program method inputs → Good (world_of program) know profile (start program method inputs)
     starts method inputs begins =
@@ -127,8 +129,8 @@ formed_is_safe program locals formed profile know laws = laws_are_safe program k
         let within : param_slots here ≤ here.slots = (let h = parts.room in grind (arith, nat_tests)) in
         let room : length here.params ≤ here.slots = omega (arith, all, within) in
         let plain : here.constructor ≡ false = by_test here.constructor (λ c. absurd (false≢true (sym (not_static program locals formed method lt c) ∙ static))) (λ c. c) in
-        let heap_fits = heap_keeps program profile know laws method inputs here refl static have meets params room in
-        let frame_fits = frame_keeps program profile know laws method inputs here refl static have meets params room plain in
+        let heap_fits = heap_keeps program method inputs here refl static have meets params room in
+        let frame_fits = frame_keeps program method inputs here refl static have meets params room plain in
         let ints = start_keeps here.slots inputs here.param_types have in
         Runs refl (record {
           building = λ object. ⊥;
@@ -136,9 +138,9 @@ formed_is_safe program locals formed profile know laws = laws_are_safe program k
           frame_keeps = frame_fits;
           ints = ints;
           store = know.entry method;
-          holds = laws.entry method (slots_with here.slots (input_values 0 inputs)) (input_heap inputs here.param_types) (params_met program profile know laws method inputs here refl static have meets params room)
+          holds = laws.entry method (slots_with here.slots (input_values 0 inputs)) (input_heap inputs here.param_types) (params_met program method inputs here refl static have meets params room)
               (all_on (world_of program) (λ object. ⊥) here (slots_with here.slots (input_values 0 inputs)) (input_heap inputs here.param_types) heap_fits frame_fits) ints
-              (λ c object at. absurd (false≢true (sym plain ∙ c)));
+              (λ c. absurd (false≢true (sym plain ∙ c)));
           fine = laws.body method;
           waits = tt;
         })

@@ -26,12 +26,12 @@ use Rattle.ix_core.specs.Safe.{Counts, IsBad}
 use Rattle.ix_core.specs.Tasks.{Tasks, Empty, code_then}
 use Rattle.ix_core.specs.Waits.{Knowledge, AreNotOwn, FitsKind, FitsCall, MeetParams, param_readings, reading_through, Since, Stays, Reason, NoEffect, Final, Hidden, Constructs, Makes, is_super, AreFresh, Running, Uncounted, Runs, Ends}
 use Rattle.ix_core.specs.Waits as waits
-use Rattle.ix_core.specs.Analysis.{Stands, Laws, Shows, Calls, Leaves, Behind, Results, IsFreeIf, IsIntIf}
+use Rattle.ix_core.specs.Analysis.{Stands, Laws, Shows, Calls, Leaves, Behind, Results, IsFreeIf, IsIntIf, FillsTarget}
 use Rattle.ix_core.specs.Tables.{param_slot, param_slots, default_result, routine_of, body_of}
 use Rattle.ix_core.specs.World.{World, tables_in}
 use Rattle.ix_core.proofs.Heaps.{grown_new, value_other, value_set, set_keeps}
 use Rattle.ix_core.proofs.Kept.{all_on}
-use Rattle.ix_core.proofs.Waiting.{free_grows, later_refl, later_push, without, free_without, as_it_is, Grows, waits_kept, waits_grow, waits_built, frame_grows, frame_without, suspended}
+use Rattle.ix_core.proofs.Waiting.{super_parts, free_grows, later_refl, later_push, without, free_without, as_it_is, Grows, waits_kept, waits_grow, waits_built, frame_grows, frame_without, suspended}
 use Rattle.ix_core.proofs.Entered.{none_some, slots_are, slots_length, values_length, args_each, first_and, params_same, new_keeps, new_ints, new_fresh, new_same, new_old, with_new, grown, new_object}
 use Rattle.ix_core.proofs.Cases.{by_test, equal, differ}
 
@@ -101,12 +101,25 @@ result_int method slots heap returned ints_ =
     let e : result_of (routine_of method) slots returned ≡ option_map (λ value. returned_or value slots returned) (default_result method.result) = rw c refl in
     subst IsIntIf (sym e) (given_int (default_result method.result) slots returned (default_int method.result) ints_.held))
 
+-- what a method ends with that is no constructor: a value where its result's type has a default
+result_given : (named ends : Method) (target : ℕ) (slots : List Held) (returned : Option ℕ) → ends.constructor ≡ false → named.result ≡ ends.result
+    → FillsTarget (result_of (routine_of ends) slots returned) (option_map (λ default. target) (default_result named.result))
+result_given named ends target slots returned plain same =
+    let e : result_of (routine_of ends) slots returned ≡ option_map (λ value. returned_or value slots returned) (default_result ends.result) = rw plain refl in
+    subst (λ value. FillsTarget value (option_map (λ default. target) (default_result named.result))) (sym e)
+    (subst (λ ty. FillsTarget (option_map (λ value. returned_or value slots returned) (default_result ends.result)) (option_map (λ default. target) (default_result ty))) (sym same) (both (default_result ends.result)))
+  where
+    both : (default : Option Held) → FillsTarget (option_map (λ value. returned_or value slots returned) default) (option_map (λ of. target) default)
+    both None = tt
+    both (Some value) = tt
+
 pub free_set : (building : ℕ → Type 0) (method : Method) (slots : List Held) (heap : Heap) (target : Option ℕ) (value : Option Held) → ((at : ℕ) → target ≡ Some at → IsOwn method at → ⊥) → ((at : ℕ) → target ≡ Some at → IsFreeIf building heap value)
     → FrameKeeps building method slots heap → FrameKeeps building method (set_target target value slots) heap
 free_set building method slots heap None value inner free frame = frame
 free_set building method slots heap (Some t) None inner free frame = frame
 free_set building method slots heap (Some t) (Some x) inner free frame = record {
   size = length-set slots t x ∙ frame.size;
+  made = λ c. ((frame.made c).0, by_test (0 == t) (λ e. absurd (inner t refl (c, sym (equal 0 t e)))) (λ e. value_other slots t 0 x e ∙ (frame.made c).1));
   this = λ c object at.
       by_test (0 == t)
       (λ e. absurd (inner t refl (c, sym (equal 0 t e))))
@@ -137,7 +150,7 @@ true_not_false e = false≢true (sym e)
 some_same : (a b : ℕ) → ◌≡◌ {A = Option ℕ} (Some a) (Some b) → a ≡ b
 some_same a b e = ap (λ (o : Option ℕ). unwrap_or o 0) e
 
-module _ (profile : Profile) (world : World) (know : Knowledge) (laws : Laws profile world know) where
+module _ (profile : Profile) (world : World) (Typed : ℕ → Tasks → List Held → Heap → Type 0) (know : Knowledge) (laws : Laws profile world Typed know) where
   abbrev Waits : List Waiting → Frame → (ℕ → ℕ → Type 0) → (ℕ → Type 0) → Heap → Type 0
   Waits below callee above building heap = waits.Waits world know below callee above building heap
 
@@ -255,6 +268,7 @@ module _ (profile : Profile) (world : World) (know : Knowledge) (laws : Laws pro
       pub free : (k : ℕ) → (IsOwn (world.methods m) k → ⊥) → IsFree building after (value_at values k)
       pub held : (k : ℕ) → IsIntHeld (value_at values k)
       pub makes : Makes world kind values state.now.slots state.heap after
+      pub made : (world.methods m).constructor ≡ true → (object : ℕ) × (value_at values 0 ≡ At object)
       -- a constructor's object is new, or the caller's own
       pub this : (world.methods m).constructor ≡ true → (object : ℕ) → value_at values 0 ≡ At object → building object × AreFresh world after object (world.methods m).class
           × (((is_super kind ≡ false) × (length state.heap ≤ object)) ⊎ ((is_super kind ≡ true) × Constructs world state.now object caller.class × (world.parent caller.class ≡ Some (world.methods m).class)))
@@ -286,6 +300,7 @@ module _ (profile : Profile) (world : World) (know : Knowledge) (laws : Laws pro
         } in
         let frame_keeps : FrameKeeps e.building new slots after = record {
           size = slots_length new.slots values (let x = e.fits.room in omega (arith, count, x));
+          made = λ c. ((e.made c).0, are 0 ∙ (e.made c).1);
           this = λ c object at. (e.this c object (sym (are 0) ∙ at)).0;
           free = λ slot other. subst (IsFree e.building after) (sym (are slot)) (e.free slot other);
         } in
@@ -296,7 +311,7 @@ module _ (profile : Profile) (world : World) (know : Knowledge) (laws : Laws pro
           ints = new_ints_;
           store = know.entry m;
           holds = laws.entry m slots after (params_same world new values slots after (λ k. sym (are k)) (e.demands good.met)) (all_on world e.building new slots after e.heap_keeps frame_keeps) new_ints_
-              (λ c object at. (e.this c object (sym (are 0) ∙ at)).1);
+              (λ c. ((e.made c).0, are 0 ∙ (e.made c).1, (e.this c (e.made c).0 (e.made c).1).1));
           fine = laws.body m;
           waits = (
             record {
@@ -362,6 +377,7 @@ module _ (profile : Profile) (world : World) (know : Knowledge) (laws : Laws pro
             (λ slot apart. free_grows r.building bl heap after (value_at state.now.slots slot) later (new_old world laws.tables r.building heap class) (r.frame_keeps.free slot apart)) k);
         held = first_and (λ k x. IsIntHeld x) (At (length heap)) _ tt (λ k. args_int state.now.slots heap (world.methods state.now.method) call.args good.fits.hidden r.ints k);
         makes = (refl, later_refl after);
+        made = λ c. (length state.heap, refl);
         this = λ c object at.
             let is : length heap ≡ object = number_at at in
             (inr (sym is), subst (λ k. AreFresh world after object k) (sym good.fits.kinds.1) (subst (λ o. AreFresh world after o class) is (new_fresh world laws.tables r.building heap class)), inl (refl, omega (arith, is)));
@@ -382,6 +398,7 @@ module _ (profile : Profile) (world : World) (know : Knowledge) (laws : Laws pro
     free = λ k other. args_each (world.methods state.now.method) (IsFree r.building state.heap) state.now.slots call.args good.fits.hidden tt r.frame_keeps.free k;
     held = λ k. args_int state.now.slots state.heap (world.methods state.now.method) call.args good.fits.hidden r.ints k;
     makes = tt;
+    made = λ c. absurd (false≢true (sym good.fits.kinds ∙ c));
     this = λ c object at. absurd (false≢true (sym good.fits.kinds ∙ c));
   }
 
@@ -406,6 +423,7 @@ module _ (profile : Profile) (world : World) (know : Knowledge) (laws : Laws pro
           count = good.fits.count ∙ as_many;
           room = stands.slots;
           effect = λ q. stands.effect (good.fits.effect q);
+          within = good.fits.within;
           target = good.fits.target;
         };
         demands = stands.demands (call_values Instance call (length state.heap) state.now.slots) state.heap;
@@ -414,6 +432,7 @@ module _ (profile : Profile) (world : World) (know : Knowledge) (laws : Laws pro
         held = first_and (λ k x. IsIntHeld x) (value_at state.now.slots (receiver_slot call.receiver)) _ (r.ints.held (receiver_slot call.receiver))
             (λ k. args_int state.now.slots state.heap (world.methods state.now.method) call.args good.fits.hidden r.ints k);
         makes = tt;
+        made = λ c. absurd (false≢true (sym (stands.plain good.fits.kinds.0) ∙ c));
         this = λ c object at. absurd (false≢true (sym (stands.plain good.fits.kinds.0) ∙ c));
       }
 
@@ -438,6 +457,7 @@ module _ (profile : Profile) (world : World) (know : Knowledge) (laws : Laws pro
         held = first_and (λ k x. IsIntHeld x) (value_at state.now.slots (receiver_slot call.receiver)) _ (r.ints.held (receiver_slot call.receiver))
             (λ k. args_int state.now.slots state.heap caller call.args good.fits.hidden r.ints k);
         makes = this_is;
+        made = λ c. ((r.frame_keeps.made fits.0).0, this_is ∙ (r.frame_keeps.made fits.0).1);
         this = λ c object at.
             let here : value_at state.now.slots 0 ≡ At object = sym this_is ∙ at in (
               r.frame_keeps.this fits.0 object here,
@@ -471,13 +491,13 @@ module _ (profile : Profile) (world : World) (know : Knowledge) (laws : Laws pro
     weaker slot field effect (Hidden own) = Hidden own
 
     leave_with : (more : ℕ → Type 0) (value : Option Held) → HeapKeeps world more state.heap → FrameKeeps more waiter w.frame.slots state.heap
-        → ((at : ℕ) → w.target ≡ Some at → IsFreeIf more state.heap value) → IsIntIf value
+        → ((at : ℕ) → w.target ≡ Some at → IsFreeIf more state.heap value) → IsIntIf value → FillsTarget value (target_of (tables_in world) all.0.kind all.0.call)
         → Results world named given state.heap value
         → (named.effect_free ≡ true → ends.effect_free ≡ true) → (is_super all.0.kind ≡ true → named ≡ ends)
         → (is_super all.0.kind ≡ true → (object : ℕ) → value_at w.frame.slots 0 ≡ At object → (field : ℕ) → HasField world (ObjectOf named.class) field → MeetsField world state.heap object field)
         → Waits below w.frame Over more state.heap
         → Running world know (resumed value state (w ∷ below))
-    leave_with more value heap_keeps frame_keeps free is_int results effect same_class claims rest =
+    leave_with more value heap_keeps frame_keeps free is_int is_given results effect same_class claims rest =
         let wait = all.0 in
         let no_in : (at : ℕ) → w.target ≡ Some at → IsInput waiter at → ⊥ = λ at e. wait.fits.target at (sym wait.target ∙ e) in
         let slots : List Held = set_target w.target value w.frame.slots in
@@ -499,7 +519,8 @@ module _ (profile : Profile) (world : World) (know : Knowledge) (laws : Laws pro
                       reason = weaker slot field effect stays.reason;
                     });
               })
-              ints_now is_int results (λ s object at. (wait.untouched s object at, claims s object at)));
+              ints_now is_int is_given results
+              (λ s. let made = wait.frame_keeps.made (super_parts world wait.kind waiter ends wait.call wait.fits.kinds s).0 in (made.0, made.1, wait.untouched s made.0 made.1, claims s made.0 made.1)));
           fine = wait.fine;
           waits = with_callee more state.heap heap_keeps.bound below w.frame w.frame.tasks slots Over (Constructs world (frame w.frame.method w.frame.tasks slots)) same
               (λ object class is. inr (same_object w.frame w.frame.tasks slots same object class is)) rest;
@@ -538,7 +559,7 @@ module _ (profile : Profile) (world : World) (know : Knowledge) (laws : Laws pro
         leave_with (without building n) (Some (value_at state.now.slots 0)) heap_keeps
         (frame_without world know building n waiter w.frame.slots heap (λ c at. not_gone waiter.class (record { constructor = c; this = at; of = refl })) wait.frame_keeps)
         (λ at to. subst (IsFree (without building n) heap) (sym this) (kept.on, λ is. is.1 refl))
-        (int.held 0)
+        (int.held 0) tt
         (subst (λ (x : Method). AreTrue x.result_claims (reading_of heap (value_at state.now.slots 0)) (param_readings world x given heap)) (sym same)
         (subst (λ claims. AreTrue claims (reading_of heap (value_at state.now.slots 0)) (param_readings world ends given heap)) (sym (laws.tables.no_result state.now.method fits.0)) tt))
         (λ q. subst (λ (x : Method). x.effect_free ≡ true) same q)
@@ -565,13 +586,13 @@ module _ (profile : Profile) (world : World) (know : Knowledge) (laws : Laws pro
     results_of (Some x) is stands = stands x (result_named x all.0.inputs is)
 
     -- a method ends
-    leave_plain : (kind : CallKind) (value : Option Held) → all.0.kind ≡ kind → is_super kind ≡ false → ends.constructor ≡ false → IsIntIf value
+    leave_plain : (kind : CallKind) (value : Option Held) → all.0.kind ≡ kind → is_super kind ≡ false → ends.constructor ≡ false → IsIntIf value → FillsTarget value (target_of (tables_in world) kind all.0.call)
         → ((x : Held) → AreTrue ends.result_claims (reading_of state.heap x) (param_readings world ends given state.heap) → AreTrue named.result_claims (reading_of state.heap x) (param_readings world named given state.heap))
         → (named.effect_free ≡ true → ends.effect_free ≡ true)
         → Leaves profile world know building ends state.now.slots state.heap value
         → Running world know (resumed value state (w ∷ below))
-    leave_plain kind value e isnt plain is_int stands effect leaving =
-        leave_with building value keeps all.0.frame_keeps (λ at to. leaving.free plain) is_int (results_of value (leaving.results plain) stands)
+    leave_plain kind value e isnt plain is_int is_given stands effect leaving =
+        leave_with building value keeps all.0.frame_keeps (λ at to. leaving.free plain) is_int (subst (λ k. FillsTarget value (target_of (tables_in world) k all.0.call)) (sym e) is_given) (results_of value (leaving.results plain) stands)
         effect (λ s. not_super kind e isnt s) (λ s. not_super kind e isnt s)
         all.1
 
@@ -585,7 +606,7 @@ module _ (profile : Profile) (world : World) (know : Knowledge) (laws : Laws pro
         let none : w.target ≡ None = wait.target ∙ ap (λ k. target_of (tables_in world) k wait.call) e in
         leave_with building (Some (value_at state.now.slots 0)) keeps wait.frame_keeps
         (λ at to. none_some at (sym none ∙ to))
-        (int.held 0)
+        (int.held 0) tt
         (subst (λ (x : Method). AreTrue x.result_claims (reading_of heap (value_at state.now.slots 0)) (param_readings world x given heap)) (sym same)
         (subst (λ claims. AreTrue claims (reading_of heap (value_at state.now.slots 0)) (param_readings world ends given heap)) (sym (laws.tables.no_result state.now.method fits.1)) tt))
         (λ q. subst (λ (x : Method). x.effect_free ≡ true) same q)
@@ -611,7 +632,7 @@ module _ (profile : Profile) (world : World) (know : Knowledge) (laws : Laws pro
         → Running world know (resumed (result returned) state (w ∷ below))
     leave_by Static returned e fits runs met inputs makes leaving =
         let same : named ≡ ends = ap world.methods (some_same all.0.call.method state.now.method runs) in
-        (leave_plain Static (result returned) e refl fits (is_int_result returned) (λ x is. subst (λ (m : Method). AreTrue m.result_claims (reading_of state.heap x) (param_readings world m given state.heap)) (sym same) is)
+        (leave_plain Static (result returned) e refl fits (is_int_result returned) (result_given named ends all.0.call.target state.now.slots returned fits (ap (λ (m : Method). m.result) same)) (λ x is. subst (λ (m : Method). AreTrue m.result_claims (reading_of state.heap x) (param_readings world m given state.heap)) (sym same) is)
         (λ q. subst (λ (m : Method). m.effect_free ≡ true) same q) leaving)
     leave_by Instance returned e fits runs met inputs makes leaving =
         let wait = all.0 in
@@ -621,7 +642,7 @@ module _ (profile : Profile) (world : World) (know : Knowledge) (laws : Laws pro
         let on : (k : ℕ) → IsOn wait.began (value_at (call_values Instance wait.call (length wait.began) w.frame.slots) k)
         = first_and (λ k x. IsOn wait.began x) (value_at w.frame.slots (receiver_slot wait.call.receiver)) _ (wait.all_on.held (receiver_slot wait.call.receiver))
         (args_each waiter (IsOn wait.began) w.frame.slots wait.call.args wait.fits.hidden tt (λ slot other. wait.all_on.held slot)) in
-        (leave_plain Instance (result returned) e refl fits.0 (is_int_result returned)
+        (leave_plain Instance (result returned) e refl fits.0 (is_int_result returned) (result_given named ends all.0.call.target state.now.slots returned fits.0 stands.result)
         (λ x is. subst (λ values. AreTrue named.result_claims (reading_of state.heap x) (param_readings world named values state.heap)) is_given
         (stands.promises (call_values Instance wait.call (length wait.began) w.frame.slots) wait.began state.heap x on wait.since.later
         (λ q object field lt. wait.quiet q (ap is_super e) object field lt) met
@@ -704,8 +725,8 @@ module _ (profile : Profile) (world : World) (know : Knowledge) (laws : Laws pro
     good_moved state r runs (Stop ending) shown = Ends ending refl shown
 
     -- A step of a state that runs gives one that runs, or an outcome that isn't bad, or one that the profile doesn't count.
-    pub step_good : (state : State) → Running world know state → state.ended ≡ None → IsGood (step limits (tables_in world) state)
-    step_good state r runs =
+    pub step_good : (state : State) → Typed state.now.method state.now.tasks state.now.slots state.heap → Running world know state → state.ended ≡ None → IsGood (step limits (tables_in world) state)
+    step_good state typed r runs =
         subst (λ e. IsGood (step_from limits (tables_in world) e state)) (sym runs)
         (good_moved state r runs (next_move limits (tables_in world) state)
-        (laws.step limits r.building state.now.method state.now.tasks r.store state.now.slots state.heap r.heap_keeps r.frame_keeps r.ints r.holds r.fine))
+        (laws.step limits r.building state.now.method state.now.tasks r.store state.now.slots state.heap typed r.heap_keeps r.frame_keeps r.ints r.holds r.fine))

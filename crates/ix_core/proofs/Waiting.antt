@@ -195,7 +195,7 @@ module _ (world : World) (know : Knowledge) where
           ⊎_elim (λ le. absurd (omega (arith, le, lt))) (λ x. false≢true (sym s ∙ x.0)) (wait.fresh q object (world.methods now.method).class (high object field wrote (wrote.may.quiet (effect q))))
 
     pub frame_later : (method : Method) (slots : List Held) (after : Heap) → Later heap after → FrameKeeps building method slots heap → FrameKeeps building method slots after
-    frame_later method slots after later frame = record { size = frame.size; this = frame.this; free = λ slot other. free_later building heap after (value_at slots slot) later (frame.free slot other) }
+    frame_later method slots after later frame = record { size = frame.size; made = frame.made; this = frame.this; free = λ slot other. free_later building heap after (value_at slots slot) later (frame.free slot other) }
 
     pub waits_kept : (slots : List Held) (after : Heap) → StepKeeps world building (world.methods now.method) now.slots heap slots after → (below : List Waiting) (callee : Frame) (above : ℕ → ℕ → Type 0)
         → ((world.methods callee.method).effect_free ≡ true → (world.methods now.method).effect_free ≡ true) → ((object class : ℕ) → Constructs world now object class → above object class)
@@ -224,6 +224,7 @@ module _ (world : World) (know : Knowledge) where
       → FrameKeeps building method slots heap → FrameKeeps more method slots after
   frame_grows building more above over heap after grows method slots frame = record {
     size = frame.size;
+    made = frame.made;
     this = λ c object at. grows.still object (frame.this c object at);
     free = λ slot other. free_grows building more heap after (value_at slots slot) grows.later grows.old (frame.free slot other);
   }
@@ -259,6 +260,7 @@ module _ (world : World) (know : Knowledge) where
       → FrameKeeps building method slots heap → FrameKeeps (without building gone) method slots heap
   frame_without building gone method slots heap not_gone frame = record {
     size = frame.size;
+    made = frame.made;
     this = λ c object at. (frame.this c object at, λ e. not_gone c (at ∙ ap At e));
     free = λ slot other. free_without building gone heap (value_at slots slot) (frame.free slot other);
   }

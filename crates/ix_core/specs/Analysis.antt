@@ -97,6 +97,14 @@ module _ (profile : Profile) (world : World) (know : Knowledge) where
   Shows building method slots heap (Leave returned) = Leaves building (world.methods method) slots heap (result_of (routine_of (world.methods method)) slots returned)
   Shows building method slots heap (Stop ending) = IsBad (Some ending) → ⊥
 
+-- Where a call has a target, its method ended with a value.
+abbrev pub FillsTarget : Option Held → Option ℕ → Type 0
+FillsTarget (Some value) target = Unit {0}
+FillsTarget None None = Unit {0}
+FillsTarget None (Some target) = ⊥
+
+-- `Typed` is what types say of the frame that runs: of its method, tasks and slots, and of the heap.
+module _ (profile : Profile) (world : World) (Typed : ℕ → Tasks → List Held → Heap → Type 0) (know : Knowledge) where
   -- The laws.
   pub record Laws : Type 1 where
     pub tables : IsWorld world
@@ -106,20 +114,19 @@ module _ (profile : Profile) (world : World) (know : Knowledge) where
     pub body : (method : ℕ) → know.Fine method (code_then (body_of (world.methods method)) Empty) (know.entry method)
     -- what the claims of a method's parameters say, the store at its entry may say; of a constructor's object also that its fields count as 0
     pub entry : (method : ℕ) (slots : List Held) (heap : Heap) → MeetParams world (world.methods method) slots heap → AllOn slots heap → KeepsInts slots heap
-        → ((world.methods method).constructor ≡ true → (object : ℕ) → value_at slots 0 ≡ At object → AreFresh world heap object (world.methods method).class)
+        → ((world.methods method).constructor ≡ true → (object : ℕ) × (value_at slots 0 ≡ At object) × AreFresh world heap object (world.methods method).class)
         → know.Holds (know.entry method) slots heap
     -- a step of a frame that has no error
     pub step : (limits : Limits) (building : ℕ → Type 0) (method : ℕ) (tasks : Tasks) (store : know.Store) (slots : List Held) (heap : Heap)
-        → HeapKeeps world building heap → FrameKeeps building (world.methods method) slots heap → KeepsInts slots heap
+        → Typed method tasks slots heap → HeapKeeps world building heap → FrameKeeps building (world.methods method) slots heap → KeepsInts slots heap
         → know.Holds store slots heap → know.Fine method tasks store
-        → Shows building method slots heap (step_tasks limits (tables_in world) slots heap tasks)
+        → Shows profile world know building method slots heap (step_tasks limits (tables_in world) slots heap tasks)
     -- A call's return: what stayed stayed, and the named method's result claims are true of its value. After `super` the claims of the parent's fields hold.
     pub after_call : (caller named : Method) (kind : CallKind) (call : CallOp) (store : know.Store) (slots : List Held) (began heap : Heap) (value : Option Held)
         → FitsCall world caller named kind call → length slots ≡ caller.slots → AllOn slots began → KeepsInts slots began
         → know.Holds store slots began
         → Since world caller named kind slots began heap
-        → KeepsInts slots heap → IsIntIf value
+        → KeepsInts slots heap → IsIntIf value → FillsTarget value (target_of (tables_in world) kind call)
         → Results world named (call_values kind call (length began) slots) heap value
-        → (is_super kind ≡ true → (object : ℕ) → value_at slots 0 ≡ At object
-        → AreFresh world began object caller.class × ((field : ℕ) → HasField world (ObjectOf named.class) field → MeetsField world heap object field))
+        → (is_super kind ≡ true → (object : ℕ) × (value_at slots 0 ≡ At object) × AreFresh world began object caller.class × ((field : ℕ) → HasField world (ObjectOf named.class) field → MeetsField world heap object field))
         → know.Holds (know.after_call caller named kind call store) (set_target (target_of (tables_in world) kind call) value slots) heap

@@ -7,7 +7,7 @@ use Rattle.ix_core.specs.declared.program.Program.{Program}
 use Rattle.ix_core.specs.Code.{Code, Condition}
 use Rattle.ix_core.specs.Formed.{code_ways, condition_ways, operand_fits, reads}
 use Rattle.ix_core.specs.Heap.{Held, Heap, value_at}
-use Rattle.ix_core.specs.Machine.{Frame, Waiting, State}
+use Rattle.ix_core.specs.Machine.{Frame, Waiting, State, frame}
 use Rattle.ix_core.specs.Tables.{method_at}
 use Rattle.ix_core.specs.Tasks.{Tasks, Empty, Run, Ask, Decide, DecideTruth, Head, Again, Out, followed_by, behind_loop, next_turn}
 use Rattle.ix_core.specs.Typed.{IsOfType, HeapTyped, SlotsTyped}
@@ -107,3 +107,8 @@ module _ (program : Program) (locals : ℕ → List Type_) where
     pub heap : HeapTyped program state.heap
     pub now : FrameTyped state.now state.heap
     pub below : WaitsTyped state.below state.now.method state.heap
+
+  -- what types say of the frame that runs
+  pub record NowTyped (method : ℕ) (tasks : Tasks) (slots : List Held) (heap : Heap) : Type 0 where
+    pub heap_typed : HeapTyped program heap
+    pub frame_typed : FrameTyped (frame method tasks slots) heap

@@ -7,4 +7,4 @@ use Rattle.ix_instance.specs.Counter.{counter}
 
 pub counter_formed : Formed counter
 unfolding hidden-the_row-Item-0 hidden-the_row-Cond-1 denote.Hole.Carrier.hidden
-counter_formed = (([] ∷ [] ∷ (object 0 ∷ []) ∷ [] ∷ [] ∷ []), refl)
+counter_formed = (([] ∷ [] ∷ (object 2 ∷ []) ∷ [] ∷ [] ∷ [] ∷ []), refl)

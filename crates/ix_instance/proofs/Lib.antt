@@ -1,3 +1,4 @@
+mod TypedArrays
 mod Truths
 mod StepsKeep
 mod FrameMoves
@@ -6,5 +7,3 @@ mod CounterFormed
 mod CounterRows
 mod CounterFine
 mod CounterLaws
-mod ValuelessReturn
-mod StoresAreLost

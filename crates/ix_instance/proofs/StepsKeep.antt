@@ -1,29 +1,35 @@
 -- Each operation's rule keeps what a step of a frame has to keep, and its facts are true behind it.
-use Rattle.std.specs.Prelude.{◌≡◌, ◌⊎◌, ℕ, ◌==◌, ◌≤ℤ◌, ◌<ℤ◌, ℤ, pos, unsigned_abs, Bool, true, false, not, List, ◌∷◌, length, slice_set, Option, Some, None, refl}
+use Rattle.std.specs.Prelude.{◌≡◌, ◌⊎◌, ℕ, zero, suc, ◌+◌, ◌<◌, ◌==◌, nat_lt, ◌≤ℤ◌, ◌<ℤ◌, ℤ, pos, negsuc, unsigned_abs, Bool, true, false, not, if◌then◌else◌, List, [], ◌∷◌, ◌++◌, length, replicate, slice_set, Option, Some, None, refl}
 use Rattle.std.proofs.Common.{arith, sym, ap, ◌∙◌, subst, ⊎_elim}
 use Rattle.std.proofs.lemmas.Bool.{false≢true}
 use Rattle.std.proofs.lemmas.Bool.Decides.{nat_tests}
 use Rattle.std.proofs.lemmas.Int.{ints}
+use Rattle.ix_core.specs.declared.claim.Base.{Base}
+use Rattle.ix_core.specs.declared.claim.Base.TheVariants as base
+use Rattle.ix_core.specs.declared.claim.Claim.{Claim}
+use Rattle.ix_core.specs.declared.claim.Type_.{Type_}
+use Rattle.ix_core.specs.declared.claim.Type_.TheVariants as type
 use Rattle.ix_core.specs.declared.fact.Path.{Path}
 use Rattle.ix_core.specs.declared.fact.Path.TheVariants.{Slot, FieldOf}
 use Rattle.ix_core.specs.declared.op.OpKind.{OpKind}
 use Rattle.ix_core.specs.declared.program.Method.{Method}
 use Rattle.ix_core.specs.Analysis.{IsWorld}
-use Rattle.ix_core.specs.Heap.{Held, Num, Boolean, Null, At, Heap, Kind, ObjectOf, ArrayOf, Reading, array_cells, cell_of, value_at, object_at, array_at, place_in, field_value, is_within, int_of, size_of, write_at}
-use Rattle.ix_core.specs.Machine.{Limits, Effect, Done, Stopped, Wrapped, Printed, Called, operate, through, at_place, at_index, int_at}
-use Rattle.ix_core.specs.Objects.{AllOn, Later, IsSame, HasField, MeetsField, MeetsFields, field_readings, IsFree, HeapKeeps, FrameKeeps, IsOwn, MayWrite, StepKeeps}
-use Rattle.ix_core.specs.Safe.{IsBad}
+use Rattle.ix_core.specs.Heap.{Held, Num, Boolean, Null, At, Heap, Kind, ObjectOf, ArrayOf, Object, cell_default, default_of_base, cells_used, with_cells, array_cells, cell_of, value_at, object_at, array_at, place_in, field_value, is_within, int_of, size_of, write_at}
+use Rattle.ix_core.specs.Machine.{Limits, HeapFull, new_array, is_past, Effect, Done, Stopped, Wrapped, Printed, Called, operate, through, at_place, at_index, int_at}
+use Rattle.ix_core.specs.Objects.{IsOn, MeetsElement, AllOn, Later, IsSame, HasField, MeetsField, MeetsFields, field_readings, IsFree, HeapKeeps, FrameKeeps, IsOwn, MayWrite, StepKeeps}
+use Rattle.ix_core.specs.Safe.{IsBad, element_claims}
 use Rattle.ix_core.specs.World.{World, tables_in}
 use Rattle.ix_core.proofs.Cases.{by_test, equal, differ}
-use Rattle.ix_core.proofs.Heaps.{value_set, value_other}
+use Rattle.ix_core.proofs.Heaps.{value_set, value_other, object_set, object_other, grown_old}
 use Rattle.ix_core.proofs.Kept.{all_on}
-use Rattle.ix_core.proofs.Entered.{reading_later}
 use Rattle.ix_core.proofs.SlotSteps.{read_meets, assign_keeps, read_keeps}
+use Rattle.ix_core.proofs.ArraySteps.{array_keeps, cell_keeps}
 use Rattle.ix_core.proofs.FieldSteps.{write_later, write_same, write_value, write_keeps}
 use Rattle.ix_instance.specs.Facts.{Fact, NotNegative, Below, IsLength, Holds, held_through, held_at, AllTrue, only, off_slot, off_field, AreLow, Proves, with_claims}
-use Rattle.ix_instance.specs.Rules.{MayAssign, Step, constant, copy, load, read, write}
+use Rattle.ix_instance.specs.Rules.{MayAssign, Step, constant, copy, load, read, store, write}
 use Rattle.ix_instance.specs.Rules as rules
-use Rattle.ix_instance.proofs.Truths.{in_true, Stays, only_true, claims_true, proves_true, low_same}
+use Rattle.ix_instance.proofs.TypedArrays.{HoldsArray}
+use Rattle.ix_instance.proofs.Truths.{in_true, Stays, later_stays, only_true, all_stay, claims_true, proves_true, low_same}
 
 pub not_true : (b : Bool) → not b ≡ true → b ≡ false
 not_true false e = refl
@@ -49,7 +55,7 @@ module _ (world : World) (tables : IsWorld world) (lows : (field : ℕ) → AreL
   on = all_on world building method slots heap keeps frame
 
   slot_stays : (target : ℕ) (x : Held) → Stays world (off_slot target) slots heap (slice_set slots target x) heap
-  slot_stays target x = record { held = held; size = λ slot e. ap (size_of heap) (sym (value_other slots target slot x (not_true (slot == target) e))) }
+  slot_stays target x = record { held = held; size = λ path e. ap (size_of heap) (held path e) }
     where
       held : (path : Path) → off_slot target path ≡ true → held_at world slots heap path ≡ held_at world (slice_set slots target x) heap path
       held (Slot slot) e = sym (value_other slots target slot x (not_true (slot == target) e))
@@ -115,7 +121,7 @@ module _ (world : World) (tables : IsWorld world) (lows : (field : ℕ) → AreL
     through_same g apart Null = refl
 
     field_stays : Stays world (off_field field) slots heap slots heap_after
-    field_stays = record { held = held; size = λ slot e. ap (λ (r : Reading). r.size) (reading_later heap heap_after (value_at slots slot) later (on.held slot)) }
+    field_stays = later_stays world (off_field field) slots heap slots heap_after on later held
       where
         held : (path : Path) → off_field field path ≡ true → held_at world slots heap path ≡ held_at world slots heap_after path
         held (Slot slot) e = refl
@@ -140,30 +146,138 @@ module _ (world : World) (tables : IsWorld world) (lows : (field : ℕ) → AreL
             (read_meets world building method slots heap keeps frame object field number cell holds placed other) (ap int_of (is ∙ sym set)) (set ∙ sym through_is, off_true target x facts all),
       )
 
+  -- ---- a cell is stored
+
+  element_met : (facts : List Fact) (value : ℕ) (claims : List Claim) (held : Held) → value_at slots value ≡ held → Proves facts (Slot value) claims → AllTrue world facts slots heap → MeetsElement claims held
+  element_met facts value claims (Num n) is proves all = proves_true world (Slot value) slots heap facts claims _ _ proves (ap int_of (sym is)) all
+  element_met facts value claims (Boolean answer) is proves all = tt
+  element_met facts value claims Null is proves all = tt
+  element_met facts value claims (At number) is proves all = tt
+
+  module _ (number cell value : ℕ) (ty : Type_) (there : number < length heap) (is : (object_at heap number).kind ≡ ArrayOf ty) (hidden : IsOwn method value → ⊥) (meets : MeetsElement (element_claims ty) (value_at slots value)) where
+    abbrev stored_heap : Heap
+    stored_heap = write_at heap number cell (value_at slots value)
+
+    stored_keeps : StepKeeps world building method slots heap slots stored_heap
+    stored_keeps = cell_keeps world building method slots heap keeps frame number cell ty (value_at slots value) there is (frame.free value hidden) meets
+
+    -- an array has no fields
+    array_null : (cells : List Held) (field : ℕ) → cell_of cells (place_in world.place (object_at heap number).kind field) ≡ Null
+    array_null cells field = ap (λ kind. cell_of cells (place_in world.place kind field)) is
+
+    field_same : (of field : ℕ) → field_value world.place heap of field ≡ field_value world.place stored_heap of field
+    field_same of field =
+        by_test (of == number)
+        (λ t.
+        let same : of ≡ number = equal of number t in
+        subst (λ n. field_value world.place heap n field ≡ field_value world.place stored_heap n field) (sym same)
+        (array_null (object_at heap number).cells field
+        ∙ sym (ap (λ (o : Object). cell_of o.cells (place_in world.place o.kind field)) (object_set heap number (with_cells (object_at heap number) (slice_set (object_at heap number).cells cell (value_at slots value))) there)
+        ∙ array_null (slice_set (object_at heap number).cells cell (value_at slots value)) field)))
+        (λ t. sym (ap (λ (o : Object). cell_of o.cells (place_in world.place o.kind field)) (object_other heap number of (with_cells (object_at heap number) (slice_set (object_at heap number).cells cell (value_at slots value))) t)))
+
+    through_stored : (field : ℕ) (held : Held) → held_through world heap held field ≡ held_through world stored_heap held field
+    through_stored field (At of) = field_same of field
+    through_stored field (Num n) = refl
+    through_stored field (Boolean answer) = refl
+    through_stored field Null = refl
+
+    stored_stays : Stays world (λ path. true) slots heap slots stored_heap
+    stored_stays = later_stays world (λ path. true) slots heap slots stored_heap on stored_keeps.later held
+      where
+        held : (path : Path) → true ≡ true → held_at world slots heap path ≡ held_at world slots stored_heap path
+        held (Slot slot) e = refl
+        held (FieldOf slot field) e = through_stored field (value_at slots slot)
+
+    stored_good : (facts : List Fact) → AllTrue world facts slots heap → IsGood facts (Done slots stored_heap)
+    stored_good facts all = (stored_keeps, all_stay world (λ path. true) slots heap slots stored_heap stored_stays (λ path. refl) facts all)
+
+  -- ---- a new array
+
+  module _ (facts : List Fact) (target size : ℕ) (ty : Type_) (may : MayAssign method target) (plain : element_claims ty ≡ []) (all : AllTrue world facts slots heap) where
+    default_free : (of : Type_) → IsFree building heap (cell_default of)
+    default_free type.Void = tt
+    default_free (type.Plain of) = tt
+    default_free (type.Array of depth element) = by_depth (nat_lt 1 depth) of
+      where
+        by_depth : (deep : Bool) (of : Base) → IsFree building heap (if deep then Null else default_of_base of)
+        by_depth true of = tt
+        by_depth false base.Int = tt
+        by_depth false base.Bool = tt
+        by_depth false (base.Class class) = tt
+
+    copies_free : (count place : ℕ) → IsFree building heap (value_at (replicate count (cell_default ty)) place)
+    copies_free zero place = tt
+    copies_free (suc count) zero = default_free ty
+    copies_free (suc count) (suc place) = copies_free count place
+
+    no_claims : (held : Held) → MeetsElement [] held
+    no_claims (Num n) = tt
+    no_claims (Boolean answer) = tt
+    no_claims Null = tt
+    no_claims (At number) = tt
+
+    module _ (count : ℕ) where
+      abbrev grown : Heap
+      grown = heap ++ record { kind = ArrayOf ty; cells = replicate count (cell_default ty) } ∷ []
+
+      made_keeps : StepKeeps world building method slots heap (slice_set slots target (At (length heap))) grown
+      made_keeps = array_keeps world building method slots heap keeps frame ty (replicate count (cell_default ty)) (copies_free count)
+          (λ place lt. subst (λ claims. MeetsElement claims (value_at (replicate count (cell_default ty)) place)) (sym plain) (no_claims (value_at (replicate count (cell_default ty)) place))) target may.input may.own
+
+      through_grown : (field : ℕ) (held : Held) → IsOn heap held → held_through world heap held field ≡ held_through world grown held field
+      through_grown field (At of) lt = sym (ap (λ (o : Object). cell_of o.cells (place_in world.place o.kind field)) (grown_old heap (record { kind = ArrayOf ty; cells = replicate count (cell_default ty) }) of lt))
+      through_grown field (Num n) lt = refl
+      through_grown field (Boolean answer) lt = refl
+      through_grown field Null lt = refl
+
+      grown_stays : Stays world (off_slot target) slots heap (slice_set slots target (At (length heap))) grown
+      grown_stays = later_stays world (off_slot target) slots heap (slice_set slots target (At (length heap))) grown on made_keeps.later held
+        where
+          held : (path : Path) → off_slot target path ≡ true → held_at world slots heap path ≡ held_at world (slice_set slots target (At (length heap))) grown path
+          held (Slot slot) e = sym (value_other slots target slot (At (length heap)) (not_true (slot == target) e))
+          held (FieldOf slot field) e = through_grown field (value_at slots slot) (on.held slot) ∙ ap (λ held. held_through world grown held field) (sym (value_other slots target slot (At (length heap)) (not_true (slot == target) e)))
+
+      allocated : (full : Bool) → IsGood (only (off_slot target) facts) (if full then Stopped (HeapFull place) else Done (slice_set slots target (At (length heap))) grown)
+      allocated true = λ bad. bad
+      allocated false = (made_keeps, only_true world (off_slot target) slots heap (slice_set slots target (At (length heap))) grown grown_stays facts all)
+
+    made_good : (n : ℤ) → pos 0 ≤ℤ n → IsGood (only (off_slot target) facts) (new_array limits (tables_in world) place slots heap target ty n)
+    made_good (pos count) low = allocated count (is_past limits.cells (cells_used heap + (count + 1)))
+    made_good (negsuc n) low = absurd (omega (arith, ints, low))
+
   -- ---- the operations
 
   assigned : (facts : List Fact) (target : ℕ) (x : Held) → MayAssign method target → IsFree building heap x → AllTrue world facts slots heap → IsGood (only (off_slot target) facts) (Done (slice_set slots target x) heap)
   assigned facts target x may free all = (assign_keeps world building method slots heap keeps frame target x free may.input may.own, off_true target x facts all)
 
-  pub operation_good : (facts after : List Fact) (kind : OpKind) → Step world method kind facts after → AllTrue world facts slots heap → IsGood after (operate limits (tables_in world) place slots heap kind)
-  operation_good facts after kind (constant _ target n int may) all = assigned facts target (Num n) may tt all
-  operation_good facts after kind (copy _ target source ty may other) all = assigned facts target (value_at slots source) may (frame.free source other) all
-  operation_good facts after kind (rules.length _ target array may apart) all =
+  pub operation_good : (facts after : List Fact) (kind : OpKind) → Step world method kind facts after → AllTrue world facts slots heap → HoldsArray slots heap kind → IsGood after (operate limits (tables_in world) place slots heap kind)
+  operation_good facts after kind (rules.new_array _ target size ty may plain low) all arrays = made_good facts target size ty may plain all (int_at slots size) (in_true world facts (NotNegative (Slot size)) slots heap low all)
+  operation_good facts after kind (store _ array index value ty hidden low high proves) all arrays =
+      through_good facts (value_at slots array) _
+      (λ number is.
+      index_good facts (int_at slots index) (array_at heap number) (λ cell. Done slots (write_at heap number cell (value_at slots value))) (in_true world facts (NotNegative (Slot index)) slots heap low all)
+      (subst (λ held. int_at slots index <ℤ size_of heap held) is (in_true world facts (Below (Slot index) array) slots heap high all))
+      (stored_good number (unsigned_abs (int_at slots index)) value ty (subst (IsOn heap) is (on.held array)) (arrays number is) hidden
+      (element_met facts value (element_claims ty) (value_at slots value) refl proves all) facts all))
+  operation_good facts after kind (constant _ target n int may) all arrays = assigned facts target (Num n) may tt all
+  operation_good facts after kind (copy _ target source ty may other) all arrays = assigned facts target (value_at slots source) may (frame.free source other) all
+  operation_good facts after kind (rules.length _ target array may apart) all arrays =
       through_good (IsLength target array ∷ only (off_slot target) facts) (value_at slots array) _
       (λ number is.
       let x : Held = Num (pos (length (array_at heap number))) in
       let kept = assigned facts target x may tt all in
       (kept.0, (ap int_of (set_same target x may) ∙ sym (ap (size_of heap) (set_other target array x apart ∙ is)), kept.1)))
-  operation_good facts after kind (load _ target array index ty may low high) all =
+  operation_good facts after kind (load _ target array index ty may low high) all arrays =
       through_good (only (off_slot target) facts) (value_at slots array) _
       (λ number is.
       index_good (only (off_slot target) facts) (int_at slots index) (array_at heap number) (λ cell. Done (slice_set slots target (value_at (array_at heap number) cell)) heap) (in_true world facts (NotNegative (Slot index)) slots heap low all)
       (subst (λ held. int_at slots index <ℤ size_of heap held) is (in_true world facts (Below (Slot index) array) slots heap high all))
       (assigned facts target (value_at (array_at heap number) (unsigned_abs (int_at slots index))) may
       (array_free (object_at heap number).kind (object_at heap number).cells (keeps.free number) (unsigned_abs (int_at slots index))) all))
-  operation_good facts behind kind (read _ target object field may apart other) all =
+  operation_good facts behind kind (read _ target object field may apart other) all arrays =
       through_good behind (value_at slots object) _
       (λ number is. place_good behind (place_in world.place (object_at heap number).kind field) _ (λ cell placed. read_good facts target object field number cell is placed may apart other all))
-  operation_good facts after kind (write _ object field value may hidden proves) all =
+  operation_good facts after kind (write _ object field value may hidden proves) all arrays =
       through_good after (value_at slots object) _
       (λ number is. place_good after (place_in world.place (object_at heap number).kind field) _ (λ cell placed. write_good object field value number cell facts is placed hidden proves all may))

@@ -8,11 +8,13 @@ use Rattle.ix_core.specs.declared.claim.Claim.{Claim}
 use Rattle.ix_core.specs.declared.claim.Claim.TheVariants.{Range, Low, Length, Same, Less, Upper, Search, Negative}
 use Rattle.ix_core.specs.declared.claim.Name.{Name}
 use Rattle.ix_core.specs.declared.fact.Path.{Path}
-use Rattle.ix_core.specs.declared.fact.Path.TheVariants.{Slot}
+use Rattle.ix_core.specs.declared.fact.Path.TheVariants.{Slot, FieldOf}
 use Rattle.ix_core.specs.Claims.{AreTrue}
-use Rattle.ix_core.specs.Heap.{Held, Heap, Reading, value_at, int_of, size_of}
+use Rattle.ix_core.specs.Heap.{Held, Num, Boolean, Null, At, Heap, Reading, value_at, object_at, place_in, int_of, size_of}
+use Rattle.ix_core.specs.Objects.{IsOn, AllOn, Later}
 use Rattle.ix_core.specs.World.{World}
-use Rattle.ix_instance.specs.Facts.{Fact, NotNegative, Below, IsLength, Holds, held_at, IsTrue, AllTrue, IsIn, names_only, only, AreLow, Proves, with_claims}
+use Rattle.ix_core.proofs.Entered.{cell_each, reading_later}
+use Rattle.ix_instance.specs.Facts.{IsFresh, held_through, Fact, NotNegative, Below, IsLength, Holds, held_at, IsTrue, AllTrue, IsIn, names_only, only, AreLow, Proves, with_claims}
 
 module _ (world : World) where
   pub in_true : (facts : List Fact) (fact : Fact) (slots : List Held) (heap : Heap) → IsIn fact facts → AllTrue world facts slots heap → IsTrue world slots heap fact
@@ -22,7 +24,26 @@ module _ (world : World) where
   -- the paths hold what they held, and the arrays of slots are as long
   pub record Stays (kept : Path → Bool) (slots : List Held) (heap : Heap) (later : List Held) (after : Heap) : Type 0 where
     pub held : (path : Path) → kept path ≡ true → held_at world slots heap path ≡ held_at world later after path
-    pub size : (slot : ℕ) → kept (Slot slot) ≡ true → size_of heap (value_at slots slot) ≡ size_of after (value_at later slot)
+    pub size : (path : Path) → kept path ≡ true → size_of heap (held_at world slots heap path) ≡ size_of after (held_at world later after path)
+
+  -- what a path holds is on the heap
+  pub through_on : (slots : List Held) (heap : Heap) → AllOn slots heap → (field : ℕ) (held : Held) → IsOn heap (held_through world heap held field)
+  through_on slots heap on field (At object) = cell_each (IsOn heap) (object_at heap object).cells (place_in world.place (object_at heap object).kind field) tt (λ k. on.within object k)
+  through_on slots heap on field (Num n) = tt
+  through_on slots heap on field (Boolean answer) = tt
+  through_on slots heap on field Null = tt
+
+  path_on : (slots : List Held) (heap : Heap) → AllOn slots heap → (path : Path) → IsOn heap (held_at world slots heap path)
+  path_on slots heap on (Slot slot) = on.held slot
+  path_on slots heap on (FieldOf slot field) = through_on slots heap on field (value_at slots slot)
+
+  -- on a later heap arrays are as long
+  pub later_stays : (kept : Path → Bool) (slots : List Held) (heap : Heap) (later : List Held) (after : Heap) → AllOn slots heap → Later heap after
+      → ((path : Path) → kept path ≡ true → held_at world slots heap path ≡ held_at world later after path) → Stays kept slots heap later after
+  later_stays kept slots heap later after on grows held = record {
+    held = held;
+    size = λ path e. ap (λ (r : Reading). r.size) (reading_later heap after (held_at world slots heap path) grows (path_on slots heap on path)) ∙ ap (size_of after) (held path e);
+  }
 
   module _ (kept : Path → Bool) (slots : List Held) (heap : Heap) (later : List Held) (after : Heap) (stays : Stays kept slots heap later after) where
     fact_stays : (fact : Fact) → names_only kept fact ≡ true → IsTrue world slots heap fact → IsTrue world later after fact
@@ -30,10 +51,11 @@ module _ (world : World) where
     fact_stays (Below path array) e is =
         let both = and_parts (kept path) (kept (Slot array)) e in
         subst (λ held. int_of held <ℤ size_of after (value_at later array)) (stays.held path both.0)
-        (subst (λ size. int_of (held_at world slots heap path) <ℤ size) (stays.size array both.1) is)
+        (subst (λ size. int_of (held_at world slots heap path) <ℤ size) (stays.size (Slot array) both.1) is)
     fact_stays (IsLength slot array) e is =
         let both = and_parts (kept (Slot slot)) (kept (Slot array)) e in
-        ap int_of (sym (stays.held (Slot slot) both.0)) ∙ (is ∙ stays.size array both.1)
+        ap int_of (sym (stays.held (Slot slot) both.0)) ∙ (is ∙ stays.size (Slot array) both.1)
+    fact_stays (IsFresh path) e is = (λ i. record { int = int_of (sym (stays.held path e) i); size = sym (stays.size path e) i }) ∙ is
     fact_stays (Holds slot path) e is =
         let both = and_parts (kept (Slot slot)) (kept path) e in
         sym (stays.held (Slot slot) both.0) ∙ (is ∙ stays.held path both.1)
@@ -42,6 +64,17 @@ module _ (world : World) where
         → AllTrue world (if b then fact ∷ only kept facts else only kept facts) later after
     by_kept fact facts true e is rest = (fact_stays fact e is, rest)
     by_kept fact facts false e is rest = rest
+
+    pub all_stay : ((path : Path) → kept path ≡ true) → (facts : List Fact) → AllTrue world facts slots heap → AllTrue world facts later after
+    all_stay every [] all = tt
+    all_stay every (fact ∷ facts) all = (fact_stays fact (every_name fact) all.0, all_stay every facts all.1)
+      where
+        every_name : (fact : Fact) → names_only kept fact ≡ true
+        every_name (NotNegative path) = every path
+        every_name (Below path array) = rw (every path) (every (Slot array))
+        every_name (IsLength slot array) = rw (every (Slot slot)) (every (Slot array))
+        every_name (IsFresh path) = every path
+        every_name (Holds slot path) = rw (every (Slot slot)) (every path)
 
     pub only_true : (facts : List Fact) → AllTrue world facts slots heap → AllTrue world (only kept facts) later after
     only_true [] all = tt

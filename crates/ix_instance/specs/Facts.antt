@@ -5,7 +5,7 @@ use Rattle.ix_core.specs.declared.claim.Claim.TheVariants as claim
 use Rattle.ix_core.specs.declared.fact.Path.{Path}
 use Rattle.ix_core.specs.declared.fact.Path.TheVariants.{Slot, FieldOf}
 use Rattle.ix_core.specs.declared.program.Method.{Method}
-use Rattle.ix_core.specs.Heap.{Held, Null, At, Heap, value_at, field_value, int_of, size_of}
+use Rattle.ix_core.specs.Heap.{Held, Null, At, Heap, value_at, field_value, int_of, size_of, reading_of, no_reading}
 use Rattle.ix_core.specs.Machine.{CallKind}
 use Rattle.ix_core.specs.Waits.{is_super}
 use Rattle.ix_core.specs.World.{World}
@@ -19,6 +19,8 @@ pub data Fact : Type 0 where
   IsLength : ℕ → ℕ → Fact
   -- the slot holds what the path holds
   Holds : ℕ → Path → Fact
+  -- the path reads as a field of a new object
+  IsFresh : Path → Fact
 
 -- ---- what facts say
 
@@ -36,6 +38,7 @@ IsTrue world slots heap (NotNegative path) = pos 0 ≤ℤ int_of (held_at world 
 IsTrue world slots heap (Below path array) = int_of (held_at world slots heap path) <ℤ size_of heap (value_at slots array)
 IsTrue world slots heap (IsLength slot array) = int_of (value_at slots slot) ≡ size_of heap (value_at slots array)
 IsTrue world slots heap (Holds slot path) = value_at slots slot ≡ held_at world slots heap path
+IsTrue world slots heap (IsFresh path) = reading_of heap (held_at world slots heap path) ≡ no_reading
 
 abbrev pub AllTrue : World → List Fact → List Held → Heap → Type 0
 AllTrue world [] slots heap = Unit {0}
@@ -53,6 +56,7 @@ names_only kept (NotNegative path) = kept path
 names_only kept (Below path array) = kept path && kept (Slot array)
 names_only kept (IsLength slot array) = kept (Slot slot) && kept (Slot array)
 names_only kept (Holds slot path) = kept (Slot slot) && kept path
+names_only kept (IsFresh path) = kept path
 
 -- the facts whose paths all are kept
 abbrev pub only : (Path → Bool) → List Fact → List Fact

@@ -1,4 +1,3 @@
 pub mod Facts
 pub mod Rules
 pub mod Counter
-pub mod Storing

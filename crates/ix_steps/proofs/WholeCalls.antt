@@ -76,7 +76,10 @@ unfolding entered_frame
 same_method [] now next e = e
 same_method (x ∷ above) now next e = refl
 
-module _ (profile : Profile) (world : World) (know : Knowledge) (laws : Laws profile world know) (limits : Limits) where
+-- `IsKept` is what each state of the run keeps besides, from which the types of the frame that runs follow.
+module _ (profile : Profile) (world : World) (Typed : ℕ → Tasks → List Held → Heap → Type 0) (know : Knowledge) (laws : Laws profile world Typed know) (limits : Limits)
+    (IsKept : State → Type 0) (typed : (state : State) → IsKept state → Typed state.now.method state.now.tasks state.now.slots state.heap)
+    (stays_kept : (state : State) → IsKept state → IsKept (step limits (tables_in world) state)) where
   -- a call of a kind that waits in `w`, above other frames, for the method `m`, since a heap
   module _ (w : Waiting) (bottom : List Waiting) (m : ℕ) (kind : CallKind) (began : Heap) (all : AllOn w.frame.slots began) where
     abbrev caller : Method
@@ -269,23 +272,23 @@ module _ (profile : Profile) (world : World) (know : Knowledge) (laws : Laws pro
         (leaves state r within.above within.stack within.method within.new within.since result) longer
     moves state r within (Stop ending) shown counts longer = stops state r within ending
 
-    within_step : (state : State) → Good world know profile state → Counts profile state → Counts profile (step limits (tables_in world) state) → length bottom < length (step limits (tables_in world) state).below
+    within_step : (state : State) → IsKept state → Good world know profile state → Counts profile state → Counts profile (step limits (tables_in world) state) → length bottom < length (step limits (tables_in world) state).below
         → Within state → Within (step limits (tables_in world) state)
-    within_step state (Uncounted past) counted counts longer within = absurd (past counted)
-    within_step state (Ends ending is fine) counted counts longer within = subst Within (sym (ap (λ e. step_from limits (tables_in world) e state) is)) within
-    within_step state (Runs is r) counted counts longer within =
+    within_step state is_kept (Uncounted past) counted counts longer within = absurd (past counted)
+    within_step state is_kept (Ends ending is fine) counted counts longer within = subst Within (sym (ap (λ e. step_from limits (tables_in world) e state) is)) within
+    within_step state is_kept (Runs is r) counted counts longer within =
         subst (λ next. Counts profile next → length bottom < length next.below → Within next) (sym (step_is limits (tables_in world) state is (next_move limits (tables_in world) state) refl))
         (moves state r within (next_move limits (tables_in world) state)
-        (laws.step limits r.building state.now.method state.now.tasks r.store state.now.slots state.heap r.heap_keeps r.frame_keeps r.ints r.holds r.fine))
+        (laws.step limits r.building state.now.method state.now.tasks r.store state.now.slots state.heap (typed state is_kept) r.heap_keeps r.frame_keeps r.ints r.holds r.fine))
         counts longer
 
-    runs_within : (n : ℕ) (state : State) → Good world know profile state → ((j : ℕ) → j ≤ n → Counts profile (run limits (tables_in world) j state))
+    runs_within : (n : ℕ) (state : State) → IsKept state → Good world know profile state → ((j : ℕ) → j ≤ n → Counts profile (run limits (tables_in world) j state))
         → ((j : ℕ) → j ≤ n → length bottom < length (run limits (tables_in world) j state).below) → Within state → Within (run limits (tables_in world) n state)
-    runs_within zero state good counts longer within = within
-    runs_within (suc n) state good counts longer within =
-        runs_within n (step limits (tables_in world) state) (good_next profile world know laws limits state good)
+    runs_within zero state is_kept good counts longer within = within
+    runs_within (suc n) state is_kept good counts longer within =
+        runs_within n (step limits (tables_in world) state) (stays_kept state is_kept) (good_next profile world Typed know laws limits state (typed state is_kept) good)
         (λ j le. counts (suc j) (omega (arith, le))) (λ j le. longer (suc j) (omega (arith, le)))
-        (within_step state good (counts 0 (omega (arith))) (counts 1 (omega (arith))) (longer 1 (omega (arith))) within)
+        (within_step state is_kept good (counts 0 (omega (arith))) (counts 1 (omega (arith))) (longer 1 (omega (arith))) within)
 
   -- ---- the state that calls
 
@@ -311,7 +314,7 @@ module _ (profile : Profile) (world : World) (know : Knowledge) (laws : Laws pro
   is_made method call slots heap count m Super fits found c s = absurd (false≢true (sym s))
 
   -- a state that runs and calls
-  module _ (state : State) (r : Running world know state) (running : state.ended ≡ None) (call : CallOp) (place : ℕ) (tasks : Tasks) (m : ℕ) (steps : ℕ)
+  module _ (state : State) (is_kept : IsKept state) (r : Running world know state) (running : state.ended ≡ None) (call : CallOp) (place : ℕ) (tasks : Tasks) (m : ℕ) (steps : ℕ)
       (counts : (count : ℕ) → count ≤ steps → Counts profile (run limits (tables_in world) count state)) (has : HasReturned limits (tables_in world) state steps) where
     abbrev calls_from : Method
     calls_from = world.methods state.now.method
@@ -328,7 +331,7 @@ module _ (profile : Profile) (world : World) (know : Knowledge) (laws : Laws pro
 
       shown : Calls profile world know state.now.method kind call tasks state.now.slots state.heap
       shown = subst (Shows profile world know r.building state.now.method state.now.slots state.heap) next
-          (laws.step limits r.building state.now.method state.now.tasks r.store state.now.slots state.heap r.heap_keeps r.frame_keeps r.ints r.holds r.fine)
+          (laws.step limits r.building state.now.method state.now.tasks r.store state.now.slots state.heap (typed state is_kept) r.heap_keeps r.frame_keeps r.ints r.holds r.fine)
 
       begins_within : length state.below < length (step limits (tables_in world) state).below → Within waiting state.below m kind state.heap on (step limits (tables_in world) state)
       unfolding entered_frame
@@ -349,7 +352,7 @@ module _ (profile : Profile) (world : World) (know : Knowledge) (laws : Laws pro
           let many : steps ≡ suc (suc n) = back.1 in
           let deeper : (count : ℕ) → count ≤ n → length state.below < length (run limits (tables_in world) count (step limits (tables_in world) state)).below
           = λ count le. has.deeper (suc count) (omega (arith)) (omega (arith, le, many)) in
-          let within = runs_within waiting state.below m kind state.heap on n (step limits (tables_in world) state) (good_next profile world know laws limits state (Runs running r))
+          let within = runs_within waiting state.below m kind state.heap on n (step limits (tables_in world) state) (stays_kept state is_kept) (good_next profile world Typed know laws limits state (typed state is_kept) (Runs running r))
           (λ count le. counts (suc count) (omega (arith, le, many))) deeper (begins_within (deeper 0 (omega (arith)))) in
           subst (λ (s : State). Since world calls_from (world.methods m) kind state.now.slots state.heap s.heap) (sym back.3) within.since
 
