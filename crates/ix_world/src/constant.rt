@@ -4,6 +4,7 @@ ghost use Rattle.std.specs.Prelude.{◌≡◌};
 ghost use Rattle.ix_meaning.specs.Members as spec;
 ghost use Rattle.ix_world.specs.Literals.{literal_of};
 
+use ix_num::java_neg;
 use ix_tree::{BaseTree, Expr, ExprKind, Init, LocalDecl, TypeTree, UnaryOp};
 
 fn int_literal(e: &Expr) -> Option<i32>
@@ -22,7 +23,7 @@ fn signed_literal(e: &Expr) -> Option<i32>
         ExprKind::Int(n) => Some(*n),
         ExprKind::Unary(UnaryOp::Minus, operand) => match int_literal(operand.get()) {
             None => None,
-            Some(n) => Some(n.wrapping_neg()),
+            Some(n) => Some(java_neg(n)),
         },
         _ => None,
     }

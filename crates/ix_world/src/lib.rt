@@ -8,5 +8,8 @@
 
 mod constant;
 mod lists;
+mod named;
+mod world;
 
 pub use lists::{field_of, fields, method_of, methods, param_type};
+pub use world::{Called, ClassWorld, World, world_of};
