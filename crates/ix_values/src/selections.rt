@@ -1,0 +1,201 @@
+//! Selections (JLS 15.11), and what else is read off the types of parts.
+
+ghost use Rattle.std.specs.Prelude.{◌≡◌, ◌++◌, IfOk, OnOk};
+ghost use Rattle.ix_meaning.specs.Members as members;
+ghost use Rattle.ix_meaning.specs.Types as types;
+ghost use Rattle.ix_meaning.specs.Values as spec;
+ghost use Rattle.ix_scopes.specs.Here.{here};
+ghost use Rattle.ix_values.specs.Objects as objects;
+ghost use Rattle.ix_world.specs.World as tables;
+
+use crate::names::{Object, field_use};
+use ix_core::{Base, Type_};
+use ix_meaning::{Meaning, Note, Rule};
+use ix_num::Rel;
+use ix_scopes::{Scopes, cannot_compare, null_mismatch, wrong, wrong_if};
+use ix_text::{List, Span};
+use ix_tree::{Expr, ExprKind, Ident};
+use ix_types::{INT, copied_option, element, need_like};
+use ix_world::World;
+use std::alloc::{AllocError, Global};
+
+pub fn is_null(e: &Expr) -> bool
+    ensures { result ≡ (spec.reading e.now).is_null }
+{
+    match &e.kind {
+        ExprKind::Null => true,
+        _ => false,
+    }
+}
+
+pub fn is_this(e: &Expr) -> bool
+    ensures { result ≡ (spec.reading e.now).is_this }
+{
+    match &e.kind {
+        ExprKind::This => true,
+        _ => false,
+    }
+}
+
+pub fn element_in(
+    alloc: Global,
+    notes: &mut List<Note>,
+    ty: &Option<Type_>,
+    span: Span,
+) -> Result<Option<Type_>, AllocError>
+    ensures ty { IfOk result (λ t. t ≡ types.element_in ty.now) }
+    ensures notes { OnOk result (notes.new ≡ notes.old ++ spec.no_array ty.now span) }
+{
+    match ty {
+        None => Ok(None),
+        Some(ty) => {
+            let inner = element(alloc, ty)?;
+            wrong_if(notes, inner.is_none(), Rule::TypeMismatch, span)?;
+            Ok(inner)
+        }
+    }
+}
+
+fn instance_field(
+    alloc: Global,
+    world: &World,
+    scopes: &Scopes<'_>,
+    notes: &mut List<Note>,
+    class: u32,
+    name: &Ident,
+    assigned: bool,
+    through_this: bool,
+) -> Result<Option<Type_>, AllocError>
+    ensures ty { IfOk result (λ t. t ≡ (spec.instance_field (here world.now scopes.now) assigned through_this name.now (members.field_named (tables.shown world.now) class name.now.text)).ty) }
+    ensures notes { OnOk result (notes.new ≡ notes.old ++ (spec.instance_field (here world.now scopes.now) assigned through_this name.now (members.field_named (tables.shown world.now) class name.now.text)).notes) }
+{
+    match world.field(class, name.text.as_str()) {
+        None => {
+            wrong(notes, Rule::UnknownName, name.span)?;
+            Ok(None)
+        }
+        Some(field) => {
+            field_use(scopes, notes, assigned, through_this, name.span, field)?;
+            copied_option(alloc, &field.ty)
+        }
+    }
+}
+
+fn class_field(
+    alloc: Global,
+    world: &World,
+    scopes: &Scopes<'_>,
+    notes: &mut List<Note>,
+    class: u32,
+    name: &Ident,
+    assigned: bool,
+) -> Result<Option<Type_>, AllocError>
+    ensures ty { IfOk result (λ t. t ≡ (spec.class_field (here world.now scopes.now) assigned name.now (members.field_named (tables.shown world.now) class name.now.text)).ty) }
+    ensures notes { OnOk result (notes.new ≡ notes.old ++ (spec.class_field (here world.now scopes.now) assigned name.now (members.field_named (tables.shown world.now) class name.now.text)).notes) }
+{
+    match world.field(class, name.text.as_str()) {
+        None => {
+            wrong(notes, Rule::UnknownName, name.span)?;
+            Ok(None)
+        }
+        Some(field) => {
+            wrong_if(notes, !field.is_static, Rule::NotStatic, name.span)?;
+            field_use(scopes, notes, assigned, false, name.span, field)?;
+            copied_option(alloc, &field.ty)
+        }
+    }
+}
+
+fn array_length(
+    notes: &mut List<Note>,
+    name: &Ident,
+    assigned: bool,
+) -> Result<Option<Type_>, AllocError>
+    ensures ty { IfOk result (λ t. t ≡ (spec.array_length assigned name.now).ty) }
+    ensures notes { OnOk result (notes.new ≡ notes.old ++ (spec.array_length assigned name.now).notes) }
+{
+    if name.text.as_str() == "length" {
+        notes.push(Note::Use(name.span, Meaning::LengthOf))?;
+        wrong_if(notes, assigned, Rule::NotAssignable, name.span)?;
+        return Ok(Some(INT));
+    }
+    wrong(notes, Rule::UnknownName, name.span)?;
+    Ok(None)
+}
+
+pub fn selected(
+    alloc: Global,
+    world: &World,
+    scopes: &Scopes<'_>,
+    notes: &mut List<Note>,
+    object: &Object,
+    name: &Ident,
+    assigned: bool,
+    through_this: bool,
+) -> Result<Option<Type_>, AllocError>
+    ensures ty { IfOk result (λ t. t ≡ (spec.selected (here world.now scopes.now) assigned through_this name.now (objects.shown object.now)).ty) }
+    ensures notes { OnOk result (notes.new ≡ notes.old ++ (spec.selected (here world.now scopes.now) assigned through_this name.now (objects.shown object.now)).notes) }
+{
+    match object {
+        Object::Nothing => Ok(None),
+        Object::OfClass(class) => class_field(alloc, world, scopes, notes, *class, name, assigned),
+        Object::Value(Type_::Plain(Base::Class(class))) => {
+            instance_field(
+                alloc,
+                world,
+                scopes,
+                notes,
+                *class,
+                name,
+                assigned,
+                through_this,
+            )
+        }
+        Object::Value(_) => array_length(notes, name, assigned),
+    }
+}
+
+pub fn is_equality(rel: Rel) -> bool
+    ensures { result ≡ spec.is_equality rel }
+{
+    match rel {
+        Rel::Eq => true,
+        Rel::Ne => true,
+        _ => false,
+    }
+}
+
+/// The operands of `==` or `!=`, whose types are known.
+pub fn compared(
+    alloc: Global,
+    world: &World,
+    notes: &mut List<Note>,
+    a: &Expr,
+    b: &Expr,
+    t: &Option<Type_>,
+    u: &Option<Type_>,
+    span: Span,
+) -> Result<(), AllocError>
+    ensures { OnOk result (notes.new ≡ notes.old ++ spec.compared (tables.shown world.now) (spec.reading a.now) (spec.reading b.now) t.now u.now span) }
+{
+    if is_null(a) {
+        if is_null(b) {
+            wrong(notes, Rule::TypeMismatch, a.span)?;
+            return wrong(notes, Rule::TypeMismatch, b.span);
+        }
+        return null_mismatch(alloc, notes, need_like(u), a.span);
+    }
+    if is_null(b) {
+        return null_mismatch(alloc, notes, need_like(t), b.span);
+    }
+    cannot_compare(world, notes, t, u, span)
+}
+
+pub fn element_if(alloc: Global, ty: &Option<Type_>) -> Result<Option<Type_>, AllocError>
+    ensures { IfOk result (λ t. t ≡ types.element_in ty.now) }
+{
+    match ty {
+        None => Ok(None),
+        Some(ty) => element(alloc, ty),
+    }
+}

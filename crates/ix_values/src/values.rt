@@ -1,0 +1,566 @@
+//! The pass over an expression: each part is read once.
+
+ghost use Rattle.std.specs.Prelude.{◌≡◌, ◌++◌, IfOk, OnOk, map};
+ghost use Rattle.ix_meaning.specs.Members as members;
+ghost use Rattle.ix_meaning.specs.Values as spec;
+ghost use Rattle.ix_scopes.specs.Here.{here};
+ghost use Rattle.ix_types.specs.Needs as needs;
+ghost use Rattle.ix_values.specs.Objects as objects;
+ghost use Rattle.ix_world.specs.World as tables;
+
+use crate::names::{Object, name_before_dot, object_of, variable};
+use crate::selections::{
+    compared, element_if, element_in, is_equality, is_null, is_this, selected,
+};
+use ix_core::{Base, Type_};
+use ix_meaning::{Meaning, Note, Rule};
+use ix_scopes::{
+    Scopes, list_mismatch, not_static, note_type, null_mismatch, type_mismatch, wrong, wrong_if,
+};
+use ix_text::{List, Span};
+use ix_tree::{BinaryOp, Expr, ExprKind, Ident, Init, UnaryOp};
+use ix_types::{BOOLEAN, INT, Need, copied_option, need_like};
+use ix_world::{Called, World};
+use ix_written::created;
+use std::alloc::{AllocError, Global};
+
+/// An expression as a value.
+#[cycle(values)]
+pub fn value(
+    alloc: Global,
+    world: &World,
+    scopes: &Scopes<'_>,
+    notes: &mut List<Note>,
+    e: &Expr,
+) -> Result<Option<Type_>, AllocError>
+    ensures ty { IfOk result (λ t. t ≡ ((spec.reading e.now).judge (here world.now scopes.now)).ty) }
+    ensures notes { OnOk result (notes.new ≡ notes.old ++ ((spec.reading e.now).judge (here world.now scopes.now)).notes) }
+{
+    let ty = kind(alloc, world, scopes, notes, &e.kind, e.span)?;
+    note_type(alloc, notes, &ty, e.span)?;
+    Ok(ty)
+}
+
+/// An expression at a place that needs something.
+#[cycle(values)]
+pub fn check(
+    alloc: Global,
+    world: &World,
+    scopes: &Scopes<'_>,
+    notes: &mut List<Note>,
+    e: &Expr,
+    need: Need<'_>,
+) -> Result<(), AllocError>
+    ensures { OnOk result (notes.new ≡ notes.old ++ (spec.check (spec.reading e.now) (here world.now scopes.now) (needs.shown need.entry)).notes) }
+{
+    if is_null(e) {
+        return null_mismatch(alloc, notes, need, e.span);
+    }
+    let ty = value(alloc, world, scopes, notes, e)?;
+    type_mismatch(world, notes, need, &ty, e.span)
+}
+
+/// An operand of `==` or `!=`.
+#[cycle(values)]
+fn operand(
+    alloc: Global,
+    world: &World,
+    scopes: &Scopes<'_>,
+    notes: &mut List<Note>,
+    e: &Expr,
+) -> Result<Option<Type_>, AllocError>
+    ensures ty { IfOk result (λ t. t ≡ (spec.operand (spec.reading e.now) (here world.now scopes.now)).ty) }
+    ensures notes { OnOk result (notes.new ≡ notes.old ++ (spec.operand (spec.reading e.now) (here world.now scopes.now)).notes) }
+{
+    if is_null(e) {
+        return Ok(None);
+    }
+    value(alloc, world, scopes, notes, e)
+}
+
+#[cycle(values)]
+pub fn arguments(
+    alloc: Global,
+    world: &World,
+    scopes: &Scopes<'_>,
+    notes: &mut List<Note>,
+    args: &[Expr],
+    params: &[Option<Type_>],
+) -> Result<(), AllocError>
+    ensures { OnOk result (notes.new ≡ notes.old ++ spec.arguments (here world.now scopes.now) (map spec.reading args.now) params.now) }
+{
+    for (i, arg) in args.iter().enumerate() {
+        let need = match params.get(i) {
+            None => Need::Unknown,
+            Some(ty) => need_like(ty),
+        };
+        check(alloc, world, scopes, notes, arg, need)?;
+    }
+    Ok(())
+}
+
+#[cycle(values)]
+pub fn given_to(
+    alloc: Global,
+    world: &World,
+    scopes: &Scopes<'_>,
+    notes: &mut List<Note>,
+    args: &[Expr],
+    params: &[Option<Type_>],
+    span: Span,
+) -> Result<(), AllocError>
+    ensures { OnOk result (notes.new ≡ notes.old ++ spec.given_to (here world.now scopes.now) (map spec.reading args.now) params.now span) }
+{
+    wrong_if(
+        notes,
+        args.len() != params.len(),
+        Rule::WrongArguments,
+        span,
+    )?;
+    arguments(alloc, world, scopes, notes, args, params)
+}
+
+#[cycle(values)]
+fn called(
+    alloc: Global,
+    world: &World,
+    scopes: &Scopes<'_>,
+    notes: &mut List<Note>,
+    args: &[Expr],
+    method: Called<'_>,
+    span: Span,
+) -> Result<Option<Type_>, AllocError>
+    ensures ty { IfOk result (λ t. t ≡ (spec.called (here world.now scopes.now) span (map spec.reading args.now) (tables.callee method.entry)).ty) }
+    ensures notes { OnOk result (notes.new ≡ notes.old ++ (spec.called (here world.now scopes.now) span (map spec.reading args.now) (tables.callee method.entry)).notes) }
+{
+    notes.push(Note::Use(span, Meaning::MethodNamed(method.number)))?;
+    given_to(
+        alloc,
+        world,
+        scopes,
+        notes,
+        args,
+        method.signature.params.as_slice(),
+        span,
+    )?;
+    copied_option(alloc, &method.signature.result)
+}
+
+#[cycle(values)]
+fn unknown_call(
+    alloc: Global,
+    world: &World,
+    scopes: &Scopes<'_>,
+    notes: &mut List<Note>,
+    args: &[Expr],
+    span: Span,
+) -> Result<Option<Type_>, AllocError>
+    ensures ty { IfOk result (λ t. t ≡ (spec.unknown_call (here world.now scopes.now) span (map spec.reading args.now)).ty) }
+    ensures notes { OnOk result (notes.new ≡ notes.old ++ (spec.unknown_call (here world.now scopes.now) span (map spec.reading args.now)).notes) }
+{
+    wrong(notes, Rule::UnknownName, span)?;
+    arguments(alloc, world, scopes, notes, args, &[])?;
+    Ok(None)
+}
+
+#[cycle(values)]
+fn bare_call(
+    alloc: Global,
+    world: &World,
+    scopes: &Scopes<'_>,
+    notes: &mut List<Note>,
+    args: &[Expr],
+    name: &Ident,
+) -> Result<Option<Type_>, AllocError>
+    ensures ty { IfOk result (λ t. t ≡ (spec.bare_call (here world.now scopes.now) name.now (map spec.reading args.now) (members.method_named (tables.shown world.now) scopes.now.class name.now.text)).ty) }
+    ensures notes { OnOk result (notes.new ≡ notes.old ++ (spec.bare_call (here world.now scopes.now) name.now (map spec.reading args.now) (members.method_named (tables.shown world.now) scopes.now.class name.now.text)).notes) }
+{
+    match world.method(scopes.class, name.text.as_str()) {
+        None => unknown_call(alloc, world, scopes, notes, args, name.span),
+        Some(method) => {
+            not_static(scopes, notes, method.signature.is_static, name.span)?;
+            called(alloc, world, scopes, notes, args, method, name.span)
+        }
+    }
+}
+
+#[cycle(values)]
+fn class_call(
+    alloc: Global,
+    world: &World,
+    scopes: &Scopes<'_>,
+    notes: &mut List<Note>,
+    args: &[Expr],
+    class: u32,
+    name: &Ident,
+) -> Result<Option<Type_>, AllocError>
+    ensures ty { IfOk result (λ t. t ≡ (spec.class_call (here world.now scopes.now) name.now (map spec.reading args.now) (members.method_named (tables.shown world.now) class name.now.text)).ty) }
+    ensures notes { OnOk result (notes.new ≡ notes.old ++ (spec.class_call (here world.now scopes.now) name.now (map spec.reading args.now) (members.method_named (tables.shown world.now) class name.now.text)).notes) }
+{
+    match world.method(class, name.text.as_str()) {
+        None => unknown_call(alloc, world, scopes, notes, args, name.span),
+        Some(method) => {
+            wrong_if(
+                notes,
+                !method.signature.is_static,
+                Rule::NotStatic,
+                name.span,
+            )?;
+            called(alloc, world, scopes, notes, args, method, name.span)
+        }
+    }
+}
+
+#[cycle(values)]
+fn instance_call(
+    alloc: Global,
+    world: &World,
+    scopes: &Scopes<'_>,
+    notes: &mut List<Note>,
+    args: &[Expr],
+    class: u32,
+    name: &Ident,
+) -> Result<Option<Type_>, AllocError>
+    ensures ty { IfOk result (λ t. t ≡ (spec.instance_call (here world.now scopes.now) name.now (map spec.reading args.now) (members.method_named (tables.shown world.now) class name.now.text)).ty) }
+    ensures notes { OnOk result (notes.new ≡ notes.old ++ (spec.instance_call (here world.now scopes.now) name.now (map spec.reading args.now) (members.method_named (tables.shown world.now) class name.now.text)).notes) }
+{
+    match world.method(class, name.text.as_str()) {
+        None => unknown_call(alloc, world, scopes, notes, args, name.span),
+        Some(method) => called(alloc, world, scopes, notes, args, method, name.span),
+    }
+}
+
+#[cycle(values)]
+fn call_on(
+    alloc: Global,
+    world: &World,
+    scopes: &Scopes<'_>,
+    notes: &mut List<Note>,
+    args: &[Expr],
+    object: &Object,
+    name: &Ident,
+) -> Result<Option<Type_>, AllocError>
+    ensures ty { IfOk result (λ t. t ≡ (spec.call_on (here world.now scopes.now) name.now (map spec.reading args.now) (objects.shown object.now)).ty) }
+    ensures notes { OnOk result (notes.new ≡ notes.old ++ (spec.call_on (here world.now scopes.now) name.now (map spec.reading args.now) (objects.shown object.now)).notes) }
+{
+    match object {
+        Object::Nothing => {
+            arguments(alloc, world, scopes, notes, args, &[])?;
+            Ok(None)
+        }
+        Object::OfClass(class) => class_call(alloc, world, scopes, notes, args, *class, name),
+        Object::Value(Type_::Plain(Base::Class(class))) => {
+            instance_call(alloc, world, scopes, notes, args, *class, name)
+        }
+        Object::Value(_) => unknown_call(alloc, world, scopes, notes, args, name.span),
+    }
+}
+
+#[cycle(values)]
+fn creation(
+    alloc: Global,
+    world: &World,
+    scopes: &Scopes<'_>,
+    notes: &mut List<Note>,
+    args: &[Expr],
+    name: &Ident,
+) -> Result<Option<Type_>, AllocError>
+    ensures ty { IfOk result (λ t. t ≡ (spec.creation (here world.now scopes.now) name.now (map spec.reading args.now) ((tables.shown world.now).class name.now.text)).ty) }
+    ensures notes { OnOk result (notes.new ≡ notes.old ++ (spec.creation (here world.now scopes.now) name.now (map spec.reading args.now) ((tables.shown world.now).class name.now.text)).notes) }
+{
+    match world.class(name.text.as_str()) {
+        None => {
+            wrong(notes, Rule::UnknownName, name.span)?;
+            arguments(alloc, world, scopes, notes, args, &[])?;
+            Ok(None)
+        }
+        Some(class) => {
+            notes.push(Note::Use(name.span, Meaning::ClassNamed(class)))?;
+            given_to(
+                alloc,
+                world,
+                scopes,
+                notes,
+                args,
+                world.constructor_params(class),
+                name.span,
+            )?;
+            Ok(Some(Type_::Plain(Base::Class(class))))
+        }
+    }
+}
+
+/// The target of an assignment.
+#[cycle(values)]
+fn assigned(
+    alloc: Global,
+    world: &World,
+    scopes: &Scopes<'_>,
+    notes: &mut List<Note>,
+    e: &Expr,
+) -> Result<Option<Type_>, AllocError>
+    ensures ty { IfOk result (λ t. t ≡ ((spec.reading e.now).assigned (here world.now scopes.now)).ty) }
+    ensures notes { OnOk result (notes.new ≡ notes.old ++ ((spec.reading e.now).assigned (here world.now scopes.now)).notes) }
+{
+    let ty = assigned_kind(alloc, world, scopes, notes, &e.kind, e.span)?;
+    note_type(alloc, notes, &ty, e.span)?;
+    Ok(ty)
+}
+
+#[cycle(values)]
+fn assigned_kind(
+    alloc: Global,
+    world: &World,
+    scopes: &Scopes<'_>,
+    notes: &mut List<Note>,
+    k: &ExprKind,
+    span: Span,
+) -> Result<Option<Type_>, AllocError>
+    ensures ty { IfOk result (λ t. t ≡ ((spec.kind_reading k.now).assigned (here world.now scopes.now) span).ty) }
+    ensures notes { OnOk result (notes.new ≡ notes.old ++ ((spec.kind_reading k.now).assigned (here world.now scopes.now) span).notes) }
+{
+    match k {
+        ExprKind::Name(name) => variable(alloc, world, scopes, notes, true, name),
+        ExprKind::Select(object, name) => {
+            let through_this = is_this(object.get());
+            let found = receiver(alloc, world, scopes, notes, object.get())?;
+            selected(
+                alloc,
+                world,
+                scopes,
+                notes,
+                &found,
+                name,
+                true,
+                through_this,
+            )
+        }
+        _ => kind(alloc, world, scopes, notes, k, span),
+    }
+}
+
+/// An array, as it stands before its index.
+#[cycle(values)]
+fn array_part(
+    alloc: Global,
+    world: &World,
+    scopes: &Scopes<'_>,
+    notes: &mut List<Note>,
+    e: &Expr,
+) -> Result<Option<Type_>, AllocError>
+    ensures ty { IfOk result (λ t. t ≡ (spec.array_part (spec.reading e.now) (here world.now scopes.now)).ty) }
+    ensures notes { OnOk result (notes.new ≡ notes.old ++ (spec.array_part (spec.reading e.now) (here world.now scopes.now)).notes) }
+{
+    if is_null(e) {
+        wrong(notes, Rule::TypeMismatch, e.span)?;
+        return Ok(None);
+    }
+    let ty = value(alloc, world, scopes, notes, e)?;
+    element_in(alloc, notes, &ty, e.span)
+}
+
+/// What an expression is before a dot.
+#[cycle(values)]
+fn receiver(
+    alloc: Global,
+    world: &World,
+    scopes: &Scopes<'_>,
+    notes: &mut List<Note>,
+    e: &Expr,
+) -> Result<Object, AllocError>
+    ensures object { IfOk result (λ o. objects.shown o ≡ ((spec.reading e.now).receiver (here world.now scopes.now)).object) }
+    ensures notes { OnOk result (notes.new ≡ notes.old ++ ((spec.reading e.now).receiver (here world.now scopes.now)).notes) }
+{
+    receiver_kind(alloc, world, scopes, notes, &e.kind, e.span)
+}
+
+#[cycle(values)]
+fn receiver_kind(
+    alloc: Global,
+    world: &World,
+    scopes: &Scopes<'_>,
+    notes: &mut List<Note>,
+    k: &ExprKind,
+    span: Span,
+) -> Result<Object, AllocError>
+    ensures object { IfOk result (λ o. objects.shown o ≡ ((spec.kind_reading k.now).receiver (here world.now scopes.now) span).object) }
+    ensures notes { OnOk result (notes.new ≡ notes.old ++ ((spec.kind_reading k.now).receiver (here world.now scopes.now) span).notes) }
+{
+    match k {
+        ExprKind::Null => {
+            wrong(notes, Rule::TypeMismatch, span)?;
+            Ok(Object::Nothing)
+        }
+        ExprKind::Name(name) => name_before_dot(alloc, world, scopes, notes, name, span),
+        _ => {
+            let ty = kind(alloc, world, scopes, notes, k, span)?;
+            object_of(alloc, notes, ty, span)
+        }
+    }
+}
+
+#[cycle(values)]
+fn kind(
+    alloc: Global,
+    world: &World,
+    scopes: &Scopes<'_>,
+    notes: &mut List<Note>,
+    k: &ExprKind,
+    span: Span,
+) -> Result<Option<Type_>, AllocError>
+    ensures ty { IfOk result (λ t. t ≡ ((spec.kind_reading k.now).judge (here world.now scopes.now) span).ty) }
+    ensures notes { OnOk result (notes.new ≡ notes.old ++ ((spec.kind_reading k.now).judge (here world.now scopes.now) span).notes) }
+{
+    match k {
+        ExprKind::Int(_) => Ok(Some(INT)),
+        ExprKind::Bool(_) => Ok(Some(BOOLEAN)),
+        ExprKind::Null => {
+            wrong(notes, Rule::TypeMismatch, span)?;
+            Ok(None)
+        }
+        ExprKind::This => {
+            not_static(scopes, notes, false, span)?;
+            Ok(Some(Type_::Plain(Base::Class(scopes.class))))
+        }
+        ExprKind::Name(name) => variable(alloc, world, scopes, notes, false, name),
+        ExprKind::Select(object, name) => {
+            let through_this = is_this(object.get());
+            let found = receiver(alloc, world, scopes, notes, object.get())?;
+            selected(
+                alloc,
+                world,
+                scopes,
+                notes,
+                &found,
+                name,
+                false,
+                through_this,
+            )
+        }
+        ExprKind::Index(array, index) => {
+            let ty = array_part(alloc, world, scopes, notes, array.get())?;
+            check(alloc, world, scopes, notes, index.get(), Need::Of(&INT))?;
+            Ok(ty)
+        }
+        ExprKind::Call(None, name, args) => bare_call(
+            alloc,
+            world,
+            scopes,
+            notes,
+            args.as_slice(),
+            name,
+        ),
+        ExprKind::Call(Some(object), name, args) => {
+            let found = receiver(alloc, world, scopes, notes, object.get())?;
+            call_on(alloc, world, scopes, notes, args.as_slice(), &found, name)
+        }
+        ExprKind::New(name, args) => creation(alloc, world, scopes, notes, args.as_slice(), name),
+        ExprKind::NewArray(tree, size) => {
+            let ty = created(alloc, &world.table, notes, tree)?;
+            check(alloc, world, scopes, notes, size.get(), Need::Of(&INT))?;
+            Ok(ty)
+        }
+        ExprKind::NewItems(tree, items) => {
+            let ty = created(alloc, &world.table, notes, tree)?;
+            let inner = element_if(alloc, &ty)?;
+            fill_all(alloc, world, scopes, notes, items.as_slice(), &inner)?;
+            Ok(ty)
+        }
+        ExprKind::Unary(UnaryOp::Not, operand) => {
+            check(
+                alloc,
+                world,
+                scopes,
+                notes,
+                operand.get(),
+                Need::Of(&BOOLEAN),
+            )?;
+            Ok(Some(BOOLEAN))
+        }
+        ExprKind::Unary(_, operand) => {
+            check(alloc, world, scopes, notes, operand.get(), Need::Of(&INT))?;
+            Ok(Some(INT))
+        }
+        ExprKind::Binary(BinaryOp::Num(_), left, right) => {
+            check(alloc, world, scopes, notes, left.get(), Need::Of(&INT))?;
+            check(alloc, world, scopes, notes, right.get(), Need::Of(&INT))?;
+            Ok(Some(INT))
+        }
+        ExprKind::Binary(BinaryOp::Compare(rel), left, right) => {
+            if is_equality(*rel) {
+                let t = operand(alloc, world, scopes, notes, left.get())?;
+                let u = operand(alloc, world, scopes, notes, right.get())?;
+                compared(alloc, world, notes, left.get(), right.get(), &t, &u, span)?;
+                return Ok(Some(BOOLEAN));
+            }
+            check(alloc, world, scopes, notes, left.get(), Need::Of(&INT))?;
+            check(alloc, world, scopes, notes, right.get(), Need::Of(&INT))?;
+            Ok(Some(BOOLEAN))
+        }
+        ExprKind::Binary(_, left, right) => {
+            check(alloc, world, scopes, notes, left.get(), Need::Of(&BOOLEAN))?;
+            check(alloc, world, scopes, notes, right.get(), Need::Of(&BOOLEAN))?;
+            Ok(Some(BOOLEAN))
+        }
+        ExprKind::Assign(None, target, source) => {
+            let ty = assigned(alloc, world, scopes, notes, target.get())?;
+            check(alloc, world, scopes, notes, source.get(), need_like(&ty))?;
+            Ok(ty)
+        }
+        ExprKind::Assign(Some(_), target, source) => {
+            let ty = assigned(alloc, world, scopes, notes, target.get())?;
+            type_mismatch(world, notes, Need::Of(&INT), &ty, target.get().span)?;
+            check(alloc, world, scopes, notes, source.get(), Need::Of(&INT))?;
+            Ok(ty)
+        }
+        ExprKind::Step {
+            up: _,
+            after: _,
+            target,
+        } => {
+            let ty = assigned(alloc, world, scopes, notes, target.get())?;
+            type_mismatch(world, notes, Need::Of(&INT), &ty, target.get().span)?;
+            Ok(ty)
+        }
+    }
+}
+
+/// What fills a variable.
+#[cycle(values)]
+pub fn fill(
+    alloc: Global,
+    world: &World,
+    scopes: &Scopes<'_>,
+    notes: &mut List<Note>,
+    init: &Init,
+    ty: &Option<Type_>,
+) -> Result<(), AllocError>
+    ensures { OnOk result (notes.new ≡ notes.old ++ (spec.filling init.now) (here world.now scopes.now) ty.now) }
+{
+    match init {
+        Init::Value(e) => check(alloc, world, scopes, notes, e, need_like(ty)),
+        Init::Items(items, span) => {
+            list_mismatch(notes, need_like(ty), *span)?;
+            let inner = element_if(alloc, ty)?;
+            fill_all(alloc, world, scopes, notes, items.as_slice(), &inner)
+        }
+    }
+}
+
+/// The entries of a list in braces, where the array's elements have that type.
+#[cycle(values)]
+fn fill_all(
+    alloc: Global,
+    world: &World,
+    scopes: &Scopes<'_>,
+    notes: &mut List<Note>,
+    items: &[Init],
+    ty: &Option<Type_>,
+) -> Result<(), AllocError>
+    ensures { OnOk result (notes.new ≡ notes.old ++ spec.fillings (map spec.filling items.now) (here world.now scopes.now) ty.now) }
+{
+    for item in items {
+        fill(alloc, world, scopes, notes, item, ty)?;
+    }
+    Ok(())
+}
