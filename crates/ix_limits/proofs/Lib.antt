@@ -1,0 +1,2 @@
+mod FirstPassed
+mod Places
