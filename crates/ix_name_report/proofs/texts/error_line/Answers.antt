@@ -1,0 +1,11 @@
+use Rattle.std.proofs.Common.{◌∙◌, append_assoc}
+use Rattle.std.proofs.lemmas.Result.{IfOk-weaker}
+use Rattle.ix_name_report.proofs.texts.error_line.Goals as goal
+
+pub returns : goal.returns
+returns c =
+    let place = c.place-line.ensures in
+    let key = c.key-key.ensures in
+    let least = c.min.ensures in
+    let end = c.requires in
+    IfOk-weaker c.format.result _ _ (λ text is. is ∙ simp (append_assoc, place, key, least, end)) c.format.ensures.ok

@@ -1,0 +1,49 @@
+-- The texts of errors on names, as bytes. A line ends with LF, which is 10.
+use Rattle.std.specs.Prelude.{ℕ, min, List, [], ◌∷◌, ◌++◌, length, codes, decimal}
+use Rattle.ix_text.specs.Lines.{place}
+use Rattle.ix_meaning.specs.declared.note.NameError.{NameError}
+use Rattle.ix_meaning.specs.declared.note.Rule.{Rule}
+use Rattle.ix_meaning.specs.declared.note.Rule.TheVariants as rule
+use Rattle.ix_meaning.specs.declared.note.Which.{Which}
+use Rattle.ix_meaning.specs.declared.note.Which.TheVariants as which
+
+-- what users know a rule by
+abbrev pub key : Rule → List ℕ
+key rule.UnknownName = codes "unknown.name"
+key rule.DuplicateName = codes "duplicate.name"
+key rule.TypeMismatch = codes "type.mismatch"
+key rule.WrongArguments = codes "wrong.arguments"
+key rule.CyclicClass = codes "cyclic.class"
+key rule.NotStatic = codes "not.static"
+key rule.FinalAssigned = codes "final.assigned"
+key rule.NotAssignable = codes "not.assignable"
+key rule.BreakOutside = codes "break.outside"
+key rule.UnknownAnnotation = codes "unknown.annotation"
+key rule.BadArgument = codes "bad.argument"
+key rule.BadName = codes "bad.name"
+key rule.WrongTarget = codes "wrong.target"
+key rule.InheritedName = codes "inherited.name"
+
+-- what users know a limit by
+abbrev pub limit_name : Which → List ℕ
+limit_name which.Classes = codes "classes"
+limit_name which.Methods = codes "methods"
+limit_name which.Parameters = codes "parameters"
+limit_name which.Claims = codes "claims"
+limit_name which.Inheritance = codes "inheritance"
+limit_name which.Loops = codes "loops"
+limit_name which.Slots = codes "slots"
+limit_name which.Ops = codes "ops"
+
+-- `FILE:LINE:COLUMN: KEY`, with the place where the error starts in the text
+abbrev pub error_line : List ℕ → List ℕ → NameError → List ℕ
+error_line file text error =
+    file ++ codes ":" ++ decimal (place text (min error.span.from (length text))).0 ++ codes ":" ++ decimal (place text (min error.span.from (length text))).1 ++ codes ": " ++ key error.rule ++ 10 ∷ []
+
+abbrev pub error_lines : List ℕ → List ℕ → List NameError → List ℕ
+error_lines file text [] = []
+error_lines file text (error ∷ errors) = error_line file text error ++ error_lines file text errors
+
+-- a line for each error, in their order, and one with their number
+abbrev pub misnamed : List ℕ → List ℕ → List NameError → List ℕ
+misnamed file text errors = error_lines file text errors ++ (codes "rejected: " ++ decimal (length errors) ++ codes " errors" ++ 10 ∷ [])

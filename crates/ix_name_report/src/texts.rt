@@ -1,0 +1,83 @@
+//! The lines of errors, and the names of limits.
+
+ghost use Rattle.std.specs.Prelude.{◌≡◌, length, IfOk, string_bytes};
+ghost use Rattle.ix_name_report.specs.Texts as spec;
+
+use ix_meaning::{NameError, Rule, Which};
+use ix_text::LineMap;
+use std::alloc::{AllocError, Global};
+
+/// What users know a rule by.
+fn key(rule: Rule) -> &'static str
+    ensures { result.now ≡ spec.key rule }
+{
+    match rule {
+        Rule::UnknownName => "unknown.name",
+        Rule::DuplicateName => "duplicate.name",
+        Rule::TypeMismatch => "type.mismatch",
+        Rule::WrongArguments => "wrong.arguments",
+        Rule::CyclicClass => "cyclic.class",
+        Rule::NotStatic => "not.static",
+        Rule::FinalAssigned => "final.assigned",
+        Rule::NotAssignable => "not.assignable",
+        Rule::BreakOutside => "break.outside",
+        Rule::UnknownAnnotation => "unknown.annotation",
+        Rule::BadArgument => "bad.argument",
+        Rule::BadName => "bad.name",
+        Rule::WrongTarget => "wrong.target",
+        Rule::InheritedName => "inherited.name",
+    }
+}
+
+/// What users know a limit by.
+pub fn limit_name(which: Which) -> &'static str
+    ensures { result.now ≡ spec.limit_name which }
+{
+    match which {
+        Which::Classes => "classes",
+        Which::Methods => "methods",
+        Which::Parameters => "parameters",
+        Which::Claims => "claims",
+        Which::Inheritance => "inheritance",
+        Which::Loops => "loops",
+        Which::Slots => "slots",
+        Which::Ops => "ops",
+    }
+}
+
+/// The line of an error.
+fn error_line(
+    alloc: Global,
+    lines: &LineMap,
+    end: u32,
+    file: &str,
+    error: &NameError,
+) -> Result<String, AllocError>
+    requires { end ≡ length lines.now }
+    ensures { IfOk result (λ text. string_bytes text ≡ spec.error_line file.now lines.now error.now) }
+{
+    let (line, column) = lines.place(error.span.from.min(end));
+    let key = key(error.rule);
+    format!(in alloc; "{file}:{line}:{column}: {key}\n")
+}
+
+/// The lines of a source with errors on names: one for each of them, in their order, and one with their number. `lines` are those of the
+/// source, which has `end` bytes; an error past its end is placed at the end.
+pub fn misnamed(
+    alloc: Global,
+    lines: &LineMap,
+    end: u32,
+    file: &str,
+    errors: &[NameError],
+) -> Result<String, AllocError>
+    requires { end ≡ length lines.now }
+    ensures { IfOk result (λ text. string_bytes text ≡ spec.misnamed file.now lines.now errors.now) }
+{
+    let mut text = String::new(alloc);
+    for error in errors {
+        text.push_str(error_line(alloc, lines, end, file, error)?.as_str())?;
+    }
+    let count = errors.len();
+    write!(text, "rejected: {count} errors\n")?;
+    Ok(text)
+}
