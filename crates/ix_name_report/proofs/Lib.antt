@@ -1,1 +1,2 @@
 pub mod ErrorLines
+pub mod OneList

@@ -14,7 +14,7 @@ use Rattle.ix_grammar.specs.declared.error.ParseError.TheVariants as syntax
 use Rattle.ix_report.specs.Texts.{rejected}
 use Rattle.ix_outside.specs.Outside.{Files, bytes_under}
 use Rattle.ix_tool.specs.Statuses.{is_answer}
-use Rattle.ix_tool.specs.Answer.{Answer, Answers, Finding, TooLong, Broken, Past, NotBuilt, Judged, Found, too_long, no_tokens, lexed, FoundOf, no_tree, tree, of_lex_error, of_parse_error, start_of, judged_by, of_source, answer_on, out_answer, IsVerdict, verdict, usage}
+use Rattle.ix_tool.specs.Answer.{Answer, Answers, Finding, TooLong, Broken, Past, Misnamed, NotBuilt, Judged, Found, too_long, no_tokens, lexed, FoundOf, no_tree, tree, FoundIn, past, misnames, inherits, named, of_lex_error, of_parse_error, start_of, judged_by, answer_on, out_answer, IsVerdict, verdict, usage}
 use Rattle.ix_tool.specs.Findings.{IsPlaced}
 use Rattle.ix_outside.specs.Reading.{IsAllOrPast, most_bytes}
 use Rattle.ix_tool.specs.Ends.{bytes_of, SafeBytes}
@@ -81,6 +81,7 @@ is_answer-on : (file bytes : List ℕ) (finding : Finding) → is_answer (answer
 is_answer-on file bytes TooLong = refl
 is_answer-on file bytes (Broken at key) = refl
 is_answer-on file bytes (Past at name) = refl
+is_answer-on file bytes (Misnamed errors) = refl
 is_answer-on file bytes NotBuilt = refl
 is_answer-on file bytes (Judged counts errors) = is_answer-verdict file bytes counts errors
 
@@ -137,7 +138,10 @@ found_safe : Law → (file bytes : List ℕ) (finding : Finding) → Found bytes
 found_safe law file bytes _ (too_long past) done = absurd (cc)
 found_safe law file bytes _ (no_tokens {finding} why short fails is) done = absurd (lex_error_undone file bytes why finding is done)
 found_safe law file bytes _ (lexed {finding} tokens short lexing few (no_tree why refused is)) done = absurd (parse_error_undone file bytes tokens (length bytes) why finding is done)
-found_safe law file bytes _ (lexed tokens short lexing few (tree source has)) done = record {
+found_safe law file bytes _ (lexed tokens short lexing few (tree source has (past p is))) done = absurd (cc)
+found_safe law file bytes _ (lexed tokens short lexing few (tree source has (misnames errors refused))) done = absurd (cc)
+found_safe law file bytes _ (lexed tokens short lexing few (tree source has (inherits p none no_errors is))) done = absurd (cc)
+found_safe law file bytes _ (lexed tokens short lexing few (tree source has (named accepts))) done = record {
   tokens = tokens;
   lexed = lexing;
   source = source;
@@ -155,11 +159,11 @@ Answers-safe law (Some file) bytes answer right done = IsVerdict-safe law file b
 
 -- ---- what the calls below answer is what is found
 
--- no other finding than that of this tree
-pub tree_only : (tokens : List Token) (end : ℕ) (source : Source) (other : Finding) → ((unit : Source) → HasTree tokens unit → source ≡ unit) → ((why : ParseError) → Refused tokens why → ⊥)
-    → FoundOf tokens end other → of_source source ≡ other
-tree_only tokens end source other one none (no_tree why refused is) = absurd (none why refused)
-tree_only tokens end source _ one none (tree unit has) = ap of_source (one unit has)
+-- what is found of the tokens of this tree is found in it
+pub tree_found : (tokens : List Token) (end : ℕ) (source : Source) (other : Finding) → ((unit : Source) → HasTree tokens unit → source ≡ unit) → ((why : ParseError) → Refused tokens why → ⊥)
+    → FoundOf tokens end other → FoundIn end source other
+tree_found tokens end source other one none (no_tree why refused is) = absurd (none why refused)
+tree_found tokens end source other one none (tree unit has found) = subst (λ u. FoundIn end u other) (sym (one unit has)) found
 
 known_refusal : (tokens : List Token) (end : ℕ) (why : ParseError) (finding : Finding) → Some finding ≡ of_parse_error tokens end why → why ≢ syntax.Memory
 known_refusal tokens end (syntax.Syntax number) finding is = λ same. cc
@@ -178,10 +182,7 @@ refusal_only tokens end why finding other is none one (no_tree error refused sam
   | inl e ↦ some_is finding other (is ∙ ap (of_parse_error tokens end) e ∙ same)
   | inr e ↦ absurd (known_refusal tokens end why finding is e)
 ]
-refusal_only tokens end why finding _ is none one (tree unit has) = absurd (known_refusal tokens end why finding is (none unit has))
-
-pub tree_of : (tokens : List Token) (end : ℕ) (source : Source) (finding : Finding) → finding ≡ of_source source → HasTree tokens source → FoundOf tokens end finding
-tree_of tokens end source finding is has = subst (λ f. FoundOf tokens end f) (sym is) (tree source has)
+refusal_only tokens end why finding other is none one (tree unit has found) = absurd (known_refusal tokens end why finding is (none unit has))
 
 after : (from end : ℕ) (tokens : List Token) → InOrder from end tokens → from ≤ end
 after from end [] order = order

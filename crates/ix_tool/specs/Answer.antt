@@ -1,5 +1,5 @@
 -- What the tool is to answer: a status and the texts on both sinks, from the words and the bytes of the file that they name.
-use Rattle.std.specs.Prelude.{◌≡◌, ◌≤◌, ◌<◌, ℕ, List, [], ◌∷◌, ◌++◌, Option, Some, None, length, drop, codes, string_bytes}
+use Rattle.std.specs.Prelude.{◌≡◌, ◌≤◌, ◌<◌, min, ℕ, List, [], ◌∷◌, ◌++◌, Option, Some, None, length, drop, codes, string_bytes}
 use Rattle.ix_lexer.specs.declared.token.LexError.{LexError}
 use Rattle.ix_lexer.specs.declared.token.LexError.TheVariants as lexical
 use Rattle.ix_lexer.specs.declared.token.Token.{Token}
@@ -8,6 +8,12 @@ use Rattle.ix_tree.specs.declared.decl.Unit.{Unit as Source}
 use Rattle.ix_grammar.specs.declared.error.ParseError.{ParseError}
 use Rattle.ix_grammar.specs.declared.error.ParseError.TheVariants as syntax
 use Rattle.ix_grammar.specs.Refusals.{HasTree, Refused}
+use Rattle.ix_meaning.specs.declared.note.NameError.{NameError}
+use Rattle.ix_meaning.specs.declared.note.NameErrors.{NameErrors}
+use Rattle.ix_meaning.specs.declared.note.NameErrors.TheVariants as names
+use Rattle.ix_meaning.specs.Limits.{Passed, limit, inheritance_limit}
+use Rattle.ix_meaning.specs.Resolved.{name_errors, Accepts, IsRefused}
+use Rattle.ix_name_report.specs.Texts.{misnamed, limit_name}
 use Rattle.ix_core.specs.declared.error.Error.{Error}
 use Rattle.ix_check.specs.declared.check_source.Counts.{Counts}
 use Rattle.ix_check.specs.Rules.{errors_of}
@@ -44,6 +50,8 @@ pub data Finding : Type 0 where
   Broken : ℕ → List ℕ → Finding
   -- a limit that is passed at a byte, by its name
   Past : ℕ → List ℕ → Finding
+  -- errors on names, types and annotations, as they are listed
+  Misnamed : List NameError → Finding
   -- a source of a form that isn't built yet
   NotBuilt : Finding
   -- a source with these counts and these errors
@@ -74,15 +82,33 @@ abbrev pub judged_by : Option Counts → Option (List Error) → Finding
 judged_by (Some counts) (Some errors) = Judged counts errors
 judged_by _ _ = NotBuilt
 
-abbrev pub of_source : Source → Finding
-of_source source = judged_by (counts_of source) (errors_of source)
+-- a source without errors on names
+abbrev pub of_named : Source → Finding
+of_named source = judged_by (counts_of source) (errors_of source)
+
+-- a limit of names that is passed, in a text of that length
+abbrev pub of_limit : ℕ → Passed → Finding
+of_limit end p = Past (min p.place end) (limit_name p.which)
+
+-- a source whose names have errors; want of memory is no finding
+abbrev pub of_name_errors : ℕ → NameErrors → Option Finding
+of_name_errors end (names.Errors errors) = Some (Misnamed errors)
+of_name_errors end (names.Limit which place) = Some (Past (min place end) (limit_name which))
+of_name_errors end names.Memory = None
+
+-- This is found of a source in a text of that length. The first that holds decides: a limit, errors on names, the limit of inheritance, the form.
+pub data FoundIn (end : ℕ) (source : Source) : Finding → Type 0 where
+  past : (p : Passed) → limit source.classes ≡ Some p → FoundIn end source (of_limit end p)
+  misnames : (errors : List NameError) → IsRefused source errors → FoundIn end source (Misnamed errors)
+  inherits : (p : Passed) → limit source.classes ≡ None → name_errors source ≡ [] → inheritance_limit source.classes ≡ Some p → FoundIn end source (of_limit end p)
+  named : Accepts source → FoundIn end source (of_named source)
 
 -- This is found of the tokens of a text of that length.
 pub data FoundOf (tokens : List Token) (end : ℕ) : Finding → Type 0 where
   no_tree : {finding : Finding} (why : ParseError) → Refused tokens why → of_parse_error tokens end why ≡ Some finding → FoundOf tokens end finding
-  tree : (source : Source) → HasTree tokens source → FoundOf tokens end (of_source source)
+  tree : {finding : Finding} (source : Source) → HasTree tokens source → FoundIn end source finding → FoundOf tokens end finding
 
--- This is found of the bytes of a file. The first that holds decides: too many bytes, no tokens, no tree, the form, the errors.
+-- This is found of the bytes of a file. The first that holds decides: too many bytes, no tokens, no tree, what is found of the tree.
 pub data Found (bytes : List ℕ) : Finding → Type 0 where
   too_long : most_bytes < length bytes → Found bytes TooLong
   no_tokens : {finding : Finding} (why : LexError) → length bytes ≤ most_bytes → Fails bytes why → of_lex_error why ≡ Some finding → Found bytes finding
@@ -100,6 +126,7 @@ abbrev pub answer_on : List ℕ → List ℕ → Finding → Answer
 answer_on file bytes TooLong = err_answer Limit (past_bytes file)
 answer_on file bytes (Broken at key) = out_answer Rejected (broken file bytes at key)
 answer_on file bytes (Past at name) = err_answer Limit (past_limit file bytes at name)
+answer_on file bytes (Misnamed errors) = out_answer Rejected (misnamed file bytes errors)
 answer_on file bytes NotBuilt = err_answer Unbuilt (file ++ line (codes ": not built yet"))
 answer_on file bytes (Judged counts errors) = verdict file bytes counts errors
 

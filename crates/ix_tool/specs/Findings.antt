@@ -2,12 +2,13 @@
 use Rattle.std.specs.Prelude.{ℕ, ◌≤◌, List}
 use Rattle.ix_tool.specs.declared.finding.Finding.{Finding as Seen}
 use Rattle.ix_tool.specs.declared.finding.Finding.TheVariants as code
-use Rattle.ix_tool.specs.Answer.{Finding, TooLong, Broken, Past, NotBuilt, Judged}
+use Rattle.ix_tool.specs.Answer.{Finding, TooLong, Broken, Past, Misnamed, NotBuilt, Judged}
 
 abbrev pub seen : Seen → Finding
 seen code.TooLong = TooLong
 seen (code.Broken at key) = Broken at key.now
 seen (code.Past at name) = Past at name.now
+seen (code.Misnamed errors) = Misnamed errors
 seen code.NotBuilt = NotBuilt
 seen (code.Judged counts errors) = Judged counts errors.items
 

@@ -1,6 +1,7 @@
 //! What the bytes of a file turn out to be.
 ghost use Rattle.std.specs.Prelude.{◌≡◌, ◌≤◌, length, option_map, drop, IfOk};
 ghost use Rattle.ix_lexer.specs.Spans.{InOrder};
+ghost use Rattle.ix_tree.specs.Parts.{CanResolve};
 ghost use Rattle.ix_tool.specs.Answer as spec;
 ghost use Rattle.ix_grammar.specs.Refusals.{IsWithin as TokenWithin};
 ghost use Rattle.ix_tool.specs.Findings.{seen, IsPlaced};
@@ -8,8 +9,12 @@ ghost use Rattle.ix_tool.specs.Findings.{seen, IsPlaced};
 use ix_check::{Counts, UnitError, check_unit, count_unit};
 use ix_core::Error;
 use ix_lexer::{LexError, Token, lex};
+use ix_meaning::{NameError, NameErrors};
+use ix_name_report::limit_name;
+use ix_names::resolve;
 use ix_outside::MOST_BYTES;
 use ix_parser::{ParseError, parse};
+use ix_text::List;
 use ix_tree::Unit;
 use std::alloc::{AllocError, Global};
 
@@ -22,6 +27,8 @@ pub(crate) enum Finding {
     Broken(u32, &'static str),
     /// A limit that is passed at a byte, by its name.
     Past(u32, &'static str),
+    /// Errors on names, types and annotations, as they are listed.
+    Misnamed(List<NameError>),
     /// A source of a form that isn't built yet.
     NotBuilt,
     /// A source with its counts and its errors.
@@ -70,9 +77,9 @@ fn of_parse_error(tokens: &[Token], end: u32, why: ParseError) -> Option<Finding
     }
 }
 
-/// What a source is.
-fn of_unit(alloc: Global, unit: &Unit) -> Result<Finding, AllocError>
-    ensures found { IfOk result (λ finding. seen finding ≡ spec.of_source unit.now) }
+/// What a source without errors on names is.
+fn of_named(alloc: Global, unit: &Unit) -> Result<Finding, AllocError>
+    ensures found { IfOk result (λ finding. seen finding ≡ spec.of_named unit.now) }
     ensures placed { IfOk result (λ finding. IsPlaced 0 (seen finding)) }
 {
     let counts = match count_unit(alloc, unit) {
@@ -87,6 +94,33 @@ fn of_unit(alloc: Global, unit: &Unit) -> Result<Finding, AllocError>
     }
 }
 
+/// What a source is whose names have errors; nothing where memory is wanting.
+fn of_name_errors(end: u32, why: NameErrors) -> Option<Finding>
+    ensures { option_map seen result ≡ spec.of_name_errors end why }
+{
+    match why {
+        NameErrors::Errors(errors) => Some(Finding::Misnamed(errors)),
+        NameErrors::Limit(which, place) => Some(Finding::Past(place.min(end), limit_name(which))),
+        NameErrors::Memory => None,
+    }
+}
+
+/// What a source in a text of `end` bytes is.
+fn of_unit(alloc: Global, unit: &Unit, end: u32) -> Result<Finding, AllocError>
+    requires can_resolve { CanResolve unit.now }
+    ensures right { IfOk result (λ finding. spec.FoundIn end unit.now (seen finding)) }
+    ensures only { (other : spec.Finding) → spec.FoundIn end unit.now other → IfOk result (λ finding. seen finding ≡ other) }
+    ensures placed { IfOk result (λ finding. IsPlaced end (seen finding)) }
+{
+    match resolve(alloc, unit) {
+        Ok(_) => of_named(alloc, unit),
+        Err(why) => match of_name_errors(end, why) {
+            Some(finding) => Ok(finding),
+            None => Err(AllocError),
+        },
+    }
+}
+
 /// What the tokens of a text of `end` bytes are.
 fn of_tokens(alloc: Global, tokens: &[Token], end: u32) -> Result<Finding, AllocError>
     requires few { length tokens.now ≤ 200000 }
@@ -96,7 +130,7 @@ fn of_tokens(alloc: Global, tokens: &[Token], end: u32) -> Result<Finding, Alloc
     ensures placed { IfOk result (λ finding. IsPlaced end (seen finding)) }
 {
     match parse(alloc, tokens, end) {
-        Ok(unit) => of_unit(alloc, &unit),
+        Ok(unit) => of_unit(alloc, &unit, end),
         Err(why) => match of_parse_error(tokens, end, why) {
             Some(finding) => Ok(finding),
             None => Err(AllocError),

@@ -1,12 +1,14 @@
 //! The reply to a command, before it is written.
 ghost use Rattle.std.specs.Prelude.{◌≡◌, ◌≢◌, ◌≤◌, length, IfOk, string_bytes};
-ghost use Rattle.ix_tool.specs.Answer.{Answer, IsVerdict, TooLong, Broken, Past, out_answer, err_answer, answer_on, shown, verdict, usage};
+ghost use Rattle.ix_tool.specs.Answer.{Answer, IsVerdict, TooLong, Broken, Past, Misnamed, out_answer, err_answer, answer_on, shown, verdict, usage};
 ghost use Rattle.ix_tool.specs.Findings.{seen, IsPlaced};
 
 use crate::finding::{Finding, of_bytes};
 use crate::status::Status;
 use ix_check::Counts;
 use ix_core::Error;
+use ix_meaning::NameError;
+use ix_name_report::misnamed;
 use ix_report::{accepted, broken, past_bytes, past_limit, rejected};
 use ix_text::LineMap;
 use std::alloc::{AllocError, Global};
@@ -79,6 +81,22 @@ fn broken_reply(
     Ok(on_out(alloc, Status::Rejected, out))
 }
 
+/// The reply on a source with errors on names.
+fn misnamed_reply(
+    alloc: Global,
+    name: &str,
+    bytes: &[u8],
+    errors: &[NameError],
+) -> Result<Reply, AllocError>
+    requires { length bytes.now ≤ 1048576 }
+    ensures { IfOk result (λ reply. shown reply ≡ answer_on name.now bytes.now (Misnamed errors.now)) }
+{
+    let lines = LineMap::new(alloc, bytes)?;
+    let end = bytes.len() as u32;
+    let out = misnamed(alloc, &lines, end, name, errors)?;
+    Ok(on_out(alloc, Status::Rejected, out))
+}
+
 /// The reply on a source that passes a limit at the byte `at`.
 fn past_reply(
     alloc: Global,
@@ -111,6 +129,7 @@ fn finding_reply(
         Finding::TooLong => Ok(on_err(alloc, Status::Limit, past_bytes(alloc, name)?)),
         Finding::Broken(at, key) => broken_reply(alloc, name, bytes, *at, key),
         Finding::Past(at, limit) => past_reply(alloc, name, bytes, *at, limit),
+        Finding::Misnamed(errors) => misnamed_reply(alloc, name, bytes, errors.as_slice()),
         Finding::NotBuilt => {
             let err = format!(in alloc; "{name}: not built yet\n")?;
             Ok(on_err(alloc, Status::Unbuilt, err))

@@ -41,6 +41,12 @@ fn sources(rt: HostRuntime) -> Result<(), Fail> {
             "",
         ),
         (
+            "class A { static int f(int x) { int x = 1; return y; } }",
+            Status::Rejected,
+            "A.java:1:37: duplicate.name\nA.java:1:51: unknown.name\nrejected: 2 errors\n",
+            "",
+        ),
+        (
             "package p; import q.R; public final class A { static int get(int[] a, @IndexFor(\"#1\") int i) { return (a[(i)]); } }",
             Status::Done,
             ACCEPTED,

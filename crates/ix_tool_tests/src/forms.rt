@@ -47,11 +47,11 @@ fn both_sides(rt: HostRuntime) -> Result<(), Fail> {
     let alloc = rt.alloc();
     let rows = [
         (with_params(alloc, 30)?, Status::Done),
-        (with_params(alloc, 31)?, Status::Unbuilt),
+        (with_params(alloc, 31)?, Status::Limit),
         (with_locals(alloc, 400)?, Status::Done),
         (with_locals(alloc, 401)?, Status::Unbuilt),
         (with_claims(alloc, 16)?, Status::Done),
-        (with_claims(alloc, 17)?, Status::Unbuilt),
+        (with_claims(alloc, 17)?, Status::Limit),
     ];
     for row in &rows {
         assert!(rt; status_of(alloc, row.0.as_str())? == row.1);
