@@ -34,6 +34,25 @@ declared_at p [] = None
 declared_at p (Declares q d ∷ ns) = or_found (same_span q p) d (declared_at p ns)
 declared_at p (_ ∷ ns) = declared_at p ns
 
+-- What a table of names answers at each place.
+pub record Names : Type 0 where
+  -- what the use there means
+  pub meaning : Span → Option Meaning
+  -- the type of the expression there
+  pub type_of : Span → Option Ty
+  -- what the declaration of the name there says
+  pub declared : Span → Option Declared
+
+abbrev pub names_in : List Note → Names
+names_in ns = record {
+  meaning = λ p. meaning_at p ns;
+  type_of = λ p. type_at p ns;
+  declared = λ p. declared_at p ns;
+}
+
+abbrev pub names : Source → Names
+names unit = names_in (notes unit.classes)
+
 -- ---- the three definitions on names
 
 -- What the use at that place means.

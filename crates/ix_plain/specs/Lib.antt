@@ -1,5 +1,4 @@
 -- The plain form, from what names mean up to whole programs.
-pub mod Names
 pub mod Scope
 pub mod Parts
 pub mod Assigned

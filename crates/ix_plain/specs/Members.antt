@@ -11,7 +11,7 @@ use Rattle.ix_tree.specs.declared.decl.Member.TheVariants as member
 use Rattle.ix_tree.specs.declared.decl.MethodDecl.{MethodDecl}
 use Rattle.ix_meaning.specs.Members.{next_fields}
 use Rattle.ix_meaning.specs.Source.{is_constructor, has_constructor}
-use Rattle.ix_plain.specs.Names.{Names}
+use Rattle.ix_meaning.specs.Resolved.{Names}
 use Rattle.ix_plain.specs.declared.body.Head.{Head}
 use Rattle.ix_plain.specs.Scope.{declared_type, declared_claims}
 

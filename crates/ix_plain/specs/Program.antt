@@ -19,7 +19,7 @@ use Rattle.ix_meaning.specs.Classes.{parents, parent}
 use Rattle.ix_meaning.specs.Inheritance.{overridden}
 use Rattle.ix_meaning.specs.Limits.{Passed}
 use Rattle.ix_meaning.specs.Members.{World, world, signature, next_field}
-use Rattle.ix_plain.specs.Names.{Names}
+use Rattle.ix_meaning.specs.Resolved.{Names}
 use Rattle.ix_meaning.specs.Source.{has_constructor}
 use Rattle.ix_plain.specs.declared.body.Body.{Body}
 use Rattle.ix_plain.specs.declared.body.Head.{Head}

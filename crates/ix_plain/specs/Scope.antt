@@ -9,7 +9,7 @@ use Rattle.ix_core.specs.declared.program.Local.{Local}
 use Rattle.ix_meaning.specs.declared.note.Declared.{Declared}
 use Rattle.ix_meaning.specs.declared.note.Meaning.{Meaning}
 use Rattle.ix_meaning.specs.declared.note.Meaning.TheVariants as meaning
-use Rattle.ix_plain.specs.Names.{Names}
+use Rattle.ix_meaning.specs.Resolved.{Names}
 use Rattle.ix_plain.specs.declared.body.Head.{Head}
 
 -- What stays the same in a body.
