@@ -1,1 +1,3 @@
 mod FirstNotes
+mod LeastRanks
+mod SortedErrors

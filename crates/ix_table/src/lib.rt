@@ -6,6 +6,9 @@
 //! It never looks at the tree.
 #![tactic(auto)]
 
+mod errors;
+mod listing;
 mod table;
 
+pub use listing::errors_of;
 pub use table::{Table, table_of};

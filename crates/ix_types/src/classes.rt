@@ -13,7 +13,8 @@ use std::alloc::{AllocError, Global};
 /// The classes by their names.
 pub type ClassTable = IndexMap<String, u32>;
 
-pub fn note_class(
+/// Notes that the name means that number, unless it means one already.
+pub fn note_first(
     alloc: Global,
     classes: &mut IndexMap<String, u32>,
     name: &str,
@@ -35,7 +36,7 @@ fn noted_classes(alloc: Global, classes: &[ClassDecl]) -> Result<IndexMap<String
 {
     let mut table = IndexMap::new(alloc);
     for (i, class) in classes.iter().enumerate() {
-        note_class(alloc, &mut table, class.name.text.as_str(), i as u32)?;
+        note_first(alloc, &mut table, class.name.text.as_str(), i as u32)?;
     }
     Ok(table)
 }
@@ -75,7 +76,8 @@ pub fn parents(
     Ok(parents)
 }
 
-fn parent(parents: &[Option<u32>], class: u32) -> Option<u32>
+/// The class that a class extends.
+pub fn parent(parents: &[Option<u32>], class: u32) -> Option<u32>
     ensures { result ≡ spec.parent parents.now class }
 {
     match parents.get(class as usize) {

@@ -9,7 +9,9 @@
 mod classes;
 mod types;
 
-pub use classes::{ClassTable, class_table, is_among, is_cyclic, note_class, parents, supers};
+pub use classes::{
+    ClassTable, class_table, is_among, is_cyclic, note_first, parent, parents, supers,
+};
 pub use types::{
     BOOLEAN, INT, Need, copied, copied_option, element, is_primitive, is_reference, need_like,
     same_type,

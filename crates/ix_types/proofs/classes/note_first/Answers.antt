@@ -3,7 +3,7 @@ use Rattle.std.proofs.lemmas.Slice.Eq.{bytes_eq-Decides}
 use Rattle.std.proofs.lemmas.Map.Text.{text_keys}
 use Rattle.indexmap.specs.IndexMap.{get_by_text}
 use Rattle.ix_meaning.specs.Classes.{first_or}
-use Rattle.ix_types.proofs.classes.note_class.Goals as goal
+use Rattle.ix_types.proofs.classes.note_first.Goals as goal
 
 by_test : (b : Bool) (f g at : Option ℕ) (n name : List ℕ) (i : ℕ) → bytes_eq name n ≡ b → at ≡ None → (b ≡ true → f ≡ at) → g ≡ cond b (Some i) f → g ≡ first_or f n name i
 by_test true (Some k) g at n name i t none same is = let e = same refl in cc

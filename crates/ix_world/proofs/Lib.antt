@@ -1,0 +1,4 @@
+pub mod FewMembers
+pub mod FirstNumbers
+pub mod NoMembers
+pub mod Worlds

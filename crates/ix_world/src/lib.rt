@@ -1,0 +1,15 @@
+//! The members of all classes, by their numbers and by their names.
+//!
+//! What goes in: the classes of the tree. What comes out: their fields, methods and constructors, and which of them a name means in a class.
+//! The contract: `world` of `ix_meaning`'s `Members`, member for member.
+//! It stands on the types of `ix_types` and `ix_written`, and on `indexmap` for names.
+//! It never looks at a body.
+#![tactic(auto)]
+
+mod constant;
+mod lists;
+mod named;
+mod world;
+
+pub use lists::{field_of, fields, method_of, methods, param_type};
+pub use world::{Called, ClassWorld, World, world_of};

@@ -1,0 +1,2 @@
+pub mod ClassUses
+pub mod EachOnce

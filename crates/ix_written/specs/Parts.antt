@@ -1,0 +1,16 @@
+-- Which annotations of a list are meant.
+use Rattle.std.specs.Prelude.{Bool, true, not, List}
+use Rattle.ix_tree.specs.declared.annot.Annot.{Annot}
+use Rattle.ix_meaning.specs.Annotated.{is_of_method, of_method, of_result}
+use Rattle.ix_written.specs.declared.part.Part.{Part}
+use Rattle.ix_written.specs.declared.part.Part.TheVariants.{All, OfMethod, OfResult}
+
+abbrev pub is_chosen : Part → Annot → Bool
+is_chosen All annot = true
+is_chosen OfMethod annot = is_of_method annot
+is_chosen OfResult annot = not (is_of_method annot)
+
+abbrev pub chosen : Part → List Annot → List Annot
+chosen All annots = annots
+chosen OfMethod annots = of_method annots
+chosen OfResult annots = of_result annots

@@ -1,0 +1,17 @@
+//! Types and claims as declarations write them.
+//!
+//! What goes in: the annotations and the type of a declaration. What comes out: its type and its claims, and what is noted of them.
+//! The contract: `Annotated` of `ix_meaning`.
+//! It stands on the annotations of `ix_annot` and on the definitions of `ix_meaning`.
+//! It never looks at a member or at a body.
+#![tactic(auto)]
+
+mod claims;
+mod declaration;
+mod part;
+mod types;
+
+pub use claims::{Nowhere, distinct, given};
+pub use declaration::{Declaration, created, element_claims, static_field, variable};
+pub use part::{Part, is_of_method};
+pub use types::{note_class_use, target_before, written_type};
