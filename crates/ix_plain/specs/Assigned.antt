@@ -70,4 +70,4 @@ init_assigns = fold-Init Assigns Adding Assigns kind_step init_step expr_step
 
 -- of a list of full expressions, as the arguments of `super(..)` are
 abbrev pub all_assign : List Expr → Adding
-all_assign exprs = all (map (λ expr. (assigns expr).inside) exprs)
+all_assign exprs = all (each (map assigns exprs))

@@ -1,8 +1,8 @@
 -- What is counted of a source and of its plain form.
 use Rattle.std.specs.Prelude.{ℕ, ◌+◌, if◌then◌else◌, List, [], ◌∷◌, map, nat_lt, Option, Some, None}
 use Rattle.ix_core.specs.declared.code.Block.{Block, Block-F, fold-Block}
-use Rattle.ix_core.specs.declared.code.Cond.{Cond-F}
-use Rattle.ix_core.specs.declared.code.Item.{Item-F}
+use Rattle.ix_core.specs.declared.code.Cond.{Cond, Cond-F, fold-Cond}
+use Rattle.ix_core.specs.declared.code.Item.{Item, Item-F, fold-Item}
 use Rattle.ix_tree.specs.declared.decl.ClassDecl.{ClassDecl}
 use Rattle.ix_tree.specs.declared.decl.LocalDecl.{LocalDecl}
 use Rattle.ix_tree.specs.declared.decl.Member.{Member}
@@ -79,6 +79,12 @@ block_operations block = all block.items
 
 abbrev pub operations : Block → Count
 operations = fold-Block Count Count Count cond_operations item_operations block_operations
+
+abbrev pub operations_of_item : Item → Count
+operations_of_item = fold-Item Count Count Count cond_operations item_operations block_operations
+
+abbrev pub operations_of_cond : Cond → Count
+operations_of_cond = fold-Cond Count Count Count cond_operations item_operations block_operations
 
 -- ---- the array accesses that a source has
 

@@ -1,5 +1,5 @@
 -- What a whole source becomes (JLS 8).
-use Rattle.std.specs.Prelude.{ℕ, ◌+◌, Bool, true, false, if◌then◌else◌, List, [], ◌∷◌, ◌++◌, length, map, nat_lt, Option, Some, None, option_map, Result, Ok, Err}
+use Rattle.std.specs.Prelude.{ℕ, Bool, true, false, if◌then◌else◌, List, [], ◌∷◌, ◌++◌, map, nat_lt, Option, Some, None, option_map, Result, Ok, Err}
 use Rattle.ix_text.specs.declared.span.Span.{Span}
 use Rattle.ix_core.specs.declared.claim.Type_.TheVariants.{Void}
 use Rattle.ix_core.specs.declared.op.OpKind.TheVariants as op
@@ -15,21 +15,22 @@ use Rattle.ix_tree.specs.declared.expr.Expr.{Expr}
 use Rattle.ix_tree.specs.declared.expr.Init.{Init}
 use Rattle.ix_tree.specs.declared.stmt.Stmt.{Stmt}
 use Rattle.ix_meaning.specs.declared.note.Which.TheVariants as which
-use Rattle.ix_meaning.specs.Classes.{parents, parent}
+use Rattle.ix_meaning.specs.Classes.{parent}
 use Rattle.ix_meaning.specs.Inheritance.{overridden}
 use Rattle.ix_meaning.specs.Limits.{Passed}
-use Rattle.ix_meaning.specs.Members.{World, world, signature, next_field}
+use Rattle.ix_meaning.specs.Members.{World, Callee, world, signature}
 use Rattle.ix_meaning.specs.Resolved.{Names}
 use Rattle.ix_meaning.specs.Source.{has_constructor}
 use Rattle.ix_plain.specs.declared.body.Body.{Body}
 use Rattle.ix_plain.specs.declared.body.Head.{Head}
 use Rattle.ix_plain.specs.Scope.{Site, constructor_at, declared_type, declared_claims, is_effect_free}
 use Rattle.ix_plain.specs.Parts.{Within, ◌>>=◌, empty, block, done}
-use Rattle.ix_plain.specs.Assigned.{all_assign, init_assigns}
+use Rattle.ix_plain.specs.Assigned.{all_assign}
 use Rattle.ix_plain.specs.Values.{lowering, filling, arguments_from, calling}
-use Rattle.ix_plain.specs.Statements.{scope_for, behind, with_last, each, statement, most_loops}
+use Rattle.ix_plain.specs.Statements.{scope_for, behind, with_last, init_evaluated, each, statement, most_loops}
 use Rattle.ix_plain.specs.Counts.{loops, operations, accesses}
-use Rattle.ix_plain.specs.Members.{Next, next_behind, first_numbers, heads, constructors, is_static, params_from, fields_from, classes_from}
+use Rattle.ix_plain.specs.Members.{next_behind, first_numbers, next_field, heads, constructors, is_static, params_from, param_types_from, slot_behind, fields_from, classes_from}
+use Rattle.ix_plain.specs.declared.numbers.Next.{Next}
 
 -- ---- what a method stands in
 
@@ -56,19 +57,21 @@ site tables home params = record { names = tables.names; heads = tables.heads; c
 -- ---- what a constructor begins with (JLS 12.5)
 
 -- the parent's constructor, on the same object; the arguments are one full expression
-abbrev pub super_call : Site → Option ℕ → List Expr → Span → Body → Within Body
-super_call site None args span body = Ok body
-super_call site (Some parent) args span body = do
+abbrev pub parent_call : Site → ℕ → List Expr → Span → Body → Within Body
+parent_call site parent args span body = do
   given ← arguments_from [] (map lowering args) (scope_for site body (all_assign args)) body.made
   called ← calling op.SuperCall (constructor_at site parent) (Some 0) parent span given
   Ok (behind body called.made.items called.made.free)
 
+abbrev pub super_call : Site → Option ℕ → List Expr → Span → Body → Within Body
+super_call site None args span body = Ok body
+super_call site (Some parent) args span body = parent_call site parent args span body
+
 abbrev pub field_initialised : Site → ℕ → LocalDecl → Option Init → Body → Within Body
 field_initialised site field decl None body = Ok body
 field_initialised site field decl (Some init) body =
-    (filling init).value (scope_for site body (init_assigns init)) (declared_type (site.names.declared decl.name.span)) body.made
-    >>= (λ value. Ok (with_last (behind body value.made.items value.made.free)
-    (done (op.WriteField 0 field value.slot) (filling init).span (decl.name.span ∷ (filling init).span ∷ []))))
+    init_evaluated site init (declared_type (site.names.declared decl.name.span)) body
+    >>= (λ value. Ok (with_last value.body (done (op.WriteField 0 field value.slot) (filling init).span (decl.name.span ∷ (filling init).span ∷ []))))
 
 abbrev pub member_initialised : Site → ℕ → LocalDecl → Body → Within Body
 member_initialised site field decl body = if decl.mods.is_static then Ok body else field_initialised site field decl decl.init body
@@ -117,8 +120,11 @@ limited statements body head = if nat_lt most_loops (loops statements 0) then Er
 abbrev pub first_param : Bool → ℕ
 first_param is_static = if is_static then 0 else 1
 
+abbrev pub number_of : Option Callee → Option ℕ
+number_of callee = option_map (λ callee. callee.number) callee
+
 abbrev pub overrides : World → ℕ → MethodDecl → Option ℕ
-overrides world class decl = option_map (λ callee. callee.number) (overridden world (signature world.class class decl))
+overrides world class decl = number_of (overridden world (signature world.class class decl))
 
 -- a written method, without its body
 abbrev pub written_head : Tables → Home → MethodDecl → Method
@@ -128,8 +134,8 @@ written_head tables home decl = record {
   is_static = is_static decl;
   constructor = decl.constructor;
   effect_free = is_effect_free (tables.names.declared decl.name.span);
-  params = params_from tables.names (first_param (is_static decl)) decl.params;
-  param_types = map (λ param. declared_type (tables.names.declared param.name.span)) decl.params;
+  params = params_from tables.names [] (first_param (is_static decl)) decl.params;
+  param_types = param_types_from tables.names [] decl.params;
   result = declared_type (tables.names.declared decl.name.span);
   result_claims = declared_claims (tables.names.declared decl.name.span);
   locals = [];
@@ -142,7 +148,10 @@ written_head tables home decl = record {
 
 abbrev pub written : Tables → Home → MethodDecl → Method → Within Method
 written tables home decl head =
-    limited decl.body (written_body (site tables home head.params) home decl (first_param (is_static decl) + length decl.params)) head
+    limited decl.body (written_body (site tables home head.params) home decl (slot_behind (first_param (is_static decl)) decl.params)) head
+
+abbrev pub written_method : Tables → Home → MethodDecl → Within Method
+written_method tables home decl = written tables home decl (written_head tables home decl)
 
 -- the constructor of a class that has none written (JLS 8.8.9)
 abbrev pub default_head : Home → Span → Method
@@ -180,7 +189,7 @@ abbrev pub methods_in : Tables → Home → List Member → List Method → Resu
 methods_in tables home [] methods = Ok methods
 methods_in tables home (member.Field decl ∷ members) methods = methods_in tables home members methods
 methods_in tables home (member.Method decl ∷ members) methods =
-    placed decl.name.span (written tables home decl (written_head tables home decl)) >>= (λ method. methods_in tables home members (methods ++ method ∷ []))
+    placed decl.name.span (written_method tables home decl) >>= (λ method. methods_in tables home members (methods ++ method ∷ []))
 
 abbrev pub methods_from : Tables → Next → List ClassDecl → List Method → Result (List Method) Passed
 methods_from tables next [] methods = Ok methods
@@ -199,13 +208,14 @@ defaults_from tables next (decl ∷ decls) methods = default_of tables (home tab
 abbrev pub tables : Names → List ClassDecl → Tables
 tables names decls = record { names = names; heads = heads decls; constructors = constructors decls; world = world decls }
 
+abbrev pub all_methods : Tables → Next → List ClassDecl → Result (List Method) Passed
+all_methods tables first decls = methods_from tables first decls [] >>= defaults_from tables first decls
+
 -- The plain form of a source whose names mean this, or the limit that it passes and the place of the method.
 abbrev pub program : Names → List ClassDecl → Result Program Passed
-program names decls = do
-  methods ← methods_from (tables names decls) (first_numbers decls) decls [] >>= defaults_from (tables names decls) (first_numbers decls) decls
-  Ok record {
-    classes = classes_from (first_numbers decls) (λ class. parent (parents decls) class) decls;
-    methods = methods;
-    fields = fields_from names 0 decls;
-    accesses = accesses decls 0;
-  }
+program names decls = all_methods (tables names decls) (first_numbers decls) decls >>= (λ methods. Ok record {
+  classes = classes_from [] (first_numbers decls) (world decls).parent decls;
+  methods = methods;
+  fields = fields_from names [] 0 decls;
+  accesses = accesses decls 0;
+})

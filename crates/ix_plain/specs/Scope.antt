@@ -58,8 +58,11 @@ or_void None = Void
 or_void (Some ty) = ty
 
 -- the type of the expression at that place; of a null the type that its place needs
+abbrev pub type_in : Site → Span → Type_
+type_in site span = or_void (site.names.type_of span)
+
 abbrev pub type_at : Scope → Span → Type_
-type_at scope span = or_void (scope.site.names.type_of span)
+type_at scope span = type_in scope.site span
 
 -- the class that the type names
 abbrev pub class_of : Type_ → ℕ

@@ -15,8 +15,9 @@ use Rattle.ix_tree.specs.declared.stmt.Stmt.{Stmt, Stmt-F, fold-Stmt}
 use Rattle.ix_tree.specs.declared.stmt.StmtKind.{StmtKind-F}
 use Rattle.ix_meaning.specs.declared.note.Which.TheVariants as which
 use Rattle.ix_plain.specs.declared.body.Body.{Body}
+use Rattle.ix_plain.specs.declared.made.Spot.TheVariants as spot
 use Rattle.ix_plain.specs.Scope.{Site, Scope, declared_type, declared_claims}
-use Rattle.ix_plain.specs.Parts.{Within, ◌>>=◌, Value, empty, with_item, block, done, computed, default, most_slots}
+use Rattle.ix_plain.specs.Parts.{Within, ◌>>=◌, Value, empty, with_item, block, done, computed, write, default, most_slots}
 use Rattle.ix_plain.specs.Assigned.{Adding, assigns, init_assigns}
 use Rattle.ix_plain.specs.Values.{lowering, filling}
 
@@ -25,9 +26,12 @@ use Rattle.ix_plain.specs.Values.{lowering, filling}
 abbrev pub scope_of : Site → Body → List ℕ → Scope
 scope_of site body assigned = record { site = site; locals = body.locals; assigned = assigned }
 
+abbrev pub assigned_by : Site → Body → Adding → List ℕ
+assigned_by site body adding = adding (scope_of site body []) []
+
 -- the scope of a full expression, in which these variables are assigned
 abbrev pub scope_for : Site → Body → Adding → Scope
-scope_for site body adding = scope_of site body (adding (scope_of site body []) [])
+scope_for site body adding = scope_of site body (assigned_by site body adding)
 
 -- The items of a full expression were made, up to that slot.
 abbrev pub behind : Body → List Item → ℕ → Body
@@ -36,16 +40,28 @@ behind body items free = record body { made = record { items = items; free = bod
 abbrev pub with_last : Body → Item → Body
 with_last body item = record body { made = with_item body.made item }
 
-abbrev pub value_in : Site → Expr → Body → Within Value
-value_in site expr body = (lowering expr).value (scope_for site body (assigns expr).inside) body.made
+-- the slot of a full expression's value, and what was made
+pub record Evaluated : Type 0 where
+  pub slot : ℕ
+  pub body : Body
+
+abbrev pub behind_value : Body → Value → Within Evaluated
+behind_value body value = Ok record { slot = value.slot; body = behind body value.made.items value.made.free }
+
+abbrev pub evaluated : Site → Expr → Body → Within Evaluated
+evaluated site expr body = (lowering expr).value (scope_for site body (assigns expr).inside) body.made >>= behind_value body
+
+-- the initialiser of a variable of that type
+abbrev pub init_evaluated : Site → Init → Type_ → Body → Within Evaluated
+init_evaluated site init ty body = (filling init).value (scope_for site body (init_assigns init)) ty body.made >>= behind_value body
 
 -- an item that uses the value
 abbrev pub used : Site → Expr → (ℕ → Item) → Body → Within Body
-used site expr item body = value_in site expr body >>= (λ value. Ok (with_last (behind body value.made.items value.made.free) (item value.slot)))
+used site expr item body = evaluated site expr body >>= (λ value. Ok (with_last value.body (item value.slot)))
 
 -- a value that isn't used
 abbrev pub ran : Site → Expr → Body → Within Body
-ran site expr body = value_in site expr body >>= (λ value. Ok (behind body value.made.items value.made.free))
+ran site expr body = evaluated site expr body >>= (λ value. Ok value.body)
 
 abbrev pub all_ran : List Expr → Site → Body → Within Body
 all_ran [] site body = Ok body
@@ -111,16 +127,18 @@ with_local name end site body =
       loops = body.loops;
     } else Err which.Slots
 
-abbrev pub copy : ℕ → ℕ → Type_ → Span → Span → Span → Item
-copy slot value ty span target from = done (op.Copy slot value ty) span (target ∷ from ∷ [])
+-- Without an initialiser it holds its type's default.
+abbrev pub with_default : ℕ → Type_ → Span → Body → Within Body
+with_default slot ty name body = computed body.made (op.Const body.made.free (default ty)) name >>= behind_value body
+    >>= (λ value. Ok (with_last value.body (write (spot.Variable slot) value.slot ty name name name)))
 
--- its default, or its initialiser, a full expression
+abbrev pub with_init : ℕ → Type_ → Span → Init → Site → Body → Within Body
+with_init slot ty name init site body = init_evaluated site init ty body
+    >>= (λ value. Ok (with_last value.body (write (spot.Variable slot) value.slot ((filling init).ty site ty) (filling init).span name (filling init).span)))
+
 abbrev pub initialised : ℕ → Type_ → Span → Option Init → Site → Body → Within Body
-initialised slot ty name None site body = computed body.made (op.Const body.made.free (default ty)) name
-    >>= (λ value. Ok (with_last (behind body value.made.items value.made.free) (copy slot value.slot ty name name name)))
-initialised slot ty name (Some init) site body = (filling init).value (scope_for site body (init_assigns init)) ty body.made
-    >>= (λ value. Ok (with_last (behind body value.made.items value.made.free)
-    (copy slot value.slot ((filling init).ty (scope_for site body (init_assigns init)) ty) (filling init).span name (filling init).span)))
+initialised slot ty name None site body = with_default slot ty name body
+initialised slot ty name (Some init) site body = with_init slot ty name init site body
 
 abbrev pub declaration : LocalDecl → Run
 declaration decl site end body = with_local decl.name end site body
@@ -183,6 +201,9 @@ abbrev pub returned : Option Expr → Span → Site → Body → Within Body
 returned None span site body = Ok (with_last body (Return None span))
 returned (Some expr) span site body = used site expr (λ slot. Return (Some slot) expr.span) body
 
+abbrev pub printed : Expr → Site → Body → Within Body
+printed expr site body = used site expr (λ slot. done (op.Print slot) expr.span []) body
+
 abbrev pub kind_step : StmtKind-F (Span → Run) Running → Span → Run
 kind_step (StmtKind-F.Block statements) = λ span site end body. each statements site span.to body >>= (λ inner. Ok (with_free body.made.free inner))
 kind_step StmtKind-F.Empty = λ span site end body. Ok body
@@ -195,7 +216,7 @@ kind_step StmtKind-F.Break = λ span site end body. Ok (with_last body Break)
 kind_step StmtKind-F.Continue = λ span site end body. Ok (with_last body Continue)
 kind_step (StmtKind-F.Return value) = λ span site end body. returned value span site body
 kind_step (StmtKind-F.Throw name) = λ span site end body. Ok (with_last body (Throw name.text span))
-kind_step (StmtKind-F.Print value) = λ span site end body. used site value (λ slot. done (op.Print slot) value.span []) body
+kind_step (StmtKind-F.Print value) = λ span site end body. printed value site body
 kind_step (StmtKind-F.Run expr) = λ span site end body. ran site expr body
 
 abbrev pub stmt_step : Stmt-F (Span → Run) Running → Running

@@ -29,7 +29,7 @@ use Rattle.ix_plain.specs.declared.body.Head.{Head}
 use Rattle.ix_plain.specs.declared.made.Made.{Made}
 use Rattle.ix_plain.specs.declared.made.Spot.{Spot}
 use Rattle.ix_plain.specs.declared.made.Spot.TheVariants as spot
-use Rattle.ix_plain.specs.Scope.{Scope, slot_of, meaning_at, type_at, class_of, head_at, constructor_at, is_among}
+use Rattle.ix_plain.specs.Scope.{Site, Scope, slot_of, meaning_at, type_in, type_at, class_of, head_at, constructor_at, is_among}
 use Rattle.ix_plain.specs.Parts.{Within, ◌>>=◌, Value, Asked, Target, empty, block, with_item, in_place, done, taking, computed, truth_value, truth_of, read, write}
 
 -- What an expression becomes, as each place wants it.
@@ -48,7 +48,7 @@ pub record Lowering : Type 0 where
 pub record Filling : Type 0 where
   pub span : Span
   -- the type of its value
-  pub ty : Scope → Type_ → Type_
+  pub ty : Site → Type_ → Type_
   pub value : Scope → Type_ → Made → Within Value
 
 abbrev pub without_value : Value → Within Made
@@ -343,8 +343,8 @@ kind_step (ExprKind-F.Assign operator target value) = assign_of operator target 
 kind_step (ExprKind-F.Step up after target) = step up after target
 
 abbrev pub init_step : Init-F (Span → Lowering) Filling Lowering → Filling
-init_step (Init-F.Value expr) = record { span = expr.span; ty = λ scope ty. type_at scope expr.span; value = λ scope ty made. expr.value scope made }
-init_step (Init-F.Items items span) = record { span = span; ty = λ scope ty. ty; value = filled items span }
+init_step (Init-F.Value expr) = record { span = expr.span; ty = λ site ty. type_in site expr.span; value = λ scope ty made. expr.value scope made }
+init_step (Init-F.Items items span) = record { span = span; ty = λ site ty. ty; value = filled items span }
 
 abbrev pub expr_step : Expr-F (Span → Lowering) Filling Lowering → Lowering
 expr_step expr = record (expr.kind expr.span) { span = expr.span }

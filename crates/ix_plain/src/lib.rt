@@ -8,6 +8,8 @@
 
 mod body;
 mod made;
+mod numbers;
 
 pub use body::{Body, Head};
 pub use made::{Made, Spot, Stop};
+pub use numbers::Next;

@@ -1,8 +1,11 @@
 //! What is being made of one block.
 
+ghost use Rattle.std.specs.Prelude.{◌≡◌};
+
 use ix_core::{Item, Type_};
 use ix_meaning::Which;
 use ix_text::{List, Span};
+use std::alloc::AllocError;
 
 /// Why lowering stops.
 #[derive(Drop)]
@@ -10,6 +13,16 @@ pub enum Stop {
     /// A count of the method passes its limit.
     Limit(Which),
     Memory,
+}
+
+impl From<AllocError> for Stop {
+    ghost use Rattle.ix_plain.specs.declared.made.Stop.TheVariants.{Memory};
+
+    ghost from_gives = { λ error stop. stop ≡ Memory };
+
+    fn from(_error: AllocError) -> Stop {
+        Stop::Memory
+    }
 }
 
 /// The items of a block so far, and the first slot that is free.
