@@ -1,5 +1,5 @@
 -- Room for a place, where there was room for another.
-use Rattle.std.proofs.Common.{◌≡◌, Bool, ℕ, suc, ◌+◌, ◌<◌, ◌≤◌, get_or, drop, add-one, refl, List, [], ◌∷◌, ◌++◌, length, max, ◌∙◌, arith, ap, subst, sym, length-append}
+use Rattle.std.proofs.Common.{◌≡◌, Bool, ℕ, suc, ◌+◌, ◌<◌, ◌≤◌, get_or, drop, add-one, refl, List, [], ◌∷◌, ◌++◌, length, max, ◌∙◌, arith, ap, sym, length-append}
 use Rattle.std.proofs.Math.Seq.{drop-cons}
 use Rattle.std.specs.Borrow.{Bor}
 use Rattle.ix_core.specs.declared.code.Block.{Block}
@@ -9,7 +9,7 @@ use Rattle.ix_core.specs.declared.code.Item.{Item}
 use Rattle.ix_core.specs.declared.code.Item.TheVariants as item
 use Rattle.ix_core.specs.declared.code.Item as variant_item
 use Rattle.ix_core.specs.declared.op.Test.{Test}
-use Rattle.ix_core.specs.Code.{Code, End, Do, If, Break, Continue, Return, Throw, Loop, cond_code, items_code, block_code, item_code}
+use Rattle.ix_core.specs.Code.{Code, End, If, Loop, cond_code, items_code, block_code, item_code}
 use Rattle.ix_core.proofs.Translated.{cond_code-Compare, cond_code-Truth, cond_code-Both, cond_code-Either, cond_code-Opposite, item_code-If, item_code-Loop}
 use Rattle.ix_frames.specs.Room.{code_above, code_values, condition_above, condition_values}
 use Rattle.ix_frames.specs.declared.places.Place.{Place}

@@ -13,7 +13,7 @@ use Rattle.ix_core.specs.Code.{Code, End, Do, If, Break, Continue, Return, Throw
 use Rattle.ix_frames.specs.declared.places.Turn.{Turn}
 use Rattle.ix_frames.specs.declared.places.Place.{Place}
 use Rattle.ix_frames.specs.declared.places.Place.TheVariants as kind
-use Rattle.ix_core.specs.Tasks.{Tasks, Empty, Run, Again, behind_loop, next_turn, code_then, followed_by}
+use Rattle.ix_core.specs.Tasks.{Tasks, Empty, behind_loop, next_turn, code_then, followed_by}
 use Rattle.ix_frames.specs.Places.{again_of, tasks_of, branches_of, tasks_open}
 
 pub reverse-snoc : (places : List Place) (place : Place) → reverse (places ++ place ∷ []) ≡ place ∷ reverse places

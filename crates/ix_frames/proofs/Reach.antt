@@ -1,10 +1,9 @@
 -- How high places reach, one place more or less.
-use Rattle.std.proofs.Common.{◌≡◌, refl, ℕ, ◌+◌, ◌<◌, ◌≤◌, List, [], ◌∷◌, ◌++◌, length, max, arith, subst, Vec, vec_len, vec_capacity, ap, Option, Some, None}
+use Rattle.std.proofs.Common.{◌≡◌, refl, ℕ, ◌+◌, ◌≤◌, List, [], ◌∷◌, ◌++◌, length, max, arith, Vec, vec_len, ap, Option, Some, None}
 use Rattle.std.specs.Prelude.{MatchOption}
 use Rattle.std.specs.declared.alloc.Global.{Global}
 use Rattle.std.proofs.lemmas.Grind.{common_steps}
 use Rattle.ix_frames.specs.declared.places.Place.{Place}
-use Rattle.ix_frames.specs.declared.room.Room.{Room}
 use Rattle.ix_frames.specs.declared.stack.Stack.{Stack}
 use Rattle.ix_frames.specs.Fits.{above, values, reach, most_values, IsFree}
 

@@ -1,7 +1,7 @@
 -- What open places in the code stand for.
-use Rattle.std.specs.Prelude.{ℕ, ◌<◌, List, length, [], ◌∷◌, reverse, Bool, if◌then◌else◌}
-use Rattle.ix_core.specs.Code.{Code, Condition, items_code, cond_code, block_code}
-use Rattle.ix_core.specs.Tasks.{Tasks, Empty, Run, Ask, Decide, DecideTruth, Head, Again, Out, code_then}
+use Rattle.std.specs.Prelude.{◌<◌, List, length, [], ◌∷◌, reverse, Bool, if◌then◌else◌}
+use Rattle.ix_core.specs.Code.{Code, Condition, items_code, cond_code}
+use Rattle.ix_core.specs.Tasks.{Tasks, Empty, Ask, Decide, DecideTruth, Head, Again, Out, code_then}
 use Rattle.ix_frames.specs.declared.places.Turn.{Turn}
 use Rattle.ix_frames.specs.declared.places.Place.{Place}
 use Rattle.ix_frames.specs.declared.places.Place.TheVariants as place

@@ -1,5 +1,5 @@
 -- Frames that wait for a call, and the room of frames.
-use Rattle.std.specs.Prelude.{◌≡◌, ℕ, List, [], ◌∷◌, map, reverse}
+use Rattle.std.specs.Prelude.{◌≡◌, List, [], ◌∷◌, map, reverse}
 use Rattle.std.specs.Coded.{×_prop, Coded-set, coded_ℕ}
 use Rattle.ix_core.specs.Machine as model
 use Rattle.ix_frames.specs.declared.frames.Frame.{Frame}

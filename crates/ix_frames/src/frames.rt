@@ -49,6 +49,13 @@ impl<'p> Frame<'p> {
         value_in(self.slots.as_slice(), slot)
     }
 
+    /// The slots.
+    pub fn slots(&self) -> &[Held]
+        ensures { map held_of result.now ≡ slots_of self.now }
+    {
+        self.slots.as_slice()
+    }
+
     /// Writes a slot; nothing where there is none.
     pub fn set(&mut self, slot: u32, value: Held)
         ensures slots { slots_of self.new ≡ slice_set (slots_of self.old) slot (held_of value) }

@@ -1,7 +1,7 @@
 -- Objects and the rows that their cells lie in.
-use Rattle.std.proofs.Common.{◌≡◌, ℕ, zero, suc, ◌+◌, ◌-◌, ◌<◌, ◌≤◌, List, [], ◌∷◌, ◌++◌, length, map, take, drop, set, replicate, slice_get, get_or, Some, None, refl, ap, sym, ◌∙◌, subst, arith, length-drop}
+use Rattle.std.proofs.Common.{◌≡◌, append-nil, append_assoc, ℕ, zero, suc, ◌+◌, ◌-◌, ◌<◌, ◌≤◌, List, [], ◌∷◌, ◌++◌, length, map, take, drop, set, replicate, slice_get, get_or, Some, None, refl, ap, sym, ◌∙◌, subst, arith, length-drop}
 use Rattle.std.proofs.Math.Seq.{take-set-lt, take-length}
-use Rattle.std.proofs.lemmas.List.{take-set-le, drop-set-lt, drop-set-add, map-set, length-take-le, get_or-take, get_or-drop, drop-drop, length-map, set_past, set-get_or, get_or_past, take-append-le, drop-append-le}
+use Rattle.std.proofs.lemmas.List.{map-append, take_more, take-set-le, drop-set-lt, drop-set-add, map-set, length-take-le, get_or-take, get_or-drop, drop-drop, length-map, set_past, set-get_or, get_or_past, take-append-le, drop-append-le}
 use Rattle.std.proofs.lemmas.Option.{slice_get_within, slice_get-get_or, slice_get-map}
 use Rattle.std.specs.Prelude.{unwrap_or, is_some, pos}
 use Rattle.std.proofs.lemmas.Bool.{true≢false}
@@ -14,6 +14,7 @@ use Rattle.ix_heap.specs.declared.heap.Heap.{Heap}
 use Rattle.std.proofs.Common.{vec_len, Vec, length-append}
 use Rattle.std.specs.declared.alloc.Global.{Global}
 use Rattle.std.proofs.lemmas.Grind.{common_steps}
+use Rattle.ix_heap.specs.Added.{Added}
 use Rattle.ix_heap.specs.Layout.{IsLaidOut}
 use Rattle.ix_heap.specs.Rows.{held_of, kind_of, object_of, objects_of}
 
@@ -197,3 +198,32 @@ used_is heap = omega (arith, vec_length heap.cells, row_length heap.rows, used_r
 
 pub row_kind : (heap : Heap) (number : ℕ) (row : Row) → slice_get heap.rows.items number ≡ Some row → (model.object_at (objects_of heap.rows.items heap.cells.items) number).kind ≡ kind_of row.kind
 row_kind heap number row found = ap (λ (object : Object). object.kind) (object_is_row heap.rows.items heap.cells.items number row (laid heap) found)
+
+pub added_length : {old new : List Held} {values : List model.Held} (added : Added old new values) → length added.more ≡ length values
+added_length added = sym (length-map added.more held_of) ∙ ap length added.values
+
+pub made_of : (heap : Heap) (rows : Vec Row Global) (cells : Vec Held Global) (row : Row) (values : List model.Held) → rows.items ≡ heap.rows.items ++ row ∷ [] → (added : Added heap.cells.items cells.items values)
+    → row.len ≡ length added.more → objects_of rows.items cells.items ≡ objects_of heap.rows.items heap.cells.items ++ record { kind = kind_of row.kind; cells = values } ∷ []
+made_of heap rows cells row values is added size =
+    made heap rows cells row added.more is added.items size ∙ ap (λ vs. objects_of heap.rows.items heap.cells.items ++ record { kind = kind_of row.kind; cells = vs } ∷ []) added.values
+
+pub added_none : (cells : List Held) → Added cells cells []
+added_none cells = record { more = []; items = sym (append-nil cells); values = refl }
+
+pub added_more : (old new more : List Held) (values : List model.Held) (value : Held) (shown : model.Held) → Added old new values → more ≡ new ++ value ∷ [] → held_of value ≡ shown → Added old more (values ++ shown ∷ [])
+added_more old new more values value shown added is same = record {
+  more = added.more ++ value ∷ [];
+  items = is ∙ (ap (λ xs. xs ++ value ∷ []) added.items ∙ append_assoc old added.more (value ∷ []));
+  values = map-append held_of added.more (value ∷ []) ∙ (ap (λ vs. vs ++ held_of value ∷ []) added.values ∙ ap (λ v. values ++ v ∷ []) same);
+}
+
+taken_map : {A B : Type 0} (f : A → B) (xs : List A) (index : ℕ) (default : A) → index < length xs → map f (take (index + 1) xs) ≡ map f (take index xs) ++ f (get_or xs index default) ∷ []
+taken_map f xs index default within = ap (map f) (take_more xs index default within) ∙ map-append f (take index xs) (get_or xs index default ∷ [])
+
+pub added_step : {A : Type 0} (f : A → model.Held) (xs : List A) (index : ℕ) (default : A) (old new more : List Held) (value : Held) → index < length xs → Added old new (map f (take index xs)) → more ≡ new ++ value ∷ []
+    → held_of value ≡ f (get_or xs index default) → Added old more (map f (take (index + 1) xs))
+added_step f xs index default old new more value within added is same =
+    subst (λ values. Added old more values) (sym (taken_map f xs index default within)) (added_more old new more (map f (take index xs)) value (f (get_or xs index default)) added is same)
+
+pub used_sum : (heap : Heap) (cells rows : ℕ) → cells ≡ vec_len heap.cells → rows ≡ vec_len heap.rows → cells + rows ≡ cells_used (objects_of heap.rows.items heap.cells.items)
+used_sum heap cells rows few some = omega (arith, few, some, used_is heap)

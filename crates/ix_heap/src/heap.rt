@@ -1,15 +1,17 @@
 //! The heap: arrays and objects by their numbers, whose cells lie one behind the other in one row that was reserved.
-ghost use Rattle.std.specs.Prelude.{◌≡◌, true, false, IfOk, IfErr, IfSome, IfNone, slice_get, slice_set, get_or, ℕ, pos, unsigned_abs, ◌<◌, ◌≤◌, ◌+◌, ◌^◌, ◌++◌, [], ◌∷◌, length, vec_len, vec_capacity, map, replicate, IsTrue, ◌↔◌, option_map};
+ghost use Rattle.std.specs.Prelude.{◌≡◌, true, false, IfOk, IfErr, IfSome, IfNone, slice_get, slice_set, get_or, ℕ, pos, unsigned_abs, ◌<◌, ◌≤◌, ◌+◌, ◌^◌, ◌++◌, [], ◌∷◌, length, vec_len, vec_capacity, map, replicate, nat_lt, option_map};
 ghost use Rattle.ix_core.specs.declared.claim.Type_.{Type_};
 ghost use Rattle.ix_core.specs.Heap as model;
 ghost use Rattle.ix_core.specs.Heap.{array_at, object_at, value_at, write_at, cells_used, cell_default, ArrayOf, ObjectOf, nothing, is_within};
 ghost use Rattle.ix_core.specs.Machine.{object_shown, value_shown};
 ghost use Rattle.ix_heap.specs.declared.held.Held.{Held};
+ghost use Rattle.ix_core.specs.Tables.{field_at};
+ghost use Rattle.ix_heap.specs.Added.{Added};
 ghost use Rattle.ix_heap.specs.Layout.{IsLaidOut, laid_out_once};
 ghost use Rattle.ix_heap.specs.Rows.{held_of, kind_of, objects_of};
 
-use crate::held::{Held, cell_default};
-use ix_core::{Type_, Value};
+use crate::held::{Held, cell_default, default_of};
+use ix_core::{Program, Type_, Value};
 use std::alloc::{AllocError, Global};
 
 /// An array of a type, or an object of a class.
@@ -56,8 +58,8 @@ impl<'p> Heap<'p> {
 
     /// Whether a new object with that many cells would pass the most cells; it takes one more than it has.
     pub fn lacks(&self, len: usize) -> bool
-        requires { len < 2 ^ 32 }
-        ensures { IsTrue result ↔ (self.now.most < cells_used (heap_of self.now) + (len + 1)) }
+        requires { len < 2 ^ 63 }
+        ensures { result ≡ nat_lt self.now.most (cells_used (heap_of self.now) + (len + 1)) }
     {
         let used = self.cells.len() as u64 + self.rows.len() as u64;
         used + (len as u64 + 1) > self.most as u64
@@ -229,6 +231,42 @@ impl<'p> Heap<'p> {
         number
     }
 
+    /// A new array whose cells are what these slots hold; the answer is its number.
+    pub fn make_list(&mut self, ty: &'p Type_, entries: &[u32], slots: &[Held]) -> u32
+        requires { cells_used (heap_of self.old) + (length entries.now + 1) ≤ self.old.most }
+        ensures number { result ≡ length (heap_of self.old) }
+        ensures made { heap_of self.new ≡ heap_of self.old ++ record { kind = ArrayOf ty.now; cells = map (value_at (map held_of slots.now)) entries.now } ∷ [] }
+        ensures most { self.new.most ≡ self.old.most }
+    {
+        let number = self.rows.len() as u32;
+        let row = Row {
+            kind: Kind::Array(ty),
+            from: self.cells.len(),
+            len: entries.len(),
+        };
+        push_picked(&mut self.cells, entries, slots);
+        put_row(&mut self.rows, row);
+        number
+    }
+
+    /// A new object of a class with these fields, each of which holds its type's default; the answer is its number.
+    pub fn make_object(&mut self, program: &Program, class: u32, fields: &[u32]) -> u32
+        requires { cells_used (heap_of self.old) + (length fields.now + 1) ≤ self.old.most }
+        ensures number { result ≡ length (heap_of self.old) }
+        ensures made { heap_of self.new ≡ heap_of self.old ++ record { kind = ObjectOf class; cells = map (λ field. model.default_of (field_at program.now field).ty) fields.now } ∷ [] }
+        ensures most { self.new.most ≡ self.old.most }
+    {
+        let number = self.rows.len() as u32;
+        let row = Row {
+            kind: Kind::Object(class),
+            from: self.cells.len(),
+            len: fields.len(),
+        };
+        push_defaults(&mut self.cells, program, fields);
+        put_row(&mut self.rows, row);
+        number
+    }
+
     /// A new object with these cells; the answer is its number.
     pub fn make(&mut self, kind: Kind<'p>, values: &[Held]) -> u32
         requires { cells_used (heap_of self.old) + (length values.now + 1) ≤ self.old.most }
@@ -275,6 +313,58 @@ fn push_copies(cells: &mut Vec<Held>, value: Held, count: usize)
 {
     for done in 0..count {
         cells.push(value).unwrap();
+    }
+}
+
+/// What a slot holds; 0 where there is none.
+fn value_in(slots: &[Held], slot: u32) -> Held
+    ensures { held_of result ≡ value_at (map held_of slots.now) slot }
+{
+    match slots.get(slot as usize) {
+        Some(value) => *value,
+        None => Held::Int(0),
+    }
+}
+
+/// Adds a cell.
+fn put_cell(cells: &mut Vec<Held>, value: Held)
+    requires { vec_len cells.old < vec_capacity cells.old }
+    ensures items { cells.new.items ≡ cells.old.items ++ value ∷ [] }
+    ensures len { vec_len cells.new ≡ vec_len cells.old + 1 }
+    ensures room { vec_capacity cells.old ≤ vec_capacity cells.new }
+{
+    cells.push(value).unwrap()
+}
+
+/// Adds what these slots hold.
+fn push_picked(cells: &mut Vec<Held>, entries: &[u32], slots: &[Held])
+    requires { vec_len cells.old + length entries.now ≤ vec_capacity cells.old }
+    ensures items { Added cells.old.items cells.new.items (map (value_at (map held_of slots.now)) entries.now) }
+    ensures room { vec_capacity cells.old ≤ vec_capacity cells.new }
+{
+    for slot in entries {
+        put_cell(cells, value_in(slots, *slot));
+    }
+}
+
+/// The default of a field's type.
+fn field_default(program: &Program, field: u32) -> Held
+    ensures { held_of result ≡ model.default_of (field_at program.now field).ty }
+{
+    match program.fields.as_slice().get(field as usize) {
+        Some(found) => default_of(&found.ty),
+        None => Held::Int(0),
+    }
+}
+
+/// Adds the defaults of these fields' types.
+fn push_defaults(cells: &mut Vec<Held>, program: &Program, fields: &[u32])
+    requires { vec_len cells.old + length fields.now ≤ vec_capacity cells.old }
+    ensures items { Added cells.old.items cells.new.items (map (λ field. model.default_of (field_at program.now field).ty) fields.now) }
+    ensures room { vec_capacity cells.old ≤ vec_capacity cells.new }
+{
+    for field in fields {
+        put_cell(cells, field_default(program, *field));
     }
 }
 

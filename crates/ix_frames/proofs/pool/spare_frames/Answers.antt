@@ -1,4 +1,4 @@
-use Rattle.std.proofs.Common.{arith, ap, vec_capacity}
+use Rattle.std.proofs.Common.{arith, ap}
 use Rattle.ix_frames.specs.declared.room.Room.{Room}
 use Rattle.ix_frames.proofs.Rooms.{more_frames}
 use Rattle.ix_frames.proofs.pool.spare_frames.Goals as goal

@@ -1,7 +1,5 @@
 use Rattle.std.proofs.Common.{arith, ap}
-use Rattle.ix_core.specs.Code.{cond_code, items_code}
 use Rattle.ix_frames.specs.declared.room.Needs.{Needs}
-use Rattle.ix_frames.specs.Room.{code_above, code_values, condition_above, condition_values}
 use Rattle.ix_frames.proofs.Free.{compare_is, truth_is, both_is, either_is, opposite_is, above_is, values_is, if_is, loop_is, step_is}
 use Rattle.ix_frames.proofs.room.+needs.Goals as goal
 

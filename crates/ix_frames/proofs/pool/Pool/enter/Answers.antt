@@ -1,5 +1,4 @@
-use Rattle.std.proofs.Common.{arith, ap, subst, sym, ◌∙◌, vec_len, vec_capacity}
-use Rattle.ix_frames.specs.declared.frames.Frame.{Frame}
+use Rattle.std.proofs.Common.{arith, ap, subst, sym, ◌∙◌}
 use Rattle.ix_frames.specs.declared.room.Room.{Room}
 use Rattle.ix_frames.specs.Waiting.{HasRoom}
 use Rattle.ix_frames.proofs.Rooms.{last_frame, more_waiting}

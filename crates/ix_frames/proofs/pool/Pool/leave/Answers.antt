@@ -1,4 +1,4 @@
-use Rattle.std.proofs.Common.{arith, subst, sym, vec_len, vec_capacity}
+use Rattle.std.proofs.Common.{arith, subst, sym}
 use Rattle.ix_frames.specs.Waiting.{HasRoom}
 use Rattle.ix_frames.proofs.Rooms.{last_waiting, more_frames}
 use Rattle.ix_frames.proofs.pool.Pool.leave.Goals as goal

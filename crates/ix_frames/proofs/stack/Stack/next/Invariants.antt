@@ -1,4 +1,4 @@
-use Rattle.std.proofs.Common.{◌≡◌, ◌≤◌, length}
+use Rattle.std.proofs.Common.{◌≡◌, length}
 use Rattle.ix_frames.specs.Places.{tasks_open}
 use Rattle.ix_frames.proofs.stack.Stack.next.Given as goal
 

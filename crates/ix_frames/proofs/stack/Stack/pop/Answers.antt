@@ -1,5 +1,4 @@
-use Rattle.std.proofs.Common.{◌≡◌, ◌+◌, ◌≤◌, length, arith, vec_len, vec_capacity, ap, sym, ◌∙◌}
-use Rattle.ix_frames.specs.Fits.{reach, most_values, above, values}
+use Rattle.std.proofs.Common.{arith}
 use Rattle.ix_frames.proofs.Reach.{popped, popped_free}
 use Rattle.ix_frames.proofs.stack.Stack.pop.Goals as goal
 

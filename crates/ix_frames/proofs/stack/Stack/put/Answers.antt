@@ -1,5 +1,5 @@
-use Rattle.std.proofs.Common.{◌≡◌, ◌+◌, ◌≤◌, length, arith, vec_len, vec_capacity, ap, sym, ◌∙◌}
-use Rattle.ix_frames.specs.Fits.{reach, most_values, above, values}
+use Rattle.std.proofs.Common.{arith, ap}
+use Rattle.ix_frames.specs.Fits.{reach, most_values}
 use Rattle.ix_frames.proofs.Reach.{reach-snoc, values-snoc, place_count}
 use Rattle.ix_frames.proofs.stack.Stack.put.Goals as goal
 

@@ -1,11 +1,7 @@
-use Rattle.std.proofs.Common.{◌≡◌, ◌+◌, vec_len, arith}
-use Rattle.std.proofs.lemmas.Bool.Decides.{nat_tests}
-use Rattle.ix_core.specs.Heap.{cells_used}
-use Rattle.ix_heap.specs.View.{heap_of}
-use Rattle.ix_heap.proofs.Objects.{used_is}
+use Rattle.std.proofs.Common.{ap, ◌+◌}
+use Rattle.std.specs.Prelude.{nat_lt}
+use Rattle.ix_heap.proofs.Objects.{used_sum}
 use Rattle.ix_heap.proofs.heap.Heap.lacks.Goals as goal
 
 pub returns : goal.returns
-returns c =
-    let used : vec_len c.args.self.now.cells + vec_len c.args.self.now.rows ≡ cells_used (heap_of c.args.self.now) = used_is c.args.self.now in
-    (λ h. grind (arith, nat_tests), λ h. grind (arith, nat_tests))
+returns c = ap (λ used. nat_lt c.args.self.now.most (used + (c.args.len + 1))) (used_sum c.args.self.now _ _ c.len.ensures c.len-2.ensures)
