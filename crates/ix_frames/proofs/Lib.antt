@@ -1,0 +1,4 @@
+pub mod Reach
+pub mod Opened
+pub mod Free
+pub mod Rooms

@@ -1,0 +1,20 @@
+use Rattle.std.proofs.Common.{arith, subst, sym}
+use Rattle.ix_frames.specs.Waiting.{HasRoom}
+use Rattle.ix_frames.proofs.Rooms.{last_waiting, more_frames}
+use Rattle.ix_frames.proofs.pool.Pool.leave.Goals as goal
+
+pub invariant_of-self-2 : goal.invariant_of-self-2
+invariant_of-self-2 c =
+    let fit = last_waiting c.args.self.now.room c.args.self.now.below.items c.take_last.new.values.items c.in-Some.waiting c.in-Some.ensures.items c.args.self.now.below_fit in
+    record {
+      spare_fit = more_frames c.args.self.now.room c.put_last.new.values.items c.args.self.now.spare.items _ c.put_last.ensures.items c.args.self.now.spare_fit (subst (λ frame. HasRoom c.args.self.now.room frame) (sym c.replace-ended.ensures.value) c.requires);
+      below_fit = fit.0;
+      count = omega (arith, c.args.self.now.count, c.put_last.ensures.len, c.in-Some.ensures.len);
+      below_room = omega (arith, c.args.self.now.below_room, c.take_last.ensures.room);
+      spare_room = omega (arith, c.args.self.now.spare_room, c.put_last.ensures.room);
+    }
+
+pub returns-clause-fits : goal.returns-clause-fits
+returns-clause-fits c =
+    let fit = last_waiting c.args.self.now.room c.args.self.now.below.items c.take_last.new.values.items c.in-Some.waiting c.in-Some.ensures.items c.args.self.now.below_fit in
+    subst (λ frame. HasRoom c.args.self.now.room frame) (sym c.replace-ended.ensures.after) fit.1

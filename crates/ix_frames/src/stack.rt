@@ -1,0 +1,268 @@
+//! The open places of a frame: a stack of what is still to be done, the innermost last.
+ghost use Rattle.std.specs.Prelude.{◌≡◌, ◌+◌, ◌<◌, ◌≤◌, reverse, [], ◌∷◌, ◌++◌, if◌then◌else◌, IfOk, IfNone, IfSome, MatchOption, length, vec_len, vec_capacity};
+ghost use Rattle.ix_core.specs.Code.{cond_code, items_code, End, If, Loop};
+ghost use Rattle.ix_core.specs.Machine.{step_condition};
+ghost use Rattle.ix_core.specs.Tasks.{Empty, Ask, code_then, behind_loop, next_turn, followed_by};
+ghost use Rattle.ix_frames.specs.declared.places.Place.TheVariants as place;
+ghost use Rattle.ix_frames.specs.Places.{IsTask, tasks_open, tasks_of, branches_of, loop_tasks, again_of, head_of};
+ghost use Rattle.ix_frames.specs.Fits.{reach, most_values, IsFree, IsFreeFor, turn_above, turn_values};
+
+use crate::places::{Place, Turn};
+use crate::room::Room;
+use ix_core::{Cond, Item};
+use std::alloc::{AllocError, Global};
+
+/// The open places of a frame, with room for all that its code needs.
+#[derive(Drop)]
+pub struct Stack<'p> {
+    places: Vec<Place<'p>>,
+    room: Room,
+    ghost fits: { reach 0 places.items ≤ room.places },
+    ghost passes: { most_values places.items ≤ room.values },
+    ghost roomy: { room.places ≤ vec_capacity places },
+}
+
+impl<'p> Stack<'p> {
+    /// A stack without places. The one error is want of memory.
+    pub fn new(alloc: Global, room: Room) -> Result<Stack<'p>, AllocError>
+        ensures empty { IfOk result (λ stack. stack.places.items ≡ []) }
+        ensures room { IfOk result (λ stack. stack.room ≡ room) }
+    {
+        let places = Vec::with_capacity(alloc, room.places)?;
+        Ok(Stack { places, room })
+    }
+
+    /// Opens a place inside the others.
+    pub fn put(&mut self, place: Place<'p>)
+        requires { IsFree (length self.old.places.items) self.old.room place }
+        ensures tasks { tasks_open self.new.places.items ≡ tasks_of (place.entry ∷ reverse self.old.places.items) }
+        ensures items { self.new.places.items ≡ self.old.places.items ++ place.entry ∷ [] }
+        ensures room { self.new.room ≡ self.old.room }
+    {
+        push_place(&mut self.places, place);
+    }
+
+    /// Closes the innermost place.
+    fn pop(&mut self) -> Option<Place<'p>>
+        ensures items { MatchOption result (self.old.places.items ≡ []) (λ place. self.old.places.items ≡ self.new.places.items ++ place ∷ []) }
+        ensures none { IfNone result (self.new.places.items ≡ []) }
+        ensures free { IfSome result (λ place. IsFree (length self.new.places.items) self.new.room place) }
+        ensures room { self.new.room ≡ self.old.room }
+    {
+        match pop_place(&mut self.places) {
+            Some(place) => Some(place),
+            None => None,
+        }
+    }
+
+    /// Begins a body, where nothing else is open.
+    pub fn begin(&mut self, body: &'p [Item])
+        requires { IsFreeFor 0 self.old.room (items_code body.now) }
+        ensures tasks { tasks_open self.new.places.items ≡ code_then (items_code body.now) Empty }
+        ensures room { self.new.room ≡ self.old.room }
+    {
+        self.places.clear();
+        self.put(Place::Rest(body));
+    }
+
+    /// The innermost task, which is closed; none where nothing is left to do.
+    pub fn next(&mut self) -> Option<Place<'p>>
+        ensures tasks { MatchOption result (tasks_open self.old.places.items ≡ Empty)
+            (λ place. IsTask place × (tasks_open self.old.places.items ≡ tasks_of (place ∷ reverse self.new.places.items))) }
+        ensures free { IfSome result (λ place. IsFree (length self.new.places.items) self.new.room place) }
+        ensures room { self.new.room ≡ self.old.room }
+    {
+        while let Some(place) = self.pop() {
+            match place {
+                Place::Rest(items) => {
+                    if !items.is_empty() {
+                        return Some(place);
+                    }
+                }
+                Place::Ask(_)
+                | Place::Decide(_)
+                | Place::DecideTruth(_)
+                | Place::Head(_)
+                | Place::Again(_)
+                | Place::Out => return Some(place),
+                Place::Branch(_, _)
+                | Place::Enter(_)
+                | Place::BothLeft(_)
+                | Place::EitherLeft(_)
+                | Place::Not => {}
+            }
+        }
+        None
+    }
+
+    /// Begins a choice: its condition is asked, and the rest of the block follows (JLS 14.9).
+    pub fn choose(
+        &mut self,
+        cond: &'p Cond,
+        first: &'p [Item],
+        second: &'p [Item],
+        rest: &'p [Item],
+    )
+        requires { IsFreeFor (length self.old.places.items) self.old.room (If (cond_code cond.now) (items_code first.now) (items_code second.now) (items_code rest.now)) }
+        ensures tasks { tasks_open self.new.places.items
+            ≡ Ask (cond_code cond.now) (code_then (items_code first.now) Empty) (code_then (items_code second.now) Empty) (code_then (items_code rest.now) (tasks_open self.old.places.items)) }
+        ensures room { self.new.room ≡ self.old.room }
+    {
+        self.put(Place::Rest(rest));
+        self.put(Place::Branch(first, second));
+        self.put(Place::Ask(cond));
+    }
+
+    /// Begins a loop, at its condition or at its body, and the rest of the block follows (JLS 14.12, 14.13, 14.14.1).
+    pub fn begin_loop(&mut self, test_first: bool, turn: Turn<'p>, rest: &'p [Item])
+        requires { IsFreeFor (length self.old.places.items) self.old.room (Loop test_first (cond_code turn.cond.now) (items_code turn.body.now) (items_code turn.next.now) 0 0 (items_code rest.now)) }
+        ensures tasks { tasks_open self.new.places.items
+            ≡ loop_tasks test_first (cond_code turn.entry.cond.now) (items_code turn.entry.body.now) (items_code turn.entry.next.now) (code_then (items_code rest.now) (tasks_open self.old.places.items)) }
+        ensures room { self.new.room ≡ self.old.room }
+    {
+        self.put(Place::Rest(rest));
+        self.put(Place::Out);
+        if test_first {
+            self.put(Place::Head(turn));
+            return;
+        }
+        self.put(Place::Again(turn));
+        self.put(Place::Rest(turn.body));
+    }
+
+    /// Asks a loop's condition; where it is true the body follows, and the way back.
+    pub fn begin_turn(&mut self, turn: Turn<'p>)
+        requires { IsFree (length self.old.places.items) self.old.room (place.Head turn) }
+        ensures tasks { tasks_open self.new.places.items
+            ≡ Ask (cond_code turn.entry.cond.now) (code_then (items_code turn.entry.body.now) (again_of turn.entry Empty)) Empty (tasks_open self.old.places.items) }
+        ensures room { self.new.room ≡ self.old.room }
+    {
+        self.put(Place::Enter(turn));
+        self.put(Place::Ask(turn.cond));
+    }
+
+    /// Goes the way back to a loop's head, by the part before the next turn.
+    pub fn come_back(&mut self, turn: Turn<'p>)
+        requires { IsFree (length self.old.places.items) self.old.room (place.Again turn) }
+        ensures tasks { tasks_open self.new.places.items ≡ code_then (items_code turn.entry.next.now) (head_of turn.entry (tasks_open self.old.places.items)) }
+        ensures room { self.new.room ≡ self.old.room }
+    {
+        self.put(Place::Head(turn));
+        self.put(Place::Rest(turn.next));
+    }
+
+    /// Goes on behind the innermost loop (JLS 14.15).
+    pub fn leave_loop(&mut self)
+        ensures tasks { tasks_open self.new.places.items ≡ behind_loop (tasks_open self.old.places.items) }
+        ensures room { self.new.room ≡ self.old.room }
+    {
+        while let Some(place) = self.pop() {
+            if let Place::Out = place {
+                return;
+            }
+        }
+    }
+
+    /// Goes on at the innermost loop's way back (JLS 14.16).
+    pub fn turn_on(&mut self)
+        ensures tasks { tasks_open self.new.places.items ≡ next_turn (tasks_open self.old.places.items) }
+        ensures room { self.new.room ≡ self.old.room }
+    {
+        while let Some(place) = self.pop() {
+            if let Place::Again(_) = place {
+                self.put(place);
+                return;
+            }
+        }
+    }
+
+    /// Goes on after a condition with that answer.
+    pub fn decided(&mut self, answer: bool)
+        ensures tasks { tasks_open self.new.places.items
+            ≡ followed_by (if answer then (branches_of (reverse self.old.places.items)).when_true else (branches_of (reverse self.old.places.items)).when_false) (branches_of (reverse self.old.places.items)).after }
+        ensures room { self.new.room ≡ self.old.room }
+    {
+        let mut now = answer;
+        while let Some(place) = self.pop() {
+            match place {
+                Place::Not => now = !now,
+                Place::BothLeft(cond) => {
+                    if now {
+                        self.put(Place::Ask(cond));
+                        return;
+                    }
+                }
+                Place::EitherLeft(cond) => {
+                    if !now {
+                        self.put(Place::Ask(cond));
+                        return;
+                    }
+                }
+                Place::Branch(first, second) => {
+                    self.put(Place::Rest(if now { first } else { second }));
+                    return;
+                }
+                Place::Enter(turn) => {
+                    if now {
+                        self.put(Place::Again(turn));
+                        self.put(Place::Rest(turn.body));
+                    }
+                    return;
+                }
+                other => {
+                    self.put(other);
+                    return;
+                }
+            }
+        }
+    }
+
+    /// Goes on with a condition that is asked (JLS 15.23, 15.24, 15.15.6).
+    pub fn ask(&mut self, cond: &'p Cond)
+        requires { IsFree (length self.old.places.items) self.old.room (place.Ask cond) }
+        ensures tasks { tasks_open self.new.places.items
+            ≡ step_condition (cond_code cond.now) (branches_of (reverse self.old.places.items)).when_true (branches_of (reverse self.old.places.items)).when_false (branches_of (reverse self.old.places.items)).after }
+        ensures room { self.new.room ≡ self.old.room }
+    {
+        match cond {
+            Cond::Known(answer) => self.decided(*answer),
+            Cond::Compare(block, test) => {
+                self.put(Place::Decide(test));
+                self.put(Place::Rest(block.items.as_slice()));
+            }
+            Cond::Truth(block, slot) => {
+                self.put(Place::DecideTruth(*slot));
+                self.put(Place::Rest(block.items.as_slice()));
+            }
+            Cond::Both(first, second) => {
+                self.put(Place::BothLeft(second.get()));
+                self.put(Place::Ask(first.get()));
+            }
+            Cond::Either(first, second) => {
+                self.put(Place::EitherLeft(second.get()));
+                self.put(Place::Ask(first.get()));
+            }
+            Cond::Opposite(asked) => {
+                self.put(Place::Not);
+                self.put(Place::Ask(asked.get()));
+            }
+        }
+    }
+}
+
+/// Adds a place.
+fn push_place<'p>(places: &mut Vec<Place<'p>>, place: Place<'p>)
+    requires { vec_len places.old < vec_capacity places.old }
+    ensures items { places.new.items ≡ places.old.items ++ place.entry ∷ [] }
+    ensures room { vec_capacity places.old ≤ vec_capacity places.new }
+{
+    places.push(place).unwrap()
+}
+
+/// Takes the last place away.
+fn pop_place<'p>(places: &mut Vec<Place<'p>>) -> Option<Place<'p>>
+    ensures items { MatchOption result ((places.old.items ≡ []) × (places.new.items ≡ [])) (λ place. places.old.items ≡ places.new.items ++ place ∷ []) }
+    ensures room { vec_capacity places.old ≤ vec_capacity places.new }
+{
+    places.pop()
+}

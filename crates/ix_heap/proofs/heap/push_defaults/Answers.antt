@@ -1,0 +1,16 @@
+use Rattle.std.proofs.Common.{arith, refl, map, get_or, vec_len, vec_capacity}
+use Rattle.std.specs.Prelude.{pos}
+use Rattle.ix_core.specs.Heap.{default_of}
+use Rattle.ix_core.specs.Tables.{field_at}
+use Rattle.ix_heap.proofs.Objects.{added_none, added_step}
+use Rattle.ix_heap.proofs.heap.push_defaults.Goals as goal
+
+pub loop-field-init : goal.loop-field-init
+loop-field-init c = record { items = added_none c.args.cells.now.items; len = omega arith; room = omega arith }
+
+pub loop-field-preserved : goal.loop-field-preserved
+loop-field-preserved c = record {
+  items = added_step (λ field. default_of (field_at c.args.program.now field).ty) c.args.fields.now c.loop-field.field-index 0 _ _ _ c.field_default.result (omega arith) c.loop-field.invariant.items c.put_cell.ensures.items c.field_default.ensures;
+  len = omega (arith, c.put_cell.ensures.len, c.loop-field.invariant.len);
+  room = omega (arith, c.put_cell.ensures.room, c.loop-field.invariant.room);
+}

@@ -1,0 +1,4 @@
+pub mod Rows
+pub mod Layout
+pub mod Added
+pub mod View

@@ -1,0 +1,16 @@
+//! From a source and what its names mean to its plain form.
+//!
+//! What goes in: the tree, and the table of its names. What comes out: the program, or the limit that one of its methods passes.
+//! The contract: `program` of `ix_plain`.
+//! It stands on `ix_lower_bodies` for statements and on `ix_world` for which method overrides which.
+//! It never looks at tokens or at the text.
+#![tactic(auto)]
+
+mod constructor;
+mod home;
+mod member;
+mod method;
+mod number;
+mod source;
+
+pub use source::{LowerError, lower};

@@ -1,0 +1,160 @@
+//! Full expressions, whose temporaries are free again behind them.
+ghost use Rattle.std.specs.Prelude.{◌≡◌, [], Ok, Err, IfOk, OnOk, IsErrOf};
+ghost use Rattle.ix_meaning.specs.declared.note.Which.{Which};
+ghost use Rattle.ix_plain.specs.declared.made.Stop.TheVariants as stop;
+ghost use Rattle.ix_plain.specs.Assigned.{assigns, init_assigns};
+ghost use Rattle.ix_plain.specs.Statements as spec;
+ghost use Rattle.ix_lower_values.specs.Shown.{shown_site};
+
+use ix_core::{Cond, Item, Type_};
+use ix_lower_values::{Scope, Site, add_assigned, add_init, condition, filling, push, value};
+use ix_plain::{Body, Stop};
+use ix_text::{List, Text};
+use ix_tree::{Expr, Init};
+use std::alloc::{AllocError, Global};
+
+/// The slots that the expression assigns.
+fn assigned_by(
+    alloc: Global,
+    site: &Site<'_>,
+    expr: &Expr,
+    body: &Body,
+) -> Result<List<u32>, AllocError>
+    ensures { IfOk result (λ slots. slots ≡ spec.assigned_by (shown_site site.now) body.now (assigns expr.now).inside) }
+{
+    let mut assigned = List::new(alloc);
+    let scope = Scope {
+        site: *site,
+        locals: body.locals.as_slice(),
+        assigned: &[],
+    };
+    add_assigned(&scope, expr, &mut assigned)?;
+    Ok(assigned)
+}
+
+/// The slots that the initialiser assigns.
+fn assigned_by_init(
+    alloc: Global,
+    site: &Site<'_>,
+    init: &Init,
+    body: &Body,
+) -> Result<List<u32>, AllocError>
+    ensures { IfOk result (λ slots. slots ≡ spec.assigned_by (shown_site site.now) body.now (init_assigns init.now)) }
+{
+    let mut assigned = List::new(alloc);
+    let scope = Scope {
+        site: *site,
+        locals: body.locals.as_slice(),
+        assigned: &[],
+    };
+    add_init(&scope, init, &mut assigned)?;
+    Ok(assigned)
+}
+
+/// Evaluates a full expression, and answers the slot of its value.
+pub fn evaluate(alloc: Global, site: &Site<'_>, expr: &Expr, body: &mut Body) -> Result<u32, Stop>
+    ensures body { IfOk result (λ slot. spec.evaluated (shown_site site.now) expr.now body.old ≡ Ok (record { slot = slot; body = body.new })) }
+    ensures limit { (which : Which) → IsErrOf result (stop.Limit which) → spec.evaluated (shown_site site.now) expr.now body.old ≡ Err which }
+{
+    let assigned = assigned_by(alloc, site, expr, body)?;
+    let top = body.made.free;
+    let scope = Scope {
+        site: *site,
+        locals: body.locals.as_slice(),
+        assigned: assigned.as_slice(),
+    };
+    let slot = value(alloc, &scope, expr, &mut body.made)?;
+    body.most = body.most.max(body.made.free);
+    body.made.free = top;
+    Ok(slot)
+}
+
+/// Evaluates the initialiser of a variable of that type, and answers the slot of its value.
+pub fn evaluate_init(
+    alloc: Global,
+    site: &Site<'_>,
+    init: &Init,
+    ty: &Type_,
+    body: &mut Body,
+) -> Result<u32, Stop>
+    ensures body { IfOk result (λ slot. spec.init_evaluated (shown_site site.now) init.now ty.now body.old ≡ Ok (record { slot = slot; body = body.new })) }
+    ensures limit { (which : Which) → IsErrOf result (stop.Limit which) → spec.init_evaluated (shown_site site.now) init.now ty.now body.old ≡ Err which }
+{
+    let assigned = assigned_by_init(alloc, site, init, body)?;
+    let top = body.made.free;
+    let scope = Scope {
+        site: *site,
+        locals: body.locals.as_slice(),
+        assigned: assigned.as_slice(),
+    };
+    let slot = filling(alloc, &scope, init, ty, &mut body.made)?;
+    body.most = body.most.max(body.made.free);
+    body.made.free = top;
+    Ok(slot)
+}
+
+/// Runs a full expression whose value isn't used.
+pub fn run(alloc: Global, site: &Site<'_>, expr: &Expr, body: &mut Body) -> Result<(), Stop>
+    ensures body { OnOk result (spec.ran (shown_site site.now) expr.now body.old ≡ Ok body.new) }
+    ensures limit { (which : Which) → IsErrOf result (stop.Limit which) → spec.ran (shown_site site.now) expr.now body.old ≡ Err which }
+{
+    evaluate(alloc, site, expr, body)?;
+    Ok(())
+}
+
+pub fn run_all(alloc: Global, site: &Site<'_>, exprs: &[Expr], body: &mut Body) -> Result<(), Stop>
+    ensures body { OnOk result (spec.all_ran exprs.now (shown_site site.now) body.old ≡ Ok body.new) }
+    ensures limit { (which : Which) → IsErrOf result (stop.Limit which) → spec.all_ran exprs.now (shown_site site.now) body.old ≡ Err which }
+{
+    for expr in exprs {
+        run(alloc, site, expr, body)?;
+    }
+    Ok(())
+}
+
+/// Asks a full expression.
+pub fn test(alloc: Global, site: &Site<'_>, expr: &Expr, body: &mut Body) -> Result<Cond, Stop>
+    ensures body { IfOk result (λ cond. spec.tested (shown_site site.now) expr.now body.old ≡ Ok (record { cond = cond; body = body.new })) }
+    ensures limit { (which : Which) → IsErrOf result (stop.Limit which) → spec.tested (shown_site site.now) expr.now body.old ≡ Err which }
+{
+    let assigned = assigned_by(alloc, site, expr, body)?;
+    let scope = Scope {
+        site: *site,
+        locals: body.locals.as_slice(),
+        assigned: assigned.as_slice(),
+    };
+    let mut free = body.made.free;
+    let cond = condition(alloc, &scope, expr, &mut free)?;
+    body.most = body.most.max(free);
+    Ok(cond)
+}
+
+/// Asks the condition of a `for`.
+pub fn test_if(
+    alloc: Global,
+    site: &Site<'_>,
+    expr: &Option<Expr>,
+    body: &mut Body,
+) -> Result<Cond, Stop>
+    ensures body { IfOk result (λ cond. spec.tested_if expr.now (shown_site site.now) body.old ≡ Ok (record { cond = cond; body = body.new })) }
+    ensures limit { (which : Which) → IsErrOf result (stop.Limit which) → spec.tested_if expr.now (shown_site site.now) body.old ≡ Err which }
+{
+    match expr {
+        Some(expr) => test(alloc, site, expr, body),
+        None => Ok(Cond::Known(true)),
+    }
+}
+
+/// Adds an item.
+pub fn push_last(body: &mut Body, item: Item) -> Result<(), AllocError>
+    ensures { OnOk result (body.new ≡ spec.with_last body.old item) }
+{
+    push(&mut body.made, item)
+}
+
+/// A copy of a text.
+pub fn copied_text(alloc: Global, text: &Text) -> Result<Text, AllocError>
+    ensures { IfOk result (λ copy. copy ≡ text.now) }
+{
+    Text::from_str(alloc, text.as_str())
+}

@@ -1,0 +1,618 @@
+//! Expressions.
+ghost use Rattle.std.specs.Prelude.{◌≡◌, ◌≢◌, ◌++◌, ◌∷◌, [], Bool, true, false, if◌then◌else◌, map, Some, None, Ok, Err, List as Elements, IfOk, OnOk, IsErrOf};
+ghost use Rattle.ix_num.specs.declared.arith.Arith.TheVariants as arith;
+ghost use Rattle.ix_core.specs.declared.op.OpKind.TheVariants as op;
+ghost use Rattle.ix_meaning.specs.declared.note.Which.{Which};
+ghost use Rattle.ix_plain.specs.declared.made.Stop.TheVariants as stop;
+ghost use Rattle.ix_plain.specs.Parts.{done, in_place, with_item, write};
+ghost use Rattle.ix_plain.specs.Values as spec;
+ghost use Rattle.ix_lower_values.specs.declared.expression.Form.TheVariants as form;
+ghost use Rattle.ix_lower_values.specs.Shown.{shown_scope, valued, asked, targeted, left_unused, all_given, initial, all_initial, form_of, is_class_name};
+
+use crate::made::{cell_type, compute, constant, empty, push, read, take, truth, write};
+use crate::scope::{
+    Scope, class_at, constructor_at, head_at, is_assigned, meaning_at, slot_of, type_at,
+};
+use ix_core::{Arg, Block, CallOp, Cond, Item, Literal, Op, OpKind, Test, Type_, UnaryNum};
+use ix_meaning::Meaning;
+use ix_num::Arith;
+use ix_plain::{Made, Spot, Stop};
+use ix_text::{Boxed, List, Span};
+use ix_tree::{BinaryOp, Expr, ExprKind, Init, UnaryOp};
+use ix_types::{INT, copied};
+use std::alloc::{AllocError, Global};
+
+/// By which function a form of expression is made.
+#[derive(Clone, Copy)]
+pub enum Form {
+    /// `!`, `&&`, `||` and comparisons.
+    Asks,
+    /// Calls and creations.
+    Calls,
+    /// Assignments and steps.
+    Assigns,
+    /// All others.
+    Computes,
+}
+
+fn form_of(kind: &ExprKind) -> Form
+    ensures { result ≡ form_of kind.now }
+{
+    match kind {
+        ExprKind::Unary(UnaryOp::Not, _) => Form::Asks,
+        ExprKind::Binary(BinaryOp::Num(_), _, _) => Form::Computes,
+        ExprKind::Binary(_, _, _) => Form::Asks,
+        ExprKind::Call(_, _, _) => Form::Calls,
+        ExprKind::New(_, _) => Form::Calls,
+        ExprKind::NewArray(_, _) => Form::Calls,
+        ExprKind::NewItems(_, _) => Form::Calls,
+        ExprKind::Assign(_, _, _) => Form::Assigns,
+        ExprKind::Step { .. } => Form::Assigns,
+        _ => Form::Computes,
+    }
+}
+
+// ---- names, fields and numbers
+
+/// A local or a parameter in place, or a copy of it where the full expression assigns it.
+fn variable(
+    alloc: Global,
+    scope: &Scope<'_>,
+    span: Span,
+    slot: u32,
+    made: &mut Made,
+) -> Result<u32, Stop>
+    ensures made { IfOk result (λ at. spec.variable (shown_scope scope.now) span slot made.old ≡ in_place made.new at) }
+    ensures limit { (which : Which) → IsErrOf result (stop.Limit which) → spec.variable (shown_scope scope.now) span slot made.old ≡ Err which }
+{
+    if !is_assigned(scope, slot) {
+        return Ok(slot);
+    }
+    let ty = type_at(alloc, scope, span)?;
+    let kind = OpKind::Copy(made.free, slot, ty);
+    let slot = compute(alloc, made, kind, span)?;
+    Ok(slot)
+}
+
+/// What a name with that meaning holds.
+fn named(
+    alloc: Global,
+    scope: &Scope<'_>,
+    span: Span,
+    meaning: Option<Meaning>,
+    made: &mut Made,
+) -> Result<u32, Stop>
+    ensures made { IfOk result (λ at. spec.named (shown_scope scope.now) span meaning made.old ≡ in_place made.new at) }
+    ensures limit { (which : Which) → IsErrOf result (stop.Limit which) → spec.named (shown_scope scope.now) span meaning made.old ≡ Err which }
+{
+    match meaning {
+        Some(Meaning::Constant(n)) => constant(alloc, made, n, span),
+        Some(Meaning::FieldNamed(field)) => {
+            let kind = OpKind::ReadField(made.free, 0, field);
+            compute(alloc, made, kind, span)
+        }
+        _ => variable(alloc, scope, span, slot_of(scope, meaning), made),
+    }
+}
+
+/// What an assignment to a name with that meaning writes.
+fn named_spot(scope: &Scope<'_>, meaning: Option<Meaning>) -> Spot
+    ensures { result ≡ spec.named_spot (shown_scope scope.now) meaning }
+{
+    match meaning {
+        Some(Meaning::FieldNamed(field)) => Spot::FieldOf(0, field),
+        _ => Spot::Variable(slot_of(scope, meaning)),
+    }
+}
+
+fn field_number(meaning: Option<Meaning>) -> u32
+    ensures { result ≡ spec.field_number meaning }
+{
+    match meaning {
+        Some(Meaning::FieldNamed(field)) => field,
+        _ => 0,
+    }
+}
+
+fn method_number(meaning: Option<Meaning>) -> u32
+    ensures { result ≡ spec.method_number meaning }
+{
+    match meaning {
+        Some(Meaning::MethodNamed(method)) => method,
+        _ => 0,
+    }
+}
+
+fn class_number(meaning: Option<Meaning>) -> u32
+    ensures { result ≡ spec.class_number meaning }
+{
+    match meaning {
+        Some(Meaning::ClassNamed(class)) => class,
+        _ => 0,
+    }
+}
+
+fn null(alloc: Global, scope: &Scope<'_>, span: Span, made: &mut Made) -> Result<u32, Stop>
+    ensures made { IfOk result (λ at. (spec.null span).value (shown_scope scope.now) made.old ≡ in_place made.new at) }
+    ensures limit { (which : Which) → IsErrOf result (stop.Limit which) → (spec.null span).value (shown_scope scope.now) made.old ≡ Err which }
+{
+    let ty = type_at(alloc, scope, span)?;
+    let kind = OpKind::Const(made.free, Literal::NullOf(ty));
+    let slot = compute(alloc, made, kind, span)?;
+    Ok(slot)
+}
+
+fn step_operator(up: bool) -> Arith
+    ensures { result ≡ (if up then arith.Add else arith.Sub) }
+{
+    if up { Arith::Add } else { Arith::Sub }
+}
+
+fn step_value(after: bool, before: u32, behind: u32) -> u32
+    ensures { result ≡ (if after then before else behind) }
+{
+    if after { before } else { behind }
+}
+
+/// Adds the write of a value into a spot; the places are those of the assignment, of its target and of its value.
+pub fn assign(
+    alloc: Global,
+    spot: Spot,
+    value: u32,
+    ty: Type_,
+    spans: (Span, Span, Span),
+    made: &mut Made,
+) -> Result<(), AllocError>
+    ensures { OnOk result (made.new ≡ with_item made.old (write spot value ty spans.0 spans.1 spans.2)) }
+{
+    let (whole, target, from) = spans;
+    let item = write(alloc, spot, value, ty, whole, target, from)?;
+    push(made, item)?;
+    Ok(())
+}
+
+/// A call into that target.
+pub fn call_op(
+    target: u32,
+    method: u32,
+    receiver: Option<u32>,
+    args: List<Arg>,
+    class: u32,
+    span: Span,
+) -> CallOp
+    ensures { result ≡ record { target = target; method = method; receiver = receiver; args = args; class = class; span = span } }
+{
+    CallOp {
+        target,
+        method,
+        receiver,
+        args,
+        class,
+        span,
+    }
+}
+
+fn init_span(init: &Init) -> Span
+    ensures { result ≡ (spec.filling init.now).span }
+{
+    match init {
+        Init::Value(expr) => expr.span,
+        Init::Items(_, span) => *span,
+    }
+}
+
+fn init_spans(alloc: Global, inits: &[Init]) -> Result<List<Span>, AllocError>
+    ensures { IfOk result (λ list. list ≡ spec.spans (map spec.filling inits.now)) }
+{
+    let mut list = List::new(alloc);
+    for init in inits {
+        list.push(init_span(init))?;
+    }
+    Ok(list)
+}
+
+fn add_arg(args: &mut List<Arg>, arg: Arg) -> Result<(), AllocError>
+    ensures { OnOk result (args.new ≡ args.old ++ arg ∷ []) }
+{
+    args.push(arg)?;
+    Ok(())
+}
+
+fn add_slot(slots: &mut List<u32>, slot: u32) -> Result<(), AllocError>
+    ensures { OnOk result (slots.new ≡ slots.old ++ slot ∷ []) }
+{
+    slots.push(slot)?;
+    Ok(())
+}
+
+/// Whether the expression is the name of a class.
+fn is_class_name(scope: &Scope<'_>, expr: &Expr) -> bool
+    ensures { result ≡ is_class_name (shown_scope scope.now) expr.now }
+{
+    match &expr.kind {
+        ExprKind::Name(name) => match meaning_at(scope, name.span) {
+            Some(Meaning::ClassNamed(_)) => true,
+            _ => false,
+        },
+        _ => false,
+    }
+}
+
+// ---- expressions
+
+/// The value of an expression: its operations are added, and the slot that holds it is answered.
+#[cycle(lowering)]
+pub fn value(alloc: Global, scope: &Scope<'_>, expr: &Expr, made: &mut Made) -> Result<u32, Stop>
+    ensures made { IfOk result (λ at. valued scope.now expr.now made.old ≡ in_place made.new at) }
+    ensures limit { (which : Which) → IsErrOf result (stop.Limit which) → valued scope.now expr.now made.old ≡ Err which }
+{
+    match form_of(&expr.kind) {
+        Form::Asks => {
+            let asked = asked(alloc, scope, expr, &mut made.free)?;
+            let slot = truth(alloc, asked, expr.span, made)?;
+            Ok(slot)
+        }
+        Form::Calls => called(alloc, scope, expr, made),
+        Form::Assigns => assigned(alloc, scope, expr, made),
+        Form::Computes => computed(alloc, scope, expr, made),
+    }
+}
+
+#[cycle(lowering)]
+fn computed(alloc: Global, scope: &Scope<'_>, expr: &Expr, made: &mut Made) -> Result<u32, Stop>
+    requires { form_of expr.now.kind ≡ form.Computes }
+    ensures made { IfOk result (λ at. valued scope.now expr.now made.old ≡ in_place made.new at) }
+    ensures limit { (which : Which) → IsErrOf result (stop.Limit which) → valued scope.now expr.now made.old ≡ Err which }
+{
+    match &expr.kind {
+        ExprKind::Int(n) => constant(alloc, made, *n, expr.span),
+        ExprKind::Bool(answer) => {
+            let kind = OpKind::Const(made.free, Literal::Bool(*answer));
+            compute(alloc, made, kind, expr.span)
+        }
+        ExprKind::Null => null(alloc, scope, expr.span, made),
+        ExprKind::This => Ok(0),
+        ExprKind::Name(name) => {
+            named(alloc, scope, expr.span, meaning_at(scope, name.span), made)
+        }
+        ExprKind::Select(object, name) => match meaning_at(scope, name.span) {
+            Some(Meaning::Constant(n)) => {
+                unused(alloc, scope, object.get(), made)?;
+                constant(alloc, made, n, expr.span)
+            }
+            Some(Meaning::FieldNamed(field)) => {
+                let o = value(alloc, scope, object.get(), made)?;
+                let kind = OpKind::ReadField(made.free, o, field);
+                compute(alloc, made, kind, expr.span)
+            }
+            _ => {
+                let o = value(alloc, scope, object.get(), made)?;
+                let kind = OpKind::Length(made.free, o);
+                compute(alloc, made, kind, expr.span)
+            }
+        },
+        ExprKind::Index(array, index) => {
+            let a = value(alloc, scope, array.get(), made)?;
+            let i = value(alloc, scope, index.get(), made)?;
+            let ty = type_at(alloc, scope, array.get().span)?;
+            let kind = OpKind::Load(made.free, a, i, ty);
+            let slot = compute(alloc, made, kind, index.get().span)?;
+            Ok(slot)
+        }
+        ExprKind::Unary(UnaryOp::Plus, operand) => value(alloc, scope, operand.get(), made),
+        ExprKind::Unary(UnaryOp::Minus, operand) => {
+            let y = value(alloc, scope, operand.get(), made)?;
+            let kind = OpKind::Unary(made.free, UnaryNum::Neg, y);
+            compute(alloc, made, kind, expr.span)
+        }
+        ExprKind::Unary(UnaryOp::Flip, operand) => {
+            let y = value(alloc, scope, operand.get(), made)?;
+            let kind = OpKind::Unary(made.free, UnaryNum::Flip, y);
+            compute(alloc, made, kind, expr.span)
+        }
+        ExprKind::Binary(BinaryOp::Num(arith), left, right) => {
+            let y = value(alloc, scope, left.get(), made)?;
+            let z = value(alloc, scope, right.get(), made)?;
+            let kind = OpKind::Num(made.free, *arith, y, z);
+            compute(alloc, made, kind, expr.span)
+        }
+        _ => unreachable!(),
+    }
+}
+
+#[cycle(lowering)]
+fn assigned(alloc: Global, scope: &Scope<'_>, expr: &Expr, made: &mut Made) -> Result<u32, Stop>
+    requires { form_of expr.now.kind ≡ form.Assigns }
+    ensures made { IfOk result (λ at. valued scope.now expr.now made.old ≡ in_place made.new at) }
+    ensures limit { (which : Which) → IsErrOf result (stop.Limit which) → valued scope.now expr.now made.old ≡ Err which }
+{
+    match &expr.kind {
+        ExprKind::Assign(None, place, from) => {
+            let spot = target(alloc, scope, place.get(), made)?;
+            let v = value(alloc, scope, from.get(), made)?;
+            let ty = type_at(alloc, scope, from.get().span)?;
+            let spans = (expr.span, place.get().span, from.get().span);
+            assign(alloc, spot, v, ty, spans, made)?;
+            Ok(v)
+        }
+        ExprKind::Assign(Some(arith), place, from) => {
+            let spot = target(alloc, scope, place.get(), made)?;
+            let y = read(alloc, &spot, place.get().span, made)?;
+            let z = value(alloc, scope, from.get(), made)?;
+            let kind = OpKind::Num(made.free, *arith, y, z);
+            let t = compute(alloc, made, kind, expr.span)?;
+            let spans = (expr.span, place.get().span, expr.span);
+            assign(alloc, spot, t, INT, spans, made)?;
+            Ok(t)
+        }
+        ExprKind::Step {
+            up,
+            after,
+            target: place,
+        } => {
+            let spot = target(alloc, scope, place.get(), made)?;
+            let y = read(alloc, &spot, place.get().span, made)?;
+            let one = constant(alloc, made, 1, expr.span)?;
+            let kind = OpKind::Num(made.free, step_operator(*up), y, one);
+            let t = compute(alloc, made, kind, expr.span)?;
+            let spans = (expr.span, place.get().span, expr.span);
+            assign(alloc, spot, t, INT, spans, made)?;
+            Ok(step_value(*after, y, t))
+        }
+        _ => unreachable!(),
+    }
+}
+
+#[cycle(lowering)]
+fn called(alloc: Global, scope: &Scope<'_>, expr: &Expr, made: &mut Made) -> Result<u32, Stop>
+    requires { form_of expr.now.kind ≡ form.Calls }
+    ensures made { IfOk result (λ at. valued scope.now expr.now made.old ≡ in_place made.new at) }
+    ensures limit { (which : Which) → IsErrOf result (stop.Limit which) → valued scope.now expr.now made.old ≡ Err which }
+{
+    match &expr.kind {
+        ExprKind::Call(None, name, args) => {
+            let method = method_number(meaning_at(scope, name.span));
+            let head = head_at(&scope.site, method);
+            let args = arguments(alloc, scope, args.as_slice(), made)?;
+            if head.is_static {
+                let call = call_op(made.free, method, None, args, head.class, name.span);
+                return compute(alloc, made, OpKind::StaticCall(call), name.span);
+            }
+            let call = call_op(
+                made.free,
+                method,
+                Some(0),
+                args,
+                scope.site.class,
+                name.span,
+            );
+            compute(alloc, made, OpKind::InstanceCall(call), name.span)
+        }
+        ExprKind::Call(Some(object), name, args) => {
+            let method = method_number(meaning_at(scope, name.span));
+            let head = head_at(&scope.site, method);
+            if head.is_static {
+                unused(alloc, scope, object.get(), made)?;
+                let args = arguments(alloc, scope, args.as_slice(), made)?;
+                let call = call_op(made.free, method, None, args, head.class, name.span);
+                return compute(alloc, made, OpKind::StaticCall(call), name.span);
+            }
+            let o = value(alloc, scope, object.get(), made)?;
+            let args = arguments(alloc, scope, args.as_slice(), made)?;
+            let class = class_at(scope, object.get().span);
+            let call = call_op(made.free, method, Some(o), args, class, name.span);
+            compute(alloc, made, OpKind::InstanceCall(call), name.span)
+        }
+        ExprKind::New(name, args) => {
+            let class = class_number(meaning_at(scope, name.span));
+            let method = constructor_at(&scope.site, class);
+            let args = arguments(alloc, scope, args.as_slice(), made)?;
+            let call = call_op(made.free, method, None, args, class, expr.span);
+            compute(alloc, made, OpKind::NewObject(call), expr.span)
+        }
+        ExprKind::NewArray(_, size) => {
+            let n = value(alloc, scope, size.get(), made)?;
+            let ty = type_at(alloc, scope, expr.span)?;
+            let kind = OpKind::NewArray(made.free, ty, n);
+            let slot = compute(alloc, made, kind, size.get().span)?;
+            Ok(slot)
+        }
+        ExprKind::NewItems(_, items) => {
+            let ty = type_at(alloc, scope, expr.span)?;
+            let slot = filled(alloc, scope, items.as_slice(), expr.span, &ty, made)?;
+            Ok(slot)
+        }
+        _ => unreachable!(),
+    }
+}
+
+/// The arguments from left to right.
+#[cycle(lowering)]
+pub fn arguments(
+    alloc: Global,
+    scope: &Scope<'_>,
+    exprs: &[Expr],
+    made: &mut Made,
+) -> Result<List<Arg>, Stop>
+    ensures made { IfOk result (λ args. all_given scope.now exprs.now made.old ≡ Ok (record { made = made.new; args = args })) }
+    ensures limit { (which : Which) → IsErrOf result (stop.Limit which) → all_given scope.now exprs.now made.old ≡ Err which }
+{
+    let mut args = List::new(alloc);
+    for expr in exprs {
+        let slot = value(alloc, scope, expr, made)?;
+        let span = expr.span;
+        add_arg(&mut args, Arg { slot, span })?;
+    }
+    Ok(args)
+}
+
+/// The values of entries of that type, from left to right.
+#[cycle(lowering)]
+fn entries(
+    alloc: Global,
+    scope: &Scope<'_>,
+    inits: &[Init],
+    cell: &Type_,
+    made: &mut Made,
+) -> Result<List<u32>, Stop>
+    ensures made { IfOk result (λ slots. all_initial scope.now inits.now cell.now made.old ≡ Ok (record { made = made.new; slots = slots })) }
+    ensures limit { (which : Which) → IsErrOf result (stop.Limit which) → all_initial scope.now inits.now cell.now made.old ≡ Err which }
+{
+    let mut slots = List::new(alloc);
+    for init in inits {
+        let slot = filling(alloc, scope, init, cell, made)?;
+        add_slot(&mut slots, slot)?;
+    }
+    Ok(slots)
+}
+
+/// An array of that type, whose entries are filled from left to right.
+#[cycle(lowering)]
+fn filled(
+    alloc: Global,
+    scope: &Scope<'_>,
+    inits: &[Init],
+    span: Span,
+    ty: &Type_,
+    made: &mut Made,
+) -> Result<u32, Stop>
+    ensures made { IfOk result (λ at. spec.filled (map spec.filling inits.now) span (shown_scope scope.now) ty.now made.old ≡ in_place made.new at) }
+    ensures limit { (which : Which) → IsErrOf result (stop.Limit which) → spec.filled (map spec.filling inits.now) span (shown_scope scope.now) ty.now made.old ≡ Err which }
+{
+    let cell = cell_type(alloc, ty)?;
+    let slots = entries(alloc, scope, inits, &cell, made)?;
+    let parts = init_spans(alloc, inits)?;
+    let ty = copied(alloc, ty)?;
+    let kind = OpKind::Fill(made.free, ty, slots);
+    let slot = take(made, Item::Do(Op { kind, span, parts }))?;
+    Ok(slot)
+}
+
+/// The value of an initialiser of a variable of that type.
+#[cycle(lowering)]
+pub fn filling(
+    alloc: Global,
+    scope: &Scope<'_>,
+    init: &Init,
+    ty: &Type_,
+    made: &mut Made,
+) -> Result<u32, Stop>
+    ensures made { IfOk result (λ at. initial scope.now init.now ty.now made.old ≡ in_place made.new at) }
+    ensures limit { (which : Which) → IsErrOf result (stop.Limit which) → initial scope.now init.now ty.now made.old ≡ Err which }
+{
+    match init {
+        Init::Value(expr) => value(alloc, scope, expr, made),
+        Init::Items(items, span) => filled(alloc, scope, items.as_slice(), *span, ty, made),
+    }
+}
+
+/// An expression before a dot whose value isn't used.
+#[cycle(lowering)]
+fn unused(alloc: Global, scope: &Scope<'_>, expr: &Expr, made: &mut Made) -> Result<(), Stop>
+    ensures made { OnOk result (left_unused scope.now expr.now made.old ≡ Ok made.new) }
+    ensures limit { (which : Which) → IsErrOf result (stop.Limit which) → left_unused scope.now expr.now made.old ≡ Err which }
+{
+    if is_class_name(scope, expr) {
+        return Ok(());
+    }
+    value(alloc, scope, expr, made)?;
+    Ok(())
+}
+
+/// The parts of an assignment's target, which are evaluated once.
+#[cycle(lowering)]
+fn target(alloc: Global, scope: &Scope<'_>, expr: &Expr, made: &mut Made) -> Result<Spot, Stop>
+    ensures made { IfOk result (λ spot. targeted scope.now expr.now made.old ≡ Ok (record { made = made.new; spot = spot })) }
+    ensures limit { (which : Which) → IsErrOf result (stop.Limit which) → targeted scope.now expr.now made.old ≡ Err which }
+{
+    match &expr.kind {
+        ExprKind::Name(name) => Ok(named_spot(scope, meaning_at(scope, name.span))),
+        ExprKind::Select(object, name) => {
+            let o = value(alloc, scope, object.get(), made)?;
+            let field = field_number(meaning_at(scope, name.span));
+            Ok(Spot::FieldOf(o, field))
+        }
+        ExprKind::Index(array, index) => {
+            let a = value(alloc, scope, array.get(), made)?;
+            let i = value(alloc, scope, index.get(), made)?;
+            let ty = type_at(alloc, scope, array.get().span)?;
+            Ok(Spot::Cell(a, i, ty, index.get().span))
+        }
+        _ => Ok(Spot::Variable(0)),
+    }
+}
+
+/// A condition, whose temporaries begin with the first free slot.
+#[cycle(lowering)]
+pub fn condition(
+    alloc: Global,
+    scope: &Scope<'_>,
+    expr: &Expr,
+    free: &mut u32,
+) -> Result<Cond, Stop>
+    ensures cond { IfOk result (λ cond. asked scope.now expr.now free.old ≡ Ok (record { cond = cond; free = free.new })) }
+    ensures limit { (which : Which) → IsErrOf result (stop.Limit which) → asked scope.now expr.now free.old ≡ Err which }
+{
+    match form_of(&expr.kind) {
+        Form::Asks => asked(alloc, scope, expr, free),
+        _ => decided(alloc, scope, expr, free),
+    }
+}
+
+/// The condition of an expression that doesn't ask.
+#[cycle(lowering)]
+fn decided(alloc: Global, scope: &Scope<'_>, expr: &Expr, free: &mut u32) -> Result<Cond, Stop>
+    requires { form_of expr.now.kind ≢ form.Asks }
+    ensures cond { IfOk result (λ cond. asked scope.now expr.now free.old ≡ Ok (record { cond = cond; free = free.new })) }
+    ensures limit { (which : Which) → IsErrOf result (stop.Limit which) → asked scope.now expr.now free.old ≡ Err which }
+{
+    if let ExprKind::Bool(answer) = &expr.kind {
+        return Ok(Cond::Known(*answer));
+    }
+    let mut block = empty(alloc, *free);
+    let slot = value(alloc, scope, expr, &mut block)?;
+    *free = block.free;
+    Ok(Cond::Truth(Block { items: block.items }, slot))
+}
+
+/// The condition of an expression that asks.
+#[cycle(lowering)]
+fn asked(alloc: Global, scope: &Scope<'_>, expr: &Expr, free: &mut u32) -> Result<Cond, Stop>
+    requires { form_of expr.now.kind ≡ form.Asks }
+    ensures cond { IfOk result (λ cond. asked scope.now expr.now free.old ≡ Ok (record { cond = cond; free = free.new })) }
+    ensures limit { (which : Which) → IsErrOf result (stop.Limit which) → asked scope.now expr.now free.old ≡ Err which }
+{
+    match &expr.kind {
+        ExprKind::Unary(_, operand) => {
+            let first = condition(alloc, scope, operand.get(), free)?;
+            Ok(Cond::Opposite(Boxed::new(alloc, first)?))
+        }
+        ExprKind::Binary(BinaryOp::AndAlso, left, right) => {
+            let first = condition(alloc, scope, left.get(), free)?;
+            let second = condition(alloc, scope, right.get(), free)?;
+            Ok(Cond::Both(Boxed::new(alloc, first)?, Boxed::new(alloc, second)?))
+        }
+        ExprKind::Binary(BinaryOp::OrElse, left, right) => {
+            let first = condition(alloc, scope, left.get(), free)?;
+            let second = condition(alloc, scope, right.get(), free)?;
+            Ok(Cond::Either(Boxed::new(alloc, first)?, Boxed::new(alloc, second)?))
+        }
+        ExprKind::Binary(BinaryOp::Compare(rel), left, right) => {
+            let mut block = empty(alloc, *free);
+            let y = value(alloc, scope, left.get(), &mut block)?;
+            let z = value(alloc, scope, right.get(), &mut block)?;
+            let ty = type_at(alloc, scope, left.get().span)?;
+            *free = block.free;
+            let test = Test {
+                rel: *rel,
+                left: y,
+                right: z,
+                ty,
+                left_span: left.get().span,
+                right_span: right.get().span,
+            };
+            Ok(Cond::Compare(Block { items: block.items }, test))
+        }
+        _ => unreachable!(),
+    }
+}

@@ -1,0 +1,4 @@
+pub mod Rows
+pub mod Effects
+pub mod Calls
+pub mod Kinds
