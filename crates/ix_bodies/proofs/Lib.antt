@@ -1,0 +1,2 @@
+pub mod NewLocals
+pub mod Prefix

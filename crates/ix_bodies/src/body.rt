@@ -1,0 +1,251 @@
+//! The pass over the statements of a body.
+
+ghost use Rattle.std.specs.Prelude.{◌≡◌, ◌++◌, ◌+◌, ◌<◌, ◌^◌, OnOk, map};
+ghost use Rattle.ix_meaning.specs.Bodies as spec;
+ghost use Rattle.ix_meaning.specs.Rules as rules;
+ghost use Rattle.ix_scopes.specs.Here.{here, Extends};
+
+use crate::locals::declare;
+use ix_meaning::{Note, Rule};
+use ix_scopes::{Scopes, wrong, wrong_if};
+use ix_text::{List, Span};
+use ix_tree::{Expr, LocalDecl, Stmt, StmtKind};
+use ix_types::{BOOLEAN, Need};
+use ix_values::{check, value};
+use ix_world::World;
+use std::alloc::{AllocError, Global};
+
+fn condition(
+    alloc: Global,
+    world: &World,
+    scopes: &Scopes<'_>,
+    notes: &mut List<Note>,
+    e: &Expr,
+) -> Result<(), AllocError>
+    ensures { OnOk result (notes.new ≡ notes.old ++ spec.condition e.now (here world.now scopes.now)) }
+{
+    check(alloc, world, scopes, notes, e, Need::Of(&BOOLEAN))
+}
+
+fn condition_or_none(
+    alloc: Global,
+    world: &World,
+    scopes: &Scopes<'_>,
+    notes: &mut List<Note>,
+    e: &Option<Expr>,
+) -> Result<(), AllocError>
+    ensures { OnOk result (notes.new ≡ notes.old ++ spec.condition_or_none e.now (here world.now scopes.now)) }
+{
+    match e {
+        None => Ok(()),
+        Some(e) => condition(alloc, world, scopes, notes, e),
+    }
+}
+
+fn run_all(
+    alloc: Global,
+    world: &World,
+    scopes: &Scopes<'_>,
+    notes: &mut List<Note>,
+    es: &[Expr],
+) -> Result<(), AllocError>
+    ensures { OnOk result (notes.new ≡ notes.old ++ spec.all_run es.now (here world.now scopes.now)) }
+{
+    for e in es {
+        value(alloc, world, scopes, notes, e)?;
+    }
+    Ok(())
+}
+
+/// The first so many bytes of a statement.
+fn keyword(span: Span, length: u32) -> Span
+    ensures { result ≡ spec.keyword span length }
+{
+    let end = span.from as u64 + length as u64;
+    if end < span.to as u64 {
+        return Span {
+            from: span.from,
+            to: end as u32,
+        };
+    }
+    span
+}
+
+fn returned(
+    alloc: Global,
+    world: &World,
+    scopes: &Scopes<'_>,
+    notes: &mut List<Note>,
+    e: &Option<Expr>,
+    span: Span,
+) -> Result<(), AllocError>
+    ensures { OnOk result (notes.new ≡ notes.old ++ spec.returned e.now span (here world.now scopes.now)) }
+{
+    match e {
+        None => match scopes.result {
+            None => Ok(()),
+            Some(_) => wrong(notes, Rule::TypeMismatch, keyword(span, 6)),
+        },
+        Some(e) => match scopes.result {
+            None => check(alloc, world, scopes, notes, e, Need::Never),
+            Some(need) => check(alloc, world, scopes, notes, e, need),
+        },
+    }
+}
+
+#[tactic(auto, using(crate::proofs::Prefix::extends))]
+fn declare_all<'a>(
+    alloc: Global,
+    world: &World,
+    scopes: &mut Scopes<'a>,
+    notes: &mut List<Note>,
+    decls: &'a [LocalDecl],
+) -> Result<(), AllocError>
+    requires { scopes.old.next + (spec.all_declared decls.now).declares < 2 ^ 32 }
+    ensures notes { OnOk result (notes.new ≡ notes.old ++ (spec.all_declared decls.now).notes (here world.now scopes.old)) }
+    ensures scope { OnOk result (here world.now scopes.new ≡ spec.after (spec.all_declared decls.now) (here world.now scopes.old)) }
+    ensures keeps { OnOk result (Extends scopes.old scopes.new) }
+{
+    for decl in decls {
+        declare(alloc, world, scopes, notes, decl)?;
+    }
+    Ok(())
+}
+
+/// Notes a statement, and leaves the scope that stands behind it.
+#[cycle(statements)]
+#[tactic(auto, using(crate::proofs::Prefix::extends))]
+pub fn statement<'a>(
+    alloc: Global,
+    world: &World,
+    scopes: &mut Scopes<'a>,
+    notes: &mut List<Note>,
+    s: &'a Stmt,
+) -> Result<(), AllocError>
+    requires { scopes.old.next + (spec.telling s.now).declares < 2 ^ 32 }
+    ensures notes { OnOk result (notes.new ≡ notes.old ++ (spec.telling s.now).notes (here world.now scopes.old)) }
+    ensures scope { OnOk result (here world.now scopes.new ≡ spec.after (spec.telling s.now) (here world.now scopes.old)) }
+    ensures keeps { OnOk result (Extends scopes.old scopes.new) }
+{
+    statement_kind(alloc, world, scopes, notes, &s.kind, s.span)
+}
+
+#[cycle(statements)]
+#[tactic(auto, using(crate::proofs::Prefix::extends))]
+pub fn statements<'a>(
+    alloc: Global,
+    world: &World,
+    scopes: &mut Scopes<'a>,
+    notes: &mut List<Note>,
+    ss: &'a [Stmt],
+) -> Result<(), AllocError>
+    requires { scopes.old.next + (spec.all_told (map spec.telling ss.now)).declares < 2 ^ 32 }
+    ensures notes { OnOk result (notes.new ≡ notes.old ++ (spec.all_told (map spec.telling ss.now)).notes (here world.now scopes.old)) }
+    ensures scope { OnOk result (here world.now scopes.new ≡ spec.after (spec.all_told (map spec.telling ss.now)) (here world.now scopes.old)) }
+    ensures keeps { OnOk result (Extends scopes.old scopes.new) }
+{
+    for s in ss {
+        statement(alloc, world, scopes, notes, s)?;
+    }
+    Ok(())
+}
+
+/// The body of a loop.
+#[cycle(statements)]
+#[tactic(auto, using(crate::proofs::Prefix::extends))]
+fn looped<'a>(
+    alloc: Global,
+    world: &World,
+    scopes: &mut Scopes<'a>,
+    notes: &mut List<Note>,
+    s: &'a Stmt,
+) -> Result<(), AllocError>
+    requires { scopes.old.next + (spec.telling s.now).declares < 2 ^ 32 }
+    ensures notes { OnOk result (notes.new ≡ notes.old ++ (spec.looped (spec.telling s.now)).notes (here world.now scopes.old)) }
+    ensures scope { OnOk result (here world.now scopes.new ≡ spec.after (spec.looped (spec.telling s.now)) (here world.now scopes.old)) }
+    ensures keeps { OnOk result (Extends scopes.old scopes.new) }
+{
+    let outside = scopes.in_loop;
+    scopes.in_loop = true;
+    statement(alloc, world, scopes, notes, s)?;
+    scopes.in_loop = outside;
+    Ok(())
+}
+
+fn break_outside(
+    scopes: &Scopes<'_>,
+    notes: &mut List<Note>,
+    span: Span,
+    length: u32,
+) -> Result<(), AllocError>
+    ensures { OnOk result (notes.new ≡ notes.old ++ rules.break_outside_in scopes.now.in_loop (spec.keyword span length)) }
+{
+    wrong_if(
+        notes,
+        !scopes.in_loop,
+        Rule::BreakOutside,
+        keyword(span, length),
+    )
+}
+
+#[cycle(statements)]
+#[tactic(auto, using(crate::proofs::Prefix::extends))]
+fn statement_kind<'a>(
+    alloc: Global,
+    world: &World,
+    scopes: &mut Scopes<'a>,
+    notes: &mut List<Note>,
+    k: &'a StmtKind,
+    span: Span,
+) -> Result<(), AllocError>
+    requires { scopes.old.next + (spec.kind_telling k.now span).declares < 2 ^ 32 }
+    ensures notes { OnOk result (notes.new ≡ notes.old ++ (spec.kind_telling k.now span).notes (here world.now scopes.old)) }
+    ensures scope { OnOk result (here world.now scopes.new ≡ spec.after (spec.kind_telling k.now span) (here world.now scopes.old)) }
+    ensures keeps { OnOk result (Extends scopes.old scopes.new) }
+{
+    match k {
+        StmtKind::Block(ss) => {
+            let mark = scopes.locals.len();
+            statements(alloc, world, scopes, notes, ss.as_slice())?;
+            scopes.leave(mark);
+            Ok(())
+        }
+        StmtKind::Empty => Ok(()),
+        StmtKind::Local(decls) => declare_all(alloc, world, scopes, notes, decls.as_slice()),
+        StmtKind::If(e, then, None) => {
+            condition(alloc, world, scopes, notes, e)?;
+            statement(alloc, world, scopes, notes, then.get())
+        }
+        StmtKind::If(e, then, Some(other)) => {
+            condition(alloc, world, scopes, notes, e)?;
+            statement(alloc, world, scopes, notes, then.get())?;
+            statement(alloc, world, scopes, notes, other.get())
+        }
+        StmtKind::While(e, body) => {
+            condition(alloc, world, scopes, notes, e)?;
+            looped(alloc, world, scopes, notes, body.get())
+        }
+        StmtKind::Do(body, e) => {
+            looped(alloc, world, scopes, notes, body.get())?;
+            condition(alloc, world, scopes, notes, e)
+        }
+        StmtKind::For(first, e, next, body) => {
+            let mark = scopes.locals.len();
+            statements(alloc, world, scopes, notes, first.as_slice())?;
+            condition_or_none(alloc, world, scopes, notes, e)?;
+            run_all(alloc, world, scopes, notes, next.as_slice())?;
+            looped(alloc, world, scopes, notes, body.get())?;
+            scopes.leave(mark);
+            Ok(())
+        }
+        StmtKind::Break => break_outside(scopes, notes, span, 5),
+        StmtKind::Continue => break_outside(scopes, notes, span, 8),
+        StmtKind::Return(e) => returned(alloc, world, scopes, notes, e, span),
+        StmtKind::Throw(_) => Ok(()),
+        StmtKind::Print(e) => check(alloc, world, scopes, notes, e, Need::Printed),
+        StmtKind::Run(e) => {
+            value(alloc, world, scopes, notes, e)?;
+            Ok(())
+        }
+    }
+}

@@ -1,0 +1,143 @@
+//! The declarations of locals (JLS 14.4).
+
+ghost use Rattle.std.specs.Prelude.{◌≡◌, ◌++◌, ◌∷◌, [], None, ◌+◌, ◌<◌, ◌^◌, if◌then◌else◌, is_some, IfOk, OnOk};
+ghost use Rattle.ix_meaning.specs.Bodies as spec;
+ghost use Rattle.ix_meaning.specs.Scope.{meant};
+ghost use Rattle.indexmap.specs.IndexMap.{get_by_text};
+ghost use Rattle.ix_bodies.specs.Added.{AddsLast};
+ghost use Rattle.ix_scopes.specs.Here.{here, names, local_known_as, Extends};
+
+use indexmap::IndexMap;
+use ix_core::{Name, Type_};
+use ix_meaning::{Note, Rule};
+use ix_scopes::{InAnnotation, Local, Scopes, note_declared, wrong_if};
+use ix_text::List;
+use ix_tree::{Init, LocalDecl};
+use ix_values::fill;
+use ix_world::World;
+use ix_written::{Declaration, Part, variable};
+use std::alloc::{AllocError, Global};
+
+/// What fills a variable of that type.
+pub fn initialiser(
+    alloc: Global,
+    world: &World,
+    scopes: &Scopes<'_>,
+    notes: &mut List<Note>,
+    init: &Option<Init>,
+    ty: &Option<Type_>,
+) -> Result<(), AllocError>
+    ensures { OnOk result (notes.new ≡ notes.old ++ spec.init_notes init.now (here world.now scopes.now) ty.now) }
+{
+    match init {
+        None => Ok(()),
+        Some(init) => fill(alloc, world, scopes, notes, init, ty),
+    }
+}
+
+fn local_declaration(
+    alloc: Global,
+    world: &World,
+    scopes: &Scopes<'_>,
+    notes: &mut List<Note>,
+    decl: &LocalDecl,
+) -> Result<Declaration, AllocError>
+    ensures ty { IfOk result (λ d. d.ty ≡ (spec.local_declaration decl.now (here world.now scopes.now)).ty) }
+    ensures claims { IfOk result (λ d. d.claims ≡ (spec.local_declaration decl.now (here world.now scopes.now)).claims) }
+    ensures notes { OnOk result (notes.new ≡ notes.old ++ (spec.local_declaration decl.now (here world.now scopes.now)).notes) }
+{
+    let names = InAnnotation {
+        world,
+        scopes,
+        own: Some(Name::Local(scopes.next)),
+        own_local: Some(decl.name.text.as_str()),
+    };
+    let before = decl.mods.get().annots.as_slice();
+    variable(
+        alloc,
+        &world.table,
+        notes,
+        &names,
+        Part::All,
+        before,
+        decl.ty.get(),
+    )
+}
+
+/// Keeps a local by its name, which no other has.
+fn insert(
+    alloc: Global,
+    locals: &mut IndexMap<String, Local>,
+    name: &str,
+    local: Local,
+) -> Result<(), AllocError>
+    requires { get_by_text locals.old name.now ≡ None }
+    ensures { OnOk result (AddsLast locals.old.entries locals.new.entries name.now local) }
+{
+    let key = String::from_str(alloc, name)?;
+    locals.insert(key, local)?;
+    Ok(())
+}
+
+/// Brings a local in scope. Of two with one name the first stays the one that is meant.
+#[tactic(auto, using(crate::proofs::NewLocals::unknown_local, crate::proofs::NewLocals::one_more_name))]
+fn bind(alloc: Global, scopes: &mut Scopes<'_>, name: &str, local: Local) -> Result<(), AllocError>
+    ensures names { OnOk result (names scopes.new ≡ (if is_some (meant name.now (names scopes.old)) then names scopes.old else names scopes.old ++ local_known_as name.now local ∷ [])) }
+    ensures keeps { OnOk result (Extends scopes.old scopes.new) }
+    ensures next { scopes.new.next ≡ scopes.old.next }
+    ensures class { scopes.new.class ≡ scopes.old.class }
+    ensures has_object { scopes.new.has_object ≡ scopes.old.has_object }
+    ensures in_constructor { scopes.new.in_constructor ≡ scopes.old.in_constructor }
+    ensures in_loop { scopes.new.in_loop ≡ scopes.old.in_loop }
+    ensures names_fields { scopes.new.names_fields ≡ scopes.old.names_fields }
+    ensures result { scopes.new.result ≡ scopes.old.result }
+    ensures pending { scopes.new.pending ≡ scopes.old.pending }
+{
+    if scopes.meant(name).is_some() {
+        return Ok(());
+    }
+    insert(alloc, &mut scopes.locals, name, local)
+}
+
+/// A declarator: its type, its claims, its initialiser, and then its name in scope.
+pub fn declare<'a>(
+    alloc: Global,
+    world: &World,
+    scopes: &mut Scopes<'a>,
+    notes: &mut List<Note>,
+    decl: &'a LocalDecl,
+) -> Result<(), AllocError>
+    requires { scopes.old.next + 1 < 2 ^ 32 }
+    ensures notes { OnOk result (notes.new ≡ notes.old ++ (spec.declared decl.now).notes (here world.now scopes.old)) }
+    ensures scope { OnOk result (here world.now scopes.new ≡ spec.after (spec.declared decl.now) (here world.now scopes.old)) }
+    ensures keeps { OnOk result (Extends scopes.old scopes.new) }
+{
+    let Declaration { ty, claims } = local_declaration(alloc, world, scopes, notes, decl)?;
+    let name = decl.name.text.as_str();
+    let span = decl.name.span;
+    wrong_if(
+        notes,
+        scopes.meant(name).is_some(),
+        Rule::DuplicateName,
+        span,
+    )?;
+    note_declared(alloc, notes, span, &ty, claims, false)?;
+    let outside = scopes.pending;
+    scopes.pending = Some(name);
+    initialiser(alloc, world, scopes, notes, &decl.init, &ty)?;
+    scopes.pending = outside;
+    let is_fixed = decl.mods.get().is_final && decl.init.is_some();
+    let number = scopes.next;
+    bind(
+        alloc,
+        scopes,
+        name,
+        Local {
+            number,
+            ty,
+            is_fixed,
+        },
+    )?;
+    scopes.next = number + 1;
+    Ok(())
+}
