@@ -67,9 +67,9 @@ module _ (s : Scope) (ms : List Signature) (name : List ℕ) (extends : Bool) wh
 
   head_is : (m : Signature) (d : MethodDecl) (rest : List Note)
       → (source.result_given (placed s ms name extends) s m d).notes
-        ++ ((source.method_given (placed s ms name extends) s m d.mods.annots).notes
-        ++ (declares_note d.name.span m.result (source.result_given (placed s ms name extends) s m d).claims (source.method_given (placed s ms name extends) s m d.mods.annots).effect_free
-        ++ (source.param_notes (placed s ms name extends) s [] 0 d.params ++ rest)))
+      ++ ((source.method_given (placed s ms name extends) s m d.mods.annots).notes
+      ++ (declares_note d.name.span m.result (source.result_given (placed s ms name extends) s m d).claims (source.method_given (placed s ms name extends) s m d.mods.annots).effect_free
+      ++ (source.param_notes (placed s ms name extends) s [] 0 d.params ++ rest)))
       ≡ parts.head_notes s m d ++ rest
   head_is m d rest =
       let l = placed s ms name extends in
@@ -83,7 +83,7 @@ module _ (s : Scope) (ms : List Signature) (name : List ℕ) (extends : Bool) wh
       ∙ ap (λ (y : Given). result.notes ++ (y.notes ++ (declares_note d.name.span m.result result.claims y.effect_free ++ (params ++ rest)))) (same_given_by m d.mods.annots m.constructor refl)
       ∙ ap (λ ps. result.notes ++ (here.notes ++ (says ++ (ps ++ rest)))) (same_param_notes [] 0 d.params)
       ∙ sym (append_assoc result.notes (here.notes ++ (says ++ own)) rest
-        ∙ ap (λ ns. result.notes ++ ns) (append_assoc here.notes (says ++ own) rest ∙ ap (λ ns. here.notes ++ ns) (append_assoc says own rest)))
+      ∙ ap (λ ns. result.notes ++ ns) (append_assoc here.notes (says ++ own) rest ∙ ap (λ ns. here.notes ++ ns) (append_assoc says own rest)))
 
 -- a method's notes, with these parameters in scope
 abbrev method_with : Place → List Known → Signature → MethodDecl → List Note
@@ -102,7 +102,7 @@ method_with l ps m d =
 pub method_is : (w : Tables) (n : ℕ) (k : ClassDecl) (m : Signature) (d : MethodDecl)
     → source.method_notes (at w n k) m d
     ≡ source.constructor_notes (at w n k) d ++ (source.inherited_notes (at w n k) m
-      ++ (parts.head_notes (parts.head_scope (shown w) n m d) m d ++ parts.body_notes (parts.in_body (parts.head_scope (shown w) n m d) m d) (is_some k.parent) d))
+    ++ (parts.head_notes (parts.head_scope (shown w) n m d) m d ++ parts.body_notes (parts.in_body (parts.head_scope (shown w) n m d) m d) (is_some k.parent) d))
 method_is w n k m d =
     let l = at w n k in
     let head = parts.head_scope (shown w) n m d in
@@ -112,5 +112,5 @@ method_is w n k m d =
     let told = (all_told (map telling d.body)).notes in
     ap (λ (ps : List Known). method_with l ps m d) (same_params w n k 0 d.params)
     ∙ ap (λ ns. begin ++ (inherited ++ ns))
-        (head_is head w.methods k.name.text (is_some k.parent) m d (source.super_notes l body d ++ told body)
-        ∙ ap (λ ns. parts.head_notes head m d ++ (ns ++ told body)) (same_super body w.methods k.name.text (is_some k.parent) d))
+    (head_is head w.methods k.name.text (is_some k.parent) m d (source.super_notes l body d ++ told body)
+    ∙ ap (λ ns. parts.head_notes head m d ++ (ns ++ told body)) (same_super body w.methods k.name.text (is_some k.parent) d))

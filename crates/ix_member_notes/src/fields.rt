@@ -10,13 +10,13 @@ ghost use Rattle.ix_member_notes.specs.Places.{at};
 ghost use Rattle.ix_member_notes.specs.Declarations as parts;
 
 use crate::places::member_scopes;
+use ix_bodies::initialiser;
 use ix_core::{Claim, Name, Type_};
 use ix_inheritance::hides;
 use ix_meaning::{Field, Meaning, Note, Rule};
 use ix_scopes::{InAnnotation, Scopes, note_declared, wrong_if};
 use ix_text::List;
 use ix_tree::{ClassDecl, Init, LocalDecl};
-use ix_bodies::initialiser;
 use ix_world::{World, field_of};
 use ix_written::{Declaration, Part, static_field, variable};
 use std::alloc::{AllocError, Global};
@@ -54,7 +54,15 @@ fn instance_declaration<'p>(
         own_local: None,
     };
     let before = decl.mods.get().annots.as_slice();
-    variable(alloc, &world.table, notes, &names, Part::All, before, decl.ty.get())
+    variable(
+        alloc,
+        &world.table,
+        notes,
+        &names,
+        Part::All,
+        before,
+        decl.ty.get(),
+    )
 }
 
 /// What an instance field declares, which no parameter is in scope of.
@@ -139,8 +147,9 @@ fn declared(
     let span = decl.name.span;
     wrong_if(notes, is_refused(field), Rule::NotStatic, span)?;
     wrong_if(notes, hides(world, field), Rule::DuplicateName, span)?;
-    let Declaration { ty: _, claims } =
-        field_declaration(alloc, world, notes, number, class, field, decl)?;
+    let Declaration { ty: _, claims } = field_declaration(
+        alloc, world, notes, number, class, field, decl,
+    )?;
     let claims = own_claims(alloc, field, claims);
     note_declared(alloc, notes, span, &field.ty, claims, false)?;
     filled(

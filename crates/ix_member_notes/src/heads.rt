@@ -81,14 +81,7 @@ fn method_given<'p>(
         target: target(constructor),
     };
     let mut claims = List::new(alloc);
-    given(
-        alloc,
-        notes,
-        &mut claims,
-        &names,
-        part(constructor),
-        annots,
-    )
+    given(alloc, notes, &mut claims, &names, part(constructor), annots)
 }
 
 /// Notes the annotations that speak of the result, and answers the claims on it.
@@ -112,19 +105,19 @@ fn result_of<'p>(
     match ty {
         None => {
             let mut claims = List::new(alloc);
-            given(
-                alloc,
-                notes,
-                &mut claims,
-                &names,
-                Part::OfResult,
-                annots,
-            )?;
+            given(alloc, notes, &mut claims, &names, Part::OfResult, annots)?;
             Ok(List::new(alloc))
         }
         Some(ty) => {
-            let Declaration { ty: _, claims } =
-                variable(alloc, &world.table, notes, &names, Part::OfResult, annots, ty)?;
+            let Declaration { ty: _, claims } = variable(
+                alloc,
+                &world.table,
+                notes,
+                &names,
+                Part::OfResult,
+                annots,
+                ty,
+            )?;
             Ok(claims)
         }
     }
@@ -163,13 +156,6 @@ pub fn head(
     let claims = result_given(alloc, world, scopes, notes, m, decl)?;
     let annots = decl.mods.annots.as_slice();
     let free = method_given(alloc, world, scopes, notes, m.constructor, annots)?;
-    note_declared(
-        alloc,
-        notes,
-        decl.name.span,
-        &m.result,
-        claims,
-        free,
-    )?;
+    note_declared(alloc, notes, decl.name.span, &m.result, claims, free)?;
     note_params(alloc, world, scopes, notes, decl.params.as_slice())
 }

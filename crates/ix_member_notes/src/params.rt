@@ -66,7 +66,15 @@ fn param_declaration<'p>(
         own_local: None,
     };
     let before = decl.mods.get().annots.as_slice();
-    variable(alloc, &world.table, notes, &names, Part::All, before, decl.ty.get())
+    variable(
+        alloc,
+        &world.table,
+        notes,
+        &names,
+        Part::All,
+        before,
+        decl.ty.get(),
+    )
 }
 
 fn param(
@@ -83,8 +91,7 @@ fn param(
     let span = decl.name.span;
     let taken = is_named_in(before, decl.name.text.as_str());
     wrong_if(notes, taken, Rule::DuplicateName, span)?;
-    let Declaration { ty, claims } =
-        param_declaration(alloc, world, scopes, notes, number, decl)?;
+    let Declaration { ty, claims } = param_declaration(alloc, world, scopes, notes, number, decl)?;
     note_declared(alloc, notes, span, &ty, claims, false)
 }
 

@@ -10,4 +10,4 @@ pub returns : goal.returns
 returns c =
     let same : c.in_ok-field.field ≡ members.field_of (shown c.args.world.now).class c.args.number c.args.next c.args.decl.now = search rules in
     subst (λ (f : Field). OnOk c.declared.result (c.declared.new.notes ≡ c.args.notes.now ++ spec.field_notes (at c.args.world.now c.args.number c.args.class.now) f c.args.decl.now))
-      same c.declared.ensures
+    same c.declared.ensures

@@ -10,4 +10,4 @@ pub returns : goal.returns
 returns c =
     let same : c.in_ok-m.m ≡ members.signature (shown c.args.world.now).class c.args.number c.args.decl.now = search rules in
     subst (λ (m : Signature). OnOk c.with_signature.result (c.with_signature.new.notes ≡ c.args.notes.now ++ spec.method_notes (at c.args.world.now c.args.number c.args.class.now) m c.args.decl.now))
-      same c.with_signature.ensures
+    same c.with_signature.ensures

@@ -21,12 +21,12 @@ returns c =
     let headed : c.head.new.notes ≡ ((c.args.notes.now ++ begin) ++ inherited) ++ parts.head_notes (here w c.in_ok-scopes.scopes) m d = search rules in
     let all : (s : Scope) → List Note = λ s. parts.head_notes s m d ++ parts.body_notes (parts.in_body s m d) extends d in
     let e : c.head.new.notes ++ parts.body_notes (parts.in_body (here w c.in_ok-scopes.scopes) m d) extends d ≡ c.args.notes.now ++ spec.method_notes (at w c.args.number c.args.class.now) m d =
-        ap (λ ns. ns ++ parts.body_notes (parts.in_body (here w c.in_ok-scopes.scopes) m d) extends d) headed
-        ∙ append_assoc ((c.args.notes.now ++ begin) ++ inherited) _ _
-        ∙ append_assoc (c.args.notes.now ++ begin) inherited _
-        ∙ append_assoc c.args.notes.now begin _
-        ∙ ap (λ (s : Scope). c.args.notes.now ++ (begin ++ (inherited ++ all s))) scope
-        ∙ ap (λ ns. c.args.notes.now ++ ns) (sym (method_is w c.args.number c.args.class.now m d)) in
+    ap (λ ns. ns ++ parts.body_notes (parts.in_body (here w c.in_ok-scopes.scopes) m d) extends d) headed
+    ∙ append_assoc ((c.args.notes.now ++ begin) ++ inherited) _ _
+    ∙ append_assoc (c.args.notes.now ++ begin) inherited _
+    ∙ append_assoc c.args.notes.now begin _
+    ∙ ap (λ (s : Scope). c.args.notes.now ++ (begin ++ (inherited ++ all s))) scope
+    ∙ ap (λ ns. c.args.notes.now ++ ns) (sym (method_is w c.args.number c.args.class.now m d)) in
     let told : c.is_some.result ≡ extends = search rules in
     subst (λ (ns : List Note). OnOk c.body.result (c.body.new.notes ≡ ns)) e
-      (subst (λ (b : Bool). OnOk c.body.result (c.body.new.notes ≡ c.head.new.notes ++ parts.body_notes (parts.in_body (here w c.in_ok-scopes.scopes) m d) b d)) told c.body.ensures)
+    (subst (λ (b : Bool). OnOk c.body.result (c.body.new.notes ≡ c.head.new.notes ++ parts.body_notes (parts.in_body (here w c.in_ok-scopes.scopes) m d) b d)) told c.body.ensures)
