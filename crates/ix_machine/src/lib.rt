@@ -7,7 +7,9 @@
 #![tactic(auto)]
 
 mod call;
+mod ending;
 mod task;
 
 pub use call::{enter, method_of};
+pub use ending::leave;
 pub use task::{Move, advance};
