@@ -29,9 +29,11 @@ KeepsValues move.Went = ⊥
 KeepsValues move.Wrapped = ⊥
 KeepsValues _ = Unit {0}
 
-abbrev pub IsStop : Move → Type 0
-IsStop (move.Stopped outcome) = Unit {0}
-IsStop _ = ⊥
+-- the tasks are as they were
+abbrev pub IsBack : Move → Type 0
+IsBack (move.Left slot) = Unit {0}
+IsBack (move.Stopped outcome) = Unit {0}
+IsBack _ = ⊥
 
 -- A call leaves the frame without the items that it begins, and there is room for these, for those behind it, and for the values that it passes.
 abbrev pub IsCall : Move → Room → Tasks → Tasks → ℕ → Type 0

@@ -23,3 +23,9 @@ event_of done.Done = model.Went
 event_of done.Wrapped = model.Went
 event_of (done.Printed value) = model.Prints (held_of value)
 event_of (done.Stopped outcome) = model.Stops
+
+-- nothing was printed, and no result wrapped
+abbrev pub IsQuiet : Done → Type 0
+IsQuiet done.Done = Unit {0}
+IsQuiet (done.Stopped outcome) = Unit {0}
+IsQuiet _ = ⊥

@@ -7,7 +7,7 @@ ghost use Rattle.ix_heap.specs.Rows.{held_of};
 ghost use Rattle.ix_heap.specs.View.{heap_of};
 ghost use Rattle.ix_frames.specs.Frames.{slots_of, frame_of};
 ghost use Rattle.ix_frames.specs.Waiting.{waits_of, HasRoom};
-ghost use Rattle.ix_machine.specs.Turns.{state_with, after};
+ghost use Rattle.ix_machine.specs.Turns.{state_with, after, IsQuiet};
 
 use ix_core::{Outcome, Program, Value};
 use ix_frames::{Frame, Pool};
@@ -84,6 +84,7 @@ pub fn leave<'p>(
     ensures resumed { (wrapped : Bool) → model.resumed (model.result_of ((tables_of program.now).routines frame.old.method) (slots_of frame.old) slot)
         (state_with (frame_of frame.old) (waits_of pool.old.below.items) (heap_of heap.now) wrapped) (waits_of pool.old.below.items)
         ≡ after result (state_with (frame_of frame.new) (waits_of pool.new.below.items) (heap_of heap.now) wrapped) }
+    ensures quiet { IsQuiet result }
     ensures fits { HasRoom pool.new.room frame.new }
     ensures room { pool.new.room ≡ pool.old.room }
     ensures most { pool.new.most ≡ pool.old.most }

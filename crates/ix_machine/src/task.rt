@@ -14,7 +14,7 @@ ghost use Rattle.ix_frames.specs.Frames.{slots_of};
 ghost use Rattle.ix_frames.specs.Fits.{IsFree, IsFreeFor};
 ghost use Rattle.ix_frames.specs.Places.{tasks_open, loop_tasks};
 ghost use Rattle.ix_frames.specs.declared.places.Place.TheVariants as place;
-ghost use Rattle.ix_machine.specs.Moves.{move_of, KeepsValues, IsStop, IsCall};
+ghost use Rattle.ix_machine.specs.Moves.{move_of, KeepsValues, IsBack, IsCall};
 
 use ix_core::{Base, Block, Cond, Item, Op, Outcome, Test, Type_};
 use ix_frames::{Frame, Place, Turn};
@@ -126,7 +126,7 @@ fn do_op<'p>(
     ensures moved { (frames : ℕ) → step_code (with_limits heap.old.most frames) (tables_of rows.now.program.now) (slots_of frame.old) (heap_of heap.old) (Do op.now (items_code rest.now)) (tasks_open frame.old.stack.places.items)
         ≡ move_of result (tasks_open frame.new.stack.places.items) (slots_of frame.new) (heap_of heap.new) }
     ensures values { KeepsValues result → (slots_of frame.new ≡ slots_of frame.old) × (heap_of heap.new ≡ heap_of heap.old) }
-    ensures back { IsStop result → tasks_open frame.new.stack.places.items ≡ code_then (items_code items.now) (tasks_open frame.old.stack.places.items) }
+    ensures back { IsBack result → tasks_open frame.new.stack.places.items ≡ code_then (items_code items.now) (tasks_open frame.old.stack.places.items) }
     ensures call { IsCall result frame.new.stack.room (tasks_open frame.new.stack.places.items) (code_then (items_code items.now) (tasks_open frame.old.stack.places.items)) (length frame.new.stack.places.items) }
     ensures method { frame.new.method ≡ frame.old.method }
     ensures room { frame.new.stack.room ≡ frame.old.stack.room }
@@ -209,7 +209,7 @@ fn run_item<'p>(
     ensures moved { (frames : ℕ) → step_tasks (with_limits heap.old.most frames) (tables_of rows.now.program.now) (slots_of frame.old) (heap_of heap.old) (code_then (items_code items.now) (tasks_open frame.old.stack.places.items))
         ≡ move_of result (tasks_open frame.new.stack.places.items) (slots_of frame.new) (heap_of heap.new) }
     ensures values { KeepsValues result → (slots_of frame.new ≡ slots_of frame.old) × (heap_of heap.new ≡ heap_of heap.old) }
-    ensures back { IsStop result → tasks_open frame.new.stack.places.items ≡ code_then (items_code items.now) (tasks_open frame.old.stack.places.items) }
+    ensures back { IsBack result → tasks_open frame.new.stack.places.items ≡ code_then (items_code items.now) (tasks_open frame.old.stack.places.items) }
     ensures call { IsCall result frame.new.stack.room (tasks_open frame.new.stack.places.items) (code_then (items_code items.now) (tasks_open frame.old.stack.places.items)) (length frame.new.stack.places.items) }
     ensures method { frame.new.method ≡ frame.old.method }
     ensures room { frame.new.stack.room ≡ frame.old.stack.room }
@@ -229,7 +229,10 @@ fn run_item<'p>(
             frame.stack.turn_on();
             Move::Went
         }
-        Item::Return(slot, _) => Move::Left(*slot),
+        Item::Return(slot, _) => {
+            frame.stack.put(Place::Rest(items));
+            Move::Left(*slot)
+        }
         Item::Throw(name, span) => {
             frame.stack.put(Place::Rest(items));
             Move::Stopped(Outcome::Thrown(name, span.from))
@@ -259,7 +262,7 @@ fn run_items<'p>(
     ensures moved { (frames : ℕ) → step_tasks (with_limits heap.old.most frames) (tables_of rows.now.program.now) (slots_of frame.old) (heap_of heap.old) (code_then (items_code items.now) (tasks_open frame.old.stack.places.items))
         ≡ move_of result (tasks_open frame.new.stack.places.items) (slots_of frame.new) (heap_of heap.new) }
     ensures values { KeepsValues result → (slots_of frame.new ≡ slots_of frame.old) × (heap_of heap.new ≡ heap_of heap.old) }
-    ensures back { IsStop result → tasks_open frame.new.stack.places.items ≡ code_then (items_code items.now) (tasks_open frame.old.stack.places.items) }
+    ensures back { IsBack result → tasks_open frame.new.stack.places.items ≡ code_then (items_code items.now) (tasks_open frame.old.stack.places.items) }
     ensures call { IsCall result frame.new.stack.room (tasks_open frame.new.stack.places.items) (code_then (items_code items.now) (tasks_open frame.old.stack.places.items)) (length frame.new.stack.places.items) }
     ensures method { frame.new.method ≡ frame.old.method }
     ensures room { frame.new.stack.room ≡ frame.old.stack.room }
@@ -276,7 +279,7 @@ pub fn advance<'p>(rows: &Rows<'p>, frame: &mut Frame<'p>, heap: &mut Heap<'p>) 
     ensures moved { (frames : ℕ) → step_tasks (with_limits heap.old.most frames) (tables_of rows.now.program.now) (slots_of frame.old) (heap_of heap.old) (tasks_open frame.old.stack.places.items)
         ≡ move_of result (tasks_open frame.new.stack.places.items) (slots_of frame.new) (heap_of heap.new) }
     ensures values { KeepsValues result → (slots_of frame.new ≡ slots_of frame.old) × (heap_of heap.new ≡ heap_of heap.old) }
-    ensures back { IsStop result → tasks_open frame.new.stack.places.items ≡ tasks_open frame.old.stack.places.items }
+    ensures back { IsBack result → tasks_open frame.new.stack.places.items ≡ tasks_open frame.old.stack.places.items }
     ensures call { IsCall result frame.new.stack.room (tasks_open frame.new.stack.places.items) (tasks_open frame.old.stack.places.items) (length frame.new.stack.places.items) }
     ensures method { frame.new.method ≡ frame.old.method }
     ensures room { frame.new.stack.room ≡ frame.old.stack.room }
