@@ -8,10 +8,12 @@
 
 mod call;
 mod ending;
+mod machine;
 mod task;
 mod turns;
 
 pub use call::{enter, method_of};
 pub use ending::leave;
+pub use machine::{Event, Machine};
 pub use task::{Move, advance};
 pub use turns::turn;
