@@ -1,5 +1,6 @@
 -- The room of a method's frame, and the frame of a call.
-use Rattle.std.proofs.Common.{◌≡◌, ℕ, zero, suc, ◌+◌, ◌≤◌, List, [], ◌∷◌, ◌++◌, length, map, arith, refl, ap, ◌∙◌}
+use Rattle.std.proofs.Common.{◌≡◌, ℕ, zero, suc, ◌+◌, ◌<◌, ◌≤◌, get_or, drop, max, sym, add-one, List, [], ◌∷◌, ◌++◌, length, map, arith, refl, ap, ◌∙◌}
+use Rattle.std.proofs.Math.Seq.{drop-cons}
 use Rattle.std.specs.Prelude.{slice_get, unwrap_or}
 use Rattle.ix_core.specs.declared.op.Arg.{Arg}
 use Rattle.ix_core.specs.declared.op.CallOp.{CallOp}
@@ -37,3 +38,14 @@ entered_frame method top code body count slots this fresh args all old is same m
     ∙ (ap (λ n. frame method (code_then body Empty) (slots_with n (this ++ map (λ (arg : Arg). value_at old arg.slot) args))) many
     ∙ (ap (λ t. frame method (code_then body Empty) (slots_with slots (t ++ map (λ (arg : Arg). value_at old arg.slot) args))) here
     ∙ ap (λ xs. frame method (code_then body Empty) (slots_with slots (fresh ++ map (λ (arg : Arg). value_at old arg.slot) xs))) there)))
+
+pub method_step : (methods : List Method) (index : ℕ) (method : Method) → index < length methods → method ≡ get_or methods index method
+    → (places_of (drop index methods) ≡ max (1 + code_above (body_of method)) (places_of (drop (index + 1) methods)))
+    × (values_of (drop index methods) ≡ max (max (max method.slots (length method.param_types)) (code_values (body_of method))) (values_of (drop (index + 1) methods)))
+method_step methods index method within is =
+    let cut : drop index methods ≡ method ∷ drop (index + 1) methods = drop-cons methods index method within ∙ (ap (λ m. m ∷ drop (suc index) methods) (sym is) ∙ rw add-one refl) in
+    (ap places_of cut, omega (arith, ap values_of cut))
+
+pub some_places : (methods : List Method) → 1 ≤ places_of methods
+some_places [] = omega arith
+some_places (method ∷ methods) = omega (arith, some_places methods)

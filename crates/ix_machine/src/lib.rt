@@ -9,11 +9,13 @@
 mod call;
 mod ending;
 mod machine;
+mod needs;
 mod task;
 mod turns;
 
 pub use call::{enter, method_of};
 pub use ending::leave;
 pub use machine::{Event, Machine};
+pub use needs::program_room;
 pub use task::{Move, advance};
 pub use turns::turn;
