@@ -1,0 +1,4 @@
+pub mod Places
+pub mod Declarations
+pub mod Parents
+pub mod Heads

@@ -1,0 +1,161 @@
+//! The head of a method or constructor: its annotations, its result and its parameters (JLS 8.4, 8.8).
+
+ghost use Rattle.std.specs.Prelude.{◌≡◌, ◌++◌, ◌<◌, ◌^◌, length, IfOk, OnOk};
+ghost use Rattle.ix_scopes.specs.Here.{here};
+ghost use Rattle.ix_member_notes.specs.Heads as parts;
+
+use crate::params::note_params;
+use ix_annot::{Found, Names, Naming, Target};
+use ix_core::{Claim, Name};
+use ix_meaning::{Note, Signature};
+use ix_scopes::{InAnnotation, Scopes, note_declared};
+use ix_text::List;
+use ix_tree::{Annot, MethodDecl, TypeTree};
+use ix_world::World;
+use ix_written::{Declaration, Part, given, variable};
+use std::alloc::{AllocError, Global};
+
+/// The same names for an annotation on a method or constructor.
+#[derive(Drop)]
+struct OnCallable<'a, N: Names> {
+    names: &'a N,
+    target: Target,
+}
+
+impl<N: Names> Names for OnCallable<'_, N> {
+    ghost use Rattle.ix_meaning.specs.Annotated as spec;
+
+    ghost names = { λ place. spec.aimed (N.names place.names.now) place.target };
+
+    fn found(&self, naming: &Naming) -> Option<Found> {
+        self.names.found(naming)
+    }
+
+    fn target(&self) -> Target {
+        self.target
+    }
+
+    fn own(&self) -> Option<Name> {
+        self.names.own()
+    }
+}
+
+fn target(constructor: bool) -> Target
+    ensures { result ≡ parts.target constructor }
+{
+    if constructor {
+        return Target::Constructor;
+    }
+    Target::Method
+}
+
+fn part(constructor: bool) -> Part
+    ensures { result ≡ parts.part constructor }
+{
+    if constructor {
+        return Part::All;
+    }
+    Part::OfMethod
+}
+
+/// Notes the annotations that speak of the method or constructor, and answers whether one says that it is side-effect-free.
+fn method_given<'p>(
+    alloc: Global,
+    world: &'p World,
+    scopes: &'p Scopes<'_>,
+    notes: &mut List<Note>,
+    constructor: bool,
+    annots: &[Annot],
+) -> Result<bool, AllocError>
+    ensures effect_free { IfOk result (λ free. free ≡ (parts.method_given (here world.now scopes.now) constructor annots.now).effect_free) }
+    ensures notes { OnOk result (notes.new ≡ notes.old ++ (parts.method_given (here world.now scopes.now) constructor annots.now).notes) }
+{
+    let names = InAnnotation {
+        world,
+        scopes,
+        own: None,
+        own_local: None,
+    };
+    let names = OnCallable {
+        names: &names,
+        target: target(constructor),
+    };
+    let mut claims = List::new(alloc);
+    given(alloc, notes, &mut claims, &names, part(constructor), annots)
+}
+
+/// Notes the annotations that speak of the result, and answers the claims on it.
+fn result_of<'p>(
+    alloc: Global,
+    world: &'p World,
+    scopes: &'p Scopes<'_>,
+    notes: &mut List<Note>,
+    annots: &[Annot],
+    ty: &Option<TypeTree>,
+) -> Result<List<Claim>, AllocError>
+    ensures claims { IfOk result (λ claims. claims ≡ (parts.result_of (here world.now scopes.now) annots.now ty.now).claims) }
+    ensures notes { OnOk result (notes.new ≡ notes.old ++ (parts.result_of (here world.now scopes.now) annots.now ty.now).notes) }
+{
+    let names = InAnnotation {
+        world,
+        scopes,
+        own: None,
+        own_local: None,
+    };
+    match ty {
+        None => {
+            let mut claims = List::new(alloc);
+            given(alloc, notes, &mut claims, &names, Part::OfResult, annots)?;
+            Ok(List::new(alloc))
+        }
+        Some(ty) => {
+            let Declaration { ty: _, claims } = variable(
+                alloc,
+                &world.table,
+                notes,
+                &names,
+                Part::OfResult,
+                annots,
+                ty,
+            )?;
+            Ok(claims)
+        }
+    }
+}
+
+fn result_given(
+    alloc: Global,
+    world: &World,
+    scopes: &Scopes<'_>,
+    notes: &mut List<Note>,
+    m: &Signature,
+    decl: &MethodDecl,
+) -> Result<List<Claim>, AllocError>
+    ensures claims { IfOk result (λ claims. claims ≡ (parts.result_given (here world.now scopes.now) m.now decl.now).claims) }
+    ensures notes { OnOk result (notes.new ≡ notes.old ++ (parts.result_given (here world.now scopes.now) m.now decl.now).notes) }
+{
+    if m.constructor {
+        return Ok(List::new(alloc));
+    }
+    let annots = decl.mods.annots.as_slice();
+    result_of(alloc, world, scopes, notes, annots, &decl.result)
+}
+
+/// Notes the annotations, the result and the parameters.
+pub fn head(
+    alloc: Global,
+    world: &World,
+    scopes: &Scopes<'_>,
+    notes: &mut List<Note>,
+    m: &Signature,
+    decl: &MethodDecl,
+) -> Result<(), AllocError>
+    requires { length decl.now.params < 2 ^ 32 }
+    ensures { OnOk result (notes.new ≡ notes.old ++ parts.head_notes (here world.now scopes.now) m.now decl.now) }
+{
+    let claims = result_given(alloc, world, scopes, notes, m, decl)?;
+    let annots = decl.mods.annots.as_slice();
+    let free = method_given(alloc, world, scopes, notes, m.constructor, annots)?;
+    note_declared(alloc, notes, decl.name.span, &m.result, claims, free)?;
+    note_params(alloc, world, scopes, notes, decl.params.as_slice())
+}

@@ -1,0 +1,14 @@
+use Rattle.std.proofs.Common.{◌≡◌, ◌++◌, ◌+◌, ◌≤◌, drop}
+use Rattle.indexmap.specs.IndexMap.{get_by_text}
+use Rattle.ix_meaning.specs.Source as spec
+use Rattle.ix_member_notes.specs.Places.{at}
+use Rattle.ix_names.proofs.classes.members.Given as goal
+
+abbrev pub invariant-loop-i : goal.invariant-loop-i
+invariant-loop-i l = record {
+  next : spec.next_fields l.next (drop l.i l.members) ≡ spec.next_fields l.first l.members;
+  few : l.next ≤ l.first + l.i;
+  notes :
+      l.notes ++ spec.member_notes (at l.world l.number l.class) (get_by_text l.table) l.i l.next (drop l.i l.members)
+      ≡ l.fn.notes ++ spec.member_notes (at l.world l.number l.class) (get_by_text l.table) 0 l.first l.members;
+}
