@@ -1,16 +1,18 @@
 -- The rules of operations, with what they go over as lists of their own: the facts on each operand, and the named arrays. The facts that name an
 -- operand give what all facts give, and each array once gives what all named arrays give.
-use Rattle.std.specs.Prelude.{ℤ, pos, ◌+ℤ◌, ◌-ℤ◌, ◌&&◌, int_le, List, [], ◌∷◌, ◌++◌, length}
+use Rattle.std.specs.Prelude.{ℕ, ℤ, pos, ◌+ℤ◌, ◌-ℤ◌, ◌&&◌, int_le, List, [], ◌∷◌, ◌++◌, length}
 use Rattle.std.specs.Int.{int_min, int_max}
 use Rattle.ix_num.specs.declared.arith.Arith.{Arith}
 use Rattle.ix_num.specs.declared.arith.Arith.TheVariants.{Add, Sub, Mul, Div, Rem, And, Or, Xor, Shl, Shr, Ushr}
 use Rattle.ix_num.specs.Ints.{greatest_int}
 use Rattle.ix_tables.specs.declared.low.Low.TheVariants as class
+use Rattle.ix_core.specs.declared.claim.Type_.{Type_}
 use Rattle.ix_core.specs.declared.fact.Path.{Path}
 use Rattle.ix_core.specs.declared.fact.Path.TheVariants.{Slot}
 use Rattle.ix_core.specs.declared.fact.Fact.{Fact}
 use Rattle.ix_core.specs.declared.fact.Fact.TheVariants.{Rng, LenRng, Same, IsLen, Less, Sum}
 use Rattle.ix_core.specs.declared.fact.Profile.{Profile}
+use Rattle.ix_core.specs.declared.op.Literal.{Literal}
 use Rattle.ix_core.specs.declared.op.Literal.TheVariants as literal
 use Rattle.ix_core.specs.declared.op.OpKind.{OpKind}
 use Rattle.ix_core.specs.declared.op.OpKind.TheVariants as op
@@ -19,7 +21,7 @@ use Rattle.ix_core.specs.declared.op.UnaryNum.TheVariants.{Neg as Negated, Flip}
 use Rattle.ix_facts.specs.Bounds
 use Rattle.ix_facts.specs.Exact.{if_so, each, each_path, exact_unary, fits, range_facts, low_facts, table_class}
 use Rattle.ix_facts.specs.AfterOperation as after
-use Rattle.ix_facts.specs.AfterOperation.{is_int, is_array, holds_arrays, is_from, loaded_claims, loaded_facts}
+use Rattle.ix_facts.specs.AfterOperation.{is_array, holds_arrays, is_from, loaded_claims, loaded_facts}
 use Rattle.ix_exact.specs.OverPaths.{exact_range}
 
 module _ (facts on_left on_right : List Fact) (arrays : List Path) where
@@ -76,15 +78,26 @@ module _ (facts on_left on_right : List Fact) (arrays : List Path) where
       IsLen n t ∷ Same t t ∷ LenRng t (int_max (Bounds.lower_bound facts n) (pos 0)) (int_min (Bounds.upper_limit facts n) greatest_int)
       ∷ each (after.new_array_by facts t n) on_left
 
+-- A number is its own range, and null counts as an array of no length.
+abbrev pub const_facts : Path → Literal → List Fact
+const_facts t (literal.Int n) = Rng t n n ∷ []
+const_facts t (literal.NullOf ty) = if_so (is_array ty) (LenRng t (pos 0) (pos 0) ∷ Same t t ∷ [])
+const_facts t _ = []
+
+abbrev pub fill_facts : Path → ℕ → List Fact
+fill_facts t count = LenRng t (pos count) (pos count) ∷ Same t t ∷ []
+
+abbrev pub load_facts : Path → Type_ → List Fact
+load_facts t ty = if_so (holds_arrays ty) (Same t t ∷ []) ++ loaded_facts t (loaded_claims ty)
+
 -- The new facts of an operation, with the facts on each path.
 abbrev pub new_facts : List Fact → (Path → List Fact) → List Path → Profile → OpKind → List Fact
-new_facts facts on arrays profile (op.Const t (literal.Int n)) = Rng (Slot t) n n ∷ []
-new_facts facts on arrays profile (op.Const t (literal.NullOf ty)) = if_so (is_array ty) (LenRng (Slot t) (pos 0) (pos 0) ∷ Same (Slot t) (Slot t) ∷ [])
+new_facts facts on arrays profile (op.Const t value) = const_facts (Slot t) value
 new_facts facts on arrays profile (op.Copy t s ty) = after.copied (on (Slot s)) ty (Slot t) (Slot s)
 new_facts facts on arrays profile (op.Num t arith y z) = num_facts facts (on (Slot y)) (on (Slot z)) arrays profile arith (Slot t) (Slot y) (Slot z)
 new_facts facts on arrays profile (op.Unary t unary y) = unary_facts facts (on (Slot y)) [] arrays profile unary (Slot t) (Slot y)
 new_facts facts on arrays profile (op.Length t a) = length_facts facts (on (Slot a)) [] arrays (Slot t) (Slot a)
 new_facts facts on arrays profile (op.NewArray t ty n) = new_array_facts facts (on (Slot n)) [] arrays (Slot t) (Slot n)
-new_facts facts on arrays profile (op.Fill t ty entries) = LenRng (Slot t) (pos (length entries)) (pos (length entries)) ∷ Same (Slot t) (Slot t) ∷ []
-new_facts facts on arrays profile (op.Load t a i ty) = if_so (holds_arrays ty) (Same (Slot t) (Slot t) ∷ []) ++ loaded_facts (Slot t) (loaded_claims ty)
+new_facts facts on arrays profile (op.Fill t ty entries) = fill_facts (Slot t) (length entries)
+new_facts facts on arrays profile (op.Load t a i ty) = load_facts (Slot t) ty
 new_facts facts on arrays profile _ = []

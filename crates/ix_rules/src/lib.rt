@@ -10,6 +10,7 @@ mod claims;
 mod copies;
 mod lengths;
 mod loaded;
+mod new_facts;
 mod operation;
 mod plain;
 mod sums;
@@ -17,5 +18,5 @@ mod types;
 
 pub use claims::push_claim;
 pub use copies::push_copied;
-pub use operation::{push_num, push_unary};
+pub use new_facts::push_new_facts;
 pub use types::{holds_arrays, holds_ints, is_array, is_int};

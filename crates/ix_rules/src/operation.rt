@@ -1,8 +1,6 @@
 //! All that an operation gives by its own rule.
 
-ghost use Rattle.std.specs.Prelude.{◌≡◌, ◌++◌, ◌∷◌, [], OnOk, pos, int_le, ◌&&◌};
-ghost use Rattle.ix_core.specs.declared.fact.Fact.TheVariants.{LenRng, Same};
-ghost use Rattle.ix_facts.specs.Bounds as spec;
+ghost use Rattle.std.specs.Prelude.{◌≡◌, ◌++◌, [], OnOk, pos};
 ghost use Rattle.ix_facts.specs.Closure.{kept};
 ghost use Rattle.ix_facts.specs.Exact as exact;
 ghost use Rattle.ix_facts.specs.Exact.{if_so};
@@ -150,7 +148,7 @@ fn push_arith<K: Know>(
 }
 
 /// `t = y op z`.
-pub fn push_num<K: Know>(
+pub(crate) fn push_num<K: Know>(
     out: &mut Vec<Fact>,
     know: &K,
     on_left: &[Fact],
@@ -200,7 +198,7 @@ fn push_unary_rule<K: Know>(
 }
 
 /// `t = -y` and `t = ~y`.
-pub fn push_unary<K: Know>(
+pub(crate) fn push_unary<K: Know>(
     out: &mut Vec<Fact>,
     know: &K,
     on_operand: &[Fact],
