@@ -69,6 +69,7 @@ impl<'p> Stack<'p> {
     pub fn next(&mut self) -> Option<Place<'p>>
         ensures tasks { MatchOption result (tasks_open self.old.places.items ≡ Empty)
             (λ place. IsTask place × (tasks_open self.old.places.items ≡ tasks_of (place ∷ reverse self.new.places.items))) }
+        ensures none { IfNone result (self.new.places.items ≡ []) }
         ensures free { IfSome result (λ place. IsFree (length self.new.places.items) self.new.room place) }
         ensures room { self.new.room ≡ self.old.room }
     {

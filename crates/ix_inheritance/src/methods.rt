@@ -8,14 +8,8 @@ ghost use Rattle.ix_inheritance.specs.Overriding as parts;
 
 use ix_core::Type_;
 use ix_meaning::Signature;
-use ix_types::same_type;
+use ix_types::{is_among, same_type};
 use ix_world::{Called, World};
-
-fn is_method_named(class: u32, name: &str, m: &Signature) -> bool
-    ensures { result ≡ members.is_method_named class name.now m.now }
-{
-    m.class == class && !m.constructor && m.name.as_str() == name
-}
 
 fn clashes_with(m: &Signature, other: &Signature) -> bool
     ensures { result ≡ spec.clashes_with m.now other.now }
@@ -23,22 +17,16 @@ fn clashes_with(m: &Signature, other: &Signature) -> bool
     m.is_static || other.is_static || other.is_private
 }
 
-fn clashes_in(all: &[Signature], m: &Signature, class: u32) -> bool
-    ensures { result ≡ spec.clashes_in all.now m.now class }
+/// Whether one of these classes declares a method of that name that clashes. One walk over all methods does, and few of them clash.
+fn some_clashes(all: &[Signature], m: &Signature, classes: &[u32]) -> bool
+    ensures { result ≡ parts.some_clashes all.now m.now classes.now }
 {
     for other in all {
-        if is_method_named(class, m.name.as_str(), other) && clashes_with(m, other) {
-            return true;
-        }
-    }
-    false
-}
-
-fn clashes_above(all: &[Signature], m: &Signature, classes: &[u32]) -> bool
-    ensures { result ≡ parts.clashes_above all.now m.now classes.now }
-{
-    for class in classes {
-        if clashes_in(all, m, *class) {
+        if clashes_with(m, other)
+            && !other.constructor
+            && other.name.as_str() == m.name.as_str()
+            && is_among(other.class, classes)
+        {
             return true;
         }
     }
@@ -46,10 +34,11 @@ fn clashes_above(all: &[Signature], m: &Signature, classes: &[u32]) -> bool
 }
 
 /// Whether a static method shares its name with an inherited method, or a method with a static or private one of a superclass.
+#[tactic(auto, using(crate::proofs::OneWalk::same_clashes))]
 pub fn clashes(world: &World, m: &Signature) -> bool
     ensures { result ≡ spec.clashes (shown world.now) world.now.methods m.now }
 {
-    !m.constructor && clashes_above(world.methods.as_slice(), m, world.supers(m.class))
+    !m.constructor && some_clashes(world.methods.as_slice(), m, world.supers(m.class))
 }
 
 fn instance_method<'w>(world: &'w World, class: u32, name: &str) -> Option<Called<'w>>

@@ -18,7 +18,7 @@ use Rattle.ix_meaning.specs.Source.{Place, nothing_declared, outside_object}
 use Rattle.ix_world.specs.declared.world.World.{World as Tables}
 use Rattle.ix_world.specs.World.{shown}
 use Rattle.ix_member_notes.specs.Places.{at}
-use Rattle.ix_member_notes.specs.Declarations.{params_from, params_notes, param_notes}
+use Rattle.ix_member_notes.specs.Declarations.{params_from, params_notes}
 use Rattle.ix_member_notes.specs.Parents.{super_args, super_given, super_notes}
 use Rattle.ix_member_notes.specs.Heads as parts
 

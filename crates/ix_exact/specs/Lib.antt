@@ -1,0 +1,3 @@
+pub mod OverPaths
+pub mod KeptLaws
+pub mod BestLaws

@@ -1,0 +1,6 @@
+pub mod Moves
+pub mod Programs
+pub mod Turns
+pub mod Fit
+pub mod State
+pub mod Events

@@ -1,0 +1,77 @@
+//! What `resolve` answers for a source, as a text.
+
+use ix_lexer::lex;
+use ix_meaning::{NameError, NameErrors, Rule};
+use ix_names::resolve;
+use ix_parser::parse;
+use std::alloc::{AllocError, Global};
+use std::fmt::Write;
+
+fn key(rule: Rule) -> &'static str {
+    match rule {
+        Rule::UnknownName => "unknown.name",
+        Rule::DuplicateName => "duplicate.name",
+        Rule::TypeMismatch => "type.mismatch",
+        Rule::WrongArguments => "wrong.arguments",
+        Rule::CyclicClass => "cyclic.class",
+        Rule::NotStatic => "not.static",
+        Rule::FinalAssigned => "final.assigned",
+        Rule::NotAssignable => "not.assignable",
+        Rule::BreakOutside => "break.outside",
+        Rule::UnknownAnnotation => "unknown.annotation",
+        Rule::BadArgument => "bad.argument",
+        Rule::BadName => "bad.name",
+        Rule::WrongTarget => "wrong.target",
+        Rule::InheritedName => "inherited.name",
+    }
+}
+
+/// Each error with its place, in their order.
+fn written(alloc: Global, errors: &[NameError]) -> Result<String, AllocError> {
+    let mut text = String::new(alloc);
+    for error in errors {
+        let from = error.span.from;
+        let to = error.span.to;
+        let key = key(error.rule);
+        if write!(text, "{from}-{to} {key};").is_err() {
+            return Err(AllocError);
+        }
+    }
+    Ok(text)
+}
+
+/// All errors of a source, none of one that is accepted; `None` where there is no tree, or memory is wanting.
+fn answer(alloc: Global, source: &str) -> Option<String> {
+    let bytes = source.as_bytes();
+    if bytes.len() > 1_000_000 {
+        return None;
+    }
+    let Ok(tokens) = lex(alloc, bytes) else {
+        return None;
+    };
+    let Ok(unit) = parse(alloc, &tokens, bytes.len() as u32) else {
+        return None;
+    };
+    match resolve(alloc, &unit) {
+        Ok(_) => Some(String::new(alloc)),
+        Err(NameErrors::Errors(errors)) => written(alloc, errors.as_slice()).ok(),
+        Err(_) => None,
+    }
+}
+
+fn is_right(alloc: Global, source: &str, expected: &str) -> bool {
+    match answer(alloc, source) {
+        None => false,
+        Some(text) => text.as_str() == expected,
+    }
+}
+
+pub fn wrong_rows(alloc: Global, rows: &[(&str, &str)]) -> usize {
+    let mut wrong = 0;
+    for (source, expected) in rows {
+        if !is_right(alloc, source, expected) {
+            wrong += 1;
+        }
+    }
+    wrong
+}
