@@ -1,7 +1,7 @@
 //! What `resolve` answers for a source, as a text.
 
 use ix_lexer::lex;
-use ix_meaning::{NameError, NameErrors, Rule};
+use ix_meaning::{NameError, NameErrors, Rule, Which};
 use ix_names::resolve;
 use ix_parser::parse;
 use std::alloc::{AllocError, Global};
@@ -40,8 +40,21 @@ fn written(alloc: Global, errors: &[NameError]) -> Result<String, AllocError> {
     Ok(text)
 }
 
-/// All errors of a source, none of one that is accepted; `None` where there is no tree, or memory is wanting.
-fn answer(alloc: Global, source: &str) -> Option<String> {
+/// A limit, with the place that passes it.
+fn limited(alloc: Global, which: Which, place: u32) -> Result<String, AllocError> {
+    let name = match which {
+        Which::Classes => "classes",
+        Which::Methods => "methods",
+        Which::Parameters => "parameters",
+        Which::Claims => "claims",
+        Which::Inheritance => "inheritance",
+        Which::Loops | Which::Slots | Which::Ops => "another",
+    };
+    format!(in alloc; "{name} at {place}")
+}
+
+/// All errors of a source, or the limit that it passes, none of one that is accepted; `None` where there is no tree, or memory is wanting.
+pub fn answer(alloc: Global, source: &str) -> Option<String> {
     let bytes = source.as_bytes();
     if bytes.len() > 1_000_000 {
         return None;
@@ -55,7 +68,8 @@ fn answer(alloc: Global, source: &str) -> Option<String> {
     match resolve(alloc, &unit) {
         Ok(_) => Some(String::new(alloc)),
         Err(NameErrors::Errors(errors)) => written(alloc, errors.as_slice()).ok(),
-        Err(_) => None,
+        Err(NameErrors::Limit(which, place)) => limited(alloc, which, place).ok(),
+        Err(NameErrors::Memory) => None,
     }
 }
 
