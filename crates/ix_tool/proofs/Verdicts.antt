@@ -14,7 +14,7 @@ use Rattle.ix_grammar.specs.declared.error.ParseError.TheVariants as syntax
 use Rattle.ix_report.specs.Texts.{rejected}
 use Rattle.ix_outside.specs.Outside.{Files, bytes_under}
 use Rattle.ix_tool.specs.Statuses.{is_answer}
-use Rattle.ix_tool.specs.Answer.{Answer, Answers, Finding, TooLong, Broken, Past, Misnamed, NotBuilt, Judged, Found, too_long, no_tokens, lexed, FoundOf, no_tree, tree, FoundIn, past, misnames, inherits, named, of_lex_error, of_parse_error, start_of, judged_by, answer_on, out_answer, IsVerdict, verdict, usage}
+use Rattle.ix_tool.specs.Answer.{Answer, Answers, Finding, TooLong, Broken, Past, Misnamed, NotBuilt, Judged, Found, too_long, no_tokens, lexed, FoundOf, no_tree, tree, FoundIn, past, misnames, inherits, too_big, named, of_lex_error, of_parse_error, start_of, judged_by, answer_on, out_answer, IsVerdict, verdict, usage}
 use Rattle.ix_tool.specs.Findings.{IsPlaced}
 use Rattle.ix_outside.specs.Reading.{IsAllOrPast, most_bytes}
 use Rattle.ix_tool.specs.Ends.{bytes_of, SafeBytes}
@@ -141,7 +141,8 @@ found_safe law file bytes _ (lexed {finding} tokens short lexing few (no_tree wh
 found_safe law file bytes _ (lexed tokens short lexing few (tree source has (past p is))) done = absurd (cc)
 found_safe law file bytes _ (lexed tokens short lexing few (tree source has (misnames errors refused))) done = absurd (cc)
 found_safe law file bytes _ (lexed tokens short lexing few (tree source has (inherits p none no_errors is))) done = absurd (cc)
-found_safe law file bytes _ (lexed tokens short lexing few (tree source has (named accepts))) done = record {
+found_safe law file bytes _ (lexed tokens short lexing few (tree source has (too_big p accepts is))) done = absurd (cc)
+found_safe law file bytes _ (lexed tokens short lexing few (tree source has (named made accepts is))) done = record {
   tokens = tokens;
   lexed = lexing;
   source = source;

@@ -1,5 +1,5 @@
 -- What the tool is to answer: a status and the texts on both sinks, from the words and the bytes of the file that they name.
-use Rattle.std.specs.Prelude.{◌≡◌, ◌≤◌, ◌<◌, min, ℕ, List, [], ◌∷◌, ◌++◌, Option, Some, None, length, drop, codes, string_bytes}
+use Rattle.std.specs.Prelude.{◌≡◌, ◌≤◌, ◌<◌, min, ℕ, List, [], ◌∷◌, ◌++◌, Option, Some, None, Result, Ok, Err, length, drop, codes, string_bytes}
 use Rattle.ix_lexer.specs.declared.token.LexError.{LexError}
 use Rattle.ix_lexer.specs.declared.token.LexError.TheVariants as lexical
 use Rattle.ix_lexer.specs.declared.token.Token.{Token}
@@ -10,10 +10,14 @@ use Rattle.ix_grammar.specs.declared.error.ParseError.TheVariants as syntax
 use Rattle.ix_grammar.specs.Refusals.{HasTree, Refused}
 use Rattle.ix_meaning.specs.declared.note.NameError.{NameError}
 use Rattle.ix_meaning.specs.declared.note.NameErrors.{NameErrors}
-use Rattle.ix_meaning.specs.declared.note.NameErrors.TheVariants as names
+use Rattle.ix_meaning.specs.declared.note.NameErrors.TheVariants as refusal
 use Rattle.ix_meaning.specs.Limits.{Passed, limit, inheritance_limit}
-use Rattle.ix_meaning.specs.Resolved.{name_errors, Accepts, IsRefused}
+use Rattle.ix_meaning.specs.Resolved.{name_errors, Accepts, IsRefused, names}
 use Rattle.ix_name_report.specs.Texts.{misnamed, limit_name}
+use Rattle.ix_core.specs.declared.program.Program.{Program}
+use Rattle.ix_lower.specs.declared.source.LowerError.{LowerError}
+use Rattle.ix_lower.specs.declared.source.LowerError.TheVariants as lowering
+use Rattle.ix_plain.specs.Program.{program}
 use Rattle.ix_core.specs.declared.error.Error.{Error}
 use Rattle.ix_check.specs.declared.check_source.Counts.{Counts}
 use Rattle.ix_check.specs.Rules.{errors_of}
@@ -86,22 +90,29 @@ judged_by _ _ = NotBuilt
 abbrev pub of_named : Source → Finding
 of_named source = judged_by (counts_of source) (errors_of source)
 
--- a limit of names that is passed, in a text of that length
+-- a limit that is passed, in a text of that length
 abbrev pub of_limit : ℕ → Passed → Finding
 of_limit end p = Past (min p.place end) (limit_name p.which)
 
 -- a source whose names have errors; want of memory is no finding
 abbrev pub of_name_errors : ℕ → NameErrors → Option Finding
-of_name_errors end (names.Errors errors) = Some (Misnamed errors)
-of_name_errors end (names.Limit which place) = Some (Past (min place end) (limit_name which))
-of_name_errors end names.Memory = None
+of_name_errors end (refusal.Errors errors) = Some (Misnamed errors)
+of_name_errors end (refusal.Limit which place) = Some (Past (min place end) (limit_name which))
+of_name_errors end refusal.Memory = None
 
--- This is found of a source in a text of that length. The first that holds decides: a limit, errors on names, the limit of inheritance, the form.
+-- a source that has no plain form; want of memory is no finding
+abbrev pub of_lower_error : ℕ → LowerError → Option Finding
+of_lower_error end (lowering.Limit which place) = Some (Past (min place end) (limit_name which))
+of_lower_error end lowering.Memory = None
+
+-- This is found of a source in a text of that length. The first that holds decides: a limit of the source, errors on names, the limit of inheritance, a limit of its
+-- methods' loops, slots or operations, the form.
 pub data FoundIn (end : ℕ) (source : Source) : Finding → Type 0 where
   past : (p : Passed) → limit source.classes ≡ Some p → FoundIn end source (of_limit end p)
   misnames : (errors : List NameError) → IsRefused source errors → FoundIn end source (Misnamed errors)
   inherits : (p : Passed) → limit source.classes ≡ None → name_errors source ≡ [] → inheritance_limit source.classes ≡ Some p → FoundIn end source (of_limit end p)
-  named : Accepts source → FoundIn end source (of_named source)
+  too_big : (p : Passed) → Accepts source → program (names source) source.classes ≡ Err p → FoundIn end source (of_limit end p)
+  named : (made : Program) → Accepts source → program (names source) source.classes ≡ Ok made → FoundIn end source (of_named source)
 
 -- This is found of the tokens of a text of that length.
 pub data FoundOf (tokens : List Token) (end : ℕ) : Finding → Type 0 where

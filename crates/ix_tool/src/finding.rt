@@ -2,6 +2,8 @@
 ghost use Rattle.std.specs.Prelude.{◌≡◌, ◌≤◌, length, option_map, drop, IfOk};
 ghost use Rattle.ix_lexer.specs.Spans.{InOrder};
 ghost use Rattle.ix_tree.specs.Parts.{CanResolve};
+ghost use Rattle.ix_meaning.specs.Resolved.{Accepts, names};
+ghost use Rattle.ix_table.specs.Numbered.{shown};
 ghost use Rattle.ix_tool.specs.Answer as spec;
 ghost use Rattle.ix_grammar.specs.Refusals.{IsWithin as TokenWithin};
 ghost use Rattle.ix_tool.specs.Findings.{seen, IsPlaced};
@@ -9,9 +11,10 @@ ghost use Rattle.ix_tool.specs.Findings.{seen, IsPlaced};
 use ix_check::{Counts, UnitError, check_unit, count_unit};
 use ix_core::Error;
 use ix_lexer::{LexError, Token, lex};
+use ix_lower::{LowerError, lower};
 use ix_meaning::{NameError, NameErrors};
 use ix_name_report::limit_name;
-use ix_names::resolve;
+use ix_names::{Table, resolve};
 use ix_outside::MOST_BYTES;
 use ix_parser::{ParseError, parse};
 use ix_text::List;
@@ -105,6 +108,35 @@ fn of_name_errors(end: u32, why: NameErrors) -> Option<Finding>
     }
 }
 
+/// What a source without a plain form is; nothing where memory is wanting.
+fn of_lower_error(end: u32, why: LowerError) -> Option<Finding>
+    ensures { option_map seen result ≡ spec.of_lower_error end why }
+{
+    match why {
+        LowerError::Limit(which, place) => Some(Finding::Past(place.min(end), limit_name(which))),
+        LowerError::Memory => None,
+    }
+}
+
+/// What a source without errors on names is, in a text of `end` bytes.
+#[tactic(auto, using(ix_counts::proofs::FewDeclarations::few_classes, ix_counts::proofs::FewDeclarations::few_members))]
+fn of_resolved(alloc: Global, unit: &Unit, table: &Table, end: u32) -> Result<Finding, AllocError>
+    requires can_resolve { CanResolve unit.now }
+    requires accepts { Accepts unit.now }
+    requires table { shown table.now ≡ names unit.now }
+    ensures right { IfOk result (λ finding. spec.FoundIn end unit.now (seen finding)) }
+    ensures only { (other : spec.Finding) → spec.FoundIn end unit.now other → IfOk result (λ finding. seen finding ≡ other) }
+    ensures placed { IfOk result (λ finding. IsPlaced end (seen finding)) }
+{
+    match lower(alloc, unit, table) {
+        Ok(_) => of_named(alloc, unit),
+        Err(why) => match of_lower_error(end, why) {
+            Some(finding) => Ok(finding),
+            None => Err(AllocError),
+        },
+    }
+}
+
 /// What a source in a text of `end` bytes is.
 fn of_unit(alloc: Global, unit: &Unit, end: u32) -> Result<Finding, AllocError>
     requires can_resolve { CanResolve unit.now }
@@ -113,7 +145,7 @@ fn of_unit(alloc: Global, unit: &Unit, end: u32) -> Result<Finding, AllocError>
     ensures placed { IfOk result (λ finding. IsPlaced end (seen finding)) }
 {
     match resolve(alloc, unit) {
-        Ok(_) => of_named(alloc, unit),
+        Ok(table) => of_resolved(alloc, unit, &table, end),
         Err(why) => match of_name_errors(end, why) {
             Some(finding) => Ok(finding),
             None => Err(AllocError),
