@@ -13,6 +13,7 @@ ghost use Rattle.ix_facts.specs.Small.{HasSmallNumbers};
 use crate::bounds;
 use ix_core::{Fact, OpKind, Path, PathOff};
 use ix_facts::{Know, is_same_path, names_path, names_target};
+use ix_index::Indexed;
 use std::alloc::{AllocError, Global};
 use std::marker::Model;
 
@@ -410,4 +411,26 @@ impl Know for FactList {
     fn array(&self, k: u128) -> Path {
         self.arrays[k as usize]
     }
+}
+
+/// The facts on each path are all facts.
+impl Indexed for FactList {
+    ghost use Rattle.std.specs.Prelude.{refl};
+    ghost use Rattle.ix_facts.specs.Facts.{in_orders};
+
+    ghost on_path = { λ list p. in_orders list };
+
+    fn on(&self, _p: &Path) -> &[Fact] {
+        &self.ordered
+    }
+
+    fn int_list(&self) -> &[Path] {
+        &self.ints
+    }
+
+    fn array_list(&self) -> &[Path] {
+        &self.arrays
+    }
+
+    ghost each_named = { λ list p. refl };
 }

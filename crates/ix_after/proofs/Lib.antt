@@ -1,0 +1,6 @@
+pub mod Members
+pub mod BestMembers
+pub mod Silent
+pub mod SameRules
+pub mod SameFinish
+pub mod AfterIs
