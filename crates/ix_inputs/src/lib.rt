@@ -12,4 +12,4 @@ mod words;
 
 pub use claims::{Unmet, first_unmet};
 pub use input::Input;
-pub use words::{bool_in, int_in};
+pub use words::{bool_in, int_in, ints_in};

@@ -1,5 +1,6 @@
 //! The values that words write.
-ghost use Rattle.std.specs.Prelude.{◌≡◌, [], ◌∷◌, ◌++◌, List as Elements, ℕ, map, option_map, IfOk};
+ghost use Rattle.std.specs.Prelude.{◌≡◌, [], ◌∷◌, ◌++◌, List as Elements, ℕ, map, option_map, IfOk, ◌==◌};
+ghost use Rattle.std.specs.List.{slice_split};
 ghost use Rattle.ix_inputs.specs.Shown as shown;
 ghost use Rattle.ix_inputs.specs.Words.{WritesInt, WritesBool, WriteInts, WritesInts, IsWithin, WritesInput};
 
@@ -56,4 +57,25 @@ fn ints_of(alloc: Global, pieces: &[&str]) -> Result<Option<List<i32>>, AllocErr
         ints.push(n)?;
     }
     Ok(Some(ints))
+}
+
+/// The pieces between commas. The one error is want of memory.
+fn pieces_of<'w>(alloc: Global, inner: &'w str) -> Result<Vec<&'w str>, AllocError>
+    ensures { IfOk result (λ pieces. map (λ piece. piece.now) pieces.items ≡ slice_split (λ b. b == 44) inner.now) }
+{
+    inner.split(',').collect(alloc)
+}
+
+/// The ints that the word writes between brackets; none where it writes no ints. The one error is want of memory.
+pub fn ints_in(alloc: Global, word: &str) -> Result<Option<List<i32>>, AllocError>
+    ensures { IfOk result (λ found. WritesInts word.now found) }
+{
+    let Some(inner) = within(word) else {
+        return Ok(None);
+    };
+    if inner.is_empty() {
+        return Ok(Some(List::new(alloc)));
+    }
+    let pieces = pieces_of(alloc, inner)?;
+    ints_of(alloc, pieces.as_slice())
 }
