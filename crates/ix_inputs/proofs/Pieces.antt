@@ -93,3 +93,20 @@ all_written word inner pieces (Err error) e some cuts is = is
 pub has_some : (inner : List ℕ) → false ≡ (length inner == 0) → inner ≢ []
 has_some [] e = absurd cc
 has_some (x ∷ xs) e = λ f. absurd cc
+
+-- ---- how many ints a word writes
+
+length_written : (ns : List ℤ) → length (map signed_decimal ns) ≡ length ns
+length_written [] = refl
+length_written (n ∷ ns) = ap suc (length_written ns)
+
+too_long : (ms ns : List ℤ) → AreInts ms → AreInts ns → with_commas ms ≡ with_commas ns → 2147483647 < length ns → length ms ≤ 2147483647 → ⊥
+too_long ms [] ams ans e long short = omega (arith, long)
+too_long [] (n ∷ ns) ams ans e long short =
+    let same = ap (length {A = List ℕ}) (ap (slice_split (λ b. b == 44)) e ∙ cut n ns ans) in let count = length_written (n ∷ ns) in omega (arith, same, count, long)
+too_long (m ∷ ms) (n ∷ ns) ams ans e long short =
+    let same = ap (length {A = List ℕ}) (sym (cut m ms ams) ∙ (ap (slice_split (λ b. b == 44)) e ∙ cut n ns ans)) in let first = length_written (m ∷ ms) in let count = length_written (n ∷ ns) in omega (arith, same, first, count, long, short)
+
+-- a word of more ints than an array has is the word of no shorter list
+pub none_shorter : (word : List ℕ) (ns ms : List ℤ) → WritesInts word (Some ns) → 2147483647 < length ns → AreInts ms → word ≡ word_of (Ints ms) → length ms ≤ 2147483647 → ⊥
+none_shorter word ns ms is long are e short = too_long ms ns are is.1 (inside (with_commas ms) (with_commas ns) (sym e ∙ is.0)) long short

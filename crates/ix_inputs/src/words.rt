@@ -1,8 +1,7 @@
 //! The values that words write.
 ghost use Rattle.std.specs.Prelude.{◌≡◌, [], ◌∷◌, ◌++◌, List as Elements, ℕ, map, option_map, IfOk, ◌==◌};
 ghost use Rattle.std.specs.List.{slice_split};
-ghost use Rattle.ix_inputs.specs.Shown as shown;
-ghost use Rattle.ix_inputs.specs.Words.{WritesInt, WritesBool, WriteInts, WritesInts, IsWithin, WritesInput};
+ghost use Rattle.ix_inputs.specs.Words.{WritesInt, WritesBool, WriteInts, WritesInts, IsWithin};
 
 use ix_text::List;
 use std::alloc::{AllocError, Global};
