@@ -1,10 +1,9 @@
 -- The pieces between the commas of a list of ints.
 use Rattle.std.specs.Prelude.{◌≡◌, ℕ, suc, zero, ◌<◌, ◌≤◌, ◌==◌, ◌^◌, ℤ, pos, negsuc, Bool, true, false, List, [], ◌∷◌, ◌++◌, map, length, Option, None, Some, refl}
 use Rattle.std.specs.Fmt.{decimal, signed_decimal}
-use Rattle.std.specs.Int.{IsInRange}
 use Rattle.std.specs.List.{All, slice_split, join_with_byte}
-use Rattle.std.specs.Str.Parse.{AllDigits, digits_value}
-use Rattle.std.proofs.Common.{rules, arith, sym, ◌∙◌, ap, ◌≢◌, get_or, Result, Ok, Err, IfOk}
+use Rattle.std.specs.Str.Parse.{AllDigits}
+use Rattle.std.proofs.Common.{arith, sym, ◌∙◌, ap, ◌≢◌, get_or, Result, Ok, Err, IfOk}
 use Rattle.std.proofs.lemmas.Bool.Decides.{Decides-eqb}
 use Rattle.std.proofs.lemmas.Fmt.{digits_decimal}
 use Rattle.std.proofs.lemmas.Int.{ints}
@@ -12,7 +11,7 @@ use Rattle.std.proofs.lemmas.List.Elements.{All-from_get_or}
 use Rattle.std.proofs.lemmas.List.Splits.{slice_split_none, slice_split_at, join_with_byte-slice_split}
 use Rattle.std.proofs.lemmas.Str.Parse.{numerals_by_value, tells_digits, not_in_digits}
 use Rattle.ix_num.specs.Ints.{IsInt}
-use Rattle.ix_core.specs.Inputs.{word_of, with_commas, behind_comma}
+use Rattle.ix_core.specs.Inputs.{word_of, with_commas}
 use Rattle.ix_core.specs.Safe.{Ints, AreInts}
 use Rattle.ix_inputs.specs.Words.{WriteInts, WritesInts}
 

@@ -1,5 +1,5 @@
 -- A word of a type is the word of a value of that type alone.
-use Rattle.std.specs.Prelude.{◌≡◌, ◌<◌, ◌≤◌, ℕ, ℤ, Bool, List, length, Option, None, Some, refl}
+use Rattle.std.specs.Prelude.{◌≡◌, ◌<◌, ◌≤◌, ℕ, ℤ, List, length, Option, None, Some, refl}
 use Rattle.ix_core.specs.declared.claim.Claim.{Claim}
 use Rattle.ix_core.specs.declared.claim.Base as base_
 use Rattle.std.proofs.Common.{Result, Ok, Err, IfOk, option_map}

@@ -4,7 +4,7 @@ use Rattle.std.specs.Option.{MatchOption}
 use Rattle.std.specs.Borrow.{Bor}
 use Rattle.std.specs.Fmt.{signed_decimal}
 use Rattle.std.specs.Str.Parse.{ParsesSigned}
-use Rattle.std.proofs.Common.{rules, arith, sym, ◌∙◌, ap, FitsSigned, w32, ◌≢◌, Result, Ok, Err, true, false, nat_eq}
+use Rattle.std.proofs.Common.{rules, arith, sym, ◌∙◌, ap, FitsSigned, w32, ◌≢◌, Result, Ok, Err, false, nat_eq}
 use Rattle.std.proofs.lemmas.Fmt.{parse-signed_decimal}
 use Rattle.std.proofs.lemmas.Int.{ints}
 use Rattle.std.proofs.lemmas.Slice.Eq.{slice_eq-Decides}

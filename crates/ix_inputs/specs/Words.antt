@@ -4,7 +4,7 @@ use Rattle.std.specs.Borrow.{Bor}
 use Rattle.std.specs.Fmt.{signed_decimal}
 use Rattle.ix_num.specs.Ints.{IsInt}
 use Rattle.ix_core.specs.declared.claim.Type_.{Type_}
-use Rattle.ix_core.specs.Inputs.{IsValueOf, word_of, with_commas}
+use Rattle.ix_core.specs.Inputs.{IsValueOf, word_of}
 use Rattle.ix_core.specs.Safe.{Input, Flag, Ints, AreInts}
 
 abbrev pub WritesInt : List ℕ → Option ℤ → Type 0

@@ -64,7 +64,12 @@ fn plain_input(alloc: Global, of: Base, word: &str) -> Result<Option<Input>, All
 
 /// The word as an array. The one error is want of memory.
 #[tactic(auto, using(crate::proofs::Typed::bools_are, crate::proofs::Typed::objects_are, crate::proofs::Typed::arrays_are))]
-fn arrays_input(alloc: Global, of: Base, depth: u32, word: &str) -> Result<Option<Input>, AllocError>
+fn arrays_input(
+    alloc: Global,
+    of: Base,
+    depth: u32,
+    word: &str,
+) -> Result<Option<Input>, AllocError>
     ensures { IfOk result (λ found. (element : Elements Claim) → WritesInput (type_.Array of depth element) word.now (option_map shown.input_of found)) }
 {
     match of {

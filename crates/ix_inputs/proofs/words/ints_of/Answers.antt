@@ -1,6 +1,5 @@
-use Rattle.std.proofs.Common.{to_z-of_z, sym, ◌∙◌, ap, refl}
+use Rattle.std.proofs.Common.{to_z-of_z}
 use Rattle.std.proofs.lemmas.Option.{slice_get-get_or}
-use Rattle.ix_core.specs.Safe.{AreInts}
 use Rattle.ix_inputs.proofs.Written.{none_written, more_written, ints_end, fits}
 use Rattle.ix_inputs.proofs.words.ints_of.Goals as goal
 
