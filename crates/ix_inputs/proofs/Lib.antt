@@ -1,0 +1,4 @@
+pub mod Parameters
+pub mod Written
+pub mod Pieces
+pub mod Typed
