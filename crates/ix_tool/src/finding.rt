@@ -9,7 +9,7 @@ ghost use Rattle.ix_grammar.specs.Refusals.{IsWithin as TokenWithin};
 ghost use Rattle.ix_tool.specs.Findings.{seen, IsPlaced};
 
 use ix_check::{Counts, UnitError, check_unit, count_unit};
-use ix_core::Error;
+use ix_core::{Error, Program};
 use ix_lexer::{LexError, Token, lex};
 use ix_lower::{LowerError, lower};
 use ix_meaning::{NameError, NameErrors};
@@ -118,9 +118,17 @@ fn of_lower_error(end: u32, why: LowerError) -> Option<Finding>
     }
 }
 
-/// What a source without errors on names is, in a text of `end` bytes.
+/// What a source with that plain form is. The form isn't judged yet.
+fn of_program(alloc: Global, unit: &Unit, _program: Program) -> Result<Finding, AllocError>
+    ensures found { IfOk result (λ finding. seen finding ≡ spec.of_named unit.now) }
+    ensures placed { IfOk result (λ finding. IsPlaced 0 (seen finding)) }
+{
+    of_named(alloc, unit)
+}
+
+/// What a source is whose names mean what the table says, in a text of `end` bytes.
 #[tactic(auto, using(ix_counts::proofs::FewDeclarations::few_classes, ix_counts::proofs::FewDeclarations::few_members))]
-fn of_resolved(alloc: Global, unit: &Unit, table: &Table, end: u32) -> Result<Finding, AllocError>
+fn of_lowered(alloc: Global, unit: &Unit, table: &Table, end: u32) -> Result<Finding, AllocError>
     requires can_resolve { CanResolve unit.now }
     requires accepts { Accepts unit.now }
     requires table { shown table.now ≡ names unit.now }
@@ -129,12 +137,24 @@ fn of_resolved(alloc: Global, unit: &Unit, table: &Table, end: u32) -> Result<Fi
     ensures placed { IfOk result (λ finding. IsPlaced end (seen finding)) }
 {
     match lower(alloc, unit, table) {
-        Ok(_) => of_named(alloc, unit),
+        Ok(program) => of_program(alloc, unit, program),
         Err(why) => match of_lower_error(end, why) {
             Some(finding) => Ok(finding),
             None => Err(AllocError),
         },
     }
+}
+
+/// What a source without errors on names is, in a text of `end` bytes.
+fn of_resolved(alloc: Global, unit: &Unit, table: Table, end: u32) -> Result<Finding, AllocError>
+    requires can_resolve { CanResolve unit.now }
+    requires accepts { Accepts unit.now }
+    requires table { shown table ≡ names unit.now }
+    ensures right { IfOk result (λ finding. spec.FoundIn end unit.now (seen finding)) }
+    ensures only { (other : spec.Finding) → spec.FoundIn end unit.now other → IfOk result (λ finding. seen finding ≡ other) }
+    ensures placed { IfOk result (λ finding. IsPlaced end (seen finding)) }
+{
+    of_lowered(alloc, unit, &table, end)
 }
 
 /// What a source in a text of `end` bytes is.
@@ -145,7 +165,7 @@ fn of_unit(alloc: Global, unit: &Unit, end: u32) -> Result<Finding, AllocError>
     ensures placed { IfOk result (λ finding. IsPlaced end (seen finding)) }
 {
     match resolve(alloc, unit) {
-        Ok(table) => of_resolved(alloc, unit, &table, end),
+        Ok(table) => of_resolved(alloc, unit, table, end),
         Err(why) => match of_name_errors(end, why) {
             Some(finding) => Ok(finding),
             None => Err(AllocError),
