@@ -60,8 +60,8 @@ same_rising (x ∷ xs) [] rx ry there back = absurd (there x (inl refl))
 same_rising (x ∷ xs) (y ∷ ys) rx ry there back =
     let same = heads (there x (inl refl)) (back y (inl refl)) in
     cons same (same_rising xs ys rx.1 ry.1
-        (λ w h. later y ys w (subst (λ v. IsBefore v w) same (all_in (IsBefore x) xs w rx.0 h)) (there w (inr h)))
-        (λ w h. later x xs w (subst (λ v. IsBefore v w) (sym same) (all_in (IsBefore y) ys w ry.0 h)) (back w (inr h))))
+    (λ w h. later y ys w (subst (λ v. IsBefore v w) same (all_in (IsBefore x) xs w rx.0 h)) (there w (inr h)))
+    (λ w h. later x xs w (subst (λ v. IsBefore v w) (sym same) (all_in (IsBefore y) ys w ry.0 h)) (back w (inr h))))
   where
     heads : In x (y ∷ ys) → In y (x ∷ xs) → x ≡ y
     heads (inl h) k = h

@@ -14,7 +14,7 @@ use Rattle.ix_name_report.specs.Texts.{limit_name}
 use Rattle.ix_name_report.proofs.OneList.{one_list, none_listed}
 use Rattle.ix_tool.specs.Findings.{IsPlaced}
 use Rattle.ix_meaning.specs.declared.note.NameErrors.{NameErrors}
-use Rattle.ix_tool.specs.Answer.{Finding, Past, Misnamed, FoundIn, past, misnames, inherits, too_big, named, of_named, of_limit, of_name_errors, of_lower_error}
+use Rattle.ix_tool.specs.Answer.{Finding, Past, Misnamed, FoundIn, passes_limit, misnames, inherits, too_big, named, of_named, of_limit, of_name_errors, of_lower_error}
 
 not_none : (o : Option Passed) (p : Passed) → o ≡ None → o ≡ Some p → ⊥
 not_none o p none some = cc
@@ -38,7 +38,7 @@ same_limit : (o : Result Program Passed) (p q : Passed) → o ≡ Err p → o �
 same_limit o p q a b = cc
 
 pub accepted_only : (end : ℕ) (source : Source) (made : Program) (other : Finding) → Accepts source → program (names source) source.classes ≡ Ok made → FoundIn end source other → of_named source ≡ other
-accepted_only end source made _ accepts good (past p is) = absurd (not_none (limit source.classes) p accepts.within is)
+accepted_only end source made _ accepts good (passes_limit p is) = absurd (not_none (limit source.classes) p accepts.within is)
 accepted_only end source made _ accepts good (misnames errors refused) = absurd (no_list source errors refused accepts.no_errors)
 accepted_only end source made _ accepts good (inherits p none no_errors is) = absurd (not_none (inheritance_limit source.classes) p accepts.few_inherited is)
 accepted_only end source made _ accepts good (too_big p also is) = absurd (not_both (program (names source) source.classes) made p good is)
@@ -46,7 +46,7 @@ accepted_only end source made _ accepts good (named others also is) = refl
 
 -- a limit of a method
 big_only : (end : ℕ) (source : Source) (q : Passed) (other : Finding) → Accepts source → program (names source) source.classes ≡ Err q → FoundIn end source other → of_limit end q ≡ other
-big_only end source q _ accepts bad (past p is) = absurd (not_none (limit source.classes) p accepts.within is)
+big_only end source q _ accepts bad (passes_limit p is) = absurd (not_none (limit source.classes) p accepts.within is)
 big_only end source q _ accepts bad (misnames errors refused) = absurd (no_list source errors refused accepts.no_errors)
 big_only end source q _ accepts bad (inherits p none no_errors is) = absurd (not_none (inheritance_limit source.classes) p accepts.few_inherited is)
 big_only end source q _ accepts bad (too_big p also is) = ap (of_limit end) (same_limit (program (names source) source.classes) q p bad is)
@@ -73,7 +73,7 @@ unlowered_placed end lowering.Memory finding is = cc
 -- ---- errors
 
 pub errors_only : (end : ℕ) (source : Source) (errors : List NameError) (other : Finding) → IsRefused source errors → FoundIn end source other → Misnamed errors ≡ other
-errors_only end source errors _ refused (past p is) = absurd (not_none (limit source.classes) p refused.within is)
+errors_only end source errors _ refused (passes_limit p is) = absurd (not_none (limit source.classes) p refused.within is)
 errors_only end source errors _ refused (misnames others also) = ap Misnamed (one_list (name_errors source) errors others refused.listed also.listed)
 errors_only end source errors _ refused (inherits p none no_errors is) = absurd (no_list source errors refused no_errors)
 errors_only end source errors _ refused (too_big p accepts is) = absurd (no_list source errors refused accepts.no_errors)
@@ -97,14 +97,14 @@ shown end o which place h = ap (λ n. Past (min n end) (limit_name h.p.which)) h
 pub limit_found : (end : ℕ) (source : Source) (which : Which) (place : ℕ) → Refuses source (refusal.Limit which place) → FoundIn end source (Past (min place end) (limit_name which))
 limit_found end source which place (inl h) =
     let q = passes (limit source.classes) which place h in
-    subst (λ f. FoundIn end source f) (shown end (limit source.classes) which place q) (past q.p q.is)
+    subst (λ f. FoundIn end source f) (shown end (limit source.classes) which place q) (passes_limit q.p q.is)
 limit_found end source which place (inr (none, no_errors, h)) =
     let q = passes (inheritance_limit source.classes) which place h in
     subst (λ f. FoundIn end source f) (shown end (inheritance_limit source.classes) which place q) (inherits q.p none no_errors q.is)
 
 pub limit_only : (end : ℕ) (source : Source) (which : Which) (place : ℕ) (other : Finding) → Refuses source (refusal.Limit which place) → FoundIn end source other
     → Past (min place end) (limit_name which) ≡ other
-limit_only end source which place _ (inl h) (past p is) =
+limit_only end source which place _ (inl h) (passes_limit p is) =
     let q = passes (limit source.classes) which place h in
     sym (shown end (limit source.classes) which place q) ∙ ap (of_limit end) (same_passed (limit source.classes) q.p p q.is is)
 limit_only end source which place _ (inl h) (misnames errors refused) =
@@ -115,7 +115,7 @@ limit_only end source which place _ (inl h) (too_big p accepts is) =
     let q = passes (limit source.classes) which place h in absurd (not_none (limit source.classes) q.p accepts.within q.is)
 limit_only end source which place _ (inl h) (named made accepts is) =
     let q = passes (limit source.classes) which place h in absurd (not_none (limit source.classes) q.p accepts.within q.is)
-limit_only end source which place _ (inr (none, no_errors, h)) (past p is) = absurd (not_none (limit source.classes) p none is)
+limit_only end source which place _ (inr (none, no_errors, h)) (passes_limit p is) = absurd (not_none (limit source.classes) p none is)
 limit_only end source which place _ (inr (none, no_errors, h)) (misnames errors refused) = absurd (no_list source errors refused no_errors)
 limit_only end source which place _ (inr (none, no_errors, h)) (inherits p also none_too is) =
     let q = passes (inheritance_limit source.classes) which place h in

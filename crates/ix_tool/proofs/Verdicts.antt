@@ -14,7 +14,7 @@ use Rattle.ix_grammar.specs.declared.error.ParseError.TheVariants as syntax
 use Rattle.ix_report.specs.Texts.{rejected}
 use Rattle.ix_outside.specs.Outside.{Files, bytes_under}
 use Rattle.ix_tool.specs.Statuses.{is_answer}
-use Rattle.ix_tool.specs.Answer.{Answer, Answers, Finding, TooLong, Broken, Past, Misnamed, NotBuilt, Judged, Found, too_long, no_tokens, lexed, FoundOf, no_tree, tree, FoundIn, past, misnames, inherits, too_big, named, of_lex_error, of_parse_error, start_of, judged_by, answer_on, out_answer, IsVerdict, verdict, usage}
+use Rattle.ix_tool.specs.Answer.{Answer, Answers, Finding, TooLong, Broken, Past, Misnamed, NotBuilt, Judged, Found, too_long, no_tokens, lexed, FoundOf, no_tree, tree, FoundIn, passes_limit, misnames, inherits, too_big, named, of_lex_error, of_parse_error, start_of, judged_by, answer_on, out_answer, IsVerdict, verdict, usage}
 use Rattle.ix_tool.specs.Findings.{IsPlaced}
 use Rattle.ix_outside.specs.Reading.{IsAllOrPast, most_bytes}
 use Rattle.ix_tool.specs.Ends.{bytes_of, SafeBytes}
@@ -138,7 +138,7 @@ found_safe : Law → (file bytes : List ℕ) (finding : Finding) → Found bytes
 found_safe law file bytes _ (too_long past) done = absurd (cc)
 found_safe law file bytes _ (no_tokens {finding} why short fails is) done = absurd (lex_error_undone file bytes why finding is done)
 found_safe law file bytes _ (lexed {finding} tokens short lexing few (no_tree why refused is)) done = absurd (parse_error_undone file bytes tokens (length bytes) why finding is done)
-found_safe law file bytes _ (lexed tokens short lexing few (tree source has (past p is))) done = absurd (cc)
+found_safe law file bytes _ (lexed tokens short lexing few (tree source has (passes_limit p is))) done = absurd (cc)
 found_safe law file bytes _ (lexed tokens short lexing few (tree source has (misnames errors refused))) done = absurd (cc)
 found_safe law file bytes _ (lexed tokens short lexing few (tree source has (inherits p none no_errors is))) done = absurd (cc)
 found_safe law file bytes _ (lexed tokens short lexing few (tree source has (too_big p accepts is))) done = absurd (cc)

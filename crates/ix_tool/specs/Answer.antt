@@ -108,7 +108,7 @@ of_lower_error end lowering.Memory = None
 -- This is found of a source in a text of that length. The first that holds decides: a limit of the source, errors on names, the limit of inheritance, a limit of its
 -- methods' loops, slots or operations, the form.
 pub data FoundIn (end : ℕ) (source : Source) : Finding → Type 0 where
-  past : (p : Passed) → limit source.classes ≡ Some p → FoundIn end source (of_limit end p)
+  passes_limit : (p : Passed) → limit source.classes ≡ Some p → FoundIn end source (of_limit end p)
   misnames : (errors : List NameError) → IsRefused source errors → FoundIn end source (Misnamed errors)
   inherits : (p : Passed) → limit source.classes ≡ None → name_errors source ≡ [] → inheritance_limit source.classes ≡ Some p → FoundIn end source (of_limit end p)
   too_big : (p : Passed) → Accepts source → program (names source) source.classes ≡ Err p → FoundIn end source (of_limit end p)
