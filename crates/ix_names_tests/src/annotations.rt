@@ -1,6 +1,6 @@
 //! Annotations and what they name.
 
-use crate::row::wrong_rows;
+use crate::row::is_right;
 use std::alloc::Global;
 
 const ROWS: &[(&str, &str)] = &[
@@ -143,5 +143,7 @@ const ROWS: &[(&str, &str)] = &[
 
 #[test]
 fn annotations_are_those_of_the_rows(rt: HostRuntime) {
-    assert_eq!(rt; wrong_rows(rt.alloc(), ROWS), 0);
+    for &(source, expected) in ROWS {
+        assert!(rt; is_right(rt.alloc(), source, expected));
+    }
 }

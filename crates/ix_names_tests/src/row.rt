@@ -73,19 +73,10 @@ pub fn answer(alloc: Global, source: &str) -> Option<String> {
     }
 }
 
-fn is_right(alloc: Global, source: &str, expected: &str) -> bool {
+/// Whether that is what `resolve` answers.
+pub fn is_right(alloc: Global, source: &str, expected: &str) -> bool {
     match answer(alloc, source) {
         None => false,
         Some(text) => text.as_str() == expected,
     }
-}
-
-pub fn wrong_rows(alloc: Global, rows: &[(&str, &str)]) -> usize {
-    let mut wrong = 0;
-    for (source, expected) in rows {
-        if !is_right(alloc, source, expected) {
-            wrong += 1;
-        }
-    }
-    wrong
 }

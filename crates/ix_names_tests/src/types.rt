@@ -1,6 +1,6 @@
 //! Types of expressions and statements.
 
-use crate::row::wrong_rows;
+use crate::row::is_right;
 use std::alloc::Global;
 
 const ROWS: &[(&str, &str)] = &[
@@ -150,5 +150,7 @@ const ROWS: &[(&str, &str)] = &[
 
 #[test]
 fn types_are_those_of_the_rows(rt: HostRuntime) {
-    assert_eq!(rt; wrong_rows(rt.alloc(), ROWS), 0);
+    for &(source, expected) in ROWS {
+        assert!(rt; is_right(rt.alloc(), source, expected));
+    }
 }
