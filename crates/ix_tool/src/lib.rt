@@ -2,7 +2,7 @@
 //!
 //! What goes in: words, a source of files and two sinks. What comes out: a status, and what each sink took.
 //! The contract: `run_tool`, whose answer `specs/Answer.antt` defines and whose endings `specs/Ends.antt` names.
-//! It stands on the world outside, the lexer, the parser, the check and the texts of answers.
+//! It stands on the world outside, the lexer, the parser, names, the plain form, the check and the texts of answers.
 //! It never looks at the inside of any of them.
 #![tactic(auto)]
 
