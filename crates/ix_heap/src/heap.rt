@@ -2,7 +2,7 @@
 ghost use Rattle.std.specs.Prelude.{◌≡◌, true, false, IfOk, IfErr, IfSome, IfNone, slice_get, slice_set, get_or, ℕ, pos, unsigned_abs, ◌<◌, ◌≤◌, ◌+◌, ◌^◌, ◌++◌, [], ◌∷◌, length, vec_len, vec_capacity, map, replicate, nat_lt, option_map};
 ghost use Rattle.ix_core.specs.declared.claim.Type_.{Type_};
 ghost use Rattle.ix_core.specs.Heap as model;
-ghost use Rattle.ix_core.specs.Heap.{array_at, object_at, value_at, write_at, cells_used, cell_default, ArrayOf, ObjectOf, nothing, is_within};
+ghost use Rattle.ix_core.specs.Heap.{array_at, object_at, value_at, write_at, cells_used, cell_default, Num, ArrayOf, ObjectOf, nothing, is_within};
 ghost use Rattle.ix_core.specs.Machine.{object_shown, value_shown};
 ghost use Rattle.ix_heap.specs.declared.held.Held.{Held};
 ghost use Rattle.ix_core.specs.Tables.{field_at};
@@ -267,20 +267,20 @@ impl<'p> Heap<'p> {
         number
     }
 
-    /// A new object with these cells; the answer is its number.
-    pub fn make(&mut self, kind: Kind<'p>, values: &[Held]) -> u32
-        requires { cells_used (heap_of self.old) + (length values.now + 1) ≤ self.old.most }
+    /// A new array of these ints; the answer is its number.
+    pub fn make_ints(&mut self, ty: &'p Type_, ns: &[i32]) -> u32
+        requires { cells_used (heap_of self.old) + (length ns.now + 1) ≤ self.old.most }
         ensures number { result ≡ length (heap_of self.old) }
-        ensures made { heap_of self.new ≡ heap_of self.old ++ record { kind = kind_of kind.entry; cells = map held_of values.now } ∷ [] }
+        ensures made { heap_of self.new ≡ heap_of self.old ++ record { kind = ArrayOf ty.now; cells = map Num ns.now } ∷ [] }
         ensures most { self.new.most ≡ self.old.most }
     {
         let number = self.rows.len() as u32;
         let row = Row {
-            kind,
+            kind: Kind::Array(ty),
             from: self.cells.len(),
-            len: values.len(),
+            len: ns.len(),
         };
-        push_all(&mut self.cells, values);
+        push_ints(&mut self.cells, ns);
         put_row(&mut self.rows, row);
         number
     }
@@ -368,14 +368,14 @@ fn push_defaults(cells: &mut Vec<Held>, program: &Program, fields: &[u32])
     }
 }
 
-/// Adds values.
-fn push_all(cells: &mut Vec<Held>, values: &[Held])
-    requires { vec_len cells.old + length values.now ≤ vec_capacity cells.old }
-    ensures items { cells.new.items ≡ cells.old.items ++ values.now }
+/// Adds ints.
+fn push_ints(cells: &mut Vec<Held>, ns: &[i32])
+    requires { vec_len cells.old + length ns.now ≤ vec_capacity cells.old }
+    ensures items { Added cells.old.items cells.new.items (map Num ns.now) }
     ensures room { vec_capacity cells.old ≤ vec_capacity cells.new }
 {
-    for value in values {
-        cells.push(*value).unwrap();
+    for n in ns {
+        put_cell(cells, Held::Int(*n));
     }
 }
 

@@ -19,7 +19,7 @@ at_next [] k x e = absurd cc
 at_next (y ∷ ys) zero x e = search rules
 at_next (y ∷ ys) (suc k) x e = at_next ys k x e
 
-at_place : {A : Type 0} (xs : List A) (k : ℕ) (x : A) → slice_get xs k ≡ Some x → drop k xs ≡ x ∷ drop (k + 1) xs
+pub at_place : {A : Type 0} (xs : List A) (k : ℕ) (x : A) → slice_get xs k ≡ Some x → drop k xs ≡ x ∷ drop (k + 1) xs
 at_place xs k x e = simp unary_clauses (at_next xs k x e)
 
 past_end : {A : Type 0} (xs : List A) (k : ℕ) → slice_get xs k ≡ None → drop k xs ≡ []

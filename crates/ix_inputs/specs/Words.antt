@@ -1,5 +1,5 @@
 -- What a word writes, in both directions: the value whose word it is, or none where it is the word of no value.
-use Rattle.std.specs.Prelude.{◌≡◌, ℕ, ℤ, Bool, List, ◌∷◌, [], ◌++◌, map, Option, None, Some}
+use Rattle.std.specs.Prelude.{◌≡◌, ℕ, ◌+◌, ℤ, Bool, List, ◌∷◌, [], ◌++◌, length, map, take, slice_get, Option, None, Some}
 use Rattle.std.specs.Borrow.{Bor}
 use Rattle.std.specs.Fmt.{signed_decimal}
 use Rattle.ix_num.specs.Ints.{IsInt}
@@ -33,3 +33,20 @@ IsWithin word (Some inner) = word ≡ 91 ∷ (inner.now ++ 93 ∷ [])
 abbrev pub WritesInput : Type_ → List ℕ → Option Input → Type 0
 WritesInput ty word None = (input : Input) → IsValueOf ty word input → ⊥
 WritesInput ty word (Some input) = IsValueOf ty word input
+
+-- the words are values of these types, one by one
+abbrev pub AreValues : List Type_ → List (List ℕ) → List Input → Type 0
+AreValues [] [] [] = Unit {0}
+AreValues (ty ∷ types) (word ∷ words) (input ∷ inputs) = IsValueOf ty word input × AreValues types words inputs
+AreValues _ _ _ = ⊥
+
+-- The word of this number, from 1, is the first that is no value of its type: those before it are values.
+pub record IsFirstWrong (types : List Type_) (words : List (List ℕ)) (number : ℕ) : Type 0 where
+  pub before : List Input
+  pub ty : Type_
+  pub word : List ℕ
+  pub values : AreValues (take (length before) types) (take (length before) words) before
+  pub ty_at : slice_get types (length before) ≡ Some ty
+  pub word_at : slice_get words (length before) ≡ Some word
+  pub none : WritesInput ty word None
+  pub counted : number ≡ length before + 1

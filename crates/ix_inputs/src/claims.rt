@@ -1,5 +1,5 @@
 //! The first claim that inputs don't meet.
-ghost use Rattle.std.specs.Prelude.{◌≡◌, [], ℕ, length, map, option_map, pos, neg_ℤ, ◌+ℤ◌, ◌≤ℤ◌};
+ghost use Rattle.std.specs.Prelude.{◌≡◌, ◌<◌, [], ℕ, IfSome, length, map, option_map, pos, neg_ℤ, ◌+ℤ◌, ◌≤ℤ◌};
 ghost use Rattle.std.specs.List.{list_all};
 ghost use Rattle.ix_core.specs.Claims as core;
 ghost use Rattle.ix_core.specs.Heap.{int_reading, no_reading};
@@ -188,7 +188,8 @@ fn first_of(
 
 /// The first claim of the method's parameters that the inputs don't meet: parameter by parameter, own claims before those on elements.
 pub fn first_unmet(method: &Method, inputs: &[Input]) -> Option<Unmet>
-    ensures { option_map unmet_of result ≡ model.first_unmet method.now (map input_of inputs.now) }
+    ensures first { option_map unmet_of result ≡ model.first_unmet method.now (map input_of inputs.now) }
+    ensures within { IfSome result (λ unmet. unmet.param < length inputs.now) }
 {
     let params = method.params.as_slice();
     let types = method.param_types.as_slice();

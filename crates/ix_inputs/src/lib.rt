@@ -1,16 +1,18 @@
-//! The inputs of a run: the values that its words write, and the first claim that they don't meet.
+//! The inputs of a run: the method that it begins with, the values that its words write, and the first claim that they don't meet.
 //!
-//! What goes in: a word and the type of its parameter, or a method and its inputs. What comes out: an input, or none, and the first unmet claim.
-//! The contract: `specs/Words.antt` says what a word writes, in both directions, by the words of values in `ix_core`'s `Inputs.antt`; `first_unmet` is its definition of `ix_core`'s `Inputs.antt`, read through `specs/Shown.antt`.
-//! It stands on the plain form of `ix_core`.
-//! It never looks at code, frames or the heap.
+//! What goes in: `CLASS.METHOD`, words and the types of parameters, or a method and its inputs. What comes out: a method, inputs, or what is wrong with them.
+//! The contract: `specs/Entries.antt` says which method is meant; `specs/Words.antt` what a word writes, in both directions, by the words of values in
+//! `ix_core`'s `Inputs.antt`; `first_unmet` is its definition there, read through `specs/Shown.antt`.
+//! It stands on the plain form of `ix_core`, and never looks at code, frames or the heap.
 #![tactic(auto)]
 
 mod claims;
+mod entries;
 mod input;
 mod values;
 mod words;
 
 pub use claims::{Unmet, first_unmet};
+pub use entries::entry_of;
 pub use input::Input;
-pub use values::input_of;
+pub use values::{InputError, input_of, inputs_of};

@@ -1,15 +1,16 @@
 //! Words as inputs of a type.
-ghost use Rattle.std.specs.Prelude.{◌≡◌, option_map, IfOk, List as Elements};
+ghost use Rattle.std.specs.Prelude.{◌≡◌, ℕ, length, map, option_map, IfOk, IsErrOf, List as Elements};
 ghost use Rattle.ix_core.specs.declared.claim.Claim.{Claim};
 ghost use Rattle.ix_core.specs.declared.claim.Base.TheVariants as base;
 ghost use Rattle.ix_core.specs.declared.claim.Type_.TheVariants as type_;
 ghost use Rattle.ix_inputs.specs.Shown as shown;
-ghost use Rattle.ix_inputs.specs.Words.{WritesInput};
+ghost use Rattle.ix_inputs.specs.Words.{WritesInput, AreValues, IsFirstWrong};
 
 use crate::input::Input;
 use crate::words::{bool_in, int_in, ints_in};
 use ix_core::{Base, Type_};
-use std::alloc::{AllocError, Global};
+use ix_text::List;
+use std::alloc::{AllocError, AllocFailed, Global};
 
 #[tactic(auto, using(crate::proofs::Typed::int_is))]
 /// The word as an int. The one error is want of memory.
@@ -95,4 +96,50 @@ pub fn input_of(alloc: Global, ty: &Type_, word: &str) -> Result<Option<Input>, 
         Type_::Plain(of) => plain_input(alloc, *of, word),
         Type_::Array { base, depth, .. } => arrays_input(alloc, *base, *depth, word),
     }
+}
+
+/// Why words are no inputs.
+#[derive(Clone, Copy)]
+pub enum InputError {
+    /// The word of that number, from 1, is the first that writes no value of its parameter's type.
+    WrongKind(usize),
+    Memory,
+}
+
+impl From<AllocError> for InputError {
+    ghost use Rattle.std.specs.Prelude.{◌≡◌};
+    ghost use Rattle.ix_inputs.specs.declared.values.InputError.TheVariants.{Memory};
+
+    ghost from_gives = { λ _ error. error ≡ Memory };
+
+    fn from(_error: AllocError) -> InputError {
+        InputError::Memory
+    }
+}
+
+impl From<AllocFailed<Input>> for InputError {
+    ghost use Rattle.std.specs.Prelude.{◌≡◌};
+    ghost use Rattle.ix_inputs.specs.declared.values.InputError.TheVariants.{Memory};
+
+    ghost from_gives = { λ _ error. error ≡ Memory };
+
+    fn from(_error: AllocFailed<Input>) -> InputError {
+        InputError::Memory
+    }
+}
+
+/// The inputs that the words write, one for each type.
+pub fn inputs_of(alloc: Global, types: &[Type_], words: &[&str]) -> Result<List<Input>, InputError>
+    requires { length words.now ≡ length types.now }
+    ensures inputs { IfOk result (λ inputs. AreValues types.now (map (λ word. word.now) words.now) (map shown.input_of inputs)) }
+    ensures wrong { (number : ℕ) → IsErrOf result (InputError.WrongKind number) → IsFirstWrong types.now (map (λ word. word.now) words.now) number }
+{
+    let mut inputs = List::new(alloc);
+    for (number, ty) in types.iter().enumerate() {
+        let Some(input) = input_of(alloc, ty, words[number])? else {
+            return Err(InputError::WrongKind(number + 1));
+        };
+        inputs.push(input)?;
+    }
+    Ok(inputs)
 }

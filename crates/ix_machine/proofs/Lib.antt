@@ -1,2 +1,5 @@
 pub mod Items
 pub mod Methods
+pub mod Begun
+pub mod Starting
+pub mod Entered

@@ -18,10 +18,11 @@ pub record Fits (room : Room) (method : Method) : Type 0 where
   pub above : 1 + code_above (body_of method) ≤ room.places
   pub values : code_values (body_of method) ≤ room.values
   pub slots : method.slots ≤ room.values
+  pub params : length method.param_types ≤ room.values
 
 pub method_fits : (methods : List Method) (number : ℕ) (room : Room) → places_of methods ≤ room.places → values_of methods ≤ room.values → Fits room (unwrap_or (slice_get methods number) no_method)
-method_fits [] number room places values = record { above = omega (arith, places); values = omega arith; slots = omega arith }
-method_fits (method ∷ methods) zero room places values = record { above = omega (arith, places); values = omega (arith, values); slots = omega (arith, values) }
+method_fits [] number room places values = record { above = omega (arith, places); values = omega arith; slots = omega arith; params = omega arith }
+method_fits (method ∷ methods) zero room places values = record { above = omega (arith, places); values = omega (arith, values); slots = omega (arith, values); params = omega (arith, values) }
 method_fits (method ∷ methods) (suc number) room places values = method_fits methods number room (omega (arith, places)) (omega (arith, values))
 
 pub receiver_is : (kind : CallKind) (op : CallOp) (number size : ℕ) (slots : List Held) → ((class : ℕ) → kind ≡ New class → number ≡ size) → receiver kind op number slots ≡ receiver kind op size slots

@@ -1,5 +1,4 @@
 -- That a frame has the room of the others is a fact without parts.
-use Rattle.std.specs.Prelude.{◌≡◌, ℕ}
 use Rattle.std.specs.Coded.{×_prop, Coded-set, coded_ℕ}
 use Rattle.ix_frames.specs.declared.frames.Frame.{Frame}
 use Rattle.ix_frames.specs.declared.room.Room.{Room}

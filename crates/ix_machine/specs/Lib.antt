@@ -4,3 +4,4 @@ pub mod Turns
 pub mod Fit
 pub mod State
 pub mod Events
+pub mod Starts

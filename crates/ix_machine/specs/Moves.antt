@@ -1,7 +1,5 @@
 -- What a step of a frame did, as the model says it.
 use Rattle.std.specs.Prelude.{◌≡◌, ◌≤◌, ◌+◌, ℕ, List, length}
-use Rattle.std.specs.Borrow.{Bor}
-use Rattle.ix_core.specs.declared.code.Item.{Item}
 use Rattle.ix_frames.specs.Fits.{IsFree}
 use Rattle.ix_frames.specs.declared.places.Place.TheVariants as place_
 use Rattle.ix_frames.specs.declared.room.Room.{Room}

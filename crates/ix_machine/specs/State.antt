@@ -1,5 +1,5 @@
 -- The state of a machine.
-use Rattle.std.specs.Prelude.{◌≡◌, ℕ, Option, option_map}
+use Rattle.std.specs.Prelude.{option_map}
 use Rattle.ix_core.specs.Machine as model
 use Rattle.ix_heap.specs.View.{heap_of}
 use Rattle.ix_frames.specs.Frames.{frame_of}

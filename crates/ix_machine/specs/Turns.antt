@@ -1,5 +1,5 @@
 -- States while a run goes on, and what a step does to one.
-use Rattle.std.specs.Prelude.{Bool, true, List, Option, None, Some}
+use Rattle.std.specs.Prelude.{Bool, true, List, None}
 use Rattle.ix_core.specs.Heap.{Heap}
 use Rattle.ix_core.specs.Machine as model
 use Rattle.ix_heap.specs.Rows.{held_of}

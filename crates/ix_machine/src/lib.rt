@@ -1,15 +1,16 @@
 //! The machine: a program of the plain form, run step by step.
 //!
-//! What goes in: the frame that runs, those that wait, and the heap. What comes out: these after a step, and what the step tells.
-//! The contract: `Machine::step` is `step` of `ix_core`'s `Machine.antt`, with limits on cells and frames.
-//! It stands on the operations of `ix_operations` and on the frames of `ix_frames`.
-//! It takes no memory, and never looks at tokens, trees or texts.
+//! What goes in: a program, an entry and the words of its inputs. What comes out: a run, or what stands in its way; and what each step tells.
+//! The contract: `Machine::new` begins a run as `specs/Starts.antt` says, and takes all memory; `Machine::step` is `step` of `ix_core`'s `Machine.antt`, with limits
+//! on cells and frames, and takes none.
+//! It stands on the inputs of `ix_inputs`, the operations of `ix_operations` and the frames of `ix_frames`, and never looks at tokens, trees or texts.
 #![tactic(auto)]
 
 mod call;
 mod ending;
 mod machine;
 mod needs;
+mod start;
 mod task;
 mod turns;
 
@@ -17,5 +18,6 @@ pub use call::{enter, method_of};
 pub use ending::leave;
 pub use machine::{Event, Machine};
 pub use needs::program_room;
+pub use start::{Entry, Limits, StartError, entry_with, unmet_in, values_of};
 pub use task::{Move, advance};
 pub use turns::turn;

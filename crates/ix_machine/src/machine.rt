@@ -1,18 +1,25 @@
 //! A machine that runs a program.
-ghost use Rattle.std.specs.Prelude.{◌≡◌, ◌≤◌, Option, option_map, None, Some, Bool};
+ghost use Rattle.std.specs.Prelude.{◌≡◌, ◌≤◌, ◌<◌, ◌^◌, [], length, map, Option, option_map, None, Some, Ok, Err, false, Bool, IfOk, IfErr};
 ghost use Rattle.ix_core.specs.Machine as model;
-ghost use Rattle.ix_core.specs.Tables.{tables_of};
+ghost use Rattle.ix_core.specs.Machine.{frame, slots_with};
+ghost use Rattle.ix_core.specs.Tables.{tables_of, method_at, body_of};
+ghost use Rattle.ix_core.specs.Tasks.{Empty, code_then};
 ghost use Rattle.ix_heap.specs.Rows.{held_of};
 ghost use Rattle.ix_frames.specs.Waiting.{HasRoom};
 ghost use Rattle.ix_machine.specs.Events.{event_of};
 ghost use Rattle.ix_machine.specs.Fit.{fits_once};
 ghost use Rattle.ix_machine.specs.Programs.{places_of, values_of};
+ghost use Rattle.ix_heap.specs.View.{heap_of};
+ghost use Rattle.ix_machine.specs.Turns.{state_with};
 
+use crate::needs::program_room;
+use crate::start::{Limits, StartError, entry_with, unmet_in, values_of};
 use crate::turns::turn;
-use ix_core::Outcome;
+use ix_core::{Outcome, Program};
 use ix_frames::{Frame, Pool};
 use ix_heap::{Heap, Held};
-use ix_operations::{Done, Rows};
+use ix_operations::{Done, Rows, body_in, slots_in};
+use std::alloc::{AllocError, Global};
 
 /// What a step tells: that the run goes on, that it goes on and printed a value, or that it has stopped.
 #[derive(Clone, Copy)]
@@ -38,6 +45,79 @@ pub struct Machine<'p> {
 
 impl<'p> Machine<'p> {
     ghost use Rattle.ix_machine.specs.State.{state_of, limits_of};
+    ghost use Rattle.ix_machine.specs.Starts.{Starts, IsStart, Refuses};
+
+    /// A run of the method that the entry means, as `CLASS.METHOD`, with the inputs that the words write, one for each of its parameters.
+    pub fn new(
+        alloc: Global,
+        program: &'p Program,
+        entry: &str,
+        inputs: &[&str],
+        limits: Limits,
+    ) -> Result<Machine<'p>, StartError>
+        requires cells { limits.cells < 2 ^ 31 }
+        requires frames { 0 < limits.frames }
+        ensures begins { IfOk result (λ machine. Starts program.now entry.now (map (λ word. word.now) inputs.now) limits.cells (Ok (state_of machine))) }
+        ensures entered { IfOk result (λ machine. IsStart program.now (state_of machine)) }
+        ensures refused { IfErr result (Refuses program.now entry.now (map (λ word. word.now) inputs.now) limits.cells) }
+        ensures limits { IfOk result (λ machine. limits_of machine ≡ model.with_limits limits.cells limits.frames) }
+        ensures program { IfOk result (λ machine. machine.rows.program.now ≡ program.now) }
+    {
+        let begun = entry_with(alloc, program, entry, inputs)?;
+        if let Some(why) = unmet_in(&begun) {
+            return Err(why);
+        }
+        let mut heap = Heap::new(alloc, limits.cells)?;
+        let types = begun.found.param_types.as_slice();
+        let Some(values) = values_of(alloc, &mut heap, types, begun.inputs.as_slice())? else {
+            return Err(StartError::InputsTooLarge);
+        };
+        let machine = Machine::at_start(
+            alloc,
+            program,
+            begun.method,
+            values.as_slice(),
+            heap,
+            limits.frames,
+        )?;
+        Ok(machine)
+    }
+
+    /// The machine that begins a method, whose first slots hold these values. The one error is want of memory.
+    fn at_start(
+        alloc: Global,
+        program: &'p Program,
+        method: u32,
+        values: &[Held],
+        heap: Heap<'p>,
+        frames: u32,
+    ) -> Result<Machine<'p>, AllocError>
+        requires frames { 0 < frames }
+        requires values { length values.now ≤ length (method_at program.now method).param_types }
+        ensures state { IfOk result (λ machine. state_of machine ≡ state_with (frame method (code_then (body_of (method_at program.now method)) Empty)
+            (slots_with (method_at program.now method).slots (map held_of values.now))) [] (heap_of heap.entry) false) }
+        ensures limits { IfOk result (λ machine. limits_of machine ≡ model.with_limits heap.entry.most frames) }
+        ensures program { IfOk result (λ machine. machine.rows.program.now ≡ program.now) }
+    {
+        let rows = Rows::new(alloc, program)?;
+        let room = program_room(program)?;
+        let pool = Pool::new(alloc, room, frames)?;
+        let mut frame = Frame::new(alloc, room)?;
+        frame.start(
+            method,
+            body_in(program, method),
+            slots_in(program, method),
+            values,
+        );
+        Ok(Machine {
+            rows,
+            frame,
+            pool,
+            heap,
+            wrapped: false,
+            ended: None,
+        })
+    }
 
     /// How the run ended; none while it goes on.
     pub fn outcome(&self) -> Option<&Outcome<'p>>
@@ -58,7 +138,7 @@ impl<'p> Machine<'p> {
 
     /// One step of a run that has not ended; it takes no memory.
     pub fn step(&mut self) -> Event
-        requires { self.old.ended ≡ None }
+        requires { (state_of self.old).ended ≡ None }
         ensures state { state_of self.new ≡ model.step (limits_of self.old) (tables_of self.old.rows.program.now) (state_of self.old) }
         ensures event { event_of result ≡ model.step_event (limits_of self.old) (tables_of self.old.rows.program.now) (state_of self.old) }
         ensures limits { limits_of self.new ≡ limits_of self.old }

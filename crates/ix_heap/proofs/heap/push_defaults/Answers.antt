@@ -1,5 +1,4 @@
-use Rattle.std.proofs.Common.{arith, refl, map, get_or, vec_len, vec_capacity}
-use Rattle.std.specs.Prelude.{pos}
+use Rattle.std.proofs.Common.{arith}
 use Rattle.ix_core.specs.Heap.{default_of}
 use Rattle.ix_core.specs.Tables.{field_at}
 use Rattle.ix_heap.proofs.Objects.{added_none, added_step}

@@ -1,5 +1,4 @@
-use Rattle.std.proofs.Common.{arith, refl, map, get_or, vec_len, vec_capacity}
-use Rattle.std.specs.Prelude.{pos}
+use Rattle.std.proofs.Common.{arith, map}
 use Rattle.ix_core.specs.Heap.{value_at}
 use Rattle.ix_heap.specs.Rows.{held_of}
 use Rattle.ix_heap.proofs.Objects.{added_none, added_step}

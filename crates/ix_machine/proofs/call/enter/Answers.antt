@@ -1,6 +1,5 @@
-use Rattle.std.proofs.Common.{◌≡◌, ◌+◌, ◌≤◌, arith, ap, sym, ◌∙◌, subst, length}
-use Rattle.ix_core.specs.Code.{Code, items_code}
-use Rattle.ix_core.specs.Tables.{method_at, body_of}
+use Rattle.std.proofs.Common.{arith, ap, ◌∙◌, length}
+use Rattle.ix_core.specs.Code.{items_code}
 use Rattle.ix_heap.specs.View.{heap_of}
 use Rattle.ix_frames.specs.Frames.{slots_of}
 use Rattle.ix_frames.specs.Room.{code_above, code_values}

@@ -1,4 +1,4 @@
-use Rattle.std.proofs.Common.{◌≡◌, ◌+◌, max, arith, ap, length}
+use Rattle.std.proofs.Common.{arith, ap}
 use Rattle.ix_frames.specs.declared.room.Room.{Room}
 use Rattle.ix_machine.proofs.Methods.{method_step, some_places}
 use Rattle.ix_machine.proofs.needs.program_room.Goals as goal

@@ -1,8 +1,7 @@
-use Rattle.std.proofs.Common.{◌≡◌, sym, ap, ◌∙◌, subst}
+use Rattle.std.proofs.Common.{sym, ap, ◌∙◌}
 use Rattle.ix_core.specs.Code.{items_code}
-use Rattle.ix_core.specs.Machine.{Go, step_tasks, with_limits}
+use Rattle.ix_core.specs.Machine.{Go, with_limits}
 use Rattle.ix_core.specs.Tables.{tables_of}
-use Rattle.ix_core.specs.Tasks.{code_then}
 use Rattle.ix_heap.specs.View.{heap_of}
 use Rattle.ix_frames.specs.Frames.{slots_of}
 use Rattle.ix_frames.specs.Places.{tasks_open}

@@ -1,7 +1,5 @@
-use Rattle.std.proofs.Common.{◌≡◌, ◌+◌, ◌∙◌, ap, sym, arith, length, map, vec_len}
+use Rattle.std.proofs.Common.{◌≡◌, ◌∙◌, sym, arith, length}
 use Rattle.std.proofs.lemmas.List.{length-map}
-use Rattle.ix_core.specs.Heap.{cells_used}
-use Rattle.ix_heap.specs.View.{heap_of}
 use Rattle.ix_heap.proofs.Objects.{used_is, laid_after, cells_more, rows_more, row_length, count_objects, made_of, added_length}
 use Rattle.ix_heap.proofs.heap.Heap.make_object.Goals as goal
 
