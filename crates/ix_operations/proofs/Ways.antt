@@ -1,6 +1,6 @@
 -- Steps on the way up from a class or a method, and the numbers of classes.
-use Rattle.std.proofs.Common.{◌≡◌, ◌≢◌, ℕ, zero, suc, ◌+◌, ◌-◌, ◌<◌, ◌≤◌, Bool, true, false, List, [], ◌∷◌, ◌++◌, length, map, Option, Some, None, refl, ap, sym, ◌∙◌, subst, arith, append_assoc, add-one}
-use Rattle.std.specs.Prelude.{◌==◌, if◌then◌else◌, unwrap_or, flat_map, slice_get}
+use Rattle.std.proofs.Common.{◌≡◌, ◌≢◌, ℕ, zero, suc, ◌+◌, ◌-◌, ◌<◌, ◌≤◌, Bool, true, false, List, [], ◌∷◌, ◌++◌, length, map, Option, Some, None, refl, ap, sym, ◌∙◌, arith, append_assoc}
+use Rattle.std.specs.Prelude.{◌==◌, unwrap_or, flat_map, slice_get}
 use Rattle.std.proofs.lemmas.Option.{slice_get_past}
 use Rattle.std.proofs.lemmas.Bool.Decides.{nat_tests}
 use Rattle.std.proofs.Common.{◌⊎◌, inl, inr, Vec}
@@ -8,11 +8,10 @@ use Rattle.std.specs.Prelude.{nat_lt, option_map}
 use Rattle.std.specs.declared.alloc.Global.{Global}
 use Rattle.std.proofs.lemmas.List.{length-map, map-append}
 use Rattle.std.proofs.lemmas.Option.{slice_get-map}
-use Rattle.ix_operations.specs.Rows.{AreFields}
+use Rattle.ix_operations.specs.Rows.{AreFields, numbered}
 use Rattle.ix_core.specs.declared.program.Program.{Program}
-use Rattle.ix_core.specs.declared.program.Class.{Class}
 use Rattle.ix_core.specs.Formed.{numbers_from}
-use Rattle.ix_core.specs.Tables.{way_up, is_among, first_where, class_at, no_class, all_fields}
+use Rattle.ix_core.specs.Tables.{way_up, is_among, first_where, all_fields}
 
 pub way_some : (next : ℕ → Option ℕ) (left : ℕ) (number : ℕ) → 0 < left → way_up next left (Some number) ≡ number ∷ way_up next (left - 1) (next number)
 way_some next zero number h = absurd (omega (arith, h))
@@ -105,24 +104,24 @@ number_at first (suc count) (suc index) h = let e : first + suc index ≡ first 
 pub no_fields : (program : Program) (class : ℕ) → slice_get program.classes class ≡ None → all_fields program class ≡ []
 no_fields program class none = simp none
 
-pub row_is : (program : Program) (rows : List (Vec ℕ Global)) (class : ℕ) (fields : List ℕ) → AreFields program rows
+pub row_is : (program : Program) (rows : List (Vec ℕ Global)) (class : ℕ) (fields : List ℕ) → class < 4294967296 → AreFields program rows
     → (Some fields ≡ slice_get (map (λ (row : Vec ℕ Global). row.items) rows) class) ⊎ ((length rows ≤ class) × (fields ≡ [])) → fields ≡ all_fields program class
-row_is program rows class fields right (inl here) =
-    by (nat_lt class (length program.classes)) refl
+row_is program rows class fields small right (inl here) =
+    by (nat_lt class (numbered program)) refl
   where
-    by : (answer : Bool) → nat_lt class (length program.classes) ≡ answer → fields ≡ all_fields program class
+    by : (answer : Bool) → nat_lt class (numbered program) ≡ answer → fields ≡ all_fields program class
     by true so =
-        let within : class < length program.classes = grind (arith, nat_tests) in
+        let within : class < numbered program = grind (arith, nat_tests) in
         let e : Some fields ≡ Some (all_fields program class) =
-        here ∙ (ap (λ rows. slice_get rows class) right ∙ (slice_get-map (all_fields program) (numbers_from 0 (length program.classes)) class ∙ (ap (option_map (all_fields program)) (number_at 0 (length program.classes) class within) ∙ (let e : 0 + class ≡ class = omega arith in ap (λ n. Some (all_fields program n)) e)))) in
+        here ∙ (ap (λ rows. slice_get rows class) right ∙ (slice_get-map (all_fields program) (numbers_from 0 (numbered program)) class ∙ (ap (option_map (all_fields program)) (number_at 0 (numbered program) class within) ∙ (let e : 0 + class ≡ class = omega arith in ap (λ n. Some (all_fields program n)) e)))) in
         cc
     by false so =
-        let past : length (map (all_fields program) (numbers_from 0 (length program.classes))) ≤ class = simp (length-map, numbers_length) (grind (arith, nat_tests)) in
-        let e : Some fields ≡ None = here ∙ (ap (λ rows. slice_get rows class) right ∙ slice_get_past (map (all_fields program) (numbers_from 0 (length program.classes))) class past) in
+        let past : length (map (all_fields program) (numbers_from 0 (numbered program))) ≤ class = simp (length-map, numbers_length) (grind (arith, nat_tests)) in
+        let e : Some fields ≡ None = here ∙ (ap (λ rows. slice_get rows class) right ∙ slice_get_past (map (all_fields program) (numbers_from 0 (numbered program))) class past) in
         cc
-row_is program rows class fields right (inr past) =
-    let n : length rows ≡ length program.classes = sym (length-map rows (λ (row : Vec ℕ Global). row.items)) ∙ (ap length right ∙ (length-map (numbers_from 0 (length program.classes)) (all_fields program) ∙ numbers_length 0 (length program.classes))) in
-    past.1 ∙ sym (no_fields program class (slice_get_past program.classes class (omega (arith, past.0, n))))
+row_is program rows class fields small right (inr past) =
+    let n : length rows ≡ numbered program = sym (length-map rows (λ (row : Vec ℕ Global). row.items)) ∙ (ap length right ∙ (length-map (numbers_from 0 (numbered program)) (all_fields program) ∙ numbers_length 0 (numbered program))) in
+    past.1 ∙ sym (no_fields program class (slice_get_past program.classes class (omega (arith, past.0, n, small))))
 
 pub rows_next : (program : Program) (rows more : List (Vec ℕ Global)) (row : Vec ℕ Global) (class : ℕ) → more ≡ rows ++ row ∷ [] → row.items ≡ all_fields program class
     → map (λ (row : Vec ℕ Global). row.items) rows ≡ map (all_fields program) (numbers_from 0 class) → map (λ (row : Vec ℕ Global). row.items) more ≡ map (all_fields program) (numbers_from 0 (class + 1))

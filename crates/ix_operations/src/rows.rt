@@ -8,6 +8,9 @@ use crate::classes::instance_fields;
 use ix_core::Program;
 use std::alloc::{AllocError, Global};
 
+/// How many numbers of classes there are: they have 32 bits.
+const NUMBERS: usize = 4_294_967_296;
+
 /// A program with the fields of the instances of each class, inherited ones first.
 #[derive(Drop)]
 pub struct Rows<'p> {
@@ -21,12 +24,10 @@ impl<'p> Rows<'p> {
     pub fn new(alloc: Global, program: &'p Program) -> Result<Rows<'p>, AllocError>
         ensures { IfOk result (λ rows. rows.program.now ≡ program.now) }
     {
-        let Ok(count) = u32::try_from(program.classes.len()) else {
-            return Err(AllocError);
-        };
-        let mut fields = Vec::new(alloc);
+        let count = program.classes.len().min(NUMBERS);
+        let mut fields = Vec::with_capacity(alloc, count)?;
         for class in 0..count {
-            fields.push(instance_fields(alloc, program, class)?)?;
+            fields.push(instance_fields(alloc, program, class as u32)?)?;
         }
         Ok(Rows { program, fields })
     }

@@ -1,6 +1,5 @@
-use Rattle.std.proofs.Common.{◌≡◌, ◌+◌, ap, sym, arith, length, map}
+use Rattle.std.proofs.Common.{◌≡◌, ◌+◌, ap, length, map}
 use Rattle.std.specs.Prelude.{nat_lt, false}
-use Rattle.std.proofs.lemmas.Bool.Decides.{nat_tests}
 use Rattle.std.proofs.lemmas.List.{length-map}
 use Rattle.ix_core.specs.Heap.{cells_used, default_of}
 use Rattle.ix_core.specs.Tables.{all_fields, field_at}

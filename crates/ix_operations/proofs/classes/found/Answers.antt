@@ -1,4 +1,4 @@
-use Rattle.std.proofs.Common.{◌-◌, arith, ap, sym, subst, ◌∙◌, ◌<◌, ◌≡◌, None, Some}
+use Rattle.std.proofs.Common.{◌-◌, arith, ap, sym, subst, ◌∙◌, ◌≡◌, None, Some}
 use Rattle.std.specs.Prelude.{unwrap_or, flat_map}
 use Rattle.ix_core.specs.Tables.{class_at, is_among, overridden, way_up, first_where, found_method}
 use Rattle.ix_operations.proofs.Ways.{find_some, find_next}

@@ -1,4 +1,4 @@
-use Rattle.std.proofs.Common.{◌-◌, arith, ap, sym, subst, ◌<◌, ◌≤◌, ◌≡◌}
+use Rattle.std.proofs.Common.{◌-◌, arith, sym, subst, ◌≤◌, ◌≡◌}
 use Rattle.ix_core.specs.Tables.{method_at, is_among, overridden, way_up}
 use Rattle.ix_operations.proofs.Ways.{over_none, over_done, over_same, over_next}
 use Rattle.ix_operations.proofs.classes.is_or_overrides.Goals as goal

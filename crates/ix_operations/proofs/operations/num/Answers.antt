@@ -2,7 +2,6 @@ use mir.Val.{SFits}
 use mir.Syntax.{w128}
 use Rattle.std.proofs.lemmas.Int.{to_z-of_z}
 use Rattle.std.proofs.Common.{rules, ap, sym, ◌∙◌, ◌≡◌, Some}
-use Rattle.std.specs.Prelude.{Option, ℤ}
 use Rattle.ix_num.specs.Arithmetic.{exact_of}
 use Rattle.ix_core.specs.Machine.{assign_result, int_at}
 use Rattle.ix_frames.specs.Frames.{slots_of}

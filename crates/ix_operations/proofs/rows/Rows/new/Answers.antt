@@ -1,5 +1,3 @@
-use Rattle.std.proofs.Common.{◌≡◌, ◌+◌, ◌++◌, ◌∙◌, arith, sym, ap, map, Vec, ℕ}
-use Rattle.std.specs.declared.alloc.Global.{Global}
 use Rattle.ix_operations.proofs.Ways.{rows_next}
 use Rattle.ix_operations.proofs.rows.Rows.new.Goals as goal
 
