@@ -1,0 +1,2 @@
+-- What lowering adds.
+pub mod Additions
