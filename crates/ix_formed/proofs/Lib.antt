@@ -1,2 +1,3 @@
 pub mod PlainItems
 pub mod ExpressionsAdd
+pub mod StatementsExtend

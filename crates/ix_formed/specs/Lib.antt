@@ -1,2 +1,3 @@
--- What lowering adds.
+-- What lowering adds: an expression, then a statement.
 pub mod Additions
+pub mod Extensions
