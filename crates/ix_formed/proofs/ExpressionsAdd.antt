@@ -312,7 +312,7 @@ step_grows up after target span t = computes_grows _ span (λ scope made. then_a
 
 -- ---- calls
 
-arguments_add : (given : List Arg) (args : List Lowering) → AllOf Grows args → (scope : Scope) (made : Made) → Makes (λ a. Adds made a.made) (values.arguments_from given args scope made)
+pub arguments_add : (given : List Arg) (args : List Lowering) → AllOf Grows args → (scope : Scope) (made : Made) → Makes (λ a. Adds made a.made) (values.arguments_from given args scope made)
 arguments_add given [] all scope made = adds_none made
 arguments_add given (first ∷ rest) all scope made =
     then_adds (λ v. v.made) (λ a. a.made) made (first.value scope made) _ (all.0.value scope made)

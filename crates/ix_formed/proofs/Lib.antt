@@ -1,3 +1,4 @@
 pub mod PlainItems
 pub mod ExpressionsAdd
 pub mod StatementsExtend
+pub mod WholeBodies

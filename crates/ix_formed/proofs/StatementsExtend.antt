@@ -110,7 +110,7 @@ then_extends body r next first second =
 
 -- ---- full expressions
 
-behind_moves : (body : Body) (items : List Item) (free : ℕ) → Rises body.made.free free → Moves body (behind body items free) 0
+pub behind_moves : (body : Body) (items : List Item) (free : ℕ) → Rises body.made.free free → Moves body (behind body items free) 0
 behind_moves body items free r = record {
   loops = omega arith;
   free = omega arith;

@@ -1,3 +1,4 @@
--- What lowering adds: an expression, then a statement.
+-- What lowering adds: an expression, a statement; and what a whole body has.
 pub mod Additions
 pub mod Extensions
+pub mod Bodies
