@@ -2,3 +2,4 @@ pub mod PlainItems
 pub mod ExpressionsAdd
 pub mod StatementsExtend
 pub mod WholeBodies
+pub mod AllMethods

@@ -1,5 +1,5 @@
 -- Items that only compute and choose, one behind the other.
-use Rattle.std.proofs.Common.{◌≡◌, ℕ, true, false, List, [], ◌∷◌, ◌++◌, Ok, Err, refl, ap, ◌∙◌, arith}
+use Rattle.std.proofs.Common.{◌≡◌, ℕ, true, false, List, [], ◌∷◌, ◌++◌, Ok, Err, refl, ap, ◌∙◌, arith, Result, subst}
 use Rattle.std.specs.Prelude.{◌&&◌}
 use Rattle.ix_text.specs.declared.span.Span.{Span}
 use Rattle.ix_core.specs.declared.code.Cond.{Cond}
@@ -17,13 +17,25 @@ use Rattle.ix_formed.specs.Additions.{Makes, code_before, IsPlain, IsPlainCondit
 
 -- ---- what was made
 
-pub makes_more : {A : Type 0} (P Q : A → Type 0) → ((made : A) → P made → Q made) → (r : Within A) → Makes P r → Makes Q r
+pub makes_more : {A E : Type 0} (P Q : A → Type 0) → ((made : A) → P made → Q made) → (r : Result A E) → Makes P r → Makes Q r
 makes_more P Q more (Ok made) holds = more made holds
 makes_more P Q more (Err limit) holds = tt
 
-pub makes_then : {A B : Type 0} (P : A → Type 0) (Q : B → Type 0) (r : Within A) (next : A → Within B) → Makes P r → ((made : A) → P made → Makes Q (next made)) → Makes Q (r >>= next)
+pub makes_then : {A B E : Type 0} (P : A → Type 0) (Q : B → Type 0) (r : Result A E) (next : A → Result B E) → Makes P r → ((made : A) → P made → Makes Q (next made)) → Makes Q (r >>= next)
 makes_then P Q (Ok made) next holds on = on made holds
 makes_then P Q (Err limit) next holds on = tt
+
+-- with what was made
+pub makes_same : {A E : Type 0} (r : Result A E) → Makes (λ made. r ≡ Ok made) r
+makes_same (Ok made) = refl
+makes_same (Err limit) = tt
+
+pub makes_both : {A E : Type 0} (P Q : A → Type 0) (r : Result A E) → Makes P r → Makes Q r → Makes (λ made. P made × Q made) r
+makes_both P Q (Ok made) p q = (p, q)
+makes_both P Q (Err limit) p q = tt
+
+pub made_is : {A E : Type 0} (P : A → Type 0) (r : Result A E) (made : A) → Makes P r → r ≡ Ok made → P made
+made_is P r made holds e = subst (Makes P) e holds
 
 -- ---- code
 

@@ -1,5 +1,5 @@
 -- What a lowering adds to what was made before it.
-use Rattle.std.specs.Prelude.{◌≡◌, ◌≤◌, ℕ, true, List, [], ◌∷◌, ◌++◌, Ok, Err}
+use Rattle.std.specs.Prelude.{◌≡◌, ◌≤◌, ℕ, true, List, [], ◌∷◌, ◌++◌, Ok, Err, Result}
 use Rattle.ix_core.specs.declared.claim.Type_.{Type_}
 use Rattle.ix_core.specs.declared.code.Cond.{Cond}
 use Rattle.ix_core.specs.declared.code.Item.{Item}
@@ -11,7 +11,7 @@ use Rattle.ix_plain.specs.Parts.{Within, Asked, most_slots}
 use Rattle.ix_plain.specs.Values.{Lowering, Filling}
 
 -- what was made is so, where something was made
-abbrev pub Makes : {A : Type 0} → (A → Type 0) → Within A → Type 0
+abbrev pub Makes : {A E : Type 0} → (A → Type 0) → Result A E → Type 0
 Makes P (Ok made) = P made
 Makes P (Err limit) = Unit {0}
 

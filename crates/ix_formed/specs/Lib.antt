@@ -1,4 +1,5 @@
--- What lowering adds: an expression, a statement; and what a whole body has.
+-- What lowering adds: an expression, a statement; what a whole body has; what a whole program is made of.
 pub mod Additions
 pub mod Extensions
 pub mod Bodies
+pub mod Shape
