@@ -3,3 +3,5 @@ pub mod ExpressionsAdd
 pub mod StatementsExtend
 pub mod WholeBodies
 pub mod AllMethods
+pub mod NumberLists
+pub mod Numbering

@@ -1,5 +1,5 @@
 -- What a whole program has that its source says by itself, whatever its names mean.
-use Rattle.std.specs.Prelude.{◌≡◌, ◌≤◌, ◌<◌, ℕ, ◌+◌, Bool, true, false, not, ◌||◌, ◌&&◌, if◌then◌else◌, ◌==◌, List, [], ◌∷◌, ◌++◌, length, Ok}
+use Rattle.std.specs.Prelude.{◌≡◌, ◌≤◌, ◌<◌, ℕ, ◌+◌, Bool, true, false, not, ◌||◌, ◌&&◌, if◌then◌else◌, ◌==◌, List, [], ◌∷◌, ◌++◌, length, Option, Ok}
 use Rattle.ix_core.specs.declared.program.Class.{Class}
 use Rattle.ix_core.specs.declared.program.Field.{Field}
 use Rattle.ix_core.specs.declared.program.Local.{Local}
@@ -74,3 +74,48 @@ pub record HasMethods (tables : Tables) (first : Next) (decls : List ClassDecl) 
   pub same : methods ≡ written ++ default
   pub are_written : AreAllMethods tables first decls written
   pub are_default : AreDefaults tables first decls default
+
+-- ---- the classes and fields of a source, each with what is behind it
+
+abbrev pub classes_of : Next → (ℕ → Option ℕ) → List ClassDecl → List Class
+classes_of next parent [] = []
+classes_of next parent (decl ∷ decls) = class_of next (parent next.class) decl ∷ classes_of (next_behind next decl) parent decls
+
+abbrev pub own_field : Names → ℕ → LocalDecl → List Field
+own_field names class decl = if decl.mods.is_static then [] else field_of names class decl ∷ []
+
+abbrev pub fields_of_class : Names → ℕ → List Member → List Field
+fields_of_class names class [] = []
+fields_of_class names class (member.Field decl ∷ members) = own_field names class decl ++ fields_of_class names class members
+fields_of_class names class (member.Method decl ∷ members) = fields_of_class names class members
+
+abbrev pub fields_of : Names → ℕ → List ClassDecl → List Field
+fields_of names class [] = []
+fields_of names class (decl ∷ decls) = fields_of_class names class decl.members ++ fields_of names (class + 1) decls
+
+-- how many instance fields
+abbrev pub field_count : List Member → ℕ
+field_count [] = 0
+field_count (member.Field decl ∷ members) = (if decl.mods.is_static then 0 else 1) + field_count members
+field_count (member.Method decl ∷ members) = field_count members
+
+abbrev pub all_field_count : List ClassDecl → ℕ
+all_field_count [] = 0
+all_field_count (decl ∷ decls) = field_count decl.members + all_field_count decls
+
+-- how many default constructors
+abbrev pub default_count : List ClassDecl → ℕ
+default_count [] = 0
+default_count (decl ∷ decls) = (if has_constructor decl.members then 0 else 1) + default_count decls
+
+-- The numbers go on from there, and none is past the greatest that is counted.
+pub record IsNext (next : Next) (decls : List ClassDecl) : Type 0 where
+  pub classes : next.class + length decls ≤ 4294967295
+  pub fields : next.field + all_field_count decls ≤ 4294967295
+  pub methods : next.method + length (all_methods decls) ≤ 4294967295
+  pub defaults : next.default + default_count decls ≤ 4294967295
+
+-- Each class of a list is so, with its number.
+abbrev pub AllNumbered : (ℕ → Class → Type 0) → ℕ → List Class → Type 0
+AllNumbered P number [] = Unit {0}
+AllNumbered P number (class ∷ classes) = P number class × AllNumbered P (number + 1) classes
