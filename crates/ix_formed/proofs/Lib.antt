@@ -5,3 +5,4 @@ pub mod WholeBodies
 pub mod AllMethods
 pub mod NumberLists
 pub mod Numbering
+pub mod MethodNumbers

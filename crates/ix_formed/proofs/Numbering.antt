@@ -45,7 +45,7 @@ fields_up next (member.Field decl ∷ members) le = static_or_not decl.mods.is_s
         ap (λ n. next_fields n members) up ∙ (let e = rest (next + 1) (omega (arith, le)) in omega (arith, e))
 fields_up next (member.Method decl ∷ members) le = fields_up next members le
 
-methods_up : (next : ℕ) (members : List Member) → next + length (methods_of members) ≤ most_counted → next_methods next members ≡ next + length (methods_of members)
+pub methods_up : (next : ℕ) (members : List Member) → next + length (methods_of members) ≤ most_counted → next_methods next members ≡ next + length (methods_of members)
 methods_up next [] le = omega arith
 methods_up next (member.Field decl ∷ members) le = methods_up next members le
 methods_up next (member.Method decl ∷ members) le =
