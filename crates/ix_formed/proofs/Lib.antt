@@ -6,3 +6,5 @@ pub mod AllMethods
 pub mod NumberLists
 pub mod Numbering
 pub mod MethodNumbers
+pub mod SmallSources
+pub mod ProgramsHaveShape

@@ -18,7 +18,7 @@ use Rattle.ix_plain.specs.Counts.{one, most_counted}
 use Rattle.ix_plain.specs.Members.{next_behind, own_methods, with_default, written_methods, next_methods, first_numbers, class_of}
 use Rattle.ix_plain.specs.Program.{Tables, Home, home}
 use Rattle.ix_formed.specs.Additions.{AllOf}
-use Rattle.ix_formed.specs.Shape.{IsMethod, IsDefault, AreMethods, AreAllMethods, AreDefaults, IfElse, IsOneDefault, HasMethods, classes_of, default_count, all_field_count, IsNext, AllNumbered, IsSmall}
+use Rattle.ix_formed.specs.Shape.{IsMethod, IsDefault, AreMethods, AreAllMethods, AreDefaults, IfElse, IsOneDefault, HasMethods, classes_of, default_count, all_field_count, IsNext, AllNumbered, ListsMethods}
 use Rattle.ix_formed.proofs.NumberLists.{from_both, from_length, from_ascends, ascends_same, Ascends, all_so, all_joined, where_here, where_append}
 use Rattle.ix_formed.proofs.Numbering.{one_more, Goes, goes, goes_on, methods_up}
 
@@ -86,9 +86,6 @@ module _ (tables : Tables) where
 
 -- ---- what a class lists
 
-abbrev pub HasMethodsOf : List Method → ℕ → Class → Type 0
-HasMethodsOf methods number class = are_same_numbers class.methods (numbers_where (λ (method : Method). method.class == number) 0 methods) ≡ true
-
 default_numbers : (b : Bool) (numbers : List ℕ) (default : ℕ) → (if b then numbers else numbers ++ default ∷ []) ≡ numbers ++ numbers_from default (if b then 0 else 1)
 default_numbers true numbers default = sym (append-nil numbers)
 default_numbers false numbers default = refl
@@ -101,7 +98,7 @@ pub classes_have_methods : (tables : Tables) (all : List Method) (next : Next) (
     → all ≡ (before ++ written) ++ (first ++ default) → AreAllMethods tables next decls written → AreDefaults tables next decls default
     → length before ≡ next.method → length (before ++ written) + length first ≡ next.default
     → AllOf (λ (method : Method). method.class < next.class) before → AllOf (λ (method : Method). method.class < next.class) first
-    → AllNumbered (HasMethodsOf all) next.class (classes_of next parent decls)
+    → AllNumbered (ListsMethods all) next.class (classes_of next parent decls)
 classes_have_methods tables all next parent [] before written first default is e w d l m less few = tt
 classes_have_methods tables all next parent (decl ∷ decls) before written first default is e w d l m less few =
     let g = goes next decl decls is in
@@ -138,7 +135,7 @@ classes_have_methods tables all next parent (decl ∷ decls) before written firs
     let ascends : Ascends next.method listed = from_ascends next.method (length (methods_of decl.members)) (numbers_from next.default (if has_constructor decl.members then 0 else 1))
         (one_ascends (has_constructor decl.members) (next.method + length (methods_of decl.members)) next.default low) in
     (ap (λ numbers. are_same_numbers numbers (numbers_where is_of 0 all)) numbers ∙ ap (are_same_numbers listed) wanted ∙ ascends_same next.method listed ascends,
-      subst (λ n. AllNumbered (HasMethodsOf all) n (classes_of (next_behind next decl) parent decls)) g.class
+      subst (λ n. AllNumbered (ListsMethods all) n (classes_of (next_behind next decl) parent decls)) g.class
       (classes_have_methods tables all (next_behind next decl) parent decls (before ++ own) later (first ++ s.0) s.1 on
           (e ∙ ap (λ (l : List Method). (before ++ l) ++ (first ++ default)) w.2 ∙ ap (λ (l : List Method). l ++ (first ++ default)) (sym (append_assoc before own later))
               ∙ ap (λ (l : List Method). ((before ++ own) ++ later) ++ (first ++ l)) s.2 ∙ ap (λ (l : List Method). ((before ++ own) ++ later) ++ l) (sym (append_assoc first s.0 s.1)))
@@ -169,3 +166,12 @@ few_defaults (decl ∷ decls) = one_or_none (has_constructor decl.members) (few_
     one_or_none : (b : Bool) → default_count decls ≤ length decls → (if b then 0 else 1) + default_count decls ≤ length (decl ∷ decls)
     one_or_none true le = omega (arith, le)
     one_or_none false le = omega (arith, le)
+
+pub first_next : (decls : List ClassDecl) → length decls ≤ 256 → length (all_methods decls) ≤ 4096 → all_field_count decls ≤ most_counted → IsNext (first_numbers decls) decls
+first_next decls classes methods fields =
+    let w = all_written 0 decls (omega (arith, methods)) in
+    let d = few_defaults decls in
+    record { classes = omega (arith, classes); fields = omega (arith, fields); methods = omega (arith, methods); defaults = omega (arith, w, d, classes, methods) }
+
+pub first_default : (decls : List ClassDecl) → length (all_methods decls) ≤ 4096 → (first_numbers decls).default ≡ length (all_methods decls)
+first_default decls methods = let w = all_written 0 decls (omega (arith, methods)) in omega (arith, w)

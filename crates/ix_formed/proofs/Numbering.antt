@@ -20,7 +20,7 @@ use Rattle.ix_plain.specs.Counts.{one, most_counted}
 use Rattle.ix_plain.specs.Members.{next_method, next_methods, next_field, next_fields, next_default, next_behind, field_of, with_field, fields_in, fields_from, with_own_field, own_fields, own_methods, with_default, class_of, classes_from}
 use Rattle.ix_plain.specs.Program.{Tables, Home, home}
 use Rattle.ix_formed.specs.Additions.{AllOf}
-use Rattle.ix_formed.specs.Shape.{IsMethod, IsDefault, AreMethods, AreAllMethods, AreDefaults, IfElse, IsOneDefault, HasMethods, classes_of, own_field, fields_of_class, fields_of, field_count, all_field_count, default_count, IsNext, AllNumbered}
+use Rattle.ix_formed.specs.Shape.{IsMethod, IsDefault, AreMethods, AreAllMethods, AreDefaults, IfElse, IsOneDefault, HasMethods, classes_of, own_field, fields_of_class, fields_of, field_count, all_field_count, default_count, IsNext, AllNumbered, ListsFields}
 use Rattle.ix_formed.proofs.NumberLists.{from_both, from_length, from_ascends, ascends_same, Ascends, all_so, all_joined, where_here, where_append}
 
 -- ---- numbers that go up by one
@@ -150,11 +150,8 @@ field_numbers fields next (member.Field decl ∷ members) le = static_or_not dec
         ∙ append_assoc fields (next ∷ []) (numbers_from (next + 1) (field_count members)) ∙ ap (λ n. fields ++ numbers_from next n) e
 field_numbers fields next (member.Method decl ∷ members) le = field_numbers fields next members le
 
-abbrev pub HasFields : List Field → ℕ → Class → Type 0
-HasFields fields number class = are_same_numbers class.fields (numbers_where (λ (field : Field). field.class == number) 0 fields) ≡ true
-
 pub classes_have_fields : (names : Names) (all : List Field) (next : Next) (parent : ℕ → Option ℕ) (decls : List ClassDecl) (before : List Field) → IsNext next decls
-    → all ≡ before ++ fields_of names next.class decls → length before ≡ next.field → AllOf (λ (field : Field). field.class < next.class) before → AllNumbered (HasFields all) next.class (classes_of next parent decls)
+    → all ≡ before ++ fields_of names next.class decls → length before ≡ next.field → AllOf (λ (field : Field). field.class < next.class) before → AllNumbered (ListsFields all) next.class (classes_of next parent decls)
 classes_have_fields names all next parent [] before is e l less = tt
 classes_have_fields names all next parent (decl ∷ decls) before is e l less =
     let g = goes next decl decls is in
@@ -172,7 +169,7 @@ classes_have_fields names all next parent (decl ∷ decls) before is e l less =
         subst (Ascends next.field) (append-nil (numbers_from next.field (field_count decl.members))) (from_ascends next.field (field_count decl.members) [] tt) in
     (ap (λ numbers. are_same_numbers numbers (numbers_where (λ (field : Field). field.class == next.class) 0 all)) numbers
       ∙ ap (are_same_numbers (numbers_from next.field (field_count decl.members))) wanted ∙ ascends_same next.field (numbers_from next.field (field_count decl.members)) ascends,
-      subst (λ n. AllNumbered (HasFields all) n (classes_of (next_behind next decl) parent decls)) g.class
+      subst (λ n. AllNumbered (ListsFields all) n (classes_of (next_behind next decl) parent decls)) g.class
       (classes_have_fields names all (next_behind next decl) parent decls (before ++ own) (goes_on next decl decls is)
           (e ∙ sym (append_assoc before own later) ∙ ap (λ n. (before ++ own) ++ fields_of names n decls) (sym g.class))
           (let a = length-append before own in let b = counted.0 in let c = g.field in omega (arith, a, b, c, l))

@@ -1,10 +1,14 @@
 -- What a whole program has that its source says by itself, whatever its names mean.
-use Rattle.std.specs.Prelude.{◌≡◌, ◌≤◌, ◌<◌, ℕ, ◌+◌, Bool, true, false, not, ◌||◌, ◌&&◌, if◌then◌else◌, ◌==◌, List, [], ◌∷◌, ◌++◌, length, Option, Ok}
+use Rattle.std.specs.Prelude.{◌≡◌, ◌≤◌, ◌<◌, ℕ, ◌+◌, Bool, true, false, not, ◌||◌, ◌&&◌, if◌then◌else◌, ◌==◌, List, [], ◌∷◌, ◌++◌, length, count_by, Option, Ok}
+use Rattle.ix_core.specs.declared.claim.Type_.{Type_}
 use Rattle.ix_core.specs.declared.program.Class.{Class}
 use Rattle.ix_core.specs.declared.program.Field.{Field}
 use Rattle.ix_core.specs.declared.program.Local.{Local}
 use Rattle.ix_core.specs.declared.program.Method.{Method}
 use Rattle.ix_core.specs.declared.program.Program.{Program}
+use Rattle.ix_core.specs.Tables.{param_slot, param_slots, body_of}
+use Rattle.ix_core.specs.Types.{is_class}
+use Rattle.ix_core.specs.Formed.{at_most, is_target, loop_numbers, numbers_from, same_numbers, are_same_numbers, numbers_where, super_calls_fit}
 use Rattle.ix_tree.specs.declared.decl.ClassDecl.{ClassDecl}
 use Rattle.ix_tree.specs.declared.decl.LocalDecl.{LocalDecl}
 use Rattle.ix_tree.specs.declared.decl.Member.{Member}
@@ -16,6 +20,7 @@ use Rattle.ix_meaning.specs.Resolved.{Names}
 use Rattle.ix_meaning.specs.Source.{has_constructor, members_in}
 use Rattle.ix_plain.specs.declared.body.Body.{Body}
 use Rattle.ix_plain.specs.declared.numbers.Next.{Next}
+use Rattle.ix_plain.specs.Scope.{declared_type, declared_claims}
 use Rattle.ix_plain.specs.Parts.{block}
 use Rattle.ix_plain.specs.Members.{next_behind, class_of, field_of, is_static, slot_behind}
 use Rattle.ix_plain.specs.Program as program
@@ -119,3 +124,46 @@ pub record IsNext (next : Next) (decls : List ClassDecl) : Type 0 where
 abbrev pub AllNumbered : (ℕ → Class → Type 0) → ℕ → List Class → Type 0
 AllNumbered P number [] = Unit {0}
 AllNumbered P number (class ∷ classes) = P number class × AllNumbered P (number + 1) classes
+
+-- ---- the parameters of a method
+
+abbrev pub params_of : Names → ℕ → List LocalDecl → List Local
+params_of names slot [] = []
+params_of names slot (decl ∷ decls) = record { slot = slot; name = decl.name.text; claims = declared_claims (names.declared decl.name.span) } ∷ params_of names (slot + 1) decls
+
+abbrev pub types_of : Names → List LocalDecl → List Type_
+types_of names [] = []
+types_of names (decl ∷ decls) = declared_type (names.declared decl.name.span) ∷ types_of names decls
+
+-- Each parameter has the slot of its number.
+abbrev pub AreInSlots : Method → ℕ → List Local → Type 0
+AreInSlots method number [] = Unit {0}
+AreInSlots method number (param ∷ params) = (param.slot ≡ param_slot method number) × AreInSlots method (number + 1) params
+
+-- ---- what each program has
+
+abbrev pub ListsFields : List Field → ℕ → Class → Type 0
+ListsFields fields number class = are_same_numbers class.fields (numbers_where (λ (field : Field). field.class == number) 0 fields) ≡ true
+
+abbrev pub ListsMethods : List Method → ℕ → Class → Type 0
+ListsMethods methods number class = are_same_numbers class.methods (numbers_where (λ (method : Method). method.class == number) 0 methods) ≡ true
+
+-- What `Formed` asks of a method's class, slots, loops and calls of the parent's constructor.
+pub record MethodHasShape (program : Program) (method : Method) : Type 0 where
+  pub class : is_class program method.class ≡ true
+  pub params : AreInSlots method 0 method.params
+  pub types : length method.params ≡ length method.param_types
+  pub first : at_most (param_slots method) method.slots ≡ true
+  pub slots : at_most method.slots 512 ≡ true
+  pub locals : AllOf (λ (local : Local × Span). is_target program method local.0.slot ≡ true) method.locals
+  pub static : (not method.constructor || not method.is_static) ≡ true
+  pub loops : same_numbers (loop_numbers (body_of method)) (numbers_from 0 (length (loop_numbers (body_of method)))) ≡ true
+  pub few_loops : at_most (length (loop_numbers (body_of method))) 128 ≡ true
+  pub supers : super_calls_fit program method ≡ true
+
+-- and of the whole program: each class lists its own fields and methods, and not too many methods are written
+pub record HasShape (program : Program) : Type 0 where
+  pub fields : AllNumbered (ListsFields program.fields) 0 program.classes
+  pub methods : AllNumbered (ListsMethods program.methods) 0 program.classes
+  pub written : at_most (count_by (λ (method : Method). method.written) program.methods) 4096 ≡ true
+  pub each : AllOf (MethodHasShape program) program.methods
