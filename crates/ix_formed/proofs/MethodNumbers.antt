@@ -34,7 +34,7 @@ method_numbers methods next (member.Method decl ∷ members) le =
 -- ---- the classes of methods
 
 module _ (tables : Tables) where
-  counted_methods : (at : Home) (members : List Member) (methods : List Method) → AreMethods tables at members methods
+  pub counted_methods : (at : Home) (members : List Member) (methods : List Method) → AreMethods tables at members methods
       → (length methods ≡ length (methods_of members)) × AllOf (λ (method : Method). method.class ≡ at.class) methods
   counted_methods at [] methods are = (ap (λ (l : List Method). length l) are, subst (AllOf (λ (method : Method). method.class ≡ at.class)) (sym are) tt)
   counted_methods at (member.Field decl ∷ members) methods are = counted_methods at members methods are

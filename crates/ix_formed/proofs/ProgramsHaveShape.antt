@@ -3,6 +3,7 @@ use Rattle.std.proofs.Common.{◌≡◌, ◌≤◌, ◌<◌, ℕ, zero, suc, ◌
 use Rattle.std.specs.Prelude.{if◌then◌else◌, nat_lt, ◌==◌, ◌&&◌, ◌||◌, not, slice_get, unwrap_or, count_by}
 use Rattle.std.proofs.lemmas.Bool.Decides.{nat_tests}
 use Rattle.std.proofs.lemmas.List.{append-nil}
+use Rattle.std.proofs.lemmas.List.Recursion.{is_count_by}
 use Rattle.ix_text.specs.declared.span.Span.{Span}
 use Rattle.ix_core.specs.declared.claim.Type_.{Type_}
 use Rattle.ix_core.specs.declared.program.Class.{Class}
@@ -33,11 +34,11 @@ use Rattle.ix_plain.specs.Program.{Tables, Home, site, home, tables, start, writ
 use Rattle.ix_formed.specs.Additions.{Makes, AllOf}
 use Rattle.ix_formed.specs.Extensions.{HasSlotIn}
 use Rattle.ix_formed.specs.Bodies.{IsBody}
-use Rattle.ix_formed.specs.Shape.{IsSmall, IsMethod, IsDefault, AreMethods, AreAllMethods, AreDefaults, IfElse, IsOneDefault, HasMethods, classes_of, fields_of, IsNext, AllNumbered, params_of, types_of, AreInSlots, MethodHasShape, HasShape}
+use Rattle.ix_formed.specs.Shape.{IsSmall, IsMethod, IsDefault, AreMethods, AreAllMethods, AreDefaults, IfElse, IsOneDefault, HasMethods, classes_of, fields_of, IsNext, AllNumbered, params_of, types_of, AreInSlots, ListsFields, ListsMethods, MethodHasShape, HasShape, all_field_count}
 use Rattle.ix_formed.proofs.PlainItems.{made_is}
 use Rattle.ix_formed.proofs.NumberLists.{all_so, all_joined, both_true, from_length, same_itself}
 use Rattle.ix_formed.proofs.Numbering.{one_more, goes, goes_on, classes_behind, fields_behind, classes_have_fields}
-use Rattle.ix_formed.proofs.MethodNumbers.{classes_have_methods, first_next, first_default}
+use Rattle.ix_formed.proofs.MethodNumbers.{counted_methods, classes_have_methods, first_next, first_default}
 use Rattle.ix_formed.proofs.AllMethods.{program_has}
 use Rattle.ix_formed.proofs.SmallSources.{few_fields}
 use Rattle.ix_formed.proofs.WholeBodies.{calls_of, calls_in, written_body_is, default_body_is}
@@ -178,3 +179,145 @@ module _ (p : Program) where
       either_true : (b : Bool) → (b || true) ≡ true
       either_true true = refl
       either_true false = refl
+
+-- ---- all methods
+
+split_all : {A : Type 0} (P : A → Type 0) (xs ys : List A) → AllOf P (xs ++ ys) → AllOf P xs × AllOf P ys
+split_all P [] ys a = (tt, a)
+split_all P (x ∷ xs) ys a = let r = split_all P xs ys a.1 in ((a.0, r.0), r.1)
+
+abbrev FewParams : MethodDecl → Type 0
+FewParams m = length m.params ≤ 32
+
+module _ (p : Program) (t : Tables) where
+  members_shape : (at : Home) (members : List Member) (methods : List Method) → IsHome p at → AllOf FewParams (methods_of members) → AreMethods t at members methods → AllOf (MethodHasShape p) methods
+  members_shape at [] methods here few are = subst (AllOf (MethodHasShape p)) (sym are) tt
+  members_shape at (member.Field decl ∷ members) methods here few are = members_shape at members methods here few are
+  members_shape at (member.Method decl ∷ members) methods here few are =
+      subst (AllOf (MethodHasShape p)) (sym are.2) (written_shape p t at decl are.0 here few.0 are.3, members_shape at members are.1 here few.1 are.4)
+
+  module _ (total : ℕ) (homes : (class : ℕ) → class < total → (class < length p.classes) × ((class_at p class).parent ≡ t.world.parent class)) where
+    home_is : (next : Next) (decl : ClassDecl) → next.class < total → IsHome p (home t next decl)
+    home_is next decl lt = record { class = (homes next.class lt).0; parent = (homes next.class lt).1 }
+
+    all_shape : (next : Next) (decls : List ClassDecl) (methods : List Method) → IsNext next decls → next.class + length decls ≡ total → AllOf FewParams (all_methods decls) → AreAllMethods t next decls methods
+        → AllOf (MethodHasShape p) methods
+    all_shape next [] methods is count few are = subst (AllOf (MethodHasShape p)) (sym are) tt
+    all_shape next (decl ∷ decls) methods is count few are =
+        let parts = split_all FewParams (methods_of decl.members) (all_methods decls) few in
+        let up = (goes next decl decls is).class in
+        subst (AllOf (MethodHasShape p)) (sym are.2)
+        (all_joined (MethodHasShape p) are.0 are.1
+            (members_shape (home t next decl) decl.members are.0 (home_is next decl (omega (arith, count))) parts.0 are.3)
+            (all_shape (next_behind next decl) decls are.1 (goes_on next decl decls is) (omega (arith, count, up)) parts.1 are.4))
+
+    defaults_shape : (next : Next) (decls : List ClassDecl) (methods : List Method) → IsNext next decls → next.class + length decls ≡ total → AreDefaults t next decls methods → AllOf (MethodHasShape p) methods
+    defaults_shape next [] methods is count are = subst (AllOf (MethodHasShape p)) (sym are) tt
+    defaults_shape next (decl ∷ decls) methods is count are =
+        let up = (goes next decl decls is).class in
+        one_or_none (has_constructor decl.members) are (home_is next decl (omega (arith, count)))
+        (λ others rest. defaults_shape (next_behind next decl) decls others (goes_on next decl decls is) (omega (arith, count, up)) rest)
+      where
+        one_or_none : (b : Bool) → IfElse b (AreDefaults t (next_behind next decl) decls methods) (IsOneDefault (AreDefaults t (next_behind next decl) decls) t (home t next decl) decl.name.span methods)
+            → IsHome p (home t next decl) → ((others : List Method) → AreDefaults t (next_behind next decl) decls others → AllOf (MethodHasShape p) others) → AllOf (MethodHasShape p) methods
+        one_or_none true are here rest = rest methods are
+        one_or_none false are here rest = subst (AllOf (MethodHasShape p)) (sym are.2) (default_shape p t (home t next decl) decl.name.span are.0 here are.3, rest are.1 are.4)
+
+-- ---- classes
+
+pub classes_length : (next : Next) (parent : ℕ → Option ℕ) (decls : List ClassDecl) → length (classes_of next parent decls) ≡ length decls
+classes_length next parent [] = refl
+classes_length next parent (decl ∷ decls) = let e = classes_length (next_behind next decl) parent decls in omega (arith, e)
+
+class_found : (next : Next) (parent : ℕ → Option ℕ) (decls : List ClassDecl) (k : ℕ) → IsNext next decls → k < length decls
+    → (unwrap_or (slice_get (classes_of next parent decls) k) no_class).parent ≡ parent (next.class + k)
+class_found next parent [] k is lt = absurd (omega (arith, lt))
+class_found next parent (decl ∷ decls) zero is lt = let e : next.class ≡ next.class + 0 = omega arith in ap parent e
+class_found next parent (decl ∷ decls) (suc k) is lt =
+    let up = (goes next decl decls is).class in
+    let e : (next_behind next decl).class + k ≡ next.class + suc k = omega (arith, up) in
+    class_found (next_behind next decl) parent decls k (goes_on next decl decls is) (omega (arith, lt)) ∙ ap parent e
+
+-- ---- counts
+
+abbrev counted : {A : Type 0} → (A → Bool) → List A → ℕ
+counted is [] = 0
+counted is (x ∷ xs) = if is x then 1 + counted is xs else counted is xs
+
+counted_is : {A : Type 0} (is : A → Bool) (xs : List A) → counted is xs ≡ count_by is xs
+counted_is is xs = is_count_by (counted is) is refl (λ x xs. refl) xs
+
+counted_append : {A : Type 0} (is : A → Bool) (xs ys : List A) → counted is (xs ++ ys) ≡ counted is xs + counted is ys
+counted_append is [] ys = omega arith
+counted_append is (x ∷ xs) ys = one_or_none (is x) (counted_append is xs ys)
+  where
+    one_or_none : (b : Bool) → counted is (xs ++ ys) ≡ counted is xs + counted is ys
+        → (if b then 1 + counted is (xs ++ ys) else counted is (xs ++ ys)) ≡ (if b then 1 + counted is xs else counted is xs) + counted is ys
+    one_or_none true e = omega (arith, e)
+    one_or_none false e = e
+
+counted_few : {A : Type 0} (is : A → Bool) (xs : List A) → counted is xs ≤ length xs
+counted_few is [] = omega arith
+counted_few is (x ∷ xs) = one_or_none (is x) (counted_few is xs)
+  where
+    one_or_none : (b : Bool) → counted is xs ≤ length xs → (if b then 1 + counted is xs else counted is xs) ≤ length (x ∷ xs)
+    one_or_none true le = omega (arith, le)
+    one_or_none false le = omega (arith, le)
+
+counted_none : {A : Type 0} (is : A → Bool) (xs : List A) → AllOf (λ x. is x ≡ false) xs → counted is xs ≡ 0
+counted_none is [] all = refl
+counted_none is (x ∷ xs) all = ap (λ b. if b then 1 + counted is xs else counted is xs) all.0 ∙ counted_none is xs all.1
+
+defaults_unwritten : (t : Tables) (next : Next) (decls : List ClassDecl) (methods : List Method) → AreDefaults t next decls methods → AllOf (λ (method : Method). method.written ≡ false) methods
+defaults_unwritten t next [] methods are = subst (AllOf (λ (method : Method). method.written ≡ false)) (sym are) tt
+defaults_unwritten t next (decl ∷ decls) methods are = one_or_none (has_constructor decl.members) are (λ others rest. defaults_unwritten t (next_behind next decl) decls others rest)
+  where
+    one_or_none : (b : Bool) → IfElse b (AreDefaults t (next_behind next decl) decls methods) (IsOneDefault (AreDefaults t (next_behind next decl) decls) t (home t next decl) decl.name.span methods)
+        → ((others : List Method) → AreDefaults t (next_behind next decl) decls others → AllOf (λ (method : Method). method.written ≡ false) others) → AllOf (λ (method : Method). method.written ≡ false) methods
+    one_or_none true are rest = rest methods are
+    one_or_none false are rest = subst (AllOf (λ (method : Method). method.written ≡ false)) (sym are.2) (ap (λ (m : Method). m.written) are.3.same, rest are.1 are.4)
+
+written_length : (t : Tables) (next : Next) (decls : List ClassDecl) (methods : List Method) → AreAllMethods t next decls methods → length methods ≡ length (all_methods decls)
+written_length t next [] methods are = ap (λ (l : List Method). length l) are
+written_length t next (decl ∷ decls) methods are =
+    let a = ap (λ (l : List Method). length l) are.2 in let b = length-append are.0 are.1 in let c = (counted_methods t (home t next decl) decl.members are.0 are.3).0 in
+    let d = written_length t (next_behind next decl) decls are.1 are.4 in let e = length-append (methods_of decl.members) (all_methods decls) in omega (arith, a, b, c, d, e)
+
+-- ---- the program
+
+-- What the program of a source has, whatever its names mean.
+pub program_shape : (names : Names) (decls : List ClassDecl) (p : Program) → IsSmall decls → program.program names decls ≡ Ok p → HasShape p
+program_shape names decls p small e =
+    let has = program_has names decls p e in
+    let methods = has.0 in
+    let t = tables names decls in
+    let first = first_numbers decls in
+    let few : all_field_count decls ≤ most_counted = (let a = few_fields decls in let b = small.members in omega (arith, a, b)) in
+    let is = first_next decls small.classes small.methods few in
+    let classes : p.classes ≡ classes_of first t.world.parent decls = has.1 ∙ classes_behind [] first t.world.parent decls in
+    let enough : 0 + length decls ≤ most_counted = (let a = small.classes in omega (arith, a)) in
+    let fields : p.fields ≡ fields_of names 0 decls = has.2 ∙ fields_behind names [] 0 decls enough in
+    let long : length p.classes ≡ length decls = ap (λ (l : List Class). length l) classes ∙ classes_length first t.world.parent decls in
+    let homes : (class : ℕ) → class < length decls → (class < length p.classes) × ((class_at p class).parent ≡ t.world.parent class) = λ class lt.
+        (let here : class < length p.classes = omega (arith, lt, long) in
+          let zero : 0 + class ≡ class = omega arith in
+          (here, ap (λ (l : List Class). (unwrap_or (slice_get l class) no_class).parent) classes ∙ class_found first t.world.parent decls class is lt ∙ ap t.world.parent zero)) in
+    let total : first.class + length decls ≡ length decls = omega arith in
+    record {
+      fields = subst (AllNumbered (ListsFields p.fields) 0) (sym classes) (classes_have_fields names p.fields first t.world.parent decls [] is fields refl tt);
+      methods = subst (AllNumbered (ListsMethods p.methods) 0) (sym classes)
+          (classes_have_methods t p.methods first t.world.parent decls [] methods.written [] methods.default is methods.same methods.are_written methods.are_default refl
+              (let a = first_default decls small.methods in let b = written_length t first decls methods.written methods.are_written in omega (arith, a, b)) tt tt);
+      written = at_most_is (count_by (λ (method : Method). method.written) p.methods) 4096
+          (let a = counted_is (λ (method : Method). method.written) p.methods in
+            let b = ap (λ (l : List Method). counted (λ (method : Method). method.written) l) methods.same in
+            let c = counted_append (λ (method : Method). method.written) methods.written methods.default in
+            let d = counted_few (λ (method : Method). method.written) methods.written in
+            let f = counted_none (λ (method : Method). method.written) methods.default (defaults_unwritten t first decls methods.default methods.are_default) in
+            let g = written_length t first decls methods.written methods.are_written in
+            let h = small.methods in omega (arith, a, b, c, d, f, g, h));
+      each = subst (AllOf (MethodHasShape p)) (sym methods.same)
+          (all_joined (MethodHasShape p) methods.written methods.default
+              (all_shape p t (length decls) homes first decls methods.written is total small.params methods.are_written)
+              (defaults_shape p t (length decls) homes first decls methods.default is total methods.are_default));
+    }
