@@ -1,5 +1,5 @@
 -- A program has what its source says by itself: numbers in order, slots and loops within the limits, one call of the parent's constructor where it has to be.
-use Rattle.std.proofs.Common.{◌≡◌, ◌≤◌, ◌<◌, ℕ, zero, suc, ◌+◌, Bool, true, false, List, [], ◌∷◌, ◌++◌, length, Option, Some, None, Result, Ok, refl, sym, ap, subst, ◌∙◌, arith, append_assoc, length-append}
+use Rattle.std.proofs.Common.{◌≡◌, ◌≤◌, ◌<◌, ◌^◌, ℕ, zero, suc, ◌+◌, Bool, true, false, List, [], ◌∷◌, ◌++◌, length, Option, Some, None, Result, Ok, refl, sym, ap, subst, ◌∙◌, arith, append_assoc, length-append}
 use Rattle.std.specs.Prelude.{if◌then◌else◌, nat_lt, ◌==◌, ◌&&◌, ◌||◌, not, slice_get, unwrap_or, count_by}
 use Rattle.std.proofs.lemmas.Bool.Decides.{nat_tests}
 use Rattle.std.proofs.lemmas.List.{append-nil}
@@ -20,9 +20,9 @@ use Rattle.ix_tree.specs.declared.decl.LocalDecl.{LocalDecl}
 use Rattle.ix_tree.specs.declared.decl.Member.{Member}
 use Rattle.ix_tree.specs.declared.decl.Member.TheVariants as member
 use Rattle.ix_tree.specs.declared.decl.MethodDecl.{MethodDecl}
-use Rattle.ix_meaning.specs.Limits.{methods_of, all_methods}
+use Rattle.ix_meaning.specs.Limits.{limit, methods_of, all_methods}
 use Rattle.ix_meaning.specs.Resolved.{Names}
-use Rattle.ix_meaning.specs.Source.{has_constructor}
+use Rattle.ix_meaning.specs.Source.{has_constructor, members_in}
 use Rattle.ix_plain.specs.declared.body.Body.{Body}
 use Rattle.ix_plain.specs.declared.numbers.Next.{Next}
 use Rattle.ix_plain.specs.Counts.{one, most_counted}
@@ -40,7 +40,7 @@ use Rattle.ix_formed.proofs.NumberLists.{all_so, all_joined, both_true, from_len
 use Rattle.ix_formed.proofs.Numbering.{one_more, goes, goes_on, classes_behind, fields_behind, classes_have_fields}
 use Rattle.ix_formed.proofs.MethodNumbers.{counted_methods, classes_have_methods, first_next, first_default}
 use Rattle.ix_formed.proofs.AllMethods.{program_has}
-use Rattle.ix_formed.proofs.SmallSources.{few_fields}
+use Rattle.ix_formed.proofs.SmallSources.{small, few_fields}
 use Rattle.ix_formed.proofs.WholeBodies.{calls_of, calls_in, written_body_is, default_body_is}
 
 -- ---- tests
@@ -321,3 +321,7 @@ program_shape names decls p small e =
               (all_shape p t (length decls) homes first decls methods.written is total small.params methods.are_written)
               (defaults_shape p t (length decls) homes first decls methods.default is total methods.are_default));
     }
+
+-- The same, of a source that passes no limit on names.
+pub shape_of : (names : Names) (decls : List ClassDecl) (p : Program) → program.program names decls ≡ Ok p → limit decls ≡ None → members_in decls + 1 < 2 ^ 32 → HasShape p
+shape_of names decls p e within few = program_shape names decls p (small decls within (omega (arith, few))) e
