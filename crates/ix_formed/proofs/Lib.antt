@@ -8,3 +8,6 @@ pub mod Numbering
 pub mod MethodNumbers
 pub mod SmallSources
 pub mod ProgramsHaveShape
+pub mod CleanNotes
+pub mod WaysUp
+pub mod ClassesHaveWays

@@ -45,10 +45,10 @@ use Rattle.ix_formed.proofs.WholeBodies.{calls_of, calls_in, written_body_is, de
 
 -- ---- tests
 
-at_most_is : (n m : ℕ) → n ≤ m → at_most n m ≡ true
+pub at_most_is : (n m : ℕ) → n ≤ m → at_most n m ≡ true
 at_most_is n m le = grind (arith, nat_tests)
 
-less_is : (n m : ℕ) → n < m → nat_lt n m ≡ true
+pub less_is : (n m : ℕ) → n < m → nat_lt n m ≡ true
 less_is n m lt = grind (arith, nat_tests)
 
 -- ---- parameters
@@ -229,7 +229,7 @@ pub classes_length : (next : Next) (parent : ℕ → Option ℕ) (decls : List C
 classes_length next parent [] = refl
 classes_length next parent (decl ∷ decls) = let e = classes_length (next_behind next decl) parent decls in omega (arith, e)
 
-class_found : (next : Next) (parent : ℕ → Option ℕ) (decls : List ClassDecl) (k : ℕ) → IsNext next decls → k < length decls
+pub class_found : (next : Next) (parent : ℕ → Option ℕ) (decls : List ClassDecl) (k : ℕ) → IsNext next decls → k < length decls
     → (unwrap_or (slice_get (classes_of next parent decls) k) no_class).parent ≡ parent (next.class + k)
 class_found next parent [] k is lt = absurd (omega (arith, lt))
 class_found next parent (decl ∷ decls) zero is lt = let e : next.class ≡ next.class + 0 = omega arith in ap parent e
