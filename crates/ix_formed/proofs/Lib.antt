@@ -11,3 +11,4 @@ pub mod ProgramsHaveShape
 pub mod CleanNotes
 pub mod WaysUp
 pub mod ClassesHaveWays
+pub mod ExpressionNotes

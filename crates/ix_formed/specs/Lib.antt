@@ -4,3 +4,4 @@ pub mod Extensions
 pub mod Bodies
 pub mod Shape
 pub mod NoErrors
+pub mod Weights
