@@ -12,3 +12,4 @@ pub mod CleanNotes
 pub mod WaysUp
 pub mod ClassesHaveWays
 pub mod ExpressionNotes
+pub mod SourceNotes
