@@ -13,3 +13,4 @@ pub mod WaysUp
 pub mod ClassesHaveWays
 pub mod ExpressionNotes
 pub mod SourceNotes
+pub mod NamesAgree

@@ -3,5 +3,5 @@ pub mod Additions
 pub mod Extensions
 pub mod Bodies
 pub mod Shape
-pub mod NoErrors
 pub mod Weights
+pub mod NoErrors
