@@ -14,3 +14,4 @@ pub mod ClassesHaveWays
 pub mod ExpressionNotes
 pub mod SourceNotes
 pub mod NamesAgree
+pub mod ClaimsFit
