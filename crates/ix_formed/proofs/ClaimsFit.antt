@@ -418,3 +418,71 @@ module _ (names : Names) (ty : Type_) (types : Name → Option Type_) (knows : K
   pub expanded_fits : (annot : Annot) → StandsOn names.target ty → ResultFits (expanded annot names)
   unfolding expanded row_named
   expanded_fits annot stands = with_row_fit annot (row_in table annot.name.text) (row_whenever annot.name.text (row_in table annot.name.text) refl) stands
+
+-- ---- claims on elements
+
+with_plan_elements : (names : Names) (targets : Targets) (says : Says) → FitsSays targets says → names.target ≡ on.Element → (p : Option Plan) → Whenever (IsPlan says) p
+    → AllOf (λ c. is_element_claim c ≡ true) (claims_from (with_plan names targets p))
+with_plan_elements names targets says row e None is = tt
+with_plan_elements names targets says row e (Some p) is =
+    subst (λ (t : Target). AllOf (λ c. is_element_claim c ≡ true) (claims_from (if fits targets t then with_claims names p (claims_of names p.written) else Err WrongTarget))) (sym e) (by_row targets says row is)
+  where
+    inherited : (claims : Option (List Claim)) (b : Bool) → AllOf (λ c. is_element_claim c ≡ true) p.first → Whenever (AllOf (λ c. is_element_claim c ≡ true)) claims
+        → AllOf (λ c. is_element_claim c ≡ true) (claims_from (with_claims names p claims))
+    inherited None b first all = tt
+    inherited (Some claims) b first all = either (is_field names.own && list_any (names_inherited names) p.written)
+      where
+        either : (b : Bool) → AllOf (λ c. is_element_claim c ≡ true) (claims_from (if b then Err InheritedName else Ok (record { list = p.first ++ claims; effect_free = p.effect_free })))
+        either true = tt
+        either false = all_joined (λ c. is_element_claim c ≡ true) p.first claims first all
+    none_written : (ws : List Written) → AllOf (λ w. ⊥) ws → Whenever (AllOf (λ c. is_element_claim c ≡ true)) (claims_of names ws)
+    none_written [] all = tt
+    none_written (w ∷ ws) all = absurd all.0
+    by_row : (targets : Targets) (says : Says) → FitsSays targets says → IsPlan says p
+        → AllOf (λ c. is_element_claim c ≡ true) (claims_from (if fits targets on.Element then with_claims names p (claims_of names p.written) else Err WrongTarget))
+    by_row IntOrElement (AtLeast least) row is = inherited (claims_of names p.written) true is.0 (none_written p.written is.1)
+    by_row IntOrElement Between row is = inherited (claims_of names p.written) true is.0 (none_written p.written is.1)
+    by_row IntOrElement Nothing row is = absurd row
+    by_row IntOrElement EffectFree row is = absurd row
+    by_row IntOrElement LengthAtLeast row is = absurd row
+    by_row IntOrElement (Arrays least each) row is = absurd row
+    by_row IntOrElement Offsets row is = absurd row
+    by_row IntOrElement Bounds row is = absurd row
+    by_row Int says row is = tt
+    by_row Array says row is = tt
+    by_row Callable says row is = tt
+    by_row Method says row is = tt
+
+with_row_elements : (names : Names) (annot : Annot) (row : Option (Targets × Says)) → Whenever (λ (row : Targets × Says). FitsSays row.0 row.1) row → names.target ≡ on.Element
+    → AllOf (λ c. is_element_claim c ≡ true) (claims_from (with_row annot names row))
+with_row_elements names annot None is e = tt
+with_row_elements names annot (Some row) is e = with_plan_elements names row.0 row.1 is e (plan row.1 annot.args) (plan_is row.1 annot.args)
+
+pub expanded_elements : (names : Names) (annot : Annot) → names.target ≡ on.Element → AllOf (λ c. is_element_claim c ≡ true) (claims_from (expanded annot names))
+unfolding expanded row_named
+expanded_elements names annot e = with_row_elements names annot (row_in table annot.name.text) (row_found annot.name.text (row_in table annot.name.text) refl) e
+  where
+    row_found : (name : List ℕ) (o : Option (Targets × Says)) → row_in table name ≡ o → Whenever (λ (row : Targets × Says). FitsSays row.0 row.1) o
+    row_found name None e = tt
+    row_found name (Some row) e = row_fits table name row table_fits e
+
+-- where nothing fits there is no claim
+with_row_other : (names : Names) (annot : Annot) (row : Option (Targets × Says)) → names.target ≡ on.Other → claims_from (with_row annot names row) ≡ []
+with_row_other names annot None e = refl
+with_row_other names annot (Some row) e = planned (plan row.1 annot.args)
+  where
+    never_fits : (targets : Targets) → fits targets on.Other ≡ false
+    never_fits IntOrElement = refl
+    never_fits Int = refl
+    never_fits Array = refl
+    never_fits Callable = refl
+    never_fits Method = refl
+    planned : (p : Option Plan) → claims_from (with_plan names row.0 p) ≡ []
+    planned None = refl
+    planned (Some p) =
+        ap (λ (t : Target). claims_from (if fits row.0 t then with_claims names p (claims_of names p.written) else Err WrongTarget)) e
+        ∙ ap (λ b. claims_from (if b then with_claims names p (claims_of names p.written) else Err WrongTarget)) (never_fits row.0)
+
+pub expanded_other : (names : Names) (annot : Annot) → names.target ≡ on.Other → claims_from (expanded annot names) ≡ []
+unfolding expanded row_named
+expanded_other names annot e = with_row_other names annot (row_in table annot.name.text) e

@@ -15,3 +15,4 @@ pub mod ExpressionNotes
 pub mod SourceNotes
 pub mod NamesAgree
 pub mod ClaimsFit
+pub mod DeclaredTypes

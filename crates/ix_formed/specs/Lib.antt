@@ -5,3 +5,4 @@ pub mod Bodies
 pub mod Shape
 pub mod Weights
 pub mod NoErrors
+pub mod Written
