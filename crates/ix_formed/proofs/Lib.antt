@@ -16,3 +16,6 @@ pub mod SourceNotes
 pub mod NamesAgree
 pub mod ClaimsFit
 pub mod DeclaredTypes
+pub mod EachMember
+pub mod Constants
+pub mod DeclaredFields
