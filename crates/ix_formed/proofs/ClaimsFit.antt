@@ -41,7 +41,7 @@ use Rattle.ix_annot.specs.Arguments as arguments
 use Rattle.ix_annot.specs.Arguments.{plan, plan_of, plan_with, one_claim, lowest, range, range_of, length_from, length_of, written, upper, first_offset, all_written, matched, claims_written, with_others, texts, texts_or_none, int_or, are_taken, greatest_int, least_int}
 use Rattle.ix_annot.specs.Texts.{array_text, bound_text, offset_text}
 use Rattle.ix_annot.specs.Expansion as expansion
-use Rattle.ix_annot.specs.Expansion.{expanded, claim_of, claims_of, array_claim, upper_claim, offset_named, with_claims, with_plan, with_row, is_field, names_inherited}
+use Rattle.ix_annot.specs.Expansion.{expanded, claim_of, claims_of, array_claim, upper_claim, offset_named, with_claims, with_plan, with_row, is_field, names_inherited, may_change, offset_may_change}
 use Rattle.ix_meaning.specs.Annotated.{claims_from}
 use Rattle.ix_formed.specs.Additions.{AllOf}
 use Rattle.ix_formed.proofs.NumberLists.{all_joined, all_so, both_true}
@@ -222,10 +222,10 @@ plan_is says args = taken_or_not (are_taken says args)
 
 -- ---- claims
 
--- What a name in an annotation means is an int or an array, as its place needs.
+-- What a name in an annotation means is an int or an array, as its place needs; in a field's annotation it is no inherited field that may change.
 pub record Knows (names : Names) (types : Name → Option Type_) : Type 0 where
-  pub ints : (naming : Naming) → Whenever (λ name. is_int_of (types name) ≡ true) (named names holds.Int naming)
-  pub arrays : (naming : Naming) → Whenever (λ name. is_array_of (types name) ≡ true) (named names holds.Array naming)
+  pub ints : (naming : Naming) → (is_field names.own && may_change (names.found naming)) ≡ false → Whenever (λ name. is_int_of (types name) ≡ true) (named names holds.Int naming)
+  pub arrays : (naming : Naming) → (is_field names.own && may_change (names.found naming)) ≡ false → Whenever (λ name. is_array_of (types name) ≡ true) (named names holds.Array naming)
 
 -- what a declaration of that type is for its annotations
 abbrev pub StandsOn : Target → Type_ → Type 0
@@ -243,10 +243,22 @@ module _ (names : Names) (ty : Type_) (types : Name → Option Type_) (knows : K
   abbrev Fits : Claim → Type 0
   Fits c = claim_fits ty types c ≡ true
 
-  offset_is : (offset : Offset) → Whenever (λ (o : Off × ℤ). offset_fits types o.0 ≡ true) (offset_named names offset)
-  offset_is (Constant c) = refl
-  offset_is (Plus naming c) = whenever_map (λ name. is_int_of (types name) ≡ true) (λ (o : Off × ℤ). offset_fits types o.0 ≡ true) (λ name. (off.Plus name, c)) (named names holds.Int naming) (λ name h. h) (knows.ints naming)
-  offset_is (Minus naming c) = whenever_map (λ name. is_int_of (types name) ≡ true) (λ (o : Off × ℤ). offset_fits types o.0 ≡ true) (λ name. (off.Minus name, c)) (named names holds.Int naming) (λ name h. h) (knows.ints naming)
+  -- names no inherited field that may change, where a field's annotation must not
+  abbrev Free : Bool → Type 0
+  Free inherited = (is_field names.own && inherited) ≡ false
+
+  free_parts : (a b : Bool) → Free (a || b) → Free a × Free b
+  free_parts a b free = by_own (is_field names.own) a b free
+    where
+      by_own : (own a b : Bool) → (own && (a || b)) ≡ false → ((own && a) ≡ false) × ((own && b) ≡ false)
+      by_own true true b e = absurd (false≢true (sym e))
+      by_own true false b e = (refl, e)
+      by_own false a b e = (refl, refl)
+
+  offset_is : (offset : Offset) → Free (offset_may_change names offset) → Whenever (λ (o : Off × ℤ). offset_fits types o.0 ≡ true) (offset_named names offset)
+  offset_is (Constant c) free = refl
+  offset_is (Plus naming c) free = whenever_map (λ name. is_int_of (types name) ≡ true) (λ (o : Off × ℤ). offset_fits types o.0 ≡ true) (λ name. (off.Plus name, c)) (named names holds.Int naming) (λ name h. h) (knows.ints naming free)
+  offset_is (Minus naming c) free = whenever_map (λ name. is_int_of (types name) ≡ true) (λ (o : Off × ℤ). offset_fits types o.0 ≡ true) (λ name. (off.Minus name, c)) (named names holds.Int naming) (λ name h. h) (knows.ints naming free)
 
   upper_fits : is_int_type ty ≡ true → (array : Option Name) (offset : Option (Off × ℤ)) → Whenever (λ name. is_array_of (types name) ≡ true) array → Whenever (λ (o : Off × ℤ). offset_fits types o.0 ≡ true) offset
       → Whenever Fits (upper_claim array offset)
@@ -261,43 +273,43 @@ module _ (names : Names) (ty : Type_) (types : Name → Option Type_) (knows : K
   int_array_fits int least SameLength row name a = absurd row
 
   -- a claim with names
-  claim_of_fits : (targets : Targets) (says : Says) → FitsSays targets says → (IsIntRow targets ≡ true → is_int_type ty ≡ true) → (targets ≡ Array → is_array_type ty ≡ true) → (w : Written) → IsWritten says w
+  claim_of_fits : (targets : Targets) (says : Says) → FitsSays targets says → (IsIntRow targets ≡ true → is_int_type ty ≡ true) → (targets ≡ Array → is_array_type ty ≡ true) → (w : Written) → IsWritten says w → Free (names_inherited names w)
       → Whenever Fits (claim_of names w)
-  claim_of_fits Int (Arrays least (Below c)) row int array w is = subst (λ w. Whenever Fits (claim_of names w)) (sym is.1)
-      (whenever_map (λ name. is_array_of (types name) ≡ true) Fits (array_claim (Below c)) (named names holds.Array is.0) (λ name h. int_array_fits (int refl) least (Below c) row name h) (knows.arrays is.0))
-  claim_of_fits Int (Arrays least SearchResult) row int array w is = subst (λ w. Whenever Fits (claim_of names w)) (sym is.1)
-      (whenever_map (λ name. is_array_of (types name) ≡ true) Fits (array_claim SearchResult) (named names holds.Array is.0) (λ name h. int_array_fits (int refl) least SearchResult row name h) (knows.arrays is.0))
-  claim_of_fits Int (Arrays least NotFound) row int array w is = subst (λ w. Whenever Fits (claim_of names w)) (sym is.1)
-      (whenever_map (λ name. is_array_of (types name) ≡ true) Fits (array_claim NotFound) (named names holds.Array is.0) (λ name h. int_array_fits (int refl) least NotFound row name h) (knows.arrays is.0))
-  claim_of_fits Int Offsets row int array w is = subst (λ w. Whenever Fits (claim_of names w)) (sym is.2)
-      (upper_fits (int refl) (named names holds.Array is.0) (offset_named names is.1) (knows.arrays is.0) (offset_is is.1))
-  claim_of_fits Int Bounds row int array w is = subst (λ w. Whenever Fits (claim_of names w)) (sym is.2)
-      (whenever_map (λ name. is_int_of (types name) ≡ true) Fits (λ name. claim.Less name is.1) (named names holds.Int is.0)
-          (λ name h. both_true (is_int_type ty) (is_int_of (types name)) (int refl) h) (knows.ints is.0))
-  claim_of_fits Array (Arrays None SameLength) row int array w is = subst (λ w. Whenever Fits (claim_of names w)) (sym is.1)
-      (whenever_map (λ name. is_array_of (types name) ≡ true) Fits (array_claim SameLength) (named names holds.Array is.0)
-          (λ name h. both_true (is_array_type ty) (is_array_of (types name)) (array refl) h) (knows.arrays is.0))
-  claim_of_fits Int (Arrays least SameLength) row int array w is = absurd row
-  claim_of_fits Array (Arrays (Some least) each) row int array w is = absurd row
-  claim_of_fits Array (Arrays None (Below c)) row int array w is = absurd row
-  claim_of_fits Array (Arrays None SearchResult) row int array w is = absurd row
-  claim_of_fits Array (Arrays None NotFound) row int array w is = absurd row
-  claim_of_fits Array Offsets row int array w is = absurd row
-  claim_of_fits Array Bounds row int array w is = absurd row
-  claim_of_fits IntOrElement (Arrays least each) row int array w is = absurd row
-  claim_of_fits IntOrElement Offsets row int array w is = absurd row
-  claim_of_fits IntOrElement Bounds row int array w is = absurd row
-  claim_of_fits Callable (Arrays least each) row int array w is = absurd row
-  claim_of_fits Callable Offsets row int array w is = absurd row
-  claim_of_fits Callable Bounds row int array w is = absurd row
-  claim_of_fits Method (Arrays least each) row int array w is = absurd row
-  claim_of_fits Method Offsets row int array w is = absurd row
-  claim_of_fits Method Bounds row int array w is = absurd row
-  claim_of_fits targets Nothing row int array w is = absurd is
-  claim_of_fits targets EffectFree row int array w is = absurd is
-  claim_of_fits targets (AtLeast least) row int array w is = absurd is
-  claim_of_fits targets Between row int array w is = absurd is
-  claim_of_fits targets LengthAtLeast row int array w is = absurd is
+  claim_of_fits Int (Arrays least (Below c)) row int array w is free = subst (λ w. Free (names_inherited names w) → Whenever Fits (claim_of names w)) (sym is.1)
+      (λ free. whenever_map (λ name. is_array_of (types name) ≡ true) Fits (array_claim (Below c)) (named names holds.Array is.0) (λ name h. int_array_fits (int refl) least (Below c) row name h) (knows.arrays is.0 free)) free
+  claim_of_fits Int (Arrays least SearchResult) row int array w is free = subst (λ w. Free (names_inherited names w) → Whenever Fits (claim_of names w)) (sym is.1)
+      (λ free. whenever_map (λ name. is_array_of (types name) ≡ true) Fits (array_claim SearchResult) (named names holds.Array is.0) (λ name h. int_array_fits (int refl) least SearchResult row name h) (knows.arrays is.0 free)) free
+  claim_of_fits Int (Arrays least NotFound) row int array w is free = subst (λ w. Free (names_inherited names w) → Whenever Fits (claim_of names w)) (sym is.1)
+      (λ free. whenever_map (λ name. is_array_of (types name) ≡ true) Fits (array_claim NotFound) (named names holds.Array is.0) (λ name h. int_array_fits (int refl) least NotFound row name h) (knows.arrays is.0 free)) free
+  claim_of_fits Int Offsets row int array w is free = subst (λ w. Free (names_inherited names w) → Whenever Fits (claim_of names w)) (sym is.2)
+      (λ free. upper_fits (int refl) (named names holds.Array is.0) (offset_named names is.1) (knows.arrays is.0 (free_parts (may_change (names.found is.0)) (offset_may_change names is.1) free).0) (offset_is is.1 (free_parts (may_change (names.found is.0)) (offset_may_change names is.1) free).1)) free
+  claim_of_fits Int Bounds row int array w is free = subst (λ w. Free (names_inherited names w) → Whenever Fits (claim_of names w)) (sym is.2)
+      (λ free. whenever_map (λ name. is_int_of (types name) ≡ true) Fits (λ name. claim.Less name is.1) (named names holds.Int is.0)
+          (λ name h. both_true (is_int_type ty) (is_int_of (types name)) (int refl) h) (knows.ints is.0 free)) free
+  claim_of_fits Array (Arrays None SameLength) row int array w is free = subst (λ w. Free (names_inherited names w) → Whenever Fits (claim_of names w)) (sym is.1)
+      (λ free. whenever_map (λ name. is_array_of (types name) ≡ true) Fits (array_claim SameLength) (named names holds.Array is.0)
+          (λ name h. both_true (is_array_type ty) (is_array_of (types name)) (array refl) h) (knows.arrays is.0 free)) free
+  claim_of_fits Int (Arrays least SameLength) row int array w is free = absurd row
+  claim_of_fits Array (Arrays (Some least) each) row int array w is free = absurd row
+  claim_of_fits Array (Arrays None (Below c)) row int array w is free = absurd row
+  claim_of_fits Array (Arrays None SearchResult) row int array w is free = absurd row
+  claim_of_fits Array (Arrays None NotFound) row int array w is free = absurd row
+  claim_of_fits Array Offsets row int array w is free = absurd row
+  claim_of_fits Array Bounds row int array w is free = absurd row
+  claim_of_fits IntOrElement (Arrays least each) row int array w is free = absurd row
+  claim_of_fits IntOrElement Offsets row int array w is free = absurd row
+  claim_of_fits IntOrElement Bounds row int array w is free = absurd row
+  claim_of_fits Callable (Arrays least each) row int array w is free = absurd row
+  claim_of_fits Callable Offsets row int array w is free = absurd row
+  claim_of_fits Callable Bounds row int array w is free = absurd row
+  claim_of_fits Method (Arrays least each) row int array w is free = absurd row
+  claim_of_fits Method Offsets row int array w is free = absurd row
+  claim_of_fits Method Bounds row int array w is free = absurd row
+  claim_of_fits targets Nothing row int array w is free = absurd is
+  claim_of_fits targets EffectFree row int array w is free = absurd is
+  claim_of_fits targets (AtLeast least) row int array w is free = absurd is
+  claim_of_fits targets Between row int array w is free = absurd is
+  claim_of_fits targets LengthAtLeast row int array w is free = absurd is
 
   -- a claim without names
   element_fits : is_int_type ty ≡ true → (c : Claim) → is_element_claim c ≡ true → Fits c
@@ -376,21 +388,22 @@ module _ (names : Names) (ty : Type_) (types : Name → Option Type_) (knows : K
   -- ---- whole annotations
 
   claims_of_fit : (targets : Targets) (says : Says) → FitsSays targets says → (IsIntRow targets ≡ true → is_int_type ty ≡ true) → (targets ≡ Array → is_array_type ty ≡ true) → (ws : List Written) → AllOf (IsWritten says) ws
-      → Whenever (AllOf Fits) (claims_of names ws)
-  claims_of_fit targets says row int array [] all = tt
-  claims_of_fit targets says row int array (w ∷ ws) all =
-      others_are Fits (claim_of names w) (claims_of names ws) (claim_of_fits targets says row int array w all.0) (claims_of_fit targets says row int array ws all.1)
+      → Free (list_any (names_inherited names) ws) → Whenever (AllOf Fits) (claims_of names ws)
+  claims_of_fit targets says row int array [] all free = tt
+  claims_of_fit targets says row int array (w ∷ ws) all free =
+      let parts = free_parts (names_inherited names w) (list_any (names_inherited names) ws) free in
+      others_are Fits (claim_of names w) (claims_of names ws) (claim_of_fits targets says row int array w all.0 parts.0) (claims_of_fit targets says row int array ws all.1 parts.1)
 
   abbrev ResultFits : Result Claims AnnotError → Type 0
   ResultFits r = AllOf Fits (claims_from r)
 
-  with_claims_fit : (p : Plan) (claims : Option (List Claim)) → AllOf Fits p.first → Whenever (AllOf Fits) claims → ResultFits (with_claims names p claims)
+  with_claims_fit : (p : Plan) (claims : Option (List Claim)) → AllOf Fits p.first → (Free (list_any (names_inherited names) p.written) → Whenever (AllOf Fits) claims) → ResultFits (with_claims names p claims)
   with_claims_fit p None first all = tt
-  with_claims_fit p (Some claims) first all = inherited_or_not (is_field names.own && list_any (names_inherited names) p.written)
+  with_claims_fit p (Some claims) first all = inherited_or_not (is_field names.own && list_any (names_inherited names) p.written) refl
     where
-      inherited_or_not : (b : Bool) → ResultFits (if b then Err InheritedName else Ok (record { list = p.first ++ claims; effect_free = p.effect_free }))
-      inherited_or_not true = tt
-      inherited_or_not false = all_joined Fits p.first claims first all
+      inherited_or_not : (b : Bool) → (is_field names.own && list_any (names_inherited names) p.written) ≡ b → ResultFits (if b then Err InheritedName else Ok (record { list = p.first ++ claims; effect_free = p.effect_free }))
+      inherited_or_not true e = tt
+      inherited_or_not false e = all_joined Fits p.first claims first (all e)
 
   all_first : (targets : Targets) (says : Says) → FitsSays targets says → (IsIntRow targets ≡ true → is_int_type ty ≡ true) → (targets ≡ Array → is_array_type ty ≡ true) → (cs : List Claim) → AllOf (IsFirst says) cs → AllOf Fits cs
   all_first targets says row int array cs all = all_so (IsFirst says) Fits (λ c is. first_fits targets says row int array c is) cs all
@@ -403,7 +416,7 @@ module _ (names : Names) (ty : Type_) (types : Name → Option Type_) (knows : K
       fits_or_not true e =
           let int = row_int targets names.target e stands in
           let array : targets ≡ Array → is_array_type ty ≡ true = λ same. row_array names.target (subst (λ (t : Targets). fits t names.target ≡ true) same e) stands in
-          with_claims_fit p (claims_of names p.written) (all_first targets says row int array p.first is.0) (claims_of_fit targets says row int array p.written is.1)
+          with_claims_fit p (claims_of names p.written) (all_first targets says row int array p.first is.0) (λ free. claims_of_fit targets says row int array p.written is.1 free)
       fits_or_not false e = tt
 
   with_row_fit : (annot : Annot) (row : Option (Targets × Says)) → Whenever (λ (row : Targets × Says). FitsSays row.0 row.1) row → StandsOn names.target ty → ResultFits (with_row annot names row)

@@ -19,3 +19,4 @@ pub mod DeclaredTypes
 pub mod EachMember
 pub mod Constants
 pub mod DeclaredFields
+pub mod Superclasses

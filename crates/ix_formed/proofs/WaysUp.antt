@@ -79,7 +79,7 @@ few_distinct (suc n) xs d a =
 -- ---- ways up
 
 module _ (ps : List (Option ℕ)) where
-  abbrev up : List (Option ℕ) → ℕ → List ℕ
+  abbrev pub up : List (Option ℕ) → ℕ → List ℕ
   up turns class = way_up ps turns class
 
   up_more : (turns more : List (Option ℕ)) (class x : ℕ) → length turns ≤ length more → is_among x (up turns class) ≡ true → is_among x (up more class) ≡ true
@@ -93,7 +93,7 @@ module _ (ps : List (Option ℕ)) where
           by_test (p == x) (λ t. ap (λ b. b || is_among x (up more p)) t)
           (λ f. ap (λ b. b || is_among x (up more p)) f ∙ rest p (sym (ap (λ b. b || is_among x (up turns p)) f) ∙ e))
 
-  up_longer : (turns : List (Option ℕ)) (class : ℕ) → length (up turns class) ≤ length turns
+  pub up_longer : (turns : List (Option ℕ)) (class : ℕ) → length (up turns class) ≤ length turns
   up_longer [] class = omega arith
   up_longer (turn ∷ turns) class = onward_longer (parent ps class) (λ p. up_longer turns p)
     where
@@ -133,7 +133,7 @@ module _ (ps : List (Option ℕ)) where
         onward_distinct (Some p) e rest = rest p (within class p (sym e))
 
     -- the way up from a class ends before it has passed them all
-    up_short : (class : ℕ) → class < length ps → length (up ps class) < length ps
+    pub up_short : (class : ℕ) → class < length ps → length (up ps class) < length ps
     up_short class lt = let le = few_distinct (length ps) (class ∷ up ps class) (up_distinct ps class lt (omega arith)) (lt, up_within ps class) in omega (arith, le)
 
     -- ---- superclasses
