@@ -20,3 +20,4 @@ pub mod EachMember
 pub mod Constants
 pub mod DeclaredFields
 pub mod Superclasses
+pub mod ScopesKnow
