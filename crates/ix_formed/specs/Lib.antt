@@ -1,0 +1,8 @@
+-- What lowering adds: an expression, a statement; what a whole body has; what a whole program is made of; and what a source without errors on names says.
+pub mod Additions
+pub mod Extensions
+pub mod Bodies
+pub mod Shape
+pub mod Weights
+pub mod NoErrors
+pub mod Written
