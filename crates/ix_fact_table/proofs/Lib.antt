@@ -1,0 +1,3 @@
+pub mod WalksAlongBoth
+pub mod MergedTables
+pub mod TableForms
