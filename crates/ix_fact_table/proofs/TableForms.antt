@@ -1,31 +1,35 @@
 -- What each call of a table leaves is a table of its kind, and what it says.
-use Rattle.std.specs.Prelude.{◌≡◌, ◌↔◌, Bool, true, false, ℤ, List, [], ◌∷◌, ◌++◌, Option, Some, None, refl}
-use Rattle.std.proofs.Common.{inl, inr, sym, ◌∙◌, subst, ⊎_elim}
+use Rattle.std.specs.Prelude.{◌≡◌, ◌↔◌, Bool, true, false, ℤ, ◌≤ℤ◌, int_lt, List, [], ◌∷◌, ◌++◌, Option, Some, None, refl}
+use Rattle.std.specs.Int.{int_min, int_max}
+use Rattle.std.proofs.Common.{arith, inl, ap, sym, ◌∙◌, subst, ⊎_elim, inr}
+use Rattle.std.proofs.lemmas.Int.{ints, clamps}
+use Rattle.ix_num.specs.Ints.{least_int, greatest_int}
 use Rattle.ix_core.specs.declared.fact.Path.{Path}
 use Rattle.ix_core.specs.declared.fact.Fact.{Fact}
 use Rattle.ix_core.specs.declared.fact.Fact.TheVariants.{Rng, LenRng, Low, Same, IsLen, Less, Sum, Search, Neg, Upper}
 use Rattle.ix_facts.specs.declared.kind.Kind.{Kind}
 use Rattle.ix_facts.specs.Facts.{IsIn, Covers, is_default}
-use Rattle.ix_facts.specs.Closure.{Said, SaysAll, IsCommon}
+use Rattle.ix_facts.specs.Closure.{kept, Said, SaysAll, IsCommon}
 use Rattle.ix_facts.specs.Exact.{each, if_some}
 use Rattle.ix_facts.specs.Forget.{names, without}
 use Rattle.ix_facts.specs.Kinds.{is_of, of_kind}
 use Rattle.ix_facts.specs.Round.{mark_below, mark_above, if_both, rounded_fact}
-use Rattle.ix_facts.specs.Systems.{IsTable, HasClass, HaveClasses, system_rounded}
-use Rattle.ix_facts.proofs.FactLists.{in_either}
+use Rattle.ix_facts.specs.Systems.{IsTable, HasClass, HaveClasses, system_rounded, system_added}
+use Rattle.ix_facts.proofs.FactLists.{in_left, in_right, in_either}
 use Rattle.ix_facts.proofs.Frame.{in_without}
 use Rattle.ix_facts.proofs.SaidLaws.{default_is, is_a_default, default_weaker, said_itself, said_weaker}
+use Rattle.ix_facts.proofs.SystemLaws.{in_kind, kind_in}
 use Rattle.ix_facts.proofs.Tests.{by_test}
 use Rattle.ix_fact_table.specs.FactOrder.{key_on, key_back}
 use Rattle.ix_fact_table.specs.Meets.{common}
-use Rattle.ix_fact_table.specs.Entries.{entry_of, is_entry}
+use Rattle.ix_fact_table.specs.Entries.{HasInt, entry_of, is_entry}
 use Rattle.ix_fact_table.specs.Rising.{rises, is_table_of}
 use Rattle.ix_fact_table.specs.MeetLaws.{covers_key, common_left, common_right, common_covers, common_key, common_entry, key_kind}
 use Rattle.ix_fact_table.specs.EntryLaws.{entry_default, entry_said, may_stand}
 use Rattle.ix_fact_table.specs.RisingLaws.{below_some, rises_parts, rises_from, table_rises, table_each, table_from}
 use Rattle.ix_fact_table.specs.TableLaws.{by_entry, entry_covered, all_said}
 use Rattle.ix_fact_table.specs.Walks.{HasBoth, HasShared, AllCovered}
-use Rattle.ix_fact_table.proofs.MergedTables.{kind_all, self_table, merged_form, merged_table}
+use Rattle.ix_fact_table.proofs.MergedTables.{same_table, kind_all, self_table, merged_form, merged_table}
 
 -- ---- forgets
 
@@ -40,6 +44,28 @@ rises_without is (f ∷ facts) r =
 pub without_form : (own : Kind) (is : Path → Bool) (facts : List Fact) → is_table_of own facts ≡ true → is_table_of own (without is facts) ≡ true
 without_form own is facts form = table_from own (without is facts) (rises_without is facts (table_rises own facts form)) (λ f i. table_each own facts form f (in_without is f facts i).0)
 
+pub without_table : (own : Kind) (is : Path → Bool) (facts : List Fact) → is_table_of own facts ≡ true → IsTable (without is facts) (without is facts)
+without_table own is facts form = self_table own (without is facts) (without_form own is facts form)
+
+in_same : (own : Kind) (front new other : List Fact) → ((f : Fact) → IsIn f new → IsIn f other) → (f : Fact) → IsIn f (front ++ of_kind own new) → IsIn f (front ++ of_kind own other)
+in_same own front new other more f i =
+    ⊎_elim
+    (λ j. in_left f front (of_kind own other) j)
+    (λ j. let x = in_kind own f new j in in_right f front (of_kind own other) (kind_in own f other (more f x.0) x.1))
+    (in_either f front (of_kind own new) i)
+
+not_above : (c : ℤ) → c ≤ℤ greatest_int → int_lt greatest_int c ≡ false
+not_above c h = grind (arith, ints)
+
+not_below : (c : ℤ) → least_int ≤ℤ c → int_lt c least_int ≡ false
+not_below c h = grind (arith, ints)
+
+from_least : (c : ℤ) → least_int ≤ℤ c → int_max c least_int ≡ c
+from_least c h = omega (arith, ints, clamps)
+
+to_greatest : (c : ℤ) → c ≤ℤ greatest_int → int_min c greatest_int ≡ c
+to_greatest c h = omega (arith, ints, clamps)
+
 -- ---- more facts
 
 pub with_form : (own : Kind) (facts more all : List Fact) → is_table_of own facts ≡ true → is_table_of own more ≡ true → HasBoth facts more all → rises all ≡ true → is_table_of own all ≡ true
@@ -47,6 +73,29 @@ with_form own facts more all first second has rise = merged_form own facts more 
 
 pub with_table : (own : Kind) (facts new more all : List Fact) → is_table_of own facts ≡ true → is_table_of own more ≡ true → IsTable (of_kind own new) more → HasBoth facts more all → rises all ≡ true → IsTable (facts ++ of_kind own new) all
 with_table own facts new more all first second is has rise = merged_table own facts (of_kind own new) facts more all (merged_form own facts more all first second has rise) (self_table own facts first) is has
+
+-- a fact's number is an int, so it is kept as it is
+kept_int : (own : Kind) (f : Fact) → HasInt f → kept (f ∷ []) ≡ f ∷ []
+kept_int own (Less p q c) i = let x = not_above c i.to in let y = from_least c i.from in rw (x, y) refl
+kept_int own (Upper p a o c) i = let x = not_below c i.from in let y = to_greatest c i.to in rw (x, y) refl
+kept_int own (Rng p l h) i = refl
+kept_int own (LenRng p l h) i = refl
+kept_int own (Low p c) i = refl
+kept_int own (Same a b) i = refl
+kept_int own (IsLen p a) i = refl
+kept_int own (Sum t y z) i = refl
+kept_int own (Search p a) i = refl
+kept_int own (Neg p a) i = refl
+
+pub added_is : (own : Kind) (facts : List Fact) (f : Fact) → HasInt f → facts ++ of_kind own (f ∷ []) ≡ system_added own facts f
+added_is own facts f int = ap (λ l. facts ++ of_kind own l) (sym (kept_int own f int))
+
+pub one_class : (f : Fact) → HasClass f → HaveClasses (f ∷ [])
+one_class f class g i = ⊎_elim (λ e. subst HasClass (sym e) class) (λ x. absurd x) i
+
+-- a list whose new facts are the same has the same table
+pub same_new : (own : Kind) (front new other table : List Fact) → ((f : Fact) → IsIn f new → IsIn f other) → ((f : Fact) → IsIn f other → IsIn f new) → IsTable (front ++ of_kind own new) table → IsTable (front ++ of_kind own other) table
+same_new own front new other table more back is = same_table (front ++ of_kind own new) (front ++ of_kind own other) table (in_same own front new other more) (in_same own front other new back) is
 
 -- ---- rounding
 

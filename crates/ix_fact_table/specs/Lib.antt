@@ -8,3 +8,4 @@ pub mod RisingLaws
 pub mod Walks
 pub mod FactTables
 pub mod TableLaws
+pub mod KindLaws

@@ -21,7 +21,7 @@ fn is_after(p: &Path, q: &Path) -> bool
 }
 
 /// Of the orders of a fact the one in which its paths are in order.
-fn in_first_order(fact: &Fact) -> Fact
+pub(crate) fn in_first_order(fact: &Fact) -> Fact
     ensures { result ≡ spec.in_first_order fact.now }
 {
     match *fact {

@@ -14,7 +14,7 @@ use ix_text::List;
 use std::alloc::{AllocError, Global};
 
 /// The number of a difference or a bound is an int: so its type has it.
-fn int_of(fact: &Fact) -> i32
+pub(crate) fn int_of(fact: &Fact) -> i32
     ensures int { HasInt fact.now }
 {
     match *fact {
