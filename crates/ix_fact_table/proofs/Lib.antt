@@ -1,0 +1,4 @@
+pub mod WalksAlongBoth
+pub mod MergedTables
+pub mod TableForms
+pub mod Searches

@@ -1,0 +1,11 @@
+pub mod FactOrder
+pub mod Meets
+pub mod Entries
+pub mod Rising
+pub mod MeetLaws
+pub mod EntryLaws
+pub mod RisingLaws
+pub mod Walks
+pub mod FactTables
+pub mod TableLaws
+pub mod KindLaws

@@ -1,0 +1,51 @@
+-- What walks along two lists of facts give.
+use Rattle.std.specs.Prelude.{◌≡◌, true, false, Bool, cond, int_le, ◌&&◌, List, [], ◌∷◌}
+use Rattle.ix_core.specs.declared.fact.Fact.{Fact}
+use Rattle.ix_core.specs.declared.fact.Fact.TheVariants.{Rng, LenRng, Low, Less, Upper}
+use Rattle.ix_facts.specs.Facts.{IsIn, Covers, is_default}
+use Rattle.ix_fact_table.specs.FactOrder.{AtKey}
+use Rattle.ix_fact_table.specs.Meets.{met, common}
+
+-- the fact is one of the two lists, or what a fact of each says together
+pub data FromBoth (first second : List Fact) (f : Fact) : Type 0 where
+  left : IsIn f first → FromBoth first second f
+  right : IsIn f second → FromBoth first second f
+  both : (g h : Fact) → IsIn g first → IsIn h second → AtKey g h → f ≡ met g h → FromBoth first second f
+
+-- the list says at each key what the two say together
+pub record HasBoth (first second all : List Fact) : Type 0 where
+  pub first_covered : (f : Fact) → IsIn f first → (g : Fact) × IsIn g all × Covers g f
+  pub second_covered : (f : Fact) → IsIn f second → (g : Fact) × IsIn g all × Covers g f
+  pub from : (f : Fact) → IsIn f all → FromBoth first second f
+
+-- what a fact of each says in common, where that isn't said of every path
+pub record IsShared (first second : List Fact) (f : Fact) : Type 0 where
+  pub mine : Fact
+  pub theirs : Fact
+  pub in_first : IsIn mine first
+  pub in_second : IsIn theirs second
+  pub key : AtKey mine theirs
+  pub is : f ≡ common mine theirs
+  pub tells : is_default f ≡ false
+
+-- the list says at each key what the two say in common
+pub record HasShared (first second shared : List Fact) : Type 0 where
+  pub kept : (f g : Fact) → IsIn f first → IsIn g second → AtKey f g → is_default (common f g) ≡ false → IsIn (common f g) shared
+  pub from : (f : Fact) → IsIn f shared → IsShared first second f
+
+-- each fact of the second list is covered by one of the first
+abbrev pub AllCovered : List Fact → List Fact → Type 0
+AllCovered first second = (f : Fact) → IsIn f second → (g : Fact) × IsIn g first × Covers g f
+
+-- the first fact is at least as strong, where both stand at one key
+abbrev pub is_as_strong : Fact → Fact → Bool
+is_as_strong (Rng p l h) (Rng q m k) = int_le m l && int_le h k
+is_as_strong (LenRng a l h) (LenRng b m k) = int_le m l && int_le h k
+is_as_strong (Low p c) (Low q d) = int_le d c
+is_as_strong (Less p q c) (Less r s d) = int_le c d
+is_as_strong (Upper p a o c) (Upper q b x d) = int_le d c
+is_as_strong f g = true
+
+-- the fact, unless a test holds
+abbrev pub if_not : Bool → Fact → List Fact
+if_not test f = cond test [] (f ∷ [])

@@ -1,0 +1,20 @@
+//! Tables of facts of one kind.
+//!
+//! What goes in: facts. What comes out: of each key one fact, in the order of keys: what the facts say of it together.
+//! The contract: `IsTable` of `ix_facts`, exactly; the join says what both tables say (`IsCommon`); the order is that of what tables say (`SaysAll`).
+//! It stands on `ix_facts` for facts and what they say, on `ix_lattice` for ranks.
+//! It never looks at a rule: which facts an operation gives is told to it.
+#![tactic(auto)]
+
+mod entries;
+mod fact_table;
+mod filters;
+mod look_ups;
+mod meets;
+mod order;
+mod sorted;
+mod tables;
+mod walks;
+
+pub use fact_table::FactTable;
+pub use order::compare_facts;

@@ -1,0 +1,101 @@
+//! The order of facts by their keys.
+
+ghost use Rattle.std.specs.Prelude.{◌≡◌};
+ghost use Rattle.std.specs.Ordering.{ordering_then};
+ghost use Rattle.ix_facts.specs.PathOrder.{path_cmp, offset_cmp};
+ghost use Rattle.ix_fact_table.specs.FactOrder as spec;
+ghost use Rattle.ix_fact_table.specs.FactOrder.{fact_cmp, rest_cmp};
+
+use ix_core::{Fact, Path, PathOff};
+use ix_facts::{compare_offsets, compare_paths};
+use std::cmp::Ordering;
+
+/// The path that a fact speaks of first.
+pub(crate) fn first_path(fact: &Fact) -> Path
+    ensures { result ≡ spec.first_path fact.now }
+{
+    match *fact {
+        Fact::Rng(p, _, _) => p,
+        Fact::LenRng(a, _, _) => a,
+        Fact::Low(p, _) => p,
+        Fact::Same(a, _) => a,
+        Fact::IsLen(p, _) => p,
+        Fact::Less(p, _, _) => p,
+        Fact::Sum(t, _, _) => t,
+        Fact::Search(p, _) => p,
+        Fact::Neg(p, _) => p,
+        Fact::Upper(p, _, _, _) => p,
+    }
+}
+
+/// The place of its form among the forms.
+fn form(fact: &Fact) -> u8
+    ensures { result ≡ spec.form fact.now }
+{
+    match *fact {
+        Fact::Rng(_, _, _) => 0,
+        Fact::LenRng(_, _, _) => 1,
+        Fact::Low(_, _) => 2,
+        Fact::Same(_, _) => 3,
+        Fact::IsLen(_, _) => 4,
+        Fact::Less(_, _, _) => 5,
+        Fact::Sum(_, _, _) => 6,
+        Fact::Search(_, _) => 7,
+        Fact::Neg(_, _) => 8,
+        Fact::Upper(_, _, _, _) => 9,
+    }
+}
+
+/// The path that it speaks of second; where there is none, that of the first slot.
+fn second_path(fact: &Fact) -> Path
+    ensures { result ≡ spec.second_path fact.now }
+{
+    match *fact {
+        Fact::Same(_, b) => b,
+        Fact::IsLen(_, a) => a,
+        Fact::Less(_, q, _) => q,
+        Fact::Sum(_, y, _) => y,
+        Fact::Search(_, a) => a,
+        Fact::Neg(_, a) => a,
+        Fact::Upper(_, a, _, _) => a,
+        _ => Path::Slot(0),
+    }
+}
+
+/// The third path, as an offset.
+fn third(fact: &Fact) -> PathOff
+    ensures { result ≡ spec.third fact.now }
+{
+    match *fact {
+        Fact::Sum(_, _, z) => PathOff::Plus(z),
+        Fact::Upper(_, _, offset, _) => offset,
+        _ => PathOff::Nothing,
+    }
+}
+
+/// By form, second and third path.
+fn compare_rest(fact: &Fact, other: &Fact) -> Ordering
+    ensures { result ≡ rest_cmp fact.now other.now }
+{
+    match form(fact).cmp(&form(other)) {
+        Ordering::Less => Ordering::Less,
+        Ordering::Greater => Ordering::Greater,
+        Ordering::Equal => {
+            compare_paths(&second_path(fact), &second_path(other)).then(compare_offsets(
+                &third(fact),
+                &third(other),
+            ))
+        }
+    }
+}
+
+/// The order of facts by their keys: by the first path, then by form, then by the other paths. Numbers don't count.
+pub fn compare_facts(fact: &Fact, other: &Fact) -> Ordering
+    ensures { result ≡ fact_cmp fact.now other.now }
+{
+    match compare_paths(&first_path(fact), &first_path(other)) {
+        Ordering::Less => Ordering::Less,
+        Ordering::Greater => Ordering::Greater,
+        Ordering::Equal => compare_rest(fact, other),
+    }
+}

@@ -1,0 +1,189 @@
+//! Tables of facts: how one is made, changed and compared.
+
+ghost use Rattle.std.specs.Prelude.{◌≡◌, true, ◌↔◌, ◌++◌, [], filter, IsTrue, IfOk, IfSome, IfNone};
+ghost use Rattle.std.specs.Ordering.{is_eq};
+ghost use Rattle.ix_core.specs.declared.fact.Fact.{Fact};
+ghost use Rattle.ix_facts.specs.Facts.{IsIn};
+ghost use Rattle.ix_facts.specs.PathOrder.{path_cmp};
+ghost use Rattle.ix_facts.specs.Forget.{of_path, without};
+ghost use Rattle.ix_facts.specs.After.{of_target};
+ghost use Rattle.ix_facts.specs.Kinds.{of_kind};
+ghost use Rattle.ix_facts.specs.Closure.{SaysAll, IsCommon};
+ghost use Rattle.ix_facts.specs.Round.{Rises};
+ghost use Rattle.ix_facts.specs.Systems.{HasClass, HaveClasses, IsTable, system_rounded, system_added};
+ghost use Rattle.ix_fact_table.specs.FactOrder.{AtKey, first_path};
+ghost use Rattle.ix_fact_table.specs.Entries.{in_first_order};
+ghost use Rattle.ix_fact_table.specs.FactTables.{facts_of, table_kind};
+
+use crate::entries::in_first_order as first_order;
+use crate::fact_table::FactTable;
+use crate::filters::{beside_path, beside_target};
+use crate::look_ups::{facts_on, place_of};
+use crate::sorted::{int_of, sorted};
+use crate::walks::{covers_all, merged, shared};
+use ix_core::{Fact, OpKind, Path};
+use ix_facts::{Kind, Landmarks, rounded_facts};
+use ix_text::List;
+use std::alloc::{AllocError, Global};
+
+impl FactTable {
+    /// The table without facts. It takes no memory.
+    pub fn new(alloc: Global, kind: Kind) -> FactTable
+        ensures empty { facts_of result ≡ [] }
+        ensures kind { table_kind result ≡ kind }
+    {
+        FactTable {
+            kind,
+            facts: List::new(alloc),
+        }
+    }
+
+    /// The table of the facts of the kind: at each key what they say together. What an int is at least has to be -1, 0 or 1.
+    pub fn of_facts(alloc: Global, kind: Kind, facts: &[Fact]) -> Result<FactTable, AllocError>
+        requires classes { HaveClasses facts.now }
+        ensures table { IfOk result (λ table. IsTable (of_kind kind facts.now) (facts_of table)) }
+        ensures kind { IfOk result (λ table. table_kind table ≡ kind) }
+    {
+        let facts = sorted(alloc, kind, facts)?;
+        Ok(FactTable { kind, facts })
+    }
+
+    /// All facts, in the order of their keys. It takes no memory.
+    pub fn as_slice(&self) -> &[Fact]
+        ensures facts { result.now ≡ facts_of self.now }
+    {
+        self.facts.as_slice()
+    }
+
+    /// The fact at the key of the given one: of the same form and paths, which may stand in either order. It takes no memory.
+    pub fn get(&self, like: &Fact) -> Option<Fact>
+        ensures found { IfSome result (λ fact. IsIn fact (facts_of self.now) × AtKey fact (in_first_order like.now)) }
+        ensures none { IfNone result ((fact : Fact) → IsIn fact (facts_of self.now) → AtKey fact (in_first_order like.now) → ⊥) }
+    {
+        let facts = self.facts.as_slice();
+        let place = place_of(facts, &first_order(like))?;
+        Some(facts[place])
+    }
+
+    /// The facts whose first path is the path, in the order of their keys. It takes no memory.
+    pub fn on(&self, path: &Path) -> &[Fact]
+        ensures facts { result.now ≡ filter (λ fact. is_eq (path_cmp (first_path fact) path.now)) (facts_of self.now) }
+    {
+        facts_on(self.facts.as_slice(), path)
+    }
+
+    /// The table without the facts that name the path; of a slot also without those that name a field of the object in it.
+    pub fn without_path(&self, alloc: Global, path: &Path) -> Result<FactTable, AllocError>
+        ensures facts { IfOk result (λ table. facts_of table ≡ without (of_path path.now) (facts_of self.now)) }
+        ensures table { IfOk result (λ table. IsTable (without (of_path path.now) (facts_of self.now)) (facts_of table)) }
+        ensures kind { IfOk result (λ table. table_kind table ≡ table_kind self.now) }
+    {
+        let facts = beside_path(alloc, self.facts.as_slice(), path)?;
+        Ok(FactTable {
+            kind: self.kind,
+            facts,
+        })
+    }
+
+    /// The table without the facts that name a path that the operation may change.
+    pub fn without_target(&self, alloc: Global, kind: &OpKind) -> Result<FactTable, AllocError>
+        ensures facts { IfOk result (λ table. facts_of table ≡ without (of_target kind.now) (facts_of self.now)) }
+        ensures table { IfOk result (λ table. IsTable (without (of_target kind.now) (facts_of self.now)) (facts_of table)) }
+        ensures kind { IfOk result (λ table. table_kind table ≡ table_kind self.now) }
+    {
+        let facts = beside_target(alloc, self.facts.as_slice(), kind)?;
+        Ok(FactTable {
+            kind: self.kind,
+            facts,
+        })
+    }
+
+    /// The table with more facts, of which those of its kind count. What an int is at least has to be -1, 0 or 1.
+    pub fn with_facts(&self, alloc: Global, new: &[Fact]) -> Result<FactTable, AllocError>
+        requires classes { HaveClasses new.now }
+        ensures table { IfOk result (λ table. IsTable (facts_of self.now ++ of_kind (table_kind self.now) new.now) (facts_of table)) }
+        ensures kind { IfOk result (λ table. table_kind table ≡ table_kind self.now) }
+    {
+        let more = sorted(alloc, self.kind, new)?;
+        let facts = merged(alloc, self.facts.as_slice(), more.as_slice())?;
+        Ok(FactTable {
+            kind: self.kind,
+            facts,
+        })
+    }
+
+    /// The table with a fact, where it is of the table's kind. What an int is at least has to be -1, 0 or 1.
+    pub fn with_fact(&self, alloc: Global, fact: &Fact) -> Result<FactTable, AllocError>
+        requires class { HasClass fact.now }
+        ensures table { IfOk result (λ table. IsTable (system_added (table_kind self.now) (facts_of self.now) fact.now) (facts_of table)) }
+        ensures kind { IfOk result (λ table. table_kind table ≡ table_kind self.now) }
+    {
+        let _number = int_of(fact);
+        let table = self.with_facts(alloc, &[*fact])?;
+        Ok(table)
+    }
+
+    /// The table with new facts in place of those that name a path that the operation may change.
+    pub fn renewed_target(
+        &self,
+        alloc: Global,
+        kind: &OpKind,
+        new: &[Fact],
+    ) -> Result<FactTable, AllocError>
+        requires classes { HaveClasses new.now }
+        ensures table { IfOk result (λ table. IsTable (without (of_target kind.now) (facts_of self.now) ++ of_kind (table_kind self.now) new.now) (facts_of table)) }
+        ensures kind { IfOk result (λ table. table_kind table ≡ table_kind self.now) }
+    {
+        let beside = self.without_target(alloc, kind)?;
+        let table = beside.with_facts(alloc, new)?;
+        Ok(table)
+    }
+
+    /// The table with new facts in place of those that name the path.
+    pub fn renewed_path(
+        &self,
+        alloc: Global,
+        path: &Path,
+        new: &[Fact],
+    ) -> Result<FactTable, AllocError>
+        requires classes { HaveClasses new.now }
+        ensures table { IfOk result (λ table. IsTable (without (of_path path.now) (facts_of self.now) ++ of_kind (table_kind self.now) new.now) (facts_of table)) }
+        ensures kind { IfOk result (λ table. table_kind table ≡ table_kind self.now) }
+    {
+        let beside = self.without_path(alloc, path)?;
+        let table = beside.with_facts(alloc, new)?;
+        Ok(table)
+    }
+
+    /// The table with each fact moved to the landmarks.
+    pub fn rounded(&self, alloc: Global, marks: &Landmarks) -> Result<FactTable, AllocError>
+        ensures table { IfOk result (λ table. IsTable (system_rounded marks.now.ints (facts_of self.now)) (facts_of table)) }
+        ensures kind { IfOk result (λ table. table_kind table ≡ table_kind self.now) }
+    {
+        let moved = rounded_facts(alloc, self.facts.as_slice(), marks.ints.as_slice())?;
+        let facts = sorted(alloc, self.kind, &moved)?;
+        Ok(FactTable {
+            kind: self.kind,
+            facts,
+        })
+    }
+
+    /// Whether the table says all that the other says. It takes no memory.
+    pub fn says_all(&self, other: &FactTable) -> bool
+        ensures below { IsTrue result ↔ SaysAll (facts_of self.now) (facts_of other.now) }
+    {
+        covers_all(self.facts.as_slice(), other.facts.as_slice())
+    }
+
+    /// The table of what both tables say.
+    pub fn common(&self, alloc: Global, other: &FactTable) -> Result<FactTable, AllocError>
+        ensures common { IfOk result (λ table. IsCommon (facts_of self.now) (facts_of other.now) (facts_of table)) }
+        ensures kind { IfOk result (λ table. table_kind table ≡ table_kind self.now) }
+    {
+        let facts = shared(alloc, self.facts.as_slice(), other.facts.as_slice())?;
+        Ok(FactTable {
+            kind: self.kind,
+            facts,
+        })
+    }
+}

@@ -1,0 +1,13 @@
+//! Ranges of ints and of lengths: a system of facts.
+//!
+//! What goes in: facts that are known, and an operation. What comes out: the ranges that are known after it.
+//! The contract: the answers of `System`, exactly, and the laws of `Lattice`.
+//! It stands on `ix_fact_table` for tables of facts, on `ix_new_facts` for what an operation gives.
+//! It never looks at the tables of other systems: what they know comes by `Know`.
+#![tactic(auto)]
+
+mod range_facts;
+mod system;
+mod tables;
+
+pub use range_facts::RangeFacts;
