@@ -80,7 +80,7 @@ methods_are t at (member.Method decl ∷ members) methods =
     makes_then (IsMethod t at decl) (Behind (AreMethods t at (member.Method decl ∷ members)) methods) (placed decl.name.span (program.written_method t at decl)) _
     (placed_makes (IsMethod t at decl) decl.name.span (program.written_method t at decl) (written_is t at decl))
     (λ method is. behind_one (AreMethods t at members) (AreMethods t at (member.Method decl ∷ members)) methods method (program.methods_in t at members (methods ++ method ∷ []))
-        (λ own are. (method, own, refl, is, are)) (methods_are t at members (methods ++ method ∷ [])))
+    (λ own are. (method, own, refl, is, are)) (methods_are t at members (methods ++ method ∷ [])))
 
 behind_all : (P Q R : List Method → Type 0) (methods first : List Method) (r : Result (List Method) Passed)
     → (own : List Method) → first ≡ methods ++ own → ((others : List Method) → Q others → R (own ++ others)) → Makes (Behind Q first) r → Makes (Behind R methods) r
@@ -95,25 +95,25 @@ all_methods_are t next (decl ∷ decls) methods =
     makes_then (Behind (AreMethods t at decl.members) methods) (Behind (AreAllMethods t next (decl ∷ decls)) methods) (program.methods_in t at decl.members methods) _
     (methods_are t at decl.members methods)
     (λ first b. behind_all (AreMethods t at decl.members) (AreAllMethods t (next_behind next decl) decls) (AreAllMethods t next (decl ∷ decls)) methods first
-        (program.methods_from t (next_behind next decl) decls first) b.0 b.1
-        (λ others are. (b.0, others, refl, b.2, are)) (all_methods_are t (next_behind next decl) decls first))
+    (program.methods_from t (next_behind next decl) decls first) b.0 b.1
+    (λ others are. (b.0, others, refl, b.2, are)) (all_methods_are t (next_behind next decl) decls first))
 
 defaults_rest : (t : Tables) (next : Next) (decl : ClassDecl) (decls : List ClassDecl) (methods : List Method)
     → ((later : List Method) → Makes (Behind (AreDefaults t (next_behind next decl) decls) later) (program.defaults_from t (next_behind next decl) decls later))
     → (b : Bool)
     → Makes (Behind (λ own. IfElse b (AreDefaults t (next_behind next decl) decls own)
-        (IsOneDefault (AreDefaults t (next_behind next decl) decls) t (home t next decl) decl.name.span own)) methods)
-      ((if b then Ok methods else (placed decl.name.span (program.default t (home t next decl) decl.name.span) >>= (λ method. Ok (methods ++ method ∷ [])))) >>= program.defaults_from t (next_behind next decl) decls)
+    (IsOneDefault (AreDefaults t (next_behind next decl) decls) t (home t next decl) decl.name.span own)) methods)
+    ((if b then Ok methods else (placed decl.name.span (program.default t (home t next decl) decl.name.span) >>= (λ method. Ok (methods ++ method ∷ [])))) >>= program.defaults_from t (next_behind next decl) decls)
 defaults_rest t next decl decls methods later true = later methods
 defaults_rest t next decl decls methods later false =
     let at = home t next decl in
     makes_then (λ (first : List Method). (method : Method) × (first ≡ methods ++ method ∷ []) × IsDefault t at decl.name.span method) (Behind _ methods)
     (placed decl.name.span (program.default t at decl.name.span) >>= (λ method. Ok (methods ++ method ∷ []))) _
     (makes_then (IsDefault t at decl.name.span) _ (placed decl.name.span (program.default t at decl.name.span)) _
-        (placed_makes (IsDefault t at decl.name.span) decl.name.span (program.default t at decl.name.span) (default_is t at decl.name.span)) (λ method is. (method, refl, is)))
+    (placed_makes (IsDefault t at decl.name.span) decl.name.span (program.default t at decl.name.span) (default_is t at decl.name.span)) (λ method is. (method, refl, is)))
     (λ first f. behind_all (λ own. Unit {0}) (AreDefaults t (next_behind next decl) decls) _ methods first
-        (program.defaults_from t (next_behind next decl) decls first) (f.0 ∷ []) f.1
-        (λ others are. (f.0, others, refl, f.2, are)) (later first))
+    (program.defaults_from t (next_behind next decl) decls first) (f.0 ∷ []) f.1
+    (λ others are. (f.0, others, refl, f.2, are)) (later first))
 
 defaults_are : (t : Tables) (next : Next) (decls : List ClassDecl) (methods : List Method) → Makes (Behind (AreDefaults t next decls) methods) (program.defaults_from t next decls methods)
 defaults_are t next [] methods = ([], sym (append-nil methods), refl)
@@ -123,8 +123,8 @@ pub methods_have : (t : Tables) (first : Next) (decls : List ClassDecl) → Make
 methods_have t first decls =
     makes_then (Behind (AreAllMethods t first decls) []) (HasMethods t first decls) (program.methods_from t first decls []) _ (all_methods_are t first decls [])
     (λ written w. makes_more (Behind (AreDefaults t first decls) written) (HasMethods t first decls)
-        (λ all d. record { written = w.0; default = d.0; same = d.1 ∙ ap (λ l. l ++ d.0) w.1; are_written = w.2; are_default = d.2 })
-        (program.defaults_from t first decls written) (defaults_are t first decls written))
+    (λ all d. record { written = w.0; default = d.0; same = d.1 ∙ ap (λ l. l ++ d.0) w.1; are_written = w.2; are_default = d.2 })
+    (program.defaults_from t first decls written) (defaults_are t first decls written))
 
 -- ---- the program
 
@@ -133,8 +133,8 @@ pub program_has : (names : Names) (decls : List ClassDecl) (p : Program) → pro
     × (p.classes ≡ classes_from [] (first_numbers decls) (tables names decls).world.parent decls) × (p.fields ≡ fields_from names [] 0 decls)
 program_has names decls p e =
     made_is (λ (p : Program). HasMethods (tables names decls) (first_numbers decls) decls p.methods
-        × (p.classes ≡ classes_from [] (first_numbers decls) (tables names decls).world.parent decls) × (p.fields ≡ fields_from names [] 0 decls))
+    × (p.classes ≡ classes_from [] (first_numbers decls) (tables names decls).world.parent decls) × (p.fields ≡ fields_from names [] 0 decls))
     (program.program names decls) p
     (makes_then (HasMethods (tables names decls) (first_numbers decls) decls) _ (program.all_methods (tables names decls) (first_numbers decls) decls) _
-        (methods_have (tables names decls) (first_numbers decls) decls) (λ methods h. (h, refl, refl)))
+    (methods_have (tables names decls) (first_numbers decls) decls) (λ methods h. (h, refl, refl)))
     e

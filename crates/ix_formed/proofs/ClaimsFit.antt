@@ -203,7 +203,7 @@ plan_of_is (AtLeast least) args = ((refl, tt), tt)
 plan_of_is Between args =
     whenever_map (IsFirst Between) (IsPlan Between) one_claim (range_of args) (λ c h. ((h, tt), tt))
     (whenever_then (IsFirst Between) (λ low. option_and_then (range low) (int_or greatest_int (argument (codes "to") args))) (int_or least_int (argument (codes "from") args))
-        (λ low. whenever_then (IsFirst Between) (range low) (int_or greatest_int (argument (codes "to") args)) (λ high. range_is low high)))
+    (λ low. whenever_then (IsFirst Between) (range low) (int_or greatest_int (argument (codes "to") args)) (λ high. range_is low high)))
 plan_of_is LengthAtLeast args =
     whenever_map (IsFirst LengthAtLeast) (IsPlan LengthAtLeast) one_claim (length_of args) (λ c h. ((h, tt), tt))
     (whenever_then (IsFirst LengthAtLeast) length_from (int_or (pos 0) (argument (codes "value") args)) (λ least. length_is least))
@@ -285,10 +285,10 @@ module _ (names : Names) (ty : Type_) (types : Name → Option Type_) (knows : K
       (λ free. upper_fits (int refl) (named names holds.Array is.0) (offset_named names is.1) (knows.arrays is.0 (free_parts (may_change (names.found is.0)) (offset_may_change names is.1) free).0) (offset_is is.1 (free_parts (may_change (names.found is.0)) (offset_may_change names is.1) free).1)) free
   claim_of_fits Int Bounds row int array w is free = subst (λ w. Free (names_inherited names w) → Whenever Fits (claim_of names w)) (sym is.2)
       (λ free. whenever_map (λ name. is_int_of (types name) ≡ true) Fits (λ name. claim.Less name is.1) (named names holds.Int is.0)
-          (λ name h. both_true (is_int_type ty) (is_int_of (types name)) (int refl) h) (knows.ints is.0 free)) free
+      (λ name h. both_true (is_int_type ty) (is_int_of (types name)) (int refl) h) (knows.ints is.0 free)) free
   claim_of_fits Array (Arrays None SameLength) row int array w is free = subst (λ w. Free (names_inherited names w) → Whenever Fits (claim_of names w)) (sym is.1)
       (λ free. whenever_map (λ name. is_array_of (types name) ≡ true) Fits (array_claim SameLength) (named names holds.Array is.0)
-          (λ name h. both_true (is_array_type ty) (is_array_of (types name)) (array refl) h) (knows.arrays is.0 free)) free
+      (λ name h. both_true (is_array_type ty) (is_array_of (types name)) (array refl) h) (knows.arrays is.0 free)) free
   claim_of_fits Int (Arrays least SameLength) row int array w is free = absurd row
   claim_of_fits Array (Arrays (Some least) each) row int array w is free = absurd row
   claim_of_fits Array (Arrays None (Below c)) row int array w is free = absurd row
@@ -448,9 +448,11 @@ with_plan_elements names targets says row e (Some p) is =
         either : (b : Bool) → AllOf (λ c. is_element_claim c ≡ true) (claims_from (if b then Err InheritedName else Ok (record { list = p.first ++ claims; effect_free = p.effect_free })))
         either true = tt
         either false = all_joined (λ c. is_element_claim c ≡ true) p.first claims first all
+
     none_written : (ws : List Written) → AllOf (λ w. ⊥) ws → Whenever (AllOf (λ c. is_element_claim c ≡ true)) (claims_of names ws)
     none_written [] all = tt
     none_written (w ∷ ws) all = absurd all.0
+
     by_row : (targets : Targets) (says : Says) → FitsSays targets says → IsPlan says p
         → AllOf (λ c. is_element_claim c ≡ true) (claims_from (if fits targets on.Element then with_claims names p (claims_of names p.written) else Err WrongTarget))
     by_row IntOrElement (AtLeast least) row is = inherited (claims_of names p.written) true is.0 (none_written p.written is.1)
@@ -490,6 +492,7 @@ with_row_other names annot (Some row) e = planned (plan row.1 annot.args)
     never_fits Array = refl
     never_fits Callable = refl
     never_fits Method = refl
+
     planned : (p : Option Plan) → claims_from (with_plan names row.0 p) ≡ []
     planned None = refl
     planned (Some p) =

@@ -51,6 +51,7 @@ first_below name found k (decl ∷ decls) class below e =
     named_below : (b : Bool) (n : ℕ) → (if b then Some k else None) ≡ Some n → n < k + 1
     named_below true n f = let same : k ≡ n = cc in omega (arith, same)
     named_below false n f = absurd cc
+
     one_below : (found : Option ℕ) (b : Bool) → ((n : ℕ) → found ≡ Some n → n < k) → (n : ℕ) → first_or found name decl.name.text k ≡ Some n → n < k + 1
     one_below (Some m) b below n f = let lt = below n f in omega (arith, lt)
     one_below None b below n f = named_below (bytes_eq decl.name.text name) n f
@@ -100,7 +101,7 @@ few_from ps c [] none k lt = absurd (omega (arith, lt))
 few_from ps c (decl ∷ decls) none k lt = by_test (nat_lt most_inherited (1 + length (supers ps c)))
     (λ t. let some = sym (ap (λ b. if b then Some (Rattle.ix_meaning.specs.Limits.passed Rattle.ix_meaning.specs.declared.note.Which.TheVariants.Inheritance decl.name) else past_inheritance ps (c + 1) decls) t) ∙ none in absurd cc)
     (λ f. here_or_later k lt f (sym (ap (λ b. if b then Some (Rattle.ix_meaning.specs.Limits.passed Rattle.ix_meaning.specs.declared.note.Which.TheVariants.Inheritance decl.name) else past_inheritance ps (c + 1) decls) f) ∙ none)
-        (λ rest j below. few_from ps (c + 1) decls rest j below))
+    (λ rest j below. few_from ps (c + 1) decls rest j below))
   where
     here_or_later : (k : ℕ) → k < length (decl ∷ decls) → nat_lt most_inherited (1 + length (supers ps c)) ≡ false → past_inheritance ps (c + 1) decls ≡ None
         → (past_inheritance ps (c + 1) decls ≡ None → (j : ℕ) → j < length decls → 1 + length (supers ps ((c + 1) + j)) ≤ 32) → 1 + length (supers ps (c + k)) ≤ 32
@@ -131,12 +132,12 @@ parents_same names decls p is_small e class =
     let zero : 0 + class ≡ class = omega arith in
     by_test (nat_lt class (length decls))
     (λ t. let lt : class < length decls = grind (arith, nat_tests) in
-        ap (λ (l : List Class). (unwrap_or (slice_get l class) no_class).parent) classes ∙ class_found first w.parent decls class is lt ∙ ap w.parent zero)
+    ap (λ (l : List Class). (unwrap_or (slice_get l class) no_class).parent) classes ∙ class_found first w.parent decls class is lt ∙ ap w.parent zero)
     (λ f. let le : length decls ≤ class = grind (arith, nat_tests) in
-        let long = ap (λ (l : List Class). length l) classes ∙ classes_length first w.parent decls in
-        let past = parents_length (class_named decls) decls in
-        ap (λ (o : Option Class). (unwrap_or o no_class).parent) (slice_get_past p.classes class (omega (arith, le, long)))
-        ∙ sym (ap parent_in (slice_get_past (parents decls) class (omega (arith, le, past)))))
+    let long = ap (λ (l : List Class). length l) classes ∙ classes_length first w.parent decls in
+    let past = parents_length (class_named decls) decls in
+    ap (λ (o : Option Class). (unwrap_or o no_class).parent) (slice_get_past p.classes class (omega (arith, le, long)))
+    ∙ sym (ap parent_in (slice_get_past (parents decls) class (omega (arith, le, past)))))
 
 abbrev pub HasWay : Program → ℕ → Class → Type 0
 HasWay p number class = (parent_fits p class.parent && ends_within p most_on_way (Some number)) ≡ true
@@ -149,10 +150,11 @@ ways_from : (p : Program) (parent : ℕ → Option ℕ) (total : ℕ) → ((clas
     → next.class + length decls ≡ total → AllNumbered (HasWay p) next.class (classes_of next parent decls)
 ways_from p parent total ways next [] is count = tt
 ways_from p parent total ways next (decl ∷ decls) is count =
-    let up = (goes next decl decls is).class in
-    (ways next.class (omega (arith, count)),
+    let up = (goes next decl decls is).class in (
+      ways next.class (omega (arith, count)),
       subst (λ n. AllNumbered (HasWay p) n (classes_of (next_behind next decl) parent decls)) up
-      (ways_from p parent total ways (next_behind next decl) decls (goes_on next decl decls is) (omega (arith, count, up))))
+          (ways_from p parent total ways (next_behind next decl) decls (goes_on next decl decls is) (omega (arith, count, up))),
+    )
 
 -- Each class's parent is there, and its way up ends within the limit.
 pub classes_have_ways : (names : Names) (unit : Source) (p : Program) → Accepts unit → members_in unit.classes + 1 < 2 ^ 32 → program.program names unit.classes ≡ Ok p
@@ -172,8 +174,8 @@ classes_have_ways names unit p accepts few e =
     let total : first.class + length decls ≡ length decls = omega arith in
     subst (AllNumbered (HasWay p) 0) (sym classes)
     (ways_from p w.parent (length decls)
-        (λ class lt. both_true (parent_fits p (w.parent class)) (ends_within p most_on_way (Some class))
-            (parent_is_there p (w.parent class) (λ above f. let b = parent_within decls class above f in omega (arith, b, long)))
-            (way_ends ps (λ c below. acyclic unit accepts c (omega (arith, below, all))) (λ c above f. let b = parent_within decls c above f in omega (arith, b, all))
-                p same most_on_way class (omega (arith, lt, all)) (few_supers unit accepts class lt)))
-        first decls is total)
+    (λ class lt. both_true (parent_fits p (w.parent class)) (ends_within p most_on_way (Some class))
+    (parent_is_there p (w.parent class) (λ above f. let b = parent_within decls class above f in omega (arith, b, long)))
+    (way_ends ps (λ c below. acyclic unit accepts c (omega (arith, below, all))) (λ c above f. let b = parent_within decls c above f in omega (arith, b, all))
+    p same most_on_way class (omega (arith, lt, all)) (few_supers unit accepts class lt)))
+    first decls is total)

@@ -41,8 +41,8 @@ has_lower k e [] low any = absurd (false≢true any)
 has_lower k e (other ∷ all) low any =
     by_test (comes_before e other)
     (λ t. by_test (same_span other.span e.span)
-        (λ s. let lt : nat_lt (rank other.rule) (rank e.rule) ≡ true = sym (ap (λ b. b && nat_lt (rank other.rule) (rank e.rule)) s) ∙ t in let le = low.0 in grind (arith, nat_tests))
-        (λ s. absurd (false≢true (sym (ap (λ b. b && nat_lt (rank other.rule) (rank e.rule)) s) ∙ t))))
+    (λ s. let lt : nat_lt (rank other.rule) (rank e.rule) ≡ true = sym (ap (λ b. b && nat_lt (rank other.rule) (rank e.rule)) s) ∙ t in let le = low.0 in grind (arith, nat_tests))
+    (λ s. absurd (false≢true (sym (ap (λ b. b && nat_lt (rank other.rule) (rank e.rule)) s) ∙ t))))
     (λ f. has_lower k e all low.1 (sym (ap (λ b. b || list_any (comes_before e) all) f) ∙ any))
 
 raised : (k : ℕ) (all es : List NameError) → AllOf (λ (other : NameError). k ≤ rank other.rule) all → AllOf (λ (e : NameError). list_any (comes_before e) all ≡ true) es

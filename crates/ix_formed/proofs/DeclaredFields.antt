@@ -58,6 +58,7 @@ module _ (names : Names) (parts : List Part) where
       initialised : (o : _) → maybe_true is_written_init o ≡ true → Whenever (λ n. is_int n ≡ true) (option_and_then literal o)
       initialised None w = tt
       initialised (Some i) w = literal_is_int i w
+
       final_or_not : (b : Bool) → maybe_true is_written_init d.init ≡ true → Whenever (λ n. is_int n ≡ true) (if b then option_and_then literal d.init else None)
       final_or_not true w = initialised d.init w
       final_or_not false w = tt
@@ -83,7 +84,7 @@ module _ (names : Names) (parts : List Part) where
     where
       written_notes : (b : Bool) → Says (if b then Rattle.ix_meaning.specs.Annotated.static_field l.world.class d.mods.annots d.ty
           else Rattle.ix_meaning.specs.Annotated.variable l.world.class (Rattle.ix_meaning.specs.Scope.annot_names (source.member_scope l true)
-            (Some (Rattle.ix_core.specs.declared.claim.Name.TheVariants.FieldNamed (source.field_number (members.field_of l.world.class c next d).meaning))) None) d.mods.annots d.ty).notes → Says (written l.world.class d.ty []).notes
+          (Some (Rattle.ix_core.specs.declared.claim.Name.TheVariants.FieldNamed (source.field_number (members.field_of l.world.class c next d).meaning))) None) d.mods.annots d.ty).notes → Says (written l.world.class d.ty []).notes
       written_notes true said = (said_parts (Agrees names parts) (written l.world.class d.ty []).notes _ said).0
       written_notes false said = (said_parts (Agrees names parts) (written l.world.class d.ty []).notes _ said).0
 
@@ -114,6 +115,7 @@ module _ (names : Names) (parts : List Part) where
         is_some_constant : (o : Option ℤ) → not (is_some (option_map (λ n. Constant n) o)) ≡ false → is_some (option_map (λ n. Constant n) o) ≡ true
         is_some_constant None e = absurd (false≢true (sym e))
         is_some_constant (Some n) e = refl
+
         by_constant : (o : Option ℤ) → Whenever (λ n. is_int n ≡ true) o → is_some (option_map (λ n. Constant n) o) ≡ true → MeansField (members.field_of l.world.class c next d) (option_map (λ n. Constant n) o)
         by_constant None int some = absurd (false≢true some)
         by_constant (Some n) int some = (int, field_has_type l c next d said, static)
@@ -126,7 +128,7 @@ module _ (names : Names) (parts : List Part) where
         let typed = field_has_type l c next d said in
         let table = field_typed l f d typed.0 typed.1 said in
         let here : field_at p next ≡ field_of names c d =
-            ap (λ n. unwrap_or (slice_get p.fields n) no_field) (sym count) ∙ ap (λ (l : List Field). unwrap_or (slice_get l (length before)) no_field) e ∙ ap (λ (o : Option Field). unwrap_or o no_field) (get_behind before (field_of names c d) later) in
+        ap (λ n. unwrap_or (slice_get p.fields n) no_field) (sym count) ∙ ap (λ (l : List Field). unwrap_or (slice_get l (length before)) no_field) e ∙ ap (λ (o : Option Field). unwrap_or o no_field) (get_behind before (field_of names c d) later) in
         let long = ap (λ (l : List Field). length l) e in
         let more = length-append before (field_of names c d ∷ later) in
         let ty : (field_at p next).ty ≡ typed.0 = ap (λ (x : Field). x.ty) here ∙ ap declared_type table in
@@ -143,19 +145,21 @@ module _ (names : Names) (parts : List Part) where
         let own : Says (source.field_notes l (members.field_of l.world.class c next d) d) = subst (λ n. Says (source.field_notes l (members.field_of l.world.class n next d) d)) class said.1 in
         by_test d.mods.is_static
         (λ t.
-            let none : own_field names c d ≡ [] = ap (λ b. if b then [] else field_of names c d ∷ []) t in
-            let stays : members.next_field next d ≡ next = ap (λ b. if b then next else next + 1) t in
-            (static_field_is l c next d parts_w.0 t own,
-              fields_in_class l named (i + 1) c (members.next_field next d) ms before later class
-              (e ∙ ap (λ (x : List Field). before ++ ((x ++ fields_of_class names c ms) ++ later)) none) (count ∙ sym stays) said.2 parts_w.1))
+        let none : own_field names c d ≡ [] = ap (λ b. if b then [] else field_of names c d ∷ []) t in
+        let stays : members.next_field next d ≡ next = ap (λ b. if b then next else next + 1) t in (
+          static_field_is l c next d parts_w.0 t own,
+          fields_in_class l named (i + 1) c (members.next_field next d) ms before later class
+              (e ∙ ap (λ (x : List Field). before ++ ((x ++ fields_of_class names c ms) ++ later)) none) (count ∙ sym stays) said.2 parts_w.1,
+        ))
         (λ f.
-            let one : own_field names c d ≡ field_of names c d ∷ [] = ap (λ b. if b then [] else field_of names c d ∷ []) f in
-            let up : members.next_field next d ≡ next + 1 = ap (λ b. if b then next else next + 1) f in
-            let all : p.fields ≡ before ++ field_of names c d ∷ (fields_of_class names c ms ++ later) = e ∙ ap (λ (x : List Field). before ++ ((x ++ fields_of_class names c ms) ++ later)) one in
-            (instance_field_is l c next d before (fields_of_class names c ms ++ later) class f all count own,
-              fields_in_class l named (i + 1) c (members.next_field next d) ms (before ++ field_of names c d ∷ []) later class
+        let one : own_field names c d ≡ field_of names c d ∷ [] = ap (λ b. if b then [] else field_of names c d ∷ []) f in
+        let up : members.next_field next d ≡ next + 1 = ap (λ b. if b then next else next + 1) f in
+        let all : p.fields ≡ before ++ field_of names c d ∷ (fields_of_class names c ms ++ later) = e ∙ ap (λ (x : List Field). before ++ ((x ++ fields_of_class names c ms) ++ later)) one in (
+          instance_field_is l c next d before (fields_of_class names c ms ++ later) class f all count own,
+          fields_in_class l named (i + 1) c (members.next_field next d) ms (before ++ field_of names c d ∷ []) later class
               (all ∙ sym (append_assoc before (field_of names c d ∷ []) (fields_of_class names c ms ++ later)))
-              (let a = length-append before (field_of names c d ∷ []) in omega (arith, a, count, up)) said.2 parts_w.1))
+              (let a = length-append before (field_of names c d ∷ []) in omega (arith, a, count, up)) said.2 parts_w.1,
+        ))
 
     -- the number of the next field is that of those before
     next_counts : (next : ℕ) (c : ℕ) (ms : List Member) → members.next_fields next ms ≡ next + length (fields_of_class names c ms)
@@ -164,13 +168,13 @@ module _ (names : Names) (parts : List Part) where
     next_counts next c (member.Field d ∷ ms) =
         by_test d.mods.is_static
         (λ t. let none : own_field names c d ≡ [] = ap (λ b. if b then [] else field_of names c d ∷ []) t in
-            let stays : members.next_field next d ≡ next = ap (λ b. if b then next else next + 1) t in
-            let rest = next_counts (members.next_field next d) c ms in
-            let l = ap (λ (x : List Field). length (x ++ fields_of_class names c ms)) none in omega (arith, rest, stays, l))
+        let stays : members.next_field next d ≡ next = ap (λ b. if b then next else next + 1) t in
+        let rest = next_counts (members.next_field next d) c ms in
+        let l = ap (λ (x : List Field). length (x ++ fields_of_class names c ms)) none in omega (arith, rest, stays, l))
         (λ f. let one : own_field names c d ≡ field_of names c d ∷ [] = ap (λ b. if b then [] else field_of names c d ∷ []) f in
-            let up : members.next_field next d ≡ next + 1 = ap (λ b. if b then next else next + 1) f in
-            let rest = next_counts (members.next_field next d) c ms in
-            let l = ap (λ (x : List Field). length (x ++ fields_of_class names c ms)) one in omega (arith, rest, up, l))
+        let up : members.next_field next d ≡ next + 1 = ap (λ b. if b then next else next + 1) f in
+        let rest = next_counts (members.next_field next d) c ms in
+        let l = ap (λ (x : List Field). length (x ++ fields_of_class names c ms)) one in omega (arith, rest, up, l))
 
     fields_from_is : (w : World) (ps : List (Option ℕ)) (ss : List Signature) (c next : ℕ) (ks : List ClassDecl) (before : List Field) → p.fields ≡ before ++ fields_of names c ks → length before ≡ next
         → ClassesSay (Agrees names parts) w ps ss c next ks → each_true (λ (k : ClassDecl). each_true is_written_member k.members) ks ≡ true → AllOf IsField (members.fields_from w.class c next ks)
@@ -181,7 +185,7 @@ module _ (names : Names) (parts : List Part) where
         all_joined IsField (members.fields_in w.class c next k.members) (members.fields_from w.class (c + 1) (members.next_fields next k.members) ks)
         (fields_in_class (place w ss c k) (source.member_named k.members) 0 c next k.members before (fields_of names (c + 1) ks) refl e count said.0.members parts_w.0)
         (fields_from_is w ps ss (c + 1) (members.next_fields next k.members) ks (before ++ own) (e ∙ sym (append_assoc before own (fields_of names (c + 1) ks)))
-            (let a = length-append before own in let b = next_counts next c k.members in omega (arith, a, b, count)) said.1 parts_w.1)
+        (let a = length-append before own in let b = next_counts next c k.members in omega (arith, a, b, count)) said.1 parts_w.1)
 
     -- Each field of the source is the program's field of its number, or a constant.
     pub all_fields_are : (decls : List ClassDecl) → p.fields ≡ fields_of names 0 decls → ClassesSay (Agrees names parts) (members.world decls) (Rattle.ix_meaning.specs.Classes.parents decls) (members.methods decls) 0 0 decls

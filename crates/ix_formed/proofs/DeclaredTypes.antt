@@ -65,17 +65,17 @@ module _ (p : Program) where
       by_test (depth == 0)
       (λ t. ap (λ b. is_type p (if b then type.Plain base.Int else type.Array base.Int depth claims)) t)
       (λ f. let lt : nat_lt 0 depth ≡ true = grind (arith, nat_tests) in
-          ap (λ b. is_type p (if b then type.Plain base.Int else type.Array base.Int depth claims)) f
-          ∙ both_true (nat_lt 0 depth) (list_all is_element_claim claims) lt (all_true is_element_claim claims all))
+      ap (λ b. is_type p (if b then type.Plain base.Int else type.Array base.Int depth claims)) f
+      ∙ both_true (nat_lt 0 depth) (list_all is_element_claim claims) lt (all_true is_element_claim claims all))
 
   shaped_other : (of : Base) (depth : ℕ) → is_base p of ≡ true → is_int_type (type.Plain of) ≡ false → is_type p (shaped of depth []) ≡ true
   shaped_other of depth there other =
       by_test (depth == 0)
       (λ t. ap (λ b. is_type p (if b then type.Plain of else type.Array of depth [])) t ∙ there)
       (λ f. let lt : nat_lt 0 depth ≡ true = grind (arith, nat_tests) in
-          ap (λ b. is_type p (if b then type.Plain of else type.Array of depth [])) f
-          ∙ both_true (is_base p of) (nat_lt 0 depth && (if is_int_type (type.Plain of) then list_all is_element_claim [] else is_empty [])) there
-          (both_true (nat_lt 0 depth) (if is_int_type (type.Plain of) then list_all is_element_claim [] else is_empty []) lt (ap (λ b. if b then list_all is_element_claim [] else is_empty []) other)))
+      ap (λ b. is_type p (if b then type.Plain of else type.Array of depth [])) f
+      ∙ both_true (is_base p of) (nat_lt 0 depth && (if is_int_type (type.Plain of) then list_all is_element_claim [] else is_empty [])) there
+      (both_true (nat_lt 0 depth) (if is_int_type (type.Plain of) then list_all is_element_claim [] else is_empty []) lt (ap (λ b. if b then list_all is_element_claim [] else is_empty []) other)))
 
   class_type_is : (class : List ℕ → Option ℕ) → NamesClasses p class → (name : List ℕ) (o : Option ℕ) → class name ≡ o → (depth : ℕ) (ty : Type_) (span : _)
       → (class_use o depth [] span).ty ≡ Some ty → is_type p ty ≡ true
@@ -104,6 +104,7 @@ element_claims_fit ty annots = by_base ty.base
     by_depth : (b : Bool) → AllOf (λ c. is_element_claim c ≡ true) (element_claims (if b then on.Int else on.Element) annots)
     by_depth true = tt
     by_depth false = distinct_so (λ c. is_element_claim c ≡ true) (given (names_nothing on.Element) annots).claims (given_elements (names_nothing on.Element) annots refl)
+
     by_base : (of : BaseTree) → ElementsFit of (element_claims (if is_int_tree of then (if ty.depth == 0 then on.Int else on.Element) else on.Other) annots)
     by_base tree.Int = by_depth (ty.depth == 0)
     by_base tree.Boolean = refl
@@ -124,6 +125,7 @@ int_is class ty claims t e is = by_base ty.base e is
     by_depth : (b : Bool) → b ≡ (ty.depth == 0) → ◌≡◌ {A = Target} (if b then on.Int else on.Element) on.Int → shaped base.Int ty.depth claims ≡ t → is_int_type t ≡ true
     by_depth true d e same = subst (λ t. is_int_type t ≡ true) same (ap (λ b. is_int_type (if b then type.Plain base.Int else type.Array base.Int ty.depth claims)) (sym d))
     by_depth false d e same = absurd cc
+
     by_base : (of : BaseTree) → ◌≡◌ {A = Target} (if is_int_tree of then (if ty.depth == 0 then on.Int else on.Element) else on.Other) on.Int → (based class of ty.depth claims).ty ≡ Some t → is_int_type t ≡ true
     by_base tree.Int e is = let same : shaped base.Int ty.depth claims ≡ t = cc in by_depth (ty.depth == 0) refl e same
     by_base tree.Boolean e is = absurd cc
@@ -136,9 +138,11 @@ array_is class ty claims t lt is = by_base ty.base is
     shape of =
         let f : (ty.depth == 0) ≡ false = grind (arith, nat_tests) in
         ap (λ b. is_array_type (if b then type.Plain of else type.Array of ty.depth claims)) f
+
     by_class : (o : Option ℕ) (span : _) → (class_use o ty.depth claims span).ty ≡ Some t → is_array_type t ≡ true
     by_class None span is = absurd cc
     by_class (Some number) span is = let same : shaped (base.Class number) ty.depth claims ≡ t = cc in subst (λ t. is_array_type t ≡ true) same (shape (base.Class number))
+
     by_base : (of : BaseTree) → (based class of ty.depth claims).ty ≡ Some t → is_array_type t ≡ true
     by_base tree.Int is = let same : shaped base.Int ty.depth claims ≡ t = cc in subst (λ t. is_array_type t ≡ true) same (shape base.Int)
     by_base tree.Boolean is = let same : shaped base.Bool ty.depth claims ≡ t = cc in subst (λ t. is_array_type t ≡ true) same (shape base.Bool)
@@ -154,7 +158,7 @@ variable_fits class names annots ty types is_written knows t e =
     distinct_so (λ c. claim_fits t types c ≡ true)
     (unless (is_element (target_before ty)) (given (aimed names (target_before ty)) annots).claims ++ (given (aimed names on.Array) ty.annots).claims)
     (all_joined (λ c. claim_fits t types c ≡ true) (unless (is_element (target_before ty)) (given (aimed names (target_before ty)) annots).claims) (given (aimed names on.Array) ty.annots).claims
-        (before (target_before ty) refl) behind)
+    (before (target_before ty) refl) behind)
   where
     before : (first : Target) → target_before ty ≡ first → Fit t types (unless (is_element first) (given (aimed names first) annots).claims)
     before on.Element same = tt
@@ -167,12 +171,15 @@ variable_fits class names annots ty types is_written knows t e =
         never_depth : (b : Bool) → ◌≡◌ {A = Target} (if b then on.Int else on.Element) on.Array → ⊥
         never_depth true e = absurd cc
         never_depth false e = absurd cc
+
         never : (of : BaseTree) → ◌≡◌ {A = Target} (if is_int_tree of then (if ty.depth == 0 then on.Int else on.Element) else on.Other) on.Array → ⊥
         never tree.Int e = never_depth (ty.depth == 0) e
         never tree.Boolean e = absurd cc
         never (tree.Named name) e = absurd cc
+
     empty_or_not : (marks : List Annot) → (trees.is_empty marks || nat_lt 0 ty.depth) ≡ true → Fit t types (given (aimed names on.Array) marks).claims
     empty_or_not [] w = tt
     empty_or_not (annot ∷ marks) w = given_fit (aimed names on.Array) t types (knows_aimed names on.Array types knows) (array_is class ty (element_claims (target_before ty) annots) t w e) (annot ∷ marks)
+
     behind : Fit t types (given (aimed names on.Array) ty.annots).claims
     behind = empty_or_not ty.annots is_written

@@ -58,6 +58,7 @@ module _ (So : Note → Type 0) where
         by_class : (o : Option ℕ) (span : Span) → Say So (class_use o ty.depth [] span).notes → (t : Type_) × ((class_use o ty.depth claims span).ty ≡ Some t)
         by_class None span said = absurd (no_error _ said.0)
         by_class (Some c) span said = (_, refl)
+
         by_base : (of : BaseTree) → Say So (based class of ty.depth []).notes → (t : Type_) × ((based class of ty.depth claims).ty ≡ Some t)
         by_base tree.Int said = (_, refl)
         by_base tree.Boolean said = (_, refl)

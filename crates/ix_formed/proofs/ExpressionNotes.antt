@@ -124,7 +124,7 @@ module _ (note : Note → ℕ) (part : Part → ℕ) (weighed : IsWeighed note p
   created_weighs : (s : Scope) (ty : TypeTree) → notes_weigh (values.created s ty).notes ≤ parts_weigh (type_parts ty)
   created_weighs s ty =
       let a = both_notes (written s.world.class ty []).notes (given (names_nothing (values.created_target ty)) ty.annots).notes (parts_weigh (type_parts ty)) 0
-          (written_weighs s.world.class ty []) (given_weigh (names_nothing (values.created_target ty)) ty.annots) in omega (arith, a)
+      (written_weighs s.world.class ty []) (given_weigh (names_nothing (values.created_target ty)) ty.annots) in omega (arith, a)
 
   -- ---- expressions
 
@@ -173,7 +173,7 @@ module _ (note : Note → ℕ) (part : Part → ℕ) (weighed : IsWeighed note p
   field_use_weighs : (s : Scope) (assigned through_this : Bool) (name : Ident) (f : Field) → notes_weigh (values.field_use s assigned through_this name.span f) ≤ part (elsewhere name)
   field_use_weighs s assigned through_this name f =
       let a = both_notes (rules.use_of f.meaning name.span) (rules.final_assigned s.in_constructor s.class assigned through_this f name.span) (part (elsewhere name)) 0
-          (use_weighs f.meaning name) (broken_weighs _ rule.FinalAssigned name.span) in omega (arith, a)
+      (use_weighs f.meaning name) (broken_weighs _ rule.FinalAssigned name.span) in omega (arith, a)
 
   bare_weighs : (s : Scope) (assigned : Bool) (name : Ident) (f : Option Field) → notes_weigh (values.bare_field s assigned name.span f).notes ≤ part (elsewhere name)
   bare_weighs s assigned name None = let e = wrong_weighs rule.UnknownName name.span in omega (arith, e)
@@ -197,6 +197,7 @@ module _ (note : Note → ℕ) (part : Part → ℕ) (weighed : IsWeighed note p
       class_or_weighs : (c : Option ℕ) → notes_weigh (values.class_or s name span c).notes ≤ part (expression span) + part (elsewhere name)
       class_or_weighs (Some c) = let e = weighed.used name (ClassNamed c) in omega (arith, e)
       class_or_weighs None = as_object_weighs (values.variable s false name) span (part (elsewhere name)) (variable_weighs s false name)
+
       variable_or_not : (b : Bool) → notes_weigh (if b then as_object (values.variable s false name) span else values.class_or s name span (s.world.class name.text)).notes ≤ part (expression span) + part (elsewhere name)
       variable_or_not true = as_object_weighs (values.variable s false name) span (part (elsewhere name)) (variable_weighs s false name)
       variable_or_not false = class_or_weighs (s.world.class name.text)
@@ -307,6 +308,7 @@ module _ (note : Note → ℕ) (part : Part → ℕ) (weighed : IsWeighed note p
       no_array_weighs : (ty : Option Type_) → notes_weigh (values.no_array ty array.span) ≤ 0
       no_array_weighs None = omega arith
       no_array_weighs (Some ty) = broken_weighs (not (is_some (element ty))) rule.TypeMismatch array.span
+
       null_or_not : (b : Bool) → notes_weigh (if b then judged None (wrong rule.TypeMismatch array.span) else judged (element_in (array.judge s).ty) ((array.judge s).notes ++ values.no_array (array.judge s).ty array.span)).notes ≤ n
       null_or_not true = let e = wrong_weighs rule.TypeMismatch array.span in omega (arith, e)
       null_or_not false = let e = both_notes (array.judge s).notes (values.no_array (array.judge s).ty array.span) n 0 (a.judge s) (no_array_weighs (array.judge s).ty) in omega (arith, e)
@@ -323,11 +325,12 @@ module _ (note : Note → ℕ) (part : Part → ℕ) (weighed : IsWeighed note p
       null_weighs r k w need =
           let a = both_notes (rules.null_mismatch need r.span) (type_note (values.null_type need) r.span) 0 (part (expression r.span)) (null_mismatch_weighs need r.span) (type_weighs (values.null_type need) r.span) in
           let h = w.here in omega (arith, a, h)
+
       by_nulls : (p q : Bool) → notes_weigh
           ((if p then judged None [] else a.judge s).notes ++ ((if q then judged None [] else b.judge s).notes
           ++ (if p then (if q then wrong rule.TypeMismatch a.span ++ wrong rule.TypeMismatch b.span else (null_at (need_like (if q then judged None [] else b.judge s).ty) a.span).notes)
-            else (if q then (null_at (need_like (if p then judged None [] else a.judge s).ty) b.span).notes
-              else rules.cannot_compare s.world (if p then judged None [] else a.judge s).ty (if q then judged None [] else b.judge s).ty span)))) ≤ n + m
+          else (if q then (null_at (need_like (if p then judged None [] else a.judge s).ty) b.span).notes
+          else rules.cannot_compare s.world (if p then judged None [] else a.judge s).ty (if q then judged None [] else b.judge s).ty span)))) ≤ n + m
       by_nulls true true = let u = both_notes (wrong rule.TypeMismatch a.span) (wrong rule.TypeMismatch b.span) 0 0 (wrong_weighs rule.TypeMismatch a.span) (wrong_weighs rule.TypeMismatch b.span) in omega (arith, u)
       by_nulls true false = let u = both_notes (b.judge s).notes (null_at (need_like (b.judge s).ty) a.span).notes m n (y.judge s) (null_weighs a n x (need_like (b.judge s).ty)) in omega (arith, u)
       by_nulls false true = both_notes (a.judge s).notes (null_at (need_like (a.judge s).ty) b.span).notes n m (x.judge s) (null_weighs b m y (need_like (a.judge s).ty))
@@ -358,7 +361,7 @@ module _ (note : Note → ℕ) (part : Part → ℕ) (weighed : IsWeighed note p
   counted_weighs : (target : Reading) (n : ℕ) → Weighs target n → (s : Scope) → notes_weigh (values.counted_target target s).notes ≤ n
   counted_weighs target n a s =
       let e = both_notes (target.assigned s).notes (rules.type_mismatch s.world (of int) (target.assigned s).ty target.span) n 0 (a.assigned s)
-          (mismatch_weighs s.world (of int) (target.assigned s).ty target.span) in omega (arith, e)
+      (mismatch_weighs s.world (of int) (target.assigned s).ty target.span) in omega (arith, e)
 
   computed_weighs : (target source : Reading) (n m : ℕ) → Weighs target n → Weighs source m → (s : Scope) → notes_weigh (values.computed target source s).notes ≤ n + m
   computed_weighs target source n m a b s =
@@ -410,7 +413,7 @@ module _ (note : Note → ℕ) (part : Part → ℕ) (weighed : IsWeighed note p
 
     kind_layer : (y : ExprKind-F K I E)
         → KindWeighs (values.kind_step (map-ExprKind ExprKind Init Expr KindReading Filling Reading kind_reading filling reading (map-ExprKind K I E ExprKind Init Expr kind init expr y)))
-          (parts_weigh (parts.kind_step (map-ExprKind ExprKind Init Expr (List Part) (List Part) (List Part) kind_parts init_parts expr_parts (map-ExprKind K I E ExprKind Init Expr kind init expr y))))
+        (parts_weigh (parts.kind_step (map-ExprKind ExprKind Init Expr (List Part) (List Part) (List Part) kind_parts init_parts expr_parts (map-ExprKind K I E ExprKind Init Expr kind init expr y))))
     kind_layer (ExprKind-F.Int n) = valued_weighs _ 0 (λ s span. omega arith)
     kind_layer (ExprKind-F.Bool answer) = valued_weighs _ 0 (λ s span. omega arith)
     kind_layer ExprKind-F.Null = record {
@@ -449,8 +452,8 @@ module _ (note : Note → ℕ) (part : Part → ℕ) (weighed : IsWeighed note p
         let a = total_append part (expr_parts (expr object)) (elsewhere name ∷ listed (map expr_parts (map expr args))) in
         kind_as _ (n + (part (elsewhere name) + sum ns)) _ (omega (arith, le, a))
         (valued_weighs _ (n + (part (elsewhere name) + sum ns)) (λ s span.
-            both_notes ((reading (expr object)).receiver s).notes (values.call_on s name (map reading (map expr args)) ((reading (expr object)).receiver s).object).notes n (part (elsewhere name) + sum ns)
-            ((expr_is object).receiver s) (call_on_weighs s name (map reading (map expr args)) ns (all_weigh args) ((reading (expr object)).receiver s).object)))
+        both_notes ((reading (expr object)).receiver s).notes (values.call_on s name (map reading (map expr args)) ((reading (expr object)).receiver s).object).notes n (part (elsewhere name) + sum ns)
+        ((expr_is object).receiver s) (call_on_weighs s name (map reading (map expr args)) ns (all_weigh args) ((reading (expr object)).receiver s).object)))
     kind_layer (ExprKind-F.New name args) =
         let ns = map (λ (e : E). parts_weigh (expr_parts (expr e))) args in
         let le = args_sum args in
@@ -460,15 +463,15 @@ module _ (note : Note → ℕ) (part : Part → ℕ) (weighed : IsWeighed note p
         let n = parts_weigh (type_parts ty) in let m = parts_weigh (expr_parts (expr size)) in
         let a = total_append part (type_parts ty) (expr_parts (expr size)) in
         kind_as _ (n + m) _ (omega (arith, a)) (valued_weighs _ (n + m) (λ s span.
-            both_notes (values.created s ty).notes (check (reading (expr size)) s (of int)).notes n m (created_weighs s ty) (check_weighs (reading (expr size)) m (expr_is size) s (of int))))
+        both_notes (values.created s ty).notes (check (reading (expr size)) s (of int)).notes n m (created_weighs s ty) (check_weighs (reading (expr size)) m (expr_is size) s (of int))))
     kind_layer (ExprKind-F.NewItems ty items) =
         let n = parts_weigh (type_parts ty) in
         let ns = map (λ (i : I). parts_weigh (init_parts (init i))) items in
         let le = items_sum items in
         let a = total_append part (type_parts ty) (listed (map init_parts (map init items))) in
         kind_as _ (n + sum ns) _ (omega (arith, a, le)) (valued_weighs _ (n + sum ns) (λ s span.
-            both_notes (values.created s ty).notes (values.fillings (map filling (map init items)) s (element_in (values.created s ty).ty)) n (sum ns) (created_weighs s ty)
-            (fillings_weigh (map filling (map init items)) ns (all_fill items) s (element_in (values.created s ty).ty))))
+        both_notes (values.created s ty).notes (values.fillings (map filling (map init items)) s (element_in (values.created s ty).ty)) n (sum ns) (created_weighs s ty)
+        (fillings_weigh (map filling (map init items)) ns (all_fill items) s (element_in (values.created s ty).ty))))
     kind_layer (ExprKind-F.Unary op operand) = valued_weighs _ _ (λ s span. unary_weighs op (reading (expr operand)) _ (expr_is operand) s)
     kind_layer (ExprKind-F.Binary op left right) =
         let n = parts_weigh (expr_parts (expr left)) in let m = parts_weigh (expr_parts (expr right)) in
@@ -498,7 +501,7 @@ module _ (note : Note → ℕ) (part : Part → ℕ) (weighed : IsWeighed note p
     init_layer (Init-F.Items items span) s ty =
         let ns = map (λ (i : I). parts_weigh (init_parts (init i))) items in
         let a = both_notes (rules.list_mismatch (need_like ty) span) (values.fillings (map filling (map init items)) s (element_in ty)) 0 (sum ns) (list_mismatch_weighs (need_like ty) span)
-            (fillings_weigh (map filling (map init items)) ns (all_fill items) s (element_in ty)) in
+        (fillings_weigh (map filling (map init items)) ns (all_fill items) s (element_in ty)) in
         let le = items_sum items in omega (arith, a, le)
 
     init_rolled : (y : Init-F K I E) → InitIs (roll-Init (map-Init K I E ExprKind Init Expr kind init expr y))

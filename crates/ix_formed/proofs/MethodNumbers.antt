@@ -39,9 +39,10 @@ module _ (tables : Tables) where
   counted_methods at [] methods are = (ap (λ (l : List Method). length l) are, subst (AllOf (λ (method : Method). method.class ≡ at.class)) (sym are) tt)
   counted_methods at (member.Field decl ∷ members) methods are = counted_methods at members methods are
   counted_methods at (member.Method decl ∷ members) methods are =
-      let rest = counted_methods at members are.1 are.4 in
-      (ap (λ (l : List Method). length l) are.2 ∙ (let e = rest.0 in omega (arith, e)),
-        subst (AllOf (λ (method : Method). method.class ≡ at.class)) (sym are.2) (ap (λ (m : Method). m.class) are.3.same, rest.1))
+      let rest = counted_methods at members are.1 are.4 in (
+        ap (λ (l : List Method). length l) are.2 ∙ (let e = rest.0 in omega (arith, e)),
+        subst (AllOf (λ (method : Method). method.class ≡ at.class)) (sym are.2) (ap (λ (m : Method). m.class) are.3.same, rest.1),
+      )
 
   later_methods : (next : Next) (decls : List ClassDecl) (methods : List Method) → IsNext next decls → AreAllMethods tables next decls methods
       → AllOf (λ (method : Method). next.class ≤ method.class) methods
@@ -50,10 +51,10 @@ module _ (tables : Tables) where
       let up = (goes next decl decls is).class in
       subst (AllOf (λ (method : Method). next.class ≤ method.class)) (sym are.2)
       (all_joined (λ (method : Method). next.class ≤ method.class) are.0 are.1
-          (all_so (λ (method : Method). method.class ≡ next.class) (λ (method : Method). next.class ≤ method.class) (λ method e. omega (arith, e)) are.0
-              (counted_methods (home tables next decl) decl.members are.0 are.3).1)
-          (all_so (λ (method : Method). (next_behind next decl).class ≤ method.class) (λ (method : Method). next.class ≤ method.class) (λ method e. omega (arith, e, up)) are.1
-              (later_methods (next_behind next decl) decls are.1 (goes_on next decl decls is) are.4)))
+      (all_so (λ (method : Method). method.class ≡ next.class) (λ (method : Method). next.class ≤ method.class) (λ method e. omega (arith, e)) are.0
+      (counted_methods (home tables next decl) decl.members are.0 are.3).1)
+      (all_so (λ (method : Method). (next_behind next decl).class ≤ method.class) (λ (method : Method). next.class ≤ method.class) (λ method e. omega (arith, e, up)) are.1
+      (later_methods (next_behind next decl) decls are.1 (goes_on next decl decls is) are.4)))
 
   later_defaults : (next : Next) (decls : List ClassDecl) (methods : List Method) → IsNext next decls → AreDefaults tables next decls methods
       → AllOf (λ (method : Method). next.class ≤ method.class) methods
@@ -62,7 +63,7 @@ module _ (tables : Tables) where
       let up = (goes next decl decls is).class in
       one_or_none (has_constructor decl.members) are
       (λ others rest. all_so (λ (method : Method). (next_behind next decl).class ≤ method.class) (λ (method : Method). next.class ≤ method.class) (λ method e. omega (arith, e, up)) others
-          (later_defaults (next_behind next decl) decls others (goes_on next decl decls is) rest))
+      (later_defaults (next_behind next decl) decls others (goes_on next decl decls is) rest))
     where
       one_or_none : (b : Bool) → IfElse b (AreDefaults tables (next_behind next decl) decls methods) (IsOneDefault (AreDefaults tables (next_behind next decl) decls) tables (home tables next decl) decl.name.span methods)
           → ((others : List Method) → AreDefaults tables (next_behind next decl) decls others → AllOf (λ (method : Method). next.class ≤ method.class) others)
@@ -112,43 +113,44 @@ classes_have_methods tables all next parent (decl ∷ decls) before written firs
     let up = g.class in
     let enough : next.method + length (methods_of decl.members) ≤ most_counted = (let f = is.methods in let k = length-append (methods_of decl.members) (all_methods decls) in omega (arith, f, k)) in
     let above = λ (methods : List Method) (a : AllOf (λ (method : Method). (next_behind next decl).class ≤ method.class) methods).
-        all_so (λ (method : Method). (next_behind next decl).class ≤ method.class) (λ (method : Method). next.class < method.class) (λ method f. omega (arith, f, up)) methods a in
+    all_so (λ (method : Method). (next_behind next decl).class ≤ method.class) (λ (method : Method). next.class < method.class) (λ method f. omega (arith, f, up)) methods a in
     let here = ap (numbers_where is_of 0) e ∙ where_append is_of 0 (before ++ written) (first ++ default)
-        ∙ ap (λ (l : List Method). numbers_where is_of 0 (before ++ l) ++ numbers_where is_of (0 + length (before ++ written)) (first ++ default)) w.2
-        ∙ ap (λ (l : List Method). numbers_where is_of 0 (before ++ (own ++ later)) ++ numbers_where is_of (0 + length (before ++ written)) (first ++ l)) s.2
-        ∙ ap (λ numbers. numbers ++ numbers_where is_of (0 + length (before ++ written)) (first ++ (s.0 ++ s.1)))
-            (where_here (λ (method : Method). method.class) next.class 0 before own later less counted.1 (above later (later_methods tables (next_behind next decl) decls later on w.4)))
-        ∙ ap (λ numbers. numbers_from (0 + length before) (length own) ++ numbers)
-            (where_here (λ (method : Method). method.class) next.class (0 + length (before ++ written)) first s.0 s.1 few s.4 (above s.1 (later_defaults tables (next_behind next decl) decls s.1 on s.5))) in
+    ∙ ap (λ (l : List Method). numbers_where is_of 0 (before ++ l) ++ numbers_where is_of (0 + length (before ++ written)) (first ++ default)) w.2
+    ∙ ap (λ (l : List Method). numbers_where is_of 0 (before ++ (own ++ later)) ++ numbers_where is_of (0 + length (before ++ written)) (first ++ l)) s.2
+    ∙ ap (λ numbers. numbers ++ numbers_where is_of (0 + length (before ++ written)) (first ++ (s.0 ++ s.1)))
+    (where_here (λ (method : Method). method.class) next.class 0 before own later less counted.1 (above later (later_methods tables (next_behind next decl) decls later on w.4)))
+    ∙ ap (λ numbers. numbers_from (0 + length before) (length own) ++ numbers)
+    (where_here (λ (method : Method). method.class) next.class (0 + length (before ++ written)) first s.0 s.1 few s.4 (above s.1 (later_defaults tables (next_behind next decl) decls s.1 on s.5))) in
     let start : 0 + length before ≡ next.method = omega (arith, l) in
     let second : (0 + length (before ++ written)) + length first ≡ next.default = omega (arith, m) in
     let wanted = here
-        ∙ ap (λ n. numbers_from n (length own) ++ numbers_from ((0 + length (before ++ written)) + length first) (length s.0)) start
-        ∙ ap (λ n. numbers_from next.method n ++ numbers_from ((0 + length (before ++ written)) + length first) (length s.0)) counted.0
-        ∙ ap (λ n. numbers_from next.method (length (methods_of decl.members)) ++ numbers_from n (length s.0)) second
-        ∙ ap (λ n. numbers_from next.method (length (methods_of decl.members)) ++ numbers_from next.default n) s.3 in
+    ∙ ap (λ n. numbers_from n (length own) ++ numbers_from ((0 + length (before ++ written)) + length first) (length s.0)) start
+    ∙ ap (λ n. numbers_from next.method n ++ numbers_from ((0 + length (before ++ written)) + length first) (length s.0)) counted.0
+    ∙ ap (λ n. numbers_from next.method (length (methods_of decl.members)) ++ numbers_from n (length s.0)) second
+    ∙ ap (λ n. numbers_from next.method (length (methods_of decl.members)) ++ numbers_from next.default n) s.3 in
     let numbers = default_numbers (has_constructor decl.members) (own_methods [] next.method decl.members) next.default
-        ∙ ap (λ numbers. numbers ++ numbers_from next.default (if has_constructor decl.members then 0 else 1)) (method_numbers [] next.method decl.members enough) in
+    ∙ ap (λ numbers. numbers ++ numbers_from next.default (if has_constructor decl.members then 0 else 1)) (method_numbers [] next.method decl.members enough) in
     let listed = numbers_from next.method (length (methods_of decl.members)) ++ numbers_from next.default (if has_constructor decl.members then 0 else 1) in
     let low : next.method + length (methods_of decl.members) ≤ next.default =
-        (let a = length-append before written in let b = ap (λ (l : List Method). length l) w.2 in let c = length-append own later in let f = counted.0 in omega (arith, a, b, c, f, l, m)) in
+    (let a = length-append before written in let b = ap (λ (l : List Method). length l) w.2 in let c = length-append own later in let f = counted.0 in omega (arith, a, b, c, f, l, m)) in
     let ascends : Ascends next.method listed = from_ascends next.method (length (methods_of decl.members)) (numbers_from next.default (if has_constructor decl.members then 0 else 1))
-        (one_ascends (has_constructor decl.members) (next.method + length (methods_of decl.members)) next.default low) in
-    (ap (λ numbers. are_same_numbers numbers (numbers_where is_of 0 all)) numbers ∙ ap (are_same_numbers listed) wanted ∙ ascends_same next.method listed ascends,
+    (one_ascends (has_constructor decl.members) (next.method + length (methods_of decl.members)) next.default low) in (
+      ap (λ numbers. are_same_numbers numbers (numbers_where is_of 0 all)) numbers ∙ ap (are_same_numbers listed) wanted ∙ ascends_same next.method listed ascends,
       subst (λ n. AllNumbered (ListsMethods all) n (classes_of (next_behind next decl) parent decls)) g.class
-      (classes_have_methods tables all (next_behind next decl) parent decls (before ++ own) later (first ++ s.0) s.1 on
+          (classes_have_methods tables all (next_behind next decl) parent decls (before ++ own) later (first ++ s.0) s.1 on
           (e ∙ ap (λ (l : List Method). (before ++ l) ++ (first ++ default)) w.2 ∙ ap (λ (l : List Method). l ++ (first ++ default)) (sym (append_assoc before own later))
-              ∙ ap (λ (l : List Method). ((before ++ own) ++ later) ++ (first ++ l)) s.2 ∙ ap (λ (l : List Method). ((before ++ own) ++ later) ++ l) (sym (append_assoc first s.0 s.1)))
+          ∙ ap (λ (l : List Method). ((before ++ own) ++ later) ++ (first ++ l)) s.2 ∙ ap (λ (l : List Method). ((before ++ own) ++ later) ++ l) (sym (append_assoc first s.0 s.1)))
           w.4 s.5
           (let a = length-append before own in let b = counted.0 in let c = g.method in omega (arith, a, b, c, l))
           (let a = length-append (before ++ own) later in let b = length-append before own in let c = length-append before written in let f = ap (λ (l : List Method). length l) w.2 in
-              let h = length-append own later in let i = length-append first s.0 in let j = s.3 in let k = g.default in omega (arith, a, b, c, f, h, i, j, k, m))
+          let h = length-append own later in let i = length-append first s.0 in let j = s.3 in let k = g.default in omega (arith, a, b, c, f, h, i, j, k, m))
           (all_joined (λ (method : Method). method.class < (next_behind next decl).class) before own
-              (all_so (λ (method : Method). method.class < next.class) (λ (method : Method). method.class < (next_behind next decl).class) (λ method f. omega (arith, f, up)) before less)
-              (all_so (λ (method : Method). method.class ≡ next.class) (λ (method : Method). method.class < (next_behind next decl).class) (λ method f. omega (arith, f, up)) own counted.1))
+          (all_so (λ (method : Method). method.class < next.class) (λ (method : Method). method.class < (next_behind next decl).class) (λ method f. omega (arith, f, up)) before less)
+          (all_so (λ (method : Method). method.class ≡ next.class) (λ (method : Method). method.class < (next_behind next decl).class) (λ method f. omega (arith, f, up)) own counted.1))
           (all_joined (λ (method : Method). method.class < (next_behind next decl).class) first s.0
-              (all_so (λ (method : Method). method.class < next.class) (λ (method : Method). method.class < (next_behind next decl).class) (λ method f. omega (arith, f, up)) first few)
-              (all_so (λ (method : Method). method.class ≡ next.class) (λ (method : Method). method.class < (next_behind next decl).class) (λ method f. omega (arith, f, up)) s.0 s.4))))
+          (all_so (λ (method : Method). method.class < next.class) (λ (method : Method). method.class < (next_behind next decl).class) (λ method f. omega (arith, f, up)) first few)
+          (all_so (λ (method : Method). method.class ≡ next.class) (λ (method : Method). method.class < (next_behind next decl).class) (λ method f. omega (arith, f, up)) s.0 s.4))),
+    )
 
 -- ---- the first numbers
 

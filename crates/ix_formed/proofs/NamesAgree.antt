@@ -209,26 +209,29 @@ module _ (unit : Source) (can : CanResolve unit) where
   agree before [] e clean = tt
   agree before (Typed q ty ∷ ns) e clean =
       let few = (let a = notes_weigh_less (typed_note q) (typed_part q) (typed_weighed q) unit in let b = typed_once q (unit_parts unit) can.apart in le_one (total (typed_note q) all) (total (typed_part q) (unit_parts unit)) a b) in
-      let none = one_before (typed_note q) before ns (Typed q ty) e (ap one_if (same_itself q)) few in
-      (ap (type_at q) e ∙ typed_behind q before (Typed q ty ∷ ns) none ∙ ap (λ b. or_found b ty (type_at q ns)) (same_itself q),
-        agree (before ++ Typed q ty ∷ []) ns (e ∙ sym (append_assoc before (Typed q ty ∷ []) ns)) clean.1)
+      let none = one_before (typed_note q) before ns (Typed q ty) e (ap one_if (same_itself q)) few in (
+        ap (type_at q) e ∙ typed_behind q before (Typed q ty ∷ ns) none ∙ ap (λ b. or_found b ty (type_at q ns)) (same_itself q),
+        agree (before ++ Typed q ty ∷ []) ns (e ∙ sym (append_assoc before (Typed q ty ∷ []) ns)) clean.1,
+      )
     where
       le_one : (a b : ℕ) → a ≤ b → b ≤ 1 → a ≤ 1
       le_one a b x y = omega (arith, x, y)
-  agree before (Use q m ∷ ns) e clean =
-      ((λ there.
+  agree before (Use q m ∷ ns) e clean = (
+    (λ there.
         let few = (let a = notes_weigh_less (used_note q) (used_part q) (used_weighed q) unit in let b = used_once q (unit_parts unit) can.apart there in le_one (total (used_note q) all) (total (used_part q) (unit_parts unit)) a b) in
         let none = one_before (used_note q) before ns (Use q m) e (ap one_if (same_itself q)) few in
         ap (meaning_at q) e ∙ used_behind q before (Use q m ∷ ns) none ∙ ap (λ b. or_found b m (meaning_at q ns)) (same_itself q)),
-        agree (before ++ Use q m ∷ []) ns (e ∙ sym (append_assoc before (Use q m ∷ []) ns)) clean.1)
+    agree (before ++ Use q m ∷ []) ns (e ∙ sym (append_assoc before (Use q m ∷ []) ns)) clean.1,
+  )
     where
       le_one : (a b : ℕ) → a ≤ b → b ≤ 1 → a ≤ 1
       le_one a b x y = omega (arith, x, y)
   agree before (Declares q d ∷ ns) e clean =
       let few = (let a = notes_weigh_less (declared_note q) (named_at q) (declared_weighed q) unit in let b = named_once q (unit_parts unit) can.apart in le_one (total (declared_note q) all) (total (named_at q) (unit_parts unit)) a b) in
-      let none = one_before (declared_note q) before ns (Declares q d) e (ap one_if (same_itself q)) few in
-      (ap (declared_at q) e ∙ declared_behind q before (Declares q d ∷ ns) none ∙ ap (λ b. or_found b d (declared_at q ns)) (same_itself q),
-        agree (before ++ Declares q d ∷ []) ns (e ∙ sym (append_assoc before (Declares q d ∷ []) ns)) clean.1)
+      let none = one_before (declared_note q) before ns (Declares q d) e (ap one_if (same_itself q)) few in (
+        ap (declared_at q) e ∙ declared_behind q before (Declares q d ∷ ns) none ∙ ap (λ b. or_found b d (declared_at q ns)) (same_itself q),
+        agree (before ++ Declares q d ∷ []) ns (e ∙ sym (append_assoc before (Declares q d ∷ []) ns)) clean.1,
+      )
     where
       le_one : (a b : ℕ) → a ≤ b → b ≤ 1 → a ≤ 1
       le_one a b x y = omega (arith, x, y)

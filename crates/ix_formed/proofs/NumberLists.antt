@@ -89,9 +89,9 @@ where_append is first (item ∷ items) others =
     let rest = where_append is (first + 1) items others ∙ ap (λ n. numbers_where is (first + 1) items ++ numbers_where is n others) e in
     by_test (is item)
     (λ t. ap (λ b. if b then first ∷ numbers_where is (first + 1) (items ++ others) else numbers_where is (first + 1) (items ++ others)) t ∙ ap (λ l. first ∷ l) rest
-        ∙ sym (ap (λ b. (if b then first ∷ numbers_where is (first + 1) items else numbers_where is (first + 1) items) ++ numbers_where is (first + length (item ∷ items)) others) t))
+    ∙ sym (ap (λ b. (if b then first ∷ numbers_where is (first + 1) items else numbers_where is (first + 1) items) ++ numbers_where is (first + length (item ∷ items)) others) t))
     (λ f. ap (λ b. if b then first ∷ numbers_where is (first + 1) (items ++ others) else numbers_where is (first + 1) (items ++ others)) f ∙ rest
-        ∙ sym (ap (λ b. (if b then first ∷ numbers_where is (first + 1) items else numbers_where is (first + 1) items) ++ numbers_where is (first + length (item ∷ items)) others) f))
+    ∙ sym (ap (λ b. (if b then first ∷ numbers_where is (first + 1) items else numbers_where is (first + 1) items) ++ numbers_where is (first + length (item ∷ items)) others) f))
 
 where_none : {A : Type 0} (is : A → Bool) (first : ℕ) (items : List A) → AllOf (λ item. is item ≡ false) items → numbers_where is first items ≡ []
 where_none is first [] all = refl
@@ -121,7 +121,7 @@ where_here of number first before own later less here more =
     ∙ ap (λ l. l ++ numbers_where (is_of of number) (first + length before) (own ++ later)) (where_none (is_of of number) first before (all_so (λ item. of item < number) (λ item. is_of of number item ≡ false) (λ item lt. is_less (of item) number lt) before less))
     ∙ where_append (is_of of number) (first + length before) own later
     ∙ ap (λ l. l ++ numbers_where (is_of of number) ((first + length before) + length own) later)
-        (where_all (is_of of number) (first + length before) own (all_so (λ item. of item ≡ number) (λ item. is_of of number item ≡ true) (λ item e. ap (λ n. n == number) e ∙ is_itself number) own here))
+    (where_all (is_of of number) (first + length before) own (all_so (λ item. of item ≡ number) (λ item. is_of of number item ≡ true) (λ item e. ap (λ n. n == number) e ∙ is_itself number) own here))
     ∙ ap (λ l. numbers_from (first + length before) (length own) ++ l)
-        (where_none (is_of of number) ((first + length before) + length own) later (all_so (λ item. number < of item) (λ item. is_of of number item ≡ false) (λ item lt. is_more (of item) number lt) later more))
+    (where_none (is_of of number) ((first + length before) + length own) later (all_so (λ item. number < of item) (λ item. is_of of number item ≡ false) (λ item lt. is_more (of item) number lt) later more))
     ∙ append-nil (numbers_from (first + length before) (length own))

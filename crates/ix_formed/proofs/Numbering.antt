@@ -122,9 +122,10 @@ fields_counted : (names : Names) (class : ℕ) (members : List Member) → (leng
 fields_counted names class [] = (refl, tt)
 fields_counted names class (member.Field decl ∷ members) =
     let one = own_field_counted names class decl in
-    let rest = fields_counted names class members in
-    ((let l = length-append (own_field names class decl) (fields_of_class names class members) in let a = one.0 in let b = rest.0 in omega (arith, l, a, b)),
-      all_joined (λ (field : Field). field.class ≡ class) (own_field names class decl) (fields_of_class names class members) one.1 rest.1)
+    let rest = fields_counted names class members in (
+      (let l = length-append (own_field names class decl) (fields_of_class names class members) in let a = one.0 in let b = rest.0 in omega (arith, l, a, b)),
+      all_joined (λ (field : Field). field.class ≡ class) (own_field names class decl) (fields_of_class names class members) one.1 rest.1,
+    )
 fields_counted names class (member.Method decl ∷ members) = fields_counted names class members
 
 later_fields : (names : Names) (class : ℕ) (decls : List ClassDecl) → AllOf (λ (field : Field). class ≤ field.class) (fields_of names class decls)
@@ -160,19 +161,20 @@ classes_have_fields names all next parent (decl ∷ decls) before is e l less =
     let counted = fields_counted names next.class decl.members in
     let few : next.field + field_count decl.members ≤ most_counted = (let f = is.fields in omega (arith, f)) in
     let here = ap (numbers_where (λ (field : Field). field.class == next.class) 0) e
-        ∙ where_here (λ (field : Field). field.class) next.class 0 before own later less counted.1
-            (all_so (λ (field : Field). next.class + 1 ≤ field.class) (λ (field : Field). next.class < field.class) (λ field f. omega (arith, f)) later (later_fields names (next.class + 1) decls)) in
+    ∙ where_here (λ (field : Field). field.class) next.class 0 before own later less counted.1
+    (all_so (λ (field : Field). next.class + 1 ≤ field.class) (λ (field : Field). next.class < field.class) (λ field f. omega (arith, f)) later (later_fields names (next.class + 1) decls)) in
     let numbers = field_numbers [] next.field decl.members few in
     let start : 0 + length before ≡ next.field = omega (arith, l) in
     let wanted = here ∙ ap (λ n. numbers_from n (length own)) start ∙ ap (numbers_from next.field) counted.0 in
     let ascends : Ascends next.field (numbers_from next.field (field_count decl.members)) =
-        subst (Ascends next.field) (append-nil (numbers_from next.field (field_count decl.members))) (from_ascends next.field (field_count decl.members) [] tt) in
-    (ap (λ numbers. are_same_numbers numbers (numbers_where (λ (field : Field). field.class == next.class) 0 all)) numbers
-      ∙ ap (are_same_numbers (numbers_from next.field (field_count decl.members))) wanted ∙ ascends_same next.field (numbers_from next.field (field_count decl.members)) ascends,
+    subst (Ascends next.field) (append-nil (numbers_from next.field (field_count decl.members))) (from_ascends next.field (field_count decl.members) [] tt) in (
+      ap (λ numbers. are_same_numbers numbers (numbers_where (λ (field : Field). field.class == next.class) 0 all)) numbers
+          ∙ ap (are_same_numbers (numbers_from next.field (field_count decl.members))) wanted ∙ ascends_same next.field (numbers_from next.field (field_count decl.members)) ascends,
       subst (λ n. AllNumbered (ListsFields all) n (classes_of (next_behind next decl) parent decls)) g.class
-      (classes_have_fields names all (next_behind next decl) parent decls (before ++ own) (goes_on next decl decls is)
+          (classes_have_fields names all (next_behind next decl) parent decls (before ++ own) (goes_on next decl decls is)
           (e ∙ sym (append_assoc before own later) ∙ ap (λ n. (before ++ own) ++ fields_of names n decls) (sym g.class))
           (let a = length-append before own in let b = counted.0 in let c = g.field in omega (arith, a, b, c, l))
           (let d = g.class in all_joined (λ (field : Field). field.class < (next_behind next decl).class) before own
-              (all_so (λ (field : Field). field.class < next.class) (λ (field : Field). field.class < (next_behind next decl).class) (λ field f. omega (arith, f, d)) before less)
-              (all_so (λ (field : Field). field.class ≡ next.class) (λ (field : Field). field.class < (next_behind next decl).class) (λ field f. omega (arith, f, d)) own counted.1))))
+          (all_so (λ (field : Field). field.class < next.class) (λ (field : Field). field.class < (next_behind next decl).class) (λ field f. omega (arith, f, d)) before less)
+          (all_so (λ (field : Field). field.class ≡ next.class) (λ (field : Field). field.class < (next_behind next decl).class) (λ field f. omega (arith, f, d)) own counted.1))),
+    )

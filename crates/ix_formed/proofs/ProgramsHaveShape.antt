@@ -111,14 +111,17 @@ module _ (p : Program) where
       let loops : loop_numbers (body_of method) ≡ numbers_from 0 body.loops = ap (λ b. loop_numbers (items_code b.items)) code ∙ is.loops in
       let long : length (loop_numbers (body_of method)) ≡ body.loops = ap length loops ∙ from_length 0 body.loops in
       record {
-        class = class; params = params; types = types; static = static;
+        class = class;
+        params = params;
+        types = types;
+        static = static;
         first = at_most_is (param_slots method) method.slots (let a = is.most in omega (arith, a, slots, first));
         slots = at_most_is method.slots 512 (let a = is.within.slots in omega (arith, a, slots));
         locals = subst (AllOf (λ (local : Local × Span). is_target p method local.0.slot ≡ true)) (sym locals)
             (all_so (HasSlotIn free body.most) (λ (local : Local × Span). is_target p method local.0.slot ≡ true)
-                (λ local h. both_true (nat_lt local.0.slot method.slots) (at_most (param_slots method) local.0.slot)
-                    (less_is local.0.slot method.slots (let a = h.1 in omega (arith, a, slots)))
-                    (at_most_is (param_slots method) local.0.slot (let a = h.0 in omega (arith, a, first)))) body.locals is.locals);
+            (λ local h. both_true (nat_lt local.0.slot method.slots) (at_most (param_slots method) local.0.slot)
+            (less_is local.0.slot method.slots (let a = h.1 in omega (arith, a, slots)))
+            (at_most_is (param_slots method) local.0.slot (let a = h.0 in omega (arith, a, first)))) body.locals is.locals);
         loops = ap (λ n. same_numbers (loop_numbers (body_of method)) (numbers_from 0 n)) long
             ∙ ap (λ numbers. same_numbers numbers (numbers_from 0 body.loops)) loops ∙ same_itself (numbers_from 0 body.loops);
         few_loops = at_most_is (length (loop_numbers (body_of method))) 128 (let a = is.within.loops in omega (arith, a, long));
@@ -157,7 +160,7 @@ module _ (p : Program) where
       (count ∙ sym (types_length t.names decl.params) ∙ sym (ap (λ (l : List Type_). length l) types))
       (ap (λ c. not c || not method.is_static) constructor ∙ ap (λ s. not decl.constructor || not s) stands ∙ constructor_or_static decl.constructor decl.mods.is_static)
       (ap (λ (parent : Option ℕ). one_if (decl.constructor && is_some_of parent)) (sym here.parent)
-        ∙ ap (λ n. one_if (decl.constructor && is_some_of (class_at p n).parent)) (sym class) ∙ ap (λ c. one_if (c && has_parent p method)) (sym constructor))
+      ∙ ap (λ n. one_if (decl.constructor && is_some_of (class_at p n).parent)) (sym class) ∙ ap (λ c. one_if (c && has_parent p method)) (sym constructor))
 
   default_shape : (t : Tables) (at : Home) (span : Span) (method : Method) → IsHome at → IsDefault t at span method → MethodHasShape p method
   default_shape t at span method here is =
@@ -174,7 +177,7 @@ module _ (p : Program) where
       (ap (λ (l : List Local). length l) params ∙ sym (ap (λ (l : List Type_). length l) types))
       (ap (λ s. not method.constructor || not s) stands ∙ (let or_true : (b : Bool) → (b || true) ≡ true = either_true in or_true (not method.constructor)))
       (ap (λ (parent : Option ℕ). one_if (is_some_of parent)) (sym here.parent)
-        ∙ ap (λ n. one_if (is_some_of (class_at p n).parent)) (sym class) ∙ ap (λ c. one_if (c && has_parent p method)) (sym constructor))
+      ∙ ap (λ n. one_if (is_some_of (class_at p n).parent)) (sym class) ∙ ap (λ c. one_if (c && has_parent p method)) (sym constructor))
     where
       either_true : (b : Bool) → (b || true) ≡ true
       either_true true = refl
@@ -208,8 +211,8 @@ module _ (p : Program) (t : Tables) where
         let up = (goes next decl decls is).class in
         subst (AllOf (MethodHasShape p)) (sym are.2)
         (all_joined (MethodHasShape p) are.0 are.1
-            (members_shape (home t next decl) decl.members are.0 (home_is next decl (omega (arith, count))) parts.0 are.3)
-            (all_shape (next_behind next decl) decls are.1 (goes_on next decl decls is) (omega (arith, count, up)) parts.1 are.4))
+        (members_shape (home t next decl) decl.members are.0 (home_is next decl (omega (arith, count))) parts.0 are.3)
+        (all_shape (next_behind next decl) decls are.1 (goes_on next decl decls is) (omega (arith, count, up)) parts.1 are.4))
 
     defaults_shape : (next : Next) (decls : List ClassDecl) (methods : List Method) → IsNext next decls → next.class + length decls ≡ total → AreDefaults t next decls methods → AllOf (MethodHasShape p) methods
     defaults_shape next [] methods is count are = subst (AllOf (MethodHasShape p)) (sym are) tt
@@ -299,27 +302,27 @@ program_shape names decls p small e =
     let fields : p.fields ≡ fields_of names 0 decls = has.2 ∙ fields_behind names [] 0 decls enough in
     let long : length p.classes ≡ length decls = ap (λ (l : List Class). length l) classes ∙ classes_length first t.world.parent decls in
     let homes : (class : ℕ) → class < length decls → (class < length p.classes) × ((class_at p class).parent ≡ t.world.parent class) = λ class lt.
-        (let here : class < length p.classes = omega (arith, lt, long) in
-          let zero : 0 + class ≡ class = omega arith in
-          (here, ap (λ (l : List Class). (unwrap_or (slice_get l class) no_class).parent) classes ∙ class_found first t.world.parent decls class is lt ∙ ap t.world.parent zero)) in
+    (let here : class < length p.classes = omega (arith, lt, long) in
+    let zero : 0 + class ≡ class = omega arith in
+    (here, ap (λ (l : List Class). (unwrap_or (slice_get l class) no_class).parent) classes ∙ class_found first t.world.parent decls class is lt ∙ ap t.world.parent zero)) in
     let total : first.class + length decls ≡ length decls = omega arith in
     record {
       fields = subst (AllNumbered (ListsFields p.fields) 0) (sym classes) (classes_have_fields names p.fields first t.world.parent decls [] is fields refl tt);
       methods = subst (AllNumbered (ListsMethods p.methods) 0) (sym classes)
           (classes_have_methods t p.methods first t.world.parent decls [] methods.written [] methods.default is methods.same methods.are_written methods.are_default refl
-              (let a = first_default decls small.methods in let b = written_length t first decls methods.written methods.are_written in omega (arith, a, b)) tt tt);
+          (let a = first_default decls small.methods in let b = written_length t first decls methods.written methods.are_written in omega (arith, a, b)) tt tt);
       written = at_most_is (count_by (λ (method : Method). method.written) p.methods) 4096
           (let a = counted_is (λ (method : Method). method.written) p.methods in
-            let b = ap (λ (l : List Method). counted (λ (method : Method). method.written) l) methods.same in
-            let c = counted_append (λ (method : Method). method.written) methods.written methods.default in
-            let d = counted_few (λ (method : Method). method.written) methods.written in
-            let f = counted_none (λ (method : Method). method.written) methods.default (defaults_unwritten t first decls methods.default methods.are_default) in
-            let g = written_length t first decls methods.written methods.are_written in
-            let h = small.methods in omega (arith, a, b, c, d, f, g, h));
+          let b = ap (λ (l : List Method). counted (λ (method : Method). method.written) l) methods.same in
+          let c = counted_append (λ (method : Method). method.written) methods.written methods.default in
+          let d = counted_few (λ (method : Method). method.written) methods.written in
+          let f = counted_none (λ (method : Method). method.written) methods.default (defaults_unwritten t first decls methods.default methods.are_default) in
+          let g = written_length t first decls methods.written methods.are_written in
+          let h = small.methods in omega (arith, a, b, c, d, f, g, h));
       each = subst (AllOf (MethodHasShape p)) (sym methods.same)
           (all_joined (MethodHasShape p) methods.written methods.default
-              (all_shape p t (length decls) homes first decls methods.written is total small.params methods.are_written)
-              (defaults_shape p t (length decls) homes first decls methods.default is total methods.are_default));
+          (all_shape p t (length decls) homes first decls methods.written is total small.params methods.are_written)
+          (defaults_shape p t (length decls) homes first decls methods.default is total methods.are_default));
     }
 
 -- The same, of a source that passes no limit on names.

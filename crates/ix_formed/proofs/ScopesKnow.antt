@@ -159,9 +159,11 @@ module _ (own : Option Name) (types : Name → Option Type_) where
         or_later : (a b : Bool) → b ≡ true → (a || b) ≡ true
         or_later true b e = refl
         or_later false b e = e
+
         or_fits : (first second : Option Found) → Whenever FoundFits first → Whenever FoundFits second → Whenever FoundFits (or_nearest first second)
         or_fits None second a b = b
         or_fits (Some v) second a b = a
+
         own_fits : (o : Option Field) → Whenever (λ f. IsField names parts p f × (f.class ≡ c)) o → Whenever FoundFits (instance_field_in class o)
         own_fits None is = tt
         own_fits (Some f) is =
@@ -177,6 +179,7 @@ module _ (own : Option Name) (types : Name → Option Type_) where
         agrees (c ∷ cs) =
             ap (λ o. or_nearest o (nearest (λ a. instance_field_in s.class (s.world.field a text)) cs)) (ap (λ n. instance_field_in n (s.world.field c text)) same ∙ ap (instance_field_in class) (world c text))
             ∙ ap (or_nearest (instance_field_in class (own_field fs c text))) (agrees cs)
+
         named_or_not : (b : Bool) → s.names_fields ≡ b → Whenever FoundFits (if b then nearest (λ a. instance_field_in s.class (s.world.field a text)) (s.class ∷ s.world.supers s.class) else None)
         named_or_not false e = tt
         named_or_not true e = subst (Whenever FoundFits) (sym (agrees (s.class ∷ s.world.supers s.class)))

@@ -46,7 +46,7 @@ few_params (method ∷ methods) e =
 pub small : (decls : List ClassDecl) → limit decls ≡ None → members_in decls < most_counted → IsSmall decls
 small decls e members =
     let one = none_first (past_names which.Classes most_classes (class_names decls))
-        (or_else (past_names which.Methods most_methods (method_names (all_methods decls))) (or_else (past_params (all_methods decls)) (past_claims (all_annots decls)))) e in
+    (or_else (past_names which.Methods most_methods (method_names (all_methods decls))) (or_else (past_params (all_methods decls)) (past_claims (all_annots decls)))) e in
     let two = none_first (past_names which.Methods most_methods (method_names (all_methods decls))) (or_else (past_params (all_methods decls)) (past_claims (all_annots decls))) one.1 in
     let three = none_first (past_params (all_methods decls)) (past_claims (all_annots decls)) two.1 in
     record {

@@ -88,11 +88,11 @@ module _ (note : Note → ℕ) (part : Part → ℕ) (weighed : IsWeighed note p
       let l = bodies.local_declaration d s in
       let a = declaration_weighs s.world.class (bodies.own_names d s) (annotated.target_before d.ty) on.Array d.mods.annots d.ty in
       let c = both (declares_note d.name.span l.ty l.claims false) (init_notes d.init (bodies.pending d s) l.ty) (part (elsewhere d.name)) (P (parts.maybe init_parts d.init))
-          (declares_weighs d.name l.ty l.claims false) (init_weighs d.init (bodies.pending d s) l.ty) in
+      (declares_weighs d.name l.ty l.claims false) (init_weighs d.init (bodies.pending d s) l.ty) in
       let b = both (rules.duplicate_name (bodies.is_taken s d.name) d.name.span) (declares_note d.name.span l.ty l.claims false ++ init_notes d.init (bodies.pending d s) l.ty) 0
-          (part (elsewhere d.name) + P (parts.maybe init_parts d.init)) (broken_weighs note part weighed _ rule.DuplicateName d.name.span) c in
+      (part (elsewhere d.name) + P (parts.maybe init_parts d.init)) (broken_weighs note part weighed _ rule.DuplicateName d.name.span) c in
       let e = both l.notes (rules.duplicate_name (bodies.is_taken s d.name) d.name.span ++ (declares_note d.name.span l.ty l.claims false ++ init_notes d.init (bodies.pending d s) l.ty)) (P (type_parts d.ty))
-          (0 + (part (elsewhere d.name) + P (parts.maybe init_parts d.init))) a b in
+      (0 + (part (elsewhere d.name) + P (parts.maybe init_parts d.init))) a b in
       let h = decl_has d in omega (arith, e, h)
 
   then_tells : (t u : Telling) (n m : ℕ) → Tells t n → Tells u m → Tells (bodies.then_told t u) (n + m)
@@ -155,7 +155,7 @@ module _ (note : Note → ℕ) (part : Part → ℕ) (weighed : IsWeighed note p
 
     tell_layer : (y : StmtKind-F K S) (span : Span)
         → Tells (bodies.stmt_kind_step (map-StmtKind StmtKind Stmt (Span → Telling) Telling kind_telling telling (map-StmtKind K S StmtKind Stmt kind stmt y)) span)
-          (P (parts.stmt_kind_step (map-StmtKind StmtKind Stmt (List Part) (List Part) kind_parts stmt_parts (map-StmtKind K S StmtKind Stmt kind stmt y))))
+        (P (parts.stmt_kind_step (map-StmtKind StmtKind Stmt (List Part) (List Part) kind_parts stmt_parts (map-StmtKind K S StmtKind Stmt kind stmt y))))
     tell_layer (StmtKind-F.Block ss) span s = all_tell ss s
     tell_layer StmtKind-F.Empty span s = omega arith
     tell_layer (StmtKind-F.Local ds) span s = all_declared_tell ds s
@@ -181,7 +181,7 @@ module _ (note : Note → ℕ) (part : Part → ℕ) (weighed : IsWeighed note p
         let a = both (bodies.condition_or_none c behind) (bodies.all_run es behind) (P (parts.maybe expr_parts c)) (P updates) (condition_weighs c behind) (all_run_weigh es behind) in
         let b = both (bodies.condition_or_none c behind ++ bodies.all_run es behind) ((telling (stmt t)).notes (bodies.inside behind)) (P (parts.maybe expr_parts c) + P updates) (P (stmt_parts (stmt t))) a (stmt_tells t (bodies.inside behind)) in
         let d = both (first.notes s) ((bodies.condition_or_none c behind ++ bodies.all_run es behind) ++ (telling (stmt t)).notes (bodies.inside behind)) (P (listed (map stmt_parts (map stmt ss))))
-            ((P (parts.maybe expr_parts c) + P updates) + P (stmt_parts (stmt t))) (all_tell ss s) b in
+        ((P (parts.maybe expr_parts c) + P updates) + P (stmt_parts (stmt t))) (all_tell ss s) b in
         let e = total_append part (listed (map stmt_parts (map stmt ss))) (parts.maybe expr_parts c ++ (updates ++ stmt_parts (stmt t))) in
         let f = total_append part (parts.maybe expr_parts c) (updates ++ stmt_parts (stmt t)) in
         let g = total_append part updates (stmt_parts (stmt t)) in omega (arith, d, e, f, g)
@@ -238,12 +238,12 @@ module _ (note : Note → ℕ) (part : Part → ℕ) (weighed : IsWeighed note p
       let init = init_notes d.init (source.member_scope l (not f.is_static)) f.ty in
       let declares = declares_note d.name.span f.ty (if f.is_static then [] else (source.field_declaration l f d).claims) false in
       let a = both declares init (part (elsewhere d.name)) (P (parts.maybe init_parts d.init)) (declares_weighs d.name f.ty (if f.is_static then [] else (source.field_declaration l f d).claims) false)
-          (init_weighs d.init (source.member_scope l (not f.is_static)) f.ty) in
+      (init_weighs d.init (source.member_scope l (not f.is_static)) f.ty) in
       let b = both (source.field_declaration l f d).notes (declares ++ init) (P (type_parts d.ty)) (part (elsewhere d.name) + P (parts.maybe init_parts d.init)) (field_declaration_weighs l f d) a in
       let c = both (rules.duplicate_name (hides l.world f) d.name.span) ((source.field_declaration l f d).notes ++ (declares ++ init)) 0
-          (P (type_parts d.ty) + (part (elsewhere d.name) + P (parts.maybe init_parts d.init))) (broken_weighs note part weighed _ rule.DuplicateName d.name.span) b in
+      (P (type_parts d.ty) + (part (elsewhere d.name) + P (parts.maybe init_parts d.init))) (broken_weighs note part weighed _ rule.DuplicateName d.name.span) b in
       let e = both (wrong_if (source.is_refused f) rule.NotStatic d.name.span) (rules.duplicate_name (hides l.world f) d.name.span ++ ((source.field_declaration l f d).notes ++ (declares ++ init))) 0
-          (0 + (P (type_parts d.ty) + (part (elsewhere d.name) + P (parts.maybe init_parts d.init)))) (broken_weighs note part weighed _ rule.NotStatic d.name.span) c in
+      (0 + (P (type_parts d.ty) + (part (elsewhere d.name) + P (parts.maybe init_parts d.init)))) (broken_weighs note part weighed _ rule.NotStatic d.name.span) c in
       let h = decl_has d in omega (arith, e, h)
 
   -- ---- methods
@@ -254,11 +254,11 @@ module _ (note : Note → ℕ) (part : Part → ℕ) (weighed : IsWeighed note p
       let own = source.param_declaration l s k d in
       let rest = source.param_notes l s (before ++ d ∷ []) (k + 1) ds in
       let a = both (declares_note d.name.span own.ty own.claims false) rest (part (elsewhere d.name)) (P (together (parts.each decl_parts ds))) (declares_weighs d.name own.ty own.claims false)
-          (params_weigh l s (before ++ d ∷ []) (k + 1) ds) in
+      (params_weigh l s (before ++ d ∷ []) (k + 1) ds) in
       let b = both own.notes (declares_note d.name.span own.ty own.claims false ++ rest) (P (type_parts d.ty)) (part (elsewhere d.name) + P (together (parts.each decl_parts ds)))
-          (declaration_weighs l.world.class (annot_names s (Some (name.Param k)) None) (annotated.target_before d.ty) on.Array d.mods.annots d.ty) a in
+      (declaration_weighs l.world.class (annot_names s (Some (name.Param k)) None) (annotated.target_before d.ty) on.Array d.mods.annots d.ty) a in
       let c = both (rules.duplicate_name (source.is_named_in before d.name.text) d.name.span) (own.notes ++ (declares_note d.name.span own.ty own.claims false ++ rest)) 0
-          (P (type_parts d.ty) + (part (elsewhere d.name) + P (together (parts.each decl_parts ds)))) (broken_weighs note part weighed _ rule.DuplicateName d.name.span) b in
+      (P (type_parts d.ty) + (part (elsewhere d.name) + P (together (parts.each decl_parts ds)))) (broken_weighs note part weighed _ rule.DuplicateName d.name.span) b in
       let h = decl_has d in
       let t = total_append part (decl_parts d) (together (parts.each decl_parts ds)) in omega (arith, c, h, t)
 
@@ -317,7 +317,7 @@ module _ (note : Note → ℕ) (part : Part → ℕ) (weighed : IsWeighed note p
       constructor_or_not : (b : Bool) → N (if b then wrong_if (not (bytes_eq d.name.text l.class_name)) rule.UnknownName d.name.span ++ wrong_if d.mods.is_static rule.NotStatic d.name.span else []) ≤ 0
       constructor_or_not true =
           let a = both (wrong_if (not (bytes_eq d.name.text l.class_name)) rule.UnknownName d.name.span) (wrong_if d.mods.is_static rule.NotStatic d.name.span) 0 0
-              (broken_weighs note part weighed _ rule.UnknownName d.name.span) (broken_weighs note part weighed _ rule.NotStatic d.name.span) in omega (arith, a)
+          (broken_weighs note part weighed _ rule.UnknownName d.name.span) (broken_weighs note part weighed _ rule.NotStatic d.name.span) in omega (arith, a)
       constructor_or_not false = omega arith
 
   inherited_weighs : (l : Place) (m : Signature) → N (source.inherited_notes l m) ≤ 0
@@ -346,7 +346,7 @@ module _ (note : Note → ℕ) (part : Part → ℕ) (weighed : IsWeighed note p
       let f = both result.notes (marks.notes ++ (declares ++ (params ++ (supers ++ told)))) types (0 + (part (elsewhere d.name) + (heads + (args + statements)))) (result_given_weighs l head m d) e in
       let g = both (source.inherited_notes l m) (result.notes ++ (marks.notes ++ (declares ++ (params ++ (supers ++ told))))) 0 (types + (0 + (part (elsewhere d.name) + (heads + (args + statements))))) (inherited_weighs l m) f in
       let h = both (source.constructor_notes l d) (source.inherited_notes l m ++ (result.notes ++ (marks.notes ++ (declares ++ (params ++ (supers ++ told)))))) 0
-          (0 + (types + (0 + (part (elsewhere d.name) + (heads + (args + statements)))))) (constructor_weighs l d) g in
+      (0 + (types + (0 + (part (elsewhere d.name) + (heads + (args + statements)))))) (constructor_weighs l d) g in
       let from_args = parts.maybe args_parts d.parent_args ++ listed (parts.each stmt_parts d.body) in
       let from_name = elsewhere d.name ∷ (listed (parts.each decl_parts d.params) ++ from_args) in
       let p = total_append part (mods_parts d.mods) (parts.maybe type_parts d.result ++ from_name) in
@@ -365,9 +365,9 @@ module _ (note : Note → ℕ) (part : Part → ℕ) (weighed : IsWeighed note p
   members_weigh l named i next [] = omega arith
   members_weigh l named i next (m ∷ ms) =
       let a = both (rules.duplicate_name (source.is_taken (named (source.member_name m).text) i) (source.member_name m).span) (source.one_member l next m) 0 (P (member_parts m))
-          (broken_weighs note part weighed _ rule.DuplicateName (source.member_name m).span) (one_member_weighs l next m) in
+      (broken_weighs note part weighed _ rule.DuplicateName (source.member_name m).span) (one_member_weighs l next m) in
       let b = both (source.named_member l named i next m) (source.member_notes l named (i + 1) (source.next_member next m) ms) (0 + P (member_parts m)) (P (together (parts.each member_parts ms))) a
-          (members_weigh l named (i + 1) (source.next_member next m) ms) in
+      (members_weigh l named (i + 1) (source.next_member next m) ms) in
       let c = total_append part (member_parts m) (together (parts.each member_parts ms)) in omega (arith, b, c)
 
   default_weighs : (w : World) (c : ℕ) (k : ClassDecl) → N (source.default_notes_of w c k) ≤ 0
@@ -391,7 +391,7 @@ module _ (note : Note → ℕ) (part : Part → ℕ) (weighed : IsWeighed note p
       let members = source.member_notes (source.place w ms c k) (source.member_named k.members) 0 next k.members in
       let a = both (source.parent_use w k.parent) (rules.cyclic_class cyclic k.name.span) (P (parts.maybe other_name k.parent)) 0 (parent_weighs w k.parent) (broken_weighs note part weighed _ rule.CyclicClass k.name.span) in
       let b = both (rules.duplicate_name (source.is_taken (w.class k.name.text) c) k.name.span) (source.parent_use w k.parent ++ rules.cyclic_class cyclic k.name.span) 0 (P (parts.maybe other_name k.parent) + 0)
-          (broken_weighs note part weighed _ rule.DuplicateName k.name.span) a in
+      (broken_weighs note part weighed _ rule.DuplicateName k.name.span) a in
       let d = both members (source.default_notes_of w c k) (P (together (parts.each member_parts k.members))) 0 (members_weigh (source.place w ms c k) (source.member_named k.members) 0 next k.members) (default_weighs w c k) in
       let e = both (source.head_notes w cyclic c k) (members ++ source.default_notes_of w c k) (0 + (P (parts.maybe other_name k.parent) + 0)) (P (together (parts.each member_parts k.members)) + 0) b d in
       let f = total_append part (parts.maybe other_name k.parent) (listed (parts.each member_parts k.members)) in omega (arith, e, f)
@@ -400,7 +400,7 @@ module _ (note : Note → ℕ) (part : Part → ℕ) (weighed : IsWeighed note p
   classes_weigh w ps ms c next [] = omega arith
   classes_weigh w ps ms c next (k ∷ ks) =
       let a = both (source.class_notes w ps ms c next k) (source.notes_from w ps ms (c + 1) (source.next_fields next k.members) ks) (P (class_parts k)) (P (together (parts.each class_parts ks)))
-          (class_weighs w ps ms c next k) (classes_weigh w ps ms (c + 1) (source.next_fields next k.members) ks) in
+      (class_weighs w ps ms c next k) (classes_weigh w ps ms (c + 1) (source.next_fields next k.members) ks) in
       let b = total_append part (class_parts k) (together (parts.each class_parts ks)) in omega (arith, a, b)
 
   pub notes_weigh_less : (unit : Source) → N (source.notes unit.classes) ≤ P (unit_parts unit)

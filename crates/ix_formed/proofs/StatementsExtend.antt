@@ -74,8 +74,13 @@ all_more P Q more (x ∷ xs) a = (more x a.0, all_more P Q more xs a.1)
 
 pub moves_none : (body : Body) → Moves body body 0
 moves_none body = record {
-  loops = omega arith; free = omega arith; most = omega arith; within = λ w. w;
-  locals = []; grown = sym (append-nil body.locals); placed = tt;
+  loops = omega arith;
+  free = omega arith;
+  most = omega arith;
+  within = λ w. w;
+  locals = [];
+  grown = sym (append-nil body.locals);
+  placed = tt;
 }
 
 pub moves_both : (first second third : Body) (count more : ℕ) → Moves first second count → Moves second third more → Moves first third (count + more)
@@ -120,7 +125,9 @@ behind_moves body items free r = record {
     slots = let f = r.few (let a = w.free in let b = w.slots in omega (arith, a, b)) in let b = w.slots in omega (arith, f, b);
     loops = w.loops;
   };
-  locals = []; grown = sym (append-nil body.locals); placed = tt;
+  locals = [];
+  grown = sym (append-nil body.locals);
+  placed = tt;
 }
 
 computes_extends : (body after : Body) → Computes body after → Extends body after
@@ -157,9 +164,13 @@ init_evaluated_computes site i ty body = behind_value_computes body _ (initialis
 
 last_moves : (body middle : Body) (last : Item) (count : ℕ) → Moves body middle count → Moves body (with_last middle last) count
 last_moves body middle last count m = record {
-  loops = m.loops; free = m.free; most = m.most;
+  loops = m.loops;
+  free = m.free;
+  most = m.most;
   within = λ w. let i = m.within w in record { free = i.free; slots = i.slots; loops = i.loops };
-  locals = m.locals; grown = m.grown; placed = m.placed;
+  locals = m.locals;
+  grown = m.grown;
+  placed = m.placed;
 }
 
 pub last_extends : (body : Body) (last : Item) → IsNumbered body.loops 0 (last ∷ []) → Extends body (with_last body last)
@@ -208,9 +219,13 @@ begun_block body = record body { made = empty body.made.free }
 
 nested_moves : (body inner : Body) (count : ℕ) → Moves (begun_block body) inner count → Moves body (record inner { made = body.made }) count
 nested_moves body inner count m = record {
-  loops = m.loops; free = omega arith; most = m.most;
+  loops = m.loops;
+  free = omega arith;
+  most = m.most;
   within = λ w. let i = m.within (record { free = w.free; slots = w.slots; loops = w.loops }) in let up = m.most in let f = w.free in record { free = omega (arith, up, f); slots = i.slots; loops = i.loops };
-  locals = m.locals; grown = m.grown; placed = m.placed;
+  locals = m.locals;
+  grown = m.grown;
+  placed = m.placed;
 }
 
 inside_nests : (run : Body → Within Body) (body : Body) → Makes (Extends (begun_block body)) (run (begun_block body)) → Makes (Nests body) (inside run body)
@@ -290,24 +305,31 @@ chosen_extends condition first second one two site body =
     (λ asked t. makes_then (Nests asked.body) (Extends body) (statements.branch first site asked.body) _ (branch_nests first one site asked.body)
     (λ holds h. makes_then (Nests holds.body) (Extends body) (statements.branch_if second site holds.body) _ (branch_if_nests second two site holds.body)
     (λ fails f.
-        let start : asked.body.loops ≡ body.loops = (let e = t.moves.loops in omega (arith, e)) in
-        let later : holds.body.loops ≡ body.loops + h.count = (let e = h.moves.loops in omega (arith, e, start)) in
-        let zero : 0 + (h.count + f.count) ≡ h.count + f.count = omega arith in
-        closed_extends body fails.body (item.If asked.cond holds.block fails.block) (h.count + f.count)
-        (moves_as body fails.body (0 + (h.count + f.count)) (h.count + f.count) zero
-            (moves_both body asked.body fails.body 0 (h.count + f.count) t.moves (moves_both asked.body holds.body fails.body h.count f.count h.moves f.moves)))
-        (f.same ∙ h.same ∙ t.same)
-        (if_numbered body.loops h.count f.count asked.cond holds.block fails.block t.plain
-            (numbered_as asked.body.loops body.loops h.count holds.block.items start h.numbered)
-            (numbered_as holds.body.loops (body.loops + h.count) f.count fails.block.items later f.numbered)))))
+    let start : asked.body.loops ≡ body.loops = (let e = t.moves.loops in omega (arith, e)) in
+    let later : holds.body.loops ≡ body.loops + h.count = (let e = h.moves.loops in omega (arith, e, start)) in
+    let zero : 0 + (h.count + f.count) ≡ h.count + f.count = omega arith in
+    closed_extends body fails.body (item.If asked.cond holds.block fails.block) (h.count + f.count)
+    (moves_as body fails.body (0 + (h.count + f.count)) (h.count + f.count) zero
+    (moves_both body asked.body fails.body 0 (h.count + f.count) t.moves (moves_both asked.body holds.body fails.body h.count f.count h.moves f.moves)))
+    (f.same ∙ h.same ∙ t.same)
+    (if_numbered body.loops h.count f.count asked.cond holds.block fails.block t.plain
+    (numbered_as asked.body.loops body.loops h.count holds.block.items start h.numbered)
+    (numbered_as holds.body.loops (body.loops + h.count) f.count fails.block.items later f.numbered)))))
 
 -- a loop's number is taken
 loop_taken : (body : Body) (b : Bool) → b ≡ nat_lt body.loops most_loops → Makes (λ begun. Moves body begun 1 × (begun.made ≡ body.made)) (if b then Ok (record body { loops = body.loops + 1 }) else Err which.Loops)
-loop_taken body true e = (record {
-  loops = refl; free = omega arith; most = omega arith;
-  within = λ w. record { free = w.free; slots = w.slots; loops = grind (arith, nat_tests) };
-  locals = []; grown = sym (append-nil body.locals); placed = tt;
-}, refl)
+loop_taken body true e = (
+  record {
+    loops = refl;
+    free = omega arith;
+    most = omega arith;
+    within = λ w. record { free = w.free; slots = w.slots; loops = grind (arith, nat_tests) };
+    locals = [];
+    grown = sym (append-nil body.locals);
+    placed = tt;
+  },
+  refl,
+)
 loop_taken body false e = tt
 
 abbrev Begins : Body → Body → Type 0
@@ -322,14 +344,14 @@ while_extends condition turn runs site body =
     (λ begun b. makes_then (IsTested begun) (Extends body) (tested site condition begun) _ (tested_well site condition begun)
     (λ asked t. makes_then (Nests asked.body) (Extends body) (statements.branch turn site asked.body) _ (branch_nests turn runs site asked.body)
     (λ inner n.
-        let start : asked.body.loops ≡ body.loops + 1 = (let e = t.moves.loops in let d = b.0.loops in omega (arith, e, d)) in
-        let all : 1 + (0 + n.count) ≡ suc n.count = omega arith in
-        closed_extends body inner.body (item.Loop true asked.cond inner.block no_block body.loops body.made.free) (suc n.count)
-        (moves_as body inner.body (1 + (0 + n.count)) (suc n.count) all
-            (moves_both body begun inner.body 1 (0 + n.count) b.0 (moves_both begun asked.body inner.body 0 n.count t.moves n.moves)))
-        (n.same ∙ t.same ∙ b.1)
-        (loop_numbered body.loops n.count true asked.cond inner.block no_block body.made.free t.plain
-            (numbered_as asked.body.loops (body.loops + 1) n.count inner.block.items start n.numbered) plain_none))))
+    let start : asked.body.loops ≡ body.loops + 1 = (let e = t.moves.loops in let d = b.0.loops in omega (arith, e, d)) in
+    let all : 1 + (0 + n.count) ≡ suc n.count = omega arith in
+    closed_extends body inner.body (item.Loop true asked.cond inner.block no_block body.loops body.made.free) (suc n.count)
+    (moves_as body inner.body (1 + (0 + n.count)) (suc n.count) all
+    (moves_both body begun inner.body 1 (0 + n.count) b.0 (moves_both begun asked.body inner.body 0 n.count t.moves n.moves)))
+    (n.same ∙ t.same ∙ b.1)
+    (loop_numbered body.loops n.count true asked.cond inner.block no_block body.made.free t.plain
+    (numbered_as asked.body.loops (body.loops + 1) n.count inner.block.items start n.numbered) plain_none))))
 
 do_extends : (turn : Running) (condition : Expr) → Runs turn → (site : Site) (body : Body) → Makes (Extends body) (statements.do_while turn condition site body)
 do_extends turn condition runs site body =
@@ -337,13 +359,13 @@ do_extends turn condition runs site body =
     (λ begun b. makes_then (Nests begun) (Extends body) (statements.branch turn site begun) _ (branch_nests turn runs site begun)
     (λ inner n. makes_then (IsTested inner.body) (Extends body) (tested site condition inner.body) _ (tested_well site condition inner.body)
     (λ asked t.
-        let all : 1 + (n.count + 0) ≡ suc n.count = omega arith in
-        closed_extends body asked.body (item.Loop false asked.cond inner.block no_block body.loops body.made.free) (suc n.count)
-        (moves_as body asked.body (1 + (n.count + 0)) (suc n.count) all
-            (moves_both body begun asked.body 1 (n.count + 0) b.0 (moves_both begun inner.body asked.body n.count 0 n.moves t.moves)))
-        (t.same ∙ n.same ∙ b.1)
-        (loop_numbered body.loops n.count false asked.cond inner.block no_block body.made.free t.plain
-            (numbered_as begun.loops (body.loops + 1) n.count inner.block.items b.0.loops n.numbered) plain_none))))
+    let all : 1 + (n.count + 0) ≡ suc n.count = omega arith in
+    closed_extends body asked.body (item.Loop false asked.cond inner.block no_block body.loops body.made.free) (suc n.count)
+    (moves_as body asked.body (1 + (n.count + 0)) (suc n.count) all
+    (moves_both body begun asked.body 1 (n.count + 0) b.0 (moves_both begun inner.body asked.body n.count 0 n.moves t.moves)))
+    (t.same ∙ n.same ∙ b.1)
+    (loop_numbered body.loops n.count false asked.cond inner.block no_block body.made.free t.plain
+    (numbered_as begun.loops (body.loops + 1) n.count inner.block.items b.0.loops n.numbered) plain_none))))
 
 -- what is computed between the turns of a loop
 computed_inside : (update : List Expr) (site : Site) (body : Body) → Makes (λ (next : Inside). Moves body next.body 0 × (next.body.made ≡ body.made) × IsPlain next.block.items) (inside (all_ran update site) body)
@@ -357,11 +379,17 @@ freed_extends : (body after : Body) → Extends body after → Extends body (wit
 freed_extends body after x = record {
   count = x.count;
   moves = record {
-    loops = x.moves.loops; free = omega arith; most = x.moves.most;
+    loops = x.moves.loops;
+    free = omega arith;
+    most = x.moves.most;
     within = λ w. let i = x.moves.within w in let up = x.moves.most in let f = w.free in record { free = omega (arith, up, f); slots = i.slots; loops = i.loops };
-    locals = x.moves.locals; grown = x.moves.grown; placed = x.moves.placed;
+    locals = x.moves.locals;
+    grown = x.moves.grown;
+    placed = x.moves.placed;
   };
-  items = x.items; appended = x.appended; numbered = x.numbered;
+  items = x.items;
+  appended = x.appended;
+  numbered = x.numbered;
 }
 
 each_extends : (parts : List Running) → AllOf Runs parts → (site : Site) (end : ℕ) (body : Body) → Makes (Extends body) (statements.each parts site end body)
@@ -376,18 +404,18 @@ for_extends first condition update turn all runs end site body =
     (λ begun b. makes_then (IsTested begun) (Extends body) (tested_if condition site begun) _ (tested_if_well condition site begun)
     (λ asked t. makes_then (Nests asked.body) (Extends body) (statements.branch turn site asked.body) _ (branch_nests turn runs site asked.body)
     (λ inner n. makes_then (λ (next : Inside). Moves inner.body next.body 0 × (next.body.made ≡ inner.body.made) × IsPlain next.block.items) (Extends body) (inside (all_ran update site) inner.body) _
-        (computed_inside update site inner.body)
+    (computed_inside update site inner.body)
     (λ next m.
-        let begin : asked.body.loops ≡ start.loops + 1 = (let e = t.moves.loops in let d = b.0.loops in omega (arith, e, d)) in
-        let count : 1 + (0 + (n.count + 0)) ≡ suc n.count = omega arith in
-        let loop = item.Loop true asked.cond inner.block next.block start.loops start.made.free in
-        let looped : Extends start (with_last next.body loop) = closed_extends start next.body loop (suc n.count)
-            (moves_as start next.body (1 + (0 + (n.count + 0))) (suc n.count) count
-                (moves_both start begun next.body 1 (0 + (n.count + 0)) b.0 (moves_both begun asked.body next.body 0 (n.count + 0) t.moves (moves_both asked.body inner.body next.body n.count 0 n.moves m.0))))
-            (m.1 ∙ n.same ∙ t.same ∙ b.1)
-            (loop_numbered start.loops n.count true asked.cond inner.block next.block start.made.free t.plain
-                (numbered_as asked.body.loops (start.loops + 1) n.count inner.block.items begin n.numbered) m.2) in
-        freed_extends body (with_last next.body loop) (extends_both body start (with_last next.body loop) x looped))))))
+    let begin : asked.body.loops ≡ start.loops + 1 = (let e = t.moves.loops in let d = b.0.loops in omega (arith, e, d)) in
+    let count : 1 + (0 + (n.count + 0)) ≡ suc n.count = omega arith in
+    let loop = item.Loop true asked.cond inner.block next.block start.loops start.made.free in
+    let looped : Extends start (with_last next.body loop) = closed_extends start next.body loop (suc n.count)
+    (moves_as start next.body (1 + (0 + (n.count + 0))) (suc n.count) count
+    (moves_both start begun next.body 1 (0 + (n.count + 0)) b.0 (moves_both begun asked.body next.body 0 (n.count + 0) t.moves (moves_both asked.body inner.body next.body n.count 0 n.moves m.0))))
+    (m.1 ∙ n.same ∙ t.same ∙ b.1)
+    (loop_numbered start.loops n.count true asked.cond inner.block next.block start.made.free t.plain
+    (numbered_as asked.body.loops (start.loops + 1) n.count inner.block.items begin n.numbered) m.2) in
+    freed_extends body (with_last next.body loop) (extends_both body start (with_last next.body loop) x looped))))))
 
 -- ---- declarations of locals
 
@@ -400,13 +428,17 @@ local_added : (name : Ident) (end : ℕ) (site : Site) (body : Body) (b : Bool) 
     }) else Err which.Slots)
 local_added name end site body true e = record {
   moves = record {
-    loops = omega arith; free = omega arith; most = omega arith;
+    loops = omega arith;
+    free = omega arith;
+    most = omega arith;
     within = λ w. record { free = omega arith; slots = (let s = w.slots in grind (arith, nat_tests)); loops = w.loops };
     locals = (record { slot = body.made.free; name = name.text; claims = declared_claims (site.names.declared name.span) }, record { from = name.span.from; to = end }) ∷ [];
     grown = refl;
     placed = ((omega arith, omega arith), tt);
   };
-  items = []; appended = sym (append-nil body.made.items); plain = plain_none;
+  items = [];
+  appended = sym (append-nil body.made.items);
+  plain = plain_none;
 }
 local_added name end site body false e = tt
 

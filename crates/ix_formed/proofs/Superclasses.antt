@@ -48,7 +48,7 @@ where_has d is first (item ∷ items) (suc k) lt e =
     let there = subst (λ n. is_among (numbers_where is (first + 1) items) n ≡ true) same (where_has d is (first + 1) items k (omega (arith, lt)) e) in
     by_test (is item)
     (λ t. subst (λ b. is_among (if b then first ∷ numbers_where is (first + 1) items else numbers_where is (first + 1) items) (first + suc k) ≡ true) (sym t)
-        (rest_among first (first + suc k) (numbers_where is (first + 1) items) there))
+    (rest_among first (first + suc k) (numbers_where is (first + 1) items) there))
     (λ f. subst (λ b. is_among (if b then first ∷ numbers_where is (first + 1) items else numbers_where is (first + 1) items) (first + suc k) ≡ true) (sym f) there)
 
 module _ (p : Program) (ps : List (Option ℕ)) (same : (class : ℕ) → (class_at p class).parent ≡ parent ps class) where
@@ -64,8 +64,8 @@ module _ (p : Program) (ps : List (Option ℕ)) (same : (class : ℕ) → (class
   up_there (turn ∷ turns) class (suc most) lt other e =
       by_test (class == other) (λ t. first_among class other (way_up parent_of most (parent_of class)) t)
       (λ f. rest_among class other (way_up parent_of most (parent_of class))
-          (subst (λ (o : Option ℕ). is_among (way_up parent_of most o) other ≡ true) (sym (same class))
-            (further (parent ps class) lt (sym (ap (λ b. b || classes.is_among other (up ps (turn ∷ turns) class)) f) ∙ e) (λ above le there. up_there turns above most le other there))))
+      (subst (λ (o : Option ℕ). is_among (way_up parent_of most o) other ≡ true) (sym (same class))
+      (further (parent ps class) lt (sym (ap (λ b. b || classes.is_among other (up ps (turn ∷ turns) class)) f) ∙ e) (λ above le there. up_there turns above most le other there))))
     where
       further : (o : Option ℕ) → length (onward (up ps turns) o) < suc most → classes.is_among other (onward (up ps turns) o) ≡ true
           → ((above : ℕ) → length (up ps turns above) < most → classes.is_among other (above ∷ up ps turns above) ≡ true → is_among (way_up parent_of most (Some above)) other ≡ true)

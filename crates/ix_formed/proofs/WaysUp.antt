@@ -55,9 +55,9 @@ one_less n [] d = omega arith
 one_less n (x ∷ xs) d =
     by_test (x == n)
     (λ t.
-        let same = equal x n t in
-        let e = without_same n xs (subst (λ k. is_among k xs ≡ false) same d.0) in
-        let l = ap (λ b. length (if b then without n xs else x ∷ without n xs)) t ∙ ap (λ (l : List ℕ). length l) e in omega (arith, l))
+    let same = equal x n t in
+    let e = without_same n xs (subst (λ k. is_among k xs ≡ false) same d.0) in
+    let l = ap (λ b. length (if b then without n xs else x ∷ without n xs)) t ∙ ap (λ (l : List ℕ). length l) e in omega (arith, l))
     (λ f. let l = ap (λ b. length (if b then without n xs else x ∷ without n xs)) f in let rest = one_less n xs d.1 in omega (arith, l, rest))
 
 below_without : (n : ℕ) (xs : List ℕ) → AllOf (λ x. x < suc n) xs → AllOf (λ x. x < n) (without n xs)
@@ -66,7 +66,7 @@ below_without n (x ∷ xs) a =
     by_test (x == n)
     (λ t. subst (λ b. AllOf (λ x. x < n) (if b then without n xs else x ∷ without n xs)) (sym t) (below_without n xs a.1))
     (λ f. subst (λ b. AllOf (λ x. x < n) (if b then without n xs else x ∷ without n xs)) (sym f)
-        ((let u = a.0 in let v = differ x n f in omega (arith, u, v)), below_without n xs a.1))
+    ((let u = a.0 in let v = differ x n f in omega (arith, u, v)), below_without n xs a.1))
 
 -- so many different numbers are not all below a smaller one
 pub few_distinct : (n : ℕ) (xs : List ℕ) → Distinct xs → AllOf (λ x. x < n) xs → length xs ≤ n
@@ -124,9 +124,10 @@ module _ (ps : List (Option ℕ)) where
 
     up_distinct : (turns : List (Option ℕ)) (class : ℕ) → class < length ps → length turns ≤ length ps → Distinct (class ∷ up turns class)
     up_distinct [] class lt le = (refl, tt)
-    up_distinct (turn ∷ turns) class lt le =
-        (by_test (is_among class (up (turn ∷ turns) class)) (λ t. absurd (false≢true (sym (acyclic class lt) ∙ up_more (turn ∷ turns) ps class class le t))) (λ f. f),
-          onward_distinct (parent ps class) refl (λ p lt. up_distinct turns p lt (omega (arith, le))))
+    up_distinct (turn ∷ turns) class lt le = (
+      by_test (is_among class (up (turn ∷ turns) class)) (λ t. absurd (false≢true (sym (acyclic class lt) ∙ up_more (turn ∷ turns) ps class class le t))) (λ f. f),
+      onward_distinct (parent ps class) refl (λ p lt. up_distinct turns p lt (omega (arith, le))),
+    )
       where
         onward_distinct : (o : Option ℕ) → o ≡ parent ps class → ((p : ℕ) → p < length ps → Distinct (p ∷ up turns p)) → Distinct (onward (up turns) o)
         onward_distinct None e rest = tt

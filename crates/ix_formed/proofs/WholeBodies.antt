@@ -92,7 +92,7 @@ parent_starts site parent args span body =
     makes_then (λ (g : Arguments). Adds body.made g.made) (Starts 1 body) (arguments_from [] (map lowering args) (scope_for site body (all_assign args)) body.made) _
     (arguments_add [] (map lowering args) (all_grow args) (scope_for site body (all_assign args)) body.made)
     (λ given a. makes_then (λ (v : Value). Starts 1 body (behind body v.made.items v.made.free)) (Starts 1 body) (calling op.SuperCall (constructor_at site parent) (Some 0) parent span given) _
-        (taken_starts body given.made a _ span (nat_lt given.made.free most_slots) refl) (λ v s. s))
+    (taken_starts body given.made a _ span (nat_lt given.made.free most_slots) refl) (λ v s. s))
 
 -- how often the parent's constructor has to be called
 abbrev pub calls_of : Option ℕ → ℕ
@@ -120,15 +120,15 @@ fields_start site field [] body = starts_none body
 fields_start site field (member.Field decl ∷ members) body =
     makes_then (Computes body) (Starts 0 body) (program.member_initialised site field decl body) _ (static_or_not decl.mods.is_static site field decl body)
     (λ second c. makes_more (Starts 0 second) (Starts 0 body) (λ third s. starts_both 0 0 body second third (computes_starts body second c) s)
-        (program.fields_initialised site (next_field field decl) members second) (fields_start site (next_field field decl) members second))
+    (program.fields_initialised site (next_field field decl) members second) (fields_start site (next_field field decl) members second))
 fields_start site field (member.Method decl ∷ members) body = fields_start site field members body
 
 pub constructor_starts : (site : Site) (home : Home) (args : List Expr) (span : Span) (body : Body) → Makes (Starts (calls_of home.parent) body) (program.constructor_start site home args span body)
 constructor_starts site home args span body =
     makes_then (Starts (calls_of home.parent) body) (Starts (calls_of home.parent) body) (program.super_call site home.parent args span body) _ (super_starts site home.parent args span body)
     (λ second a. makes_more (Starts 0 second) (Starts (calls_of home.parent) body)
-        (λ third b. starts_as (calls_of home.parent + 0) (calls_of home.parent) body third (omega arith) (starts_both (calls_of home.parent) 0 body second third a b))
-        (program.fields_initialised site home.field home.members second) (fields_start site home.field home.members second))
+    (λ third b. starts_as (calls_of home.parent + 0) (calls_of home.parent) body third (omega arith) (starts_both (calls_of home.parent) 0 body second third a b))
+    (program.fields_initialised site home.field home.members second) (fields_start site home.field home.members second))
 
 -- ---- whole bodies
 
@@ -168,7 +168,7 @@ written_body_is site home decl free few =
     makes_then (Starts (calls_in decl.constructor home.parent) (start free)) (IsBody free (calls_in decl.constructor home.parent)) (program.written_start site home decl (start free)) _
     (written_or_not decl.constructor site home decl (start free))
     (λ begun s. makes_more (Extends begun) (IsBody free (calls_in decl.constructor home.parent)) (λ body x. whole free (calls_in decl.constructor home.parent) begun body few s x)
-        (each (map statement decl.body) site decl.span.to begun) (statements_extend decl.body site decl.span.to begun))
+    (each (map statement decl.body) site decl.span.to begun) (statements_extend decl.body site decl.span.to begun))
 
 -- of a constructor that isn't written
 pub default_body_is : (site : Site) (home : Home) (span : Span) → Makes (IsBody 1 (calls_of home.parent)) (program.constructor_start site home [] span (start 1))

@@ -5,3 +5,4 @@ pub mod Typed
 pub mod Named
 pub mod Listed
 pub mod Numbered
+pub mod OneValue

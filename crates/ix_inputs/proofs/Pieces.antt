@@ -44,7 +44,7 @@ append_none : (xs : List ℕ) → xs ++ [] ≡ xs
 append_none [] = refl
 append_none (x ∷ xs) = ap (λ ys. x ∷ ys) (append_none xs)
 
-cut : (n : ℤ) (ns : List ℤ) → AreInts (n ∷ ns) → slice_split (λ b. b == 44) (with_commas (n ∷ ns)) ≡ map signed_decimal (n ∷ ns)
+pub cut : (n : ℤ) (ns : List ℤ) → AreInts (n ∷ ns) → slice_split (λ b. b == 44) (with_commas (n ∷ ns)) ≡ map signed_decimal (n ∷ ns)
 cut n [] are = ap (slice_split (λ b. b == 44)) (append_none (signed_decimal n)) ∙ slice_split_none (λ b. b == 44) (signed_decimal n) (no_comma n are.0)
 cut n (m ∷ ns) are = slice_split_at (λ b. b == 44) (signed_decimal n) 44 (with_commas (m ∷ ns)) (no_comma n are.0) refl ∙ ap (λ ps. signed_decimal n ∷ ps) (cut m ns are.1)
 
@@ -55,7 +55,7 @@ joined (n ∷ m ∷ ns) = ap (λ xs. signed_decimal n ++ 44 ∷ xs) (joined (m �
 
 -- ---- between brackets
 
-behind_first : (x y : ℕ) (xs ys : List ℕ) → ◌≡◌ {A = List ℕ} (x ∷ xs) (y ∷ ys) → (x ≡ y) × (xs ≡ ys)
+pub behind_first : (x y : ℕ) (xs ys : List ℕ) → ◌≡◌ {A = List ℕ} (x ∷ xs) (y ∷ ys) → (x ≡ y) × (xs ≡ ys)
 behind_first x y xs ys e = (cc, cc)
 
 before_last : (xs ys : List ℕ) → xs ++ 93 ∷ [] ≡ ys ++ 93 ∷ [] → xs ≡ ys
@@ -66,7 +66,7 @@ before_last (x ∷ []) [] e = let parts = behind_first x 93 (93 ∷ []) [] e in 
 before_last (x ∷ z ∷ xs) [] e = let parts = behind_first x 93 (z ∷ (xs ++ 93 ∷ [])) [] e in let more = parts.1 in absurd cc
 before_last (x ∷ xs) (y ∷ ys) e = let parts = behind_first x y (xs ++ 93 ∷ []) (ys ++ 93 ∷ []) e in let first = parts.0 in let rest = before_last xs ys parts.1 in rw (first, rest) refl
 
-inside : (inner others : List ℕ) → ◌≡◌ {A = List ℕ} (91 ∷ (inner ++ 93 ∷ [])) (91 ∷ (others ++ 93 ∷ [])) → inner ≡ others
+pub inside : (inner others : List ℕ) → ◌≡◌ {A = List ℕ} (91 ∷ (inner ++ 93 ∷ [])) (91 ∷ (others ++ 93 ∷ [])) → inner ≡ others
 inside inner others e = before_last inner others (behind_first 91 91 (inner ++ 93 ∷ []) (others ++ 93 ∷ []) e).1
 
 -- ---- what a word of ints writes

@@ -1,14 +1,12 @@
 //! Whole sources.
-ghost use Rattle.std.specs.Prelude.{◌≡◌, ◌++◌, ◌∷◌, ◌+◌, ◌<◌, ◌^◌, [], ℕ, None, Ok, Err, length, IfOk, OnOk, IsErrOf};
+ghost use Rattle.std.specs.Prelude.{◌≡◌, ◌++◌, ◌∷◌, ◌+◌, ◌<◌, ◌^◌, [], ℕ, Ok, Err, length, IfOk, OnOk, IsErrOf};
 ghost use Rattle.ix_meaning.specs.declared.note.Which.{Which};
 ghost use Rattle.ix_meaning.specs.Source.{members_in};
-ghost use Rattle.ix_meaning.specs.Limits.{limit as names_limit};
 ghost use Rattle.ix_table.specs.Numbered.{shown};
 ghost use Rattle.ix_plain.specs.declared.made.Stop.TheVariants as stop;
 ghost use Rattle.ix_plain.specs.declared.numbers.Next.{Next};
 ghost use Rattle.ix_plain.specs.Counts as counts;
 ghost use Rattle.ix_plain.specs.Program as spec;
-ghost use Rattle.ix_formed.specs.Shape.{HasShape};
 ghost use Rattle.ix_lower.specs.declared.source.LowerError.TheVariants as error;
 ghost use Rattle.ix_lower.specs.Homes.{shown_tables, shown_home};
 
@@ -195,7 +193,7 @@ fn methods<'t>(
 }
 
 /// The plain form of a source whose names mean what the table says.
-fn lowered(alloc: Global, unit: &Unit, table: &Table) -> Result<Program, LowerError>
+pub fn lower(alloc: Global, unit: &Unit, table: &Table) -> Result<Program, LowerError>
     requires few_classes { length unit.now.classes < 2 ^ 32 }
     requires few_members { members_in unit.now.classes + 1 < 2 ^ 32 }
     ensures program { IfOk result (λ program. spec.program (shown table.now) unit.now.classes ≡ Ok program) }
@@ -221,18 +219,4 @@ fn lowered(alloc: Global, unit: &Unit, table: &Table) -> Result<Program, LowerEr
         fields,
         accesses: accesses(decls),
     })
-}
-
-/// The plain form of a source whose names mean what the table says. Of a source that passes no limit on names its numbers are in order, its slots and loops
-/// within the limits, and each constructor calls its parent's once (`HasShape`).
-#[tactic(auto, using(ix_formed::proofs::ProgramsHaveShape::shape_of))]
-pub fn lower(alloc: Global, unit: &Unit, table: &Table) -> Result<Program, LowerError>
-    requires few_classes { length unit.now.classes < 2 ^ 32 }
-    requires few_members { members_in unit.now.classes + 1 < 2 ^ 32 }
-    ensures program { IfOk result (λ program. spec.program (shown table.now) unit.now.classes ≡ Ok program) }
-    ensures limit { (which : Which) (place : ℕ) → IsErrOf result (error.Limit which place) → spec.program (shown table.now) unit.now.classes ≡ Err (record { which = which; place = place }) }
-    ensures shape { IfOk result (λ program. names_limit unit.now.classes ≡ None → HasShape program) }
-{
-    let program = lowered(alloc, unit, table)?;
-    Ok(program)
 }

@@ -3,3 +3,4 @@ pub mod Methods
 pub mod Begun
 pub mod Starting
 pub mod Entered
+pub mod OneStart

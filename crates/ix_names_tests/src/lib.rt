@@ -6,11 +6,23 @@
 #[cfg(test)]
 mod annotations;
 #[cfg(test)]
+mod constants;
+#[cfg(test)]
+mod heirs;
+#[cfg(test)]
 mod limits;
 #[cfg(test)]
 mod members;
 #[cfg(test)]
+mod nested;
+#[cfg(test)]
+mod references;
+#[cfg(test)]
 mod row;
+#[cfg(test)]
+mod statements;
+#[cfg(test)]
+mod targets;
 #[cfg(test)]
 mod types;
 #[cfg(test)]

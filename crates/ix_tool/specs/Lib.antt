@@ -1,5 +1,3 @@
-pub mod Command
-pub mod Statuses
-pub mod Answer
+pub mod Runs
+pub mod Answers
 pub mod Ends
-pub mod Findings

@@ -79,6 +79,15 @@ fn words(rt: HostRuntime) -> Result<(), Fail> {
         (&["check", ""], Status::Usage, USAGE),
         (&["check", "A.java", "A.java"], Status::Usage, USAGE),
         (&["chek", "A.java"], Status::Usage, USAGE),
+        (&["check", "--sums", "odd", "A.java"], Status::Usage, USAGE),
+        (&["run", "A.java"], Status::Usage, USAGE),
+        (
+            &["run", "--steps", "0", "A.java", "A.f"],
+            Status::Usage,
+            USAGE,
+        ),
+        (&["bench", "0"], Status::Usage, USAGE),
+        (&["bench", "1001"], Status::Usage, USAGE),
     ];
     for &(words, status, err) in rows {
         let ended = run(rt.alloc(), words, GET.as_bytes())?;

@@ -16,6 +16,8 @@ mod forms;
 #[cfg(test)]
 mod limits;
 #[cfg(test)]
+mod runs;
+#[cfg(test)]
 mod slow;
 #[cfg(test)]
 mod words;

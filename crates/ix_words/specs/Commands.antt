@@ -1,7 +1,7 @@
 -- Which words are a command, and which.
 use Rattle.std.specs.Prelude.{ℕ, Bool, true, List, [], ◌∷◌, Option, Some, None, if◌then◌else◌, codes, option_map, option_and_then}
 use Rattle.std.specs.Str.{bytes_eq}
-use Rattle.ix_words.specs.Values.{number_in, limits_of, sums_of}
+use Rattle.ix_words.specs.Values.{number_in, limits_of, sums_of, AreInRange}
 use Rattle.ix_words.specs.declared.values.Limits.{Limits}
 use Rattle.ix_words.specs.declared.values.Sums.{Sums}
 use Rattle.ix_words.specs.Words.{Text, Options, Parsed, parsed, text_of}
@@ -45,3 +45,8 @@ command_of (first ∷ words) =
     else if bytes_eq first (codes "run") then command_with run_options run_of words
     else if bytes_eq first (codes "bench") then command_with [] bench_of words
     else None
+
+-- the limits of a run lie in their ranges
+abbrev pub HasLimits : Command → Type 0
+HasLimits (Run limits file entry inputs) = AreInRange limits
+HasLimits _ = Unit {0}

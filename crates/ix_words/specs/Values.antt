@@ -1,6 +1,6 @@
 -- The values of options: numbers, the limits of a run, and how sums count. A number is decimal digits without a sign, and without a leading zero other than
 -- `0` itself.
-use Rattle.std.specs.Prelude.{ℕ, ◌+◌, ◌-◌, ◌*◌, ◌==◌, ◌&&◌, nat_le, Bool, List, [], ◌∷◌, Option, Some, None, if◌then◌else◌, option_and_then, option_map, codes}
+use Rattle.std.specs.Prelude.{ℕ, ◌<◌, ◌≤◌, ◌+◌, ◌-◌, ◌*◌, ◌==◌, ◌&&◌, nat_le, Bool, List, [], ◌∷◌, Option, Some, None, if◌then◌else◌, option_and_then, option_map, codes}
 use Rattle.std.specs.Str.{bytes_eq}
 use Rattle.ix_words.specs.declared.values.Limits.{Limits}
 use Rattle.ix_words.specs.declared.values.Sums.{Sums}
@@ -33,6 +33,10 @@ abbrev pub limits_of : Option (List ℕ) → Option (List ℕ) → Option (List 
 limits_of steps cells frames = option_and_then
     (λ s. option_and_then (λ c. option_map (λ f. let limits : Limits = record { steps = s; cells = c; frames = f } in limits) (number_or 1 10000 1000 frames)) (number_or 1 16777216 1000000 cells))
     (number_or 1 1000000000 1000000 steps)
+
+-- The limits lie in their ranges.
+abbrev pub AreInRange : Limits → Type 0
+AreInRange limits = (0 < limits.steps) × (limits.steps ≤ 1000000000) × (0 < limits.cells) × (limits.cells ≤ 16777216) × (0 < limits.frames) × (limits.frames ≤ 10000)
 
 -- how sums count; `int32` is meant where nothing is said
 abbrev pub sums_of : Option (List ℕ) → Option Sums

@@ -1,6 +1,6 @@
 //! The commands: each with its options and its positionals.
-ghost use Rattle.std.specs.Prelude.{◌≡◌, ◌<◌, ◌≤◌, IfOk, [], drop, map, length, option_map};
-ghost use Rattle.ix_words.specs.Commands.{check_options, check_of, run_options, run_of, bench_of, command_with, command_of};
+ghost use Rattle.std.specs.Prelude.{◌≡◌, ◌<◌, ◌≤◌, IfOk, IfSome, [], drop, map, length, option_map};
+ghost use Rattle.ix_words.specs.Commands.{check_options, check_of, run_options, run_of, bench_of, command_with, command_of, HasLimits};
 ghost use Rattle.ix_words.specs.Shown.{shown, words_of};
 
 use crate::matching::matches_of;
@@ -31,7 +31,8 @@ static CHECK: [(&str, bool); 1] = [("sums", true)];
 /// `check [--sums ideal|int32] FILE`.
 fn check<'a>(alloc: Global, words: &'a [String]) -> Result<Option<Command<'a>>, AllocError>
     requires { 0 < length words.now }
-    ensures { IfOk result (λ r. option_map shown r ≡ command_with check_options check_of (drop 1 (words_of words.entry.now))) }
+    ensures command { IfOk result (λ r. option_map shown r ≡ command_with check_options check_of (drop 1 (words_of words.entry.now))) }
+    ensures limits { IfOk result (λ r. IfSome r (λ command. HasLimits (shown command))) }
 {
     let Some(matches) = matches_of(alloc, &CHECK, words)? else {
         return Ok(None);
@@ -64,7 +65,8 @@ fn behind_two<'a>(alloc: Global, words: &[&'a str]) -> Result<Vec<&'a str>, Allo
 /// `run [--steps N] [--cells N] [--frames N] FILE CLASS.METHOD INPUTS`.
 fn run<'a>(alloc: Global, words: &'a [String]) -> Result<Option<Command<'a>>, AllocError>
     requires { 0 < length words.now }
-    ensures { IfOk result (λ r. option_map shown r ≡ command_with run_options run_of (drop 1 (words_of words.entry.now))) }
+    ensures command { IfOk result (λ r. option_map shown r ≡ command_with run_options run_of (drop 1 (words_of words.entry.now))) }
+    ensures limits { IfOk result (λ r. IfSome r (λ command. HasLimits (shown command))) }
 {
     let Some(matches) = matches_of(alloc, &RUN, words)? else {
         return Ok(None);
@@ -94,7 +96,8 @@ fn run<'a>(alloc: Global, words: &'a [String]) -> Result<Option<Command<'a>>, Al
 /// `bench N`.
 fn bench<'a>(alloc: Global, words: &'a [String]) -> Result<Option<Command<'a>>, AllocError>
     requires { 0 < length words.now }
-    ensures { IfOk result (λ r. option_map shown r ≡ command_with [] bench_of (drop 1 (words_of words.entry.now))) }
+    ensures command { IfOk result (λ r. option_map shown r ≡ command_with [] bench_of (drop 1 (words_of words.entry.now))) }
+    ensures limits { IfOk result (λ r. IfSome r (λ command. HasLimits (shown command))) }
 {
     let Some(matches) = matches_of(alloc, &[], words)? else {
         return Ok(None);
@@ -111,9 +114,10 @@ fn bench<'a>(alloc: Global, words: &'a [String]) -> Result<Option<Command<'a>>, 
     Ok(Some(Command::Bench(count)))
 }
 
-/// The command that the words are; none exactly where they are no command. The one error is want of memory.
+/// The command that the words are; none exactly where they are no command. The limits of a run lie in their ranges. The one error is want of memory.
 pub fn read_words<'a>(alloc: Global, words: &'a [String]) -> Result<Option<Command<'a>>, AllocError>
-    ensures { IfOk result (λ r. option_map shown r ≡ command_of (words_of words.entry.now)) }
+    ensures command { IfOk result (λ r. option_map shown r ≡ command_of (words_of words.entry.now)) }
+    ensures limits { IfOk result (λ r. IfSome r (λ command. HasLimits (shown command))) }
 {
     if words.is_empty() {
         return Ok(None);

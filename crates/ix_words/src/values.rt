@@ -1,10 +1,11 @@
 //! The values of options: numbers, limits, and how sums count.
-ghost use Rattle.std.specs.Prelude.{◌≡◌, ◌≤◌, option_map};
+ghost use Rattle.std.specs.Prelude.{◌≡◌, ◌≤◌, IfSome, option_map};
 ghost use Rattle.ix_words.specs.Values as spec;
 
 /// The number of the digits, where they are decimal digits and it is at most `most`.
 fn digits(bytes: &[u8], most: u32) -> Option<u32>
-    ensures { result ≡ spec.digits_from most 0 bytes.now }
+    ensures value { result ≡ spec.digits_from most 0 bytes.now }
+    ensures within { IfSome result (λ value. value ≤ most) }
 {
     let mut value: u64 = 0;
     for byte in bytes {
@@ -23,7 +24,9 @@ fn digits(bytes: &[u8], most: u32) -> Option<u32>
 
 /// The number that the word is, in decimal without a sign or a leading zero, where it lies in the range.
 pub(crate) fn number(word: &str, least: u32, most: u32) -> Option<u32>
-    ensures { result ≡ spec.number_in least most word.now }
+    ensures value { result ≡ spec.number_in least most word.now }
+    ensures least { IfSome result (λ value. least ≤ value) }
+    ensures most { IfSome result (λ value. value ≤ most) }
 {
     let bytes = word.as_bytes();
     if bytes.is_empty() || (bytes.len() > 1 && bytes[0] == b'0') {
@@ -37,7 +40,11 @@ pub(crate) fn number(word: &str, least: u32, most: u32) -> Option<u32>
 
 /// The number of an option that may be left out.
 fn number_or(word: Option<&str>, least: u32, most: u32, default: u32) -> Option<u32>
-    ensures { result ≡ spec.number_or least most default (option_map (λ w. w.now) word.entry) }
+    requires least { least ≤ default }
+    requires most { default ≤ most }
+    ensures value { result ≡ spec.number_or least most default (option_map (λ w. w.now) word.entry) }
+    ensures least { IfSome result (λ value. least ≤ value) }
+    ensures most { IfSome result (λ value. value ≤ most) }
 {
     match word {
         Some(word) => number(word, least, most),
@@ -62,7 +69,8 @@ pub(crate) fn read_limits(
     cells: Option<&str>,
     frames: Option<&str>,
 ) -> Option<Limits>
-    ensures { result ≡ spec.limits_of (option_map (λ w. w.now) steps.entry) (option_map (λ w. w.now) cells.entry) (option_map (λ w. w.now) frames.entry) }
+    ensures limits { result ≡ spec.limits_of (option_map (λ w. w.now) steps.entry) (option_map (λ w. w.now) cells.entry) (option_map (λ w. w.now) frames.entry) }
+    ensures in_range { IfSome result spec.AreInRange }
 {
     let steps = number_or(steps, 1, 1_000_000_000, 1_000_000)?;
     let cells = number_or(cells, 1, 16_777_216, 1_000_000)?;

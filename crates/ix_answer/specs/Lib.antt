@@ -1,0 +1,5 @@
+pub mod Statuses
+pub mod Answer
+pub mod Ends
+pub mod Replies
+pub mod Delivery

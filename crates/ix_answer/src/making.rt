@@ -1,0 +1,33 @@
+//! Replies that write to one sink alone.
+ghost use Rattle.std.specs.Prelude.{◌≡◌, true, string_bytes};
+ghost use Rattle.ix_answer.specs.Answer.{out_answer, err_answer};
+ghost use Rattle.ix_answer.specs.Replies.{shown};
+ghost use Rattle.ix_answer.specs.Statuses.{is_reply};
+
+use crate::reply::Reply;
+use crate::status::Status;
+use std::alloc::Global;
+
+/// A reply that writes to `out` alone.
+pub fn on_out(alloc: Global, status: Status, out: String) -> Reply
+    requires { is_reply status ≡ true }
+    ensures { shown result ≡ out_answer status (string_bytes out) }
+{
+    Reply {
+        status,
+        out,
+        err: String::new(alloc),
+    }
+}
+
+/// A reply that writes to `err` alone.
+pub fn on_err(alloc: Global, status: Status, err: String) -> Reply
+    requires { is_reply status ≡ true }
+    ensures { shown result ≡ err_answer status (string_bytes err) }
+{
+    Reply {
+        status,
+        out: String::new(alloc),
+        err,
+    }
+}

@@ -1,0 +1,2 @@
+pub mod BytesFound
+mod NamesFound

@@ -1,0 +1,30 @@
+use Rattle.std.proofs.Common.{rules, sym, ◌≡◌, ◌∙◌, ap, subst, Ok, Err, Some}
+use Rattle.std.proofs.lemmas.Result.{IfOk-weaker}
+use Rattle.ix_plain.specs.Program.{program}
+use Rattle.ix_meaning.specs.Resolved.{names}
+use Rattle.ix_finding.specs.Found as spec
+use Rattle.ix_finding.proofs.NamesFound.{accepted_only, unlowered_found, unlowered_only, unlowered_placed}
+use Rattle.ix_finding.proofs.finding.of_lowered.Goals as goal
+
+pub returns-in-Ok-clause-right : goal.returns-in-Ok-clause-right
+returns-in-Ok-clause-right c =
+    let made : program (names c.args.unit.now) c.args.unit.now.classes ≡ Ok _ = ap (λ n. program n c.args.unit.now.classes) (sym c.requires.table) ∙ c.in-Ok.ensures.program in
+    IfOk-weaker c.of_program.result _ _ (λ finding is. subst (λ f. spec.FoundIn c.args.end c.args.unit.now f) (sym is) (spec.named _ c.requires.accepts made)) c.of_program.ensures.found
+
+pub returns-in-Ok-clause-only : goal.returns-in-Ok-clause-only
+returns-in-Ok-clause-only c = λ other found.
+    let made : program (names c.args.unit.now) c.args.unit.now.classes ≡ Ok _ = ap (λ n. program n c.args.unit.now.classes) (sym c.requires.table) ∙ c.in-Ok.ensures.program in
+    IfOk-weaker c.of_program.result _ _ (λ finding is. is ∙ accepted_only c.args.end c.args.unit.now _ other c.requires.accepts made found) c.of_program.ensures.found
+
+pub returns-in-Some-clause-right : goal.returns-in-Some-clause-right
+returns-in-Some-clause-right c =
+    unlowered_found c.args.end c.args.unit.now _ _ c.requires.accepts
+    (λ which place is. ap (λ n. program n c.args.unit.now.classes) (sym c.requires.table) ∙ c.in-Err.ensures.limit which place (ap Err is)) c.in-Some.ensures
+
+pub returns-in-Some-clause-only : goal.returns-in-Some-clause-only
+returns-in-Some-clause-only c = λ other found.
+    unlowered_only c.args.end c.args.unit.now _ _ other c.requires.accepts
+    (λ which place is. ap (λ n. program n c.args.unit.now.classes) (sym c.requires.table) ∙ c.in-Err.ensures.limit which place (ap Err is)) c.in-Some.ensures found
+
+pub returns-in-Some-clause-placed : goal.returns-in-Some-clause-placed
+returns-in-Some-clause-placed c = unlowered_placed _ _ _ c.in-Some.ensures

@@ -1,0 +1,11 @@
+use Rattle.ix_finding.proofs.NamesFound.{refused_found, refused_only, refused_placed}
+use Rattle.ix_finding.proofs.finding.of_unit.Goals as goal
+
+pub returns-in-Some-clause-right : goal.returns-in-Some-clause-right
+returns-in-Some-clause-right c = refused_found _ _ _ _ c.in-Err.ensures.refused c.in-Some.ensures
+
+pub returns-in-Some-clause-only : goal.returns-in-Some-clause-only
+returns-in-Some-clause-only c = λ other found. refused_only _ _ _ _ other c.in-Err.ensures.refused c.in-Some.ensures found
+
+pub returns-in-Some-clause-placed : goal.returns-in-Some-clause-placed
+returns-in-Some-clause-placed c = refused_placed _ _ _ c.in-Some.ensures

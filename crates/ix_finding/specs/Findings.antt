@@ -1,0 +1,24 @@
+-- What a finding of the code says, and where it stands.
+use Rattle.std.specs.Prelude.{ℕ, ◌≤◌, List}
+use Rattle.ix_finding.specs.declared.finding.Finding.{Finding as Seen}
+use Rattle.ix_finding.specs.declared.finding.Finding.TheVariants as code
+use Rattle.ix_finding.specs.declared.finding.Judgement.{Judgement as SeenJudgement}
+use Rattle.ix_finding.specs.declared.finding.Judgement.TheVariants as seen_judgement
+use Rattle.ix_finding.specs.Found.{Finding, TooLong, Broken, Past, Misnamed, Whole, Judgement, NotBuilt, Judged}
+
+abbrev pub judged : SeenJudgement → Judgement
+judged seen_judgement.NotBuilt = NotBuilt
+judged (seen_judgement.Judged counts errors) = Judged counts errors.items
+
+abbrev pub seen : Seen → Finding
+seen code.TooLong = TooLong
+seen (code.Broken at key) = Broken at key.now
+seen (code.Past at name) = Past at name.now
+seen (code.Misnamed errors) = Misnamed errors
+seen (code.Whole judgement program) = Whole (judged judgement) program
+
+-- The place of an error or a limit is not behind the end of the text.
+abbrev pub IsPlaced : ℕ → Finding → Type 0
+IsPlaced end (Broken at key) = at ≤ end
+IsPlaced end (Past at name) = at ≤ end
+IsPlaced end _ = Unit {0}

@@ -1,0 +1,218 @@
+//! What the bytes of a file turn out to be.
+ghost use Rattle.std.specs.Prelude.{◌≡◌, ◌≤◌, length, option_map, drop, IfOk};
+ghost use Rattle.ix_lexer.specs.Spans.{InOrder};
+ghost use Rattle.ix_tree.specs.Parts.{CanResolve};
+ghost use Rattle.ix_meaning.specs.Resolved.{Accepts, names};
+ghost use Rattle.ix_table.specs.Numbered.{shown};
+ghost use Rattle.ix_grammar.specs.Refusals.{IsWithin as TokenWithin};
+ghost use Rattle.ix_finding.specs.Found as spec;
+ghost use Rattle.ix_finding.specs.Findings.{seen, judged, IsPlaced};
+
+use ix_check::{Counts, UnitError, check_unit, count_unit};
+use ix_core::{Error, Program};
+use ix_lexer::{LexError, Token, lex};
+use ix_lower::{LowerError, lower};
+use ix_meaning::{NameError, NameErrors};
+use ix_name_report::limit_name;
+use ix_names::{Table, resolve};
+use ix_outside::MOST_BYTES;
+use ix_parser::{ParseError, parse};
+use ix_text::List;
+use ix_tree::Unit;
+use std::alloc::{AllocError, Global};
+
+/// What the rules say of a source without errors on names.
+#[derive(Drop)]
+pub enum Judgement {
+    /// It is of a form that isn't judged yet.
+    NotBuilt,
+    /// Its counts and its errors.
+    Judged(Counts, Vec<Error>),
+}
+
+/// What the bytes of a file turn out to be.
+#[derive(Drop)]
+pub enum Finding {
+    /// More bytes than a source may have.
+    TooLong,
+    /// A lexical error or a syntax error at a byte, by its key.
+    Broken(u32, &'static str),
+    /// A limit that is passed at a byte, by its name.
+    Past(u32, &'static str),
+    /// Errors on names, types and annotations, as they are listed.
+    Misnamed(List<NameError>),
+    /// A source without these: what the rules say of it, and its plain form.
+    Whole(Judgement, Program),
+}
+
+/// What a text without tokens is; nothing where memory is wanting.
+fn of_lex_error(why: LexError) -> Option<Finding>
+    ensures { option_map seen result ≡ spec.of_lex_error why }
+{
+    match why {
+        LexError::BadUtf8(at) => Some(Finding::Broken(at, "bad.utf8")),
+        LexError::BadChar(at) => Some(Finding::Broken(at, "bad.character")),
+        LexError::OpenComment(at) => Some(Finding::Broken(at, "open.comment")),
+        LexError::OpenString(at) => Some(Finding::Broken(at, "open.string")),
+        LexError::BadNumber(at) => Some(Finding::Broken(at, "bad.number")),
+        LexError::TooMany(at) => Some(Finding::Past(at, "tokens")),
+        LexError::Memory => None,
+    }
+}
+
+/// Where the token of that number starts, or the end of the text.
+fn start_of(tokens: &[Token], number: u32, end: u32) -> u32
+    requires few { length tokens.now ≤ 200000 }
+    requires within { number ≤ length tokens.now }
+    ensures { result ≡ spec.start_of (drop number tokens.now) end }
+{
+    match &tokens[number as usize..] {
+        [] => end,
+        [token, ..] => token.span.from,
+    }
+}
+
+/// What tokens without a tree are; nothing where memory is wanting.
+fn of_parse_error(tokens: &[Token], end: u32, why: ParseError) -> Option<Finding>
+    requires few { length tokens.now ≤ 200000 }
+    requires within { TokenWithin (length tokens.now) end why }
+    ensures { option_map seen result ≡ spec.of_parse_error tokens.now end why }
+{
+    match why {
+        ParseError::Syntax(number) => {
+            Some(Finding::Broken(start_of(tokens, number, end), "syntax"))
+        }
+        ParseError::TooDeep(from) => Some(Finding::Past(from, "height")),
+        ParseError::Memory => None,
+    }
+}
+
+/// What the rules say of a source without errors on names.
+fn judge(alloc: Global, unit: &Unit) -> Result<Judgement, AllocError>
+    ensures { IfOk result (λ said. judged said ≡ spec.judgement unit.now) }
+{
+    let counts = match count_unit(alloc, unit) {
+        Ok(counts) => counts,
+        Err(UnitError::Unbuilt) => return Ok(Judgement::NotBuilt),
+        Err(UnitError::Memory) => return Err(AllocError),
+    };
+    match check_unit(alloc, unit) {
+        Ok(errors) => Ok(Judgement::Judged(counts, errors)),
+        Err(UnitError::Unbuilt) => Ok(Judgement::NotBuilt),
+        Err(UnitError::Memory) => Err(AllocError),
+    }
+}
+
+/// What a source is whose names have errors; nothing where memory is wanting.
+fn of_name_errors(end: u32, why: NameErrors) -> Option<Finding>
+    ensures { option_map seen result ≡ spec.of_name_errors end why }
+{
+    match why {
+        NameErrors::Errors(errors) => Some(Finding::Misnamed(errors)),
+        NameErrors::Limit(which, place) => Some(Finding::Past(place.min(end), limit_name(which))),
+        NameErrors::Memory => None,
+    }
+}
+
+/// What a source without a plain form is; nothing where memory is wanting.
+fn of_lower_error(end: u32, why: LowerError) -> Option<Finding>
+    ensures { option_map seen result ≡ spec.of_lower_error end why }
+{
+    match why {
+        LowerError::Limit(which, place) => Some(Finding::Past(place.min(end), limit_name(which))),
+        LowerError::Memory => None,
+    }
+}
+
+/// What a source with that plain form is.
+fn of_program(alloc: Global, unit: &Unit, program: Program) -> Result<Finding, AllocError>
+    ensures found { IfOk result (λ finding. seen finding ≡ spec.Whole (spec.judgement unit.now) program) }
+    ensures placed { IfOk result (λ finding. IsPlaced 0 (seen finding)) }
+{
+    match judge(alloc, unit) {
+        Ok(judgement) => Ok(Finding::Whole(judgement, program)),
+        Err(_) => Err(AllocError),
+    }
+}
+
+/// What a source is whose names mean what the table says, in a text of `end` bytes.
+#[tactic(auto, using(ix_counts::proofs::FewDeclarations::few_classes, ix_counts::proofs::FewDeclarations::few_members))]
+fn of_lowered(alloc: Global, unit: &Unit, table: &Table, end: u32) -> Result<Finding, AllocError>
+    requires can_resolve { CanResolve unit.now }
+    requires accepts { Accepts unit.now }
+    requires table { shown table.now ≡ names unit.now }
+    ensures right { IfOk result (λ finding. spec.FoundIn end unit.now (seen finding)) }
+    ensures only { (other : spec.Finding) → spec.FoundIn end unit.now other → IfOk result (λ finding. seen finding ≡ other) }
+    ensures placed { IfOk result (λ finding. IsPlaced end (seen finding)) }
+{
+    match lower(alloc, unit, table) {
+        Ok(program) => of_program(alloc, unit, program),
+        Err(why) => match of_lower_error(end, why) {
+            Some(finding) => Ok(finding),
+            None => Err(AllocError),
+        },
+    }
+}
+
+/// What a source without errors on names is, in a text of `end` bytes.
+fn of_resolved(alloc: Global, unit: &Unit, table: Table, end: u32) -> Result<Finding, AllocError>
+    requires can_resolve { CanResolve unit.now }
+    requires accepts { Accepts unit.now }
+    requires table { shown table ≡ names unit.now }
+    ensures right { IfOk result (λ finding. spec.FoundIn end unit.now (seen finding)) }
+    ensures only { (other : spec.Finding) → spec.FoundIn end unit.now other → IfOk result (λ finding. seen finding ≡ other) }
+    ensures placed { IfOk result (λ finding. IsPlaced end (seen finding)) }
+{
+    of_lowered(alloc, unit, &table, end)
+}
+
+/// What a source in a text of `end` bytes is.
+fn of_unit(alloc: Global, unit: &Unit, end: u32) -> Result<Finding, AllocError>
+    requires can_resolve { CanResolve unit.now }
+    ensures right { IfOk result (λ finding. spec.FoundIn end unit.now (seen finding)) }
+    ensures only { (other : spec.Finding) → spec.FoundIn end unit.now other → IfOk result (λ finding. seen finding ≡ other) }
+    ensures placed { IfOk result (λ finding. IsPlaced end (seen finding)) }
+{
+    match resolve(alloc, unit) {
+        Ok(table) => of_resolved(alloc, unit, table, end),
+        Err(why) => match of_name_errors(end, why) {
+            Some(finding) => Ok(finding),
+            None => Err(AllocError),
+        },
+    }
+}
+
+/// What the tokens of a text of `end` bytes are.
+fn of_tokens(alloc: Global, tokens: &[Token], end: u32) -> Result<Finding, AllocError>
+    requires few { length tokens.now ≤ 200000 }
+    requires in_order { InOrder 0 end tokens.now }
+    ensures right { IfOk result (λ finding. spec.FoundOf tokens.now end (seen finding)) }
+    ensures only { (other : spec.Finding) → spec.FoundOf tokens.now end other → IfOk result (λ finding. seen finding ≡ other) }
+    ensures placed { IfOk result (λ finding. IsPlaced end (seen finding)) }
+{
+    match parse(alloc, tokens, end) {
+        Ok(unit) => of_unit(alloc, &unit, end),
+        Err(why) => match of_parse_error(tokens, end, why) {
+            Some(finding) => Ok(finding),
+            None => Err(AllocError),
+        },
+    }
+}
+
+/// What the bytes of a file are.
+pub fn of_bytes(alloc: Global, bytes: &[u8]) -> Result<Finding, AllocError>
+    ensures right { IfOk result (λ finding. spec.Found bytes.now (seen finding)) }
+    ensures only { (other : spec.Finding) → spec.Found bytes.now other → IfOk result (λ finding. seen finding ≡ other) }
+    ensures placed { IfOk result (λ finding. IsPlaced (length bytes.now) (seen finding)) }
+{
+    if bytes.len() > MOST_BYTES {
+        return Ok(Finding::TooLong);
+    }
+    match lex(alloc, bytes) {
+        Ok(tokens) => of_tokens(alloc, &tokens, bytes.len() as u32),
+        Err(why) => match of_lex_error(why) {
+            Some(finding) => Ok(finding),
+            None => Err(AllocError),
+        },
+    }
+}

@@ -1,0 +1,11 @@
+//! What the bytes of a file turn out to be.
+//!
+//! What goes in: bytes. What comes out: the one cause for which they are no source, their errors on names, or what the rules say of them with their plain form.
+//! The contract: `of_bytes` answers what `specs/Found.antt` defines, and nothing else is found.
+//! It stands on the lexer, the parser, names, the plain form and the check.
+//! It never looks at words, files or sinks.
+#![tactic(auto)]
+
+mod finding;
+
+pub use finding::{Finding, Judgement, of_bytes};

@@ -1,0 +1,125 @@
+//! Runs of at most a stated number of steps.
+ghost use Rattle.std.specs.Prelude.{◌≡◌, ◌≤◌, length, None, IfOk, OnOk, IsErrOf, string_bytes};
+ghost use Rattle.ix_core.specs.Machine as model;
+ghost use Rattle.ix_core.specs.Tables.{tables_of};
+ghost use Rattle.ix_machine.specs.State.{state_of, limits_of};
+ghost use Rattle.ix_outside.specs.Outside.{Rose, Took, TookPrefix};
+ghost use Rattle.ix_report.specs.Outcomes.{last_line};
+ghost use Rattle.ix_run.specs.Ends.{end_of};
+ghost use Rattle.ix_run.specs.Texts.{step_lines, printed_lines, run_text};
+
+use crate::lines::write_value;
+use ix_core::{Outcome, Program};
+use ix_machine::{Event, Machine};
+use ix_outside::{Sink, WriteError, write_all};
+use ix_report::{outcome, steps_spent};
+use ix_text::LineMap;
+use std::alloc::{AllocError, Global};
+
+/// How a run ends: at its end, otherwise, or after the stated number of steps.
+#[derive(Clone, Copy)]
+pub enum RunEnd {
+    Ended,
+    Stopped,
+    StepsSpent,
+}
+
+/// Makes a step, and writes the value that it prints. After an error the sink took a prefix of its line.
+fn step<K: Sink>(alloc: Global, machine: &mut Machine<'_>, out: &mut K) -> Result<(), WriteError>
+    requires { (state_of machine.old).ended ≡ None }
+    ensures state { state_of machine.new ≡ model.step (limits_of machine.old) (tables_of machine.old.rows.program.now) (state_of machine.old) }
+    ensures limits { limits_of machine.new ≡ limits_of machine.old }
+    ensures program { machine.new.rows ≡ machine.old.rows }
+    ensures taken { OnOk result (Took (step_lines (limits_of machine.old) (tables_of machine.old.rows.program.now) (state_of machine.old)) (K.taken out.old) (K.taken out.new)) }
+    ensures prefix { TookPrefix (step_lines (limits_of machine.old) (tables_of machine.old.rows.program.now) (state_of machine.old)) (K.taken out.old) (K.taken out.new) }
+    ensures falls { K.faults out.old ≤ K.faults out.new }
+    ensures rose { IsErrOf result WriteError.Failed → Rose (K.faults out.old) (K.faults out.new) }
+    ensures ok { OnOk result (K.faults out.new ≡ K.faults out.old) }
+{
+    match machine.step() {
+        Event::Printed(value) => write_value(alloc, value, out),
+        Event::Went => Ok(()),
+        Event::Stopped => Ok(()),
+    }
+}
+
+/// Makes at most so many steps and writes the values that they print, each as soon as it is printed. After an error the sink took a prefix of these lines.
+fn write_printed<K: Sink>(
+    alloc: Global,
+    machine: &mut Machine<'_>,
+    steps: u32,
+    out: &mut K,
+) -> Result<(), WriteError>
+    ensures state { OnOk result (state_of machine.new ≡ model.run (limits_of machine.old) (tables_of machine.old.rows.program.now) steps (state_of machine.old)) }
+    ensures taken { OnOk result (Took (printed_lines (limits_of machine.old) (tables_of machine.old.rows.program.now) steps (state_of machine.old)) (K.taken out.old) (K.taken out.new)) }
+    ensures prefix { TookPrefix (printed_lines (limits_of machine.old) (tables_of machine.old.rows.program.now) steps (state_of machine.old)) (K.taken out.old) (K.taken out.new) }
+    ensures falls { K.faults out.old ≤ K.faults out.new }
+    ensures rose { IsErrOf result WriteError.Failed → Rose (K.faults out.old) (K.faults out.new) }
+    ensures ok { OnOk result (K.faults out.new ≡ K.faults out.old) }
+{
+    let mut left = steps;
+    while left > 0 && machine.outcome().is_none() {
+        step(alloc, machine, out)?;
+        left -= 1;
+    }
+    Ok(())
+}
+
+/// The last line of a run.
+fn last_line_of(
+    alloc: Global,
+    machine: &Machine<'_>,
+    program: &Program,
+    lines: &LineMap,
+    end: u32,
+    steps: u32,
+) -> Result<String, AllocError>
+    requires { end ≡ length lines.now }
+    ensures { IfOk result (λ text. string_bytes text ≡ last_line program.now lines.now steps (state_of machine.now).ended (state_of machine.now).wrapped) }
+{
+    match machine.outcome() {
+        Some(how) => outcome(alloc, program, lines, end, how, machine.wrapped()),
+        None => steps_spent(alloc, steps, machine.wrapped()),
+    }
+}
+
+/// How a machine that makes no more steps has ended.
+fn end_in(machine: &Machine<'_>) -> RunEnd
+    ensures { result ≡ end_of (state_of machine.now).ended }
+{
+    match machine.outcome() {
+        Some(how) => match how {
+            Outcome::Ended(_) => RunEnd::Ended,
+            _ => RunEnd::Stopped,
+        },
+        None => RunEnd::StepsSpent,
+    }
+}
+
+/// Runs the machine for at most so many steps, and writes the values that it prints and then the line of its outcome. `lines` are those of the source of its
+/// program, which has `end` bytes. After an error, which is that of the write that was refused or want of memory for a line, the sink took a prefix of that text.
+pub fn run<K: Sink>(
+    alloc: Global,
+    machine: &mut Machine<'_>,
+    program: &Program,
+    lines: &LineMap,
+    end: u32,
+    steps: u32,
+    out: &mut K,
+) -> Result<RunEnd, WriteError>
+    requires program { machine.old.rows.program.now ≡ program.now }
+    requires end { end ≡ length lines.now }
+    ensures ended { IfOk result (λ how. how ≡ end_of (model.run (limits_of machine.old) (tables_of program.now) steps (state_of machine.old)).ended) }
+    ensures taken { OnOk result (Took (run_text program.now lines.now (limits_of machine.old) steps (state_of machine.old)) (K.taken out.old) (K.taken out.new)) }
+    ensures prefix { TookPrefix (run_text program.now lines.now (limits_of machine.old) steps (state_of machine.old)) (K.taken out.old) (K.taken out.new) }
+    ensures falls { K.faults out.old ≤ K.faults out.new }
+    ensures rose { IsErrOf result WriteError.Failed → Rose (K.faults out.old) (K.faults out.new) }
+    ensures ok { OnOk result (K.faults out.new ≡ K.faults out.old) }
+{
+    write_printed(alloc, machine, steps, out)?;
+    let Ok(line) = last_line_of(alloc, machine, program, lines, end, steps) else {
+        return Err(WriteError::Memory);
+    };
+    write_all(out, line.as_bytes())?;
+    Ok(end_in(machine))
+}

@@ -1,0 +1,1 @@
+class A { static int twice(int n) { return n + n; } }
