@@ -1,5 +1,5 @@
 -- The methods of a program are what its written methods and the default constructors become, in their order.
-use Rattle.std.proofs.Common.{◌≡◌, ◌≤◌, ◌<◌, ℕ, zero, suc, ◌+◌, Bool, true, false, List, [], ◌∷◌, ◌++◌, Option, Some, None, Result, Ok, Err, refl, sym, ap, subst, ◌∙◌, arith, append_assoc}
+use Rattle.std.proofs.Common.{◌≡◌, Bool, true, false, List, [], ◌∷◌, ◌++◌, Result, Ok, Err, refl, sym, ap, ◌∙◌, append_assoc}
 use Rattle.std.specs.Prelude.{if◌then◌else◌, nat_lt}
 use Rattle.std.proofs.lemmas.List.{append-nil}
 use Rattle.ix_text.specs.declared.span.Span.{Span}
@@ -24,23 +24,23 @@ use Rattle.ix_plain.specs.Program as program
 use Rattle.ix_plain.specs.Program.{Tables, Home, site, home, start, written_head, default_head, first_param, written_body, constructor_start, most_operations, placed, tables}
 use Rattle.ix_formed.specs.Additions.{Makes}
 use Rattle.ix_formed.specs.Shape.{IsMethod, IsDefault, AreMethods, AreAllMethods, AreDefaults, IfElse, IsOneDefault, HasMethods}
-use Rattle.ix_formed.proofs.PlainItems.{makes_more, makes_then, makes_same, makes_both, made_is}
+use Rattle.ix_formed.proofs.PlainItems.{makes_more, makes_then, makes_same, made_is}
 
 -- ---- one method
 
 -- a head with the body that was made
 abbrev HasBody : Method → Within Body → Method → Type 0
-HasBody head r method = (body : Body) × (method ≡ record head { locals = body.locals; slots = body.most; body = block body.made }) × (r ≡ Ok body)
+HasBody head r method = (body : Body) × (method ≡ record head { locals = body.locals; slots = body.most; body = block body.made }) × (r ≡ Ok body) × (nat_lt most_operations (operations (block body.made) 0) ≡ false)
 
-few_or_not : (b : Bool) (head : Method) (body : Body) (r : Within Body) → r ≡ Ok body
+few_or_not : (b : Bool) (head : Method) (body : Body) (r : Within Body) → nat_lt most_operations (operations (block body.made) 0) ≡ b → r ≡ Ok body
     → Makes (HasBody head r) (if b then Err which.Ops else Ok (record head { locals = body.locals; slots = body.most; body = block body.made }))
-few_or_not true head body r e = tt
-few_or_not false head body r e = (body, refl, e)
+few_or_not true head body r few e = tt
+few_or_not false head body r few e = (body, refl, e, few)
 
 limited_or_not : (b : Bool) (head : Method) (r : Within Body) → Makes (HasBody head r) (if b then Err which.Loops else (r >>= program.with_body head))
 limited_or_not true head r = tt
 limited_or_not false head r = makes_then (λ body. r ≡ Ok body) (HasBody head r) r (program.with_body head) (makes_same r)
-    (λ body e. few_or_not (nat_lt most_operations (operations (block body.made) 0)) head body r e)
+    (λ body e. few_or_not (nat_lt most_operations (operations (block body.made) 0)) head body r refl e)
 
 limited_has : (statements : List Stmt) (r : Within Body) (head : Method) → Makes (HasBody head r) (program.limited statements r head)
 limited_has statements r head = limited_or_not (nat_lt most_loops (loops statements 0)) head r
@@ -49,13 +49,13 @@ written_is : (t : Tables) (at : Home) (decl : MethodDecl) → Makes (IsMethod t 
 written_is t at decl =
     let head = written_head t at decl in
     let r = written_body (site t at head.params) at decl (slot_behind (first_param (is_static decl)) decl.params) in
-    makes_more (HasBody head r) (IsMethod t at decl) (λ method h. record { body = h.0; same = h.1; made = h.2 }) (program.written_method t at decl) (limited_has decl.body r head)
+    makes_more (HasBody head r) (IsMethod t at decl) (λ method h. record { body = h.0; same = h.1; made = h.2; few = h.3 }) (program.written_method t at decl) (limited_has decl.body r head)
 
 default_is : (t : Tables) (at : Home) (span : Span) → Makes (IsDefault t at span) (program.default t at span)
 default_is t at span =
     let head = default_head at span in
     let r = constructor_start (site t at []) at [] span (start 1) in
-    makes_more (HasBody head r) (IsDefault t at span) (λ method h. record { body = h.0; same = h.1; made = h.2 }) (program.default t at span) (limited_has [] r head)
+    makes_more (HasBody head r) (IsDefault t at span) (λ method h. record { body = h.0; same = h.1; made = h.2; few = h.3 }) (program.default t at span) (limited_has [] r head)
 
 placed_makes : {A : Type 0} (P : A → Type 0) (span : Span) (r : Within A) → Makes P r → Makes P (placed span r)
 placed_makes P span (Ok made) p = p

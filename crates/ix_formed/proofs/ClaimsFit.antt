@@ -1,6 +1,6 @@
 -- The claims that annotations give fit the type of their declaration and the types of what they name.
 use Rattle.std.proofs.Common.{◌≡◌, ℕ, ℤ, Bool, true, false, List, [], ◌∷◌, ◌++◌, Option, Some, None, Result, Ok, Err, refl, sym, ap, subst, ◌∙◌}
-use Rattle.std.specs.Prelude.{if◌then◌else◌, ◌&&◌, ◌||◌, not, option_map, int_le, pos, neg_ℤ, length, drop, codes, bytes_eq, filter, ◌==◌}
+use Rattle.std.specs.Prelude.{if◌then◌else◌, ◌&&◌, ◌||◌, not, option_map, int_le, pos, length, drop, codes, bytes_eq, filter, ◌==◌}
 use Rattle.std.specs.Option.{option_and_then}
 use Rattle.std.specs.Str.{chars}
 use Rattle.std.specs.List.{list_all, list_any}
@@ -14,7 +14,6 @@ use Rattle.ix_core.specs.declared.claim.Type_.{Type_}
 use Rattle.ix_core.specs.Formed.{claim_fits, offset_fits, is_int_of, is_array_of}
 use Rattle.ix_core.specs.Types.{is_int_type, is_array_type, is_element_claim}
 use Rattle.ix_core.specs.SameClaims.{distinct, same_claim}
-use Rattle.ix_core.proofs.Cases.{by_test}
 use Rattle.ix_tree.specs.declared.annot.Annot.{Annot}
 use Rattle.ix_tree.specs.declared.annot.AnnotArg.{AnnotArg}
 use Rattle.ix_annot.specs.declared.texts.Naming.{Naming}
@@ -34,13 +33,11 @@ use Rattle.ix_annot.specs.declared.scope.Target.TheVariants as on
 use Rattle.ix_annot.specs.declared.scope.Holds.TheVariants as holds
 use Rattle.ix_annot.specs.declared.scope.Claims.{Claims}
 use Rattle.ix_annot.specs.declared.scope.AnnotError.{AnnotError}
-use Rattle.ix_annot.specs.declared.scope.AnnotError.TheVariants.{Unknown, BadArgument, WrongTarget, BadName, InheritedName}
+use Rattle.ix_annot.specs.declared.scope.AnnotError.TheVariants.{WrongTarget, InheritedName}
 use Rattle.ix_annot.specs.Named.{Names, named}
 use Rattle.ix_annot.specs.Table.{table, row_in, row_named, fits, argument}
-use Rattle.ix_annot.specs.Arguments as arguments
 use Rattle.ix_annot.specs.Arguments.{plan, plan_of, plan_with, one_claim, lowest, range, range_of, length_from, length_of, written, upper, first_offset, all_written, matched, claims_written, with_others, texts, texts_or_none, int_or, are_taken, greatest_int, least_int}
-use Rattle.ix_annot.specs.Texts.{array_text, bound_text, offset_text}
-use Rattle.ix_annot.specs.Expansion as expansion
+use Rattle.ix_annot.specs.Texts.{array_text, bound_text}
 use Rattle.ix_annot.specs.Expansion.{expanded, claim_of, claims_of, array_claim, upper_claim, offset_named, with_claims, with_plan, with_row, is_field, names_inherited, may_change, offset_may_change}
 use Rattle.ix_meaning.specs.Annotated.{claims_from}
 use Rattle.ix_formed.specs.Additions.{AllOf}

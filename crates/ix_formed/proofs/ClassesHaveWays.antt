@@ -7,7 +7,6 @@ use Rattle.ix_core.specs.declared.program.Class.{Class}
 use Rattle.ix_core.specs.declared.program.Program.{Program}
 use Rattle.ix_core.specs.Formed.{parent_fits, ends_within}
 use Rattle.ix_core.specs.Tables.{class_at, no_class, most_on_way}
-use Rattle.ix_core.specs.Types.{is_class}
 use Rattle.ix_tree.specs.declared.annot.Ident.{Ident}
 use Rattle.ix_tree.specs.declared.decl.ClassDecl.{ClassDecl}
 use Rattle.ix_tree.specs.declared.decl.Unit.{Unit as Source}
@@ -16,13 +15,13 @@ use Rattle.ix_meaning.specs.declared.note.Rule.TheVariants as rule
 use Rattle.ix_meaning.specs.Classes.{class_named, first_class, first_or, parents, parents_by, parent, parent_in, parent_in_table, is_cyclic, supers}
 use Rattle.ix_meaning.specs.Limits.{Passed, limit, inheritance_limit, past_inheritance, most_inherited}
 use Rattle.ix_meaning.specs.Members.{World, world, methods}
-use Rattle.ix_meaning.specs.Resolved.{Names, Accepts, name_errors}
+use Rattle.ix_meaning.specs.Resolved.{Names, Accepts}
 use Rattle.ix_meaning.specs.Rules.{duplicate_name}
 use Rattle.ix_meaning.specs.Source.{notes, notes_from, class_notes, head_notes, parent_use, member_notes, place, member_named, default_notes_of, next_fields, is_taken, members_in}
 use Rattle.ix_meaning.specs.Types.{wrong_if}
 use Rattle.ix_plain.specs.declared.numbers.Next.{Next}
 use Rattle.ix_plain.specs.Counts.{most_counted}
-use Rattle.ix_plain.specs.Members.{next_behind, class_of, first_numbers}
+use Rattle.ix_plain.specs.Members.{next_behind, first_numbers}
 use Rattle.ix_plain.specs.Program as program
 use Rattle.ix_core.proofs.Cases.{by_test}
 use Rattle.ix_formed.specs.Additions.{AllOf}
@@ -39,7 +38,7 @@ use Rattle.ix_formed.proofs.WaysUp.{way_ends}
 
 -- ---- numbers of classes
 
-parents_length : (class : List ℕ → Option ℕ) (decls : List ClassDecl) → length (parents_by class decls) ≡ length decls
+pub parents_length : (class : List ℕ → Option ℕ) (decls : List ClassDecl) → length (parents_by class decls) ≡ length decls
 parents_length class [] = refl
 parents_length class (decl ∷ decls) = let e = parents_length class decls in omega (arith, e)
 

@@ -1,17 +1,15 @@
 -- A constant is an int.
-use Rattle.std.proofs.Common.{◌≡◌, ℤ, neg_ℤ, Bool, true, false, List, [], ◌∷◌, map, Option, Some, None, refl, sym, ap, subst, ◌∙◌}
-use Rattle.std.specs.Prelude.{◌&&◌, option_map, int_le}
-use Rattle.std.proofs.lemmas.Bool.{and_parts}
+use Rattle.std.proofs.Common.{◌≡◌, ℤ, neg_ℤ, Bool, true, Option, Some, None, sym, subst, ◌∙◌}
+use Rattle.std.specs.Prelude.{option_map, int_le}
 use Rattle.ix_num.specs.Arithmetic.{wrap_of}
 use Rattle.ix_num.specs.Ints.{least_int, greatest_int}
 use Rattle.ix_num.proofs.RowsInclude.{wrap_is_int, test_true}
 use Rattle.ix_core.specs.Machine.{is_int}
-use Rattle.ix_tree.specs.declared.expr.UnaryOp.{UnaryOp}
 use Rattle.ix_tree.specs.declared.expr.UnaryOp.TheVariants as operator
-use Rattle.ix_tree.specs.declared.expr.Expr.{Expr, Expr-F, ind-Expr, map-Expr, roll-Expr, fold-Expr, fold-roll-Expr}
+use Rattle.ix_tree.specs.declared.expr.Expr.{Expr, Expr-F, map-Expr, roll-Expr, fold-Expr, fold-roll-Expr}
 use Rattle.ix_tree.specs.declared.expr.ExprKind.{ExprKind, ExprKind-F, map-ExprKind, roll-ExprKind, fold-ExprKind, fold-roll-ExprKind}
-use Rattle.ix_tree.specs.declared.expr.Init.{Init, Init-F, ind-Init, map-Init, roll-Init, fold-Init, fold-roll-Init}
-use Rattle.ix_meaning.specs.Members.{Literal, no_literal, literal_step, literal_init_step, literal}
+use Rattle.ix_tree.specs.declared.expr.Init.{Init, Init-F, ind-Init, map-Init, roll-Init, fold-roll-Init}
+use Rattle.ix_meaning.specs.Members.{Literal, literal_step, literal_init_step, literal}
 use Rattle.ix_formed.specs.Written as trees
 use Rattle.ix_formed.specs.Written.{is_written_expr, is_written_init}
 use Rattle.ix_formed.proofs.ClaimsFit.{Whenever}

@@ -1,10 +1,8 @@
 -- The fields of the program are the instance fields of the source.
-use Rattle.std.proofs.Common.{◌≡◌, ◌≤◌, ◌<◌, ℕ, zero, suc, ◌+◌, ℤ, Bool, true, false, List, [], ◌∷◌, ◌++◌, length, Option, Some, None, refl, sym, ap, subst, ◌∙◌, arith, append_assoc, length-append}
-use Rattle.std.specs.Prelude.{if◌then◌else◌, ◌&&◌, ◌||◌, not, nat_lt, ◌==◌, slice_get, unwrap_or, option_map, is_some}
+use Rattle.std.proofs.Common.{◌≡◌, ◌<◌, ℕ, ◌+◌, ℤ, Bool, true, false, List, [], ◌∷◌, ◌++◌, length, Option, Some, None, refl, sym, ap, subst, ◌∙◌, arith, append_assoc, length-append}
+use Rattle.std.specs.Prelude.{if◌then◌else◌, ◌&&◌, not, slice_get, unwrap_or, option_map, is_some}
 use Rattle.std.specs.Option.{option_and_then}
 use Rattle.std.proofs.lemmas.Bool.{false≢true, and_parts}
-use Rattle.std.proofs.lemmas.List.{append-nil}
-use Rattle.ix_core.specs.declared.claim.Claim.{Claim}
 use Rattle.ix_core.specs.declared.claim.Type_.{Type_}
 use Rattle.ix_core.specs.declared.program.Field.{Field}
 use Rattle.ix_core.specs.declared.program.Program.{Program}
@@ -24,7 +22,7 @@ use Rattle.ix_meaning.specs.declared.note.Note.{Note}
 use Rattle.ix_meaning.specs.declared.note.NameError.{NameError}
 use Rattle.ix_meaning.specs.declared.note.Rule.TheVariants as rule
 use Rattle.ix_meaning.specs.Annotated.{written, element_claims, target_before}
-use Rattle.ix_meaning.specs.Bodies.{declares_note, init_notes}
+use Rattle.ix_meaning.specs.Bodies.{declares_note}
 use Rattle.ix_meaning.specs.Inheritance.{hides}
 use Rattle.ix_meaning.specs.Members as members
 use Rattle.ix_meaning.specs.Members.{World, ClassOf, field_type, constant, is_int_type, literal}
@@ -34,9 +32,9 @@ use Rattle.ix_meaning.specs.Source as source
 use Rattle.ix_meaning.specs.Source.{Place, place}
 use Rattle.ix_meaning.specs.Types.{wrong_if}
 use Rattle.ix_plain.specs.Members.{field_of}
-use Rattle.ix_plain.specs.Scope.{declared_type, declared_claims}
+use Rattle.ix_plain.specs.Scope.{declared_type}
 use Rattle.ix_formed.specs.Additions.{AllOf}
-use Rattle.ix_formed.specs.NoErrors.{Agrees, Say, MembersSay, ClassSays, ClassesSay}
+use Rattle.ix_formed.specs.NoErrors.{Agrees, Say, MembersSay, ClassesSay}
 use Rattle.ix_formed.specs.Shape.{own_field, fields_of_class, fields_of}
 use Rattle.ix_formed.specs.Written.{is_written_type, is_written_init, is_written_decl, is_written_member, each_true, maybe_true}
 use Rattle.ix_formed.proofs.ClaimsFit.{Whenever}
@@ -64,7 +62,7 @@ module _ (names : Names) (parts : List Part) where
       final_or_not false w = tt
 
   -- what the notes of a field say of its type and its meaning
-  field_typed : (l : Place) (f : Known) (d : LocalDecl) (ty : Type_) → f.ty ≡ Some ty → Says (source.field_notes l f d)
+  pub field_typed : (l : Place) (f : Known) (d : LocalDecl) (ty : Type_) → f.ty ≡ Some ty → Says (source.field_notes l f d)
       → names.declared d.name.span ≡ Some (record { ty = ty; claims = record { list = if f.is_static then [] else (source.field_declaration l f d).claims; effect_free = false } })
   field_typed l f d ty e said =
       let a = said_parts (Agrees names parts) (wrong_if (source.is_refused f) rule.NotStatic d.name.span) _ said in
@@ -74,7 +72,7 @@ module _ (names : Names) (parts : List Part) where
       (subst (λ (o : Option Type_). Says (declares_note d.name.span o (if f.is_static then [] else (source.field_declaration l f d).claims) false)) e g.0).0
 
   -- the type of a field that has no error is known
-  field_has_type : (l : Place) (c next : ℕ) (d : LocalDecl) → Says (source.field_notes l (members.field_of l.world.class c next d) d) → (ty : Type_) × (field_type l.world.class d ≡ Some ty)
+  pub field_has_type : (l : Place) (c next : ℕ) (d : LocalDecl) → Says (source.field_notes l (members.field_of l.world.class c next d) d) → (ty : Type_) × (field_type l.world.class d ≡ Some ty)
   field_has_type l c next d said =
       let f = members.field_of l.world.class c next d in
       let a = said_parts (Agrees names parts) (wrong_if (source.is_refused f) rule.NotStatic d.name.span) _ said in
@@ -162,7 +160,7 @@ module _ (names : Names) (parts : List Part) where
         ))
 
     -- the number of the next field is that of those before
-    next_counts : (next : ℕ) (c : ℕ) (ms : List Member) → members.next_fields next ms ≡ next + length (fields_of_class names c ms)
+    pub next_counts : (next : ℕ) (c : ℕ) (ms : List Member) → members.next_fields next ms ≡ next + length (fields_of_class names c ms)
     next_counts next c [] = omega arith
     next_counts next c (member.Method m ∷ ms) = next_counts next c ms
     next_counts next c (member.Field d ∷ ms) =

@@ -1,8 +1,7 @@
 -- A type that is written is a type of the program, and the claims of a declaration fit it.
-use Rattle.std.proofs.Common.{◌≡◌, ◌≤◌, ◌<◌, ℕ, zero, suc, ◌+◌, Bool, true, false, List, [], ◌∷◌, ◌++◌, length, Option, Some, None, refl, sym, ap, subst, ◌∙◌, arith}
-use Rattle.std.specs.Prelude.{if◌then◌else◌, ◌&&◌, ◌||◌, not, nat_lt, ◌==◌}
+use Rattle.std.proofs.Common.{◌≡◌, ◌<◌, ℕ, Bool, true, false, List, [], ◌∷◌, ◌++◌, length, Option, Some, None, refl, sym, ap, subst, ◌∙◌, arith}
+use Rattle.std.specs.Prelude.{if◌then◌else◌, ◌&&◌, ◌||◌, nat_lt, ◌==◌}
 use Rattle.std.specs.List.{list_all}
-use Rattle.std.proofs.lemmas.Bool.{false≢true, and_parts}
 use Rattle.std.proofs.lemmas.Bool.Decides.{nat_tests}
 use Rattle.ix_core.specs.declared.claim.Base.{Base}
 use Rattle.ix_core.specs.declared.claim.Base.TheVariants as base
@@ -12,8 +11,7 @@ use Rattle.ix_core.specs.declared.claim.Type_.{Type_}
 use Rattle.ix_core.specs.declared.claim.Type_.TheVariants as type
 use Rattle.ix_core.specs.declared.program.Program.{Program}
 use Rattle.ix_core.specs.Formed.{claim_fits}
-use Rattle.ix_core.specs.SameClaims.{distinct}
-use Rattle.ix_core.specs.Types.{is_int_type, is_array_type, is_element_claim, is_empty, is_class, is_base, is_type}
+use Rattle.ix_core.specs.Types.{is_int_type, is_array_type, is_element_claim, is_empty, is_base, is_type}
 use Rattle.ix_core.proofs.Cases.{by_test}
 use Rattle.ix_tree.specs.declared.annot.Annot.{Annot}
 use Rattle.ix_tree.specs.declared.annot.BaseTree.{BaseTree}
@@ -23,13 +21,13 @@ use Rattle.ix_annot.specs.declared.scope.Target.{Target}
 use Rattle.ix_annot.specs.declared.scope.Target.TheVariants as on
 use Rattle.ix_annot.specs.Named.{Names}
 use Rattle.ix_annot.specs.Expansion.{expanded}
-use Rattle.ix_meaning.specs.Annotated.{given, claims_from, aimed, names_nothing, is_int_tree, target_before, is_element, class_use, based, written, Declaration, unless, element_claims, declaration, variable}
+use Rattle.ix_meaning.specs.Annotated.{given, claims_from, aimed, names_nothing, is_int_tree, target_before, is_element, class_use, based, written, unless, element_claims, variable}
 use Rattle.ix_meaning.specs.Types.{shaped}
 use Rattle.ix_formed.specs.Additions.{AllOf}
 use Rattle.ix_formed.specs.Written as trees
 use Rattle.ix_formed.specs.Written.{is_written_type}
 use Rattle.ix_formed.proofs.ClaimsFit.{all_true, distinct_so, Knows, StandsOn, expanded_fits, expanded_elements, expanded_other}
-use Rattle.ix_formed.proofs.NumberLists.{all_joined, all_so, both_true}
+use Rattle.ix_formed.proofs.NumberLists.{all_joined, both_true}
 use Rattle.ix_formed.proofs.ProgramsHaveShape.{less_is}
 
 -- ---- the claims of several annotations

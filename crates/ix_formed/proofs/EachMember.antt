@@ -1,6 +1,5 @@
 -- What all notes of a source are, those of each member are.
-use Rattle.std.proofs.Common.{◌≡◌, ℕ, ◌+◌, Bool, true, false, List, [], ◌∷◌, ◌++◌, Option, Some, None, refl, sym, ap, subst, ◌∙◌}
-use Rattle.std.specs.Prelude.{if◌then◌else◌}
+use Rattle.std.proofs.Common.{◌≡◌, ℕ, ◌+◌, Bool, true, false, List, [], ◌∷◌, ◌++◌, Option, Some, None, refl}
 use Rattle.ix_core.specs.declared.claim.Claim.{Claim}
 use Rattle.ix_core.specs.declared.claim.Type_.{Type_}
 use Rattle.ix_tree.specs.declared.annot.BaseTree.{BaseTree}
@@ -21,8 +20,7 @@ use Rattle.ix_meaning.specs.Rules.{duplicate_name}
 use Rattle.ix_meaning.specs.Source as source
 use Rattle.ix_meaning.specs.Source.{Place, place, member_name, member_named, is_taken, one_member, head_notes, default_notes_of, member_notes, class_notes, notes_from}
 use Rattle.ix_meaning.specs.Types.{wrong_if}
-use Rattle.ix_formed.specs.Additions.{AllOf}
-use Rattle.ix_formed.specs.NoErrors.{Say, MembersSay, ClassSays, ClassesSay}
+use Rattle.ix_formed.specs.NoErrors.{Say, MembersSay, ClassesSay}
 
 pub said_parts : (So : Note → Type 0) (xs ys : List Note) → Say So (xs ++ ys) → Say So xs × Say So ys
 said_parts So [] ys a = (tt, a)

@@ -1,14 +1,11 @@
 -- The notes of an expression weigh no more than its parts.
-use Rattle.std.proofs.Common.{◌≡◌, ◌≤◌, ℕ, ◌+◌, ℤ, Bool, true, false, List, [], ◌∷◌, ◌++◌, map, length, drop, Option, Some, None, refl, sym, ap, subst, ◌∙◌, arith}
-use Rattle.std.specs.Prelude.{if◌then◌else◌, codes, bytes_eq, not, ◌&&◌, ◌||◌, is_some}
+use Rattle.std.proofs.Common.{◌≡◌, ◌≤◌, ℕ, ◌+◌, Bool, true, false, List, [], ◌∷◌, ◌++◌, map, length, drop, Option, Some, None, refl, sym, subst, arith}
+use Rattle.std.specs.Prelude.{if◌then◌else◌, codes, bytes_eq, not, ◌&&◌, is_some}
 use Rattle.ix_text.specs.declared.span.Span.{Span}
-use Rattle.ix_num.specs.declared.arith.Arith.{Arith}
-use Rattle.ix_num.specs.declared.rel.Rel.{Rel}
 use Rattle.ix_core.specs.declared.claim.Base.TheVariants as base
 use Rattle.ix_core.specs.declared.claim.Claim.{Claim}
 use Rattle.ix_core.specs.declared.claim.Type_.{Type_}
 use Rattle.ix_core.specs.declared.claim.Type_.TheVariants as type
-use Rattle.ix_core.specs.SameClaims.{distinct}
 use Rattle.ix_tree.specs.declared.annot.Annot.{Annot}
 use Rattle.ix_tree.specs.declared.annot.BaseTree.{BaseTree}
 use Rattle.ix_tree.specs.declared.annot.BaseTree.TheVariants as tree
@@ -32,7 +29,7 @@ use Rattle.ix_meaning.specs.declared.members.Field.{Field}
 use Rattle.ix_meaning.specs.declared.note.Meaning.{Meaning}
 use Rattle.ix_meaning.specs.declared.note.Meaning.TheVariants.{MethodNamed, ClassNamed, LengthOf}
 use Rattle.ix_meaning.specs.declared.note.Note.{Note}
-use Rattle.ix_meaning.specs.declared.note.Note.TheVariants.{Use, Typed, Declares, Wrong, WrongAnnot}
+use Rattle.ix_meaning.specs.declared.note.Note.TheVariants.{Use}
 use Rattle.ix_meaning.specs.declared.note.Rule.{Rule}
 use Rattle.ix_meaning.specs.declared.note.Rule.TheVariants as rule
 use Rattle.ix_meaning.specs.Annotated.{rule_of, given, errors_from, names_nothing, written, based, class_use}
@@ -42,7 +39,6 @@ use Rattle.ix_meaning.specs.Scope.{Scope, Known, meant, is_pending}
 use Rattle.ix_meaning.specs.Types.{int, boolean, Need, unknown, never, printed, of, need_like, is_reference, element, element_in, Judged, judged, type_note, typed, wrong, wrong_if}
 use Rattle.ix_meaning.specs.Values as values
 use Rattle.ix_meaning.specs.Values.{Reading, KindReading, Filling, Object, no_object, of_class, value, Received, reading, kind_reading, filling, check, null_at, fitted, as_object, valued, valued_and_assigned}
-use Rattle.ix_formed.specs.Additions.{AllOf}
 use Rattle.ix_formed.specs.Weights.{total, IsWeighed}
 
 pub total_append : {A : Type 0} (weight : A → ℕ) (xs ys : List A) → total weight (xs ++ ys) ≡ total weight xs + total weight ys

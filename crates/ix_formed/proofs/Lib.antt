@@ -21,3 +21,14 @@ pub mod Constants
 pub mod DeclaredFields
 pub mod Superclasses
 pub mod ScopesKnow
+pub mod FieldsFit
+pub mod DeclaredMethods
+pub mod HeadsFit
+pub mod HeadsAre
+pub mod Overrides
+pub mod OneOfEachName
+pub mod ClassesFit
+pub mod CodeSizes
+pub mod FormsOfExpressions
+pub mod FormsOfStatements
+pub mod SizesFit

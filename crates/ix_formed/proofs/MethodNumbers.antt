@@ -1,28 +1,24 @@
 -- A class lists its own methods, written ones first and then its default constructor.
-use Rattle.std.proofs.Common.{◌≡◌, ◌≤◌, ◌<◌, ℕ, zero, suc, ◌+◌, Bool, true, false, List, [], ◌∷◌, ◌++◌, length, Option, refl, sym, ap, subst, ◌∙◌, arith, append_assoc, length-append}
-use Rattle.std.specs.Prelude.{if◌then◌else◌, nat_lt, ◌==◌}
-use Rattle.std.proofs.lemmas.Bool.Decides.{nat_tests}
+use Rattle.std.proofs.Common.{◌≡◌, ◌≤◌, ◌<◌, ℕ, suc, ◌+◌, Bool, true, false, List, [], ◌∷◌, ◌++◌, length, Option, refl, sym, ap, subst, ◌∙◌, arith, append_assoc, length-append}
+use Rattle.std.specs.Prelude.{if◌then◌else◌, ◌==◌}
 use Rattle.std.proofs.lemmas.List.{append-nil}
-use Rattle.ix_text.specs.declared.span.Span.{Span}
-use Rattle.ix_core.specs.declared.program.Class.{Class}
 use Rattle.ix_core.specs.declared.program.Method.{Method}
 use Rattle.ix_core.specs.Formed.{numbers_from, are_same_numbers, numbers_where}
 use Rattle.ix_tree.specs.declared.decl.ClassDecl.{ClassDecl}
-use Rattle.ix_tree.specs.declared.decl.LocalDecl.{LocalDecl}
 use Rattle.ix_tree.specs.declared.decl.Member.{Member}
 use Rattle.ix_tree.specs.declared.decl.Member.TheVariants as member
 use Rattle.ix_meaning.specs.Limits.{methods_of, all_methods}
 use Rattle.ix_meaning.specs.Source.{has_constructor}
 use Rattle.ix_plain.specs.declared.numbers.Next.{Next}
-use Rattle.ix_plain.specs.Counts.{one, most_counted}
-use Rattle.ix_plain.specs.Members.{next_behind, own_methods, with_default, written_methods, next_methods, first_numbers, class_of}
+use Rattle.ix_plain.specs.Counts.{most_counted}
+use Rattle.ix_plain.specs.Members.{next_behind, own_methods, written_methods, first_numbers}
 use Rattle.ix_plain.specs.Program.{Tables, Home, home}
 use Rattle.ix_formed.specs.Additions.{AllOf}
-use Rattle.ix_formed.specs.Shape.{IsMethod, IsDefault, AreMethods, AreAllMethods, AreDefaults, IfElse, IsOneDefault, HasMethods, classes_of, default_count, all_field_count, IsNext, AllNumbered, ListsMethods}
-use Rattle.ix_formed.proofs.NumberLists.{from_both, from_length, from_ascends, ascends_same, Ascends, all_so, all_joined, where_here, where_append}
-use Rattle.ix_formed.proofs.Numbering.{one_more, Goes, goes, goes_on, methods_up}
+use Rattle.ix_formed.specs.Shape.{AreMethods, AreAllMethods, AreDefaults, IfElse, IsOneDefault, classes_of, default_count, all_field_count, IsNext, AllNumbered, ListsMethods}
+use Rattle.ix_formed.proofs.NumberLists.{from_ascends, ascends_same, Ascends, all_so, all_joined, where_here, where_append}
+use Rattle.ix_formed.proofs.Numbering.{one_more, goes, goes_on, methods_up}
 
-method_numbers : (methods : List ℕ) (next : ℕ) (members : List Member) → next + length (methods_of members) ≤ most_counted → own_methods methods next members ≡ methods ++ numbers_from next (length (methods_of members))
+pub method_numbers : (methods : List ℕ) (next : ℕ) (members : List Member) → next + length (methods_of members) ≤ most_counted → own_methods methods next members ≡ methods ++ numbers_from next (length (methods_of members))
 method_numbers methods next [] le = sym (append-nil methods)
 method_numbers methods next (member.Field decl ∷ members) le = method_numbers methods next members le
 method_numbers methods next (member.Method decl ∷ members) le =
@@ -87,7 +83,7 @@ module _ (tables : Tables) where
 
 -- ---- what a class lists
 
-default_numbers : (b : Bool) (numbers : List ℕ) (default : ℕ) → (if b then numbers else numbers ++ default ∷ []) ≡ numbers ++ numbers_from default (if b then 0 else 1)
+pub default_numbers : (b : Bool) (numbers : List ℕ) (default : ℕ) → (if b then numbers else numbers ++ default ∷ []) ≡ numbers ++ numbers_from default (if b then 0 else 1)
 default_numbers true numbers default = sym (append-nil numbers)
 default_numbers false numbers default = refl
 

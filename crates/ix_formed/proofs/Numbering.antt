@@ -1,12 +1,10 @@
 -- Classes, fields and methods have the numbers of their places.
-use Rattle.std.proofs.Common.{◌≡◌, ◌≤◌, ◌<◌, ℕ, zero, suc, ◌+◌, Bool, true, false, List, [], ◌∷◌, ◌++◌, length, Option, refl, sym, ap, subst, ◌∙◌, arith, append_assoc, length-append}
+use Rattle.std.proofs.Common.{◌≡◌, ◌≤◌, ◌<◌, ℕ, suc, ◌+◌, Bool, true, false, List, [], ◌∷◌, ◌++◌, length, Option, refl, sym, ap, subst, ◌∙◌, arith, append_assoc, length-append}
 use Rattle.std.specs.Prelude.{if◌then◌else◌, nat_lt, ◌==◌}
 use Rattle.std.proofs.lemmas.Bool.Decides.{nat_tests}
 use Rattle.std.proofs.lemmas.List.{append-nil}
-use Rattle.ix_text.specs.declared.span.Span.{Span}
 use Rattle.ix_core.specs.declared.program.Class.{Class}
 use Rattle.ix_core.specs.declared.program.Field.{Field}
-use Rattle.ix_core.specs.declared.program.Method.{Method}
 use Rattle.ix_core.specs.Formed.{numbers_from, are_same_numbers, numbers_where}
 use Rattle.ix_tree.specs.declared.decl.ClassDecl.{ClassDecl}
 use Rattle.ix_tree.specs.declared.decl.LocalDecl.{LocalDecl}
@@ -17,11 +15,10 @@ use Rattle.ix_meaning.specs.Resolved.{Names}
 use Rattle.ix_meaning.specs.Source.{has_constructor}
 use Rattle.ix_plain.specs.declared.numbers.Next.{Next}
 use Rattle.ix_plain.specs.Counts.{one, most_counted}
-use Rattle.ix_plain.specs.Members.{next_method, next_methods, next_field, next_fields, next_default, next_behind, field_of, with_field, fields_in, fields_from, with_own_field, own_fields, own_methods, with_default, class_of, classes_from}
-use Rattle.ix_plain.specs.Program.{Tables, Home, home}
+use Rattle.ix_plain.specs.Members.{next_methods, next_fields, next_behind, field_of, with_field, fields_in, fields_from, own_fields, class_of, classes_from}
 use Rattle.ix_formed.specs.Additions.{AllOf}
-use Rattle.ix_formed.specs.Shape.{IsMethod, IsDefault, AreMethods, AreAllMethods, AreDefaults, IfElse, IsOneDefault, HasMethods, classes_of, own_field, fields_of_class, fields_of, field_count, all_field_count, default_count, IsNext, AllNumbered, ListsFields}
-use Rattle.ix_formed.proofs.NumberLists.{from_both, from_length, from_ascends, ascends_same, Ascends, all_so, all_joined, where_here, where_append}
+use Rattle.ix_formed.specs.Shape.{classes_of, own_field, fields_of_class, fields_of, field_count, IsNext, AllNumbered, ListsFields}
+use Rattle.ix_formed.proofs.NumberLists.{from_ascends, ascends_same, Ascends, all_so, all_joined, where_here}
 
 -- ---- numbers that go up by one
 

@@ -12,7 +12,7 @@ use Rattle.ix_core.specs.declared.op.Literal.TheVariants as literal
 use Rattle.ix_core.specs.Code.{Code, End, If, item_code, cond_code, items_code, block_code}
 use Rattle.ix_core.specs.Formed.{is_straight, loop_numbers, super_calls, own_super_calls, is_super_call, one_if}
 use Rattle.ix_core.proofs.Translated.{item_code-If}
-use Rattle.ix_plain.specs.Parts.{Within, ◌>>=◌, done, truth_item}
+use Rattle.ix_plain.specs.Parts.{◌>>=◌, done, truth_item}
 use Rattle.ix_formed.specs.Additions.{Makes, code_before, IsPlain, IsPlainCondition}
 
 -- ---- what was made

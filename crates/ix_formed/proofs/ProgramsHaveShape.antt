@@ -1,5 +1,5 @@
 -- A program has what its source says by itself: numbers in order, slots and loops within the limits, one call of the parent's constructor where it has to be.
-use Rattle.std.proofs.Common.{◌≡◌, ◌≤◌, ◌<◌, ◌^◌, ℕ, zero, suc, ◌+◌, Bool, true, false, List, [], ◌∷◌, ◌++◌, length, Option, Some, None, Result, Ok, refl, sym, ap, subst, ◌∙◌, arith, append_assoc, length-append}
+use Rattle.std.proofs.Common.{◌≡◌, ◌≤◌, ◌<◌, ◌^◌, ℕ, zero, suc, ◌+◌, Bool, true, false, List, [], ◌∷◌, ◌++◌, length, Option, None, Ok, refl, sym, ap, subst, ◌∙◌, arith, append_assoc, length-append}
 use Rattle.std.specs.Prelude.{if◌then◌else◌, nat_lt, ◌==◌, ◌&&◌, ◌||◌, not, slice_get, unwrap_or, count_by}
 use Rattle.std.proofs.lemmas.Bool.Decides.{nat_tests}
 use Rattle.std.proofs.lemmas.List.{append-nil}
@@ -7,14 +7,13 @@ use Rattle.std.proofs.lemmas.List.Recursion.{is_count_by}
 use Rattle.ix_text.specs.declared.span.Span.{Span}
 use Rattle.ix_core.specs.declared.claim.Type_.{Type_}
 use Rattle.ix_core.specs.declared.program.Class.{Class}
-use Rattle.ix_core.specs.declared.program.Field.{Field}
 use Rattle.ix_core.specs.declared.program.Local.{Local}
 use Rattle.ix_core.specs.declared.program.Method.{Method}
 use Rattle.ix_core.specs.declared.program.Program.{Program}
 use Rattle.ix_core.specs.Code.{items_code}
 use Rattle.ix_core.specs.Tables.{param_slot, param_slots, body_of, class_at, no_class}
 use Rattle.ix_core.specs.Types.{is_class}
-use Rattle.ix_core.specs.Formed.{at_most, is_target, loop_numbers, numbers_from, same_numbers, super_calls, own_super_calls, super_calls_fit, one_if, is_some_of, has_parent}
+use Rattle.ix_core.specs.Formed.{at_most, is_target, loop_numbers, numbers_from, same_numbers, super_calls, own_super_calls, one_if, is_some_of, has_parent}
 use Rattle.ix_tree.specs.declared.decl.ClassDecl.{ClassDecl}
 use Rattle.ix_tree.specs.declared.decl.LocalDecl.{LocalDecl}
 use Rattle.ix_tree.specs.declared.decl.Member.{Member}
@@ -25,16 +24,16 @@ use Rattle.ix_meaning.specs.Resolved.{Names}
 use Rattle.ix_meaning.specs.Source.{has_constructor, members_in}
 use Rattle.ix_plain.specs.declared.body.Body.{Body}
 use Rattle.ix_plain.specs.declared.numbers.Next.{Next}
-use Rattle.ix_plain.specs.Counts.{one, most_counted}
-use Rattle.ix_plain.specs.Members.{next_behind, class_of, classes_from, first_numbers, is_static, params_from, param_types_from, slot_behind}
+use Rattle.ix_plain.specs.Counts.{most_counted}
+use Rattle.ix_plain.specs.Members.{next_behind, first_numbers, is_static, params_from, param_types_from, slot_behind}
 use Rattle.ix_plain.specs.Parts.{block}
 use Rattle.ix_plain.specs.Scope.{declared_type, declared_claims}
 use Rattle.ix_plain.specs.Program as program
 use Rattle.ix_plain.specs.Program.{Tables, Home, site, home, tables, start, written_head, default_head, first_param, written_body, constructor_start}
-use Rattle.ix_formed.specs.Additions.{Makes, AllOf}
+use Rattle.ix_formed.specs.Additions.{AllOf}
 use Rattle.ix_formed.specs.Extensions.{HasSlotIn}
 use Rattle.ix_formed.specs.Bodies.{IsBody}
-use Rattle.ix_formed.specs.Shape.{IsSmall, IsMethod, IsDefault, AreMethods, AreAllMethods, AreDefaults, IfElse, IsOneDefault, HasMethods, classes_of, fields_of, IsNext, AllNumbered, params_of, types_of, AreInSlots, ListsFields, ListsMethods, MethodHasShape, HasShape, all_field_count}
+use Rattle.ix_formed.specs.Shape.{IsSmall, IsMethod, IsDefault, AreMethods, AreAllMethods, AreDefaults, IfElse, IsOneDefault, classes_of, fields_of, IsNext, AllNumbered, params_of, types_of, AreInSlots, ListsFields, ListsMethods, MethodHasShape, HasShape, all_field_count}
 use Rattle.ix_formed.proofs.PlainItems.{made_is}
 use Rattle.ix_formed.proofs.NumberLists.{all_so, all_joined, both_true, from_length, same_itself}
 use Rattle.ix_formed.proofs.Numbering.{one_more, goes, goes_on, classes_behind, fields_behind, classes_have_fields}
@@ -53,7 +52,7 @@ less_is n m lt = grind (arith, nat_tests)
 
 -- ---- parameters
 
-params_behind : (names : Names) (params : List Local) (slot : ℕ) (decls : List LocalDecl) → slot + length decls ≤ most_counted → params_from names params slot decls ≡ params ++ params_of names slot decls
+pub params_behind : (names : Names) (params : List Local) (slot : ℕ) (decls : List LocalDecl) → slot + length decls ≤ most_counted → params_from names params slot decls ≡ params ++ params_of names slot decls
 params_behind names params slot [] le = sym (append-nil params)
 params_behind names params slot (decl ∷ decls) le =
     let up = one_more slot (omega (arith, le)) in
@@ -61,7 +60,7 @@ params_behind names params slot (decl ∷ decls) le =
     ap (λ n. params_from names (params ++ param ∷ []) n decls) up ∙ params_behind names (params ++ param ∷ []) (slot + 1) decls (omega (arith, le))
     ∙ append_assoc params (param ∷ []) (params_of names (slot + 1) decls)
 
-types_behind : (names : Names) (types : List Type_) (decls : List LocalDecl) → param_types_from names types decls ≡ types ++ types_of names decls
+pub types_behind : (names : Names) (types : List Type_) (decls : List LocalDecl) → param_types_from names types decls ≡ types ++ types_of names decls
 types_behind names types [] = sym (append-nil types)
 types_behind names types (decl ∷ decls) =
     types_behind names (types ++ declared_type (names.declared decl.name.span) ∷ []) decls ∙ append_assoc types (declared_type (names.declared decl.name.span) ∷ []) (types_of names decls)
@@ -243,11 +242,11 @@ class_found next parent (decl ∷ decls) (suc k) is lt =
 
 -- ---- counts
 
-abbrev counted : {A : Type 0} → (A → Bool) → List A → ℕ
+abbrev pub counted : {A : Type 0} → (A → Bool) → List A → ℕ
 counted is [] = 0
 counted is (x ∷ xs) = if is x then 1 + counted is xs else counted is xs
 
-counted_is : {A : Type 0} (is : A → Bool) (xs : List A) → counted is xs ≡ count_by is xs
+pub counted_is : {A : Type 0} (is : A → Bool) (xs : List A) → counted is xs ≡ count_by is xs
 counted_is is xs = is_count_by (counted is) is refl (λ x xs. refl) xs
 
 counted_append : {A : Type 0} (is : A → Bool) (xs ys : List A) → counted is (xs ++ ys) ≡ counted is xs + counted is ys
@@ -280,7 +279,7 @@ defaults_unwritten t next (decl ∷ decls) methods are = one_or_none (has_constr
     one_or_none true are rest = rest methods are
     one_or_none false are rest = subst (AllOf (λ (method : Method). method.written ≡ false)) (sym are.2) (ap (λ (m : Method). m.written) are.3.same, rest are.1 are.4)
 
-written_length : (t : Tables) (next : Next) (decls : List ClassDecl) (methods : List Method) → AreAllMethods t next decls methods → length methods ≡ length (all_methods decls)
+pub written_length : (t : Tables) (next : Next) (decls : List ClassDecl) (methods : List Method) → AreAllMethods t next decls methods → length methods ≡ length (all_methods decls)
 written_length t next [] methods are = ap (λ (l : List Method). length l) are
 written_length t next (decl ∷ decls) methods are =
     let a = ap (λ (l : List Method). length l) are.2 in let b = length-append are.0 are.1 in let c = (counted_methods t (home t next decl) decl.members are.0 are.3).0 in

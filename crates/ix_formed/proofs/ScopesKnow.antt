@@ -1,6 +1,6 @@
 -- What an annotation may name has the type that it has in the program.
-use Rattle.std.proofs.Common.{◌≡◌, ◌≤◌, ◌<◌, ℕ, zero, suc, ◌+◌, Bool, true, false, List, [], ◌∷◌, ◌++◌, length, Option, Some, None, refl, sym, ap, subst, ◌∙◌, arith}
-use Rattle.std.specs.Prelude.{if◌then◌else◌, ◌==◌, ◌||◌, ◌&&◌, not, bytes_eq, slice_get}
+use Rattle.std.proofs.Common.{◌≡◌, ℕ, Bool, true, false, List, [], ◌∷◌, Option, Some, None, refl, sym, ap, subst, ◌∙◌}
+use Rattle.std.specs.Prelude.{if◌then◌else◌, ◌==◌, ◌||◌, ◌&&◌, not, bytes_eq}
 use Rattle.std.proofs.lemmas.Bool.{false≢true, and_parts}
 use Rattle.ix_core.specs.declared.claim.Base.TheVariants as base
 use Rattle.ix_core.specs.declared.claim.Name.{Name}
@@ -11,20 +11,19 @@ use Rattle.ix_core.specs.declared.program.Program.{Program}
 use Rattle.ix_core.specs.Formed.{is_int_of, is_array_of}
 use Rattle.ix_core.specs.Tables.{field_at}
 use Rattle.ix_core.specs.Types.{is_int_type, is_array_type}
-use Rattle.ix_core.proofs.Cases.{by_test, equal}
+use Rattle.ix_core.proofs.Cases.{equal}
 use Rattle.ix_tree.specs.Parts.{Part}
 use Rattle.ix_annot.specs.declared.scope.Found.{Found}
-use Rattle.ix_annot.specs.declared.scope.Holds.{Holds}
 use Rattle.ix_annot.specs.declared.scope.Holds.TheVariants as holds
 use Rattle.ix_annot.specs.declared.texts.Naming.{Naming}
 use Rattle.ix_annot.specs.declared.texts.Naming.TheVariants.{Parameter, OfThis, Variable}
 use Rattle.ix_annot.specs.Expansion.{is_field, may_change}
-use Rattle.ix_annot.specs.Named.{Names as Annotated, found_as, or_else, what_holds, same_holding, is_own, fitting, named}
+use Rattle.ix_annot.specs.Named.{or_else, what_holds, same_holding, is_own, fitting}
 use Rattle.ix_meaning.specs.declared.members.Field.{Field}
 use Rattle.ix_meaning.specs.declared.note.Meaning.{Meaning}
 use Rattle.ix_meaning.specs.declared.note.Meaning.TheVariants.{Local, Param, FieldNamed, Constant, MethodNamed, ClassNamed, LengthOf}
 use Rattle.ix_meaning.specs.Classes as classes
-use Rattle.ix_meaning.specs.Members.{World, own_field, nearest, or_nearest}
+use Rattle.ix_meaning.specs.Members.{own_field, nearest, or_nearest}
 use Rattle.ix_meaning.specs.Resolved.{Names}
 use Rattle.ix_meaning.specs.Scope.{Scope, Known, meant, is_pending, known_as, known_found, is_param, param_numbered, found_at, annot_names, instance_field, instance_field_in, field_of_this, type_or_void}
 use Rattle.ix_formed.specs.Additions.{AllOf}

@@ -1,6 +1,6 @@
 -- A source that passes no limit on names has few declarations.
-use Rattle.std.proofs.Common.{◌≡◌, ◌≤◌, ◌<◌, ◌^◌, ℕ, zero, suc, ◌+◌, Bool, true, false, List, [], ◌∷◌, ◌++◌, length, Option, Some, None, refl, sym, ap, subst, ◌∙◌, arith, length-append}
-use Rattle.std.specs.Prelude.{if◌then◌else◌, slice_get, option_map}
+use Rattle.std.proofs.Common.{◌≡◌, ◌≤◌, ◌<◌, ℕ, zero, suc, ◌+◌, Bool, true, false, List, [], ◌∷◌, length, Option, Some, None, refl, arith}
+use Rattle.std.specs.Prelude.{if◌then◌else◌}
 use Rattle.ix_tree.specs.declared.annot.Ident.{Ident}
 use Rattle.ix_tree.specs.declared.decl.ClassDecl.{ClassDecl}
 use Rattle.ix_tree.specs.declared.decl.LocalDecl.{LocalDecl}
@@ -10,7 +10,7 @@ use Rattle.ix_tree.specs.declared.decl.MethodDecl.{MethodDecl}
 use Rattle.ix_annot.specs.Named.{or_else}
 use Rattle.ix_meaning.specs.declared.note.Which.{Which}
 use Rattle.ix_meaning.specs.declared.note.Which.TheVariants as which
-use Rattle.ix_meaning.specs.Limits.{Passed, passed, limit, past_names, past_params, past_claims, class_names, method_names, param_names, all_methods, all_annots, most_classes, most_methods, most_params}
+use Rattle.ix_meaning.specs.Limits.{limit, past_names, past_params, past_claims, class_names, method_names, param_names, all_methods, all_annots, most_classes, most_methods, most_params}
 use Rattle.ix_meaning.specs.Source.{members_in}
 use Rattle.ix_plain.specs.Counts.{most_counted}
 use Rattle.ix_formed.specs.Additions.{AllOf}

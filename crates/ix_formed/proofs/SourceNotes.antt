@@ -1,11 +1,10 @@
 -- The notes of a whole source weigh no more than its parts.
-use Rattle.std.proofs.Common.{◌≡◌, ◌≤◌, ℕ, ◌+◌, Bool, true, false, List, [], ◌∷◌, ◌++◌, map, length, Option, Some, None, refl, sym, ap, subst, ◌∙◌, arith}
-use Rattle.std.specs.Prelude.{if◌then◌else◌, not, ◌||◌, bytes_eq}
+use Rattle.std.proofs.Common.{◌≡◌, ◌≤◌, ℕ, ◌+◌, Bool, true, false, List, [], ◌∷◌, ◌++◌, map, Option, Some, None, refl, sym, subst, arith}
+use Rattle.std.specs.Prelude.{if◌then◌else◌, not, bytes_eq}
 use Rattle.ix_text.specs.declared.span.Span.{Span}
 use Rattle.ix_core.specs.declared.claim.Claim.{Claim}
 use Rattle.ix_core.specs.declared.claim.Name.TheVariants as name
 use Rattle.ix_core.specs.declared.claim.Type_.{Type_}
-use Rattle.ix_core.specs.declared.claim.Type_.TheVariants.{Void}
 use Rattle.ix_annot.specs.Named.{Names}
 use Rattle.ix_annot.specs.declared.scope.Target.{Target}
 use Rattle.ix_annot.specs.declared.scope.Target.TheVariants as on
@@ -28,7 +27,6 @@ use Rattle.ix_meaning.specs.declared.members.Field.{Field}
 use Rattle.ix_meaning.specs.declared.members.Signature.{Signature}
 use Rattle.ix_meaning.specs.declared.note.Meaning.TheVariants.{ClassNamed}
 use Rattle.ix_meaning.specs.declared.note.Note.{Note}
-use Rattle.ix_meaning.specs.declared.note.Note.TheVariants.{Use, Typed, Declares, Wrong, WrongAnnot}
 use Rattle.ix_meaning.specs.declared.note.Rule.TheVariants as rule
 use Rattle.ix_meaning.specs.Annotated as annotated
 use Rattle.ix_meaning.specs.Annotated.{given, aimed, written, variable, static_field, of_method, of_result}
@@ -42,9 +40,9 @@ use Rattle.ix_meaning.specs.Scope.{Scope, annot_names}
 use Rattle.ix_meaning.specs.Source as source
 use Rattle.ix_meaning.specs.Source.{Place}
 use Rattle.ix_meaning.specs.Types.{Need, boolean, of, printed, wrong_if}
-use Rattle.ix_meaning.specs.Values.{reading, filling, check, arguments, given_to}
+use Rattle.ix_meaning.specs.Values.{reading, arguments, given_to}
 use Rattle.ix_formed.specs.Weights.{total, IsWeighed}
-use Rattle.ix_formed.proofs.ExpressionNotes.{total_append, notes_weigh, parts_weigh, both_notes, broken_weighs, wrong_weighs, given_weigh, written_weighs, check_weighs, AllWeigh, sum, arguments_weigh, given_to_weigh, expression_weighs, initialiser_weighs}
+use Rattle.ix_formed.proofs.ExpressionNotes.{total_append, both_notes, broken_weighs, wrong_weighs, given_weigh, written_weighs, check_weighs, AllWeigh, sum, arguments_weigh, given_to_weigh, expression_weighs, initialiser_weighs}
 
 module _ (note : Note → ℕ) (part : Part → ℕ) (weighed : IsWeighed note part) where
   abbrev N : List Note → ℕ

@@ -1,5 +1,5 @@
 -- A statement appends items whose loops have the next numbers, takes slots upwards and adds its locals behind.
-use Rattle.std.proofs.Common.{◌≡◌, ◌≤◌, ◌<◌, ℕ, zero, suc, ◌+◌, max, Bool, true, false, List, [], ◌∷◌, ◌++◌, map, Option, Some, None, Result, Ok, Err, refl, sym, ap, subst, ◌∙◌, arith, append_assoc}
+use Rattle.std.proofs.Common.{◌≡◌, ℕ, zero, suc, ◌+◌, max, Bool, true, false, List, [], ◌∷◌, ◌++◌, map, Option, Some, None, Ok, Err, refl, sym, ap, subst, ◌∙◌, arith, append_assoc}
 use Rattle.std.specs.Prelude.{if◌then◌else◌, nat_lt}
 use Rattle.std.proofs.lemmas.Bool.Decides.{nat_tests}
 use Rattle.std.proofs.lemmas.List.{append-nil}
@@ -7,34 +7,32 @@ use Rattle.ix_text.specs.declared.span.Span.{Span}
 use Rattle.ix_core.specs.declared.claim.Type_.{Type_}
 use Rattle.ix_core.specs.declared.code.Block.{Block}
 use Rattle.ix_core.specs.declared.code.Cond.{Cond}
-use Rattle.ix_core.specs.declared.code.Cond.TheVariants as cond
 use Rattle.ix_core.specs.declared.code.Item.{Item}
 use Rattle.ix_core.specs.declared.code.Item.TheVariants as item
 use Rattle.ix_core.specs.declared.op.OpKind.TheVariants as op
-use Rattle.ix_core.specs.declared.program.Local.{Local}
-use Rattle.ix_core.specs.Code.{Code, End, If, Loop, cond_code, items_code, block_code, item_code}
-use Rattle.ix_core.specs.Formed.{loop_numbers, numbers_from, super_calls, super_calls_in, own_super_calls}
+use Rattle.ix_core.specs.Code.{Code, End, items_code, block_code, item_code}
+use Rattle.ix_core.specs.Formed.{loop_numbers, numbers_from, super_calls, own_super_calls}
 use Rattle.ix_core.proofs.Translated.{item_code-If, item_code-Loop}
 use Rattle.ix_tree.specs.declared.annot.Ident.{Ident}
 use Rattle.ix_tree.specs.declared.decl.LocalDecl.{LocalDecl}
 use Rattle.ix_tree.specs.declared.expr.Expr.{Expr}
 use Rattle.ix_tree.specs.declared.expr.Init.{Init}
-use Rattle.ix_tree.specs.declared.stmt.Stmt.{Stmt, Stmt-F, ind-Stmt, map-Stmt, roll-Stmt, fold-Stmt, fold-roll-Stmt}
+use Rattle.ix_tree.specs.declared.stmt.Stmt.{Stmt, Stmt-F, ind-Stmt, map-Stmt, roll-Stmt, fold-roll-Stmt}
 use Rattle.ix_tree.specs.declared.stmt.StmtKind.{StmtKind, StmtKind-F, map-StmtKind, roll-StmtKind, fold-StmtKind, fold-roll-StmtKind}
 use Rattle.ix_meaning.specs.declared.note.Which.TheVariants as which
 use Rattle.ix_plain.specs.declared.body.Body.{Body}
 use Rattle.ix_plain.specs.declared.made.Made.{Made}
 use Rattle.ix_plain.specs.declared.made.Spot.TheVariants as spot
-use Rattle.ix_plain.specs.Scope.{Site, Scope, declared_type, declared_claims}
-use Rattle.ix_plain.specs.Parts.{Within, ◌>>=◌, Value, Asked, empty, with_item, block, done, computed, write, default, most_slots}
+use Rattle.ix_plain.specs.Scope.{Site, declared_type, declared_claims}
+use Rattle.ix_plain.specs.Parts.{Within, ◌>>=◌, Value, empty, done, computed, write, default, most_slots}
 use Rattle.ix_plain.specs.Assigned.{assigns, init_assigns}
 use Rattle.ix_plain.specs.Values.{lowering, filling}
 use Rattle.ix_plain.specs.Statements as statements
 use Rattle.ix_plain.specs.Statements.{Running, Run, Inside, Evaluated, Tested, behind, with_last, behind_value, evaluated, init_evaluated, used, ran, all_ran, tested, tested_if, with_free, inside, in_loop, most_loops, scope_for, with_local, no_block}
 use Rattle.ix_formed.specs.Additions.{Makes, AllOf, code_before, IsPlain, IsPlainCondition, Adds, Asks, Rises}
-use Rattle.ix_formed.specs.Extensions.{IsNumbered, IsWithin, HasSlotIn, Moves, Extends, Computes, IsTested, Nests, Runs}
+use Rattle.ix_formed.specs.Extensions.{IsNumbered, HasSlotIn, Moves, Extends, Computes, IsTested, Nests, Runs}
 use Rattle.ix_formed.proofs.PlainItems.{makes_more, makes_then, before_append, items_before, plain_none, plain_both, plain_op, plain_supers}
-use Rattle.ix_formed.proofs.ExpressionsAdd.{expression_adds, initialiser_adds, computed_adds, write_adds}
+use Rattle.ix_formed.proofs.ExpressionsAdd.{expression_adds, initialiser_adds, computed_adds}
 
 -- ---- numbers
 

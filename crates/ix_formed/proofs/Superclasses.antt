@@ -1,14 +1,13 @@
 -- The superclasses of a class are its ancestors in the program, and it has the fields that it lists and inherits.
-use Rattle.std.proofs.Common.{◌≡◌, ◌≤◌, ◌<◌, ℕ, zero, suc, ◌+◌, Bool, true, false, List, [], ◌∷◌, ◌++◌, length, Option, Some, None, refl, sym, ap, subst, ◌∙◌, arith, ◌⊎◌, ⊎_elim}
+use Rattle.std.proofs.Common.{◌≡◌, ◌≤◌, ◌<◌, ℕ, zero, suc, ◌+◌, Bool, true, false, List, [], ◌∷◌, length, Option, Some, None, sym, ap, subst, ◌∙◌, arith, ⊎_elim}
 use Rattle.std.specs.Prelude.{if◌then◌else◌, ◌==◌, ◌||◌, ◌&&◌, reverse, slice_get, unwrap_or}
-use Rattle.std.specs.List.{list_any, list_all}
+use Rattle.std.specs.List.{list_all}
 use Rattle.std.proofs.lemmas.Bool.{false≢true, and_parts}
-use Rattle.std.proofs.lemmas.Bool.Decides.{nat_tests}
 use Rattle.std.proofs.lemmas.Grind.{reverse_onto}
 use Rattle.ix_core.specs.declared.program.Class.{Class}
 use Rattle.ix_core.specs.declared.program.Field.{Field}
 use Rattle.ix_core.specs.declared.program.Program.{Program}
-use Rattle.ix_core.specs.Formed.{are_distinct, are_same_numbers, numbers_where, ends_within}
+use Rattle.ix_core.specs.Formed.{are_distinct, numbers_where, ends_within}
 use Rattle.ix_core.specs.Tables.{class_at, field_at, no_field, no_class, way_up, ancestors, all_fields, is_among, most_on_way}
 use Rattle.ix_core.specs.Types.{is_below}
 use Rattle.ix_core.proofs.Ancestors.{first_among, rest_among, among_parts, above, front_among, back_among, flat_among}
@@ -19,7 +18,7 @@ use Rattle.ix_meaning.specs.Classes.{parent, onward, supers, is_cyclic}
 use Rattle.ix_formed.specs.Additions.{AllOf}
 use Rattle.ix_formed.specs.Shape.{AllNumbered, ListsFields}
 use Rattle.ix_formed.proofs.NumberLists.{is_itself}
-use Rattle.ix_formed.proofs.WaysUp.{up, up_short, supers_are}
+use Rattle.ix_formed.proofs.WaysUp.{up, up_within, supers_are}
 
 -- a number of a list, as either definition has it
 among_same : (n : ℕ) (xs : List ℕ) → classes.is_among n xs ≡ true → is_among xs n ≡ true
@@ -82,6 +81,17 @@ module _ (p : Program) (ps : List (Option ℕ)) (same : (class : ℕ) → (class
         let le = few class lt in
         let l = ap (λ (xs : List ℕ). length xs) s in
         up_there ps class most_on_way (omega (arith, le, l)) other (subst (λ (xs : List ℕ). classes.is_among other (class ∷ xs) ≡ true) s e)
+
+    all_among : (P : ℕ → Type 0) (xs : List ℕ) (n : ℕ) → AllOf P xs → classes.is_among n xs ≡ true → P n
+    all_among P [] n all e = absurd (false≢true e)
+    all_among P (x ∷ xs) n all e =
+        by_test (x == n) (λ t. subst P (equal x n t) all.0) (λ f. all_among P xs n all.1 (sym (ap (λ b. b || classes.is_among n xs) f) ∙ e))
+
+    -- is a class of the source
+    pub above_is_class : (class : ℕ) → class < length ps → (other : ℕ) → classes.is_among other (class ∷ supers ps class) ≡ true → other < length ps
+    above_is_class class lt other e =
+        let s = supers_are ps acyclic within class lt in
+        all_among (λ n. n < length ps) (class ∷ up ps ps class) other (lt, up_within ps acyclic within ps class) (subst (λ (xs : List ℕ). classes.is_among other (class ∷ xs) ≡ true) s e)
 
     pub is_above_again : ((class : ℕ) → class < length ps → ends_within p most_on_way (Some class) ≡ true) → (class middle other : ℕ) → class < length ps → is_below p class middle ≡ true → is_below p middle other ≡ true → is_below p class other ≡ true
     is_above_again ways class middle other lt a b = above p most_on_way most_on_way (Some class) middle other (ways class lt) a b

@@ -1,17 +1,14 @@
 -- Where no class is its own superclass, each way up ends, and passes as many classes as there are superclasses.
-use Rattle.std.proofs.Common.{◌≡◌, ◌≤◌, ◌<◌, ℕ, zero, suc, ◌+◌, Bool, true, false, List, [], ◌∷◌, ◌++◌, length, Option, Some, None, refl, sym, ap, subst, ◌∙◌, arith, length-append}
-use Rattle.std.specs.Prelude.{if◌then◌else◌, nat_lt, ◌==◌, ◌||◌, slice_get, bytes_eq}
-use Rattle.std.specs.List.{list_any}
+use Rattle.std.proofs.Common.{◌≡◌, ◌≤◌, ◌<◌, ℕ, zero, suc, ◌+◌, Bool, true, false, List, [], ◌∷◌, ◌++◌, length, Option, Some, None, refl, sym, ap, subst, ◌∙◌, arith}
+use Rattle.std.specs.Prelude.{if◌then◌else◌, ◌==◌, ◌||◌}
 use Rattle.std.proofs.lemmas.Bool.{false≢true}
 use Rattle.std.proofs.lemmas.Bool.Decides.{nat_tests}
 use Rattle.ix_core.specs.declared.program.Program.{Program}
 use Rattle.ix_core.specs.Formed.{ends_within}
 use Rattle.ix_core.specs.Tables.{class_at}
-use Rattle.ix_tree.specs.declared.decl.ClassDecl.{ClassDecl}
-use Rattle.ix_meaning.specs.Classes.{class_named, first_class, first_or, parents, parents_by, parent, parent_in, parent_in_table, onward, way_up, is_among, is_cyclic, unseen, supers}
+use Rattle.ix_meaning.specs.Classes.{parent, onward, way_up, is_among, is_cyclic, unseen, supers}
 use Rattle.ix_core.proofs.Cases.{by_test, equal, differ}
 use Rattle.ix_formed.specs.Additions.{AllOf}
-use Rattle.ix_formed.proofs.NumberLists.{is_itself, is_more, is_less, all_so}
 
 -- ---- numbers of a list
 
@@ -114,7 +111,7 @@ module _ (ps : List (Option ℕ)) where
       onward_ended (Some above) lt rest = rest above (omega (arith, lt))
 
   module _ (acyclic : (class : ℕ) → class < length ps → is_cyclic ps class ≡ false) (within : (class above : ℕ) → parent ps class ≡ Some above → above < length ps) where
-    up_within : (turns : List (Option ℕ)) (class : ℕ) → AllOf (λ x. x < length ps) (up turns class)
+    pub up_within : (turns : List (Option ℕ)) (class : ℕ) → AllOf (λ x. x < length ps) (up turns class)
     up_within [] class = tt
     up_within (turn ∷ turns) class = onward_within (parent ps class) refl (λ p. up_within turns p)
       where
@@ -122,7 +119,7 @@ module _ (ps : List (Option ℕ)) where
         onward_within None e rest = tt
         onward_within (Some p) e rest = (within class p (sym e), rest p)
 
-    up_distinct : (turns : List (Option ℕ)) (class : ℕ) → class < length ps → length turns ≤ length ps → Distinct (class ∷ up turns class)
+    pub up_distinct : (turns : List (Option ℕ)) (class : ℕ) → class < length ps → length turns ≤ length ps → Distinct (class ∷ up turns class)
     up_distinct [] class lt le = (refl, tt)
     up_distinct (turn ∷ turns) class lt le = (
       by_test (is_among class (up (turn ∷ turns) class)) (λ t. absurd (false≢true (sym (acyclic class lt) ∙ up_more (turn ∷ turns) ps class class le t))) (λ f. f),

@@ -1,41 +1,37 @@
 -- The body of a method: within the limits, its loops numbered in order, and the parent's constructor called once where it has to be.
-use Rattle.std.proofs.Common.{◌≡◌, ◌≤◌, ◌<◌, ℕ, zero, suc, ◌+◌, max, Bool, true, false, List, [], ◌∷◌, ◌++◌, map, Option, Some, None, Result, Ok, Err, refl, sym, ap, subst, ◌∙◌, arith, append_assoc}
-use Rattle.std.specs.Prelude.{if◌then◌else◌, nat_lt, ◌&&◌, is_some}
+use Rattle.std.proofs.Common.{◌≡◌, ◌≤◌, ℕ, ◌+◌, Bool, true, false, List, [], ◌∷◌, ◌++◌, map, Option, Some, None, Ok, Err, refl, sym, ap, subst, ◌∙◌, arith, append_assoc}
+use Rattle.std.specs.Prelude.{if◌then◌else◌, nat_lt, ◌&&◌}
 use Rattle.std.proofs.lemmas.Bool.Decides.{nat_tests}
 use Rattle.std.proofs.lemmas.List.{append-nil}
 use Rattle.ix_text.specs.declared.span.Span.{Span}
 use Rattle.ix_core.specs.declared.code.Item.{Item}
-use Rattle.ix_core.specs.declared.code.Item.TheVariants as item
 use Rattle.ix_core.specs.declared.op.CallOp.{CallOp}
-use Rattle.ix_core.specs.declared.op.OpKind.{OpKind}
 use Rattle.ix_core.specs.declared.op.OpKind.TheVariants as op
-use Rattle.ix_core.specs.declared.program.Local.{Local}
-use Rattle.ix_core.specs.Code.{Code, End, items_code, item_code}
-use Rattle.ix_core.specs.Formed.{loop_numbers, numbers_from, super_calls, own_super_calls, one_if, is_super_call, is_some_of}
+use Rattle.ix_core.specs.Code.{End, items_code}
+use Rattle.ix_core.specs.Formed.{loop_numbers, numbers_from, super_calls, own_super_calls, one_if, is_some_of}
 use Rattle.ix_tree.specs.declared.decl.LocalDecl.{LocalDecl}
 use Rattle.ix_tree.specs.declared.decl.Member.{Member}
 use Rattle.ix_tree.specs.declared.decl.Member.TheVariants as member
 use Rattle.ix_tree.specs.declared.decl.MethodDecl.{MethodDecl}
 use Rattle.ix_tree.specs.declared.expr.Expr.{Expr}
 use Rattle.ix_tree.specs.declared.expr.Init.{Init}
-use Rattle.ix_tree.specs.declared.stmt.Stmt.{Stmt}
 use Rattle.ix_meaning.specs.declared.note.Which.TheVariants as which
 use Rattle.ix_plain.specs.declared.body.Body.{Body}
 use Rattle.ix_plain.specs.declared.made.Made.{Made}
-use Rattle.ix_plain.specs.Scope.{Site, Scope, constructor_at, declared_type}
-use Rattle.ix_plain.specs.Parts.{Within, ◌>>=◌, Value, empty, block, done, taking, most_slots}
+use Rattle.ix_plain.specs.Scope.{Site, constructor_at, declared_type}
+use Rattle.ix_plain.specs.Parts.{Value, done, most_slots}
 use Rattle.ix_plain.specs.Assigned.{all_assign}
 use Rattle.ix_plain.specs.Members.{next_field}
-use Rattle.ix_plain.specs.Values.{Lowering, Arguments, lowering, filling, arguments_from, calling}
-use Rattle.ix_plain.specs.Statements.{Evaluated, scope_for, behind, with_last, init_evaluated, each, statement, most_loops}
+use Rattle.ix_plain.specs.Values.{Arguments, lowering, filling, arguments_from, calling}
+use Rattle.ix_plain.specs.Statements.{scope_for, behind, each, statement}
 use Rattle.ix_plain.specs.Program as program
 use Rattle.ix_plain.specs.Program.{Home, start, args_or_none}
-use Rattle.ix_formed.specs.Additions.{Makes, AllOf, code_before, IsPlain, Rises, Adds, Grows}
-use Rattle.ix_formed.specs.Extensions.{IsNumbered, IsWithin, HasSlotIn, Moves, Extends, Computes}
+use Rattle.ix_formed.specs.Additions.{Makes, AllOf, code_before, IsPlain, Adds, Grows}
+use Rattle.ix_formed.specs.Extensions.{IsWithin, HasSlotIn, Extends, Computes}
 use Rattle.ix_formed.specs.Bodies.{CallsParent, Starts, IsBody}
-use Rattle.ix_formed.proofs.PlainItems.{makes_more, makes_then, before_append, items_before, plain_none, plain_both, plain_op}
+use Rattle.ix_formed.proofs.PlainItems.{makes_more, makes_then, before_append, items_before, plain_none, plain_op}
 use Rattle.ix_formed.proofs.ExpressionsAdd.{expression_adds, arguments_add, rises_both}
-use Rattle.ix_formed.proofs.StatementsExtend.{moves_none, moves_both, behind_moves, used_computes, init_evaluated_computes, numbered_both, statements_extend}
+use Rattle.ix_formed.proofs.StatementsExtend.{moves_none, moves_both, behind_moves, used_computes, init_evaluated_computes, statements_extend}
 
 -- ---- items
 

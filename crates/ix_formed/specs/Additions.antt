@@ -7,7 +7,7 @@ use Rattle.ix_core.specs.Code.{Code, item_code, cond_code}
 use Rattle.ix_core.specs.Formed.{is_straight, is_straight_condition, loop_numbers, super_calls, super_calls_in, own_super_calls}
 use Rattle.ix_plain.specs.declared.made.Made.{Made}
 use Rattle.ix_plain.specs.Scope.{Scope}
-use Rattle.ix_plain.specs.Parts.{Within, Asked, most_slots}
+use Rattle.ix_plain.specs.Parts.{Asked, most_slots}
 use Rattle.ix_plain.specs.Values.{Lowering, Filling}
 
 -- what was made is so, where something was made

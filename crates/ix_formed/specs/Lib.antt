@@ -6,3 +6,4 @@ pub mod Shape
 pub mod Weights
 pub mod NoErrors
 pub mod Written
+pub mod Sizes

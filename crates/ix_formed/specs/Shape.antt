@@ -1,5 +1,5 @@
 -- What a whole program has that its source says by itself, whatever its names mean.
-use Rattle.std.specs.Prelude.{◌≡◌, ◌≤◌, ◌<◌, ℕ, ◌+◌, Bool, true, false, not, ◌||◌, ◌&&◌, if◌then◌else◌, ◌==◌, List, [], ◌∷◌, ◌++◌, length, count_by, Option, Ok}
+use Rattle.std.specs.Prelude.{◌≡◌, ◌≤◌, ◌<◌, ℕ, ◌+◌, nat_lt, Bool, true, false, not, ◌||◌, if◌then◌else◌, ◌==◌, List, [], ◌∷◌, ◌++◌, length, count_by, Option, Ok}
 use Rattle.ix_core.specs.declared.claim.Type_.{Type_}
 use Rattle.ix_core.specs.declared.program.Class.{Class}
 use Rattle.ix_core.specs.declared.program.Field.{Field}
@@ -21,10 +21,10 @@ use Rattle.ix_meaning.specs.Source.{has_constructor, members_in}
 use Rattle.ix_plain.specs.declared.body.Body.{Body}
 use Rattle.ix_plain.specs.declared.numbers.Next.{Next}
 use Rattle.ix_plain.specs.Scope.{declared_type, declared_claims}
+use Rattle.ix_plain.specs.Counts.{operations}
 use Rattle.ix_plain.specs.Parts.{block}
 use Rattle.ix_plain.specs.Members.{next_behind, class_of, field_of, is_static, slot_behind}
-use Rattle.ix_plain.specs.Program as program
-use Rattle.ix_plain.specs.Program.{Tables, Home, site, home, start, written_head, default_head, first_param, written_body, constructor_start}
+use Rattle.ix_plain.specs.Program.{Tables, Home, site, home, start, written_head, default_head, first_param, written_body, constructor_start, most_operations}
 use Rattle.ix_formed.specs.Additions.{AllOf}
 
 -- A source with few declarations, as the limits on names have it.
@@ -39,12 +39,14 @@ pub record IsMethod (tables : Tables) (at : Home) (decl : MethodDecl) (method : 
   pub body : Body
   pub same : method ≡ record (written_head tables at decl) { locals = body.locals; slots = body.most; body = block body.made }
   pub made : written_body (site tables at (written_head tables at decl).params) at decl (slot_behind (first_param (is_static decl)) decl.params) ≡ Ok body
+  pub few : nat_lt most_operations (operations (block body.made) 0) ≡ false
 
 -- The method is the constructor of a class that has none written.
 pub record IsDefault (tables : Tables) (at : Home) (span : Span) (method : Method) : Type 0 where
   pub body : Body
   pub same : method ≡ record (default_head at span) { locals = body.locals; slots = body.most; body = block body.made }
   pub made : constructor_start (site tables at []) at [] span (start 1) ≡ Ok body
+  pub few : nat_lt most_operations (operations (block body.made) 0) ≡ false
 
 -- The methods of a class's members, in their order.
 abbrev pub AreMethods : Tables → Home → List Member → List Method → Type 0

@@ -1,6 +1,6 @@
 -- What the grammar gives of every tree and its relation of tokens says, and what lowering rests on: ints in their range, annotations between a base and its
 -- brackets, brackets of a new array, constructors without a result.
-use Rattle.std.specs.Prelude.{◌≡◌, ℕ, nat_lt, Bool, true, false, ◌&&◌, ◌||◌, not, List, [], ◌∷◌, Option, Some, None}
+use Rattle.std.specs.Prelude.{nat_lt, Bool, true, false, ◌&&◌, ◌||◌, not, List, [], ◌∷◌, Option, Some, None}
 use Rattle.ix_core.specs.Machine.{is_int}
 use Rattle.ix_tree.specs.declared.annot.Annot.{Annot}
 use Rattle.ix_tree.specs.declared.annot.TypeTree.{TypeTree}
@@ -12,7 +12,7 @@ use Rattle.ix_tree.specs.declared.decl.MethodDecl.{MethodDecl}
 use Rattle.ix_tree.specs.declared.expr.Expr.{Expr, Expr-F, fold-Expr}
 use Rattle.ix_tree.specs.declared.expr.ExprKind.{ExprKind-F}
 use Rattle.ix_tree.specs.declared.expr.Init.{Init, Init-F, fold-Init}
-use Rattle.ix_tree.specs.declared.stmt.Stmt.{Stmt, Stmt-F, fold-Stmt}
+use Rattle.ix_tree.specs.declared.stmt.Stmt.{Stmt, fold-Stmt}
 use Rattle.ix_tree.specs.declared.stmt.StmtKind.{StmtKind-F}
 
 abbrev pub all_true : List Bool → Bool
