@@ -32,3 +32,4 @@ pub mod CodeSizes
 pub mod FormsOfExpressions
 pub mod FormsOfStatements
 pub mod SizesFit
+pub mod TypedPoints
