@@ -1,2 +1,6 @@
-mod BoundSteps
 mod KnownFacts
+mod SmallFacts
+pub mod PathTies
+pub mod EntriesAre
+pub mod Found
+mod Places

@@ -1,30 +1,34 @@
-//! A plain list of facts as what is known.
+//! A list of facts as what is known.
 
-ghost use Rattle.std.specs.Prelude.{◌≡◌, All, List, [], ◌∷◌, ◌++◌, IfOk, OnOk, option_to_list};
+ghost use Rattle.std.specs.Prelude.{◌≡◌, ◌++◌, ◌∷◌, [], length, All, List, IfOk, OnOk};
+ghost use Rattle.ix_core.specs.declared.fact.Path.{Path};
 ghost use Rattle.ix_core.specs.declared.fact.Fact.{Fact};
-ghost use Rattle.ix_facts.specs.Facts.{orders, is_default, in_orders};
-ghost use Rattle.ix_facts.specs.Assume.{has, is_length, is_search, is_negative};
+ghost use Rattle.ix_facts.specs.Facts.{in_orders};
 ghost use Rattle.ix_facts.specs.Forget.{of_path, without};
 ghost use Rattle.ix_facts.specs.After.{of_target};
-ghost use Rattle.ix_facts.specs.Exact.{offset_paths, ints_of, arrays_of, named_ints, named_arrays};
-ghost use Rattle.ix_facts.specs.Named.{has_path, with_path, with_paths};
+ghost use Rattle.ix_facts.specs.Exact.{named_ints, named_arrays};
 ghost use Rattle.ix_facts.specs.Small.{HasSmallNumbers};
+ghost use Rattle.ix_fact_list.specs.ByPath.{IsSorted, beside, on_it, put_all};
 
-use crate::bounds;
+use crate::by_path::{by_path, facts_beside, facts_of, paths_of};
+use crate::named::{all_arrays, all_ints};
+use crate::orders::in_all_orders;
+use ix_bounds::{self, Groups};
 use ix_core::{Fact, OpKind, Path, PathOff};
-use ix_facts::{Know, is_same_path, names_path, names_target};
+use ix_facts::{Know, names_path, names_target};
 use ix_index::Indexed;
 use std::alloc::{AllocError, Global};
 use std::marker::Model;
 
-/// Facts in the order in which they are given. Each bound looks at every fact, and some at every fact for every fact: this is the plain form of what
-/// is known, to compare others with.
+/// Facts in the order in which they are given, with those that name a path at hand by binary search: a bound looks at the facts that name its paths alone.
 #[derive(Drop)]
 pub struct FactList {
     facts: Vec<Fact>,
-    /// The facts in all their orders.
-    ordered: Vec<Fact>,
-    /// The ints and arrays that they name, each once.
+    /// The paths that they name, in order, each as often as facts name it.
+    paths: Vec<Path>,
+    /// Beside each path a fact that names it, in one of its orders.
+    beside_paths: Vec<Fact>,
+    /// The ints and arrays that the facts name, each once.
     ints: Vec<Path>,
     arrays: Vec<Path>,
 }
@@ -34,158 +38,9 @@ impl Model for FactList {
 
     ghost view = { λ list. list.facts.items };
 
-    ghost invariant = { λ list. (list.ordered.items ≡ in_orders list.facts.items) × (All HasSmallNumbers list.ordered.items × (All HasSmallNumbers list.facts.items
-        × ((list.ints.items ≡ with_paths [] (named_ints list.ordered.items)) × (list.arrays.items ≡ with_paths [] (named_arrays list.ordered.items))))) };
-}
-
-/// The fact in its other order, if it has one.
-fn turned(fact: &Fact) -> Option<Fact>
-    ensures { orders fact.now ≡ fact.now ∷ option_to_list result }
-{
-    match *fact {
-        Fact::Same(a, b) => Some(Fact::Same(b, a)),
-        Fact::Sum(t, y, z) => Some(Fact::Sum(t, z, y)),
-        Fact::Upper(p, a, PathOff::Plus(q), c) => Some(Fact::Upper(q, a, PathOff::Plus(p), c)),
-        _ => None,
-    }
-}
-
-/// Whether the fact is a range that is said of every path.
-fn is_said_of_all(fact: &Fact) -> bool
-    ensures { result ≡ is_default fact.now }
-{
-    match *fact {
-        Fact::Rng(_, low, high) => low <= -2147483648 && high >= 2147483647,
-        Fact::LenRng(_, low, high) => low <= 0 && high >= 2147483647,
-        _ => false,
-    }
-}
-
-fn push_orders(ordered: &mut Vec<Fact>, fact: &Fact) -> Result<(), AllocError>
-    ensures { OnOk result (ordered.new.items ≡ ordered.old.items ++ orders fact.now) }
-{
-    ordered.push(*fact)?;
-    if let Some(other) = turned(fact) {
-        ordered.push(other)?;
-    }
-    Ok(())
-}
-
-fn in_all_orders(alloc: Global, facts: &[Fact]) -> Result<Vec<Fact>, AllocError>
-    ensures { IfOk result (λ ordered. ordered.items ≡ in_orders facts.now) }
-{
-    let mut ordered = Vec::new(alloc);
-    for fact in facts {
-        if !is_said_of_all(fact) {
-            push_orders(&mut ordered, fact)?;
-        }
-    }
-    Ok(ordered)
-}
-
-fn contains(paths: &[Path], p: &Path) -> bool
-    ensures { result ≡ has_path p.now paths.now }
-{
-    for path in paths {
-        if is_same_path(p, path) {
-            return true;
-        }
-    }
-    false
-}
-
-fn push_once(paths: &mut Vec<Path>, p: Path) -> Result<(), AllocError>
-    ensures { OnOk result (paths.new.items ≡ with_path paths.old.items p) }
-{
-    if !contains(paths, &p) {
-        paths.push(p)?;
-    }
-    Ok(())
-}
-
-fn push_offset(paths: &mut Vec<Path>, offset: &PathOff) -> Result<(), AllocError>
-    ensures { OnOk result (paths.new.items ≡ with_paths paths.old.items (offset_paths offset.now)) }
-{
-    match *offset {
-        PathOff::Nothing => Ok(()),
-        PathOff::Plus(q) => push_once(paths, q),
-        PathOff::Minus(q) => push_once(paths, q),
-    }
-}
-
-fn push_three(paths: &mut Vec<Path>, t: Path, y: Path, z: Path) -> Result<(), AllocError>
-    ensures { OnOk result (paths.new.items ≡ with_paths paths.old.items (t ∷ y ∷ z ∷ [])) }
-{
-    push_once(paths, t)?;
-    push_once(paths, y)?;
-    push_once(paths, z)
-}
-
-fn push_two(paths: &mut Vec<Path>, p: Path, q: Path) -> Result<(), AllocError>
-    ensures { OnOk result (paths.new.items ≡ with_paths paths.old.items (p ∷ q ∷ [])) }
-{
-    push_once(paths, p)?;
-    push_once(paths, q)
-}
-
-fn push_with_offset(paths: &mut Vec<Path>, p: Path, offset: &PathOff) -> Result<(), AllocError>
-    ensures { OnOk result (paths.new.items ≡ with_paths paths.old.items (p ∷ offset_paths offset.now)) }
-{
-    push_once(paths, p)?;
-    push_offset(paths, offset)
-}
-
-fn push_ints(paths: &mut Vec<Path>, fact: &Fact) -> Result<(), AllocError>
-    ensures { OnOk result (paths.new.items ≡ with_paths paths.old.items (ints_of fact.now)) }
-{
-    match *fact {
-        Fact::Rng(p, _, _) => push_once(paths, p),
-        Fact::LenRng(_, _, _) => Ok(()),
-        Fact::Low(p, _) => push_once(paths, p),
-        Fact::Same(_, _) => Ok(()),
-        Fact::IsLen(p, _) => push_once(paths, p),
-        Fact::Less(p, q, _) => push_two(paths, p, q),
-        Fact::Sum(t, y, z) => push_three(paths, t, y, z),
-        Fact::Search(p, _) => push_once(paths, p),
-        Fact::Neg(p, _) => push_once(paths, p),
-        Fact::Upper(p, _, offset, _) => push_with_offset(paths, p, &offset),
-    }
-}
-
-fn push_arrays(paths: &mut Vec<Path>, fact: &Fact) -> Result<(), AllocError>
-    ensures { OnOk result (paths.new.items ≡ with_paths paths.old.items (arrays_of fact.now)) }
-{
-    match *fact {
-        Fact::LenRng(a, _, _) => push_once(paths, a),
-        Fact::Same(a, b) => push_two(paths, a, b),
-        Fact::IsLen(_, a) => push_once(paths, a),
-        Fact::Search(_, a) => push_once(paths, a),
-        Fact::Neg(_, a) => push_once(paths, a),
-        Fact::Upper(_, a, _, _) => push_once(paths, a),
-        _ => Ok(()),
-    }
-}
-
-#[tactic(auto, using(ix_facts::specs::NamedLaws::with_paths_app))]
-fn all_ints(alloc: Global, facts: &[Fact]) -> Result<Vec<Path>, AllocError>
-    ensures { IfOk result (λ paths. paths.items ≡ with_paths [] (named_ints facts.now)) }
-{
-    let mut paths = Vec::new(alloc);
-    for fact in facts {
-        push_ints(&mut paths, fact)?;
-    }
-    Ok(paths)
-}
-
-#[tactic(auto, using(ix_facts::specs::NamedLaws::with_paths_app))]
-fn all_arrays(alloc: Global, facts: &[Fact]) -> Result<Vec<Path>, AllocError>
-    ensures { IfOk result (λ paths. paths.items ≡ with_paths [] (named_arrays facts.now)) }
-{
-    let mut paths = Vec::new(alloc);
-    for fact in facts {
-        push_arrays(&mut paths, fact)?;
-    }
-    Ok(paths)
+    ghost invariant = { λ list. (All HasSmallNumbers list.facts.items × (IsSorted list.paths.items × (length list.beside_paths.items ≡ length list.paths.items)))
+        × (((p : Path) → beside p list.paths.items list.beside_paths.items ≡ on_it p (in_orders list.facts.items))
+        × ((list.ints.items ≡ put_all [] (named_ints (in_orders list.facts.items))) × (list.arrays.items ≡ put_all [] (named_arrays (in_orders list.facts.items))))) };
 }
 
 fn push_beside_target(facts: &mut Vec<Fact>, kind: &OpKind, fact: &Fact) -> Result<(), AllocError>
@@ -233,17 +88,22 @@ fn facts_beside_path<K: Know>(alloc: Global, know: &K, path: &Path) -> Result<Ve
 }
 
 impl FactList {
-    /// The facts, where the ends of ranges lie between -2^36 and 2^36, and what an int is at least is -1, 0 or 1; or want of memory.
+    /// The facts, where the ends of ranges lie between -2^36 and 2^36, and what an int is at least is -1, 0 or 1; or want of memory. It takes time near
+    /// linear in their number.
     pub fn new(alloc: Global, facts: Vec<Fact>) -> Result<Self, AllocError>
         requires small { All HasSmallNumbers facts.items }
         ensures facts { IfOk result (λ list. list ≡ facts.items) }
     {
         let ordered = in_all_orders(alloc, &facts)?;
+        let entries = by_path(alloc, &ordered)?;
+        let paths = paths_of(alloc, &entries)?;
+        let beside_paths = facts_of(alloc, &entries)?;
         let ints = all_ints(alloc, &ordered)?;
         let arrays = all_arrays(alloc, &ordered)?;
         Ok(FactList {
             facts,
-            ordered,
+            paths,
+            beside_paths,
             ints,
             arrays,
         })
@@ -268,81 +128,39 @@ impl FactList {
     }
 }
 
-fn says_length(p: &Path, a: &Path, fact: &Fact) -> bool
-    ensures { result ≡ is_length p.now a.now fact.now }
-{
-    match *fact {
-        Fact::IsLen(q, b) => is_same_path(&q, p) && is_same_path(&b, a),
-        _ => false,
-    }
-}
+impl Groups for FactList {
+    ghost use Rattle.ix_facts.specs.Facts.{in_orders};
+    ghost use Rattle.ix_fact_list.specs.ByPath.{on_it};
+    ghost use Rattle.ix_fact_list.specs.OnPathLaws.{on_it_named, on_it_only};
 
-fn says_search(p: &Path, a: &Path, fact: &Fact) -> bool
-    ensures { result ≡ is_search p.now a.now fact.now }
-{
-    match *fact {
-        Fact::Search(q, b) => is_same_path(&q, p) && is_same_path(&b, a),
-        _ => false,
-    }
-}
+    ghost all = { λ list. in_orders list };
 
-fn says_negative(p: &Path, a: &Path, fact: &Fact) -> bool
-    ensures { result ≡ is_negative p.now a.now fact.now }
-{
-    match *fact {
-        Fact::Neg(q, b) => is_same_path(&q, p) && is_same_path(&b, a),
-        _ => false,
-    }
-}
+    ghost group = { λ list p. on_it p (in_orders list) };
 
-fn has_length(facts: &[Fact], p: &Path, a: &Path) -> bool
-    ensures { result ≡ has (is_length p.now a.now) facts.now }
-{
-    for fact in facts {
-        if says_length(p, a, fact) {
-            return true;
-        }
+    fn on_path(&self, p: &Path) -> &[Fact] {
+        facts_beside(&self.paths, &self.beside_paths, p)
     }
-    false
-}
 
-fn has_search(facts: &[Fact], p: &Path, a: &Path) -> bool
-    ensures { result ≡ has (is_search p.now a.now) facts.now }
-{
-    for fact in facts {
-        if says_search(p, a, fact) {
-            return true;
-        }
-    }
-    false
-}
+    ghost named = { λ list p. on_it_named p (in_orders list) };
 
-fn has_negative(facts: &[Fact], p: &Path, a: &Path) -> bool
-    ensures { result ≡ has (is_negative p.now a.now) facts.now }
-{
-    for fact in facts {
-        if says_negative(p, a, fact) {
-            return true;
-        }
-    }
-    false
+    ghost only = { λ list p. on_it_only p (in_orders list) };
 }
 
 impl Know for FactList {
     ghost use Rattle.ix_facts.specs.Facts.{in_orders};
     ghost use Rattle.ix_facts.specs.Exact.{named_ints, named_arrays};
-    ghost use Rattle.ix_facts.specs.Named.{with_paths};
-    ghost use Rattle.ix_facts.specs.NamedLaws.{each_once};
+    ghost use Rattle.ix_fact_list.specs.ByPath.{put_all};
+    ghost use Rattle.ix_fact_list.specs.PutLaws.{put_once};
 
     ghost known = { λ list. list };
 
-    ghost int_paths = { λ list. with_paths [] (named_ints (in_orders list)) };
+    ghost int_paths = { λ list. put_all [] (named_ints (in_orders list)) };
 
-    ghost each_int = { λ list. each_once (named_ints (in_orders list)) };
+    ghost each_int = { λ list. put_once (named_ints (in_orders list)) };
 
-    ghost array_paths = { λ list. with_paths [] (named_arrays (in_orders list)) };
+    ghost array_paths = { λ list. put_all [] (named_arrays (in_orders list)) };
 
-    ghost each_array = { λ list. each_once (named_arrays (in_orders list)) };
+    ghost each_array = { λ list. put_once (named_arrays (in_orders list)) };
 
     fn facts(&self) -> u128 {
         self.facts.len() as u128
@@ -353,47 +171,47 @@ impl Know for FactList {
     }
 
     fn lo(&self, p: &Path) -> i64 {
-        bounds::lower_bound(&self.ordered, p)
+        ix_bounds::lower_bound(self, p)
     }
 
     fn hi(&self, p: &Path) -> i64 {
-        bounds::upper_limit(&self.ordered, p)
+        ix_bounds::upper_limit(self, p)
     }
 
     fn len_lo(&self, a: &Path) -> i64 {
-        bounds::length_low(&self.ordered, a)
+        ix_bounds::length_low(self, a)
     }
 
     fn len_hi(&self, a: &Path) -> i64 {
-        bounds::length_high(&self.ordered, a)
+        ix_bounds::length_high(self, a)
     }
 
     fn upper(&self, p: &Path, a: &Path, offset: &PathOff) -> Option<i64> {
-        bounds::upper_bound(&self.ordered, p, a, offset)
+        ix_bounds::upper_bound(self, p, a, offset)
     }
 
     fn less(&self, p: &Path, q: &Path) -> Option<i64> {
-        Some(bounds::less_bound(&self.ordered, p, q))
+        Some(ix_bounds::less_bound(self, p, q))
     }
 
     fn difference(&self, p: &Path, q: &Path) -> Option<i64> {
-        bounds::fact_less(&self.ordered, p, q)
+        ix_bounds::fact_less(self, p, q)
     }
 
     fn same(&self, a: &Path, b: &Path) -> bool {
-        bounds::stored_same(&self.ordered, a, b)
+        ix_bounds::stored_same(self, a, b)
     }
 
     fn is_len(&self, p: &Path, a: &Path) -> bool {
-        has_length(&self.facts, p, a)
+        ix_bounds::has_length(self, p, a)
     }
 
     fn search(&self, p: &Path, a: &Path) -> bool {
-        has_search(&self.facts, p, a)
+        ix_bounds::has_search(self, p, a)
     }
 
     fn negative(&self, p: &Path, a: &Path) -> bool {
-        has_negative(&self.facts, p, a)
+        ix_bounds::has_negative(self, p, a)
     }
 
     fn ints(&self) -> u128 {
@@ -413,15 +231,15 @@ impl Know for FactList {
     }
 }
 
-/// The facts on each path are all facts.
 impl Indexed for FactList {
-    ghost use Rattle.std.specs.Prelude.{refl};
     ghost use Rattle.ix_facts.specs.Facts.{in_orders};
+    ghost use Rattle.ix_fact_list.specs.ByPath.{on_it};
+    ghost use Rattle.ix_fact_list.specs.OnPathLaws.{on_it_named};
 
-    ghost on_path = { λ list p. in_orders list };
+    ghost on_path = { λ list p. on_it p (in_orders list) };
 
-    fn on(&self, _p: &Path) -> &[Fact] {
-        &self.ordered
+    fn on(&self, p: &Path) -> &[Fact] {
+        self.on_path(p)
     }
 
     fn int_list(&self) -> &[Path] {
@@ -432,5 +250,5 @@ impl Indexed for FactList {
         &self.arrays
     }
 
-    ghost each_named = { λ list p. refl };
+    ghost each_named = { λ list p. on_it_named p (in_orders list) };
 }

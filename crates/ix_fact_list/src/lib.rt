@@ -1,10 +1,15 @@
-//! A plain list of facts as what is known: each bound by looking at every fact, and some at every fact for every fact.
+//! A list of facts as what is known, with the facts on each path at hand.
 //!
-//! What goes in: facts. What comes out: the bounds that they give. The contract: `Know`, met by `FactList`; tables and stores are compared with it.
-//! It stands on `ix_facts`, and never looks at a rule: what an operation or a test gives is not told here.
+//! What goes in: facts. What comes out: the bounds that they give, and the facts that name a path, found by binary search.
+//! The contract: `Know`, `Groups` and `Indexed`, met by `FactList`.
+//! It stands on `ix_bounds` for bounds by the facts on a path, on `ix_facts` for facts.
+//! It never looks at a rule: what an operation or a test gives is not told here.
 #![tactic(auto)]
 
-mod bounds;
+mod by_path;
 mod fact_list;
+mod named;
+mod orders;
+mod path_set;
 
 pub use fact_list::FactList;

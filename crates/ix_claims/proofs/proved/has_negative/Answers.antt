@@ -1,5 +1,5 @@
 use Rattle.std.proofs.Common.{sym, ◌∙◌}
-use Rattle.ix_claims.specs.HasOrders.{negative_in_orders}
+use Rattle.ix_bounds.specs.HasOrders.{negative_in_orders}
 use Rattle.ix_claims.proofs.proved.has_negative.Goals as goal
 
 pub returns : goal.returns

@@ -1,0 +1,5 @@
+pub mod Looks
+pub mod OnPath
+pub mod BestOfParts
+pub mod ArraysAlike
+pub mod BoundSteps

@@ -1,0 +1,6 @@
+use Rattle.std.proofs.Common.{◌≡◌, drop}
+use Rattle.ix_facts.specs.Assume.{has, is_negative}
+use Rattle.ix_bounds.proofs.said.negative_on.Given as goal
+
+abbrev pub invariant-loop-fact : goal.invariant-loop-fact
+invariant-loop-fact l = has (is_negative l.p l.a) (drop l.fact-index l.on_p) ≡ has (is_negative l.p l.a) l.on_p

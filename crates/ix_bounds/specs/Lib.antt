@@ -1,0 +1,2 @@
+pub mod OnArrays
+pub mod HasOrders

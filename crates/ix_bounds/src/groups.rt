@@ -1,0 +1,31 @@
+//! Facts by the paths that they name.
+
+ghost use Rattle.std.specs.Prelude.{◌≡◌, All, List, filter};
+ghost use Rattle.ix_core.specs.declared.fact.Path.{Path};
+ghost use Rattle.ix_core.specs.declared.fact.Fact.{Fact};
+ghost use Rattle.ix_facts.specs.Bounds.{is_path};
+ghost use Rattle.ix_facts.specs.Facts.{IsIn};
+ghost use Rattle.ix_facts.specs.Forget.{names};
+ghost use Rattle.ix_facts.specs.Small.{HasSmallNumbers};
+
+use ix_core::{Fact, Path};
+
+/// Facts in all their orders, with those on each path at hand. No call takes memory.
+pub trait Groups {
+    /// All facts, in all their orders.
+    ghost all: { Self → List Fact };
+
+    /// Of them the facts on a path: all that name it, and maybe others.
+    ghost group: { Self → Path → List Fact };
+
+    /// The facts on the path. The ends of ranges lie between -2^36 and 2^36, and what an int is at least is -1, 0 or 1.
+    fn on_path(&self, p: &Path) -> &[Fact]
+        ensures facts { result.now ≡ group self.now p.now }
+        ensures small { All HasSmallNumbers result.now };
+
+    /// All facts that name the path are among them, in order.
+    ghost named: { (facts : Self) (p : Path) → filter (names (is_path p)) (group facts p) ≡ filter (names (is_path p)) (all facts) };
+
+    /// There are no others than facts.
+    ghost only: { (facts : Self) (p : Path) (f : Fact) → IsIn f (group facts p) → IsIn f (all facts) };
+}

@@ -1,0 +1,24 @@
+//! The bounds that facts give, each by the facts that name its paths.
+//!
+//! What goes in: facts in all their orders, with those that name a path at hand. What comes out: what an int or a length is at least and at most, differences,
+//! bounds from an array's end, and whether two arrays have the same length.
+//! The contract: each is the bound of `ix_facts`, of all facts.
+//! It stands on `ix_index` for the facts on a path, on `ix_facts` for bounds.
+//! It never looks at how facts are kept.
+#![tactic(auto)]
+
+mod ends;
+mod groups;
+mod limits;
+mod numbers;
+mod said;
+mod shifted;
+mod stored;
+mod upper;
+
+pub use ends::{length_high, length_low};
+pub use groups::Groups;
+pub use limits::{lower_bound, upper_limit};
+pub use said::{has_length, has_negative, has_search, stored_same};
+pub use stored::fact_less;
+pub use upper::{less_bound, upper_bound};

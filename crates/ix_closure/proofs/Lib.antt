@@ -1,0 +1,4 @@
+mod Members
+mod HighEnds
+mod Shown
+pub mod Only

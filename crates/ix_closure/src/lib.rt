@@ -1,0 +1,2 @@
+//! What follows from facts, as a list.
+#![tactic(auto)]

@@ -1,0 +1,3 @@
+pub mod ByPath
+pub mod OnPathLaws
+pub mod PutLaws

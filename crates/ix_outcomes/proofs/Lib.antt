@@ -1,0 +1,6 @@
+mod PathsRead
+mod OverAll
+mod KeptParts
+mod NewLengths
+pub mod OutcomeIs
+mod SixParts

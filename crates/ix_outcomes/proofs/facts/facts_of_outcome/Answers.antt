@@ -1,0 +1,15 @@
+use Rattle.std.proofs.Common.{◌++◌, ap, ◌∙◌}
+use Rattle.ix_facts.specs.Facts.{in_orders}
+use Rattle.ix_facts.specs.AfterTest as rule
+use Rattle.ix_facts.specs.Closure.{kept}
+use Rattle.ix_after.proofs.Members.{same_equal, same_trans}
+use Rattle.ix_outcomes.specs.OverGroups as over
+use Rattle.ix_outcomes.proofs.OutcomeIs.{outcome_same}
+use Rattle.ix_outcomes.proofs.facts.facts_of_outcome.Goals as goal
+
+pub returns : goal.returns
+returns g c =
+    let facts = in_orders (g.K.Know.known c.args.know.now) in
+    let on = g.K.Indexed.on_path c.args.know.now in
+    let told = over.outcome_of c.args.outcome.now in
+    record { facts = same_trans c.push_outcome.new.out.items (over.outcome_facts facts on told) (kept (rule.outcome_facts facts told)) (same_equal _ _ (c.in_ok-push_outcome.ensures ∙ ap (λ l. l ++ over.outcome_facts facts on told) c.new-new.ensures.items)) (outcome_same facts on (g.met.K.Indexed.each_named c.args.know.now) told) }

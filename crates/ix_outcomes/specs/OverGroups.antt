@@ -1,0 +1,86 @@
+-- What `p < q + k` and equal ints give, with the facts on each path as lists of their own: the facts that name a path give what all facts give.
+use Rattle.std.specs.Prelude.{not, ℤ, pos, int_le, ◌+ℤ◌, ◌-ℤ◌, List, [], ◌∷◌, ◌++◌}
+use Rattle.ix_num.specs.Ints.{least_int, greatest_int}
+use Rattle.ix_core.specs.declared.fact.Path.{Path}
+use Rattle.ix_core.specs.declared.fact.PathOff.TheVariants.{Nothing, Plus}
+use Rattle.ix_core.specs.declared.fact.Fact.{Fact}
+use Rattle.ix_core.specs.declared.fact.Fact.TheVariants.{Rng, LenRng, Same, IsLen, Less, Sum, Search, Neg, Upper}
+use Rattle.ix_facts.specs.Bounds
+use Rattle.ix_facts.specs.Bounds.{is_path, at_least, at_most, greatest, least, own_low_by, range_high_by}
+use Rattle.ix_facts.specs.Closure.{kept}
+use Rattle.ix_facts.specs.Exact.{if_so, each}
+use Rattle.ix_facts.specs.AfterTest.{Outcome, Below, Apart, Equal, OneArray, at_below, at_above, bound_moved}
+use Rattle.ix_outcomes.specs.declared.outcome.Outcome.{Outcome as Told}
+use Rattle.ix_outcomes.specs.declared.outcome.Outcome.TheVariants as told
+
+-- ---- the parts, each by the numbers that it reads
+
+abbrev pub range_to : ℤ → ℤ → Path → ℤ → List Fact
+range_to limit k r c = Rng r least_int (limit +ℤ k +ℤ c -ℤ pos 2) ∷ []
+
+abbrev pub range_from : ℤ → ℤ → Path → ℤ → List Fact
+range_from bound k s d = Rng s (bound -ℤ k -ℤ d +ℤ pos 2) greatest_int ∷ []
+
+abbrev pub between : ℤ → Path → ℤ → Path → ℤ → List Fact
+between k r c s d = if_so (not (is_path r s)) (Less r s (c +ℤ k +ℤ d -ℤ pos 2) ∷ [])
+
+abbrev pub length_at : Path → ℤ → ℤ → Fact → List Fact
+length_at x low high (IsLen y a) = if_so (is_path y x) (LenRng a low high ∷ [])
+length_at x low high _ = []
+
+-- the lengths that are x, by new ranges and the facts on x
+abbrev pub length_by : List Fact → List Fact → Path → List Fact
+length_by on_x ranges x = each (length_at x (at_least (Bounds.own_low ranges x) (greatest (own_low_by x) on_x)) (at_most (Bounds.range_high ranges x) (least (range_high_by x) on_x))) on_x
+
+abbrev pub part_of : Path → Path → ℤ → Fact → List Fact
+part_of p a e (Sum s y z) = if_so (is_path s p) (Upper y a (Plus z) e ∷ [])
+part_of p a e _ = []
+
+abbrev pub parts_by : Path → List Fact → Fact → List Fact
+parts_by p on_p (Upper x a Nothing e) = if_so (is_path x p) (each (part_of p a e) on_p)
+parts_by p on_p _ = []
+
+abbrev pub passed_by : Path → Path → Fact → List Fact
+passed_by y z (IsLen p a) = if_so (is_path p y) (IsLen z a ∷ [])
+passed_by y z (Search p a) = if_so (is_path p y) (Search z a ∷ [])
+passed_by y z (Neg p a) = if_so (is_path p y) (Neg z a ∷ [])
+passed_by y z _ = []
+
+-- ---- all of them
+
+module _ (facts : List Fact) (on : Path → List Fact) (p q : Path) (k : ℤ) where
+  abbrev pub range_part : List Fact
+  range_part = at_below (range_to (Bounds.upper_limit facts q) k) (on p) p ++ at_above (range_from (Bounds.lower_bound facts p) k) (on q) q
+
+  abbrev pub length_part : Path → List Fact
+  length_part x = length_by (on x) (kept range_part) x
+
+module _ (on : Path → List Fact) (p q : Path) (k : ℤ) where
+  abbrev pub difference_part : List Fact
+  difference_part = at_below (λ r c. at_above (between k r c) (on q) q) (on p) p
+
+  abbrev pub bound_part : List Fact
+  bound_part = at_below (λ r c. each (bound_moved r (c +ℤ k -ℤ pos 2) q) (on q)) (on p) p
+
+abbrev pub below_facts : List Fact → (Path → List Fact) → Path → Path → ℤ → List Fact
+below_facts facts on p q k =
+    kept (range_part facts on p q k) ++ (kept (difference_part on p q k) ++ (kept (bound_part on p q k) ++ (kept (length_part facts on p q k p) ++ (kept (length_part facts on p q k q) ++ kept (each (parts_by p (on p)) (kept (bound_part on p q k)))))))
+
+abbrev pub outcome_facts : List Fact → (Path → List Fact) → Outcome → List Fact
+outcome_facts facts on (Below p q k) = below_facts facts on p q k
+outcome_facts facts on (Apart p q) = if_so (int_le (Bounds.less_bound facts p q) (pos 1)) (below_facts facts on p q (pos 0))
+outcome_facts facts on (Equal y z) = kept (each (passed_by y z) (on y)) ++ kept (each (passed_by z y) (on z))
+outcome_facts facts on (OneArray a b) = Same a b ∷ []
+
+-- ---- the code's outcomes
+
+-- what is told
+abbrev pub outcome_of : Told → Outcome
+outcome_of (told.Below p q k) = Below p q k
+outcome_of (told.Apart p q) = Apart p q
+outcome_of (told.Equal y z) = Equal y z
+outcome_of (told.OneArray a b) = OneArray a b
+
+abbrev pub outcomes_of : List Told → List Outcome
+outcomes_of [] = []
+outcomes_of (outcome ∷ outcomes) = outcome_of outcome ∷ outcomes_of outcomes
