@@ -161,7 +161,7 @@ module _ (low high : Path → ℤ) (p q : Path) where
       by_test (is_path x p)
       (λ t. inl (rw t (from p x a f t (subst (λ b. IsIn f (if_so (b || is_path x q) (LenRng a (low x) (high x) ∷ []))) t i))))
       (λ n. let j : IsIn f (if_so (is_path x q) (LenRng a (low x) (high x) ∷ [])) = subst (λ b. IsIn f (if_so (b || is_path x q) (LenRng a (low x) (high x) ∷ []))) n i in
-          by_test (is_path x q) (λ t. inr (rw t (from q x a f t (subst (λ b. IsIn f (if_so b (LenRng a (low x) (high x) ∷ []))) t j)))) (λ m. absurd (subst (λ b. IsIn f (if_so b (LenRng a (low x) (high x) ∷ []))) m j)))
+      by_test (is_path x q) (λ t. inr (rw t (from q x a f t (subst (λ b. IsIn f (if_so b (LenRng a (low x) (high x) ∷ []))) t j)))) (λ m. absurd (subst (λ b. IsIn f (if_so b (LenRng a (low x) (high x) ∷ []))) m j)))
   back (Less r s c) f i = absurd i
   back (Upper r a o c) f i = absurd i
   back (Rng r l h) f i = absurd i
@@ -175,7 +175,7 @@ module _ (low high : Path → ℤ) (p q : Path) where
   pub lengths_same : (facts : List Fact) → AreSame (each (over.length_at p (low p) (high p)) facts ++ each (over.length_at q (low q) (high q)) facts) (each by facts)
   lengths_same facts = record {
     there = merged_there (over.length_at p (low p) (high p)) (over.length_at q (low q) (high q)) by there_left there_right facts;
-    back = merged_back (over.length_at p (low p) (high p)) (over.length_at q (low q) (high q)) by back facts
+    back = merged_back (over.length_at p (low p) (high p)) (over.length_at q (low q) (high q)) by back facts;
   }
 
 module _ (facts : List Fact) (on : Path → List Fact) (named : (p : Path) → HasNamed p (on p) facts) (p q : Path) (k : ℤ) where

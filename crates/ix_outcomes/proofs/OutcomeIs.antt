@@ -75,6 +75,7 @@ module _ (facts : List Fact) (on : Path → List Fact) (named : (p : Path) → H
     where
       low : Path → ℤ
       low x = Bounds.own_low (rule.range_part facts p q k ++ facts) x
+
       high : Path → ℤ
       high x = Bounds.range_high (rule.range_part facts p q k ++ facts) x
 
@@ -108,7 +109,7 @@ module _ (facts : List Fact) (on : Path → List Fact) (named : (p : Path) → H
       (same_kept _ _
       (record {
         there = merged_there (over.passed_by y z) (over.passed_by z y) (rule.shared_by y z) (passed_left y z) (passed_right y z) facts;
-        back = merged_back (over.passed_by y z) (over.passed_by z y) (rule.shared_by y z) (shared_parts y z) facts
+        back = merged_back (over.passed_by y z) (over.passed_by z y) (rule.shared_by y z) (shared_parts y z) facts;
       }))
 
   kept_if : (t : Bool) (l : List Fact) → if_so t (kept l) ≡ kept (if_so t l)

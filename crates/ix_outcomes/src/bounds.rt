@@ -50,7 +50,14 @@ fn push_bound_moved(
             push_upper_if(out, is_same_path(x, q), r, a, offset, moved(e, apart(k, c)))
         }
         Fact::IsLen(x, a) => {
-            push_upper_if(out, is_same_path(x, q), r, a, &PathOff::Nothing, moved_length(apart(k, c)))
+            push_upper_if(
+                out,
+                is_same_path(x, q),
+                r,
+                a,
+                &PathOff::Nothing,
+                moved_length(apart(k, c)),
+            )
         }
         _ => Ok(()),
     }

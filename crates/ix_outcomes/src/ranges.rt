@@ -44,7 +44,13 @@ fn push_rng(out: &mut Vec<Fact>, p: &Path, low: i64, high: i64) -> Result<(), Al
     Ok(())
 }
 
-fn push_range_to(out: &mut Vec<Fact>, limit: &i64, k: &i32, r: &Path, c: &i32) -> Result<(), AllocError>
+fn push_range_to(
+    out: &mut Vec<Fact>,
+    limit: &i64,
+    k: &i32,
+    r: &Path,
+    c: &i32,
+) -> Result<(), AllocError>
     requires limit { IsBound limit.now }
     ensures { OnOk result (out.new.items ≡ out.old.items ++ kept (range_to limit.now k.now r.now c.now)) }
 {
@@ -102,7 +108,13 @@ pub(crate) fn push_ranges_to(
     Ok(())
 }
 
-fn push_range_from(out: &mut Vec<Fact>, bound: &i64, k: &i32, s: &Path, d: &i32) -> Result<(), AllocError>
+fn push_range_from(
+    out: &mut Vec<Fact>,
+    bound: &i64,
+    k: &i32,
+    s: &Path,
+    d: &i32,
+) -> Result<(), AllocError>
     requires bound { IsBound bound.now }
     ensures { OnOk result (out.new.items ≡ out.old.items ++ kept (range_from bound.now k.now s.now d.now)) }
 {

@@ -81,5 +81,11 @@ pub fn outcomes(alloc: Global, test: &Test, answer: bool) -> Result<Vec<Outcome>
     ensures told { IfOk result (λ told. outcomes_of told.items ≡ stores.outcomes_of answer test.now) }
 {
     let rel = if answer { test.rel } else { opposite(test.rel) };
-    by_type(alloc, &test.ty, rel, Path::Slot(test.left), Path::Slot(test.right))
+    by_type(
+        alloc,
+        &test.ty,
+        rel,
+        Path::Slot(test.left),
+        Path::Slot(test.right),
+    )
 }
