@@ -1,4 +1,9 @@
+pub mod JoinedClasses
+pub mod LengthLinks
 mod Members
 mod HighEnds
 mod Shown
+mod ListedArrays
+mod OverLabels
+mod ClassesOfInts
 pub mod Only

@@ -1,3 +1,4 @@
 pub mod Classes
 pub mod Links
+pub mod Listed
 pub mod Saturated

@@ -1,2 +1,16 @@
-//! What follows from facts, as a list.
+//! What follows from facts, as a list: the facts, what holds along arrays of one length, searches, negative answers and classes of ints.
+//!
+//! What goes in: facts. What comes out: a list of which tables say all that follows from the facts, and nothing else.
+//! The contract: `saturated`, over `Follows` of `ix_facts`.
+//! It stands on `ix_fact_table` for the ranges among the facts, on `ix_fact_list` for sets of paths.
+//! It never looks at how the list is kept, nor at the program.
 #![tactic(auto)]
+
+mod classes;
+mod labels;
+mod links;
+mod listed;
+mod saturated;
+mod searches;
+
+pub use saturated::saturated;

@@ -98,9 +98,9 @@ module _ (p : Path) where
       let long : length rest ≡ length (drop start paths) = ap length is in
       let dropped = length-drop start paths in
       let none : (k : ℕ) (d : Path) → k < length rest → before (get_or rest k d) ≡ false = λ k d a.
-          subst (λ l. before (get_or l k d) ≡ false) (sym is) (subst (λ q. before q ≡ false) (sym (get_or-drop start paths k d)) (point.1 (start + k) d (omega arith) (omega (arith, a, long, dropped, bound)))) in
+      subst (λ l. before (get_or l k d) ≡ false) (sym is) (subst (λ q. before q ≡ false) (sym (get_or-drop start paths k d)) (point.1 (start + k) d (omega arith) (omega (arith, a, long, dropped, bound)))) in
       let rise : IsNonDecreasingBy rank rest = λ i j d from within.
-          subst (λ l. rank (get_or l i d) ≤ rank (get_or l j d)) (sym is) (subst (λ q. rank q ≤ rank (get_or (drop start paths) j d)) (sym (get_or-drop start paths i d)) (subst (λ q. rank (get_or paths (start + i) d) ≤ rank q) (sym (get_or-drop start paths j d)) (rises (start + i) (start + j) d (omega (arith, from)) (omega (arith, within, long, dropped, bound))))) in
+      subst (λ l. rank (get_or l i d) ≤ rank (get_or l j d)) (sym is) (subst (λ q. rank q ≤ rank (get_or (drop start paths) j d)) (sym (get_or-drop start paths i d)) (subst (λ q. rank (get_or paths (start + i) d) ≤ rank q) (sym (get_or-drop start paths j d)) (rises (start + i) (start + j) d (omega (arith, from)) (omega (arith, within, long, dropped, bound))))) in
       let here = second (parted_at rest rise none) in
       front_at rest (drop start facts) count few (λ k d a b. here.0 k d (omega arith) a) (λ k d a b. here.1 k d a b)
       ∙ (ap (λ l. beside p l (drop start facts)) is ∙ sym (past_none paths facts start (λ k d a b. before_apart (get_or paths k d) (point.0 k d (omega arith) a))))

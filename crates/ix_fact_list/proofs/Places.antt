@@ -1,5 +1,5 @@
 -- Where a path stands in a set, or where it would stand.
-use Rattle.std.specs.Prelude.{◌≡◌, ℕ, zero, suc, ◌+◌, ◌<◌, ◌≤◌, false, List, [], ◌∷◌, ◌++◌, Ok, Err, length, take, drop, get_or, refl}
+use Rattle.std.specs.Prelude.{◌≡◌, ℕ, zero, suc, ◌+◌, ◌<◌, ◌≤◌, Bool, true, false, cond, List, [], ◌∷◌, ◌++◌, Ok, Err, length, take, drop, get_or, refl}
 use Rattle.std.specs.List.{insert}
 use Rattle.std.specs.List.Sorted.{IsBinarySearchResult, IsSortedBy}
 use Rattle.std.specs.BTreeSet.{insert_key}
@@ -11,7 +11,7 @@ use Rattle.std.proofs.lemmas.List.Sorted.{searchable_from_sorted}
 use Rattle.ix_core.specs.declared.fact.Path.{Path}
 use Rattle.ix_facts.specs.Named.{IsAmongPaths}
 use Rattle.ix_facts.specs.PathOrder.{path_cmp, path_total}
-use Rattle.ix_fact_list.specs.PutLaws.{IsRising, equal_paths}
+use Rattle.ix_fact_list.specs.PutLaws.{IsRising, equal_paths, put_rises}
 
 among : (paths : List Path) (k : ℕ) (d : Path) → k < length paths → IsAmongPaths (get_or paths k d) paths
 among [] k d lt = absurd (omega (arith, lt))
@@ -33,7 +33,9 @@ not_before p q o = ap is_lt (reverse_less p q o)
 sorted : (paths : List Path) → IsRising paths → IsSortedBy (λ p q. is_lt (path_cmp p q)) paths
 sorted [] r k d from within = absurd (omega (arith, within))
 sorted (p ∷ paths) r zero d from within = not_before p (get_or paths 0 d) (r.0 (get_or paths 0 d) (among paths 0 d (omega (arith, within))))
-sorted (p ∷ paths) r (suc k) d from within = sorted paths r.1 k d (omega arith) (omega (arith, within))
+sorted (p ∷ paths) r (suc k) d from within =
+    let next : suc (k + 1) ≡ suc k + 1 = omega arith in
+    subst (λ n. is_lt (path_cmp (get_or (p ∷ paths) n d) (get_or paths k d)) ≡ false) next (sorted paths r.1 k d (omega arith) (omega (arith, within)))
 
 pub found : (paths : List Path) (k : ℕ) (p : Path) → IsRising paths → k < length paths → ((d : Path) → path_cmp (get_or paths k d) p ≡ Equal) → insert_key path_cmp paths p ≡ paths
 found [] k p r lt e = absurd (omega (arith, lt))
@@ -55,3 +57,10 @@ pub placed : (paths : List Path) (k : ℕ) (p : Path) → IsRising paths → k �
 placed paths k p r within parted =
     let point = parted (searchable_from_sorted path_total (λ q. q) paths p (sorted paths r)) in
     place paths k p within (λ i d a. point.0 i d (omega arith) a) (λ i d a b. point.1 i d a b)
+
+pub rises_either : (b : Bool) (x y : List Path) → IsRising x → IsRising y → IsRising (cond b x y)
+rises_either true x y r s = r
+rises_either false x y r s = s
+
+pub insert_rises : (paths : List Path) (k : ℕ) (p : Path) → IsRising paths → k ≤ length paths → IsBinarySearchResult (λ q. path_cmp q p) paths (Err k) → IsRising (insert paths k p)
+insert_rises paths k p r within parted = subst IsRising (placed paths k p r within parted) (put_rises paths p r)

@@ -32,11 +32,7 @@ fn put_three(paths: &mut PathSet, t: Path, y: Path, z: Path) -> Result<(), Alloc
     put_two(paths, y, z)
 }
 
-fn put_with_offset(
-    paths: &mut PathSet,
-    p: Path,
-    offset: &PathOff,
-) -> Result<(), AllocError>
+fn put_with_offset(paths: &mut PathSet, p: Path, offset: &PathOff) -> Result<(), AllocError>
     ensures { OnOk result (paths.new ≡ put_all paths.old (p ∷ offset_paths offset.now)) }
 {
     paths.put(p)?;

@@ -13,7 +13,7 @@ use std::marker::Model;
 
 /// Paths in order, each once.
 #[derive(Drop)]
-pub(crate) struct PathSet {
+pub struct PathSet {
     paths: Vec<Path>,
 }
 
@@ -26,7 +26,8 @@ impl Model for PathSet {
 }
 
 impl PathSet {
-    pub(crate) fn new(alloc: Global) -> PathSet
+    /// No paths. It takes no memory.
+    pub fn new(alloc: Global) -> PathSet
         ensures { result ≡ [] }
     {
         PathSet {
@@ -34,8 +35,8 @@ impl PathSet {
         }
     }
 
-    /// Puts the path at its place, unless it is there. Where memory is wanting the set stays as it was.
-    pub(crate) fn put(&mut self, p: Path) -> Result<(), AllocError>
+    /// Puts the path at its place, unless it is there. The only error is want of memory.
+    pub fn put(&mut self, p: Path) -> Result<(), AllocError>
         ensures { OnOk result (self.new ≡ insert_key path_cmp self.old p) }
     {
         match self.paths.binary_search_by(|path| compare_paths(path, &p)) {
@@ -47,7 +48,8 @@ impl PathSet {
         }
     }
 
-    pub(crate) fn into_paths(self) -> Vec<Path>
+    /// The paths, in order.
+    pub fn into_paths(self) -> Vec<Path>
         ensures { result.items ≡ self }
     {
         self.paths

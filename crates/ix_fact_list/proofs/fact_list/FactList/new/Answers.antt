@@ -18,7 +18,7 @@ invariant_of-result c =
     let sorted : IsSorted c.in_ok-paths.paths.items = subst IsSorted (sym paths) (paths_sorted entries c.in_ok-entries.ensures.sorted) in
     let long : length c.in_ok-beside_paths.beside_paths.items ≡ length c.in_ok-paths.paths.items = ap length others ∙ (as_long entries ∙ ap length (sym paths)) in
     let at : (p : Path) → beside p c.in_ok-paths.paths.items c.in_ok-beside_paths.beside_paths.items ≡ on_it p (in_orders facts) = λ p.
-        ap (λ l. beside p l c.in_ok-beside_paths.beside_paths.items) paths
-        ∙ (ap (beside p (paths_in entries)) others
-        ∙ (beside_is p entries ∙ (ap facts_in (c.in_ok-entries.ensures.about p ∙ ap (λ l. Rattle.ix_fact_list.specs.ByPath.about p (entries_of l)) (c.deref-2.ensures.value ∙ ordered)) ∙ entries_at p (in_orders facts)))) in
+    ap (λ l. beside p l c.in_ok-beside_paths.beside_paths.items) paths
+    ∙ (ap (beside p (paths_in entries)) others
+    ∙ (beside_is p entries ∙ (ap facts_in (c.in_ok-entries.ensures.about p ∙ ap (λ l. Rattle.ix_fact_list.specs.ByPath.about p (entries_of l)) (c.deref-2.ensures.value ∙ ordered)) ∙ entries_at p (in_orders facts)))) in
     ((c.requires.small, (sorted, long)), (at, (ints, arrays)))

@@ -10,5 +10,5 @@ returns-clause-small c =
     let p = c.args.p.now in
     let facts = c.self.inside.facts.items in
     let is : c.facts_beside.result.now ≡ on_it p (in_orders facts) =
-        c.facts_beside.ensures ∙ (ap (λ l. beside p l c.deref-2.result.now) c.deref.ensures.value ∙ (ap (beside p c.self.inside.paths.items) c.deref-2.ensures.value ∙ c.self.invariant.1.0 p)) in
+    c.facts_beside.ensures ∙ (ap (λ l. beside p l c.deref-2.result.now) c.deref.ensures.value ∙ (ap (beside p c.self.inside.paths.items) c.deref-2.ensures.value ∙ c.self.invariant.1.0 p)) in
     subst (λ l. All HasSmallNumbers l) (sym is) (on_it_small p (in_orders facts) (in_orders_small facts c.self.invariant.0.0))
