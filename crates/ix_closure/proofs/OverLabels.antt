@@ -26,3 +26,11 @@ pub next_path : (rule : Path → List Fact) (paths : List Path) (k : ℕ) (d : P
 next_path rule paths k d h old new whole n w =
     let here : drop k paths ≡ slice_index_or paths k d ∷ drop (k + 1) paths = rw add-one (drop-cons paths k d h) in
     ap (λ l. l ++ each_path rule (drop (k + 1) paths)) n ∙ (append_assoc old (rule (slice_index_or paths k d)) (each_path rule (drop (k + 1) paths)) ∙ (ap (λ l. old ++ each_path rule l) (sym here) ∙ w))
+
+-- ---- lists, one put behind the other
+
+pub two : (n1 n2 a b : List Fact) → n1 ≡ a → n2 ≡ n1 ++ b → n2 ≡ a ++ b
+two n1 n2 a b e d = d ∙ ap (λ l. l ++ b) e
+
+pub three : (n1 n2 n3 a b c : List Fact) → n1 ≡ a → n2 ≡ n1 ++ b → n3 ≡ n2 ++ c → n3 ≡ a ++ (b ++ c)
+three n1 n2 n3 a b c e d f = f ∙ (ap (λ l. l ++ c) (two n1 n2 a b e d) ∙ append_assoc a b c)

@@ -179,6 +179,7 @@ module _ (facts : List Fact) (roots : Roots) (listed : List Path) (ranges : List
     where
       root_near : (c d : Path) → IsNear c d → root_of roots c ≡ root_of roots d
       root_near c d near = ⊎_elim (λ e. ap (root_of roots) e) (λ n. n.0) near
+
       among_near : (c d : Path) → IsNear c d → IsAmongPaths c listed → IsAmongPaths d listed
       among_near c d near i = ⊎_elim (λ e. subst (λ x. IsAmongPaths x listed) e i) (λ n. n.1) near
 

@@ -56,12 +56,12 @@ abbrev pub class_of : Fact → List Fact
 class_of (Rng p l h) = if_so (int_le (negsuc 0) l) (Low p (int_min l (pos 1)) ∷ [])
 class_of _ = []
 
-module _ (facts : List Fact) (roots : Roots) (listed : List Path) (ranges : List Fact) where
+module _ (facts : List Fact) (roots : Roots) (listed : List Path) where
   abbrev pub alike : List Fact
   alike = facts ++ (pairs roots listed ++ each (along roots listed) facts)
 
   abbrev pub searched : List Fact
   searched = alike ++ each search_of alike
 
-  abbrev pub saturated : List Fact
-  saturated = searched ++ (each (negative_of ranges) searched ++ each class_of ranges)
+abbrev pub saturated : List Fact → Roots → List Path → List Fact → List Fact
+saturated facts roots listed ranges = searched facts roots listed ++ (each (negative_of ranges) (searched facts roots listed) ++ each class_of ranges)

@@ -7,10 +7,10 @@
 #![tactic(auto)]
 
 mod classes;
+mod closing;
 mod labels;
 mod links;
 mod listed;
-mod saturated;
 mod searches;
 
-pub use saturated::saturated;
+pub use closing::saturated;

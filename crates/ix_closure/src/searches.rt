@@ -53,12 +53,7 @@ fn high_among(ranges: &[Fact], p: &Path) -> i64
     high
 }
 
-fn push_negative(
-    out: &mut Vec<Fact>,
-    ranges: &[Fact],
-    p: &Path,
-    a: &Path,
-) -> Result<(), AllocError>
+fn push_negative(out: &mut Vec<Fact>, ranges: &[Fact], p: &Path, a: &Path) -> Result<(), AllocError>
     ensures { OnOk result (out.new.items ≡ out.old.items ++ negative_of ranges.now (Search p.now a.now)) }
 {
     if high_among(ranges, p) <= -1 {
