@@ -1,0 +1,2 @@
+mod Together
+pub mod StoresOf

@@ -1,0 +1,2 @@
+//! One store of all facts.
+#![tactic(auto)]
