@@ -1,2 +1,3 @@
 mod Together
 pub mod StoresOf
+mod SmallNumbers

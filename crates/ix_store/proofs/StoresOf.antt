@@ -1,6 +1,7 @@
 -- The tables of what follows from facts are the closed list of the facts, and where none of their ranges is empty the facts don't contradict each other.
-use Rattle.std.specs.Prelude.{◌≡◌, ◌⊎◌, ℤ, ◌≤ℤ◌, ◌<ℤ◌, List, [], ◌∷◌, ◌++◌, refl}
+use Rattle.std.specs.Prelude.{◌≡◌, ◌⊎◌, Bool, true, false, ◌||◌, ℤ, ◌≤ℤ◌, ◌<ℤ◌, int_lt, List, [], ◌∷◌, ◌++◌, refl}
 use Rattle.std.proofs.Common.{arith, inl, inr, sym, ◌∙◌, subst, ⊎_elim}
+use Rattle.std.proofs.lemmas.Bool.{false≢true}
 use Rattle.std.proofs.lemmas.Int.{ints}
 use Rattle.ix_core.specs.declared.fact.Path.{Path}
 use Rattle.ix_core.specs.declared.fact.PathOff.TheVariants.{Nothing, Plus, Minus}
@@ -10,10 +11,11 @@ use Rattle.ix_facts.specs.Facts.{IsIn, Covers, rng, len_rng, orders, in_orders}
 use Rattle.ix_facts.specs.Closure.{Follows, Contradicts, IsClosedOf}
 use Rattle.ix_facts.specs.Closure as closure
 use Rattle.ix_facts.specs.Systems.{IsTable}
-use Rattle.ix_facts.proofs.FactLists.{from_in_orders}
+use Rattle.ix_facts.specs.Stores.{IsStoreOf, unreachable, reached, Unreachable, Reached}
+use Rattle.ix_facts.proofs.FactLists.{in_left, in_either, from_in_orders}
 use Rattle.ix_closure.specs.Saturated.{IsSaturated}
 use Rattle.ix_closure.proofs.Only.{merges_follow}
-use Rattle.ix_store.specs.EmptyRanges.{HasEmpty}
+use Rattle.ix_store.specs.EmptyRanges.{is_empty, some_empty, HasEmpty}
 
 pub table_closed : (facts more table : List Fact) → IsSaturated facts more → IsTable more table → IsClosedOf facts table
 table_closed facts more table is made = record {
@@ -71,3 +73,72 @@ contradicts_empty facts table is c =
     (p, y.0, y.1, inr (subst (λ g. IsIn g table) (same ∙ y.2) o.1), omega (arith, ints, y.3, y.4, c.4)))
     (is.says (LenRng p l h) r))
     c.3
+
+-- ---- whether a range is empty
+
+by_test : {G : Type 0} (t : Bool) → (t ≡ true → G) → (t ≡ false → G) → G
+by_test true first second = first refl
+by_test false first second = second refl
+
+one_empty : (f : Fact) (facts : List Fact) → is_empty f ≡ true → IsIn f facts → HasEmpty facts
+one_empty (Rng p l h) facts t i = (p, l, h, inl i, grind (arith, ints, t))
+one_empty (LenRng p l h) facts t i = (p, l, h, inr i, grind (arith, ints, t))
+one_empty (Low p c) facts t i = absurd (false≢true t)
+one_empty (Same a b) facts t i = absurd (false≢true t)
+one_empty (IsLen p a) facts t i = absurd (false≢true t)
+one_empty (Less p q c) facts t i = absurd (false≢true t)
+one_empty (Sum x y z) facts t i = absurd (false≢true t)
+one_empty (Search p a) facts t i = absurd (false≢true t)
+one_empty (Neg p a) facts t i = absurd (false≢true t)
+one_empty (Upper p a o c) facts t i = absurd (false≢true t)
+
+found : (facts : List Fact) → some_empty facts ≡ true → (f : Fact) × IsIn f facts × (is_empty f ≡ true)
+found [] t = absurd (false≢true t)
+found (f ∷ facts) t =
+    by_test (is_empty f) (λ u. (f, inl refl, u)) (λ u. let x = found facts (subst (λ b. (b || some_empty facts) ≡ true) u t) in (x.0, inr x.1, x.2))
+
+pub none : (facts : List Fact) (f : Fact) → some_empty facts ≡ false → IsIn f facts → is_empty f ≡ false
+none [] f n i = absurd i
+none (g ∷ facts) f n i =
+    by_test (is_empty g)
+    (λ u. absurd (false≢true (sym n ∙ subst (λ b. (b || some_empty facts) ≡ true) (sym u) refl)))
+    (λ u. ⊎_elim (λ e. subst (λ x. is_empty x ≡ false) (sym e) u) (λ j. none facts f (subst (λ b. (b || some_empty facts) ≡ false) u n) j) i)
+
+-- the ranges are the first part of a list whose other facts are no ranges
+pub front_empty : (ranges rest : List Fact) → some_empty ranges ≡ true → HasEmpty (ranges ++ rest)
+front_empty ranges rest t = let x = found ranges t in one_empty x.0 (ranges ++ rest) x.2 (in_left x.0 ranges rest x.1)
+
+abbrev pub IsNoRange : Fact → Type 0
+IsNoRange f = (p : Path) (l h : ℤ) → (f ≡ Rng p l h) ⊎ (f ≡ LenRng p l h) → ⊥
+
+empty_range : (p : Path) (l h : ℤ) → h <ℤ l → int_lt h l ≡ true
+empty_range p l h x = grind (arith, ints, x)
+
+pub none_empty : (ranges rest : List Fact) → some_empty ranges ≡ false → ((f : Fact) → IsIn f rest → IsNoRange f) → ¬ HasEmpty (ranges ++ rest)
+none_empty ranges rest n others e =
+    let p = e.0 in
+    let l = e.1 in
+    let h = e.2 in
+    ⊎_elim
+    (λ i.
+    ⊎_elim
+    (λ j. false≢true (sym (none ranges (Rng p l h) n j) ∙ empty_range p l h e.4))
+    (λ j. others (Rng p l h) j p l h (inl refl))
+    (in_either (Rng p l h) ranges rest i))
+    (λ i.
+    ⊎_elim
+    (λ j. false≢true (sym (none ranges (LenRng p l h) n j) ∙ empty_range p l h e.4))
+    (λ j. others (LenRng p l h) j p l h (inr refl))
+    (in_either (LenRng p l h) ranges rest i))
+    e.3
+
+-- ---- the store
+
+pub unreachable_store : (facts more ranges rest : List Fact) → IsSaturated facts more → IsTable more (ranges ++ rest) → some_empty ranges ≡ true → IsStoreOf facts Unreachable
+unreachable_store facts more ranges rest is table t =
+    unreachable (empty_contradicts facts (ranges ++ rest) (table_closed facts more (ranges ++ rest) is table) (front_empty ranges rest t))
+
+pub reached_store : (facts more ranges rest : List Fact) → IsSaturated facts more → IsTable more (ranges ++ rest) → some_empty ranges ≡ false → ((f : Fact) → IsIn f rest → IsNoRange f) → IsStoreOf facts (Reached (ranges ++ rest))
+reached_store facts more ranges rest is table n others =
+    let closed = table_closed facts more (ranges ++ rest) is table in
+    reached (ranges ++ rest) (λ c. none_empty ranges rest n others (contradicts_empty facts (ranges ++ rest) closed c)) closed

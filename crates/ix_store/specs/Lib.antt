@@ -1,1 +1,3 @@
 pub mod EmptyRanges
+pub mod AllTables
+pub mod StoredFacts
