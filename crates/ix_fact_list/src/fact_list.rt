@@ -109,6 +109,13 @@ impl FactList {
         })
     }
 
+    /// The facts, in the order in which they were given. It takes no memory.
+    pub fn as_slice(&self) -> &[Fact]
+        ensures facts { result.now ≡ self.now }
+    {
+        &self.facts
+    }
+
     /// What is known beside the target of an operation: what the rules read.
     pub fn beside_target<K: Know>(
         alloc: Global,

@@ -1,3 +1,6 @@
 mod Together
 pub mod StoresOf
 mod SmallNumbers
+pub mod SameStores
+mod ClassesAfter
+mod BehindRules

@@ -12,7 +12,7 @@ use Rattle.ix_facts.specs.declared.kind.Kind.TheVariants as kind
 use Rattle.ix_facts.specs.Facts.{IsIn}
 use Rattle.ix_facts.specs.Kinds.{is_of}
 use Rattle.ix_facts.specs.Small.{IsEnd, HasSmallNumbers}
-use Rattle.ix_facts.specs.Systems.{MayStand}
+use Rattle.ix_facts.specs.Systems.{MayStand, HaveClasses}
 use Rattle.ix_facts.proofs.FactLists.{in_either}
 use Rattle.ix_fact_table.specs.declared.fact_table.FactTable.{FactTable}
 use Rattle.ix_fact_table.specs.FactTables.{facts_of, table_kind}
@@ -94,8 +94,8 @@ not_empty (Search p a) n = refl
 not_empty (Neg p a) n = refl
 not_empty (Upper p a o c) n = refl
 
-module _ (tables : Tables) (kinds : AreOfKinds tables) (full : some_empty (facts_of tables.ranges) ≡ false) where
-  may : (f : Fact) → IsIn f (all_facts tables) → MayStand f
+module _ (tables : Tables) where
+  pub may : (f : Fact) → IsIn f (all_facts tables) → MayStand f
   may f i =
       ⊎_elim
       (λ j. all_may tables.ranges f j)
@@ -114,9 +114,13 @@ module _ (tables : Tables) (kinds : AreOfKinds tables) (full : some_empty (facts
       (in_either f (facts_of tables.lows) (facts_of tables.lengths ++ (facts_of tables.differences ++ (facts_of tables.searches ++ facts_of tables.uppers))) i1))
       (in_either f (facts_of tables.ranges) (rest_facts tables) i)
 
+  pub all_classes : HaveClasses (all_facts tables)
+  all_classes f i = (may f i).class
+
+module _ (tables : Tables) (kinds : AreOfKinds tables) (full : some_empty (facts_of tables.ranges) ≡ false) where
   small : (f : Fact) → IsIn f (all_facts tables) → HasSmallNumbers f
   small f i =
-      small_one f (may f i)
+      small_one f (may tables f i)
       (⊎_elim (λ j. none (facts_of tables.ranges) f full j) (λ j. not_empty f (no_ranges tables kinds f j)) (in_either f (facts_of tables.ranges) (rest_facts tables) i))
 
   pub all_small : All HasSmallNumbers (all_facts tables)

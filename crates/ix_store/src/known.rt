@@ -45,4 +45,12 @@ impl Known {
         let list = FactList::new(alloc, all)?;
         Ok(Some(Known { tables, list }))
     }
+
+    /// The facts, by the paths that they name.
+    pub(crate) fn list(&self) -> &FactList
+        ensures facts { result.now ≡ self.now }
+        ensures classes { HaveClasses self.now }
+    {
+        &self.list
+    }
 }

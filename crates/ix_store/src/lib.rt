@@ -4,9 +4,13 @@
 //! The contract: the stores of `ix_facts`: behind a rule stands the closed store of what the rule gives of the facts before.
 //! It stands on `ix_closure` for what follows from facts, on `ix_fact_table` for tables, on `ix_after`, `ix_outcomes` and `ix_rules` for rules.
 //! It never looks at the program but for the operation that it is told.
-#![tactic(auto)]
+#![tactic(auto, using(std::proofs::lemmas::List::append_assoc, ix_exact::specs::KeptLaws::kept_joined, ix_exact::specs::KeptLaws::same_int))]
 
+mod facts_after;
 mod known;
 mod making;
+mod rules;
+mod store;
 mod tables;
 
+pub use store::Store;
