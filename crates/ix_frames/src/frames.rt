@@ -31,7 +31,8 @@ impl<'p> Frame<'p> {
 
     /// A frame in which nothing is to do. The one error is want of memory.
     pub fn new(alloc: Global, room: Room) -> Result<Frame<'p>, AllocError>
-        ensures room { IfOk result (λ frame. frame.stack.room ≡ room) }
+        ensures empty { IfOk result (λ made. frame_of made ≡ frame 0 Empty []) }
+        ensures room { IfOk result (λ made. made.stack.room ≡ room) }
     {
         let stack = Stack::new(alloc, room)?;
         let slots = Vec::with_capacity(alloc, room.values)?;
