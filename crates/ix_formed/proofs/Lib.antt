@@ -33,3 +33,12 @@ pub mod FormsOfExpressions
 pub mod FormsOfStatements
 pub mod SizesFit
 pub mod TypedPoints
+pub mod SameTypes
+pub mod TypedSteps
+pub mod TypedChecks
+pub mod TypedNames
+pub mod TypedOperators
+pub mod TypedSelections
+pub mod TypedArrays
+pub mod TypedAssignments
+pub mod TypedCalls
