@@ -42,3 +42,5 @@ pub mod TypedSelections
 pub mod TypedArrays
 pub mod TypedAssignments
 pub mod TypedCalls
+pub mod AssignedVariables
+pub mod TypedExpressions
