@@ -44,3 +44,4 @@ pub mod TypedAssignments
 pub mod TypedCalls
 pub mod AssignedVariables
 pub mod TypedExpressions
+pub mod ScopedLocals

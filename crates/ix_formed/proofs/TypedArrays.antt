@@ -99,12 +99,12 @@ module _ (z : Setting) (set : IsSet z) where
 
   -- what a cell holds
   pub load_yields : (t ty : Type_) → t ≡ ty → (array index : ℕ) (at : Span) (made : Made) (point : Point) → Ready z made point → array < made.free → index < made.free → is_array z.program ty ≡ true
-      → Holds z.program point array ty → Holds z.program point index int_type → Makes (Gives z.program z.method z.locals z.avoided made point (cell_type ty)) (computed made (op.Load made.free array index t) at)
+      → Holds z.program point array ty → Holds z.program point index int_type → Makes (Gives z.program z.method z.locals z.fixed z.avoided made point (cell_type ty)) (computed made (op.Load made.free array index t) at)
   load_yields t ty same array index at made point ready low_array low_index is held_array held_index =
       op_given z set made point ready (record { kind = op.Load made.free array index t; span = at; parts = [] }) (cell_type ty) refl (ap (λ t. assigned made.free (cell_type t) point) same)
       (λ lt.
-      let read : reads z.program z.method point array t ≡ true = ap (reads z.program z.method point array) same ∙ reads_held z.program z.method z.locals point array made.free ty low_array (omega (arith, lt)) held_array in
-      let place = reads_held z.program z.method z.locals point index made.free int_type low_index (omega (arith, lt)) held_index in
+      let read : reads z.program z.method point array t ≡ true = ap (reads z.program z.method point array) same ∙ reads_held z.program z.method z.locals z.fixed point array made.free ty low_array (omega (arith, lt)) held_array in
+      let place = reads_held z.program z.method z.locals z.fixed point index made.free int_type low_index (omega (arith, lt)) held_index in
       both_true (is_array z.program t) _ (ap (is_array z.program) same ∙ is) (both_true (reads z.program z.method point array t) _ read (both_true (reads z.program z.method point index int_type) _ place
       (both_true (is_target z.program z.method made.free) _ (new_target z set made point ready lt)
       (both_true (not (made.free == array)) _ (differs made.free array low_array) (both_true (not (made.free == index)) true (differs made.free index low_index) refl))))))
@@ -116,8 +116,8 @@ module _ (z : Setting) (set : IsSet z) where
     element_yields : (said : Option Type_) (is : ArrayIs l said) → Yields z int_type m.value → Yields z (cell_type is.ty) (values.element l m span).value
     element_yields said is index made point ready =
         let cell = cell_type is.ty in
-        then_value z.program z.method z.locals z.avoided made point is.ty cell (l.value z.scope made) _ (is.yields made point ready)
-        (λ y h. then_value z.program z.method z.locals z.avoided y.made h.behind int_type cell (m.value z.scope y.made) _ (index y.made h.behind (ready_on z set made point y.made h.behind ready h.steps))
+        then_value z.program z.method z.locals z.fixed z.avoided made point is.ty cell (l.value z.scope made) _ (is.yields made point ready)
+        (λ y h. then_value z.program z.method z.locals z.fixed z.avoided y.made h.behind int_type cell (m.value z.scope y.made) _ (index y.made h.behind (ready_on z set made point y.made h.behind ready h.steps))
         (λ v k. load_yields (type_at z.scope l.span) is.ty (ap or_void is.table) y.slot v.slot m.span v.made k.behind
         (ready_on z set y.made h.behind v.made k.behind (ready_on z set made point y.made h.behind ready h.steps) k.steps) (let lo = h.low in let up = k.steps.up in omega (arith, lo, up)) k.low is.array
         (holds_on z.program y.made.free h.behind k.behind y.slot is.ty h.low k.steps.keeps (h.holds (array_real z.program is.ty is.array))) (k.holds refl)))
@@ -160,12 +160,12 @@ module _ (z : Setting) (set : IsSet z) where
           table = noted z j.ty (cell_type is.ty) span is.typed w.1;
           real = (cell_is z.program is.ty is.array).1;
           aims = λ made point ready.
-              makes_then (Gives z.program z.method z.locals z.avoided made point is.ty) (Aims z made point (cell_type is.ty)) (l.value z.scope made) _ (is.yields made point ready)
-              (λ y h. makes_then (Gives z.program z.method z.locals z.avoided y.made h.behind int_type) (Aims z made point (cell_type is.ty)) (m.value z.scope y.made) _
+              makes_then (Gives z.program z.method z.locals z.fixed z.avoided made point is.ty) (Aims z made point (cell_type is.ty)) (l.value z.scope made) _ (is.yields made point ready)
+              (λ y h. makes_then (Gives z.program z.method z.locals z.fixed z.avoided y.made h.behind int_type) (Aims z made point (cell_type is.ty)) (m.value z.scope y.made) _
               (index y.made h.behind (ready_on z set made point y.made h.behind ready h.steps))
               (λ v k. record {
                 behind = k.behind;
-                steps = steps_both z.program z.method z.locals made point y.made h.behind v.made k.behind h.steps k.steps;
+                steps = steps_both z.program z.method z.locals z.fixed made point y.made h.behind v.made k.behind h.steps k.steps;
                 spot = subst (λ t. SpotIs z k.behind v.made.free (cell_type is.ty) (spot.Cell y.slot v.slot t m.span)) (sym same) (
                   (let lo = h.low in let up = k.steps.up in omega (arith, lo, up)), k.low, is.array,
                   holds_on z.program y.made.free h.behind k.behind y.slot is.ty h.low k.steps.keeps (h.holds (array_real z.program is.ty is.array)), k.holds refl, refl,
@@ -186,10 +186,10 @@ module _ (z : Setting) (set : IsSet z) where
   new_array_yields l span ty array table size made point ready =
       let t = type_at z.scope span in
       let same : t ≡ ty = ap or_void table in
-      then_value z.program z.method z.locals z.avoided made point int_type ty (l.value z.scope made) _ (size made point ready)
+      then_value z.program z.method z.locals z.fixed z.avoided made point int_type ty (l.value z.scope made) _ (size made point ready)
       (λ y g. op_given z set y.made g.behind (ready_on z set made point y.made g.behind ready g.steps) (record { kind = op.NewArray y.made.free t y.slot; span = l.span; parts = [] }) ty refl (ap (λ t. assigned y.made.free t g.behind) same)
       (λ lt.
-      let read = reads_held z.program z.method z.locals g.behind y.slot y.made.free int_type g.low (omega (arith, lt)) (g.holds refl) in
+      let read = reads_held z.program z.method z.locals z.fixed g.behind y.slot y.made.free int_type g.low (omega (arith, lt)) (g.holds refl) in
       both_true (reads z.program z.method g.behind y.slot int_type) _ read (both_true (is_array z.program t) _ (ap (is_array z.program) same ∙ array)
       (both_true (is_target z.program z.method y.made.free) _ (new_target z set y.made g.behind (ready_on z set made point y.made g.behind ready g.steps) lt) (both_true (not (y.made.free == y.slot)) true (differs y.made.free y.slot g.low) refl)))))
 
@@ -213,26 +213,26 @@ module _ (z : Setting) (set : IsSet z) where
 
   record EntriesGive (made : Made) (point : Point) (ty : Type_) (many : ℕ) (e : Entries) : Type 0 where
     pub behind : Point
-    pub steps : Steps z.program z.method z.locals made point e.made behind
+    pub steps : Steps z.program z.method z.locals z.fixed made point e.made behind
     pub all : AllOf (Entry ty behind e.made.free) e.slots
     pub count : length e.slots ≡ many
 
   entries_give : (slots : List ℕ) (fs : List Filling) (gs : List reading.Filling) → AllFit fs gs → (ty : Type_) → is_type z.program ty ≡ true → Told z (reading.fillings gs z.names (Some ty)) → (made : Made) (point : Point) → Ready z made point
       → AllOf (Entry ty point made.free) slots → Makes (EntriesGive made point ty (length slots + length fs)) (values.entries_from slots fs z.scope ty made)
-  entries_give slots [] [] all ty real said made point ready entries = record { behind = point; steps = steps_none z.program z.method z.locals made point; all = entries; count = omega arith }
+  entries_give slots [] [] all ty real said made point ready entries = record { behind = point; steps = steps_none z.program z.method z.locals z.fixed made point; all = entries; count = omega arith }
   entries_give slots [] (g ∷ gs) all ty real said made point ready entries = absurd all
   entries_give slots (f ∷ fs) [] all ty real said made point ready entries = absurd all
   entries_give slots (f ∷ fs) (g ∷ gs) all ty real said made point ready entries =
       let q = parted z (g z.names (Some ty)) (reading.fillings gs z.names (Some ty)) said in
       let x = all.0 ty real q.0 in
-      makes_then (Gives z.program z.method z.locals z.avoided made point x.given) (EntriesGive made point ty (length slots + length (f ∷ fs))) (f.value z.scope ty made) _ (x.yields made point ready)
+      makes_then (Gives z.program z.method z.locals z.fixed z.avoided made point x.given) (EntriesGive made point ty (length slots + length (f ∷ fs))) (f.value z.scope ty made) _ (x.yields made point ready)
       (λ v h.
       let long : length (slots ++ v.slot ∷ []) + length fs ≡ length slots + length (f ∷ fs) = (let a = length-append slots (v.slot ∷ []) in omega (arith, a)) in
       let old : AllOf (Entry ty h.behind v.made.free) slots = all_so (Entry ty point made.free) (Entry ty h.behind v.made.free)
       (λ slot e. ((let a = e.0 in let b = h.steps.up in omega (arith, a, b)), holds_on z.program made.free point h.behind slot ty e.0 h.steps.keeps e.1)) slots entries in
       let new : AllOf (Entry ty h.behind v.made.free) (v.slot ∷ []) = ((h.low, holds_up z set h.behind v.slot x.given ty (h.holds x.real) x.fits), tt) in
       makes_more (EntriesGive v.made h.behind ty (length (slots ++ v.slot ∷ []) + length fs)) (EntriesGive made point ty (length slots + length (f ∷ fs)))
-      (λ e y. record { behind = y.behind; steps = steps_both z.program z.method z.locals made point v.made h.behind e.made y.behind h.steps y.steps; all = y.all; count = y.count ∙ long }) _
+      (λ e y. record { behind = y.behind; steps = steps_both z.program z.method z.locals z.fixed made point v.made h.behind e.made y.behind h.steps y.steps; all = y.all; count = y.count ∙ long }) _
       (entries_give (slots ++ v.slot ∷ []) fs gs all.1 ty real q.1 v.made h.behind (ready_on z set made point v.made h.behind ready h.steps) (all_joined (Entry ty h.behind v.made.free) slots (v.slot ∷ []) old new)))
 
   others : (slot free : ℕ) → slot < free → (not (slot == free)) ≡ true
@@ -244,7 +244,7 @@ module _ (z : Setting) (set : IsSet z) where
   entries_are : (ty : Type_) (point : Point) (free : ℕ) (slots : List ℕ) → free ≤ z.method.slots → AllOf (Entry ty point free) slots → are_entries z.program z.method point free slots ty ≡ true
   entries_are ty point free [] le all = refl
   entries_are ty point free (slot ∷ slots) le all =
-      both_true (reads z.program z.method point slot ty) _ (reads_held z.program z.method z.locals point slot free ty all.0.0 le all.0.1)
+      both_true (reads z.program z.method point slot ty) _ (reads_held z.program z.method z.locals z.fixed point slot free ty all.0.0 le all.0.1)
       (both_true (not (slot == free)) _ (others slot free all.0.0) (entries_are ty point free slots le all.1))
 
   spans_length : (fs : List Filling) → length (values.spans fs) ≡ length fs
@@ -261,9 +261,9 @@ module _ (z : Setting) (set : IsSet z) where
       → Yields z ty (λ scope made. values.filled fs span scope ty made)
   filled_yields fs gs all few span ty array said made point ready =
       let cell = cell_is z.program ty array in
-      makes_then (EntriesGive made point (cell_type ty) (0 + length fs)) (Gives z.program z.method z.locals z.avoided made point ty) (values.entries_from [] fs z.scope (cell_type ty) made) _
+      makes_then (EntriesGive made point (cell_type ty) (0 + length fs)) (Gives z.program z.method z.locals z.fixed z.avoided made point ty) (values.entries_from [] fs z.scope (cell_type ty) made) _
       (entries_give [] fs gs all (cell_type ty) cell.1 (subst (λ o. Told z (reading.fillings gs z.names o)) cell.0 said) made point ready tt)
-      (λ e x. value_after z.program z.method z.locals z.avoided made point e.made x.behind ty (taking e.made (done (op.Fill e.made.free ty e.slots) span (values.spans fs))) x.steps
+      (λ e x. value_after z.program z.method z.locals z.fixed z.avoided made point e.made x.behind ty (taking e.made (done (op.Fill e.made.free ty e.slots) span (values.spans fs))) x.steps
       (op_given z set e.made x.behind (ready_on z set made point e.made x.behind ready x.steps) (record { kind = op.Fill e.made.free ty e.slots; span = span; parts = values.spans fs }) ty refl refl
       (λ lt.
       let long : length e.slots ≡ length fs = (let c = x.count in omega (arith, c)) in
@@ -283,7 +283,7 @@ module _ (z : Setting) (set : IsSet z) where
         ty = is.0;
         typed = is.1;
         of_type = real_result z.program is.0 (array_real z.program is.0 is.2);
-        yields = λ made point ready. subst (λ t. Makes (Gives z.program z.method z.locals z.avoided made point is.0) (values.filled fs span z.scope t made)) (sym t)
+        yields = λ made point ready. subst (λ t. Makes (Gives z.program z.method z.locals z.fixed z.avoided made point is.0) (values.filled fs span z.scope t made)) (sym t)
             (filled_yields fs gs all few span is.0 is.2 (subst (λ o. Told z (reading.fillings gs z.names (element_in o))) is.1 a.1) made point ready);
       })
 

@@ -78,41 +78,41 @@ module _ (z : Setting) (set : IsSet z) where
   -- a value of the type is written, at a place in the full expression
   pub write_steps : (s : Spot) (ty from_ty : Type_) (slot : ℕ) (made : Made) (point : Point) (whole target from : Span) → z.here whole → Ready z made point → SpotIs z point made.free ty s → slot < made.free
       → is_among slot z.avoided ≡ false → Holds z.program point slot from_ty → is_of z.program from_ty ty ≡ true
-      → Steps z.program z.method z.locals made point (with_item made (write s slot from_ty whole target from)) (behind_write s ty point)
+      → Steps z.program z.method z.locals z.fixed made point (with_item made (write s slot from_ty whole target from)) (behind_write s ty point)
   write_steps (spot.Variable variable) ty from_ty slot made point whole target from here ready is low apart held below =
-      let declared : variable_type z.program z.method z.locals variable whole ≡ Some ty = is.0.declared whole here in
-      op_steps z.program z.method z.locals made point (assigned variable ty point) (record { kind = op.Copy variable slot from_ty; span = whole; parts = target ∷ from ∷ [] }) refl
-      (ap (λ o. assigned variable (unwrap_or o from_ty) point) declared) (variable_keeps variable ty point made.free is.1)
-      (λ le.
-      let read = reads_held z.program z.method z.locals point slot made.free from_ty low le held in
+      let declared : z.fixed → variable_type z.program z.method z.locals variable whole ≡ Some ty = λ now. is.0.declared now whole here in
+      op_steps z.program z.method z.locals z.fixed made point (assigned variable ty point) (record { kind = op.Copy variable slot from_ty; span = whole; parts = target ∷ from ∷ [] }) refl
+      (λ now. ap (λ o. assigned variable (unwrap_or o from_ty) point) (declared now)) (variable_keeps variable ty point made.free is.1)
+      (λ now le.
+      let read = reads_held z.program z.method z.locals z.fixed point slot made.free from_ty low le held in
       let there : variable < z.method.slots = (let a = is.0.low in let b = ready.0 in omega (arith, a, b, le)) in
       let copy : copy_fits z.program z.method z.locals (variable_type z.program z.method z.locals variable whole) variable slot from_ty (target ∷ from ∷ []) ≡ true =
-      ap (λ o. copy_fits z.program z.method z.locals o variable slot from_ty (target ∷ from ∷ [])) declared
+      ap (λ o. copy_fits z.program z.method z.locals o variable slot from_ty (target ∷ from ∷ [])) (declared now)
       ∙ both_true (is_of z.program from_ty ty) _ below (both_true (is_slot z.program z.method variable) _ (there_is variable z.method.slots there) (most_is (param_slot z.method 0) variable is.0.first)) in
       both_true (reads z.program z.method point slot from_ty) _ read (both_true (not (variable == slot)) _ (apart_is variable slot is.2 apart) copy))
   write_steps (spot.FieldOf object field) ty from_ty slot made point whole target from here ready is low apart held below =
-      op_steps z.program z.method z.locals made point point (record { kind = op.WriteField object field slot; span = whole; parts = target ∷ from ∷ [] }) refl refl (keeps_none made.free point)
-      (λ le.
+      op_steps z.program z.method z.locals z.fixed made point point (record { kind = op.WriteField object field slot; span = whole; parts = target ∷ from ∷ [] }) refl (λ now. refl) (keeps_none made.free point)
+      (λ now le.
       let own = (field_at z.program field).ty in
-      let read : reads z.program z.method point slot own ≡ true = ap (reads z.program z.method point slot) is.2 ∙ reads_held z.program z.method z.locals point slot made.free ty low le (holds_up z set point slot from_ty ty held below) in
-      let object_read = reads_held z.program z.method z.locals point object made.free (class_type (field_at z.program field).class) is.0 le is.4 in
+      let read : reads z.program z.method point slot own ≡ true = ap (reads z.program z.method point slot) is.2 ∙ reads_held z.program z.method z.locals z.fixed point slot made.free ty low le (holds_up z set point slot from_ty ty held below) in
+      let object_read = reads_held z.program z.method z.locals z.fixed point object made.free (class_type (field_at z.program field).class) is.0 le is.4 in
       let fit : field_fits z.program z.method point object field ≡ true = both_true (is_there z.program.fields field) _ (there_is field (length z.program.fields) is.1) object_read in
       both_true (field_fits z.program z.method point object field) _ fit (both_true (reads z.program z.method point slot own) _ read (both_true (may_be_written z.program z.method object field) true is.3 refl)))
   write_steps (spot.Cell array index array_type at) ty from_ty slot made point whole target from here ready is low apart held below =
-      op_steps z.program z.method z.locals made point point (record { kind = op.Store array index slot array_type; span = at; parts = from ∷ [] }) refl refl (keeps_none made.free point)
-      (λ le.
+      op_steps z.program z.method z.locals z.fixed made point point (record { kind = op.Store array index slot array_type; span = at; parts = from ∷ [] }) refl (λ now. refl) (keeps_none made.free point)
+      (λ now le.
       let read : reads z.program z.method point slot (cell_type array_type) ≡ true =
-      ap (reads z.program z.method point slot) is.5 ∙ reads_held z.program z.method z.locals point slot made.free ty low le (holds_up z set point slot from_ty ty held below) in
-      both_true (is_array z.program array_type) _ is.2 (both_true (reads z.program z.method point array array_type) _ (reads_held z.program z.method z.locals point array made.free array_type is.0 le is.3)
-      (both_true (reads z.program z.method point index int_type) _ (reads_held z.program z.method z.locals point index made.free int_type is.1 le is.4) (both_true (reads z.program z.method point slot (cell_type array_type)) true read refl))))
+      ap (reads z.program z.method point slot) is.5 ∙ reads_held z.program z.method z.locals z.fixed point slot made.free ty low le (holds_up z set point slot from_ty ty held below) in
+      both_true (is_array z.program array_type) _ is.2 (both_true (reads z.program z.method point array array_type) _ (reads_held z.program z.method z.locals z.fixed point array made.free array_type is.0 le is.3)
+      (both_true (reads z.program z.method point index int_type) _ (reads_held z.program z.method z.locals z.fixed point index made.free int_type is.1 le is.4) (both_true (reads z.program z.method point slot (cell_type array_type)) true read refl))))
 
   -- what a spot of int holds goes into a new temporary
-  pub read_yields : (s : Spot) (span : Span) (made : Made) (point : Point) → z.here span → Ready z made point → SpotIs z point made.free int_type s → Makes (Gives z.program z.method z.locals z.avoided made point int_type) (read s span made)
+  pub read_yields : (s : Spot) (span : Span) (made : Made) (point : Point) → z.here span → Ready z made point → SpotIs z point made.free int_type s → Makes (Gives z.program z.method z.locals z.fixed z.avoided made point int_type) (read s span made)
   read_yields (spot.Variable slot) span made point here ready is = copied z set span here slot int_type int_type refl is.0 refl made point ready is.1
   read_yields (spot.FieldOf object field) span made point here ready is =
-      subst (λ t. Makes (Gives z.program z.method z.locals z.avoided made point t) (computed made (op.ReadField made.free object field) span)) is.2 (field_yields z set span field object made point ready is.1 is.0 is.4)
+      subst (λ t. Makes (Gives z.program z.method z.locals z.fixed z.avoided made point t) (computed made (op.ReadField made.free object field) span)) is.2 (field_yields z set span field object made point ready is.1 is.0 is.4)
   read_yields (spot.Cell array index array_type at) span made point here ready is =
-      subst (λ t. Makes (Gives z.program z.method z.locals z.avoided made point t) (computed made (op.Load made.free array index array_type) at)) is.5
+      subst (λ t. Makes (Gives z.program z.method z.locals z.fixed z.avoided made point t) (computed made (op.Load made.free array index array_type) at)) is.5
       (load_yields z set array_type array_type refl array index at made point ready is.0 is.1 is.2 is.3 is.4)
 
   -- ---- assignments
@@ -122,10 +122,10 @@ module _ (z : Setting) (set : IsSet z) where
     assignment_yields x c same_span made point ready =
         let own = type_at z.scope m.span in
         let same : own ≡ c.ty = ap or_void (ap z.scope.site.names.type_of same_span ∙ c.table) in
-        makes_then (Aims z made point x.ty) (Gives z.program z.method z.locals z.avoided made point x.ty) (l.target z.scope made) _ (x.aims made point ready)
+        makes_then (Aims z made point x.ty) (Gives z.program z.method z.locals z.fixed z.avoided made point x.ty) (l.target z.scope made) _ (x.aims made point ready)
         (λ place q.
         let ready_place = ready_on z set made point place.made q.behind ready q.steps in
-        makes_then (Gives z.program z.method z.locals z.avoided place.made q.behind c.ty) (Gives z.program z.method z.locals z.avoided made point x.ty) (m.value z.scope place.made) _ (c.yields place.made q.behind ready_place)
+        makes_then (Gives z.program z.method z.locals z.fixed z.avoided place.made q.behind c.ty) (Gives z.program z.method z.locals z.fixed z.avoided made point x.ty) (m.value z.scope place.made) _ (c.yields place.made q.behind ready_place)
         (λ v g.
         let ready_v = ready_on z set place.made q.behind v.made g.behind ready_place g.steps in
         let at = spot_on q.behind g.behind place.made.free v.made.free x.ty place.spot ready_place.0 g.steps.up g.steps.keeps q.spot in
@@ -135,7 +135,7 @@ module _ (z : Setting) (set : IsSet z) where
         let behind = behind_write place.spot x.ty g.behind in
         record {
           behind = behind;
-          steps = steps_both z.program z.method z.locals made point place.made q.behind after behind q.steps (steps_both z.program z.method z.locals place.made q.behind v.made g.behind after behind g.steps written);
+          steps = steps_both z.program z.method z.locals z.fixed made point place.made q.behind after behind q.steps (steps_both z.program z.method z.locals z.fixed place.made q.behind v.made g.behind after behind g.steps written);
           low = g.low;
           apart = g.apart;
           holds = λ real. holds_up z set behind v.slot c.ty x.ty (holds_on z.program v.made.free g.behind behind v.slot c.ty g.low written.keeps held) c.fits;
@@ -161,54 +161,54 @@ module _ (z : Setting) (set : IsSet z) where
 
     -- the result of a computation is written
     module _ (aims : (made : Made) (point : Point) → Ready z made point → Makes (Aims z made point int_type) (l.target z.scope made)) (target_here : z.here l.span) where
-      written : (made : Made) (point : Point) (place : Target) (q : Aims z made point int_type place) (after : Made) (at : Point) → Ready z made point → Steps z.program z.method z.locals place.made q.behind after at
+      written : (made : Made) (point : Point) (place : Target) (q : Aims z made point int_type place) (after : Made) (at : Point) → Ready z made point → Steps z.program z.method z.locals z.fixed place.made q.behind after at
           → (arith_op : Arith) (left right result : ℕ) → left < after.free → right < after.free → Holds z.program at left int_type → Holds z.program at right int_type → (with_left : Bool) → is_among left z.avoided ≡ false
-          → Makes (Gives z.program z.method z.locals z.avoided made point int_type)
+          → Makes (Gives z.program z.method z.locals z.fixed z.avoided made point int_type)
           (computed after (op.Num after.free arith_op left right) span >>= (λ v. in_place (with_item v.made (write place.spot v.slot int_type span l.span span)) (if with_left then left else v.slot)))
       written made point place q after at ready more arith_op left right result low_left low_right held_left held_right with_left apart =
           let ready_place = ready_on z set made point place.made q.behind ready q.steps in
           let ready_after = ready_on z set place.made q.behind after at ready_place more in
-          makes_then (Gives z.program z.method z.locals z.avoided after at int_type) (Gives z.program z.method z.locals z.avoided made point int_type) (computed after (op.Num after.free arith_op left right) span) _
+          makes_then (Gives z.program z.method z.locals z.fixed z.avoided after at int_type) (Gives z.program z.method z.locals z.fixed z.avoided made point int_type) (computed after (op.Num after.free arith_op left right) span) _
           (num_yields z set arith_op span after at left right ready_after low_left low_right held_left held_right)
           (λ v g.
           let ready_v = ready_on z set after at v.made g.behind ready_after g.steps in
-          let to_v = steps_both z.program z.method z.locals place.made q.behind after at v.made g.behind more g.steps in
+          let to_v = steps_both z.program z.method z.locals z.fixed place.made q.behind after at v.made g.behind more g.steps in
           let here_spot = spot_on q.behind g.behind place.made.free v.made.free int_type place.spot ready_place.0 to_v.up to_v.keeps q.spot in
           let end = with_item v.made (write place.spot v.slot int_type span l.span span) in
           let behind = behind_write place.spot int_type g.behind in
           let last = write_steps place.spot int_type int_type v.slot v.made g.behind span l.span span here ready_v here_spot g.low g.apart (g.holds refl) refl in
-          let all = steps_both z.program z.method z.locals made point place.made q.behind end behind q.steps (steps_both z.program z.method z.locals place.made q.behind v.made g.behind end behind to_v last) in
+          let all = steps_both z.program z.method z.locals z.fixed made point place.made q.behind end behind q.steps (steps_both z.program z.method z.locals z.fixed place.made q.behind v.made g.behind end behind to_v last) in
           let low : left < v.made.free = (let up = g.steps.up in omega (arith, low_left, up)) in
           given_back with_left left v end behind all g.low low g.apart apart (holds_on z.program v.made.free g.behind behind v.slot int_type g.low last.keeps (g.holds refl))
           (holds_on z.program v.made.free g.behind behind left int_type low last.keeps (holds_on z.program after.free at g.behind left int_type low_left g.steps.keeps held_left)))
         where
-          given_back : (b : Bool) (left : ℕ) (v : Value) (end : Made) (behind : Point) → Steps z.program z.method z.locals made point end behind → v.slot < end.free → left < end.free → is_among v.slot z.avoided ≡ false → is_among left z.avoided ≡ false
-              → Holds z.program behind v.slot int_type → Holds z.program behind left int_type → Makes (Gives z.program z.method z.locals z.avoided made point int_type) (in_place end (if b then left else v.slot))
+          given_back : (b : Bool) (left : ℕ) (v : Value) (end : Made) (behind : Point) → Steps z.program z.method z.locals z.fixed made point end behind → v.slot < end.free → left < end.free → is_among v.slot z.avoided ≡ false → is_among left z.avoided ≡ false
+              → Holds z.program behind v.slot int_type → Holds z.program behind left int_type → Makes (Gives z.program z.method z.locals z.fixed z.avoided made point int_type) (in_place end (if b then left else v.slot))
           given_back true left v end behind steps low_v low apart_v apart held_v held = record { behind = behind; steps = steps; low = low; apart = apart; holds = λ real. held }
           given_back false left v end behind steps low_v low apart_v apart held_v held = record { behind = behind; steps = steps; low = low_v; apart = apart_v; holds = λ real. held_v }
 
       compound_yields : (arith_op : Arith) → Yields z int_type m.value → Yields z int_type (values.compound arith_op l m span).value
       compound_yields arith_op value made point ready =
-          makes_then (Aims z made point int_type) (Gives z.program z.method z.locals z.avoided made point int_type) (l.target z.scope made) _ (aims made point ready)
+          makes_then (Aims z made point int_type) (Gives z.program z.method z.locals z.fixed z.avoided made point int_type) (l.target z.scope made) _ (aims made point ready)
           (λ place q.
           let ready_place = ready_on z set made point place.made q.behind ready q.steps in
-          makes_then (Gives z.program z.method z.locals z.avoided place.made q.behind int_type) (Gives z.program z.method z.locals z.avoided made point int_type) (read place.spot l.span place.made) _
+          makes_then (Gives z.program z.method z.locals z.fixed z.avoided place.made q.behind int_type) (Gives z.program z.method z.locals z.fixed z.avoided made point int_type) (read place.spot l.span place.made) _
           (read_yields place.spot l.span place.made q.behind target_here ready_place q.spot)
-          (λ y g. makes_then (Gives z.program z.method z.locals z.avoided y.made g.behind int_type) (Gives z.program z.method z.locals z.avoided made point int_type) (m.value z.scope y.made) _
+          (λ y g. makes_then (Gives z.program z.method z.locals z.fixed z.avoided y.made g.behind int_type) (Gives z.program z.method z.locals z.fixed z.avoided made point int_type) (m.value z.scope y.made) _
           (value y.made g.behind (ready_on z set place.made q.behind y.made g.behind ready_place g.steps))
-          (λ v h. written made point place q v.made h.behind ready (steps_both z.program z.method z.locals place.made q.behind y.made g.behind v.made h.behind g.steps h.steps) arith_op y.slot v.slot 0
+          (λ v h. written made point place q v.made h.behind ready (steps_both z.program z.method z.locals z.fixed place.made q.behind y.made g.behind v.made h.behind g.steps h.steps) arith_op y.slot v.slot 0
           (let low = g.low in let up = h.steps.up in omega (arith, low, up)) h.low (holds_on z.program y.made.free g.behind h.behind y.slot int_type g.low h.steps.keeps (g.holds refl)) (h.holds refl) false g.apart)))
 
       step_yields : (up after : Bool) → Yields z int_type (values.step up after l span).value
       step_yields up after made point ready =
-          makes_then (Aims z made point int_type) (Gives z.program z.method z.locals z.avoided made point int_type) (l.target z.scope made) _ (aims made point ready)
+          makes_then (Aims z made point int_type) (Gives z.program z.method z.locals z.fixed z.avoided made point int_type) (l.target z.scope made) _ (aims made point ready)
           (λ place q.
           let ready_place = ready_on z set made point place.made q.behind ready q.steps in
-          makes_then (Gives z.program z.method z.locals z.avoided place.made q.behind int_type) (Gives z.program z.method z.locals z.avoided made point int_type) (read place.spot l.span place.made) _
+          makes_then (Gives z.program z.method z.locals z.fixed z.avoided place.made q.behind int_type) (Gives z.program z.method z.locals z.fixed z.avoided made point int_type) (read place.spot l.span place.made) _
           (read_yields place.spot l.span place.made q.behind target_here ready_place q.spot)
-          (λ y g. makes_then (Gives z.program z.method z.locals z.avoided y.made g.behind int_type) (Gives z.program z.method z.locals z.avoided made point int_type) (int_value (pos 1) span y.made) _
+          (λ y g. makes_then (Gives z.program z.method z.locals z.fixed z.avoided y.made g.behind int_type) (Gives z.program z.method z.locals z.fixed z.avoided made point int_type) (int_value (pos 1) span y.made) _
           (int_yields z set (pos 1) span refl y.made g.behind (ready_on z set place.made q.behind y.made g.behind ready_place g.steps))
-          (λ v h. written made point place q v.made h.behind ready (steps_both z.program z.method z.locals place.made q.behind y.made g.behind v.made h.behind g.steps h.steps) (if up then Add else Sub) y.slot v.slot 0
+          (λ v h. written made point place q v.made h.behind ready (steps_both z.program z.method z.locals z.fixed place.made q.behind y.made g.behind v.made h.behind g.steps h.steps) (if up then Add else Sub) y.slot v.slot 0
           (let low = g.low in let more = h.steps.up in omega (arith, low, more)) h.low (holds_on z.program y.made.free g.behind h.behind y.slot int_type g.low h.steps.keeps (g.holds refl)) (h.holds refl) after g.apart)))
 
     pub compound_fits : (arith_op : Arith) → Fits z m b → z.here l.span → Fits z (lowering_at z set (values.compound arith_op l m span) span) (reading_at z set (valued (λ s p. reading.computed a b s)) span)

@@ -63,7 +63,7 @@ module _ (z : Setting) (set : IsSet z) where
 
   pub record ArgsGive (made : Made) (point : Point) (types : List Type_) (a : Arguments) : Type 0 where
     pub behind : Point
-    pub steps : Steps z.program z.method z.locals made point a.made behind
+    pub steps : Steps z.program z.method z.locals z.fixed made point a.made behind
     pub holds : ArgsHold behind a.made.free a.args types
 
   args_on : (before after : Point) (free more : ℕ) (args : List Arg) (types : List Type_) → free ≤ more → Keeps free before after → ArgsHold before free args types → ArgsHold after more args types
@@ -85,7 +85,7 @@ module _ (z : Setting) (set : IsSet z) where
       → Told z (reading.arguments z.names rs (map (λ t. Some t) types)) → (made : Made) (point : Point) → Ready z made point → ArgsHold point made.free given before
       → Makes (ArgsGive made point (before ++ types)) (values.arguments_from given ls z.scope made)
   arguments_give given [] [] all before [] real count said made point ready held =
-      record { behind = point; steps = steps_none z.program z.method z.locals made point; holds = subst (ArgsHold point made.free given) (sym (Rattle.std.proofs.lemmas.List.append-nil before)) held }
+      record { behind = point; steps = steps_none z.program z.method z.locals z.fixed made point; holds = subst (ArgsHold point made.free given) (sym (Rattle.std.proofs.lemmas.List.append-nil before)) held }
   arguments_give given [] [] all before (ty ∷ types) real count said made point ready held = absurd (omega (arith, count))
   arguments_give given [] (r ∷ rs) all before types real count said made point ready held = absurd all
   arguments_give given (l ∷ ls) [] all before types real count said made point ready held = absurd all
@@ -93,7 +93,7 @@ module _ (z : Setting) (set : IsSet z) where
   arguments_give given (l ∷ ls) (r ∷ rs) all before (ty ∷ types) real count said made point ready held =
       let q = parted z (check r z.names (of ty)).notes (reading.arguments z.names rs (map (λ t. Some t) types)) said in
       let c = check_fits z set l r all.0 ty real.0 q.0 in
-      makes_then (Gives z.program z.method z.locals z.avoided made point c.ty) (ArgsGive made point (before ++ ty ∷ types)) (l.value z.scope made) _ (c.yields made point ready)
+      makes_then (Gives z.program z.method z.locals z.fixed z.avoided made point c.ty) (ArgsGive made point (before ++ ty ∷ types)) (l.value z.scope made) _ (c.yields made point ready)
       (λ v g.
       let arg : Arg = record { slot = v.slot; span = l.span } in
       let one = holds_up z set g.behind v.slot c.ty ty (g.holds c.real) c.fits in
@@ -101,7 +101,7 @@ module _ (z : Setting) (set : IsSet z) where
       makes_more (ArgsGive v.made g.behind ((before ++ ty ∷ []) ++ types)) (ArgsGive made point (before ++ ty ∷ types))
       (λ a x. record {
         behind = x.behind;
-        steps = steps_both z.program z.method z.locals made point v.made g.behind a.made x.behind g.steps x.steps;
+        steps = steps_both z.program z.method z.locals z.fixed made point v.made g.behind a.made x.behind g.steps x.steps;
         holds = subst (ArgsHold x.behind a.made.free a.args) (append_assoc before (ty ∷ []) types) x.holds;
       }) _
       (arguments_give (given ++ arg ∷ []) ls rs all.1 (before ++ ty ∷ []) types real.1 (omega (arith, count)) q.1 v.made g.behind (ready_on z set made point v.made g.behind ready g.steps) held_v))
@@ -111,7 +111,7 @@ module _ (z : Setting) (set : IsSet z) where
   args_do_fit point free [] (ty ∷ types) le held = absurd held
   args_do_fit point free (arg ∷ args) [] le held = absurd held
   args_do_fit point free (arg ∷ args) (ty ∷ types) le held =
-      both_true (reads z.program z.method point arg.slot ty) _ (reads_held z.program z.method z.locals point arg.slot free ty held.0 le held.1) (args_do_fit point free args types le held.2)
+      both_true (reads z.program z.method point arg.slot ty) _ (reads_held z.program z.method z.locals z.fixed point arg.slot free ty held.0 le held.1) (args_do_fit point free args types le held.2)
 
   no_argument : (point : Point) (free : ℕ) (args : List Arg) (types : List Type_) → ArgsHold point free args types → is_argument args free ≡ false
   no_argument point free [] [] held = refl
@@ -133,7 +133,7 @@ module _ (z : Setting) (set : IsSet z) where
 
   -- a call with a result, or without one
   call_given : (made : Made) (point : Point) → Ready z made point → (o : Op) (ty : Type_) → is_super_call o.kind ≡ false → op_types z.program z.method z.locals point o o.kind ≡ (if is_void ty then point else assigned made.free ty point)
-      → (made.free < z.method.slots → op_fits z.program z.method z.locals point o o.kind ≡ true) → Makes (Gives z.program z.method z.locals z.avoided made point ty) (taking made (item.Do o))
+      → (made.free < z.method.slots → op_fits z.program z.method z.locals point o o.kind ≡ true) → Makes (Gives z.program z.method z.locals z.fixed z.avoided made point ty) (taking made (item.Do o))
   call_given made point ready o ty not_super types fits = by_void (is_void ty) refl types
     where
       no_type : (t : Type_) → is_void t ≡ true → is_type z.program t ≡ true → ⊥
@@ -141,8 +141,8 @@ module _ (z : Setting) (set : IsSet z) where
       no_type (type.Plain b) e real = false≢true e
       no_type (type.Array b depth claims) e real = false≢true e
 
-      by_void : (b : Bool) → is_void ty ≡ b → op_types z.program z.method z.locals point o o.kind ≡ (if b then point else assigned made.free ty point) → Makes (Gives z.program z.method z.locals z.avoided made point ty) (taking made (item.Do o))
-      by_void true e types = op_leads_to z.program z.method z.locals z.avoided made point point o ty (new_apart z set made.free ready.0) not_super types (keeps_none made.free point) (λ real. absurd (no_type ty e real)) fits
+      by_void : (b : Bool) → is_void ty ≡ b → op_types z.program z.method z.locals point o o.kind ≡ (if b then point else assigned made.free ty point) → Makes (Gives z.program z.method z.locals z.fixed z.avoided made point ty) (taking made (item.Do o))
+      by_void true e types = op_leads_to z.program z.method z.locals z.fixed z.avoided made point point o ty (new_apart z set made.free ready.0) not_super (λ now. types) (keeps_none made.free point) (λ real. absurd (no_type ty e real)) (λ now. fits)
       by_void false e types = op_given z set made point ready o ty not_super types fits
 
   -- ---- calls of methods
@@ -167,19 +167,19 @@ module _ (z : Setting) (set : IsSet z) where
       abbrev result : Type_
       result = (method_at z.program m.number).result
 
-      static_yields : m.signature.is_static ≡ true → ((made : Made) (point : Point) → Ready z made point → Makes (Runs z.program z.method z.locals made point) (values.unused_object object z.scope made))
+      static_yields : m.signature.is_static ≡ true → ((made : Made) (point : Point) → Ready z made point → Makes (Runs z.program z.method z.locals z.fixed made point) (values.unused_object object z.scope made))
           → Yields z result (λ scope made. values.static_call object m.number ls (head_at scope.site m.number).class span scope made)
       static_yields static unused made point ready =
-          makes_then (Runs z.program z.method z.locals made point) (Gives z.program z.method z.locals z.avoided made point result) (values.unused_object object z.scope made) _ (unused made point ready)
+          makes_then (Runs z.program z.method z.locals z.fixed made point) (Gives z.program z.method z.locals z.fixed z.avoided made point result) (values.unused_object object z.scope made) _ (unused made point ready)
           (λ before q.
           let ready_q = ready_on z set made point before q.behind ready q.steps in
-          makes_then (ArgsGive before q.behind (method_at z.program m.number).param_types) (Gives z.program z.method z.locals z.avoided made point result) (values.arguments_from [] ls z.scope before) _
+          makes_then (ArgsGive before q.behind (method_at z.program m.number).param_types) (Gives z.program z.method z.locals z.fixed z.avoided made point result) (values.arguments_from [] ls z.scope before) _
           (given_args m.number m.signature.params is.takes span said before q.behind ready_q)
           (λ a x.
           let ready_a = ready_on z set before q.behind a.made x.behind ready_q x.steps in
           let head = head_at z.scope.site m.number in
           let call : CallOp = record { target = a.made.free; method = m.number; receiver = None; args = a.args; class = head.class; span = span } in
-          value_after z.program z.method z.locals z.avoided made point a.made x.behind result _ (steps_both z.program z.method z.locals made point before q.behind a.made x.behind q.steps x.steps)
+          value_after z.program z.method z.locals z.fixed z.avoided made point a.made x.behind result _ (steps_both z.program z.method z.locals z.fixed made point before q.behind a.made x.behind q.steps x.steps)
           (call_given a.made x.behind ready_a (record { kind = op.StaticCall call; span = span; parts = [] }) result refl refl
           (λ lt. both_true (static_fits z.program z.method x.behind call) true
           (both_true (call_fits z.program z.method x.behind call) _ (calls_fit a.made x.behind ready_a lt m.number head.class None a.args span is.takes.there is.head_class x.holds) (both_true (method_at z.program m.number).is_static true (is.static ∙ static) refl)) refl))))
@@ -187,10 +187,10 @@ module _ (z : Setting) (set : IsSet z) where
       instance_yields : m.signature.is_static ≡ false → is_class z.program class ≡ true → values.object_class object z.scope ≡ class → Yields z (class_type class) (λ scope made. values.object_value object scope made)
           → Yields z result (λ scope made. values.instance_call object m.number ls span scope made)
       instance_yields static there same receiver made point ready =
-          makes_then (Gives z.program z.method z.locals z.avoided made point (class_type class)) (Gives z.program z.method z.locals z.avoided made point result) (values.object_value object z.scope made) _ (receiver made point ready)
+          makes_then (Gives z.program z.method z.locals z.fixed z.avoided made point (class_type class)) (Gives z.program z.method z.locals z.fixed z.avoided made point result) (values.object_value object z.scope made) _ (receiver made point ready)
           (λ o q.
           let ready_q = ready_on z set made point o.made q.behind ready q.steps in
-          makes_then (ArgsGive o.made q.behind (method_at z.program m.number).param_types) (Gives z.program z.method z.locals z.avoided made point result) (values.arguments_from [] ls z.scope o.made) _
+          makes_then (ArgsGive o.made q.behind (method_at z.program m.number).param_types) (Gives z.program z.method z.locals z.fixed z.avoided made point result) (values.arguments_from [] ls z.scope o.made) _
           (given_args m.number m.signature.params is.takes span said o.made q.behind ready_q)
           (λ a x.
           let ready_a = ready_on z set o.made q.behind a.made x.behind ready_q x.steps in
@@ -199,11 +199,11 @@ module _ (z : Setting) (set : IsSet z) where
           let low : o.slot < a.made.free = (let lo = q.low in let up = x.steps.up in omega (arith, lo, up)) in
           let held : Holds z.program x.behind o.slot (class_type named) = subst (λ c. Holds z.program x.behind o.slot (class_type c)) (sym same)
           (holds_on z.program o.made.free q.behind x.behind o.slot (class_type class) q.low x.steps.keeps (q.holds there)) in
-          value_after z.program z.method z.locals z.avoided made point a.made x.behind result _ (steps_both z.program z.method z.locals made point o.made q.behind a.made x.behind q.steps x.steps)
+          value_after z.program z.method z.locals z.fixed z.avoided made point a.made x.behind result _ (steps_both z.program z.method z.locals z.fixed made point o.made q.behind a.made x.behind q.steps x.steps)
           (call_given a.made x.behind ready_a (record { kind = op.InstanceCall call; span = span; parts = [] }) result refl refl
           (λ lt.
           let calls = calls_fit a.made x.behind ready_a lt m.number named (Some o.slot) a.args span is.takes.there (ap (is_class z.program) same ∙ there) x.holds in
-          let read = reads_held z.program z.method z.locals x.behind o.slot a.made.free (class_type named) low (omega (arith, lt)) held in
+          let read = reads_held z.program z.method z.locals z.fixed x.behind o.slot a.made.free (class_type named) low (omega (arith, lt)) held in
           let receives : receiver_fits z.program z.method x.behind (Some o.slot) a.made.free named ≡ true =
           both_true (reads z.program z.method x.behind o.slot (class_type named)) _ read (ap not (is_other o.slot a.made.free low)) in
           let instance : (not (method_at z.program m.number).is_static) ≡ true = ap not (is.static ∙ static) in
@@ -216,13 +216,13 @@ module _ (z : Setting) (set : IsSet z) where
           is_other : (slot free : ℕ) → slot < free → (slot == free) ≡ false
           is_other slot free lt = grind (arith, nat_tests)
 
-      called_yields : ((made : Made) (point : Point) → Ready z made point → Makes (Runs z.program z.method z.locals made point) (values.unused_object object z.scope made))
+      called_yields : ((made : Made) (point : Point) → Ready z made point → Makes (Runs z.program z.method z.locals z.fixed made point) (values.unused_object object z.scope made))
           → (m.signature.is_static ≡ false → (is_class z.program class ≡ true) × (values.object_class object z.scope ≡ class) × Yields z (class_type class) (λ scope made. values.object_value object scope made))
           → Yields z result (λ scope made. values.called (head_at scope.site m.number) object m.number ls span scope made)
       called_yields unused receiver made point ready = by_static (head_at z.scope.site m.number).is_static refl
         where
           by_static : (b : Bool) → (head_at z.scope.site m.number).is_static ≡ b
-              → Makes (Gives z.program z.method z.locals z.avoided made point result)
+              → Makes (Gives z.program z.method z.locals z.fixed z.avoided made point result)
               (if b then values.static_call object m.number ls (head_at z.scope.site m.number).class span z.scope made else values.instance_call object m.number ls span z.scope made)
           by_static true e = static_yields (sym is.head_static ∙ e) unused made point ready
           by_static false e = let r = receiver (sym is.head_static ∙ e) in instance_yields (sym is.head_static ∙ e) r.0 r.1 r.2 made point ready
@@ -235,7 +235,7 @@ module _ (z : Setting) (set : IsSet z) where
 
       -- what is called is the method that the name means
       called_speaks : (class : ℕ) (m : Callee) → MethodIs z.program z.scope.site class m → (object : Option Lowering)
-          → ((made : Made) (point : Point) → Ready z made point → Makes (Runs z.program z.method z.locals made point) (values.unused_object object z.scope made))
+          → ((made : Made) (point : Point) → Ready z made point → Makes (Runs z.program z.method z.locals z.fixed made point) (values.unused_object object z.scope made))
           → (m.signature.is_static ≡ false → (is_class z.program class ≡ true) × (values.object_class object z.scope ≡ class) × Yields z (class_type class) (λ scope made. values.object_value object scope made))
           → Told z (reading.called z.names ident.span rs m).notes → Speaks z set m.signature.result (call_run object)
       called_speaks class m is object unused receiver said = record {
@@ -243,7 +243,7 @@ module _ (z : Setting) (set : IsSet z) where
         typed = is.result;
         of_type = is.of_type;
         yields = λ made point ready.
-            subst (λ o. Makes (Gives z.program z.method z.locals z.avoided made point (method_at z.program m.number).result) (values.called (head_at z.scope.site (values.method_number o)) object (values.method_number o) ls ident.span z.scope made))
+            subst (λ o. Makes (Gives z.program z.method z.locals z.fixed z.avoided made point (method_at z.program m.number).result) (values.called (head_at z.scope.site (values.method_number o)) object (values.method_number o) ls ident.span z.scope made))
                 (sym (said.0 named)) (called_yields class m is object ident.span said.1 unused receiver made point ready);
       }
 
@@ -255,10 +255,10 @@ module _ (z : Setting) (set : IsSet z) where
       bare_speaks None e said = absurd said.0
       bare_speaks (Some m) e said =
           let q = parted z (rules.not_static z.names m.signature.is_static ident.span) (reading.called z.names ident.span rs m).notes said in
-          called_speaks z.names.class m (set.members.methods z.names.class ident.text m set.class_there e) None (λ made point ready. record { behind = point; steps = steps_none z.program z.method z.locals made point })
+          called_speaks z.names.class m (set.members.methods z.names.class ident.text m set.class_there e) None (λ made point ready. record { behind = point; steps = steps_none z.program z.method z.locals z.fixed made point })
           (λ static.
           let has = by_has z.names.has_object (ap (λ b. not z.names.has_object && not b) (sym static) ∙ unbroken z (not z.names.has_object && not m.signature.is_static) rule.NotStatic ident.span q.0) in
-          (set.class_there, set.class, (λ made point ready. value_in_place z.program z.method z.locals z.avoided made point 0 (class_type z.names.class)
+          (set.class_there, set.class, (λ made point ready. value_in_place z.program z.method z.locals z.fixed z.avoided made point 0 (class_type z.names.class)
           (let a = set.static has in let b = ready.0 in omega (arith, a, b)) (this_apart z set has) (λ real. this_held z set point has ready.1)))) q.1
         where
           by_has : (b : Bool) → (not b && true) ≡ false → b ≡ true
@@ -274,7 +274,7 @@ module _ (z : Setting) (set : IsSet z) where
         dot_reading = valued (λ s p. reading.behind (r.receiver s).notes (reading.call_on s ident rs (r.receiver s).object))
 
         abbrev Unused : Type 0
-        Unused = (made : Made) (point : Point) → Ready z made point → Makes (Runs z.program z.method z.locals made point) (l.unused z.scope made)
+        Unused = (made : Made) (point : Point) → Ready z made point → Makes (Runs z.program z.method z.locals z.fixed made point) (l.unused z.scope made)
 
         class_speaks : (class : ℕ) (o : Option Callee) → is_class z.program class ≡ true → method_named z.names.world class ident.text ≡ o → Unused → Told z (reading.class_call z.names ident rs o).notes
             → Speaks z set (reading.class_call z.names ident rs o).ty (call_run (Some l))
@@ -311,12 +311,12 @@ module _ (z : Setting) (set : IsSet z) where
           → Yields z (class_type class) (λ scope made. values.arguments_from [] ls scope made >>= (λ given. values.calling op.NewObject (constructor_at scope.site class) None class span given))
       new_yields class there is said made point ready =
           let number = constructor_at z.scope.site class in
-          makes_then (ArgsGive made point (method_at z.program number).param_types) (Gives z.program z.method z.locals z.avoided made point (class_type class)) (values.arguments_from [] ls z.scope made) _
+          makes_then (ArgsGive made point (method_at z.program number).param_types) (Gives z.program z.method z.locals z.fixed z.avoided made point (class_type class)) (values.arguments_from [] ls z.scope made) _
           (given_args number (constructor_params z.names.world class) is.takes ident.span said made point ready)
           (λ a x.
           let ready_a = ready_on z set made point a.made x.behind ready x.steps in
           let call : CallOp = record { target = a.made.free; method = number; receiver = None; args = a.args; class = class; span = span } in
-          value_after z.program z.method z.locals z.avoided made point a.made x.behind (class_type class) _ x.steps
+          value_after z.program z.method z.locals z.fixed z.avoided made point a.made x.behind (class_type class) _ x.steps
           (op_given z set a.made x.behind ready_a (record { kind = op.NewObject call; span = span; parts = [] }) (class_type class) refl refl
           (λ lt.
           let calls = calls_fit a.made x.behind ready_a lt number class None a.args span is.takes.there there x.holds in
@@ -336,7 +336,7 @@ module _ (z : Setting) (set : IsSet z) where
             typed = refl;
             of_type = there;
             yields = λ made point ready.
-                subst (λ o. Makes (Gives z.program z.method z.locals z.avoided made point (class_type class))
+                subst (λ o. Makes (Gives z.program z.method z.locals z.fixed z.avoided made point (class_type class))
                 (values.arguments_from [] ls z.scope made >>= (λ given. values.calling op.NewObject (constructor_at z.scope.site (values.class_number o)) None (values.class_number o) span given)))
                     (sym (said.0 named)) (new_yields class there (set.members.constructors class there) said.1 made point ready);
           }

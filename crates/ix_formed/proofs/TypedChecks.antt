@@ -51,24 +51,24 @@ some_is x y e = cc
 
 -- ---- a block, and what is decided behind it
 
-module _ (p : Program) (method : Method) (locals : List Type_) where
+module _ (p : Program) (method : Method) (locals : List Type_) (fixed : Type 0) where
   -- what was made in a block of its own
-  pub block_leads : (free : ℕ) (point : Point) (made : Made) (behind : Point) → Steps p method locals (empty free) point made behind → made.free ≤ method.slots
+  pub block_leads : (free : ℕ) (point : Point) (made : Made) (behind : Point) → Steps p method locals fixed (empty free) point made behind → fixed → made.free ≤ method.slots
       → code_ways p method locals false (block_code (block made)) point ≡ record { fits = true; ends = behind; breaks = None; turns = None }
-  block_leads free point made behind steps le =
+  block_leads free point made behind steps now le =
       ap (λ items. code_ways p method locals false (items_code items) point) steps.appended
       ∙ ap (λ code. code_ways p method locals false code point) (items_before steps.items)
-      ∙ steps.leads le false End
+      ∙ steps.leads now le false End
 
-  pub block_straight : (free : ℕ) (point : Point) (made : Made) (behind : Point) → Steps p method locals (empty free) point made behind → IsPlain made.items
+  pub block_straight : (free : ℕ) (point : Point) (made : Made) (behind : Point) → Steps p method locals fixed (empty free) point made behind → IsPlain made.items
   block_straight free point made behind steps = subst IsPlain (sym steps.appended) steps.plain
 
-module _ (p : Program) (method : Method) (locals : List Type_) (avoided : List ℕ) where
+module _ (p : Program) (method : Method) (locals : List Type_) (fixed : Type 0) (avoided : List ℕ) where
   -- a boolean that was computed
-  pub truth_tests : (free : ℕ) (point : Point) (v : Value) → Gives p method locals avoided (empty free) point bool_type v
-      → Makes (Tests p method locals free point) (truth_of v)
+  pub truth_tests : (free : ℕ) (point : Point) (v : Value) → Gives p method locals fixed avoided (empty free) point bool_type v
+      → Makes (Tests p method locals fixed free point) (truth_of v)
   truth_tests free point v g =
-      let plain = block_straight p method locals free point v.made g.behind g.steps in
+      let plain = block_straight p method locals fixed free point v.made g.behind g.steps in
       let is = cond_code-Truth (block v.made) v.slot in
       record {
         holds = g.behind;
@@ -78,10 +78,10 @@ module _ (p : Program) (method : Method) (locals : List Type_) (avoided : List �
           straight = ap is_straight_condition is ∙ plain_block v.made.items plain;
           supers = ap super_calls_in is ∙ plain_supers v.made.items plain;
         };
-        decides = λ le.
-            let leads = block_leads p method locals free point v.made g.behind g.steps le in
+        decides = λ now le.
+            let leads = block_leads p method locals fixed free point v.made g.behind g.steps now le in
             let straight = plain_block v.made.items plain in
-            let read : reads p method g.behind v.slot bool_type ≡ true = reads_held p method locals g.behind v.slot v.made.free bool_type g.low le (g.holds refl) in
+            let read : reads p method g.behind v.slot bool_type ≡ true = reads_held p method locals fixed g.behind v.slot v.made.free bool_type g.low le (g.holds refl) in
             record {
               fits = ap (λ c. (condition_ways p method locals c point).fits) is
                   ∙ ap (λ (w : Ways). is_straight (block_code (block v.made)) && (w.fits && reads p method w.ends v.slot bool_type)) leads
@@ -119,7 +119,7 @@ module _ (p : Program) (method : Method) (locals : List Type_) (avoided : List �
         ∙ ap (λ w. beside true w (code_ways p method locals in_loop (block_code (branch false)) fails) (λ at. code_ways p method locals in_loop rest at)) (constant_ways true in_loop holds low lt)
         ∙ ap (λ w. beside true (record { fits = true; ends = assigned asked.free bool_type holds; breaks = None; turns = None }) w (λ at. code_ways p method locals in_loop rest at)) (constant_ways false in_loop fails low lt)
 
-    pub truth_gives : Tests p method locals made.free point asked → param_slots method ≤ made.free → is_among asked.free avoided ≡ false → Makes (Gives p method locals avoided made point bool_type) (truth_value made.items span asked)
+    pub truth_gives : Tests p method locals fixed made.free point asked → param_slots method ≤ made.free → is_among asked.free avoided ≡ false → Makes (Gives p method locals fixed avoided made point bool_type) (truth_value made.items span asked)
     truth_gives t low apart = taken (nat_lt asked.free most_slots)
       where
         behind : Point
@@ -130,7 +130,7 @@ module _ (p : Program) (method : Method) (locals : List Type_) (avoided : List �
             (keeps_both made.free asked.free point t.holds (assigned asked.free bool_type t.holds) t.up t.keeps_holds (new_keeps asked.free bool_type t.holds))
             (keeps_both made.free asked.free point t.fails (assigned asked.free bool_type t.fails) t.up t.keeps_fails (new_keeps asked.free bool_type t.fails))
 
-        taken : (b : Bool) → Makes (Gives p method locals avoided made point bool_type)
+        taken : (b : Bool) → Makes (Gives p method locals fixed avoided made point bool_type)
             (if b then Ok (record { made = record { items = made.items ++ truth_item asked.cond asked.free span ∷ []; free = asked.free + 1 }; slot = asked.free }) else Err which.Slots)
         taken true = record {
           behind = meeting (assigned asked.free bool_type t.holds) (assigned asked.free bool_type t.fails);
@@ -139,9 +139,9 @@ module _ (p : Program) (method : Method) (locals : List Type_) (avoided : List �
             appended = refl;
             plain = plain_truth asked.cond asked.free span t.plain;
             up = let u = t.up in omega (arith, u);
-            leads = λ le.
+            leads = λ now le.
                 let u = t.up in
-                truth_leads t.holds t.fails (t.decides (omega (arith, le))) (omega (arith, low, u)) (omega (arith, le));
+                truth_leads t.holds t.fails (t.decides now (omega (arith, le))) (omega (arith, low, u)) (omega (arith, le));
             keeps = keeps;
           };
           low = omega arith;
@@ -238,11 +238,11 @@ module _ (z : Setting) (set : IsSet z) where
 
   -- a condition
   pub condition_fits : (l : Lowering) (r : Reading) → Fits z l r → Told z (check r z.names (of bool_type)).notes → (free : ℕ) (point : Point) → z.base ≤ free → Stands z point
-      → Makes (Tests z.program z.method z.locals free point) (l.condition z.scope free)
+      → Makes (Tests z.program z.method z.locals z.fixed free point) (l.condition z.scope free)
   condition_fits l r f said = let c = check_fits l r f bool_type refl said in by_null r.is_null refl c
     where
       by_null : (b : Bool) → r.is_null ≡ b → Checked bool_type l r → (free : ℕ) (point : Point) → z.base ≤ free → Stands z point
-          → Makes (Tests z.program z.method z.locals free point) (l.condition z.scope free)
+          → Makes (Tests z.program z.method z.locals z.fixed free point) (l.condition z.scope free)
       by_null true e c = absurd (false≢true (c.reference e))
       by_null false e c = let j = c.judged e in f.condition j.1 (j.0 ∙ ap (λ t. Some t) (of_bool z.program c.ty c.fits))
 
@@ -275,15 +275,15 @@ module _ (z : Setting) (set : IsSet z) where
       record { ty = s.ty; typed = s.typed; table = noted z j.ty s.ty span s.typed a.1; of_type = s.of_type; yields = s.yields }
 
   pub value_tests : (run : Scope → Made → Within Value) (ty : Type_) → Yields z ty run → ty ≡ bool_type → (free : ℕ) (point : Point) → z.base ≤ free → Stands z point
-      → Makes (Tests z.program z.method z.locals free point) (run z.scope (empty free) >>= truth_of)
+      → Makes (Tests z.program z.method z.locals z.fixed free point) (run z.scope (empty free) >>= truth_of)
   value_tests run ty yields is free point le stands =
       let bools : Yields z bool_type run = subst (λ t. Yields z t run) is yields in
-      makes_then (Gives z.program z.method z.locals z.avoided (empty free) point bool_type) (Tests z.program z.method z.locals free point) (run z.scope (empty free)) truth_of (bools (empty free) point (le, stands))
-      (λ v g. truth_tests z.program z.method z.locals z.avoided free point v g)
+      makes_then (Gives z.program z.method z.locals z.fixed z.avoided (empty free) point bool_type) (Tests z.program z.method z.locals z.fixed free point) (run z.scope (empty free)) truth_of (bools (empty free) point (le, stands))
+      (λ v g. truth_tests z.program z.method z.locals z.fixed z.avoided free point v g)
 
-  pub value_runs : (run : Scope → Made → Within Value) (ty : Type_) → Yields z ty run → (made : Made) (point : Point) → Ready z made point → Makes (Runs z.program z.method z.locals made point) (run z.scope made >>= without_value)
+  pub value_runs : (run : Scope → Made → Within Value) (ty : Type_) → Yields z ty run → (made : Made) (point : Point) → Ready z made point → Makes (Runs z.program z.method z.locals z.fixed made point) (run z.scope made >>= without_value)
   value_runs run ty yields made point ready =
-      makes_then (Gives z.program z.method z.locals z.avoided made point ty) (Runs z.program z.method z.locals made point) (run z.scope made) without_value (yields made point ready) (λ v g. record { behind = g.behind; steps = g.steps })
+      makes_then (Gives z.program z.method z.locals z.fixed z.avoided made point ty) (Runs z.program z.method z.locals z.fixed made point) (run z.scope made) without_value (yields made point ready) (λ v g. record { behind = g.behind; steps = g.steps })
 
   -- a value before a dot
   pub as_object_is : (l : Lowering) (span : Span) (j : Judged) → (Told z j.notes → Tabled z span j.ty → Speaks j.ty l.value) → Told z (as_object j span).notes → ReceiverIs z span l (as_object j span).object × ((ty : Type_) × Yields z ty l.value)
@@ -320,7 +320,7 @@ module _ (z : Setting) (set : IsSet z) where
   -- an expression that asks
   pub asks_fits : (span : Span) (k : KindReading) (condition : Scope → ℕ → Within Asked) → k.is_null ≡ false → k.is_this ≡ false → ((s : Names) (at : Span) → k.receiver s at ≡ as_object (k.judge s at) at)
       → (k.judge z.names span).ty ≡ Some bool_type
-      → (Told z (k.judge z.names span).notes → (free : ℕ) (point : Point) → z.base ≤ free → Stands z point → Makes (Tests z.program z.method z.locals free point) (condition z.scope free))
+      → (Told z (k.judge z.names span).notes → (free : ℕ) (point : Point) → z.base ≤ free → Stands z point → Makes (Tests z.program z.method z.locals z.fixed free point) (condition z.scope free))
       → Fits z (lowering_at (asks condition span) span) (reading_at k span)
   asks_fits span k condition no_null no_this receives is tests =
       let c = computes_fits span k (asked_value condition span) no_null no_this receives
@@ -329,9 +329,9 @@ module _ (z : Setting) (set : IsSet z) where
         typed = is;
         of_type = refl;
         yields = λ made point ready.
-            makes_then (Tests z.program z.method z.locals made.free point) (Gives z.program z.method z.locals z.avoided made point bool_type) (condition z.scope made.free) (truth_value made.items span)
+            makes_then (Tests z.program z.method z.locals z.fixed made.free point) (Gives z.program z.method z.locals z.fixed z.avoided made point bool_type) (condition z.scope made.free) (truth_value made.items span)
             (tests said made.free point ready.0 ready.1)
-            (λ asked t. truth_gives z.program z.method z.locals z.avoided made point asked span t (let a = set.params in let b = ready.0 in omega (arith, a, b)) (new_apart z set asked.free (let a = ready.0 in let b = t.up in omega (arith, a, b))));
+            (λ asked t. truth_gives z.program z.method z.locals z.fixed z.avoided made point asked span t (let a = set.params in let b = ready.0 in omega (arith, a, b)) (new_apart z set asked.free (let a = ready.0 in let b = t.up in omega (arith, a, b))));
       }) in
       record {
         same = refl;

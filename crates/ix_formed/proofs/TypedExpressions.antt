@@ -118,7 +118,7 @@ module _ (z : Setting) (set : IsSet z) where
           fails = point;
           up = omega arith;
           plain = record { straight = refl; supers = refl };
-          decides = λ le. record { fits = refl; true_at = refl; false_at = refl };
+          decides = λ now le. record { fits = refl; true_at = refl; false_at = refl };
           keeps_holds = keeps_none free point;
           keeps_fails = keeps_none free point;
         };
@@ -142,7 +142,7 @@ module _ (z : Setting) (set : IsSet z) where
     value = λ said. absurd said.0;
     null = λ yes_null ty reference real table made point ready.
         let same : type_at z.scope span ≡ ty = ap or_void table in
-        subst (λ t. Makes (Gives z.program z.method z.locals z.avoided made point ty) (computed made (op.Const made.free (literal.NullOf t)) span)) (sym same)
+        subst (λ t. Makes (Gives z.program z.method z.locals z.fixed z.avoided made point ty) (computed made (op.Const made.free (literal.NullOf t)) span)) (sym same)
             (constant_yields z set (literal.NullOf ty) span made point ready (Rattle.ix_formed.proofs.NumberLists.both_true (is_reference_type ty) (is_type z.program ty) reference real));
     condition = λ said. absurd said.0;
     receiver = λ said. absurd said.0;
@@ -172,7 +172,7 @@ module _ (z : Setting) (set : IsSet z) where
         ty = class_type z.names.class;
         typed = refl;
         of_type = set.class_there;
-        yields = λ made point ready. value_in_place z.program z.method z.locals z.avoided made point 0 (class_type z.names.class) (let a = set.static has in let b = ready.0 in omega (arith, a, b)) (this_apart z set has)
+        yields = λ made point ready. value_in_place z.program z.method z.locals z.fixed z.avoided made point 0 (class_type z.names.class) (let a = set.static has in let b = ready.0 in omega (arith, a, b)) (this_apart z set has)
             (λ real. this_held z set point has ready.1);
       }) in
       record { same = refl; value = c.value; null = c.null; condition = c.condition; receiver = c.receiver; unused = c.unused; this = λ e made. refl }

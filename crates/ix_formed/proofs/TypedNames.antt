@@ -35,7 +35,7 @@ use Rattle.ix_formed.specs.Typed.{Gives, Holds, Setting, Told, IsHere, IsSet, Is
 use Rattle.ix_formed.proofs.NumberLists.{both_true, is_itself}
 use Rattle.ix_formed.proofs.SameTypes.{real_result}
 use Rattle.ix_formed.proofs.TypedChecks.{parted, unbroken, kept, Tabled, Speaks}
-use Rattle.ix_formed.proofs.TypedSteps.{target_is, differs, op_given, value_in_place, reads_held, holds_up, holds_known}
+use Rattle.ix_formed.proofs.TypedSteps.{target_is, differs, op_given, op_given_when, value_in_place, reads_held, holds_up, holds_known}
 
 -- a number that is less than the length of a list
 pub there_is : (number count : ℕ) → number < count → nat_lt number count ≡ true
@@ -49,7 +49,7 @@ module _ (z : Setting) (set : IsSet z) where
   -- ---- literals
 
   pub constant_yields : (value : Literal) (span : Span) (made : Made) (point : Point) → Ready z made point → literal_fits z.program z.method value ≡ true
-      → Makes (Gives z.program z.method z.locals z.avoided made point (literal_type value)) (computed made (op.Const made.free value) span)
+      → Makes (Gives z.program z.method z.locals z.fixed z.avoided made point (literal_type value)) (computed made (op.Const made.free value) span)
   constant_yields value span made point ready fits =
       op_given z set made point ready (record { kind = op.Const made.free value; span = span; parts = [] }) (literal_type value) refl refl
       (λ lt. both_true (literal_fits z.program z.method value) (is_target z.program z.method made.free && true) fits (both_true (is_target z.program z.method made.free) true (new_target made point ready lt) refl))
@@ -67,27 +67,27 @@ module _ (z : Setting) (set : IsSet z) where
       not_zero slot le = grind (arith, nat_tests)
 
   pub copied : (span : Span) → z.here span → (slot : ℕ) (t ty : Type_) → t ≡ ty → IsSlotOf z slot ty → is_type z.program ty ≡ true → (made : Made) (point : Point) → Ready z made point → Known point slot ty
-      → Makes (Gives z.program z.method z.locals z.avoided made point ty) (computed made (op.Copy made.free slot t) span)
+      → Makes (Gives z.program z.method z.locals z.fixed z.avoided made point ty) (computed made (op.Copy made.free slot t) span)
   copied span here slot t ty same is real made point ready known =
-      let none : variable_type z.program z.method z.locals made.free span ≡ None = set.temporaries made.free ready.0 span here in
+      let none : z.fixed → variable_type z.program z.method z.locals made.free span ≡ None = λ now. set.temporaries now made.free ready.0 span here in
       let low : slot < made.free = (let a = is.low in let b = ready.0 in omega (arith, a, b)) in
-      op_given z set made point ready (record { kind = op.Copy made.free slot t; span = span; parts = [] }) ty refl
-      (ap (λ o. assigned made.free (unwrap_or o t) point) none ∙ ap (λ t. assigned made.free t point) same)
-      (λ lt.
+      op_given_when z set made point ready (record { kind = op.Copy made.free slot t; span = span; parts = [] }) ty refl
+      (λ now. ap (λ o. assigned made.free (unwrap_or o t) point) (none now) ∙ ap (λ t. assigned made.free t point) same)
+      (λ now lt.
       let read : reads z.program z.method point slot t ≡ true = ap (reads z.program z.method point slot) same
-      ∙ reads_held z.program z.method z.locals point slot made.free ty low (omega (arith, lt)) (holds_known z set point slot ty real known) in
+      ∙ reads_held z.program z.method z.locals z.fixed point slot made.free ty low (omega (arith, lt)) (holds_known z set point slot ty real known) in
       let copy : copy_fits z.program z.method z.locals (variable_type z.program z.method z.locals made.free span) made.free slot t [] ≡ true =
-      ap (λ o. copy_fits z.program z.method z.locals o made.free slot t []) none
+      ap (λ o. copy_fits z.program z.method z.locals o made.free slot t []) (none now)
       ∙ both_true (is_target z.program z.method made.free) (not (z.method.constructor && (slot == 0))) (new_target made point ready lt) (no_this z.method.constructor slot _ is.first set.with_this) in
       both_true (reads z.program z.method point slot t) _ read (both_true (not (made.free == slot)) _ (differs made.free slot low) copy))
 
   pub variable_yields : (span : Span) → z.here span → (slot : ℕ) (ty : Type_) → IsSlotOf z slot ty → is_among slot z.scope.assigned ≡ is_among slot z.avoided → is_type z.program ty ≡ true → z.scope.site.names.type_of span ≡ Some ty → (made : Made) (point : Point) → Ready z made point
-      → Known point slot ty → Makes (Gives z.program z.method z.locals z.avoided made point ty) (values.variable z.scope span slot made)
+      → Known point slot ty → Makes (Gives z.program z.method z.locals z.fixed z.avoided made point ty) (values.variable z.scope span slot made)
   variable_yields span here slot ty is stays real table made point ready known = in_place_or_not (is_among slot z.scope.assigned) refl
     where
-      in_place_or_not : (b : Bool) → is_among slot z.scope.assigned ≡ b → Makes (Gives z.program z.method z.locals z.avoided made point ty) (if b then computed made (op.Copy made.free slot (type_at z.scope span)) span else in_place made slot)
+      in_place_or_not : (b : Bool) → is_among slot z.scope.assigned ≡ b → Makes (Gives z.program z.method z.locals z.fixed z.avoided made point ty) (if b then computed made (op.Copy made.free slot (type_at z.scope span)) span else in_place made slot)
       in_place_or_not true e = copied span here slot (type_at z.scope span) ty (ap or_void table) is real made point ready known
-      in_place_or_not false e = value_in_place z.program z.method z.locals z.avoided made point slot ty (let a = is.low in let b = ready.0 in omega (arith, a, b)) (sym stays ∙ e) (λ again. holds_known z set point slot ty real known)
+      in_place_or_not false e = value_in_place z.program z.method z.locals z.fixed z.avoided made point slot ty (let a = is.low in let b = ready.0 in omega (arith, a, b)) (sym stays ∙ e) (λ again. holds_known z set point slot ty real known)
 
   -- a variable that a name means
   meant_in : (P : Variable → Type 0) (text : List ℕ) (vs : List Variable) → AllOf P vs → (k : Variable) → meant text vs ≡ Some k → P k
@@ -109,11 +109,11 @@ module _ (z : Setting) (set : IsSet z) where
   -- a field of an object
   pub field_yields : (span : Span) (field object : ℕ) (made : Made) (point : Point) → Ready z made point → field < length z.program.fields → object < made.free
       → Holds z.program point object (class_type (field_at z.program field).class)
-      → Makes (Gives z.program z.method z.locals z.avoided made point (field_at z.program field).ty) (computed made (op.ReadField made.free object field) span)
+      → Makes (Gives z.program z.method z.locals z.fixed z.avoided made point (field_at z.program field).ty) (computed made (op.ReadField made.free object field) span)
   field_yields span field object made point ready there low held =
       op_given z set made point ready (record { kind = op.ReadField made.free object field; span = span; parts = [] }) (field_at z.program field).ty refl refl
       (λ lt.
-      let read = reads_held z.program z.method z.locals point object made.free (class_type (field_at z.program field).class) low (omega (arith, lt)) held in
+      let read = reads_held z.program z.method z.locals z.fixed point object made.free (class_type (field_at z.program field).class) low (omega (arith, lt)) held in
       let fit : field_fits z.program z.method point object field ≡ true = both_true (is_there z.program.fields field) _ (there_is field (length z.program.fields) there) read in
       both_true (field_fits z.program z.method point object field) _ fit (both_true (is_target z.program z.method made.free) _ (new_target made point ready lt) (both_true (not (made.free == object)) true (differs made.free object low) refl)))
 
@@ -205,7 +205,7 @@ module _ (z : Setting) (set : IsSet z) where
             ty = is.ty;
             typed = is.typed;
             of_type = real_result z.program is.ty is.real;
-            yields = λ made point ready. subst (Makes (Gives z.program z.method z.locals z.avoided made point is.ty)) (named_variable k.meaning is.kind span made)
+            yields = λ made point ready. subst (Makes (Gives z.program z.method z.locals z.fixed z.avoided made point is.ty)) (named_variable k.meaning is.kind span made)
                 (variable_yields span here (slot_of z.scope (Some k.meaning)) is.ty is.slot is.stays is.real (table is.ty is.typed) made point ready (variable_known ident.text k e point ready.1 is.ty is.typed));
           };
         }

@@ -58,41 +58,41 @@ module _ (z : Setting) (set : IsSet z) where
   -- ---- arithmetic
 
   pub num_yields : (arith_op : Arith) (span : Span) (made : Made) (point : Point) (left right : ℕ) → Ready z made point → left < made.free → right < made.free → Holds z.program point left int_type → Holds z.program point right int_type
-      → Makes (Gives z.program z.method z.locals z.avoided made point int_type) (computed made (op.Num made.free arith_op left right) span)
+      → Makes (Gives z.program z.method z.locals z.fixed z.avoided made point int_type) (computed made (op.Num made.free arith_op left right) span)
   num_yields arith_op span made point left right ready low_left low_right known_left known_right =
       op_given z set made point ready (record { kind = op.Num made.free arith_op left right; span = span; parts = [] }) int_type refl refl
       (λ lt.
-      let first = reads_held z.program z.method z.locals point left made.free int_type low_left (omega (arith, lt)) known_left in
-      let second = reads_held z.program z.method z.locals point right made.free int_type low_right (omega (arith, lt)) known_right in
+      let first = reads_held z.program z.method z.locals z.fixed point left made.free int_type low_left (omega (arith, lt)) known_left in
+      let second = reads_held z.program z.method z.locals z.fixed point right made.free int_type low_right (omega (arith, lt)) known_right in
       both_true (reads z.program z.method point left int_type) _ first (both_true (reads z.program z.method point right int_type) _ second
       (both_true (is_target z.program z.method made.free) _ (new_target z set made point ready lt)
       (both_true (not (made.free == left)) _ (differs made.free left low_left) (both_true (not (made.free == right)) true (differs made.free right low_right) refl)))))
 
   arithmetic_yields : (arith_op : Arith) (left right : Lowering) (span : Span) → Yields z int_type left.value → Yields z int_type right.value → Yields z int_type (values.arithmetic arith_op left right span).value
   arithmetic_yields arith_op left right span a b made point ready =
-      then_value z.program z.method z.locals z.avoided made point int_type int_type (left.value z.scope made) _ (a made point ready)
-      (λ y g. then_value z.program z.method z.locals z.avoided y.made g.behind int_type int_type (right.value z.scope y.made) _ (b y.made g.behind (ready_on z set made point y.made g.behind ready g.steps))
+      then_value z.program z.method z.locals z.fixed z.avoided made point int_type int_type (left.value z.scope made) _ (a made point ready)
+      (λ y g. then_value z.program z.method z.locals z.fixed z.avoided y.made g.behind int_type int_type (right.value z.scope y.made) _ (b y.made g.behind (ready_on z set made point y.made g.behind ready g.steps))
       (λ v h. num_yields arith_op span v.made h.behind y.slot v.slot (ready_on z set y.made g.behind v.made h.behind (ready_on z set made point y.made g.behind ready g.steps) h.steps)
       (let low = g.low in let up = h.steps.up in omega (arith, low, up)) h.low (holds_on z.program y.made.free g.behind h.behind y.slot int_type g.low h.steps.keeps (g.holds refl)) (h.holds refl)))
 
   with_one_yields : (operator : UnaryNum) (operand : Lowering) (span : Span) → Yields z int_type operand.value → Yields z int_type (values.with_one operator operand span).value
   with_one_yields operator operand span a made point ready =
-      then_value z.program z.method z.locals z.avoided made point int_type int_type (operand.value z.scope made) _ (a made point ready)
+      then_value z.program z.method z.locals z.fixed z.avoided made point int_type int_type (operand.value z.scope made) _ (a made point ready)
       (λ y g. op_given z set y.made g.behind (ready_on z set made point y.made g.behind ready g.steps) (record { kind = op.Unary y.made.free operator y.slot; span = span; parts = [] }) int_type refl refl
       (λ lt.
-      let read = reads_held z.program z.method z.locals g.behind y.slot y.made.free int_type g.low (omega (arith, lt)) (g.holds refl) in
+      let read = reads_held z.program z.method z.locals z.fixed g.behind y.slot y.made.free int_type g.low (omega (arith, lt)) (g.holds refl) in
       both_true (reads z.program z.method g.behind y.slot int_type) _ read
       (both_true (is_target z.program z.method y.made.free) _ (new_target z set y.made g.behind (ready_on z set made point y.made g.behind ready g.steps) lt) (both_true (not (y.made.free == y.slot)) true (differs y.made.free y.slot g.low) refl))))
 
   -- ---- conditions
 
   both_tests : (left right : Lowering) (free : ℕ) (point : Point) → z.base ≤ free → Stands z point
-      → ((free : ℕ) (point : Point) → z.base ≤ free → Stands z point → Makes (Tests z.program z.method z.locals free point) (left.condition z.scope free))
-      → ((free : ℕ) (point : Point) → z.base ≤ free → Stands z point → Makes (Tests z.program z.method z.locals free point) (right.condition z.scope free))
-      → Makes (Tests z.program z.method z.locals free point) (values.both left right z.scope free)
+      → ((free : ℕ) (point : Point) → z.base ≤ free → Stands z point → Makes (Tests z.program z.method z.locals z.fixed free point) (left.condition z.scope free))
+      → ((free : ℕ) (point : Point) → z.base ≤ free → Stands z point → Makes (Tests z.program z.method z.locals z.fixed free point) (right.condition z.scope free))
+      → Makes (Tests z.program z.method z.locals z.fixed free point) (values.both left right z.scope free)
   both_tests left right free point le stands a b =
-      makes_then (Tests z.program z.method z.locals free point) (Tests z.program z.method z.locals free point) (left.condition z.scope free) _ (a free point le stands)
-      (λ c s. makes_then (Tests z.program z.method z.locals c.free s.holds) (Tests z.program z.method z.locals free point) (right.condition z.scope c.free) _
+      makes_then (Tests z.program z.method z.locals z.fixed free point) (Tests z.program z.method z.locals z.fixed free point) (left.condition z.scope free) _ (a free point le stands)
+      (λ c s. makes_then (Tests z.program z.method z.locals z.fixed c.free s.holds) (Tests z.program z.method z.locals z.fixed free point) (right.condition z.scope c.free) _
       (b c.free s.holds (let up = s.up in omega (arith, le, up)) (stands_on z set free point s.holds le s.keeps_holds stands))
       (λ d t.
       let is = cond_code-Both c.cond d.cond in
@@ -104,9 +104,9 @@ module _ (z : Setting) (set : IsSet z) where
           straight = ap is_straight_condition is ∙ both_true (is_straight_condition (cond_code c.cond)) _ s.plain.straight t.plain.straight;
           supers = ap super_calls_in is ∙ (let x = s.plain.supers in let y = t.plain.supers in omega (arith, x, y));
         };
-        decides = λ le.
-            let first = s.decides (let more = t.up in omega (arith, more, le)) in
-            let second = t.decides le in
+        decides = λ now le.
+            let first = s.decides now (let more = t.up in omega (arith, more, le)) in
+            let second = t.decides now le in
             let w = condition_ways z.program z.method z.locals in
             record {
               fits = ap (λ k. (w k point).fits) is ∙ both_true (w (cond_code c.cond) point).fits _ first.fits (ap (λ q. (w (cond_code d.cond) q).fits) first.true_at ∙ second.fits);
@@ -119,12 +119,12 @@ module _ (z : Setting) (set : IsSet z) where
       }))
 
   either_tests : (left right : Lowering) (free : ℕ) (point : Point) → z.base ≤ free → Stands z point
-      → ((free : ℕ) (point : Point) → z.base ≤ free → Stands z point → Makes (Tests z.program z.method z.locals free point) (left.condition z.scope free))
-      → ((free : ℕ) (point : Point) → z.base ≤ free → Stands z point → Makes (Tests z.program z.method z.locals free point) (right.condition z.scope free))
-      → Makes (Tests z.program z.method z.locals free point) (values.either left right z.scope free)
+      → ((free : ℕ) (point : Point) → z.base ≤ free → Stands z point → Makes (Tests z.program z.method z.locals z.fixed free point) (left.condition z.scope free))
+      → ((free : ℕ) (point : Point) → z.base ≤ free → Stands z point → Makes (Tests z.program z.method z.locals z.fixed free point) (right.condition z.scope free))
+      → Makes (Tests z.program z.method z.locals z.fixed free point) (values.either left right z.scope free)
   either_tests left right free point le stands a b =
-      makes_then (Tests z.program z.method z.locals free point) (Tests z.program z.method z.locals free point) (left.condition z.scope free) _ (a free point le stands)
-      (λ c s. makes_then (Tests z.program z.method z.locals c.free s.fails) (Tests z.program z.method z.locals free point) (right.condition z.scope c.free) _
+      makes_then (Tests z.program z.method z.locals z.fixed free point) (Tests z.program z.method z.locals z.fixed free point) (left.condition z.scope free) _ (a free point le stands)
+      (λ c s. makes_then (Tests z.program z.method z.locals z.fixed c.free s.fails) (Tests z.program z.method z.locals z.fixed free point) (right.condition z.scope c.free) _
       (b c.free s.fails (let up = s.up in omega (arith, le, up)) (stands_on z set free point s.fails le s.keeps_fails stands))
       (λ d t.
       let is = cond_code-Either c.cond d.cond in
@@ -136,9 +136,9 @@ module _ (z : Setting) (set : IsSet z) where
           straight = ap is_straight_condition is ∙ both_true (is_straight_condition (cond_code c.cond)) _ s.plain.straight t.plain.straight;
           supers = ap super_calls_in is ∙ (let x = s.plain.supers in let y = t.plain.supers in omega (arith, x, y));
         };
-        decides = λ le.
-            let first = s.decides (let more = t.up in omega (arith, more, le)) in
-            let second = t.decides le in
+        decides = λ now le.
+            let first = s.decides now (let more = t.up in omega (arith, more, le)) in
+            let second = t.decides now le in
             let w = condition_ways z.program z.method z.locals in
             record {
               fits = ap (λ k. (w k point).fits) is ∙ both_true (w (cond_code c.cond) point).fits _ first.fits (ap (λ q. (w (cond_code d.cond) q).fits) first.false_at ∙ second.fits);
@@ -151,10 +151,10 @@ module _ (z : Setting) (set : IsSet z) where
       }))
 
   opposite_tests : (operand : Lowering) (free : ℕ) (point : Point) → z.base ≤ free → Stands z point
-      → ((free : ℕ) (point : Point) → z.base ≤ free → Stands z point → Makes (Tests z.program z.method z.locals free point) (operand.condition z.scope free))
-      → Makes (Tests z.program z.method z.locals free point) (values.opposite operand z.scope free)
+      → ((free : ℕ) (point : Point) → z.base ≤ free → Stands z point → Makes (Tests z.program z.method z.locals z.fixed free point) (operand.condition z.scope free))
+      → Makes (Tests z.program z.method z.locals z.fixed free point) (values.opposite operand z.scope free)
   opposite_tests operand free point le stands a =
-      makes_then (Tests z.program z.method z.locals free point) (Tests z.program z.method z.locals free point) (operand.condition z.scope free) _ (a free point le stands)
+      makes_then (Tests z.program z.method z.locals z.fixed free point) (Tests z.program z.method z.locals z.fixed free point) (operand.condition z.scope free) _ (a free point le stands)
       (λ c s.
       let is = cond_code-Opposite c.cond in
       record {
@@ -162,8 +162,8 @@ module _ (z : Setting) (set : IsSet z) where
         fails = s.holds;
         up = s.up;
         plain = record { straight = ap is_straight_condition is ∙ s.plain.straight; supers = ap super_calls_in is ∙ s.plain.supers };
-        decides = λ le.
-            let first = s.decides le in
+        decides = λ now le.
+            let first = s.decides now le in
             let w = condition_ways z.program z.method z.locals in
             record { fits = ap (λ k. (w k point).fits) is ∙ first.fits; true_at = ap (λ k. (w k point).holds) is ∙ first.false_at; false_at = ap (λ k. (w k point).fails) is ∙ first.true_at };
         keeps_holds = s.keeps_fails;
@@ -178,24 +178,24 @@ module _ (z : Setting) (set : IsSet z) where
 
   compared_tests : (r : Rel) (left right : Lowering) (one other : Type_) → Yields z one left.value → Yields z other right.value → is_type z.program one ≡ true → is_type z.program other ≡ true
       → z.scope.site.names.type_of left.span ≡ Some one → MayStand one one → MayStand other one → (free : ℕ) (point : Point) → z.base ≤ free → Stands z point
-      → Makes (Tests z.program z.method z.locals free point) (values.compared r left right z.scope free)
+      → Makes (Tests z.program z.method z.locals z.fixed free point) (values.compared r left right z.scope free)
   compared_tests r left right one other a b real_one real_other table stand_one stand_other free point le stands =
-      makes_then (Gives z.program z.method z.locals z.avoided (empty free) point one) (Tests z.program z.method z.locals free point) (left.value z.scope (empty free)) _ (a (empty free) point (le, stands))
-      (λ y g. makes_then (Gives z.program z.method z.locals z.avoided y.made g.behind other) (Tests z.program z.method z.locals free point) (right.value z.scope y.made) _
+      makes_then (Gives z.program z.method z.locals z.fixed z.avoided (empty free) point one) (Tests z.program z.method z.locals z.fixed free point) (left.value z.scope (empty free)) _ (a (empty free) point (le, stands))
+      (λ y g. makes_then (Gives z.program z.method z.locals z.fixed z.avoided y.made g.behind other) (Tests z.program z.method z.locals z.fixed free point) (right.value z.scope y.made) _
       (b y.made g.behind (ready_on z set (empty free) point y.made g.behind (le, stands) g.steps))
       (λ v h.
-      let steps = steps_both z.program z.method z.locals (empty free) point y.made g.behind v.made h.behind g.steps h.steps in
+      let steps = steps_both z.program z.method z.locals z.fixed (empty free) point y.made g.behind v.made h.behind g.steps h.steps in
       let test : Test = record { rel = r; left = y.slot; right = v.slot; ty = type_at z.scope left.span; left_span = left.span; right_span = right.span } in
       let is = cond_code-Compare (block v.made) test in
-      let plain = block_straight z.program z.method z.locals free point v.made h.behind steps in
+      let plain = block_straight z.program z.method z.locals z.fixed free point v.made h.behind steps in
       let same : type_at z.scope left.span ≡ one = ap or_void table in
       record {
         holds = h.behind;
         fails = h.behind;
         up = steps.up;
         plain = record { straight = ap is_straight_condition is ∙ plain_block v.made.items plain; supers = ap super_calls_in is ∙ plain_supers v.made.items plain };
-        decides = λ le.
-            let leads = block_leads z.program z.method z.locals free point v.made h.behind steps le in
+        decides = λ now le.
+            let leads = block_leads z.program z.method z.locals z.fixed free point v.made h.behind steps now le in
             let straight = plain_block v.made.items plain in
             let low_left : y.slot < z.method.slots = (let x = g.low in let u = h.steps.up in omega (arith, x, u, le)) in
             let low_right : v.slot < z.method.slots = (let x = h.low in omega (arith, x, le)) in
@@ -263,7 +263,7 @@ module _ (z : Setting) (set : IsSet z) where
 
   -- two ints
   ordered_tests : (r : Rel) (l m : Lowering) (a b : Reading) → Fits z l a → Fits z m b → Told z (check a z.names (of int_type)).notes → Told z (check b z.names (of int_type)).notes → (free : ℕ) (point : Point) → z.base ≤ free
-      → Stands z point → Makes (Tests z.program z.method z.locals free point) (values.compared r l m z.scope free)
+      → Stands z point → Makes (Tests z.program z.method z.locals z.fixed free point) (values.compared r l m z.scope free)
   ordered_tests r l m a b f g one other =
       let c = check_fits z set l a f int_type refl one in
       let ints : z.scope.site.names.type_of l.span ≡ Some int_type = ap z.scope.site.names.type_of f.same ∙ c.table ∙ ap (λ t. Some t) (of_int z.program c.ty c.fits) in
@@ -272,7 +272,7 @@ module _ (z : Setting) (set : IsSet z) where
   -- two values of which each may be the other
   module _ (r : Rel) (l m : Lowering) (a b : Reading) (f : Fits z l a) (g : Fits z m b) (span : Span) where
     abbrev Equal : Type 0
-    Equal = (free : ℕ) (point : Point) → z.base ≤ free → Stands z point → Makes (Tests z.program z.method z.locals free point) (values.compared r l m z.scope free)
+    Equal = (free : ℕ) (point : Point) → z.base ≤ free → Stands z point → Makes (Tests z.program z.method z.locals z.fixed free point) (values.compared r l m z.scope free)
 
     -- a `null` beside a reference
     null_is : (n : Lowering) (c : Reading) → Fits z n c → c.is_null ≡ true → (ty : Type_) → IsResult z.program ty → Told z (null_at (of ty) c.span).notes
@@ -366,7 +366,7 @@ module _ (z : Setting) (set : IsSet z) where
       typed false = refl
 
       tests : (e : Bool) → Told z (if e then reading.equality a b z.names span else reading.both a b z.names (of int_type) types.boolean).notes → (free : ℕ) (point : Point) → z.base ≤ free → Stands z point
-          → Makes (Tests z.program z.method z.locals free point) (values.compared r l m z.scope free)
+          → Makes (Tests z.program z.method z.locals z.fixed free point) (values.compared r l m z.scope free)
       tests true said = equal_tests r l m a b f g span said
       tests false said = let q = parted z (check a z.names (of int_type)).notes (check b z.names (of int_type)).notes said in ordered_tests r l m a b f g q.0 q.1
   binary_fits binary.AndAlso l m a b span f g = asks_fits z set span (valued (λ s p. reading.binary binary.AndAlso a b s p)) (values.both l m) refl refl (λ s at. refl) refl

@@ -52,7 +52,7 @@ module _ (z : Setting) (set : IsSet z) where
       ty = n.speaks.ty;
       typed = n.speaks.typed;
       of_type = n.speaks.of_type;
-      yields = λ made point ready. subst (λ o. Makes (Gives z.program z.method z.locals z.avoided made point n.speaks.ty) (values.named z.scope span o made)) (sym n.table) (n.speaks.yields made point ready);
+      yields = λ made point ready. subst (λ o. Makes (Gives z.program z.method z.locals z.fixed z.avoided made point n.speaks.ty) (values.named z.scope span o made)) (sym n.table) (n.speaks.yields made point ready);
     }
 
     -- a name that isn't that of a class
@@ -73,36 +73,36 @@ module _ (z : Setting) (set : IsSet z) where
     unused_value (Some meaning.LengthOf) m e is made = refl
     unused_value (Some (meaning.ClassNamed k)) m e is made = let same : m ≡ meaning.ClassNamed k = cc in absurd (false≢true (ap (is_value z set) (sym same) ∙ is))
 
-    class_unused : (o : Option Meaning) (class : ℕ) → o ≡ Some (meaning.ClassNamed class) → (made : Made) (point : Point) → Makes (Runs z.program z.method z.locals made point) (values.named_unused z.scope span o made)
+    class_unused : (o : Option Meaning) (class : ℕ) → o ≡ Some (meaning.ClassNamed class) → (made : Made) (point : Point) → Makes (Runs z.program z.method z.locals z.fixed made point) (values.named_unused z.scope span o made)
     class_unused o class e made point =
-        subst (λ o. Makes (Runs z.program z.method z.locals made point) (values.named_unused z.scope span o made)) (sym e) (record { behind = point; steps = steps_none z.program z.method z.locals made point })
+        subst (λ o. Makes (Runs z.program z.method z.locals z.fixed made point) (values.named_unused z.scope span o made)) (sym e) (record { behind = point; steps = steps_none z.program z.method z.locals z.fixed made point })
 
     abbrev name_reading : KindReading
     name_reading = record { is_null = false; is_this = false; judge = λ s p. reading.variable s false ident; assigned = λ s p. reading.variable s true ident; receiver = λ s p. reading.name_before_dot s ident p }
 
     variable_unused : Told z (as_object (reading.variable z.names false ident) span).notes → (made : Made) (point : Point) → Ready z made point
-        → Makes (Runs z.program z.method z.locals made point) (values.named_unused z.scope span (meaning_at z.scope ident.span) made)
+        → Makes (Runs z.program z.method z.locals z.fixed made point) (values.named_unused z.scope span (meaning_at z.scope ident.span) made)
     variable_unused said made point ready =
         let j = reading.variable z.names false ident in
         let a = parted z j.notes (object_notes j.ty span) said in
         let b = parted z (type_note j.ty span) (no_reference j.ty span) a.1 in
         let n = name_speaks z set ident span here named a.0 (tabled z span j.ty b.0) in
-        subst (Makes (Runs z.program z.method z.locals made point)) (unused_value (meaning_at z.scope ident.span) n.means n.table n.is_value made) (variable_fits.unused said made point ready)
+        subst (Makes (Runs z.program z.method z.locals z.fixed made point)) (unused_value (meaning_at z.scope ident.span) n.means n.table n.is_value made) (variable_fits.unused said made point ready)
 
     class_or_is : (o : Option ℕ) → z.names.world.class ident.text ≡ o → Told z (reading.class_or z.names ident span o).notes
         → ReceiverIs z span (lowering_at z set (values.name ident span) span) (reading.class_or z.names ident span o).object
-        × ((made : Made) (point : Point) → Ready z made point → Makes (Runs z.program z.method z.locals made point) (values.named_unused z.scope span (meaning_at z.scope ident.span) made))
+        × ((made : Made) (point : Point) → Ready z made point → Makes (Runs z.program z.method z.locals z.fixed made point) (values.named_unused z.scope span (meaning_at z.scope ident.span) made))
     class_or_is (Some class) e said = (set.members.classes ident.text class e, (λ made point ready. class_unused (meaning_at z.scope ident.span) class (said.0 named) made point))
     class_or_is None e said = (variable_fits.receiver said, variable_unused said)
 
     before_dot_is : Told z (reading.name_before_dot z.names ident span).notes
         → ReceiverIs z span (lowering_at z set (values.name ident span) span) (reading.name_before_dot z.names ident span).object
-        × ((made : Made) (point : Point) → Ready z made point → Makes (Runs z.program z.method z.locals made point) (values.named_unused z.scope span (meaning_at z.scope ident.span) made))
+        × ((made : Made) (point : Point) → Ready z made point → Makes (Runs z.program z.method z.locals z.fixed made point) (values.named_unused z.scope span (meaning_at z.scope ident.span) made))
     before_dot_is = by_variable (reading.is_variable z.names ident.text)
       where
         by_variable : (b : Bool) → Told z (if b then as_object (reading.variable z.names false ident) span else reading.class_or z.names ident span (z.names.world.class ident.text)).notes
             → ReceiverIs z span (lowering_at z set (values.name ident span) span) (if b then as_object (reading.variable z.names false ident) span else reading.class_or z.names ident span (z.names.world.class ident.text)).object
-            × ((made : Made) (point : Point) → Ready z made point → Makes (Runs z.program z.method z.locals made point) (values.named_unused z.scope span (meaning_at z.scope ident.span) made))
+            × ((made : Made) (point : Point) → Ready z made point → Makes (Runs z.program z.method z.locals z.fixed made point) (values.named_unused z.scope span (meaning_at z.scope ident.span) made))
         by_variable true said = (variable_fits.receiver said, variable_unused said)
         by_variable false said = class_or_is (z.names.world.class ident.text) refl said
 
@@ -129,7 +129,7 @@ module _ (z : Setting) (set : IsSet z) where
           real = n.real;
           aims = λ made point ready. record {
             behind = point;
-            steps = steps_none z.program z.method z.locals made point;
+            steps = steps_none z.program z.method z.locals z.fixed made point;
             spot = subst (λ o. SpotIs z point made.free n.ty (values.named_spot z.scope o)) (sym n.table) (n.spot made point ready);
           };
         }
@@ -142,25 +142,25 @@ module _ (z : Setting) (set : IsSet z) where
 
     -- what is before the dot of a constant runs
     abbrev Unused : Type 0
-    Unused = (made : Made) (point : Point) → Ready z made point → Makes (Runs z.program z.method z.locals made point) (l.unused z.scope made)
+    Unused = (made : Made) (point : Point) → Ready z made point → Makes (Runs z.program z.method z.locals z.fixed made point) (l.unused z.scope made)
 
     constant_selected : (n : ℤ) → is_int n ≡ true → meaning_at z.scope ident.span ≡ Some (meaning.Constant n) → Unused → Yields z int_type run
     constant_selected n int means unused made point ready =
-        subst (λ o. Makes (Gives z.program z.method z.locals z.avoided made point int_type) (values.selected l span z.scope o made)) (sym means)
-        (makes_then (Runs z.program z.method z.locals made point) (Gives z.program z.method z.locals z.avoided made point int_type) (l.unused z.scope made) _ (unused made point ready)
-        (λ before q. value_after z.program z.method z.locals z.avoided made point before q.behind int_type (values.int_value n span before) q.steps (int_yields z set n span int before q.behind (ready_on z set made point before q.behind ready q.steps))))
+        subst (λ o. Makes (Gives z.program z.method z.locals z.fixed z.avoided made point int_type) (values.selected l span z.scope o made)) (sym means)
+        (makes_then (Runs z.program z.method z.locals z.fixed made point) (Gives z.program z.method z.locals z.fixed z.avoided made point int_type) (l.unused z.scope made) _ (unused made point ready)
+        (λ before q. value_after z.program z.method z.locals z.fixed z.avoided made point before q.behind int_type (values.int_value n span before) q.steps (int_yields z set n span int before q.behind (ready_on z set made point before q.behind ready q.steps))))
 
     field_selected : (k : ℕ) (ty : Type_) → meaning_at z.scope ident.span ≡ Some (meaning.FieldNamed k) → is_type z.program ty ≡ true → Yields z ty l.value → k < length z.program.fields
         → is_of z.program ty (class_type (field_at z.program k).class) ≡ true → Yields z (field_at z.program k).ty run
     field_selected k ty means real yields there below made point ready =
-        subst (λ o. Makes (Gives z.program z.method z.locals z.avoided made point (field_at z.program k).ty) (values.selected l span z.scope o made)) (sym means)
-        (then_value z.program z.method z.locals z.avoided made point ty (field_at z.program k).ty (l.value z.scope made) _ (yields made point ready)
+        subst (λ o. Makes (Gives z.program z.method z.locals z.fixed z.avoided made point (field_at z.program k).ty) (values.selected l span z.scope o made)) (sym means)
+        (then_value z.program z.method z.locals z.fixed z.avoided made point ty (field_at z.program k).ty (l.value z.scope made) _ (yields made point ready)
         (λ o g. field_yields z set span k o.slot o.made g.behind (ready_on z set made point o.made g.behind ready g.steps) there g.low (holds_up z set g.behind o.slot ty (class_type (field_at z.program k).class) (g.holds real) below)))
 
     length_selected : (of : Base) (depth : ℕ) (claims : List Claim) → meaning_at z.scope ident.span ≡ Some meaning.LengthOf → is_type z.program (type.Array of depth claims) ≡ true → Yields z (type.Array of depth claims) l.value → Yields z int_type run
     length_selected of depth claims means real yields made point ready =
-        subst (λ o. Makes (Gives z.program z.method z.locals z.avoided made point int_type) (values.selected l span z.scope o made)) (sym means)
-        (then_value z.program z.method z.locals z.avoided made point (type.Array of depth claims) int_type (l.value z.scope made) _ (yields made point ready)
+        subst (λ o. Makes (Gives z.program z.method z.locals z.fixed z.avoided made point int_type) (values.selected l span z.scope o made)) (sym means)
+        (then_value z.program z.method z.locals z.fixed z.avoided made point (type.Array of depth claims) int_type (l.value z.scope made) _ (yields made point ready)
         (λ o g. op_given z set o.made g.behind (ready_on z set made point o.made g.behind ready g.steps) (record { kind = op.Length o.made.free o.slot; span = span; parts = [] }) int_type refl refl
         (λ lt.
         let low : o.slot < z.method.slots = (let a = g.low in omega (arith, a, lt)) in
@@ -358,8 +358,8 @@ module _ (z : Setting) (set : IsSet z) where
           table = noted z j.ty ty span t.typed a.1;
           real = t.real;
           aims = λ made point ready.
-              makes_then (λ v. Gives z.program z.method z.locals z.avoided made point t.ty v × (r.is_this ≡ true → v.slot ≡ 0)) (Aims z made point ty) (l.value z.scope made) _
-              (makes_both (Gives z.program z.method z.locals z.avoided made point t.ty) (λ v. r.is_this ≡ true → v.slot ≡ 0) (l.value z.scope made) (t.yields made point ready) (of_this made))
+              makes_then (λ v. Gives z.program z.method z.locals z.fixed z.avoided made point t.ty v × (r.is_this ≡ true → v.slot ≡ 0)) (Aims z made point ty) (l.value z.scope made) _
+              (makes_both (Gives z.program z.method z.locals z.fixed z.avoided made point t.ty) (λ v. r.is_this ≡ true → v.slot ≡ 0) (l.value z.scope made) (t.yields made point ready) (of_this made))
               (λ o g. record {
                 behind = g.0.behind;
                 steps = g.0.steps;

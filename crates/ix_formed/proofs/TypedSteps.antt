@@ -42,39 +42,39 @@ differs free slot lt = ap not (is_other free slot lt)
     is_other : (free slot : ℕ) → slot < free → (free == slot) ≡ false
     is_other free slot lt = grind (arith, nat_tests)
 
-module _ (p : Program) (method : Method) (locals : List Type_) where
+module _ (p : Program) (method : Method) (locals : List Type_) (fixed : Type 0) where
   -- ---- steps
 
-  pub steps_none : (made : Made) (point : Point) → Steps p method locals made point made point
+  pub steps_none : (made : Made) (point : Point) → Steps p method locals fixed made point made point
   steps_none made point = record {
     items = [];
     appended = sym (append-nil made.items);
     plain = plain_none;
     up = omega arith;
-    leads = λ le. leads_none p method locals point;
+    leads = λ now le. leads_none p method locals point;
     keeps = keeps_none made.free point;
   }
 
   pub steps_both : (first : Made) (one : Point) (second : Made) (two : Point) (third : Made) (three : Point)
-      → Steps p method locals first one second two → Steps p method locals second two third three → Steps p method locals first one third three
+      → Steps p method locals fixed first one second two → Steps p method locals fixed second two third three → Steps p method locals fixed first one third three
   steps_both first one second two third three a b = record {
     items = a.items ++ b.items;
     appended = b.appended ∙ ap (λ items. items ++ b.items) a.appended ∙ append_assoc first.items a.items b.items;
     plain = plain_both a.items b.items a.plain b.plain;
     up = omega (arith, a.up, b.up);
-    leads = λ le. leads_both p method locals a.items b.items one two three (a.leads (let u = b.up in omega (arith, u, le))) (b.leads le);
+    leads = λ now le. leads_both p method locals a.items b.items one two three (a.leads now (let u = b.up in omega (arith, u, le))) (b.leads now le);
     keeps = keeps_both first.free second.free one two three a.up a.keeps b.keeps;
   }
 
   -- an operation without a target of its own
-  pub op_steps : (made : Made) (point behind : Point) (o : Op) → is_super_call o.kind ≡ false → op_types p method locals point o o.kind ≡ behind → Keeps made.free point behind
-      → (made.free ≤ method.slots → op_fits p method locals point o o.kind ≡ true) → Steps p method locals made point (with_item made (item.Do o)) behind
+  pub op_steps : (made : Made) (point behind : Point) (o : Op) → is_super_call o.kind ≡ false → (fixed → op_types p method locals point o o.kind ≡ behind) → Keeps made.free point behind
+      → (fixed → made.free ≤ method.slots → op_fits p method locals point o o.kind ≡ true) → Steps p method locals fixed made point (with_item made (item.Do o)) behind
   op_steps made point behind o not_super types keeps fits = record {
     items = item.Do o ∷ [];
     appended = refl;
     plain = plain_op o not_super;
     up = omega arith;
-    leads = λ le. subst (λ q. Leads p method locals (item.Do o ∷ []) point q) types (op_leads p method locals o point (fits le));
+    leads = λ now le. subst (λ q. Leads p method locals (item.Do o ∷ []) point q) (types now) (op_leads p method locals o point (fits now le));
     keeps = keeps;
   }
 
@@ -82,33 +82,33 @@ module _ (p : Program) (method : Method) (locals : List Type_) where
   pub reads_held : (point : Point) (slot free : ℕ) (ty : Type_) → slot < free → free ≤ method.slots → Holds p point slot ty → reads p method point slot ty ≡ true
   reads_held point slot free ty lt le h = reads_known p method locals point slot h.held ty (omega (arith, lt, le)) h.known h.fits
 
-module _ (p : Program) (method : Method) (locals : List Type_) (avoided : List ℕ) where
-  pub gives_after : (first : Made) (one : Point) (second : Made) (two : Point) (ty : Type_) (v : Value) → Steps p method locals first one second two → Gives p method locals avoided second two ty v → Gives p method locals avoided first one ty v
-  gives_after first one second two ty v a g = record { behind = g.behind; steps = steps_both p method locals first one second two v.made g.behind a g.steps; low = g.low; apart = g.apart; holds = g.holds }
+module _ (p : Program) (method : Method) (locals : List Type_) (fixed : Type 0) (avoided : List ℕ) where
+  pub gives_after : (first : Made) (one : Point) (second : Made) (two : Point) (ty : Type_) (v : Value) → Steps p method locals fixed first one second two → Gives p method locals fixed avoided second two ty v → Gives p method locals fixed avoided first one ty v
+  gives_after first one second two ty v a g = record { behind = g.behind; steps = steps_both p method locals fixed first one second two v.made g.behind a g.steps; low = g.low; apart = g.apart; holds = g.holds }
 
-  pub value_after : (first : Made) (one : Point) (second : Made) (two : Point) (ty : Type_) (r : Within Value) → Steps p method locals first one second two → Makes (Gives p method locals avoided second two ty) r
-      → Makes (Gives p method locals avoided first one ty) r
+  pub value_after : (first : Made) (one : Point) (second : Made) (two : Point) (ty : Type_) (r : Within Value) → Steps p method locals fixed first one second two → Makes (Gives p method locals fixed avoided second two ty) r
+      → Makes (Gives p method locals fixed avoided first one ty) r
   value_after first one second two ty r a gives =
-      makes_more (Gives p method locals avoided second two ty) (Gives p method locals avoided first one ty) (λ v g. gives_after first one second two ty v a g) r gives
+      makes_more (Gives p method locals fixed avoided second two ty) (Gives p method locals fixed avoided first one ty) (λ v g. gives_after first one second two ty v a g) r gives
 
   -- a value, and behind it what goes on from there
-  pub then_value : (made : Made) (point : Point) (ty result : Type_) (r : Within Value) (next : Value → Within Value) → Makes (Gives p method locals avoided made point ty) r
-      → ((v : Value) (g : Gives p method locals avoided made point ty v) → Makes (Gives p method locals avoided v.made g.behind result) (next v)) → Makes (Gives p method locals avoided made point result) (r >>= next)
+  pub then_value : (made : Made) (point : Point) (ty result : Type_) (r : Within Value) (next : Value → Within Value) → Makes (Gives p method locals fixed avoided made point ty) r
+      → ((v : Value) (g : Gives p method locals fixed avoided made point ty v) → Makes (Gives p method locals fixed avoided v.made g.behind result) (next v)) → Makes (Gives p method locals fixed avoided made point result) (r >>= next)
   then_value made point ty result r next first second =
-      makes_then (Gives p method locals avoided made point ty) (Gives p method locals avoided made point result) r next first (λ v g. value_after made point v.made g.behind result (next v) g.steps (second v g))
+      makes_then (Gives p method locals fixed avoided made point ty) (Gives p method locals fixed avoided made point result) r next first (λ v g. value_after made point v.made g.behind result (next v) g.steps (second v g))
 
   -- a value that is of another type as well
-  pub value_in_place : (made : Made) (point : Point) (slot : ℕ) (ty : Type_) → slot < made.free → is_among slot avoided ≡ false → (is_type p ty ≡ true → Holds p point slot ty) → Gives p method locals avoided made point ty (record { made = made; slot = slot })
-  value_in_place made point slot ty lt apart known = record { behind = point; steps = steps_none p method locals made point; low = lt; apart = apart; holds = known }
+  pub value_in_place : (made : Made) (point : Point) (slot : ℕ) (ty : Type_) → slot < made.free → is_among slot avoided ≡ false → (is_type p ty ≡ true → Holds p point slot ty) → Gives p method locals fixed avoided made point ty (record { made = made; slot = slot })
+  value_in_place made point slot ty lt apart known = record { behind = point; steps = steps_none p method locals fixed made point; low = lt; apart = apart; holds = known }
 
   -- ---- one operation
 
   -- an operation whose target is the next free slot
-  pub op_leads_to : (made : Made) (point behind : Point) (o : Op) (ty : Type_) → is_among made.free avoided ≡ false → is_super_call o.kind ≡ false → op_types p method locals point o o.kind ≡ behind → Keeps made.free point behind
-      → (is_type p ty ≡ true → Holds p behind made.free ty) → (made.free < method.slots → op_fits p method locals point o o.kind ≡ true) → Makes (Gives p method locals avoided made point ty) (taking made (item.Do o))
+  pub op_leads_to : (made : Made) (point behind : Point) (o : Op) (ty : Type_) → is_among made.free avoided ≡ false → is_super_call o.kind ≡ false → (fixed → op_types p method locals point o o.kind ≡ behind) → Keeps made.free point behind
+      → (is_type p ty ≡ true → Holds p behind made.free ty) → (fixed → made.free < method.slots → op_fits p method locals point o o.kind ≡ true) → Makes (Gives p method locals fixed avoided made point ty) (taking made (item.Do o))
   op_leads_to made point behind o ty apart not_super types keeps holds fits = taken (nat_lt made.free most_slots)
     where
-      taken : (b : Bool) → Makes (Gives p method locals avoided made point ty) (if b then Ok (record { made = record { items = made.items ++ item.Do o ∷ []; free = made.free + 1 }; slot = made.free }) else Err which.Slots)
+      taken : (b : Bool) → Makes (Gives p method locals fixed avoided made point ty) (if b then Ok (record { made = record { items = made.items ++ item.Do o ∷ []; free = made.free + 1 }; slot = made.free }) else Err which.Slots)
       taken true = record {
         behind = behind;
         steps = record {
@@ -116,7 +116,7 @@ module _ (p : Program) (method : Method) (locals : List Type_) (avoided : List �
           appended = refl;
           plain = plain_op o not_super;
           up = omega arith;
-          leads = λ le. subst (λ q. Leads p method locals (item.Do o ∷ []) point q) types (op_leads p method locals o point (fits (omega (arith, le))));
+          leads = λ now le. subst (λ q. Leads p method locals (item.Do o ∷ []) point q) (types now) (op_leads p method locals o point (fits now (omega (arith, le))));
           keeps = keeps;
         };
         low = omega arith;
@@ -125,8 +125,8 @@ module _ (p : Program) (method : Method) (locals : List Type_) (avoided : List �
       }
       taken false = tt
 
-  pub op_gives : (made : Made) (point : Point) (o : Op) (ty : Type_) → is_among made.free avoided ≡ false → (is_type p ty ≡ true → is_of p ty ty ≡ true) → is_super_call o.kind ≡ false → op_types p method locals point o o.kind ≡ assigned made.free ty point
-      → (made.free < method.slots → op_fits p method locals point o o.kind ≡ true) → Makes (Gives p method locals avoided made point ty) (taking made (item.Do o))
+  pub op_gives : (made : Made) (point : Point) (o : Op) (ty : Type_) → is_among made.free avoided ≡ false → (is_type p ty ≡ true → is_of p ty ty ≡ true) → is_super_call o.kind ≡ false → (fixed → op_types p method locals point o o.kind ≡ assigned made.free ty point)
+      → (fixed → made.free < method.slots → op_fits p method locals point o o.kind ≡ true) → Makes (Gives p method locals fixed avoided made point ty) (taking made (item.Do o))
   op_gives made point o ty apart same not_super types fits =
       op_leads_to made point (assigned made.free ty point) o ty apart not_super types (new_keeps made.free ty point)
       (λ real. record { held = ty; real = real; known = assigned_known made.free ty point; fits = same real }) fits
@@ -159,7 +159,7 @@ module _ (z : Setting) (set : IsSet z) where
     this = λ has. keeps 0 (let one = set.static has in omega (arith, one, le)) (class_type z.names.class) (stands.this has);
   }
 
-  pub ready_on : (made : Made) (point : Point) (after : Made) (behind : Point) → Ready z made point → Steps z.program z.method z.locals made point after behind → Ready z after behind
+  pub ready_on : (made : Made) (point : Point) (after : Made) (behind : Point) → Ready z made point → Steps z.program z.method z.locals z.fixed made point after behind → Ready z after behind
   ready_on made point after behind ready steps = ((let a = ready.0 in let b = steps.up in omega (arith, a, b)), stands_on made.free point behind ready.0 steps.keeps ready.1)
 
   -- ---- slots that are avoided
@@ -183,8 +183,11 @@ module _ (z : Setting) (set : IsSet z) where
       not_zero slot le = grind (arith, nat_tests)
 
   -- an operation whose target is the next free slot
+  pub op_given_when : (made : Made) (point : Point) → Ready z made point → (o : Op) (ty : Type_) → is_super_call o.kind ≡ false → (z.fixed → op_types z.program z.method z.locals point o o.kind ≡ assigned made.free ty point)
+      → (z.fixed → made.free < z.method.slots → op_fits z.program z.method z.locals point o o.kind ≡ true) → Makes (Gives z.program z.method z.locals z.fixed z.avoided made point ty) (taking made (item.Do o))
+  op_given_when made point ready o ty not_super types fits =
+      op_gives z.program z.method z.locals z.fixed z.avoided made point o ty (new_apart made.free ready.0) (set.members.itself ty) not_super types fits
+
   pub op_given : (made : Made) (point : Point) → Ready z made point → (o : Op) (ty : Type_) → is_super_call o.kind ≡ false → op_types z.program z.method z.locals point o o.kind ≡ assigned made.free ty point
-      → (made.free < z.method.slots → op_fits z.program z.method z.locals point o o.kind ≡ true)
-      → Makes (Gives z.program z.method z.locals z.avoided made point ty) (taking made (item.Do o))
-  op_given made point ready o ty not_super types fits =
-      op_gives z.program z.method z.locals z.avoided made point o ty (new_apart made.free ready.0) (set.members.itself ty) not_super types fits
+      → (made.free < z.method.slots → op_fits z.program z.method z.locals point o o.kind ≡ true) → Makes (Gives z.program z.method z.locals z.fixed z.avoided made point ty) (taking made (item.Do o))
+  op_given made point ready o ty not_super types fits = op_given_when made point ready o ty not_super (λ now. types) (λ now. fits)

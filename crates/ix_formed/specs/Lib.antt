@@ -9,4 +9,5 @@ pub mod Written
 pub mod Sizes
 pub mod Points
 pub mod Typed
+pub mod TypedStatements
 pub mod Readable

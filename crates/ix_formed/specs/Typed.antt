@@ -91,16 +91,16 @@ pub record Holds (p : Program) (point : Point) (slot : ℕ) (ty : Type_) : Type 
   pub known : Known point slot held
   pub fits : is_of p held ty ≡ true
 
--- ---- steps and values
+-- ---- steps and values, where it is fixed which locals the method has
 
-module _ (p : Program) (method : Method) (locals : List Type_) where
+module _ (p : Program) (method : Method) (locals : List Type_) (fixed : Type 0) where
   -- Items are appended that lead from one point to another, where the frame has slots enough.
   pub record Steps (made : Made) (before : Point) (after : Made) (behind : Point) : Type 0 where
     pub items : List Item
     pub appended : after.items ≡ made.items ++ items
     pub plain : IsPlain items
     pub up : made.free ≤ after.free
-    pub leads : after.free ≤ method.slots → Leads p method locals items before behind
+    pub leads : fixed → after.free ≤ method.slots → Leads p method locals items before behind
     pub keeps : Keeps made.free before behind
 
   -- some steps
@@ -122,7 +122,7 @@ module _ (p : Program) (method : Method) (locals : List Type_) where
     pub fails : Point
     pub up : free ≤ asked.free
     pub plain : IsPlainCondition asked.cond
-    pub decides : asked.free ≤ method.slots → Decides p method locals asked.cond before holds fails
+    pub decides : fixed → asked.free ≤ method.slots → Decides p method locals asked.cond before holds fails
     pub keeps_holds : Keeps free before holds
     pub keeps_fails : Keeps free before fails
 
@@ -133,6 +133,8 @@ pub record Setting : Type 1 where
   pub program : Program
   pub method : Method
   pub locals : List Type_
+  -- which other locals it has
+  pub fixed : Type 0
   pub names : Names
   pub scope : Scope
   pub base : ℕ
@@ -160,7 +162,7 @@ is_variable _ = false
 pub record IsSlotOf (z : Setting) (slot : ℕ) (ty : Type_) : Type 0 where
   pub first : param_slot z.method 0 ≤ slot
   pub low : slot < z.base
-  pub declared : (span : Span) → z.here span → variable_type z.program z.method z.locals slot span ≡ Some ty
+  pub declared : z.fixed → (span : Span) → z.here span → variable_type z.program z.method z.locals slot span ≡ Some ty
 
 pub record IsVariable (z : Setting) (v : Variable) : Type 0 where
   pub ty : Type_
@@ -186,7 +188,7 @@ pub record IsSet (z : Setting) : Type 0 where
   pub params : param_slots z.method ≤ z.base
   pub variables : AllOf (IsVariable z) z.names.names
   pub avoided : AllOf (λ slot. (param_slot z.method 0 ≤ slot) × (slot < z.base)) z.avoided
-  pub temporaries : (slot : ℕ) → z.base ≤ slot → (span : Span) → z.here span → variable_type z.program z.method z.locals slot span ≡ None
+  pub temporaries : z.fixed → (slot : ℕ) → z.base ≤ slot → (span : Span) → z.here span → variable_type z.program z.method z.locals slot span ≡ None
 
 -- At the point the variables in scope are known, and `this` where it can be used.
 pub record Stands (z : Setting) (point : Point) : Type 0 where
@@ -200,7 +202,7 @@ Ready z made point = (z.base ≤ made.free) × Stands z point
 module _ (z : Setting) where
   -- wherever it stands it gives a value of the type
   abbrev pub Yields : Type_ → (Scope → Made → Within Value) → Type 0
-  Yields ty run = (made : Made) (point : Point) → Ready z made point → Makes (Gives z.program z.method z.locals z.avoided made point ty) (run z.scope made)
+  Yields ty run = (made : Made) (point : Point) → Ready z made point → Makes (Gives z.program z.method z.locals z.fixed z.avoided made point ty) (run z.scope made)
 
   -- an expression with that place, and the type that it is said to have
   pub record Judges (span : Span) (said : Option Type_) (run : Scope → Made → Within Value) : Type 0 where
@@ -219,7 +221,7 @@ module _ (z : Setting) where
 
   pub record Aims (made : Made) (before : Point) (ty : Type_) (t : Target) : Type 0 where
     pub behind : Point
-    pub steps : Steps z.program z.method z.locals made before t.made behind
+    pub steps : Steps z.program z.method z.locals z.fixed made before t.made behind
     pub spot : SpotIs behind t.made.free ty t.spot
 
   pub record Assigns (span : Span) (said : Option Type_) (l : Lowering) : Type 0 where
@@ -241,9 +243,9 @@ module _ (z : Setting) where
     pub value : Told z (r.judge z.names).notes → Judges r.span (r.judge z.names).ty l.value
     pub null : r.is_null ≡ true → (ty : Type_) → is_reference_type ty ≡ true → is_type z.program ty ≡ true → z.scope.site.names.type_of r.span ≡ Some ty → Yields ty l.value
     pub condition : Told z (r.judge z.names).notes → (r.judge z.names).ty ≡ Some Rattle.ix_core.specs.Types.bool_type → (free : ℕ) (point : Point) → z.base ≤ free → Stands z point
-        → Makes (Tests z.program z.method z.locals free point) (l.condition z.scope free)
+        → Makes (Tests z.program z.method z.locals z.fixed free point) (l.condition z.scope free)
     pub receiver : Told z (r.receiver z.names).notes → ReceiverIs r.span l (r.receiver z.names).object
-    pub unused : Told z (r.receiver z.names).notes → (made : Made) (point : Point) → Ready z made point → Makes (Runs z.program z.method z.locals made point) (l.unused z.scope made)
+    pub unused : Told z (r.receiver z.names).notes → (made : Made) (point : Point) → Ready z made point → Makes (Runs z.program z.method z.locals z.fixed made point) (l.unused z.scope made)
     pub this : r.is_this ≡ true → (made : Made) → Makes (λ v. v.slot ≡ 0) (l.value z.scope made)
 
   -- where it may be assigned
