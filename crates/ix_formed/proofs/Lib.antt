@@ -45,3 +45,9 @@ pub mod TypedCalls
 pub mod AssignedVariables
 pub mod TypedExpressions
 pub mod ScopedLocals
+pub mod TypedSettings
+pub mod LayoutSpans
+pub mod TypedItems
+pub mod TypedEvaluations
+pub mod TypedBlocks
+pub mod TypedDeclarations

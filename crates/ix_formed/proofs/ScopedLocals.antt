@@ -15,7 +15,7 @@ use Rattle.ix_meaning.specs.Scope.{Known as Variable, Scope as Names}
 use Rattle.ix_plain.specs.Scope.{slot_of, slot_in_locals, slot_in_params}
 use Rattle.ix_formed.specs.Additions.{AllOf}
 use Rattle.ix_formed.specs.Points.{Known, Keeps}
-use Rattle.ix_formed.specs.TypedStatements.{Ground, Within, type_in, scope_in, IsNamed, HasVariable, Scoped, Stands, Outside, IsDeclared, Begins}
+use Rattle.ix_formed.specs.TypedStatements.{Ground, Within, type_in, scope_in, IsNamed, IsResult, HasVariable, Scoped, Stands, Outside, IsDeclared, Begins}
 use Rattle.ix_formed.proofs.NumberLists.{both_true, is_itself, all_so, all_joined}
 
 -- ---- lists
@@ -38,7 +38,7 @@ first_both (Some a) b c = refl
 pub first_is : (a b : Option Type_) (ty : Type_) → a ≡ Some ty → first_type a b ≡ Some ty
 first_is a b ty e = ap (λ a. first_type a b) e
 
-first_none : (a b : Option Type_) → first_type a b ≡ None → (a ≡ None) × (b ≡ None)
+pub first_none : (a b : Option Type_) → first_type a b ≡ None → (a ≡ None) × (b ≡ None)
 first_none None b e = (refl, e)
 first_none (Some a) b e = absurd cc
 
@@ -91,7 +91,7 @@ module _ (g : Ground) where
 
   -- ---- variables, where locals are added
 
-  slot_front : (xs ys : List (Local × Span)) (ts : List Type_) (lo hi : ℕ) (ty : Type_) (m : Meaning) → IsNamed g xs ts lo hi ty m → slot_of (scope_in g (xs ++ ys)) (Some m) ≡ slot_of (scope_in g xs) (Some m)
+  pub slot_front : (xs ys : List (Local × Span)) (ts : List Type_) (lo hi : ℕ) (ty : Type_) (m : Meaning) → IsNamed g xs ts lo hi ty m → slot_of (scope_in g (xs ++ ys)) (Some m) ≡ slot_of (scope_in g xs) (Some m)
   slot_front xs ys ts lo hi ty (meaning.Local n) is = ap slot_in_locals (get_front xs ys n is.0 is.1) ∙ sym (ap slot_in_locals is.1)
   slot_front xs ys ts lo hi ty (meaning.Param n) is = refl
   slot_front xs ys ts lo hi ty (meaning.FieldNamed n) is = absurd is
@@ -129,24 +129,24 @@ module _ (g : Ground) where
             (is.declared span ((let a = within.0 in omega (arith, a, le)), (let a = within.1 in omega (arith, a, up))));
       }
 
-  variables_more : (xs ys : List (Local × Span)) (ts us : List Type_) (free more lo hi from to : ℕ) → length ts ≡ length xs → free ≤ more → lo ≤ from → to ≤ hi → (vs : List Variable) → AllOf (HasVariable g xs ts free lo hi) vs → AllOf (HasVariable g (xs ++ ys) (ts ++ us) more from to) vs
+  pub variables_more : (xs ys : List (Local × Span)) (ts us : List Type_) (free more lo hi from to : ℕ) → length ts ≡ length xs → free ≤ more → lo ≤ from → to ≤ hi → (vs : List Variable) → AllOf (HasVariable g xs ts free lo hi) vs → AllOf (HasVariable g (xs ++ ys) (ts ++ us) more from to) vs
   variables_more xs ys ts us free more lo hi from to e grows le up vs all =
       all_so (HasVariable g xs ts free lo hi) (HasVariable g (xs ++ ys) (ts ++ us) more from to) (λ v is. variable_more xs ys ts us free more lo hi from to e grows le up v is) vs all
 
-  -- the same scope with so many more locals, none of which holds there
+  -- with so many more locals, none of which holds there
 
   pub scoped_more : (s : Names) (xs ys : List (Local × Span)) (ts us : List Type_) (free lo hi from to : ℕ) → Scoped g s xs ts free lo hi → length us ≡ length ys → lo ≤ from → to ≤ hi → AllOf (Outside from to) ys
-      → Scoped g (record s { next = s.next + length ys }) (xs ++ ys) (ts ++ us) free from to
+      → Scoped g s (xs ++ ys) (ts ++ us) free from to
   scoped_more s xs ys ts us free lo hi from to is e le up outside = record {
     world = is.world;
     class = is.class;
     in_constructor = is.in_constructor;
     object = is.object;
+    fields = is.fields;
     result = is.result;
     params = is.params;
     first = is.first;
     typed = (let a = length-append ts us in let b = length-append xs ys in let c = is.typed in omega (arith, a, b, c, e));
-    next = (let b = length-append xs ys in let c = is.next in omega (arith, b, c));
     variables = variables_more xs ys ts us free free lo hi from to is.typed (omega arith) le up s.names is.variables;
     unused = λ slot low span within. type_more xs ys ts us is.typed from to outside slot span within
         ∙ is.unused slot low span ((let a = within.0 in omega (arith, a, le)), (let a = within.1 in omega (arith, a, up)));
@@ -159,11 +159,11 @@ module _ (g : Ground) where
     class = is.class;
     in_constructor = is.in_constructor;
     object = is.object;
+    fields = is.fields;
     result = is.result;
     params = is.params;
     first = is.first;
     typed = is.typed;
-    next = is.next;
     variables = all_so (HasVariable g xs ts free lo hi) (HasVariable g xs ts free from to) (λ v x. record {
       ty = x.ty;
       typed = x.typed;
@@ -184,6 +184,29 @@ module _ (g : Ground) where
       named_within (meaning.ClassNamed n) ty x = absurd x
       named_within (meaning.MethodNamed n) ty x = absurd x
       named_within meaning.LengthOf ty x = absurd x
+
+  -- in a scope with the same names
+  pub scoped_for : (s t : Names) (xs : List (Local × Span)) (ts : List Type_) (free lo hi : ℕ) → t.world ≡ s.world → t.class ≡ s.class → t.in_constructor ≡ s.in_constructor → (t.has_object ≡ true → s.has_object ≡ true) → (t.names_fields ≡ true → s.names_fields ≡ true) → t.result ≡ s.result → t.names ≡ s.names
+      → Scoped g s xs ts free lo hi → Scoped g t xs ts free lo hi
+  scoped_for s t xs ts free lo hi world class constructor object fields result names is = record {
+    world = world ∙ is.world;
+    class = class ∙ is.class;
+    in_constructor = λ e. is.in_constructor (sym constructor ∙ e);
+    object = λ e. is.object (object e);
+    fields = λ e. is.fields (fields e);
+    result = subst (IsResult g) (sym result) is.result;
+    params = is.params;
+    first = is.first;
+    typed = is.typed;
+    variables = subst (AllOf (HasVariable g xs ts free lo hi)) (sym names) is.variables;
+    unused = is.unused;
+  }
+
+  pub stands_for : (s t : Names) (xs : List (Local × Span)) (point : Point) → (t.has_object ≡ true → s.has_object ≡ true) → t.names ≡ s.names → Stands g s xs point → Stands g t xs point
+  stands_for s t xs point object names stands = record {
+    variables = subst (AllOf (λ (v : Variable). (ty : Type_) → v.ty ≡ Some ty → Known point (slot_of (scope_in g xs) (Some v.meaning)) ty)) (sym names) stands.variables;
+    this = λ e. stands.this (object e);
+  }
 
   -- what stands at a point still does, where slots keep their types and locals are added
   pub stands_more : (s : Names) (xs ys : List (Local × Span)) (ts : List Type_) (free lo hi : ℕ) (before after : Point) → Scoped g s xs ts free lo hi → Keeps free before after → (s.has_object ≡ true → 1 ≤ free) → Stands g s xs before → Stands g s (xs ++ ys) after

@@ -11,3 +11,4 @@ pub mod Points
 pub mod Typed
 pub mod TypedStatements
 pub mod Readable
+pub mod TypedParts

@@ -12,10 +12,15 @@ use Rattle.ix_core.specs.Code.{Code}
 use Rattle.ix_core.specs.Formed.{Ways, code_ways, first_type, local_type_from, param_type_from, starts_within, claim_fits, others, local_named_type}
 use Rattle.ix_core.specs.Tables.{param_slot, param_slots}
 use Rattle.ix_core.specs.Types.{Point, class_type, is_type, is_class, is_void}
+use Rattle.ix_tree.specs.declared.annot.Annot.{Annot}
+use Rattle.ix_tree.specs.declared.annot.TypeTree.{TypeTree}
+use Rattle.ix_tree.specs.declared.decl.LocalDecl.{LocalDecl}
 use Rattle.ix_tree.specs.Parts.{Part, elsewhere, entries, most_entries}
 use Rattle.ix_meaning.specs.declared.note.Meaning.{Meaning}
 use Rattle.ix_meaning.specs.declared.note.Meaning.TheVariants as meaning
 use Rattle.ix_meaning.specs.declared.note.Note.{Note}
+use Rattle.ix_meaning.specs.Annotated.{written, element_claims, target_before}
+use Rattle.ix_meaning.specs.Bodies.{local_declaration}
 use Rattle.ix_meaning.specs.Members.{World}
 use Rattle.ix_meaning.specs.Scope.{Known as Variable, Scope as Names}
 use Rattle.ix_meaning.specs.Types.{Need, of}
@@ -26,6 +31,7 @@ use Rattle.ix_formed.specs.NoErrors.{Agrees, named_at}
 use Rattle.ix_formed.specs.Points.{Known, Keeps}
 use Rattle.ix_formed.specs.Typed.{HasMembers}
 use Rattle.ix_formed.specs.Weights.{total}
+use Rattle.ix_formed.specs.Written.{is_written_type}
 
 -- What stays the same in a body.
 pub record Ground : Type 0 where
@@ -46,13 +52,6 @@ abbrev pub IsKnown : Ground → Part → Type 0
 IsKnown g (elsewhere name) = 1 ≤ total (named_at name.span) g.parts
 IsKnown g (entries n) = n ≤ most_entries
 IsKnown g _ = Unit {0}
-
-pub record IsGround (g : Ground) : Type 0 where
-  pub members : HasMembers g.program g.site g.world
-  pub class : g.site.class ≡ g.class
-  pub class_there : is_class g.program g.class ≡ true
-  pub method_class : g.method.class ≡ g.class
-  pub with_this : g.method.constructor ≡ true → 1 ≤ param_slot g.method 0
 
 -- ---- variables and their places
 
@@ -95,11 +94,11 @@ pub record Scoped (g : Ground) (s : Names) (locals : List (Local × Span)) (type
   pub class : s.class ≡ g.class
   pub in_constructor : s.in_constructor ≡ true → g.method.constructor ≡ true
   pub object : s.has_object ≡ true → 1 ≤ param_slot g.method 0
+  pub fields : s.names_fields ≡ true → g.method.is_static ≡ false
   pub result : IsResult g s.result
   pub params : param_slots g.method ≤ free
   pub first : param_slot g.method 0 ≤ free
   pub typed : length types ≡ length locals
-  pub next : s.next ≡ length locals
   pub variables : AllOf (HasVariable g locals types free lo hi) s.names
   pub unused : (slot : ℕ) → free ≤ slot → (span : Span) → Within lo hi span → type_in g locals types slot span ≡ None
 
@@ -130,6 +129,20 @@ DoFit g number [] [] = Unit {0}
 DoFit g number (local ∷ locals) (ty ∷ types) = (is_type g.program ty ≡ true)
     × (list_all (claim_fits ty (others (name.Local number) (local_named_type g.program g.method g.locals local.1))) local.0.claims ≡ true) × DoFit g (number + 1) locals types
 DoFit g number _ _ = ⊥
+
+-- What is so of a body wherever one stands in it.
+pub record IsGround (g : Ground) : Type 0 where
+  pub members : HasMembers g.program g.site g.world
+  pub class : g.site.class ≡ g.class
+  pub class_there : is_class g.program g.class ≡ true
+  pub method_class : g.method.class ≡ g.class
+  pub with_this : g.method.constructor ≡ true → 1 ≤ param_slot g.method 0
+  -- the types of locals that are declared
+  pub declared_types : (tree : TypeTree) (annots : List Annot) (ty : Type_) → (written g.world.class tree (element_claims (target_before tree) annots)).ty ≡ Some ty → is_type g.program ty ≡ true
+  -- and their claims
+  pub declared_claims : (s : Names) (d : LocalDecl) (locals : List (Local × Span)) (types : List Type_) (free lo end at : ℕ) → Scoped g s locals types free lo end → s.next ≡ length locals → is_written_type d.ty ≡ true
+      → lo ≤ d.name.span.from → d.name.span.from < end → Begins g locals types at → (ty : Type_) → (local_declaration d s).ty ≡ Some ty
+      → list_all (claim_fits ty (others (name.Local s.next) (local_named_type g.program g.method g.locals (record { from = d.name.span.from; to = end })))) (local_declaration d s).claims ≡ true
 
 -- ---- items
 
@@ -164,3 +177,4 @@ pub record Tells (g : Ground) (s next : Names) (from to until end : ℕ) (body :
   pub adds : Adds g s from to until body types point after
   pub scoped : Scoped g next after.locals (types ++ adds.added_types) after.made.free to end
   pub stands : Stands g next after.locals adds.behind
+  pub counted : next.next ≡ length after.locals
