@@ -2,33 +2,23 @@
 use Rattle.std.proofs.Common.{◌≡◌, ◌≤◌, ◌<◌, ℕ, Bool, true, List, [], ◌∷◌, ◌++◌, Some, None, refl, sym, ap, ◌∙◌, arith}
 use Rattle.std.specs.Prelude.{if◌then◌else◌, ◌==◌, ◌&&◌, nat_lt}
 use Rattle.std.proofs.lemmas.Bool.Decides.{nat_tests}
-use Rattle.ix_core.specs.declared.claim.Base.TheVariants as base
 use Rattle.ix_core.specs.declared.claim.Type_.{Type_}
-use Rattle.ix_core.specs.declared.claim.Type_.TheVariants as type
-use Rattle.ix_core.specs.declared.code.Cond.{Cond}
 use Rattle.ix_core.specs.declared.code.Item.{Item}
 use Rattle.ix_core.specs.declared.code.Item.TheVariants as item
 use Rattle.ix_core.specs.declared.op.Op.{Op}
 use Rattle.ix_core.specs.declared.program.Method.{Method}
 use Rattle.ix_core.specs.declared.program.Program.{Program}
-use Rattle.ix_core.specs.Code.{Code, cond_code}
-use Rattle.ix_core.specs.Formed.{Ways, also, assigned, op_fits, op_types, code_ways, condition_ways, is_slot, type_fits, reads}
-use Rattle.ix_core.specs.Types.{Point, meeting, if_same, same_type, same_claims, is_of}
+use Rattle.ix_core.specs.Code.{Code}
+use Rattle.ix_core.specs.Formed.{Ways, also, assigned, op_fits, op_types, code_ways, is_slot, type_fits, reads}
+use Rattle.ix_core.specs.Types.{Point, meeting, if_same, is_of}
 use Rattle.ix_core.proofs.Cases.{by_test, equal}
 use Rattle.ix_formed.specs.Additions.{code_before}
+use Rattle.ix_formed.specs.Points.{Known, Keeps, Leads}
 use Rattle.ix_formed.proofs.NumberLists.{both_true, is_itself}
 use Rattle.ix_formed.proofs.PlainItems.{before_append}
+use Rattle.ix_formed.proofs.SameTypes.{same_itself}
 
 -- ---- what is known at a point
-
--- where a way leads there the slot has that type
-abbrev pub Known : Point → ℕ → Type_ → Type 0
-Known None slot ty = Unit {0}
-Known (Some types) slot ty = types slot ≡ Some ty
-
--- of the slots below that number all types that were known still are
-abbrev pub Keeps : ℕ → Point → Point → Type 0
-Keeps count before after = (slot : ℕ) → slot < count → (ty : Type_) → Known before slot ty → Known after slot ty
 
 pub keeps_none : (count : ℕ) (types : Point) → Keeps count types types
 keeps_none count types slot lt ty known = known
@@ -54,37 +44,22 @@ new_keeps target ty types slot lt other known = assigned_keeps target ty types s
 
 -- ---- where two ways meet
 
-module _ (claims_same : (claims : List _) → same_claims claims claims ≡ true) where
-  same_itself : (ty : Type_) → same_type ty ty ≡ true
-  same_itself type.Void = refl
-  same_itself (type.Plain base.Int) = refl
-  same_itself (type.Plain base.Bool) = refl
-  same_itself (type.Plain (base.Class class)) = is_itself class
-  same_itself (type.Array base.Int depth claims) = both_true (depth == depth) (same_claims claims claims) (is_itself depth) (claims_same claims)
-  same_itself (type.Array base.Bool depth claims) = both_true (depth == depth) (same_claims claims claims) (is_itself depth) (claims_same claims)
-  same_itself (type.Array (base.Class class) depth claims) =
-      both_true (class == class) ((depth == depth) && same_claims claims claims) (is_itself class) (both_true (depth == depth) (same_claims claims claims) (is_itself depth) (claims_same claims))
+pub meeting_known : (first second : Point) (slot : ℕ) (ty : Type_) → Known first slot ty → Known second slot ty → Known (meeting first second) slot ty
+meeting_known None second slot ty a b = b
+meeting_known (Some types) None slot ty a b = a
+meeting_known (Some types) (Some others) slot ty a b =
+    ap (λ o. if_same o (others slot)) a ∙ ap (if_same (Some ty)) b ∙ ap (λ c. if c then Some ty else None) (same_itself ty)
 
-  pub meeting_known : (first second : Point) (slot : ℕ) (ty : Type_) → Known first slot ty → Known second slot ty → Known (meeting first second) slot ty
-  meeting_known None second slot ty a b = b
-  meeting_known (Some types) None slot ty a b = a
-  meeting_known (Some types) (Some others) slot ty a b =
-      ap (λ o. if_same o (others slot)) a ∙ ap (if_same (Some ty)) b ∙ ap (λ c. if c then Some ty else None) (same_itself ty)
-
-  pub meeting_keeps : (count : ℕ) (before first second : Point) → Keeps count before first → Keeps count before second → Keeps count before (meeting first second)
-  meeting_keeps count before first second a b slot lt ty known = meeting_known first second slot ty (a slot lt ty known) (b slot lt ty known)
+pub meeting_keeps : (count : ℕ) (before first second : Point) → Keeps count before first → Keeps count before second → Keeps count before (meeting first second)
+meeting_keeps count before first second a b slot lt ty known = meeting_known first second slot ty (a slot lt ty known) (b slot lt ty known)
 
 -- ---- steps
 
 module _ (p : Program) (method : Method) (locals : List Type_) where
-  -- items that fit lead from one point to another, whatever is behind them
-  abbrev pub Leads : List Item → Point → Point → Type 0
-  Leads items before after = (in_loop : Bool) (rest : Code) → code_ways p method locals in_loop (code_before items rest) before ≡ code_ways p method locals in_loop rest after
-
-  pub leads_none : (types : Point) → Leads [] types types
+  pub leads_none : (types : Point) → Leads p method locals [] types types
   leads_none types in_loop rest = refl
 
-  pub leads_both : (items more : List Item) (first second third : Point) → Leads items first second → Leads more second third → Leads (items ++ more) first third
+  pub leads_both : (items more : List Item) (first second third : Point) → Leads p method locals items first second → Leads p method locals more second third → Leads p method locals (items ++ more) first third
   leads_both items more first second third a b in_loop rest =
       ap (λ code. code_ways p method locals in_loop code first) (before_append items more rest) ∙ a in_loop (code_before more rest) ∙ b in_loop rest
 
@@ -92,7 +67,7 @@ module _ (p : Program) (method : Method) (locals : List Type_) where
   fitting_also fits rest e = ap (λ b. also b rest) e
 
   -- an operation that fits
-  pub op_leads : (o : Op) (types : Point) → op_fits p method locals types o o.kind ≡ true → Leads (item.Do o ∷ []) types (op_types p method locals types o o.kind)
+  pub op_leads : (o : Op) (types : Point) → op_fits p method locals types o o.kind ≡ true → Leads p method locals (item.Do o ∷ []) types (op_types p method locals types o o.kind)
   op_leads o types fits in_loop rest = fitting_also (op_fits p method locals types o o.kind) (code_ways p method locals in_loop rest (op_types p method locals types o o.kind)) fits
 
   -- a slot that holds a value of a type below the wanted one
@@ -106,11 +81,3 @@ module _ (p : Program) (method : Method) (locals : List Type_) where
     where
       slot_is : (slot : ℕ) → slot < method.slots → nat_lt slot method.slots ≡ true
       slot_is slot lt = grind (arith, nat_tests)
-
-  -- ---- conditions
-
-  -- a condition that fits leads to one point where it is true and to one where it is false
-  pub record Decides (asked : Cond) (before holds fails : Point) : Type 0 where
-    pub fits : (condition_ways p method locals (cond_code asked) before).fits ≡ true
-    pub true_at : (condition_ways p method locals (cond_code asked) before).holds ≡ holds
-    pub false_at : (condition_ways p method locals (cond_code asked) before).fails ≡ fails

@@ -7,3 +7,8 @@ pub mod Weights
 pub mod NoErrors
 pub mod Written
 pub mod Sizes
+pub mod Points
+pub mod Typed
+pub mod TypedStatements
+pub mod Readable
+pub mod TypedParts
