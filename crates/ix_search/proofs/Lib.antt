@@ -1,5 +1,0 @@
-pub mod Steps
-pub mod AnswerTables
-pub mod NoAnswers
-pub mod AnswersAfter
-mod Rows

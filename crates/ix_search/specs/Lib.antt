@@ -1,5 +1,1 @@
-pub mod Answers
-pub mod StandsOrder
-pub mod SearchTable
-pub mod SearchLaws
-pub mod NewAnswers
+pub mod SearchTables

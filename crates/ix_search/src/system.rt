@@ -1,42 +1,37 @@
 //! The table as a lattice and as a system.
 
-use crate::answer::answer_order_laws;
-use crate::new_answers::{copied_answers, new_answers};
 use crate::search_facts::SearchFacts;
-use crate::tables::fact_at_number;
 use ix_core::{Fact, Op, Path, Profile, Type_};
 use ix_facts::{Know, Landmarks, System};
 use ix_lattice::Lattice;
+use ix_new_facts::{new_facts, new_facts_of_copy};
 use std::alloc::{AllocError, Global};
 
 impl Lattice for SearchFacts {
-    ghost use Rattle.ix_search.specs.SearchTable.{TableBelow, table_rank};
-    ghost use Rattle.ix_search.specs.SearchLaws.{table_laws};
+    ghost use Rattle.ix_search.specs.SearchTables.{AnswersBelow, answers_rank, answers_laws};
 
-    ghost Below = { TableBelow };
+    ghost Below = { AnswersBelow };
 
-    ghost rank = { table_rank };
+    ghost rank = { answers_rank };
 
-    ghost laws = { table_laws };
+    ghost laws = { answers_laws };
 
     fn leq(&self, other: &Self) -> bool {
-        answer_order_laws();
-        self.entries.leq(&other.entries)
+        self.table.says_all(&other.table)
     }
 
     fn join(&self, alloc: Global, other: &Self) -> Result<Self, AllocError> {
-        answer_order_laws();
-        let entries = self.entries.join(alloc, &other.entries)?;
-        Ok(SearchFacts { entries })
+        let table = self.table.common(alloc, &other.table)?;
+        Ok(SearchFacts { table })
     }
 }
 
 impl System for SearchFacts {
     ghost use Rattle.ix_facts.specs.declared.kind.Kind.TheVariants as kind;
-    ghost use Rattle.ix_search.specs.SearchTable.{search_facts};
-    ghost use Rattle.ix_search.specs.SearchLaws.{all_answers, all_may, in_order, common_part};
+    ghost use Rattle.ix_search.specs.SearchTables.{answers, all_answers, all_may_stand, common_part};
+    ghost use Rattle.ix_fact_table.specs.KindLaws.{order_itself};
 
-    ghost known = { search_facts };
+    ghost known = { answers };
 
     ghost kind = { kind.Search };
 
@@ -45,10 +40,11 @@ impl System for SearchFacts {
         alloc: Global,
         op: &Op,
         know: &K,
-        _profile: Profile,
+        profile: Profile,
     ) -> Result<Self, AllocError> {
-        let new = new_answers(alloc, &op.kind, know)?;
-        self.renewed_target(alloc, &op.kind, &new)
+        let new = new_facts(alloc, know, profile, &op.kind)?;
+        let table = self.renewed(alloc, &op.kind, &new)?;
+        Ok(table)
     }
 
     fn copy<K: Know>(
@@ -60,39 +56,39 @@ impl System for SearchFacts {
         know: &K,
         _profile: Profile,
     ) -> Result<Self, AllocError> {
-        let new = copied_answers(alloc, target, source, ty, know)?;
-        self.renewed_path(alloc, target, &new)
+        let new = new_facts_of_copy(alloc, know, ty, target, source)?;
+        let table = self.renewed_path(alloc, target, &new)?;
+        Ok(table)
     }
 
-    /// An equal table: answers have no numbers.
     fn round(&self, alloc: Global, marks: &Landmarks) -> Result<Self, AllocError> {
-        self.rounded(alloc, marks)
+        let table = self.table.rounded(alloc, marks)?;
+        Ok(SearchFacts { table })
     }
 
     fn forget(&self, alloc: Global, path: &Path) -> Result<Self, AllocError> {
-        self.without_path(alloc, path)
+        let table = self.table.without_path(alloc, path)?;
+        Ok(SearchFacts { table })
     }
 
     fn add(&self, alloc: Global, fact: &Fact) -> Result<Self, AllocError> {
-        self.with_fact(alloc, fact)
+        let table = self.table.with_fact(alloc, fact)?;
+        Ok(SearchFacts { table })
     }
 
-    #[tactic(auto, using(crate::proofs::Steps::facts_count))]
     fn facts(&self) -> u128 {
-        self.entries.len() as u128
+        self.table.as_slice().len() as u128
     }
 
-    #[tactic(auto, using(crate::proofs::Steps::facts_count))]
     fn fact(&self, k: u128) -> Fact {
-        let _count = self.entries.len();
-        fact_at_number(&self.entries, k as usize)
+        self.table.as_slice()[k as usize]
     }
 
     ghost owned = { all_answers };
 
-    ghost entries = { all_may };
+    ghost entries = { all_may_stand };
 
-    ghost order = { in_order };
+    ghost order = { λ low high. order_itself low.table high.table };
 
     ghost joined = { common_part };
 }

@@ -1,23 +1,21 @@
-use Rattle.std.proofs.lemmas.Result.{IfOk-weaker}
-use Rattle.std.proofs.Common.{◌≡◌, ◌∙◌, subst}
-use Rattle.std.specs.Prelude.{◌++◌, IfOk}
+use Rattle.std.proofs.Common.{subst}
+use Rattle.std.specs.Prelude.{◌++◌}
 use Rattle.ix_facts.specs.declared.kind.Kind.TheVariants.{Search}
 use Rattle.ix_facts.specs.Forget.{without}
-use Rattle.ix_facts.specs.After.{of_target}
+use Rattle.ix_facts.specs.After.{of_target, beside_target}
 use Rattle.ix_facts.specs.Kinds.{of_kind}
 use Rattle.ix_facts.specs.Systems.{IsTable}
-use Rattle.ix_search.specs.SearchTable.{search_facts}
-use Rattle.ix_search.specs.NewAnswers.{answers_after}
-use Rattle.ix_search.proofs.AnswersAfter.{after_table}
+use Rattle.ix_search.specs.SearchTables.{answers}
+use Rattle.ix_fact_table.proofs.TableForms.{same_new}
+use Rattle.ix_new_facts.proofs.KnownClasses.{after_new}
 use Rattle.ix_search.proofs.system.SearchFactsSystem.after.Goals as goal
 
 pub returns : goal.returns
 returns g c =
     let known = g.K.Know.known c.args.know.now in
-    let arrays = g.K.Know.array_paths c.args.know.now in
-    let is : c.deref.result.now ≡ answers_after c.args.op.now.kind known arrays = c.deref.ensures.value ∙ c.in_ok-new.ensures in
-    record {
-      facts =
-          IfOk-weaker c.renewed_target.result _ _ (λ table. after_table known c.args.self.now arrays c.args._profile c.args.op.now.kind (search_facts table) c.requires.beside (g.K.Know.each_array c.args.know.now))
-          (subst (λ new. IfOk c.renewed_target.result (λ table. IsTable (of_kind Search (without (of_target c.args.op.now.kind) (search_facts c.args.self.now) ++ new)) (search_facts table))) is c.renewed_target.ensures.facts);
-    }
+    let kind = c.args.op.now.kind in
+    let front = without (of_target kind) (answers c.args.self.now) in
+    let result = answers c.in_ok-table.table in
+    let table : IsTable (front ++ of_kind Search c.in_ok-new.new.items) result = subst (λ l. IsTable (front ++ of_kind Search l) result) c.deref.ensures.value c.in_ok-table.ensures.table in
+    let same = c.in_ok-new.ensures.facts in
+    record { facts = same_new Search front c.in_ok-new.new.items (after_new (beside_target kind known) c.args.profile kind) result same.there same.back table }
