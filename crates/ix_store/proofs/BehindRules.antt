@@ -44,7 +44,7 @@ copy_is known rest new all ty t s is same made =
     same_trans all (rest ++ new) (with_copy ty t s known) (same_equal all (rest ++ new) made)
     (same_app rest new (without (of_path t) known) (copy_new (without (of_path t) known) ty t s) (same_equal rest (without (of_path t) known) is) (subst (λ l. AreSame new (copy_new l ty t s)) is same))
 
-without_have : (t : Path) (known : List Fact) → HaveClasses known → HaveClasses (without (of_path t) known)
+pub without_have : (t : Path) (known : List Fact) → HaveClasses known → HaveClasses (without (of_path t) known)
 without_have t known have f i = have f (in_without (of_path t) f known i).0
 
 pub copy_have : (known all : List Fact) (ty : Type_) (t s : Path) → AreSame all (with_copy ty t s known) → HaveClasses known → HaveClasses all

@@ -4,3 +4,7 @@ mod SmallNumbers
 pub mod SameStores
 mod ClassesAfter
 mod BehindRules
+mod CommonParts
+mod SixCommon
+mod FullCommon
+mod SameCommon

@@ -25,7 +25,7 @@ table_closed facts more table is made = record {
 }
 
 -- a range stands in one order alone
-range_order : (f g : Fact) (p : Path) (l h : ℤ) → (f ≡ Rng p l h) ⊎ (f ≡ LenRng p l h) → IsIn f (orders g) → g ≡ f
+pub range_order : (f g : Fact) (p : Path) (l h : ℤ) → (f ≡ Rng p l h) ⊎ (f ≡ LenRng p l h) → IsIn f (orders g) → g ≡ f
 range_order f (Rng q m k) p l h e i = ⊎_elim (λ s. sym s) (λ n. absurd n) i
 range_order f (LenRng q m k) p l h e i = ⊎_elim (λ s. sym s) (λ n. absurd n) i
 range_order f (Low q c) p l h e i = ⊎_elim (λ s. sym s) (λ n. absurd n) i
@@ -39,10 +39,10 @@ range_order f (Upper q a Nothing c) p l h e i = ⊎_elim (λ s. sym s) (λ n. ab
 range_order f (Upper q a (Plus r) c) p l h e i = ⊎_elim (λ s. sym s) (λ n. ⊎_elim (λ s. ⊎_elim (λ d. absurd cc) (λ d. absurd cc) e) (λ x. absurd x) n) i
 range_order f (Upper q a (Minus r) c) p l h e i = ⊎_elim (λ s. sym s) (λ n. absurd n) i
 
-covers_rng : (g : Fact) (p : Path) (l h : ℤ) → Covers g (Rng p l h) → (m : ℤ) × (k : ℤ) × (g ≡ Rng p m k) × (l ≤ℤ m) × (k ≤ℤ h)
+pub covers_rng : (g : Fact) (p : Path) (l h : ℤ) → Covers g (Rng p l h) → (m : ℤ) × (k : ℤ) × (g ≡ Rng p m k) × (l ≤ℤ m) × (k ≤ℤ h)
 covers_rng _ p l h (rng _ m k _ _ a b) = (m, k, refl, a, b)
 
-covers_len : (g : Fact) (p : Path) (l h : ℤ) → Covers g (LenRng p l h) → (m : ℤ) × (k : ℤ) × (g ≡ LenRng p m k) × (l ≤ℤ m) × (k ≤ℤ h)
+pub covers_len : (g : Fact) (p : Path) (l h : ℤ) → Covers g (LenRng p l h) → (m : ℤ) × (k : ℤ) × (g ≡ LenRng p m k) × (l ≤ℤ m) × (k ≤ℤ h)
 covers_len _ p l h (len_rng _ m k _ _ a b) = (m, k, refl, a, b)
 
 pub empty_contradicts : (facts table : List Fact) → IsClosedOf facts table → HasEmpty table → Contradicts facts

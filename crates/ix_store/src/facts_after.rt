@@ -4,6 +4,7 @@ ghost use Rattle.std.specs.Prelude.{◌≡◌, ◌++◌, ◌∷◌, [], IfOk, On
 ghost use Rattle.ix_facts.specs.Assume as claims;
 ghost use Rattle.ix_facts.specs.Closure.{kept};
 ghost use Rattle.ix_facts.specs.Facts.{in_orders};
+ghost use Rattle.ix_facts.specs.Forget.{of_path, without};
 ghost use Rattle.ix_facts.specs.Stores.{operated, with_copy, with_outcome, with_facts};
 ghost use Rattle.ix_facts.specs.Systems.{HaveClasses};
 ghost use Rattle.ix_after.specs.SameFacts.{AreSame};
@@ -15,6 +16,7 @@ use ix_claims::is_proved;
 use ix_core::{Fact, OpKind, Path, PathClaim, Profile, Type_};
 use ix_exact::{push_less, push_upper};
 use ix_fact_list::FactList;
+use ix_facts::facts_without_path;
 use ix_outcomes::{Outcome, facts_of_outcome};
 use ix_rules::push_claim;
 use std::alloc::{AllocError, Global};
@@ -113,5 +115,13 @@ impl Known {
         ensures proved { result ≡ claims.proves (in_orders self.now) claim.now at.now }
     {
         is_proved(self.list(), claim, at)
+    }
+
+    pub(crate) fn without(&self, alloc: Global, path: &Path) -> Result<Vec<Fact>, AllocError>
+        ensures facts { IfOk result (λ facts. facts.items ≡ without (of_path path.now) self.now) }
+        ensures classes { IfOk result (λ facts. HaveClasses facts.items) }
+    {
+        let facts = facts_without_path(alloc, self.list().as_slice(), path)?;
+        Ok(facts)
     }
 }

@@ -1,12 +1,16 @@
 //! Closed facts that don't contradict each other.
 
-ghost use Rattle.std.specs.Prelude.{◌≡◌, List, IfOk};
+ghost use Rattle.std.specs.Prelude.{◌≡◌, ◌↔◌, false, List, IsTrue, IfOk};
 ghost use Rattle.ix_core.specs.declared.fact.Fact.{Fact};
 ghost use Rattle.ix_facts.specs.Systems.{HaveClasses};
 ghost use Rattle.ix_facts.specs.Stores.{IsStoreOf};
+ghost use Rattle.ix_facts.specs.Closure.{SaysAll, IsCommon};
+ghost use Rattle.ix_fact_table.specs.FactTables.{facts_of};
+ghost use Rattle.ix_store.specs.EmptyRanges.{some_empty};
 ghost use Rattle.ix_store.specs.AllTables.{all_facts, AreOfKinds};
 ghost use Rattle.ix_store.specs.StoredFacts.{stored};
 
+use crate::joins;
 use crate::making::{facts_in, has_empty, tables_of};
 use crate::tables::Tables;
 use ix_closure::saturated;
@@ -27,7 +31,7 @@ impl Model for Known {
 
     ghost view = { λ known. known.list };
 
-    ghost invariant = { λ known. (known.list ≡ all_facts known.tables) × AreOfKinds known.tables };
+    ghost invariant = { λ known. (known.list ≡ all_facts known.tables) × (AreOfKinds known.tables × (some_empty (facts_of known.tables.ranges) ≡ false)) };
 }
 
 impl Known {
@@ -52,5 +56,22 @@ impl Known {
         ensures classes { HaveClasses self.now }
     {
         &self.list
+    }
+
+    /// What both say. The only error is want of memory.
+    pub(crate) fn common(&self, alloc: Global, other: &Known) -> Result<Known, AllocError>
+        ensures common { IfOk result (λ known. IsCommon self.now other.now known) }
+    {
+        let tables = joins::common(alloc, &self.tables, &other.tables)?;
+        let all = facts_in(alloc, &tables)?;
+        let list = FactList::new(alloc, all)?;
+        Ok(Known { tables, list })
+    }
+
+    /// Whether these facts say all that the others say.
+    pub(crate) fn says_all(&self, other: &Known) -> bool
+        ensures below { IsTrue result ↔ SaysAll self.now other.now }
+    {
+        joins::says_all(&self.tables, &other.tables)
     }
 }

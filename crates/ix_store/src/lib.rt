@@ -7,6 +7,7 @@
 #![tactic(auto, using(std::proofs::lemmas::List::append_assoc, ix_exact::specs::KeptLaws::kept_joined, ix_exact::specs::KeptLaws::same_int))]
 
 mod facts_after;
+mod joins;
 mod known;
 mod making;
 mod rules;

@@ -1,8 +1,8 @@
 //! The store behind each rule.
 
 ghost use Rattle.std.specs.Prelude.{◌≡◌, ◌∷◌, [], ◌↔◌, IsTrue, IfOk};
-ghost use Rattle.ix_facts.specs.Stores.{Unreachable, IsStoreOf, IsAfter, IsCopied, IsTold, IsAdded, IsAssumed, IsForgotten, IsRounded, IsProved};
-ghost use Rattle.ix_facts.specs.Systems.{HaveClasses, IsProper};
+ghost use Rattle.ix_facts.specs.Stores.{Unreachable, Reached, IsBelow, SayTheSame, IsJoined, IsStoreOf, IsAfter, IsCopied, IsTold, IsAssumed, IsForgotten, IsProved};
+ghost use Rattle.ix_facts.specs.Systems.{HaveClasses};
 ghost use Rattle.ix_facts.specs.Forget.{of_path};
 ghost use Rattle.ix_outcomes.specs.OverGroups.{outcome_of};
 
@@ -11,6 +11,14 @@ use crate::store::Store;
 use ix_core::{Fact, OpKind, Path, PathClaim, Profile, Type_};
 use ix_outcomes::Outcome;
 use std::alloc::{AllocError, Global};
+
+/// A store that says the same.
+fn same(alloc: Global, known: &Known) -> Result<Store, AllocError>
+    ensures { IfOk result (λ store. SayTheSame store (Reached known.now)) }
+{
+    let known = known.common(alloc, known)?;
+    Ok(Store { known: Some(known) })
+}
 
 impl Store {
     /// The store at a place where no state is. It takes no memory.
@@ -89,6 +97,44 @@ impl Store {
         let facts = known.assume(alloc, claim, at)?;
         let store = Store::of_facts(alloc, &facts)?;
         Ok(store)
+    }
+
+    /// The store without the facts that name the path; of a slot also without those that name a field of the object in it. The only error is want of memory.
+    pub fn forget(&self, alloc: Global, path: &Path) -> Result<Store, AllocError>
+        ensures after { IfOk result (λ after. IsForgotten (of_path path.now) self.now after) }
+    {
+        let Some(known) = &self.known else {
+            return Ok(Store::unreachable());
+        };
+        let facts = known.without(alloc, path)?;
+        let store = Store::of_facts(alloc, &facts)?;
+        Ok(store)
+    }
+
+    /// Whether the store says all that the other says; the unreachable one says everything. It takes no memory.
+    pub fn is_below(&self, other: &Store) -> bool
+        ensures below { IsTrue result ↔ IsBelow self.now other.now }
+    {
+        match (&self.known, &other.known) {
+            (None, _) => true,
+            (Some(_), None) => false,
+            (Some(known), Some(others)) => known.says_all(others),
+        }
+    }
+
+    /// The store of what both say; of an unreachable one and another what the other says. The only error is want of memory.
+    pub fn join(&self, alloc: Global, other: &Store) -> Result<Store, AllocError>
+        ensures joined { IfOk result (λ store. IsJoined self.now other.now store) }
+    {
+        match (&self.known, &other.known) {
+            (None, None) => Ok(Store::unreachable()),
+            (Some(known), None) => same(alloc, known),
+            (None, Some(known)) => same(alloc, known),
+            (Some(known), Some(others)) => {
+                let known = known.common(alloc, others)?;
+                Ok(Store { known: Some(known) })
+            }
+        }
     }
 
     /// Whether the store proves the claim of the path; the unreachable one proves every claim. It takes no memory.
