@@ -7,4 +7,4 @@ mod BehindRules
 mod CommonParts
 mod SixCommon
 mod FullCommon
-mod SameCommon
+mod JoinedStores

@@ -1,7 +1,7 @@
 //! The store behind each rule.
 
 ghost use Rattle.std.specs.Prelude.{◌≡◌, ◌∷◌, [], ◌↔◌, IsTrue, IfOk};
-ghost use Rattle.ix_facts.specs.Stores.{Unreachable, Reached, IsBelow, SayTheSame, IsJoined, IsStoreOf, IsAfter, IsCopied, IsTold, IsAssumed, IsForgotten, IsProved};
+ghost use Rattle.ix_facts.specs.Stores.{Unreachable, Reached, IsBelow, IsJoined, IsStoreOf, IsAfter, IsCopied, IsTold, IsAssumed, IsForgotten, IsProved};
 ghost use Rattle.ix_facts.specs.Systems.{HaveClasses};
 ghost use Rattle.ix_facts.specs.Forget.{of_path};
 ghost use Rattle.ix_outcomes.specs.OverGroups.{outcome_of};
@@ -10,13 +10,13 @@ use crate::known::Known;
 use crate::store::Store;
 use ix_core::{Fact, OpKind, Path, PathClaim, Profile, Type_};
 use ix_outcomes::Outcome;
+use ix_text::Joint;
 use std::alloc::{AllocError, Global};
 
-/// A store that says the same.
-fn same(alloc: Global, known: &Known) -> Result<Store, AllocError>
-    ensures { IfOk result (λ store. SayTheSame store (Reached known.now)) }
+fn reached(alloc: Global, known: Known) -> Result<Store, AllocError>
+    ensures { IfOk result (λ store. store ≡ Reached known) }
 {
-    let known = known.common(alloc, known)?;
+    let known = Joint::new(alloc, known)?;
     Ok(Store { known: Some(known) })
 }
 
@@ -41,8 +41,10 @@ impl Store {
         requires classes { HaveClasses facts.now }
         ensures store { IfOk result (λ store. IsStoreOf facts.now store) }
     {
-        let known = Known::closed(alloc, facts)?;
-        Ok(Store { known })
+        match Known::closed(alloc, facts)? {
+            None => Ok(Store::unreachable()),
+            Some(known) => reached(alloc, known),
+        }
     }
 
     /// The store behind an operation that is no call and touches no field. The only error is want of memory.
@@ -52,7 +54,7 @@ impl Store {
         let Some(known) = &self.known else {
             return Ok(Store::unreachable());
         };
-        let facts = known.after(alloc, profile, kind)?;
+        let facts = known.get().after(alloc, profile, kind)?;
         let store = Store::of_facts(alloc, &facts)?;
         Ok(store)
     }
@@ -70,7 +72,7 @@ impl Store {
         let Some(known) = &self.known else {
             return Ok(Store::unreachable());
         };
-        let facts = known.copy(alloc, ty, target, source)?;
+        let facts = known.get().copy(alloc, ty, target, source)?;
         let store = Store::of_facts(alloc, &facts)?;
         Ok(store)
     }
@@ -82,7 +84,7 @@ impl Store {
         let Some(known) = &self.known else {
             return Ok(Store::unreachable());
         };
-        let facts = known.told(alloc, outcome)?;
+        let facts = known.get().told(alloc, outcome)?;
         let store = Store::of_facts(alloc, &facts)?;
         Ok(store)
     }
@@ -94,7 +96,7 @@ impl Store {
         let Some(known) = &self.known else {
             return Ok(Store::unreachable());
         };
-        let facts = known.assume(alloc, claim, at)?;
+        let facts = known.get().assume(alloc, claim, at)?;
         let store = Store::of_facts(alloc, &facts)?;
         Ok(store)
     }
@@ -106,7 +108,7 @@ impl Store {
         let Some(known) = &self.known else {
             return Ok(Store::unreachable());
         };
-        let facts = known.without(alloc, path)?;
+        let facts = known.get().without(alloc, path)?;
         let store = Store::of_facts(alloc, &facts)?;
         Ok(store)
     }
@@ -118,7 +120,7 @@ impl Store {
         match (&self.known, &other.known) {
             (None, _) => true,
             (Some(_), None) => false,
-            (Some(known), Some(others)) => known.says_all(others),
+            (Some(known), Some(others)) => known.get().says_all(others.get()),
         }
     }
 
@@ -127,11 +129,23 @@ impl Store {
         ensures joined { IfOk result (λ store. IsJoined self.now other.now store) }
     {
         match (&self.known, &other.known) {
-            (None, None) => Ok(Store::unreachable()),
-            (Some(known), None) => same(alloc, known),
-            (None, Some(known)) => same(alloc, known),
+            (_, None) => self.share(),
+            (None, Some(_)) => other.share(),
             (Some(known), Some(others)) => {
-                let known = known.common(alloc, others)?;
+                let known = known.get().common(alloc, others.get())?;
+                reached(alloc, known)
+            }
+        }
+    }
+
+    /// The same store once more, without a copy of its facts. The only error is want of memory for one owner more.
+    pub fn share(&self) -> Result<Store, AllocError>
+        ensures shared { IfOk result (λ store. store ≡ self.now) }
+    {
+        match &self.known {
+            None => Ok(Store::unreachable()),
+            Some(known) => {
+                let known = known.join()?;
                 Ok(Store { known: Some(known) })
             }
         }
@@ -143,7 +157,7 @@ impl Store {
     {
         match &self.known {
             None => true,
-            Some(known) => known.proves(claim, at),
+            Some(known) => known.get().proves(claim, at),
         }
     }
 }
