@@ -1,0 +1,40 @@
+//! The stores behind a test.
+
+ghost use Rattle.std.specs.Prelude.{true, false, IfOk};
+ghost use Rattle.ix_facts.specs.Stores.{AreTold, IsTested};
+ghost use Rattle.ix_outcomes.specs.OverGroups.{outcomes_of};
+
+use ix_core::Test;
+use ix_outcomes::{Outcome, outcomes};
+use ix_store::Store;
+use std::alloc::{AllocError, Global};
+
+fn told_all(alloc: Global, store: Store, told: &[Outcome]) -> Result<Store, AllocError>
+    ensures { IfOk result (λ after. AreTold (outcomes_of told.now) store after) }
+{
+    let mut after = store;
+    for outcome in told {
+        after = after.told(alloc, outcome)?;
+    }
+    Ok(after)
+}
+
+/// The store where the test has this answer. The only error is want of memory.
+pub fn branch(alloc: Global, store: &Store, test: &Test, answer: bool) -> Result<Store, AllocError>
+    ensures tested { IfOk result (λ after. IsTested answer test.now store.now after) }
+{
+    let told = outcomes(alloc, test, answer)?;
+    let first = store.share()?;
+    let after = told_all(alloc, first, &told)?;
+    Ok(after)
+}
+
+/// The stores where the test is true, and where it is false. The only error is want of memory.
+pub fn branch_test(alloc: Global, store: &Store, test: &Test) -> Result<(Store, Store), AllocError>
+    ensures holds { IfOk result (λ both. IsTested true test.now store.now both.0) }
+    ensures fails { IfOk result (λ both. IsTested false test.now store.now both.1) }
+{
+    let holds = branch(alloc, store, test, true)?;
+    let fails = branch(alloc, store, test, false)?;
+    Ok((holds, fails))
+}

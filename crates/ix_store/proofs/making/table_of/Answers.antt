@@ -1,0 +1,14 @@
+use Rattle.std.proofs.Common.{sym, ap, subst, ◌∙◌}
+use Rattle.ix_facts.specs.Kinds.{of_kind}
+use Rattle.ix_facts.specs.Systems.{HaveClasses, IsTable}
+use Rattle.ix_fact_table.specs.FactTables.{facts_of}
+use Rattle.ix_store.proofs.Together.{kind_twice, kind_have}
+use Rattle.ix_store.proofs.making.table_of.Goals as goal
+
+pub of_facts-requires : goal.of_facts-requires
+of_facts-requires c = record { classes = subst HaveClasses (sym (c.deref.ensures.value ∙ c.in_ok-own.ensures)) (kind_have c.args.kind c.args.facts.now c.requires.classes) }
+
+pub returns-clause-table : goal.returns-clause-table
+returns-clause-table c =
+    let is = c.deref.ensures.value ∙ c.in_ok-own.ensures in
+    subst (λ l. IsTable l (facts_of c.in_ok-table.table)) (ap (of_kind c.args.kind) is ∙ kind_twice c.args.kind c.args.facts.now) c.in_ok-table.ensures.table
