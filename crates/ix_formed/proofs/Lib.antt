@@ -51,3 +51,5 @@ pub mod TypedItems
 pub mod TypedEvaluations
 pub mod TypedBlocks
 pub mod TypedDeclarations
+pub mod TypedLocals
+pub mod TypedForms
