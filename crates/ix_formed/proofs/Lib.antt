@@ -53,3 +53,6 @@ pub mod TypedBlocks
 pub mod TypedDeclarations
 pub mod TypedLocals
 pub mod TypedForms
+pub mod TypedLoops
+pub mod TypedFor
+pub mod StatementsTell

@@ -58,7 +58,7 @@ module _ (g : Ground) where
   none_known count kept slot lt ty k = tt
 
   -- A statement that is a part of another was made, between two places.
-  pub record Nests (t : Telling) (s : Names) (lo hi : ℕ) (body : Body) (types : List Type_) (point : Point) (made : Inside) : Type 0 where
+  pub record Nests (t : Telling) (own : List Type_) (s : Names) (lo hi : ℕ) (body : Body) (types : List Type_) (point : Point) (made : Inside) : Type 0 where
     pub added : List (Local × Span)
     pub added_types : List Type_
     pub grown : made.body.locals ≡ body.locals ++ added
@@ -69,6 +69,7 @@ module _ (g : Ground) where
     pub same : made.body.made ≡ body.made
     pub names : t.names s ≡ s.names
     pub counted : s.next + t.declares ≡ length made.body.locals
+    pub typed_own : added_types ≡ own
     pub ends : Point
     pub breaks : Point
     pub turns : Point
@@ -81,16 +82,16 @@ module _ (g : Ground) where
   until_at true n = omega arith
   until_at false n = omega arith
 
-  pub part_nests : (r : Running) (t : Telling) (l : Layout) (ps : List Part) (written : Bool) (shape : Statement) → IsStatement g r t l ps written shape → (s : Names) (start lo hi end : ℕ) (body : Body) (types : List Type_) (point : Point)
+  pub part_nests : (r : Running) (t : Telling) (l : Layout) (ps : List Part) (written : Bool) (shape : Statement) (own : List Type_) → IsStatement g r t l ps written shape own → (s : Names) (start lo hi end : ℕ) (body : Body) (types : List Type_) (point : Point)
       → Scoped g s body.locals types body.made.free lo end → Stands g s body.locals point → s.next ≡ length body.locals → LaidOut start lo hi l → hi ≤ end → AllOf (IsKnown g) ps → written ≡ true → is_part shape ≡ true → Says g (t.notes s)
-      → Makes (Nests t s lo hi body types point) (branch r g.site body)
-  part_nests r t l ps written shape is s start lo hi end body types point scoped stands counted laid le known wr part said =
+      → Makes (Nests t own s lo hi body types point) (branch r g.site body)
+  part_nests r t l ps written shape own is s start lo hi end body types point scoped stands counted laid le known wr part said =
       let q = and_parts (not shape.declares) shape.fine part in
       let n = subst (LaidOut start lo hi) is.placed laid in
       let begun : Body = record body { made = empty body.made.free } in
       let a = n.0 in
       let b = n.3 in
-      makes_then (Tells g s (after t s) r.span.from r.span.to (until g shape r.span.to r.span) r.span.to begun types point) (Nests t s lo hi body types point) (r.run g.site r.span.to begun) _
+      makes_then (Tells g s (after t s) r.span.from r.span.to (until g shape r.span.to r.span) r.span.to begun types own point) (Nests t own s lo hi body types point) (r.run g.site r.span.to begun) _
       (is.tells s r.span.to begun types point (scoped_within g s body.locals types body.made.free lo end r.span.from r.span.to a (omega (arith, b, le)) scoped) stands counted n.1 (omega arith) n.2 known wr q.1 said)
       (λ inner x. record {
         added = x.adds.added;
@@ -104,6 +105,7 @@ module _ (g : Ground) where
         same = refl;
         names = is.names q.1 (no_declares shape.declares q.0) s;
         counted = x.counted;
+        typed_own = x.typed;
         ends = x.adds.behind;
         breaks = x.adds.breaks_by None;
         turns = x.adds.turns_by None;
@@ -273,8 +275,8 @@ module _ (g : Ground) where
   }
 
   -- a part makes no item
-  abbrev pub nest_adds : (t : Telling) (s other : Names) (lo hi : ℕ) (body : Body) (types : List Type_) (point q : Point) (made : Inside) → Nests t s lo hi body types point made → Adds g other lo hi hi body types q made.body
-  nest_adds t s other lo hi body types point q made n = record {
+  abbrev pub nest_adds : (t : Telling) (own : List Type_) (s other : Names) (lo hi : ℕ) (body : Body) (types : List Type_) (point q : Point) (made : Inside) → Nests t own s lo hi body types point made → Adds g other lo hi hi body types q made.body
+  nest_adds t own s other lo hi body types point q made n = record {
     added = n.added;
     added_types = n.added_types;
     grown = n.grown;

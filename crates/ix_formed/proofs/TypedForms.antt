@@ -67,20 +67,21 @@ module _ (g : Ground) (ground : IsGround g) where
   -- ---- a statement that leaves the scope as it was
 
   abbrev pub closed_tells : (t : Telling) (s : Names) (from to end : ℕ) (body : Body) (types : List Type_) (point : Point) (after_body : Body) → Scoped g s body.locals types body.made.free from end → Stands g s body.locals point → t.names s ≡ s.names → from ≤ to
-      → Adds g s from to to body types point after_body → after_body.made.free ≡ body.made.free → s.next + t.declares ≡ length after_body.locals → Tells g s (after t s) from to to end body types point after_body
-  closed_tells t s from to end body types point after_body scoped stands names le a free counted = record {
+      → (a : Adds g s from to to body types point after_body) → after_body.made.free ≡ body.made.free → s.next + t.declares ≡ length after_body.locals → (own : List Type_) → a.added_types ≡ own → Tells g s (after t s) from to to end body types own point after_body
+  closed_tells t s from to end body types point after_body scoped stands names le a free counted own typed = record {
     adds = a;
     scoped = subst (λ n. Scoped g (after t s) after_body.locals (types ++ a.added_types) n to end) (sym free)
         (closed_scope g s (after t s) body.locals a.added types a.added_types after_body.locals body.made.free from to end scoped refl refl refl refl refl refl names a.grown a.typed le a.places);
     stands = closed_stands g s (after t s) body.locals a.added types after_body.locals body.made.free from end point a.behind scoped refl names a.grown a.keeps stands;
     counted = counted;
+    typed = typed;
   }
 
   -- and that declares nothing at all
   abbrev pub plain_tells : (t : Telling) (s : Names) (from to end : ℕ) (body : Body) (types : List Type_) (point : Point) (after_body : Body) → Scoped g s body.locals types body.made.free from end → Stands g s body.locals point → s.next ≡ length body.locals
-      → t.names s ≡ s.names → t.declares ≡ 0 → from ≤ to → Adds g s from to to body types point after_body → after_body.made.free ≡ body.made.free → after_body.locals ≡ body.locals → Tells g s (after t s) from to to end body types point after_body
-  plain_tells t s from to end body types point after_body scoped stands counted names no_locals le a free locals =
-      closed_tells t s from to end body types point after_body scoped stands names le a free (let e = ap (λ (l : List (Local × Span)). length l) locals in omega (arith, e, counted, no_locals))
+      → t.names s ≡ s.names → t.declares ≡ 0 → from ≤ to → (a : Adds g s from to to body types point after_body) → after_body.made.free ≡ body.made.free → after_body.locals ≡ body.locals → a.added_types ≡ [] → Tells g s (after t s) from to to end body types [] point after_body
+  plain_tells t s from to end body types point after_body scoped stands counted names no_locals le a free locals typed =
+      closed_tells t s from to end body types point after_body scoped stands names le a free (let e = ap (λ (l : List (Local × Span)). length l) locals in omega (arith, e, counted, no_locals)) [] typed
 
   -- ---- jumps
 
@@ -114,15 +115,15 @@ module _ (g : Ground) (ground : IsGround g) where
   module _ (t : Telling) (s : Names) (span : Span) (end : ℕ) (body : Body) (types : List Type_) (point : Point) (scoped : Scoped g s body.locals types body.made.free span.from end) (stands : Stands g s body.locals point) (counted : s.next ≡ length body.locals)
       (some : span.from < span.to) (names : t.names s ≡ s.names) (no_locals : t.declares ≡ 0) where
     abbrev Result : Body → Type 0
-    Result after_body = Tells g s (after t s) span.from span.to span.to end body types point after_body
+    Result after_body = Tells g s (after t s) span.from span.to span.to end body types [] point after_body
 
     pub empty_tells : Result body
-    empty_tells = plain_tells t s span.from span.to end body types point body scoped stands counted names no_locals (omega (arith, some)) (adds_none g s span.from span.to span.to body types point) refl refl
+    empty_tells = plain_tells t s span.from span.to end body types point body scoped stands counted names no_locals (omega (arith, some)) (adds_none g s span.from span.to span.to body types point) refl refl refl
 
     jump_tells : (last : Item) (breaks turns : Point → Point) → Passes body.made.free point breaks → Passes body.made.free point turns
         → ((in_loop : Bool) → (s.in_loop ≡ true → in_loop ≡ true) → Leaves g in_loop (last ∷ []) point None breaks turns) → Result (with_last body last)
     jump_tells last breaks turns passes_breaks passes_turns leaves = plain_tells t s span.from span.to end body types point (with_last body last) scoped stands counted names no_locals (omega (arith, some))
-        (last_adds g s span.from span.to span.to body types point None breaks turns last (none_known body.made.free point) passes_breaks passes_turns (λ begins few. leaves)) refl refl
+        (last_adds g s span.from span.to span.to body types point None breaks turns last (none_known body.made.free point) passes_breaks passes_turns (λ begins few. leaves)) refl refl refl
 
     outside_not : (b : Bool) → not b ≡ false → b ≡ true
     outside_not true e = refl
@@ -172,7 +173,7 @@ module _ (g : Ground) (ground : IsGround g) where
           let j = value_judged g ground s body types point span.from span.to kept stands e read said in
           makes_then (Evaluates g span.to [] body types point j.0) Result (evaluated g.site e body) _ j.3
           (λ ev x. plain_tells t s span.from span.to end body types point ev.body scoped stands counted names no_locals (omega (arith, some))
-          (evaluated_adds g s span.from span.to span.to span.to [] body types point j.0 ev (omega arith) x) x.free x.locals)
+          (evaluated_adds g s span.from span.to span.to span.to [] body types point j.0 ev (omega arith) x) x.free x.locals refl)
 
       -- an item that uses the value
       used_tells : (ty : Type_) (last : ℕ → Item) → Makes (Evaluates g span.to [] body types point ty) (evaluated g.site e body)
@@ -186,7 +187,7 @@ module _ (g : Ground) (ground : IsGround g) where
           let a = evaluated_adds g s span.from span.to span.to span.to [] body types point ty ev (omega arith) x in
           let b = last_adds g s span.to span.to span.to ev.body (types ++ []) x.behind u.0 (no_jump g) (no_jump g) (last ev.slot) u.1 (none_passes g ev.body.made.free x.behind) (none_passes g ev.body.made.free x.behind) (λ begins few in_loop loops. u.2 few in_loop) in
           plain_tells t s span.from span.to end body types point (with_last ev.body (last ev.slot)) scoped stands counted names no_locals (omega (arith, some))
-          (adds_both g s s span.from span.to span.to span.to body types point ev.body (with_last ev.body (last ev.slot)) a b (λ e. e) (omega (arith, some)) (omega arith)) x.free x.locals)
+          (adds_both g s s span.from span.to span.to span.to body types point ev.body (with_last ev.body (last ev.slot)) a b (λ e. e) (omega (arith, some)) (omega arith)) x.free x.locals refl)
 
       -- a printed value is an int or a boolean
       pub print_tells : Says g (bodies.needed e printed s) → Makes Result (statements.printed e g.site body)
@@ -271,22 +272,24 @@ module _ (g : Ground) (ground : IsGround g) where
       behind_both : List Rattle.ix_meaning.specs.Scope.Known → ℕ → Names
       behind_both names n = record s { names = names; next = n }
 
-  abbrev pub tells_both : (s middle_names next : Names) (from mid to end : ℕ) (body : Body) (types : List Type_) (point : Point) (middle after_body : Body) (a : Tells g s middle_names from mid end end body types point middle)
-      → Tells g middle_names next mid to end end middle (types ++ a.adds.added_types) a.adds.behind after_body → (middle_names.in_loop ≡ true → s.in_loop ≡ true) → from ≤ mid → mid ≤ to → Tells g s next from to end end body types point after_body
-  tells_both s middle_names next from mid to end body types point middle after_body a b loop le up = record {
+  abbrev pub tells_both : (s middle_names next : Names) (from mid to end : ℕ) (body : Body) (types own later : List Type_) (point : Point) (middle after_body : Body) (a : Tells g s middle_names from mid end end body types own point middle)
+      → Tells g middle_names next mid to end end middle (types ++ a.adds.added_types) later a.adds.behind after_body → (middle_names.in_loop ≡ true → s.in_loop ≡ true) → from ≤ mid → mid ≤ to → Tells g s next from to end end body types (own ++ later) point after_body
+  tells_both s middle_names next from mid to end body types own later point middle after_body a b loop le up = record {
     adds = adds_both g s middle_names from mid to end body types point middle after_body a.adds b.adds loop le up;
     scoped = subst (λ ts. Scoped g next after_body.locals ts after_body.made.free to end) (append_assoc types a.adds.added_types b.adds.added_types) b.scoped;
     stands = b.stands;
     counted = b.counted;
+    typed = ap (λ l. l ++ b.adds.added_types) a.typed ∙ ap (λ l. own ++ l) b.typed;
   }
 
   -- up to a place behind
-  abbrev pub tells_later : (s next : Names) (from to more end : ℕ) (body : Body) (types : List Type_) (point : Point) (after_body : Body) → to ≤ more → Tells g s next from to end end body types point after_body → Tells g s next from more end end body types point after_body
-  tells_later s next from to more end body types point after_body up x = record {
+  abbrev pub tells_later : (s next : Names) (from to more end : ℕ) (body : Body) (types own : List Type_) (point : Point) (after_body : Body) → to ≤ more → Tells g s next from to end end body types own point after_body → Tells g s next from more end end body types own point after_body
+  tells_later s next from to more end body types own point after_body up x = record {
     adds = adds_as g s from to end from more end body types point after_body (omega arith) up (omega arith) x.adds;
     scoped = scoped_within g next after_body.locals (types ++ x.adds.added_types) after_body.made.free to end more end up (omega arith) x.scoped;
     stands = x.stands;
     counted = x.counted;
+    typed = x.typed;
   }
 
   -- ---- declarations
@@ -307,20 +310,25 @@ module _ (g : Ground) (ground : IsGround g) where
   decl_known d known = (all_parted (IsKnown g) (type_parts d.ty) (parts.elsewhere d.name ∷ parts.maybe init_parts d.init) (all_parted (IsKnown g) (mods_parts d.mods) _ known.1).1).1.1
 
   pub none_declared : (s : Names) (from to end : ℕ) (body : Body) (types : List Type_) (point : Point) → Scoped g s body.locals types body.made.free from end → Stands g s body.locals point → s.next ≡ length body.locals → from ≤ to
-      → Tells g s (after telling_nothing s) from to end end body types point body
+      → Tells g s (after telling_nothing s) from to end end body types [] point body
   none_declared s from to end body types point scoped stands counted le = record {
     adds = adds_none g s from to end body types point;
     scoped = subst (λ ts. Scoped g (after telling_nothing s) body.locals ts body.made.free to end) (sym (append-nil types))
         (Rattle.ix_formed.proofs.ScopedLocals.scoped_for g s (after telling_nothing s) body.locals types body.made.free to end refl refl refl (λ e. e) (λ e. e) refl refl (scoped_within g s body.locals types body.made.free from end to end le (omega arith) scoped));
     stands = Rattle.ix_formed.proofs.ScopedLocals.stands_for g s (after telling_nothing s) body.locals point (λ e. e) refl stands;
     counted = omega (arith, counted);
+    typed = refl;
   }
+
+  -- the types of the locals, by the table
+  abbrev pub decl_types : List LocalDecl → List Type_
+  decl_types ds = map (λ (d : LocalDecl). Rattle.ix_plain.specs.Scope.declared_type (g.site.names.declared d.name.span)) ds
 
   -- a declarator, and those behind it
   pub declared_tells : (d : LocalDecl) (ds : List LocalDecl) (s : Names) (start lo hi end : ℕ) (body : Body) (types : List Type_) (point : Point) → Scoped g s body.locals types body.made.free lo end → Stands g s body.locals point → s.next ≡ length body.locals
       → hi ≤ end → LaidOut start lo hi (row (own_pieces d ++ further_pieces ds)) → AllOf (IsKnown g) (decl_parts d) → AllOf (IsKnown g) (together (parts.each decl_parts ds)) → is_written_decl d ≡ true → each_true is_written_decl ds ≡ true
       → is_readable_decl d ≡ true → each_true is_readable_decl ds ≡ true → Says g ((declared d).notes s ++ (all_declared ds).notes (after (declared d) s))
-      → Makes (Tells g s (after (all_declared (d ∷ ds)) s) lo hi end end body types point) (statements.declarations (d ∷ ds) g.site end body)
+      → Makes (Tells g s (after (all_declared (d ∷ ds)) s) lo hi end end body types (decl_types (d ∷ ds)) point) (statements.declarations (d ∷ ds) g.site end body)
   declared_tells d [] s start lo hi end body types point scoped stands counted le laid known others wr wrs fine fines said =
       let q = split_maybe d.init start d.name.span.to hi [] laid.3 in
       let n = parted ((declared d).notes s) [] said in
@@ -329,10 +337,10 @@ module _ (g : Ground) (ground : IsGround g) where
       let a = laid.0 in
       let b = laid.1 in
       let c = q.1 in
-      subst (λ next. Makes (Tells g s next lo hi end end body types point) (statements.declarations (d ∷ []) g.site end body)) (after_both (declared d) telling_nothing s)
-      (makes_then (Tells g s (after (declared d) s) lo q.0 end end body types point) (Tells g s (after telling_nothing (after (declared d) s)) lo hi end end body types point) (statements.declaration d g.site end body) _
+      subst (λ next. Makes (Tells g s next lo hi end end body types (decl_types (d ∷ [])) point) (statements.declarations (d ∷ []) g.site end body)) (after_both (declared d) telling_nothing s)
+      (makes_then (Tells g s (after (declared d) s) lo q.0 end end body types (decl_types (d ∷ [])) point) (Tells g s (after telling_nothing (after (declared d) s)) lo hi end end body types (decl_types (d ∷ [])) point) (statements.declaration d g.site end body) _
       (declaration_tells g ground d s lo q.0 end body types point scoped stands counted a b c (omega (arith, up, le)) n.0 w.0 start q.2 (decl_known d known) w.1 fine)
-      (λ second x. tells_both s (after (declared d) s) (after telling_nothing (after (declared d) s)) lo q.0 hi end body types point second second x
+      (λ second x. tells_both s (after (declared d) s) (after telling_nothing (after (declared d) s)) lo q.0 hi end body types (decl_types (d ∷ [])) [] point second second x
       (none_declared (after (declared d) s) q.0 hi end second (types ++ x.adds.added_types) x.adds.behind x.scoped x.stands x.counted up) (λ e. e) (omega (arith, a, b, c)) up))
   declared_tells d (e ∷ ds) s start lo hi end body types point scoped stands counted le laid known others wr wrs fine fines said =
       let q = split_maybe d.init start d.name.span.to hi (further_pieces (e ∷ ds)) laid.3 in
@@ -347,26 +355,26 @@ module _ (g : Ground) (ground : IsGround g) where
       let a = laid.0 in
       let b = laid.1 in
       let c = q.1 in
-      subst (λ next. Makes (Tells g s next lo hi end end body types point) (statements.declarations (d ∷ e ∷ ds) g.site end body)) (after_both (declared d) (all_declared (e ∷ ds)) s)
-      (makes_then (Tells g s (after (declared d) s) lo q.0 end end body types point) (Tells g s (after (all_declared (e ∷ ds)) (after (declared d) s)) lo hi end end body types point) (statements.declaration d g.site end body) _
+      subst (λ next. Makes (Tells g s next lo hi end end body types (decl_types (d ∷ e ∷ ds)) point) (statements.declarations (d ∷ e ∷ ds) g.site end body)) (after_both (declared d) (all_declared (e ∷ ds)) s)
+      (makes_then (Tells g s (after (declared d) s) lo q.0 end end body types (decl_types (d ∷ [])) point) (Tells g s (after (all_declared (e ∷ ds)) (after (declared d) s)) lo hi end end body types (decl_types (d ∷ e ∷ ds)) point) (statements.declaration d g.site end body) _
       (declaration_tells g ground d s lo q.0 end body types point scoped stands counted a b c (omega (arith, up, le, past)) n.0 w.0 start q.2 (decl_known d known) w.1 fine)
-      (λ second x. makes_more (Tells g (after (declared d) s) (after (all_declared (e ∷ ds)) (after (declared d) s)) skip.0 hi end end second (types ++ x.adds.added_types) x.adds.behind)
-      (Tells g s (after (all_declared (e ∷ ds)) (after (declared d) s)) lo hi end end body types point)
-      (λ third y. tells_both s (after (declared d) s) (after (all_declared (e ∷ ds)) (after (declared d) s)) lo skip.0 hi end body types point second third (tells_later s (after (declared d) s) lo q.0 skip.0 end body types point second past x) y (λ e. e) (omega (arith, a, b, c, past)) up) (statements.declarations (e ∷ ds) g.site end second)
+      (λ second x. makes_more (Tells g (after (declared d) s) (after (all_declared (e ∷ ds)) (after (declared d) s)) skip.0 hi end end second (types ++ x.adds.added_types) (decl_types (e ∷ ds)) x.adds.behind)
+      (Tells g s (after (all_declared (e ∷ ds)) (after (declared d) s)) lo hi end end body types (decl_types (d ∷ e ∷ ds)) point)
+      (λ third y. tells_both s (after (declared d) s) (after (all_declared (e ∷ ds)) (after (declared d) s)) lo skip.0 hi end body types (decl_types (d ∷ [])) (decl_types (e ∷ ds)) point second third (tells_later s (after (declared d) s) lo q.0 skip.0 end body types (decl_types (d ∷ [])) point second past x) y (λ e. e) (omega (arith, a, b, c, past)) up) (statements.declarations (e ∷ ds) g.site end second)
       (declared_tells e ds (after (declared d) s) start skip.0 hi end second (types ++ x.adds.added_types) x.adds.behind (scoped_within g (after (declared d) s) second.locals (types ++ x.adds.added_types) second.made.free q.0 end skip.0 end past (omega arith) x.scoped)
       x.stands x.counted le skip.2 k.0 k.1 ws.0 ws.1 fs.0 fs.1 n.1)))
 
   pub locals_tell : (ds : List LocalDecl) (s : Names) (lo hi end : ℕ) (body : Body) (types : List Type_) (point : Point) → Scoped g s body.locals types body.made.free lo end → Stands g s body.locals point → s.next ≡ length body.locals → hi ≤ end
       → LaidOut lo lo hi (row (placed.locals_pieces ds)) → AllOf (IsKnown g) (together (parts.each decl_parts ds)) → each_true is_written_decl ds ≡ true → each_true is_readable_decl ds ≡ true → Says g ((all_declared ds).notes s)
-      → Makes (Tells g s (after (all_declared ds) s) lo hi end end body types point) (statements.declarations ds g.site end body)
+      → Makes (Tells g s (after (all_declared ds) s) lo hi end end body types (decl_types ds) point) (statements.declarations ds g.site end body)
   locals_tell [] s lo hi end body types point scoped stands counted le laid known wr fine said = none_declared s lo hi end body types point scoped stands counted laid
   locals_tell (d ∷ ds) s lo hi end body types point scoped stands counted le laid known wr fine said =
       let r = split_rows (shared_pieces d) (own_pieces d) lo lo hi (further_pieces ds) laid in
       let w = and_parts (is_written_decl d) (each_true is_written_decl ds) wr in
       let f = and_parts (is_readable_decl d) (each_true is_readable_decl ds) fine in
       let k = all_parted (IsKnown g) (decl_parts d) (together (parts.each decl_parts ds)) known in
-      makes_more (Tells g s (after (all_declared (d ∷ ds)) s) r.0 hi end end body types point) (Tells g s (after (all_declared (d ∷ ds)) s) lo hi end end body types point)
-      (λ third y. record { adds = adds_as g s r.0 hi end lo hi end body types point third r.1 (omega arith) (omega arith) y.adds; scoped = y.scoped; stands = y.stands; counted = y.counted }) (statements.declarations (d ∷ ds) g.site end body)
+      makes_more (Tells g s (after (all_declared (d ∷ ds)) s) r.0 hi end end body types (decl_types (d ∷ ds)) point) (Tells g s (after (all_declared (d ∷ ds)) s) lo hi end end body types (decl_types (d ∷ ds)) point)
+      (λ third y. record { adds = adds_as g s r.0 hi end lo hi end body types point third r.1 (omega arith) (omega arith) y.adds; scoped = y.scoped; stands = y.stands; counted = y.counted; typed = y.typed }) (statements.declarations (d ∷ ds) g.site end body)
       (declared_tells d ds s lo r.0 hi end body types point (scoped_within g s body.locals types body.made.free lo end r.0 end r.1 (omega arith) scoped) stands counted le r.2 k.0 k.1 w.0 w.1 f.0 f.1 said)
     where
       -- what stands behind the first pieces

@@ -66,8 +66,9 @@ module _ (g : Ground) (ground : IsGround g) where
 
   module _ (d : LocalDecl) (s : Names) (lo mid end : ℕ) (body : Body) (types : List Type_) (point : Point) (scoped : Scoped g s body.locals types body.made.free lo end) (stands : Stands g s body.locals point) (counted : s.next ≡ length body.locals)
       (from : lo ≤ d.name.span.from) (some : d.name.span.from < d.name.span.to) (to : d.name.span.to ≤ mid) (up : mid ≤ end) (said : Says g ((declared d).notes s)) (written_decl : is_written_type d.ty ≡ true) where
-    abbrev own : Span
-    own = d.name.span
+    -- the type of the local, by the table
+    abbrev own_types : List Type_
+    own_types = declared_type (g.site.names.declared d.name.span) ∷ []
 
     -- what is noted of the local
     record IsNoted (ty : Type_) : Type 0 where
@@ -121,7 +122,7 @@ module _ (g : Ground) (ground : IsGround g) where
       -- a value was computed, and is written into the local
       last_tells : (given : Type_) → is_type g.program given ≡ true → is_of g.program given ty ≡ true → (whole : Span) (ps : List Span) → length ps ≡ 2 → Within d.name.span.from mid whole → (ev : Evaluated)
           → Evaluates g mid (body.made.free ∷ []) begun now point given ev
-          → Tells g s (after (declared d) s) lo mid end end body types point (with_last ev.body (item.Do (record { kind = op.Copy body.made.free ev.slot given; span = whole; parts = ps })))
+          → Tells g s (after (declared d) s) lo mid end end body types own_types point (with_last ev.body (item.Do (record { kind = op.Copy body.made.free ev.slot given; span = whole; parts = ps })))
       last_tells given real below whole ps two within ev e =
           let o : Op = record { kind = op.Copy body.made.free ev.slot given; span = whole; parts = ps } in
           let held = e.holds real in
@@ -165,6 +166,7 @@ module _ (g : Ground) (ground : IsGround g) where
             stands = subst (λ l. Stands g (after (declared d) s) l behind) (sym e.locals)
                 (stands_declared g s body.locals types body.made.free lo end scoped local ty refl from refl (after (declared d) s) (local_known d s (local_declaration d s).ty) point behind refl names means is.typed keeps_all
                 (assigned_known body.made.free ty e.behind) stands);
+            typed = ap (λ t. t ∷ []) (sym is.table);
             counted = (let a = ap (λ (l : List (Local × Span)). length l) e.locals in let b = length-append body.locals (local ∷ []) in omega (arith, a, b, counted));
           }
         where
@@ -178,10 +180,10 @@ module _ (g : Ground) (ground : IsGround g) where
 
       -- ---- without an initialiser
 
-      default_tells : Makes (Tells g s (after (declared d) s) lo mid end end body types point) (statements.with_default body.made.free (declared_type (g.site.names.declared d.name.span)) d.name.span begun)
+      default_tells : Makes (Tells g s (after (declared d) s) lo mid end end body types own_types point) (statements.with_default body.made.free (declared_type (g.site.names.declared d.name.span)) d.name.span begun)
       default_tells =
-          subst (λ t. Makes (Tells g s (after (declared d) s) lo mid end end body types point) (statements.with_default body.made.free t d.name.span begun)) (sym is.table)
-          (makes_then (Evaluates g mid (body.made.free ∷ []) begun now point ty) (Tells g s (after (declared d) s) lo mid end end body types point) (computed begun.made (op.Const begun.made.free (default ty)) d.name.span >>= behind_value begun) _
+          subst (λ t. Makes (Tells g s (after (declared d) s) lo mid end end body types own_types point) (statements.with_default body.made.free t d.name.span begun)) (sym is.table)
+          (makes_then (Evaluates g mid (body.made.free ∷ []) begun now point ty) (Tells g s (after (declared d) s) lo mid end end body types own_types point) (computed begun.made (op.Const begun.made.free (default ty)) d.name.span >>= behind_value begun) _
           (value_evaluates g mid (body.made.free ∷ []) [] begun now point ty (computed begun.made (op.Const begun.made.free (default ty)) d.name.span) constant)
           (λ ev e. last_tells ty is.real (itself ty is.real) d.name.span (d.name.span ∷ d.name.span ∷ []) refl (omega arith, omega (arith, some, to)) ev e))
         where
@@ -201,7 +203,7 @@ module _ (g : Ground) (ground : IsGround g) where
       -- ---- with one
 
       init_tells : (i : Init) → d.init ≡ Some i → LaidOut d.name.span.to d.name.span.to mid (init_piece i) → AllOf (IsKnown g) (init_parts i) → is_written_init i ≡ true → is_readable_init i ≡ true
-          → Makes (Tells g s (after (declared d) s) lo mid end end body types point) (statements.with_init body.made.free (declared_type (g.site.names.declared d.name.span)) d.name.span i g.site begun)
+          → Makes (Tells g s (after (declared d) s) lo mid end end body types own_types point) (statements.with_init body.made.free (declared_type (g.site.names.declared d.name.span)) d.name.span i g.site begun)
       init_tells i same laid known wr fine =
           let single = init_single i in
           let n = subst (LaidOut d.name.span.to d.name.span.to mid) single.1 laid in
@@ -212,9 +214,9 @@ module _ (g : Ground) (ground : IsGround g) where
           (stands_more g s body.locals (local ∷ []) types body.made.free lo end point point scoped (keeps_none body.made.free point) (has_first g s body.locals types body.made.free lo end scoped) stands) in
           let f = init_filled g ground (pending d s) begun now point d.name.span.to mid kept there i (init_spans i d.name.span.to d.name.span.to mid (omega arith) laid) known wr fine (body.made.free ∷ [])
           ((scoped.first, omega arith), tt) (variables_apart s.names scoped.variables) ty is.real (ap_notes same is.filled) in
-          subst (λ t. Makes (Tells g s (after (declared d) s) lo mid end end body types point) (statements.with_init body.made.free t d.name.span i g.site begun)) (sym is.table)
-          (makes_then (Evaluates g mid (body.made.free ∷ []) begun now point f.0) (Tells g s (after (declared d) s) lo mid end end body types point) (init_evaluated g.site i ty begun) _ f.4
-          (λ ev e. subst (λ t. Tells g s (after (declared d) s) lo mid end end body types point (with_last ev.body (write (spot.Variable body.made.free) ev.slot t (filling i).span d.name.span (filling i).span))) (sym f.1)
+          subst (λ t. Makes (Tells g s (after (declared d) s) lo mid end end body types own_types point) (statements.with_init body.made.free t d.name.span i g.site begun)) (sym is.table)
+          (makes_then (Evaluates g mid (body.made.free ∷ []) begun now point f.0) (Tells g s (after (declared d) s) lo mid end end body types own_types point) (init_evaluated g.site i ty begun) _ f.4
+          (λ ev e. subst (λ t. Tells g s (after (declared d) s) lo mid end end body types own_types point (with_last ev.body (write (spot.Variable body.made.free) ev.slot t (filling i).span d.name.span (filling i).span))) (sym f.1)
           (last_tells f.0 f.2 f.3 (filling i).span (d.name.span ∷ (filling i).span ∷ []) refl ((let a = n.0 in omega (arith, a, some)), (let a = n.1 in let b = n.3 in omega (arith, a, b))) ev e)))
         where
           ap_notes : d.init ≡ Some i → Says g (init_notes d.init (pending d s) (Some ty)) → Says g (reading.filling i (pending d s) (Some ty))
@@ -231,7 +233,7 @@ module _ (g : Ground) (ground : IsGround g) where
     -- ---- the whole declaration
 
     initialised_tells : (o : Option Init) → d.init ≡ o → (ty : Type_) (is : IsNoted ty) (start : ℕ) → LaidOut start d.name.span.to mid (row (placed.maybe init_piece o)) → AllOf (IsKnown g) (parts.maybe init_parts o) → maybe_true is_written_init o ≡ true
-        → maybe_true is_readable_init o ≡ true → Makes (Tells g s (after (declared d) s) lo mid end end body types point) (statements.initialised body.made.free (declared_type (g.site.names.declared d.name.span)) d.name.span o g.site begun)
+        → maybe_true is_readable_init o ≡ true → Makes (Tells g s (after (declared d) s) lo mid end end body types own_types point) (statements.initialised body.made.free (declared_type (g.site.names.declared d.name.span)) d.name.span o g.site begun)
     initialised_tells None e ty is start laid known wr fine = default_tells ty is
     initialised_tells (Some i) e ty is start laid known wr fine =
         let q = laid_parts start d.name.span.to mid (init_piece i) nothing laid in
@@ -245,10 +247,10 @@ module _ (g : Ground) (ground : IsGround g) where
             subst (LaidOut from from to) (sym single.1) (n.0, n.1, n.2, (let a = n.3 in omega (arith, a, le)))
 
     pub declaration_tells : (start : ℕ) → LaidOut start d.name.span.to mid (row (placed.maybe init_piece d.init)) → AllOf (IsKnown g) (parts.maybe init_parts d.init) → maybe_true is_written_init d.init ≡ true → maybe_true is_readable_init d.init ≡ true
-        → Makes (Tells g s (after (declared d) s) lo mid end end body types point) (statements.declaration d g.site end body)
+        → Makes (Tells g s (after (declared d) s) lo mid end end body types own_types point) (statements.declaration d g.site end body)
     declaration_tells start laid known wr fine = by_room (nat_lt body.made.free most_slots)
       where
-        by_room : (b : Bool) → Makes (Tells g s (after (declared d) s) lo mid end end body types point)
+        by_room : (b : Bool) → Makes (Tells g s (after (declared d) s) lo mid end end body types own_types point)
             ((if b then Ok begun else Err which.Slots) >>= statements.initialised body.made.free (declared_type (g.site.names.declared d.name.span)) d.name.span d.init g.site)
         by_room true = initialised_tells d.init refl noted.0 noted.1 start laid known wr fine
         by_room false = tt

@@ -180,9 +180,11 @@ pub record Adds (g : Ground) (s : Names) (from to until : ℕ) (body : Body) (ty
   pub keeps_breaks : Passes body.made.free point breaks_by
   pub keeps_turns : Passes body.made.free point turns_by
 
--- A statement adds to a body, and the scope behind it is as it has to be.
-pub record Tells (g : Ground) (s next : Names) (from to until end : ℕ) (body : Body) (types : List Type_) (point : Point) (after : Body) : Type 0 where
+-- A statement adds to a body, with locals of these types, and the scope behind it is as it has to be.
+pub record Tells (g : Ground) (s next : Names) (from to until end : ℕ) (body : Body) (types own : List Type_) (point : Point) (after : Body) : Type 0 where
   pub adds : Adds g s from to until body types point after
   pub scoped : Scoped g next after.locals (types ++ adds.added_types) after.made.free to end
   pub stands : Stands g next after.locals adds.behind
   pub counted : next.next ≡ length after.locals
+  -- its locals have these types
+  pub typed : adds.added_types ≡ own
