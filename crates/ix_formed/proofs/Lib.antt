@@ -56,3 +56,6 @@ pub mod TypedForms
 pub mod TypedLoops
 pub mod TypedFor
 pub mod StatementsTell
+pub mod TypedMethods
+pub mod AcceptedMembers
+pub mod AcceptedMethods

@@ -7,7 +7,7 @@ use Rattle.ix_core.specs.declared.claim.Type_.{Type_}
 use Rattle.ix_core.specs.Types.{Point}
 use Rattle.ix_tree.specs.declared.decl.LocalDecl.{LocalDecl}
 use Rattle.ix_tree.specs.declared.expr.Expr.{Expr}
-use Rattle.ix_tree.specs.declared.stmt.Stmt.{Stmt, Stmt-F, fold-Stmt, ind-Stmt, map-Stmt, roll-Stmt, fold-roll-Stmt}
+use Rattle.ix_tree.specs.declared.stmt.Stmt.{Stmt, Stmt-F, ind-Stmt, map-Stmt, roll-Stmt, fold-roll-Stmt}
 use Rattle.ix_tree.specs.declared.stmt.StmtKind.{StmtKind, StmtKind-F, map-StmtKind, roll-StmtKind, fold-StmtKind, fold-roll-StmtKind}
 use Rattle.ix_tree.specs.Parts as parts
 use Rattle.ix_tree.specs.Parts.{Part, stmt_parts, expr_parts, decl_parts, together}
@@ -20,6 +20,7 @@ use Rattle.ix_plain.specs.declared.body.Body.{Body}
 use Rattle.ix_plain.specs.Statements as statements
 use Rattle.ix_plain.specs.Statements.{Run, Running}
 use Rattle.ix_formed.specs.Additions.{Makes, AllOf}
+use Rattle.ix_formed.specs.LocalTypes.{types_step, stmt_types}
 use Rattle.ix_formed.specs.Readable as readable
 use Rattle.ix_formed.specs.Readable.{Statement, stmt_shape, shape, is_part, is_readable_expr, is_readable_decl, each_fine}
 use Rattle.ix_formed.specs.TypedParts.{DoesTell, KeepsNames, IsStatement}
@@ -27,8 +28,8 @@ use Rattle.ix_formed.specs.TypedStatements.{Ground, IsGround, Says, IsKnown, Sco
 use Rattle.ix_formed.specs.Written as written
 use Rattle.ix_formed.specs.Written.{is_written_stmt, is_written_expr, is_written_decl, all_true, each_true, maybe_true}
 use Rattle.ix_formed.proofs.TypedExpressions.{all_parted}
-use Rattle.ix_formed.proofs.TypedFor.{AreStatements, joined, block_tells, for_tells}
-use Rattle.ix_formed.proofs.TypedForms.{empty_tells, break_tells, continue_tells, throw_tells, return_tells, run_tells, print_tells, given_back_tells, locals_tell, decl_types}
+use Rattle.ix_formed.proofs.TypedFor.{AreStatements, block_tells, for_tells}
+use Rattle.ix_formed.proofs.TypedForms.{empty_tells, break_tells, continue_tells, throw_tells, return_tells, run_tells, print_tells, given_back_tells, locals_tell}
 use Rattle.ix_formed.proofs.TypedLoops.{if_tells, else_tells, while_tells, do_tells}
 
 module _ (g : Ground) (ground : IsGround g) where
@@ -50,22 +51,8 @@ module _ (g : Ground) (ground : IsGround g) where
   abbrev kind_shape : StmtKind → Statement
   kind_shape = fold-StmtKind Statement Statement readable.stmt_kind_step (λ stmt. stmt.kind)
 
-  -- the types of the locals that a statement declares, by the table, in the order in which they are made
-  abbrev types_step : StmtKind-F (List Type_) (List Type_) → List Type_
-  types_step (StmtKind-F.Block xs) = joined g ground xs
-  types_step (StmtKind-F.Local ds) = decl_types g ground ds
-  types_step (StmtKind-F.If c first None) = first
-  types_step (StmtKind-F.If c first (Some second)) = first ++ second
-  types_step (StmtKind-F.While c turn) = turn
-  types_step (StmtKind-F.Do turn c) = turn
-  types_step (StmtKind-F.For first c update turn) = joined g ground first ++ turn
-  types_step _ = []
-
-  abbrev pub stmt_types : Stmt → List Type_
-  stmt_types = fold-Stmt (List Type_) (List Type_) types_step (λ stmt. stmt.kind)
-
   abbrev kind_types : StmtKind → List Type_
-  kind_types = fold-StmtKind (List Type_) (List Type_) types_step (λ stmt. stmt.kind)
+  kind_types = fold-StmtKind (List Type_) (List Type_) (types_step g.site.names) (λ stmt. stmt.kind)
 
   -- a statement's kind, at its place
   abbrev Both : Span → Run → Telling → List Layout → List Part → Bool → Statement → List Type_ → Type 0
@@ -75,7 +62,7 @@ module _ (g : Ground) (ground : IsGround g) where
   KindIs k = (span : Span) → Both span (kind_run k span) (kind_telling k span) (kind_pieces k) (kind_parts k) (kind_written k) (kind_shape k) (kind_types k)
 
   abbrev StmtIs : Stmt → Type 0
-  StmtIs x = IsStatement g (statements.statement x) (telling x) (stmt_piece x) (stmt_parts x) (is_written_stmt x) (stmt_shape x) (stmt_types x)
+  StmtIs x = IsStatement g (statements.statement x) (telling x) (stmt_piece x) (stmt_parts x) (is_written_stmt x) (stmt_shape x) (stmt_types g.site.names x)
 
   same_names : (t : Telling) (sh : Statement) → ((s : Names) → t.names s ≡ s.names) → KeepsNames g t sh
   same_names t sh same fine declares s = same s
@@ -98,7 +85,7 @@ module _ (g : Ground) (ground : IsGround g) where
     abbrev all_runs : List S → List Running
     all_runs xs = map statements.statement (map stmt xs)
 
-    are_statements : (xs : List S) → AreStatements g ground (map statements.statement (map stmt xs)) (map telling (map stmt xs)) (map stmt_piece (map stmt xs)) (map stmt_parts (map stmt xs)) (map is_written_stmt (map stmt xs)) (map stmt_shape (map stmt xs)) (map stmt_types (map stmt xs))
+    are_statements : (xs : List S) → AreStatements g ground (map statements.statement (map stmt xs)) (map telling (map stmt xs)) (map stmt_piece (map stmt xs)) (map stmt_parts (map stmt xs)) (map is_written_stmt (map stmt xs)) (map stmt_shape (map stmt xs)) (map (stmt_types g.site.names) (map stmt xs))
     are_statements [] = tt
     are_statements (x ∷ xs) = (stmt_is x, are_statements xs)
 
@@ -114,7 +101,7 @@ module _ (g : Ground) (ground : IsGround g) where
         (parts.stmt_kind_step (map-StmtKind StmtKind Stmt (List Part) (List Part) kind_parts stmt_parts layer))
         (written.stmt_kind_step (map-StmtKind StmtKind Stmt Bool Bool kind_written is_written_stmt layer))
         (readable.stmt_kind_step (map-StmtKind StmtKind Stmt Statement Statement kind_shape stmt_shape layer))
-        (types_step (map-StmtKind StmtKind Stmt (List Type_) (List Type_) kind_types stmt_types layer))
+        (types_step g.site.names (map-StmtKind StmtKind Stmt (List Type_) (List Type_) kind_types (stmt_types g.site.names) layer))
 
     if_layer : (c : Expr) (first : S) (second : Option S) → Layer (StmtKind-F.If c first second)
     if_layer c first None span = (
@@ -124,7 +111,7 @@ module _ (g : Ground) (ground : IsGround g) where
       let v = and_parts (is_written_stmt (stmt first)) true w.1 in
       let f = and_parts (is_readable_expr c) (is_part (stmt_shape (stmt first)) && true) fine in
       let h = and_parts (is_part (stmt_shape (stmt first))) true f.1 in
-      if_tells g ground c (run_of first) (told first) (stmt_piece (stmt first)) (stmt_parts (stmt first)) (is_written_stmt (stmt first)) (stmt_shape (stmt first)) (stmt_types (stmt first)) (stmt_is first) h.0 v.0 k.1 k.0 w.0 f.0 s span end body types point scoped stands counted some le laid said),
+      if_tells g ground c (run_of first) (told first) (stmt_piece (stmt first)) (stmt_parts (stmt first)) (is_written_stmt (stmt first)) (stmt_shape (stmt first)) (stmt_types g.site.names (stmt first)) (stmt_is first) h.0 v.0 k.1 k.0 w.0 f.0 s span end body types point scoped stands counted some le laid said),
       (λ fine declares s. let f = and_parts (is_readable_expr c) (is_part (stmt_shape (stmt first)) && true) fine in let h = and_parts (is_part (stmt_shape (stmt first))) true f.1 in names_of first h.0 s),
     )
     if_layer c first (Some second) span = (
@@ -135,8 +122,8 @@ module _ (g : Ground) (ground : IsGround g) where
       let v = and_parts (is_written_stmt (stmt first)) (is_written_stmt (stmt second)) w.1 in
       let f = and_parts (is_readable_expr c) (is_part (stmt_shape (stmt first)) && is_part (stmt_shape (stmt second))) fine in
       let h = and_parts (is_part (stmt_shape (stmt first))) (is_part (stmt_shape (stmt second))) f.1 in
-      else_tells g ground c (run_of first) (told first) (stmt_piece (stmt first)) (stmt_parts (stmt first)) (is_written_stmt (stmt first)) (stmt_shape (stmt first)) (stmt_types (stmt first)) (stmt_is first) h.0 v.0 k2.0 k.0 w.0 f.0 s span end body types point scoped stands counted some le
-      (run_of second) (told second) (stmt_piece (stmt second)) (stmt_parts (stmt second)) (is_written_stmt (stmt second)) (stmt_shape (stmt second)) (stmt_types (stmt second)) (stmt_is second) h.1 v.1 k2.1 laid said),
+      else_tells g ground c (run_of first) (told first) (stmt_piece (stmt first)) (stmt_parts (stmt first)) (is_written_stmt (stmt first)) (stmt_shape (stmt first)) (stmt_types g.site.names (stmt first)) (stmt_is first) h.0 v.0 k2.0 k.0 w.0 f.0 s span end body types point scoped stands counted some le
+      (run_of second) (told second) (stmt_piece (stmt second)) (stmt_parts (stmt second)) (is_written_stmt (stmt second)) (stmt_shape (stmt second)) (stmt_types g.site.names (stmt second)) (stmt_is second) h.1 v.1 k2.1 laid said),
       (λ fine declares s. let f = and_parts (is_readable_expr c) (is_part (stmt_shape (stmt first)) && is_part (stmt_shape (stmt second))) fine in
       let h = and_parts (is_part (stmt_shape (stmt first))) (is_part (stmt_shape (stmt second))) f.1 in names_of second h.1 (after (told first) s) ∙ names_of first h.0 s),
     )
@@ -147,7 +134,7 @@ module _ (g : Ground) (ground : IsGround g) where
       let k = all_parted (IsKnown g) (expr_parts c) (stmt_parts (stmt turn)) known in
       let w = and_parts (is_written_expr c) (is_written_stmt (stmt turn)) wr in
       let f = and_parts (is_readable_expr c) (is_part (stmt_shape (stmt turn))) fine in
-      while_tells g ground c (run_of turn) (told turn) (stmt_piece (stmt turn)) (stmt_parts (stmt turn)) (is_written_stmt (stmt turn)) (stmt_shape (stmt turn)) (stmt_types (stmt turn)) (stmt_is turn) f.1 w.1 k.1 k.0 w.0 f.0 s span end body types point scoped stands counted some le laid said),
+      while_tells g ground c (run_of turn) (told turn) (stmt_piece (stmt turn)) (stmt_parts (stmt turn)) (is_written_stmt (stmt turn)) (stmt_shape (stmt turn)) (stmt_types g.site.names (stmt turn)) (stmt_is turn) f.1 w.1 k.1 k.0 w.0 f.0 s span end body types point scoped stands counted some le laid said),
       (λ fine declares s. let f = and_parts (is_readable_expr c) (is_part (stmt_shape (stmt turn))) fine in names_of turn f.1 (bodies.inside s)),
     )
 
@@ -157,7 +144,7 @@ module _ (g : Ground) (ground : IsGround g) where
       let k = all_parted (IsKnown g) (stmt_parts (stmt turn)) (expr_parts c) known in
       let w = and_parts (is_written_stmt (stmt turn)) (is_written_expr c) wr in
       let f = and_parts (is_part (stmt_shape (stmt turn))) (is_readable_expr c) fine in
-      do_tells g ground c (run_of turn) (told turn) (stmt_piece (stmt turn)) (stmt_parts (stmt turn)) (is_written_stmt (stmt turn)) (stmt_shape (stmt turn)) (stmt_types (stmt turn)) (stmt_is turn) f.0 w.0 k.0 k.1 w.1 f.1 s span end body types point scoped stands counted some le laid said),
+      do_tells g ground c (run_of turn) (told turn) (stmt_piece (stmt turn)) (stmt_parts (stmt turn)) (is_written_stmt (stmt turn)) (stmt_shape (stmt turn)) (stmt_types g.site.names (stmt turn)) (stmt_is turn) f.0 w.0 k.0 k.1 w.1 f.1 s span end body types point scoped stands counted some le laid said),
       (λ fine declares s. let f = and_parts (is_part (stmt_shape (stmt turn))) (is_readable_expr c) fine in names_of turn f.0 (bodies.inside s)),
     )
 
@@ -173,8 +160,8 @@ module _ (g : Ground) (ground : IsGround g) where
       let f = and_parts (each_fine (map stmt_shape (map stmt first))) (maybe_true is_readable_expr c && (each_true is_readable_expr update && is_part (stmt_shape (stmt turn)))) fine in
       let f2 = and_parts (maybe_true is_readable_expr c) (each_true is_readable_expr update && is_part (stmt_shape (stmt turn))) f.1 in
       let f3 = and_parts (each_true is_readable_expr update) (is_part (stmt_shape (stmt turn))) f2.1 in
-      for_tells g ground (map statements.statement (map stmt first)) (map telling (map stmt first)) (map stmt_piece (map stmt first)) (map stmt_parts (map stmt first)) (map is_written_stmt (map stmt first)) (map stmt_shape (map stmt first)) (map stmt_types (map stmt first)) (are_statements first)
-      k.0 w.0 f.0 s span end body types point scoped stands counted some le c update (run_of turn) (told turn) (stmt_piece (stmt turn)) (stmt_parts (stmt turn)) (is_written_stmt (stmt turn)) (stmt_shape (stmt turn)) (stmt_types (stmt turn)) (stmt_is turn) f3.1 w3.1 k3.1 k2.0 w2.0 f2.0
+      for_tells g ground (map statements.statement (map stmt first)) (map telling (map stmt first)) (map stmt_piece (map stmt first)) (map stmt_parts (map stmt first)) (map is_written_stmt (map stmt first)) (map stmt_shape (map stmt first)) (map (stmt_types g.site.names) (map stmt first)) (are_statements first)
+      k.0 w.0 f.0 s span end body types point scoped stands counted some le c update (run_of turn) (told turn) (stmt_piece (stmt turn)) (stmt_parts (stmt turn)) (is_written_stmt (stmt turn)) (stmt_shape (stmt turn)) (stmt_types g.site.names (stmt turn)) (stmt_is turn) f3.1 w3.1 k3.1 k2.0 w2.0 f2.0
       k3.0 w3.0 f3.0 laid said),
       (λ fine declares s. refl),
     )
@@ -188,7 +175,7 @@ module _ (g : Ground) (ground : IsGround g) where
     layer_is : (y : StmtKind-F K S) → Layer y
     layer_is (StmtKind-F.Block xs) span = (
       (λ s end body types point scoped stands counted some le laid known wr fine said.
-      block_tells g ground (map statements.statement (map stmt xs)) (map telling (map stmt xs)) (map stmt_piece (map stmt xs)) (map stmt_parts (map stmt xs)) (map is_written_stmt (map stmt xs)) (map stmt_shape (map stmt xs)) (map stmt_types (map stmt xs)) (are_statements xs) known.1 wr fine s span end body
+      block_tells g ground (map statements.statement (map stmt xs)) (map telling (map stmt xs)) (map stmt_piece (map stmt xs)) (map stmt_parts (map stmt xs)) (map is_written_stmt (map stmt xs)) (map stmt_shape (map stmt xs)) (map (stmt_types g.site.names) (map stmt xs)) (are_statements xs) known.1 wr fine s span end body
       types point scoped stands counted some le laid said),
       (λ fine declares s. refl),
     )
@@ -228,8 +215,8 @@ module _ (g : Ground) (ground : IsGround g) where
         let d = fold-roll-StmtKind (List Part) (List Part) parts.stmt_kind_step parts.stmt_step layer in
         let e = fold-roll-StmtKind Bool Bool written.stmt_kind_step (λ stmt. stmt.kind) layer in
         let f = fold-roll-StmtKind Statement Statement readable.stmt_kind_step (λ stmt. stmt.kind) layer in
-        let h = fold-roll-StmtKind (List Type_) (List Type_) types_step (λ stmt. stmt.kind) layer in
-        let own = types_step (map-StmtKind StmtKind Stmt (List Type_) (List Type_) kind_types stmt_types layer) in
+        let h = fold-roll-StmtKind (List Type_) (List Type_) (types_step g.site.names) (λ stmt. stmt.kind) layer in
+        let own = types_step g.site.names (map-StmtKind StmtKind Stmt (List Type_) (List Type_) kind_types (stmt_types g.site.names) layer) in
         let pieces = placed.stmt_kind_pieces (map-StmtKind StmtKind Stmt (List Layout) Layout kind_pieces stmt_piece layer) in
         let ps = parts.stmt_kind_step (map-StmtKind StmtKind Stmt (List Part) (List Part) kind_parts stmt_parts layer) in
         let w = written.stmt_kind_step (map-StmtKind StmtKind Stmt Bool Bool kind_written is_written_stmt layer) in
@@ -254,7 +241,7 @@ module _ (g : Ground) (ground : IsGround g) where
         let d = fold-roll-Stmt (List Part) (List Part) parts.stmt_kind_step parts.stmt_step layer in
         let e = fold-roll-Stmt Bool Bool written.stmt_kind_step (λ stmt. stmt.kind) layer in
         let f = fold-roll-Stmt Statement Statement readable.stmt_kind_step (λ stmt. stmt.kind) layer in
-        let h = fold-roll-Stmt (List Type_) (List Type_) types_step (λ stmt. stmt.kind) layer in
+        let h = fold-roll-Stmt (List Type_) (List Type_) (types_step g.site.names) (λ stmt. stmt.kind) layer in
         let g1 = kind_is y.kind y.span in
         let r : Running = record { span = y.span; run = kind_run k y.span } in
         let l = node y.span (row (kind_pieces k)) nothing in
@@ -278,6 +265,6 @@ module _ (g : Ground) (ground : IsGround g) where
       (λ x y e. subst (λ layer. KindIs (roll-StmtKind layer)) e (kind_rolled (λ k. k.0) (λ s. s.0) (λ s. s.1) y))
       (λ x y e. subst (λ layer. StmtIs (roll-Stmt layer)) e (stmt_rolled (λ k. k.0) (λ s. s.0) (λ s. s.1) (λ k. k.1) y))
 
-  pub statements_are : (xs : List Stmt) → AreStatements g ground (map statements.statement xs) (map telling xs) (map stmt_piece xs) (map stmt_parts xs) (map is_written_stmt xs) (map stmt_shape xs) (map stmt_types xs)
+  pub statements_are : (xs : List Stmt) → AreStatements g ground (map statements.statement xs) (map telling xs) (map stmt_piece xs) (map stmt_parts xs) (map is_written_stmt xs) (map stmt_shape xs) (map (stmt_types g.site.names) xs)
   statements_are [] = tt
   statements_are (x ∷ xs) = (statement_is x, statements_are xs)

@@ -26,6 +26,7 @@ use Rattle.ix_plain.specs.Parts.{◌>>=◌, empty, block}
 use Rattle.ix_plain.specs.Statements as statements
 use Rattle.ix_plain.specs.Statements.{Running, Inside, Tested, tested_if, with_last, with_free, branch, inside, all_ran, ran, evaluated, Evaluated, most_loops}
 use Rattle.ix_formed.specs.Additions.{Makes, AllOf, IsPlain, code_before}
+use Rattle.ix_formed.specs.LocalTypes.{joined}
 use Rattle.ix_formed.specs.Points.{Known, Keeps, Leads, Decides}
 use Rattle.ix_formed.specs.Readable.{shape, Statement, is_part, each_fine, is_readable_expr}
 use Rattle.ix_formed.specs.TypedParts.{IsStatement, until}
@@ -51,11 +52,6 @@ module _ (g : Ground) (ground : IsGround g) where
   AreStatements [] [] [] [] [] [] [] = Unit {0}
   AreStatements (r ∷ rs) (t ∷ ts) (l ∷ ls) (ps ∷ pss) (w ∷ ws) (sh ∷ shs) (own ∷ owns) = IsStatement g r t l ps w sh own × AreStatements rs ts ls pss ws shs owns
   AreStatements _ _ _ _ _ _ _ = ⊥
-
-  -- the types of all locals, one statement behind the other
-  abbrev pub joined : List (List Type_) → List Type_
-  joined [] = []
-  joined (own ∷ owns) = own ++ joined owns
 
   until_most : (b : Bool) (end to : ℕ) → to ≤ end → (if b then end else to) ≤ end
   until_most true end to le = omega arith
