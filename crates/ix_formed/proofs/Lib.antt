@@ -59,3 +59,4 @@ pub mod StatementsTell
 pub mod TypedMethods
 pub mod AcceptedMembers
 pub mod AcceptedMethods
+pub mod AcceptedConstructors
