@@ -60,3 +60,5 @@ pub mod TypedMethods
 pub mod AcceptedMembers
 pub mod AcceptedMethods
 pub mod AcceptedConstructors
+pub mod AcceptedBodies
+pub mod MethodEntries
