@@ -60,7 +60,7 @@ module _ (unit : Source) (p : Program) (is : IsAccepted unit p) where
     pub same : IsMethod t at decl method
     pub class : at.class ≡ place.class
 
-  head_matches : (l : Place) (d : MethodDecl) (method : Method) → HasHead unit p is l d method → Matches method (signature l.world.class l.class d)
+  pub head_matches : (l : Place) (d : MethodDecl) (method : Method) → HasHead unit p is l d method → Matches method (signature l.world.class l.class d)
   head_matches l d method head =
       let said = result_said unit p is l d method head in
       record {

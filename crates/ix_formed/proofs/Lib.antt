@@ -62,3 +62,5 @@ pub mod AcceptedMethods
 pub mod AcceptedConstructors
 pub mod AcceptedBodies
 pub mod MethodEntries
+pub mod SourceMethods
+pub mod PlainMethods
