@@ -64,3 +64,4 @@ pub mod AcceptedBodies
 pub mod MethodEntries
 pub mod SourceMethods
 pub mod PlainMethods
+pub mod FormedPrograms
