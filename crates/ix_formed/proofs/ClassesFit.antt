@@ -114,9 +114,15 @@ module _ (unit : Source) (p : Program) (is : IsAccepted unit p) where
       first_next unit.classes s.classes s.methods (let a = few_fields unit.classes in let b = s.members in omega (arith, a, b))
 
   -- the signatures are those of the methods, and the methods are those that are written
-  pub matched : SignaturesMatch unit p is 0 (members.methods unit.classes) × AllOf (IsWritten unit p is (tables (names unit) unit.classes)) methods_have.written
-  matched = all_match unit p is (tables (names unit) unit.classes) refl (parents unit.classes) (members.methods unit.classes) 0 0 (first_numbers unit.classes) unit.classes methods_have.written [] methods_have.default refl numbers_go
-      (omega arith) is.written (said unit p is) methods_have.are_written methods_have.same
+  pub matched_with : (Q : MethodDecl → Type 0) → AllOf Q (all_methods unit.classes) → SignaturesMatch unit p is 0 (members.methods unit.classes) × AllOf (IsWritten unit p is Q (tables (names unit) unit.classes)) methods_have.written
+  matched_with Q fine = all_match unit p is Q (tables (names unit) unit.classes) refl (parents unit.classes) (members.methods unit.classes) 0 0 (first_numbers unit.classes) unit.classes methods_have.written [] methods_have.default refl numbers_go
+      (omega arith) is.written (said unit p is) methods_have.are_written fine methods_have.same
+
+  abbrev pub HasFewParams : MethodDecl → Type 0
+  HasFewParams d = length d.params ≤ 32
+
+  pub matched : SignaturesMatch unit p is 0 (members.methods unit.classes) × AllOf (IsWritten unit p is HasFewParams (tables (names unit) unit.classes)) methods_have.written
+  matched = matched_with HasFewParams (is_small unit p is).params
 
   -- ---- what a method overrides has its name
 
@@ -167,7 +173,7 @@ module _ (unit : Source) (p : Program) (is : IsAccepted unit p) where
           let two = and_parts (not m.signature.constructor) (bytes_eq m.signature.name name) one.1 in
           static_or_not m (omega (arith, few, count), found.matches.name ∙ same_text m.signature.name name two.1) m.signature.is_static
 
-  written_named : (method : Method) → IsWritten unit p is (tables (names unit) unit.classes) method → OverNamed method
+  written_named : (method : Method) → IsWritten unit p is HasFewParams (tables (names unit) unit.classes) method → OverNamed method
   written_named method w over e =
       let same : method.overrides ≡ overrides (world unit.classes) w.at.class w.decl = ap (λ (x : Method). x.overrides) w.same.same in
       let m = signature (world unit.classes).class w.at.class w.decl in
@@ -215,7 +221,7 @@ module _ (unit : Source) (p : Program) (is : IsAccepted unit p) where
   over_named k =
       subst (λ (ms : List Method). OverNamed (unwrap_or (slice_get ms k) no_method)) (sym methods_have.same)
       (all_at OverNamed no_method (methods_have.written ++ methods_have.default)
-      (all_joined OverNamed methods_have.written methods_have.default (all_so (IsWritten unit p is (tables (names unit) unit.classes)) OverNamed written_named methods_have.written matched.1)
+      (all_joined OverNamed methods_have.written methods_have.default (all_so (IsWritten unit p is HasFewParams (tables (names unit) unit.classes)) OverNamed written_named methods_have.written matched.1)
       (all_so (λ (method : Method). method.overrides ≡ None) OverNamed (λ method none over e. absurd (no_over method none over e)) methods_have.default
       (defaults_override_none (first_numbers unit.classes) unit.classes methods_have.default methods_have.are_default)))
       (λ over e. absurd (no_over no_method refl over e)) k)

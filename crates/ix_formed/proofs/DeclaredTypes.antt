@@ -32,12 +32,12 @@ use Rattle.ix_formed.proofs.ProgramsHaveShape.{less_is}
 
 -- ---- the claims of several annotations
 
-given_elements : (names : Names) (annots : List Annot) → names.target ≡ on.Element → AllOf (λ c. is_element_claim c ≡ true) (given names annots).claims
+pub given_elements : (names : Names) (annots : List Annot) → names.target ≡ on.Element → AllOf (λ c. is_element_claim c ≡ true) (given names annots).claims
 given_elements names [] e = tt
 given_elements names (annot ∷ annots) e =
     all_joined (λ c. is_element_claim c ≡ true) (claims_from (expanded annot names)) (given names annots).claims (expanded_elements names annot e) (given_elements names annots e)
 
-given_none : (names : Names) (annots : List Annot) → names.target ≡ on.Other → (given names annots).claims ≡ []
+pub given_none : (names : Names) (annots : List Annot) → names.target ≡ on.Other → (given names annots).claims ≡ []
 given_none names [] e = refl
 given_none names (annot ∷ annots) e = ap (λ l. l ++ (given names annots).claims) (expanded_other names annot e) ∙ given_none names annots e
 

@@ -13,6 +13,7 @@ use Rattle.ix_tree.specs.declared.decl.MethodDecl.{MethodDecl}
 use Rattle.ix_tree.specs.declared.decl.Unit.{Unit as Source}
 use Rattle.ix_tree.specs.Parts.{unit_parts}
 use Rattle.ix_meaning.specs.declared.members.Signature.{Signature}
+use Rattle.ix_meaning.specs.Limits.{methods_of, all_methods}
 use Rattle.ix_meaning.specs.Members as members
 use Rattle.ix_meaning.specs.Members.{World, world, signature, param_type, result_type}
 use Rattle.ix_meaning.specs.Resolved.{Names, names}
@@ -30,7 +31,7 @@ use Rattle.ix_formed.proofs.DeclaredMethods.{method_says, params_typed}
 use Rattle.ix_formed.proofs.FieldsFit.{IsAccepted}
 use Rattle.ix_formed.proofs.HeadsFit.{HasHead, all_params_say, result_said}
 use Rattle.ix_formed.proofs.Numbering.{goes, goes_on}
-use Rattle.ix_formed.proofs.NumberLists.{all_joined}
+use Rattle.ix_formed.proofs.NumberLists.{all_joined, all_split}
 use Rattle.ix_formed.proofs.ProgramsHaveShape.{types_behind}
 
 module _ (unit : Source) (p : Program) (is : IsAccepted unit p) where
@@ -49,16 +50,17 @@ module _ (unit : Source) (p : Program) (is : IsAccepted unit p) where
   SignaturesMatch number [] = Unit {0}
   SignaturesMatch number (m ∷ ms) = ((number < length p.methods) × Matches (method_at p number) m) × SignaturesMatch (number + 1) ms
 
-  -- a method of the program that is written, where it stands and as what
-  pub record IsWritten (t : Tables) (method : Method) : Type 0 where
+  -- a method of the program that is written, where it stands and as what, and what else is so of it
+  pub record IsWritten (Q : MethodDecl → Type 0) (t : Tables) (method : Method) : Type 0 where
     pub place : Place
     pub decl : MethodDecl
+    pub fine : Q decl
     pub at : Home
     pub head : HasHead unit p is place decl method
     pub same : IsMethod t at decl method
     pub class : at.class ≡ place.class
 
-  head_matches : (l : Place) (d : MethodDecl) (method : Method) → HasHead unit p is l d method → Matches method (signature l.world.class l.class d)
+  pub head_matches : (l : Place) (d : MethodDecl) (method : Method) → HasHead unit p is l d method → Matches method (signature l.world.class l.class d)
   head_matches l d method head =
       let said = result_said unit p is l d method head in
       record {
@@ -75,7 +77,7 @@ module _ (unit : Source) (p : Program) (is : IsAccepted unit p) where
   method_behind [] x later = refl
   method_behind (y ∷ before) x later = method_behind before x later
 
-  module _ (t : Tables) (same_names : t.names ≡ names unit) where
+  module _ (Q : MethodDecl → Type 0) (t : Tables) (same_names : t.names ≡ names unit) where
     written_head_is : (ss : List Signature) (c : ℕ) (k : ClassDecl) (at : Home) (d : MethodDecl) (method : Method) → at.class ≡ c → c < length unit.classes → is_written_method d ≡ true
         → IsMethod t at d method → Rattle.ix_formed.proofs.DeclaredFields.Says (names unit) (unit_parts unit) (source.method_notes (place (world unit.classes) ss c k) (signature (world unit.classes).class c d) d)
         → HasHead unit p is (place (world unit.classes) ss c k) d method
@@ -95,12 +97,12 @@ module _ (unit : Source) (p : Program) (is : IsAccepted unit p) where
 
     members_match : (ss : List Signature) (c : ℕ) (k : ClassDecl) (at : Home) (named : List ℕ → Option ℕ) (i next : ℕ) (ms : List Member) (methods before later : List Method) → at.class ≡ c → c < length unit.classes
         → each_true is_written_member ms ≡ true → MembersSay (Agrees (names unit) (unit_parts unit)) (place (world unit.classes) ss c k) named i next ms → AreMethods t at ms methods
-        → p.methods ≡ before ++ (methods ++ later)
-        → SignaturesMatch (length before) (members.methods_in (world unit.classes).class c ms) × AllOf (IsWritten t) methods
-    members_match ss c k at named i next [] methods before later class there wr says are e = (tt, subst (AllOf (IsWritten t)) (sym are) tt)
-    members_match ss c k at named i next (member.Field d ∷ ms) methods before later class there wr says are e =
-        members_match ss c k at named (i + 1) (members.next_field next d) ms methods before later class there (and_parts (is_written_member (member.Field d)) (each_true is_written_member ms) wr).1 says.2 are e
-    members_match ss c k at named i next (member.Method d ∷ ms) methods before later class there wr says are e =
+        → AllOf Q (methods_of ms) → p.methods ≡ before ++ (methods ++ later)
+        → SignaturesMatch (length before) (members.methods_in (world unit.classes).class c ms) × AllOf (IsWritten Q t) methods
+    members_match ss c k at named i next [] methods before later class there wr says are fine e = (tt, subst (AllOf (IsWritten Q t)) (sym are) tt)
+    members_match ss c k at named i next (member.Field d ∷ ms) methods before later class there wr says are fine e =
+        members_match ss c k at named (i + 1) (members.next_field next d) ms methods before later class there (and_parts (is_written_member (member.Field d)) (each_true is_written_member ms) wr).1 says.2 are fine e
+    members_match ss c k at named i next (member.Method d ∷ ms) methods before later class there wr says are fine e =
         let parts_w = and_parts (is_written_method d) (each_true is_written_member ms) wr in
         let method = are.0 in
         let head = written_head_is ss c k at d method class there parts_w.0 are.3 says.1 in
@@ -109,7 +111,7 @@ module _ (unit : Source) (p : Program) (is : IsAccepted unit p) where
         let long = ap (λ (l : List Method). length l) all in
         let more = length-append before (method ∷ (are.1 ++ later)) in
         let up : length (before ++ method ∷ []) ≡ length before + 1 = (let a = length-append before (method ∷ []) in omega (arith, a)) in
-        let rest = members_match ss c k at named (i + 1) next ms are.1 (before ++ method ∷ []) later class there parts_w.1 says.2 are.4 (all ∙ sym (append_assoc before (method ∷ []) (are.1 ++ later))) in (
+        let rest = members_match ss c k at named (i + 1) next ms are.1 (before ++ method ∷ []) later class there parts_w.1 says.2 are.4 fine.1 (all ∙ sym (append_assoc before (method ∷ []) (are.1 ++ later))) in (
           (
             (
               (let lt : length before < length p.methods = omega (arith, long, more) in lt),
@@ -117,7 +119,7 @@ module _ (unit : Source) (p : Program) (is : IsAccepted unit p) where
             ),
             subst (λ n. SignaturesMatch n (members.methods_in (world unit.classes).class c ms)) up rest.0,
           ),
-          subst (AllOf (IsWritten t)) (sym are.2) (record { place = place (world unit.classes) ss c k; decl = d; at = at; head = head; same = are.3; class = class }, rest.1),
+          subst (AllOf (IsWritten Q t)) (sym are.2) (record { place = place (world unit.classes) ss c k; decl = d; fine = fine.0; at = at; head = head; same = are.3; class = class }, rest.1),
         )
 
     signatures_both : (number other : ℕ) (xs ys : List Signature) → SignaturesMatch number xs → other ≡ number + length xs → SignaturesMatch other ys → SignaturesMatch number (xs ++ ys)
@@ -132,21 +134,22 @@ module _ (unit : Source) (p : Program) (is : IsAccepted unit p) where
 
     pub all_match : (ps : List (Option ℕ)) (ss : List Signature) (c nf : ℕ) (next : Next) (ks : List ClassDecl) (methods before later : List Method) → next.class ≡ c → IsNext next ks → c + length ks ≤ length unit.classes
         → each_true (λ (k : ClassDecl). each_true is_written_member k.members) ks ≡ true → ClassesSay (Agrees (names unit) (unit_parts unit)) (world unit.classes) ps ss c nf ks → AreAllMethods t next ks methods
-        → p.methods ≡ before ++ (methods ++ later)
-        → SignaturesMatch (length before) (members.methods_from (world unit.classes).class c ks) × AllOf (IsWritten t) methods
-    all_match ps ss c nf next [] methods before later class number le wr says are e = (tt, subst (AllOf (IsWritten t)) (sym are) tt)
-    all_match ps ss c nf next (k ∷ ks) methods before later class number le wr says are e =
+        → AllOf Q (all_methods ks) → p.methods ≡ before ++ (methods ++ later)
+        → SignaturesMatch (length before) (members.methods_from (world unit.classes).class c ks) × AllOf (IsWritten Q t) methods
+    all_match ps ss c nf next [] methods before later class number le wr says are fine e = (tt, subst (AllOf (IsWritten Q t)) (sym are) tt)
+    all_match ps ss c nf next (k ∷ ks) methods before later class number le wr says are fine e =
         let parts_w = and_parts (each_true is_written_member k.members) (each_true (λ (k : ClassDecl). each_true is_written_member k.members) ks) wr in
         let up = (goes next k ks number).class in
         let at = home t next k in
+        let each = all_split Q (methods_of k.members) (all_methods ks) fine in
         let all : p.methods ≡ before ++ (are.0 ++ (are.1 ++ later)) = e ∙ ap (λ (l : List Method). before ++ (l ++ later)) are.2 ∙ ap (λ (l : List Method). before ++ l) (append_assoc are.0 are.1 later) in
-        let own = members_match ss c k at (source.member_named k.members) 0 nf k.members are.0 before (are.1 ++ later) class (omega (arith, le)) parts_w.0 says.0.members are.3 all in
-        let rest = all_match ps ss (c + 1) (members.next_fields nf k.members) (next_behind next k) ks are.1 (before ++ are.0) later (omega (arith, up, class)) (goes_on next k ks number) (omega (arith, le)) parts_w.1 says.1 are.4
+        let own = members_match ss c k at (source.member_named k.members) 0 nf k.members are.0 before (are.1 ++ later) class (omega (arith, le)) parts_w.0 says.0.members are.3 each.0 all in
+        let rest = all_match ps ss (c + 1) (members.next_fields nf k.members) (next_behind next k) ks are.1 (before ++ are.0) later (omega (arith, up, class)) (goes_on next k ks number) (omega (arith, le)) parts_w.1 says.1 are.4 each.1
         (all ∙ sym (append_assoc before are.0 (are.1 ++ later))) in
         let count : length (before ++ are.0) ≡ length before + length (members.methods_in (world unit.classes).class c k.members) =
         (let a = length-append before are.0 in let b = own_length (world unit.classes).class c at k.members are.0 are.3 in omega (arith, a, b)) in (
           signatures_both (length before) (length (before ++ are.0)) (members.methods_in (world unit.classes).class c k.members) (members.methods_from (world unit.classes).class (c + 1) ks) own.0 count rest.0,
-          subst (AllOf (IsWritten t)) (sym are.2) (all_joined (IsWritten t) are.0 are.1 own.1 rest.1),
+          subst (AllOf (IsWritten Q t)) (sym are.2) (all_joined (IsWritten Q t) are.0 are.1 own.1 rest.1),
         )
 
   pub signatures_parts : (number : ℕ) (xs ys : List Signature) → SignaturesMatch number (xs ++ ys) → SignaturesMatch number xs × SignaturesMatch (number + length xs) ys

@@ -261,3 +261,9 @@ init_single = ind-Init (λ k. Unit {0}) (λ i. IsNode (init_piece i) (filling i)
     (λ x y e. tt)
     (λ x y e. subst (λ layer. IsNode (init_piece (roll-Init layer)) (filling (roll-Init layer)).span) e (init_node (λ k. k.0) (λ i. i.0) (λ x. x.0) (λ x. x.1) y))
     (λ x y e. subst (λ layer. IsNode (expr_piece (roll-Expr layer)) (lowering (roll-Expr layer)).span) e (expr_node (λ k. k.0) (λ i. i.0) (λ x. x.0) (λ x. x.1) y))
+
+pub expr_single : (e : Expr) → IsNode (expr_piece e) (lowering e).span
+expr_single = ind-Expr (λ k. Unit {0}) (λ i. IsNode (init_piece i) (filling i).span) (λ e. IsNode (expr_piece e) (lowering e).span)
+    (λ x y e. tt)
+    (λ x y e. subst (λ layer. IsNode (init_piece (roll-Init layer)) (filling (roll-Init layer)).span) e (init_node (λ k. k.0) (λ i. i.0) (λ x. x.0) (λ x. x.1) y))
+    (λ x y e. subst (λ layer. IsNode (expr_piece (roll-Expr layer)) (lowering (roll-Expr layer)).span) e (expr_node (λ k. k.0) (λ i. i.0) (λ x. x.0) (λ x. x.1) y))

@@ -51,3 +51,17 @@ pub mod TypedItems
 pub mod TypedEvaluations
 pub mod TypedBlocks
 pub mod TypedDeclarations
+pub mod TypedLocals
+pub mod TypedForms
+pub mod TypedLoops
+pub mod TypedFor
+pub mod StatementsTell
+pub mod TypedMethods
+pub mod AcceptedMembers
+pub mod AcceptedMethods
+pub mod AcceptedConstructors
+pub mod AcceptedBodies
+pub mod MethodEntries
+pub mod SourceMethods
+pub mod PlainMethods
+pub mod FormedPrograms

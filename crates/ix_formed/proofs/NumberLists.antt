@@ -104,6 +104,10 @@ pub all_so : {A : Type 0} (P Q : A → Type 0) → ((x : A) → P x → Q x) →
 all_so P Q more [] a = tt
 all_so P Q more (x ∷ xs) a = (more x a.0, all_so P Q more xs a.1)
 
+pub all_split : {A : Type 0} (P : A → Type 0) (xs ys : List A) → AllOf P (xs ++ ys) → AllOf P xs × AllOf P ys
+all_split P [] ys all = (tt, all)
+all_split P (x ∷ xs) ys all = let rest = all_split P xs ys all.1 in ((all.0, rest.0), rest.1)
+
 pub all_joined : {A : Type 0} (P : A → Type 0) (xs ys : List A) → AllOf P xs → AllOf P ys → AllOf P (xs ++ ys)
 all_joined P [] ys a b = b
 all_joined P (x ∷ xs) ys a b = (a.0, all_joined P xs ys a.1 b)

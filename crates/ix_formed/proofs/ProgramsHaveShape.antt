@@ -65,17 +65,17 @@ types_behind names types [] = sym (append-nil types)
 types_behind names types (decl ∷ decls) =
     types_behind names (types ++ declared_type (names.declared decl.name.span) ∷ []) decls ∙ append_assoc types (declared_type (names.declared decl.name.span) ∷ []) (types_of names decls)
 
-slots_behind : (slot : ℕ) (decls : List LocalDecl) → slot + length decls ≤ most_counted → slot_behind slot decls ≡ slot + length decls
+pub slots_behind : (slot : ℕ) (decls : List LocalDecl) → slot + length decls ≤ most_counted → slot_behind slot decls ≡ slot + length decls
 slots_behind slot [] le = omega arith
 slots_behind slot (decl ∷ decls) le =
     let up = one_more slot (omega (arith, le)) in
     ap (λ n. slot_behind n decls) up ∙ (let e = slots_behind (slot + 1) decls (omega (arith, le)) in omega (arith, e))
 
-params_length : (names : Names) (slot : ℕ) (decls : List LocalDecl) → length (params_of names slot decls) ≡ length decls
+pub params_length : (names : Names) (slot : ℕ) (decls : List LocalDecl) → length (params_of names slot decls) ≡ length decls
 params_length names slot [] = refl
 params_length names slot (decl ∷ decls) = let e = params_length names (slot + 1) decls in omega (arith, e)
 
-types_length : (names : Names) (decls : List LocalDecl) → length (types_of names decls) ≡ length decls
+pub types_length : (names : Names) (decls : List LocalDecl) → length (types_of names decls) ≡ length decls
 types_length names [] = refl
 types_length names (decl ∷ decls) = let e = types_length names decls in omega (arith, e)
 

@@ -27,7 +27,7 @@ use Rattle.ix_formed.specs.Additions.{Makes, AllOf, code_before}
 use Rattle.ix_formed.specs.Points.{Known, Keeps, Decides}
 use Rattle.ix_formed.specs.Readable.{Statement, is_part}
 use Rattle.ix_formed.specs.TypedParts.{until, IsStatement}
-use Rattle.ix_formed.specs.TypedStatements.{Ground, IsGround, Says, IsKnown, Begins, IsDeclared, DoFit, Scoped, Stands, ways, Leaves, Adds, Tells}
+use Rattle.ix_formed.specs.TypedStatements.{Ground, IsGround, Says, IsKnown, Begins, IsDeclared, DoFit, Scoped, Stands, ways, Passes, Leaves, Adds, Tells}
 use Rattle.ix_formed.proofs.NumberLists.{both_true, all_so}
 use Rattle.ix_formed.proofs.PlainItems.{items_before, makes_then}
 use Rattle.ix_formed.proofs.SameTypes.{same_itself}
@@ -37,28 +37,28 @@ use Rattle.ix_formed.proofs.TypedPoints.{keeps_none, keeps_both, meeting_keeps}
 module _ (g : Ground) where
   -- ---- what was made in a block of its own
 
-  -- The block fits, and leads to a point.
-  pub record BlockFits (in_loop : Bool) (code : Code) (base : ℕ) (point ends : Point) : Type 0 where
+  -- The block fits, and leads to these points.
+  pub record BlockFits (in_loop : Bool) (code : Code) (point ends breaks turns : Point) : Type 0 where
     pub fits : (ways g in_loop code point).fits ≡ true
     pub ends_at : (ways g in_loop code point).ends ≡ ends
-    pub breaks : (count : ℕ) (kept : Point) → count ≤ base → Keeps count kept point → Keeps count kept (ways g in_loop code point).breaks
-    pub turns : (count : ℕ) (kept : Point) → count ≤ base → Keeps count kept point → Keeps count kept (ways g in_loop code point).turns
+    pub breaks_at : (ways g in_loop code point).breaks ≡ breaks
+    pub turns_at : (ways g in_loop code point).turns ≡ turns
 
-  pub block_fits : (in_loop : Bool) (made : Made) (items : List Item) (base : ℕ) (point ends : Point) → made.items ≡ items → Leaves g in_loop items base point ends → BlockFits in_loop (block_code (block made)) base point ends
-  block_fits in_loop made items base point ends e leaves =
+  pub block_fits : (in_loop : Bool) (made : Made) (items : List Item) (point ends : Point) (breaks turns : Point → Point) → made.items ≡ items → Leaves g in_loop items point ends breaks turns
+      → BlockFits in_loop (block_code (block made)) point ends (breaks None) (turns None)
+  block_fits in_loop made items point ends breaks turns e leaves =
       let same : block_code (block made) ≡ code_before items End = ap items_code e ∙ items_before items in
-      subst (λ code. BlockFits in_loop code base point ends) (sym same) (record {
-        fits = leaves.fits End refl;
-        ends_at = leaves.ends End;
-        breaks = λ count kept le known. leaves.breaks End count kept le known (λ slot lt ty k. tt);
-        turns = λ count kept le known. leaves.turns End count kept le known (λ slot lt ty k. tt);
-      })
+      subst (λ code. BlockFits in_loop code point ends (breaks None) (turns None)) (sym same) (record { fits = leaves.fits End refl; ends_at = leaves.ends End; breaks_at = leaves.breaks End; turns_at = leaves.turns End })
 
-  pub no_block_fits : (in_loop : Bool) (base : ℕ) (point : Point) → BlockFits in_loop End base point point
-  no_block_fits in_loop base point = record { fits = refl; ends_at = refl; breaks = λ count kept le known slot lt ty k. tt; turns = λ count kept le known slot lt ty k. tt }
+  pub no_block_fits : (in_loop : Bool) (point : Point) → BlockFits in_loop End point point None None
+  no_block_fits in_loop point = record { fits = refl; ends_at = refl; breaks_at = refl; turns_at = refl }
+
+  -- nothing is known where no way leads
+  pub none_known : (count : ℕ) (kept : Point) → Keeps count kept None
+  none_known count kept slot lt ty k = tt
 
   -- A statement that is a part of another was made, between two places.
-  pub record Nests (t : Telling) (s : Names) (lo hi : ℕ) (body : Body) (types : List Type_) (point : Point) (made : Inside) : Type 0 where
+  pub record Nests (t : Telling) (own : List Type_) (s : Names) (lo hi : ℕ) (body : Body) (types : List Type_) (point : Point) (made : Inside) : Type 0 where
     pub added : List (Local × Span)
     pub added_types : List Type_
     pub grown : made.body.locals ≡ body.locals ++ added
@@ -69,24 +69,29 @@ module _ (g : Ground) where
     pub same : made.body.made ≡ body.made
     pub names : t.names s ≡ s.names
     pub counted : s.next + t.declares ≡ length made.body.locals
+    pub typed_own : added_types ≡ own
     pub ends : Point
-    pub block : Begins g made.body.locals (types ++ added_types) hi → made.body.most ≤ g.method.slots → (in_loop : Bool) → (s.in_loop ≡ true → in_loop ≡ true) → BlockFits in_loop (block_code made.block) body.made.free point ends
+    pub breaks : Point
+    pub turns : Point
+    pub block : Begins g made.body.locals (types ++ added_types) hi → made.body.most ≤ g.method.slots → (in_loop : Bool) → (s.in_loop ≡ true → in_loop ≡ true) → BlockFits in_loop (block_code made.block) point ends breaks turns
     pub keeps : Keeps body.made.free point ends
+    pub keeps_breaks : Keeps body.made.free point breaks
+    pub keeps_turns : Keeps body.made.free point turns
 
   until_at : (b : Bool) (n : ℕ) → (if b then n else n) ≤ n
   until_at true n = omega arith
   until_at false n = omega arith
 
-  pub part_nests : (r : Running) (t : Telling) (l : Layout) (ps : List Part) (written : Bool) (shape : Statement) → IsStatement g r t l ps written shape → (s : Names) (start lo hi end : ℕ) (body : Body) (types : List Type_) (point : Point)
+  pub part_nests : (r : Running) (t : Telling) (l : Layout) (ps : List Part) (written : Bool) (shape : Statement) (own : List Type_) → IsStatement g r t l ps written shape own → (s : Names) (start lo hi end : ℕ) (body : Body) (types : List Type_) (point : Point)
       → Scoped g s body.locals types body.made.free lo end → Stands g s body.locals point → s.next ≡ length body.locals → LaidOut start lo hi l → hi ≤ end → AllOf (IsKnown g) ps → written ≡ true → is_part shape ≡ true → Says g (t.notes s)
-      → Makes (Nests t s lo hi body types point) (branch r g.site body)
-  part_nests r t l ps written shape is s start lo hi end body types point scoped stands counted laid le known wr part said =
+      → Makes (Nests t own s lo hi body types point) (branch r g.site body)
+  part_nests r t l ps written shape own is s start lo hi end body types point scoped stands counted laid le known wr part said =
       let q = and_parts (not shape.declares) shape.fine part in
       let n = subst (LaidOut start lo hi) is.placed laid in
       let begun : Body = record body { made = empty body.made.free } in
       let a = n.0 in
       let b = n.3 in
-      makes_then (Tells g s (after t s) r.span.from r.span.to (until g shape r.span.to r.span) r.span.to begun types point) (Nests t s lo hi body types point) (r.run g.site r.span.to begun) _
+      makes_then (Tells g s (after t s) r.span.from r.span.to (until g shape r.span.to r.span) r.span.to begun types own point) (Nests t own s lo hi body types point) (r.run g.site r.span.to begun) _
       (is.tells s r.span.to begun types point (scoped_within g s body.locals types body.made.free lo end r.span.from r.span.to a (omega (arith, b, le)) scoped) stands counted n.1 (omega arith) n.2 known wr q.1 said)
       (λ inner x. record {
         added = x.adds.added;
@@ -100,10 +105,15 @@ module _ (g : Ground) where
         same = refl;
         names = is.names q.1 (no_declares shape.declares q.0) s;
         counted = x.counted;
+        typed_own = x.typed;
         ends = x.adds.behind;
+        breaks = x.adds.breaks_by None;
+        turns = x.adds.turns_by None;
         block = λ begins few in_loop loops.
-            block_fits in_loop inner.made x.adds.items body.made.free point x.adds.behind x.adds.appended (x.adds.leaves (earlier inner.locals (types ++ x.adds.added_types) r.span.to hi b begins) few in_loop loops);
+            block_fits in_loop inner.made x.adds.items point x.adds.behind x.adds.breaks_by x.adds.turns_by x.adds.appended (x.adds.leaves (earlier inner.locals (types ++ x.adds.added_types) r.span.to hi b begins) few in_loop loops);
         keeps = x.adds.keeps;
+        keeps_breaks = x.adds.keeps_breaks body.made.free point None (omega arith) (keeps_none body.made.free point) (none_known body.made.free point);
+        keeps_turns = x.adds.keeps_turns body.made.free point None (omega arith) (keeps_none body.made.free point) (none_known body.made.free point);
       })
     where
       no_declares : (b : Bool) → not b ≡ true → b ≡ false
@@ -131,23 +141,30 @@ module _ (g : Ground) where
 
   -- ---- choices
 
-  pub if_leaves : (in_loop : Bool) (asked : Cond) (first second : Block) (base : ℕ) (point holds fails one other : Point) → Decides g.program g.method g.locals asked point holds fails → Keeps base point holds → Keeps base point fails
-      → BlockFits in_loop (block_code first) base holds one → BlockFits in_loop (block_code second) base fails other → Leaves g in_loop (item.If asked first second ∷ []) base point (meeting one other)
-  if_leaves in_loop asked first second base point holds fails one other d keeps_holds keeps_fails a b = record {
+  -- where either of two jumps leads
+  abbrev pub either_jump : Point → Point → Point → Point
+  either_jump one other later = meeting one (meeting other later)
+
+  pub either_passes : (base : ℕ) (point one other : Point) → Keeps base point one → Keeps base point other → Passes base point (either_jump one other)
+  either_passes base point one other a b count kept x le known keeps =
+      meeting_keeps count kept one (meeting other x) (keeps_both count base kept point one le known a) (meeting_keeps count kept other x (keeps_both count base kept point other le known b) keeps)
+
+  pub if_leaves : (in_loop : Bool) (asked : Cond) (first second : Block) (point holds fails one other breaks_one breaks_other turns_one turns_other : Point) → Decides g.program g.method g.locals asked point holds fails
+      → BlockFits in_loop (block_code first) holds one breaks_one turns_one → BlockFits in_loop (block_code second) fails other breaks_other turns_other
+      → Leaves g in_loop (item.If asked first second ∷ []) point (meeting one other) (either_jump breaks_one breaks_other) (either_jump turns_one turns_other)
+  if_leaves in_loop asked first second point holds fails one other breaks_one breaks_other turns_one turns_other d a b = record {
     fits = λ rest fit. ap (λ (w : Ways). w.fits) (reads rest)
         ∙ both_true (condition_ways g.program g.method g.locals (cond_code asked) point).fits _ d.fits
         (both_true (ways g in_loop (block_code first) holds).fits _ a.fits (both_true (ways g in_loop (block_code second) fails).fits _ b.fits (ap (λ q. (ways g in_loop rest q).fits) meets ∙ fit)));
     ends = λ rest. ap (λ (w : Ways). w.ends) (reads rest) ∙ ap (λ q. (ways g in_loop rest q).ends) meets;
-    breaks = λ rest count kept le known keeps. subst (λ (w : Ways). Keeps count kept w.breaks) (sym (reads rest))
-        (meeting_keeps count kept (ways g in_loop (block_code first) holds).breaks (meeting (ways g in_loop (block_code second) fails).breaks (ways g in_loop rest (meeting (ways g in_loop (block_code first) holds).ends (ways g in_loop (block_code second) fails).ends)).breaks)
-        (a.breaks count kept le (keeps_both count base kept point holds le known keeps_holds))
-        (meeting_keeps count kept (ways g in_loop (block_code second) fails).breaks (ways g in_loop rest (meeting (ways g in_loop (block_code first) holds).ends (ways g in_loop (block_code second) fails).ends)).breaks
-        (b.breaks count kept le (keeps_both count base kept point fails le known keeps_fails)) (subst (λ q. Keeps count kept (ways g in_loop rest q).breaks) (sym meets) keeps)));
-    turns = λ rest count kept le known keeps. subst (λ (w : Ways). Keeps count kept w.turns) (sym (reads rest))
-        (meeting_keeps count kept (ways g in_loop (block_code first) holds).turns (meeting (ways g in_loop (block_code second) fails).turns (ways g in_loop rest (meeting (ways g in_loop (block_code first) holds).ends (ways g in_loop (block_code second) fails).ends)).turns)
-        (a.turns count kept le (keeps_both count base kept point holds le known keeps_holds))
-        (meeting_keeps count kept (ways g in_loop (block_code second) fails).turns (ways g in_loop rest (meeting (ways g in_loop (block_code first) holds).ends (ways g in_loop (block_code second) fails).ends)).turns
-        (b.turns count kept le (keeps_both count base kept point fails le known keeps_fails)) (subst (λ q. Keeps count kept (ways g in_loop rest q).turns) (sym meets) keeps)));
+    breaks = λ rest. ap (λ (w : Ways). w.breaks) (reads rest)
+        ∙ ap (λ q. meeting q (meeting (ways g in_loop (block_code second) fails).breaks (ways g in_loop rest (meeting (ways g in_loop (block_code first) holds).ends (ways g in_loop (block_code second) fails).ends)).breaks)) a.breaks_at
+        ∙ ap (λ q. meeting breaks_one (meeting q (ways g in_loop rest (meeting (ways g in_loop (block_code first) holds).ends (ways g in_loop (block_code second) fails).ends)).breaks)) b.breaks_at
+        ∙ ap (λ q. meeting breaks_one (meeting breaks_other (ways g in_loop rest q).breaks)) meets;
+    turns = λ rest. ap (λ (w : Ways). w.turns) (reads rest)
+        ∙ ap (λ q. meeting q (meeting (ways g in_loop (block_code second) fails).turns (ways g in_loop rest (meeting (ways g in_loop (block_code first) holds).ends (ways g in_loop (block_code second) fails).ends)).turns)) a.turns_at
+        ∙ ap (λ q. meeting turns_one (meeting q (ways g in_loop rest (meeting (ways g in_loop (block_code first) holds).ends (ways g in_loop (block_code second) fails).ends)).turns)) b.turns_at
+        ∙ ap (λ q. meeting turns_one (meeting turns_other (ways g in_loop rest q).turns)) meets;
   }
     where
       meets : meeting (ways g in_loop (block_code first) holds).ends (ways g in_loop (block_code second) fails).ends ≡ meeting one other
@@ -209,10 +226,10 @@ module _ (g : Ground) where
         ≡ loop_ways scope kept (is_straight_condition (cond_code asked) && is_straight (block_code next)) answers inner (ways g false (block_code next) kept) (λ at. ways g in_loop rest at)
     reads rest = ap (λ code. ways g in_loop code point) (item_code-Loop test_first asked body next number scope rest)
 
-    pub loop_leaves : (holds fails ends update : Point) → is_straight_condition (cond_code asked) ≡ true → is_straight (block_code next) ≡ true → Decides g.program g.method g.locals asked kept holds fails → Keeps scope kept holds
-        → BlockFits true (block_code body) scope begins_at ends → Keeps scope kept ends → Keeps scope kept begins_at → BlockFits false (block_code next) scope kept update → Keeps scope kept update
-        → Leaves g in_loop (item.Loop test_first asked body next number scope ∷ []) scope point (meeting fails inner.breaks)
-    loop_leaves holds fails ends update straight_asked straight_next d keeps_holds b keeps_ends keeps_start u keeps_update = record {
+    pub loop_leaves : (holds fails ends breaks turns update update_breaks update_turns : Point) → is_straight_condition (cond_code asked) ≡ true → is_straight (block_code next) ≡ true → Decides g.program g.method g.locals asked kept holds fails → Keeps scope kept holds
+        → BlockFits true (block_code body) begins_at ends breaks turns → Keeps scope kept ends → Keeps scope kept turns → BlockFits false (block_code next) kept update update_breaks update_turns → Keeps scope kept update
+        → Leaves g in_loop (item.Loop test_first asked body next number scope ∷ []) point (meeting fails breaks) (λ x. x) (λ x. x)
+    loop_leaves holds fails ends breaks turns update update_breaks update_turns straight_asked straight_next d keeps_holds b keeps_ends keeps_turns u keeps_update = record {
       fits = λ rest fit. ap (λ (w : Ways). w.fits) (reads rest)
           ∙ both_true (answers.fits && (inner.fits && ((ways g false (block_code next) kept).fits && ((is_straight_condition (cond_code asked) && is_straight (block_code next))
           && (keeps_types scope answers.holds kept && (keeps_types scope (meeting inner.ends inner.turns) kept && keeps_types scope (ways g false (block_code next) kept).ends kept)))))) (ways g in_loop rest (meeting answers.fails inner.breaks)).fits
@@ -220,23 +237,24 @@ module _ (g : Ground) where
           (both_true (is_straight_condition (cond_code asked) && is_straight (block_code next)) _ (both_true (is_straight_condition (cond_code asked)) (is_straight (block_code next)) straight_asked straight_next)
           (both_true (keeps_types scope answers.holds kept) _ (keeps_is scope kept answers.holds (subst (Keeps scope kept) (sym d.true_at) keeps_holds))
           (both_true (keeps_types scope (meeting inner.ends inner.turns) kept) _
-          (keeps_is scope kept (meeting inner.ends inner.turns) (meeting_keeps scope kept inner.ends inner.turns (subst (Keeps scope kept) (sym b.ends_at) keeps_ends) (b.turns scope kept (omega arith) keeps_start)))
+          (keeps_is scope kept (meeting inner.ends inner.turns) (meeting_keeps scope kept inner.ends inner.turns (subst (Keeps scope kept) (sym b.ends_at) keeps_ends) (subst (Keeps scope kept) (sym b.turns_at) keeps_turns)))
           (keeps_is scope kept (ways g false (block_code next) kept).ends (subst (Keeps scope kept) (sym u.ends_at) keeps_update))))))))
           (ap (λ q. (ways g in_loop rest q).fits) (leaves_at d) ∙ fit);
       ends = λ rest. ap (λ (w : Ways). w.ends) (reads rest) ∙ ap (λ q. (ways g in_loop rest q).ends) (leaves_at d);
-      breaks = λ rest count at le known keeps. subst (λ (w : Ways). Keeps count at w.breaks) (sym (reads rest)) (subst (λ q. Keeps count at (ways g in_loop rest q).breaks) (sym (leaves_at d)) keeps);
-      turns = λ rest count at le known keeps. subst (λ (w : Ways). Keeps count at w.turns) (sym (reads rest)) (subst (λ q. Keeps count at (ways g in_loop rest q).turns) (sym (leaves_at d)) keeps);
+      breaks = λ rest. ap (λ (w : Ways). w.breaks) (reads rest) ∙ ap (λ q. (ways g in_loop rest q).breaks) (leaves_at d);
+      turns = λ rest. ap (λ (w : Ways). w.turns) (reads rest) ∙ ap (λ q. (ways g in_loop rest q).turns) (leaves_at d);
     }
       where
-        leaves_at : Decides g.program g.method g.locals asked kept holds fails → meeting answers.fails inner.breaks ≡ meeting fails inner.breaks
-        leaves_at d = ap (λ q. meeting q inner.breaks) d.false_at
+        leaves_at : Decides g.program g.method g.locals asked kept holds fails → meeting answers.fails inner.breaks ≡ meeting fails breaks
+        leaves_at d = ap (λ q. meeting q inner.breaks) d.false_at ∙ ap (meeting fails) b.breaks_at
 
   -- ---- one item behind parts that made none
 
-  pub closed_adds : (s : Names) (from to until : ℕ) (body : Body) (types : List Type_) (point q behind : Point) (middle : Body) (last : Item) (a : Adds g s from to until body types q middle) → middle.made ≡ body.made → Keeps body.made.free point behind
-      → (Begins g middle.locals (types ++ a.added_types) to → middle.most ≤ g.method.slots → (in_loop : Bool) → (s.in_loop ≡ true → in_loop ≡ true) → Leaves g in_loop (last ∷ []) body.made.free point behind)
+  abbrev pub closed_adds : (s : Names) (from to until : ℕ) (body : Body) (types : List Type_) (point q behind : Point) (breaks turns : Point → Point) (middle : Body) (last : Item) (a : Adds g s from to until body types q middle) → middle.made ≡ body.made → Keeps body.made.free point behind → Passes body.made.free point breaks
+      → Passes body.made.free point turns
+      → (Begins g middle.locals (types ++ a.added_types) to → middle.most ≤ g.method.slots → (in_loop : Bool) → (s.in_loop ≡ true → in_loop ≡ true) → Leaves g in_loop (last ∷ []) point behind breaks turns)
       → Adds g s from to until body types point (with_last middle last)
-  closed_adds s from to until body types point q behind middle last a same keeps leaves = record {
+  closed_adds s from to until body types point q behind breaks turns middle last a same keeps passes_breaks passes_turns leaves = record {
     added = a.added;
     added_types = a.added_types;
     grown = a.grown;
@@ -248,13 +266,17 @@ module _ (g : Ground) where
     items = last ∷ [];
     appended = ap (λ (m : Made). m.items ++ last ∷ []) same;
     behind = behind;
+    breaks_by = breaks;
+    turns_by = turns;
     leaves = leaves;
     keeps = keeps;
+    keeps_breaks = passes_breaks;
+    keeps_turns = passes_turns;
   }
 
   -- a part makes no item
-  pub nest_adds : (t : Telling) (s other : Names) (lo hi : ℕ) (body : Body) (types : List Type_) (point q : Point) (made : Inside) → Nests t s lo hi body types point made → Adds g other lo hi hi body types q made.body
-  nest_adds t s other lo hi body types point q made n = record {
+  abbrev pub nest_adds : (t : Telling) (own : List Type_) (s other : Names) (lo hi : ℕ) (body : Body) (types : List Type_) (point q : Point) (made : Inside) → Nests t own s lo hi body types point made → Adds g other lo hi hi body types q made.body
+  nest_adds t own s other lo hi body types point q made n = record {
     added = n.added;
     added_types = n.added_types;
     grown = n.grown;
@@ -266,6 +288,10 @@ module _ (g : Ground) where
     items = [];
     appended = ap (λ (m : Made). m.items) n.same ∙ sym (append-nil body.made.items);
     behind = q;
-    leaves = λ begins few in_loop loops. Rattle.ix_formed.proofs.TypedItems.leaves_none g in_loop body.made.free q;
+    breaks_by = λ x. x;
+    turns_by = λ x. x;
+    leaves = λ begins few in_loop loops. Rattle.ix_formed.proofs.TypedItems.leaves_none g in_loop q;
     keeps = keeps_none body.made.free q;
+    keeps_breaks = Rattle.ix_formed.proofs.TypedItems.none_passes g body.made.free q;
+    keeps_turns = Rattle.ix_formed.proofs.TypedItems.none_passes g body.made.free q;
   }

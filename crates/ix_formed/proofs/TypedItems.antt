@@ -20,7 +20,7 @@ use Rattle.ix_plain.specs.Statements.{Evaluated, behind, behind_value, with_last
 use Rattle.ix_formed.specs.Additions.{Makes, AllOf, IsPlain, code_before}
 use Rattle.ix_formed.specs.Points.{Keeps, Leads}
 use Rattle.ix_formed.specs.Typed.{Gives, Holds}
-use Rattle.ix_formed.specs.TypedStatements.{Ground, Begins, IsDeclared, DoFit, ways, Leaves, Adds}
+use Rattle.ix_formed.specs.TypedStatements.{Ground, Begins, IsDeclared, DoFit, ways, Passes, Leaves, Adds}
 use Rattle.ix_formed.proofs.NumberLists.{all_so, all_joined}
 use Rattle.ix_formed.proofs.PlainItems.{before_append, makes_then}
 use Rattle.ix_formed.proofs.ScopedLocals.{begins_before}
@@ -29,36 +29,39 @@ use Rattle.ix_formed.proofs.TypedPoints.{keeps_none, keeps_both, leads_both, op_
 module _ (g : Ground) where
   -- ---- items
 
-  pub leaves_none : (in_loop : Bool) (base : ℕ) (point : Point) → Leaves g in_loop [] base point point
-  leaves_none in_loop base point = record {
-    fits = λ rest fit. fit;
-    ends = λ rest. refl;
-    breaks = λ rest count kept le known keeps. keeps;
-    turns = λ rest count kept le known keeps. keeps;
-  }
+  -- no jump
+  abbrev pub no_jump : Point → Point
+  no_jump point = point
 
-  pub leaves_both : (in_loop : Bool) (items more : List Item) (base other : ℕ) (one two three : Point) → base ≤ other → Keeps base one two → Leaves g in_loop items base one two → Leaves g in_loop more other two three
-      → Leaves g in_loop (items ++ more) base one three
-  leaves_both in_loop items more base other one two three le kept_on a b = record {
+  pub none_passes : (base : ℕ) (point : Point) → Passes base point no_jump
+  none_passes base point count kept x le known keeps = keeps
+
+  pub leaves_none : (in_loop : Bool) (point : Point) → Leaves g in_loop [] point point no_jump no_jump
+  leaves_none in_loop point = record { fits = λ rest fit. fit; ends = λ rest. refl; breaks = λ rest. refl; turns = λ rest. refl }
+
+  pub leaves_both : (in_loop : Bool) (items more : List Item) (one two three : Point) (breaks turns breaks_later turns_later : Point → Point) → Leaves g in_loop items one two breaks turns → Leaves g in_loop more two three breaks_later turns_later
+      → Leaves g in_loop (items ++ more) one three (λ x. breaks (breaks_later x)) (λ x. turns (turns_later x))
+  leaves_both in_loop items more one two three breaks turns breaks_later turns_later a b = record {
     fits = λ rest fit. ap (λ code. (ways g in_loop code one).fits) (before_append items more rest) ∙ a.fits (code_before more rest) (b.fits rest fit);
     ends = λ rest. ap (λ code. (ways g in_loop code one).ends) (before_append items more rest) ∙ a.ends (code_before more rest) ∙ b.ends rest;
-    breaks = λ rest count kept few known keeps. subst (λ code. Keeps count kept (ways g in_loop code one).breaks) (sym (before_append items more rest))
-        (a.breaks (code_before more rest) count kept few known (b.breaks rest count kept (omega (arith, few, le)) (keeps_both count base kept one two few known kept_on) keeps));
-    turns = λ rest count kept few known keeps. subst (λ code. Keeps count kept (ways g in_loop code one).turns) (sym (before_append items more rest))
-        (a.turns (code_before more rest) count kept few known (b.turns rest count kept (omega (arith, few, le)) (keeps_both count base kept one two few known kept_on) keeps));
+    breaks = λ rest. ap (λ code. (ways g in_loop code one).breaks) (before_append items more rest) ∙ a.breaks (code_before more rest) ∙ ap breaks (b.breaks rest);
+    turns = λ rest. ap (λ code. (ways g in_loop code one).turns) (before_append items more rest) ∙ a.turns (code_before more rest) ∙ ap turns (b.turns rest);
   }
 
-  pub leads_leave : (in_loop : Bool) (items : List Item) (base : ℕ) (one two : Point) → Leads g.program g.method g.locals items one two → Leaves g in_loop items base one two
-  leads_leave in_loop items base one two leads = record {
+  pub passes_both : (base other : ℕ) (one two : Point) (by later : Point → Point) → base ≤ other → Keeps base one two → Passes base one by → Passes other two later → Passes base one (λ x. by (later x))
+  passes_both base other one two by later le on a b count kept x few known keeps = a count kept (later x) few known (b count kept x (omega (arith, few, le)) (keeps_both count base kept one two few known on) keeps)
+
+  pub leads_leave : (in_loop : Bool) (items : List Item) (one two : Point) → Leads g.program g.method g.locals items one two → Leaves g in_loop items one two no_jump no_jump
+  leads_leave in_loop items one two leads = record {
     fits = λ rest fit. ap (λ (w : Ways). w.fits) (leads in_loop rest) ∙ fit;
     ends = λ rest. ap (λ (w : Ways). w.ends) (leads in_loop rest);
-    breaks = λ rest count kept le known keeps. subst (λ (w : Ways). Keeps count kept w.breaks) (sym (leads in_loop rest)) keeps;
-    turns = λ rest count kept le known keeps. subst (λ (w : Ways). Keeps count kept w.turns) (sym (leads in_loop rest)) keeps;
+    breaks = λ rest. ap (λ (w : Ways). w.breaks) (leads in_loop rest);
+    turns = λ rest. ap (λ (w : Ways). w.turns) (leads in_loop rest);
   }
 
   -- ---- locals
 
-  fit_both : (number other : ℕ) (xs ys : List (Local × Span)) (ts us : List Type_) → DoFit g number xs ts → other ≡ number + length xs → DoFit g other ys us → DoFit g number (xs ++ ys) (ts ++ us)
+  pub fit_both : (number other : ℕ) (xs ys : List (Local × Span)) (ts us : List Type_) → DoFit g number xs ts → other ≡ number + length xs → DoFit g other ys us → DoFit g number (xs ++ ys) (ts ++ us)
   fit_both number other [] ys [] us a e b = let z : other ≡ number = omega (arith, e) in subst (λ n. DoFit g n ys us) z b
   fit_both number other [] ys (t ∷ ts) us a e b = absurd a
   fit_both number other (x ∷ xs) ys [] us a e b = absurd a
@@ -75,7 +78,7 @@ module _ (g : Ground) where
 
   -- ---- one behind the other
 
-  pub adds_none : (s : Names) (from to until : ℕ) (body : Body) (types : List Type_) (point : Point) → Adds g s from to until body types point body
+  abbrev pub adds_none : (s : Names) (from to until : ℕ) (body : Body) (types : List Type_) (point : Point) → Adds g s from to until body types point body
   adds_none s from to until body types point = record {
     added = [];
     added_types = [];
@@ -88,11 +91,15 @@ module _ (g : Ground) where
     items = [];
     appended = sym (append-nil body.made.items);
     behind = point;
-    leaves = λ begins le in_loop loops. leaves_none in_loop body.made.free point;
+    breaks_by = no_jump;
+    turns_by = no_jump;
+    leaves = λ begins le in_loop loops. leaves_none in_loop point;
     keeps = keeps_none body.made.free point;
+    keeps_breaks = none_passes body.made.free point;
+    keeps_turns = none_passes body.made.free point;
   }
 
-  pub adds_both : (s next : Names) (from mid to until : ℕ) (body : Body) (types : List Type_) (point : Point) (middle after : Body) (a : Adds g s from mid until body types point middle)
+  abbrev pub adds_both : (s next : Names) (from mid to until : ℕ) (body : Body) (types : List Type_) (point : Point) (middle after : Body) (a : Adds g s from mid until body types point middle)
       → Adds g next mid to until middle (types ++ a.added_types) a.behind after → (next.in_loop ≡ true → s.in_loop ≡ true) → from ≤ mid → mid ≤ to → Adds g s from to until body types point after
   adds_both s next from mid to until body types point middle after a b loop le up =
       let same = append_assoc types a.added_types b.added_types in record {
@@ -110,16 +117,20 @@ module _ (g : Ground) where
         items = a.items ++ b.items;
         appended = b.appended ∙ ap (λ l. l ++ b.items) a.appended ∙ append_assoc body.made.items a.items b.items;
         behind = b.behind;
+        breaks_by = λ x. a.breaks_by (b.breaks_by x);
+        turns_by = λ x. a.turns_by (b.turns_by x);
         leaves = λ begins few in_loop loops.
             let full = begins_as after.locals after.locals (types ++ (a.added_types ++ b.added_types)) ((types ++ a.added_types) ++ b.added_types) to refl (sym same) begins in
-            leaves_both in_loop a.items b.items body.made.free middle.made.free point a.behind b.behind a.up a.keeps
+            leaves_both in_loop a.items b.items point a.behind b.behind a.breaks_by a.turns_by b.breaks_by b.turns_by
             (a.leaves (begins_middle next from mid to until middle (types ++ a.added_types) a.behind after b up full) (let x = b.most in omega (arith, x, few)) in_loop loops)
             (b.leaves full few in_loop (λ e. loops (loop e)));
         keeps = keeps_both body.made.free middle.made.free point a.behind b.behind a.up a.keeps b.keeps;
+        keeps_breaks = passes_both body.made.free middle.made.free point a.behind a.breaks_by b.breaks_by a.up a.keeps a.keeps_breaks b.keeps_breaks;
+        keeps_turns = passes_both body.made.free middle.made.free point a.behind a.turns_by b.turns_by a.up a.keeps a.keeps_turns b.keeps_turns;
       }
 
   -- between more places
-  pub adds_as : (s : Names) (from to until less more later : ℕ) (body : Body) (types : List Type_) (point : Point) (after : Body) → less ≤ from → to ≤ more → until ≤ later → Adds g s from to until body types point after
+  abbrev pub adds_as : (s : Names) (from to until less more later : ℕ) (body : Body) (types : List Type_) (point : Point) (after : Body) → less ≤ from → to ≤ more → until ≤ later → Adds g s from to until body types point after
       → Adds g s less more later body types point after
   adds_as s from to until less more later body types point after le up last a = record {
     added = a.added;
@@ -133,8 +144,12 @@ module _ (g : Ground) where
     items = a.items;
     appended = a.appended;
     behind = a.behind;
+    breaks_by = a.breaks_by;
+    turns_by = a.turns_by;
     leaves = λ begins. a.leaves (earlier begins);
     keeps = a.keeps;
+    keeps_breaks = a.keeps_breaks;
+    keeps_turns = a.keeps_turns;
   }
     where
       earlier : Begins g after.locals (types ++ a.added_types) more → Begins g after.locals (types ++ a.added_types) to
@@ -188,7 +203,7 @@ module _ (g : Ground) where
       most_right a b most le = omega (arith, le)
 
   -- a value that isn't used any more
-  pub evaluated_adds : (s : Names) (from to until : ℕ) (at : ℕ) (extra : List ℕ) (body : Body) (types : List Type_) (point : Point) (ty : Type_) (ev : Evaluated) → at ≤ to → Evaluates at extra body types point ty ev
+  abbrev pub evaluated_adds : (s : Names) (from to until : ℕ) (at : ℕ) (extra : List ℕ) (body : Body) (types : List Type_) (point : Point) (ty : Type_) (ev : Evaluated) → at ≤ to → Evaluates at extra body types point ty ev
       → Adds g s from to until body types point ev.body
   evaluated_adds s from to until at extra body types point ty ev le e = record {
     added = [];
@@ -202,18 +217,22 @@ module _ (g : Ground) where
     items = e.items;
     appended = e.appended;
     behind = e.behind;
-    leaves = λ begins few in_loop loops. leads_leave in_loop e.items body.made.free point e.behind (e.leads (earlier (begins_as ev.body.locals body.locals (types ++ []) types to e.locals (append-nil types) begins)) few);
+    breaks_by = no_jump;
+    turns_by = no_jump;
+    leaves = λ begins few in_loop loops. leads_leave in_loop e.items point e.behind (e.leads (earlier (begins_as ev.body.locals body.locals (types ++ []) types to e.locals (append-nil types) begins)) few);
     keeps = e.keeps;
+    keeps_breaks = none_passes body.made.free point;
+    keeps_turns = none_passes body.made.free point;
   }
     where
       earlier : Begins g body.locals types to → Begins g body.locals types at
       earlier b = record { later = b.later; later_types = b.later_types; locals = b.locals; types = b.types; behind = all_so (λ (l : Local × Span). to ≤ l.1.from) (λ (l : Local × Span). at ≤ l.1.from) (λ l x. omega (arith, x, le)) b.later b.behind }
 
   -- an item that declares nothing
-  pub last_adds : (s : Names) (from to until : ℕ) (body : Body) (types : List Type_) (point behind : Point) (last : Item) → Keeps body.made.free point behind
-      → (Begins g body.locals types to → body.most ≤ g.method.slots → (in_loop : Bool) → (s.in_loop ≡ true → in_loop ≡ true) → Leaves g in_loop (last ∷ []) body.made.free point behind)
+  abbrev pub last_adds : (s : Names) (from to until : ℕ) (body : Body) (types : List Type_) (point behind : Point) (breaks turns : Point → Point) (last : Item) → Keeps body.made.free point behind → Passes body.made.free point breaks → Passes body.made.free point turns
+      → (Begins g body.locals types to → body.most ≤ g.method.slots → (in_loop : Bool) → (s.in_loop ≡ true → in_loop ≡ true) → Leaves g in_loop (last ∷ []) point behind breaks turns)
       → Adds g s from to until body types point (with_last body last)
-  last_adds s from to until body types point behind last keeps leaves = record {
+  last_adds s from to until body types point behind breaks turns last keeps passes_breaks passes_turns leaves = record {
     added = [];
     added_types = [];
     grown = sym (append-nil body.locals);
@@ -225,6 +244,10 @@ module _ (g : Ground) where
     items = last ∷ [];
     appended = refl;
     behind = behind;
+    breaks_by = breaks;
+    turns_by = turns;
     leaves = λ begins. leaves (begins_as body.locals body.locals (types ++ []) types to refl (append-nil types) begins);
     keeps = keeps;
+    keeps_breaks = passes_breaks;
+    keeps_turns = passes_turns;
   }

@@ -12,3 +12,4 @@ pub mod Typed
 pub mod TypedStatements
 pub mod Readable
 pub mod TypedParts
+pub mod LocalTypes

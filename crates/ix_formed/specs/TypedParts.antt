@@ -19,17 +19,17 @@ module _ (g : Ground) where
   until shape end span = if shape.declares then end else span.to
 
   -- What it says without an error, it becomes.
-  abbrev pub DoesTell : Span → Run → Telling → Layout → List Part → Bool → Statement → Type 0
-  DoesTell span run t inner ps written shape = (s : Names) (end : ℕ) (body : Body) (types : List Type_) (point : Point) → Scoped g s body.locals types body.made.free span.from end → Stands g s body.locals point → s.next ≡ length body.locals
+  abbrev pub DoesTell : Span → Run → Telling → Layout → List Part → Bool → Statement → List Type_ → Type 0
+  DoesTell span run t inner ps written shape own = (s : Names) (end : ℕ) (body : Body) (types : List Type_) (point : Point) → Scoped g s body.locals types body.made.free span.from end → Stands g s body.locals point → s.next ≡ length body.locals
       → span.from < span.to → span.to ≤ end → LaidOut span.from span.from span.to inner → AllOf (IsKnown g) ps → written ≡ true → shape.fine ≡ true → Says g (t.notes s)
-      → Makes (Tells g s (after t s) span.from span.to (until shape end span) end body types point) (run g.site end body)
+      → Makes (Tells g s (after t s) span.from span.to (until shape end span) end body types own point) (run g.site end body)
 
   -- Where it declares nothing the names in scope are the same behind it.
   abbrev pub KeepsNames : Telling → Statement → Type 0
   KeepsNames t shape = shape.fine ≡ true → shape.declares ≡ false → (s : Names) → t.names s ≡ s.names
 
-  pub record IsStatement (r : Running) (t : Telling) (l : Layout) (ps : List Part) (written : Bool) (shape : Statement) : Type 0 where
+  pub record IsStatement (r : Running) (t : Telling) (l : Layout) (ps : List Part) (written : Bool) (shape : Statement) (own : List Type_) : Type 0 where
     pub inner : Layout
     pub placed : l ≡ node r.span inner nothing
-    pub tells : DoesTell r.span r.run t inner ps written shape
+    pub tells : DoesTell r.span r.run t inner ps written shape own
     pub names : KeepsNames t shape

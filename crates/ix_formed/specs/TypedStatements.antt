@@ -149,12 +149,16 @@ pub record IsGround (g : Ground) : Type 0 where
 abbrev pub ways : Ground → Bool → Code → Point → Ways
 ways g in_loop code point = code_ways g.program g.method g.locals in_loop code point
 
--- Items fit where what is behind them does, and lead to a point. What was known before them stays known where a `break` or a `continue` leads out.
-pub record Leaves (g : Ground) (in_loop : Bool) (items : List Item) (base : ℕ) (before behind : Point) : Type 0 where
+-- what was known before it, and behind a jump, is known where the jump leads
+abbrev pub Passes : ℕ → Point → (Point → Point) → Type 0
+Passes base before by = (count : ℕ) (kept x : Point) → count ≤ base → Keeps count kept before → Keeps count kept x → Keeps count kept (by x)
+
+-- Items fit where what is behind them does, and lead to a point, and to others by each `break` and each `continue`.
+pub record Leaves (g : Ground) (in_loop : Bool) (items : List Item) (before behind : Point) (breaks_by turns_by : Point → Point) : Type 0 where
   pub fits : (rest : Code) → (ways g in_loop rest behind).fits ≡ true → (ways g in_loop (code_before items rest) before).fits ≡ true
   pub ends : (rest : Code) → (ways g in_loop (code_before items rest) before).ends ≡ (ways g in_loop rest behind).ends
-  pub breaks : (rest : Code) (count : ℕ) (kept : Point) → count ≤ base → Keeps count kept before → Keeps count kept (ways g in_loop rest behind).breaks → Keeps count kept (ways g in_loop (code_before items rest) before).breaks
-  pub turns : (rest : Code) (count : ℕ) (kept : Point) → count ≤ base → Keeps count kept before → Keeps count kept (ways g in_loop rest behind).turns → Keeps count kept (ways g in_loop (code_before items rest) before).turns
+  pub breaks : (rest : Code) → (ways g in_loop (code_before items rest) before).breaks ≡ breaks_by (ways g in_loop rest behind).breaks
+  pub turns : (rest : Code) → (ways g in_loop (code_before items rest) before).turns ≡ turns_by (ways g in_loop rest behind).turns
 
 -- What is made from a place to another adds items to a body and locals, whose scopes end at a third place at the latest.
 pub record Adds (g : Ground) (s : Names) (from to until : ℕ) (body : Body) (types : List Type_) (point : Point) (after : Body) : Type 0 where
@@ -169,12 +173,18 @@ pub record Adds (g : Ground) (s : Names) (from to until : ℕ) (body : Body) (ty
   pub items : List Item
   pub appended : after.made.items ≡ body.made.items ++ items
   pub behind : Point
-  pub leaves : Begins g after.locals (types ++ added_types) to → after.most ≤ g.method.slots → (in_loop : Bool) → (s.in_loop ≡ true → in_loop ≡ true) → Leaves g in_loop items body.made.free point behind
+  pub breaks_by : Point → Point
+  pub turns_by : Point → Point
+  pub leaves : Begins g after.locals (types ++ added_types) to → after.most ≤ g.method.slots → (in_loop : Bool) → (s.in_loop ≡ true → in_loop ≡ true) → Leaves g in_loop items point behind breaks_by turns_by
   pub keeps : Keeps body.made.free point behind
+  pub keeps_breaks : Passes body.made.free point breaks_by
+  pub keeps_turns : Passes body.made.free point turns_by
 
--- A statement adds to a body, and the scope behind it is as it has to be.
-pub record Tells (g : Ground) (s next : Names) (from to until end : ℕ) (body : Body) (types : List Type_) (point : Point) (after : Body) : Type 0 where
+-- A statement adds to a body, with locals of these types, and the scope behind it is as it has to be.
+pub record Tells (g : Ground) (s next : Names) (from to until end : ℕ) (body : Body) (types own : List Type_) (point : Point) (after : Body) : Type 0 where
   pub adds : Adds g s from to until body types point after
   pub scoped : Scoped g next after.locals (types ++ adds.added_types) after.made.free to end
   pub stands : Stands g next after.locals adds.behind
   pub counted : next.next ≡ length after.locals
+  -- its locals have these types
+  pub typed : adds.added_types ≡ own
