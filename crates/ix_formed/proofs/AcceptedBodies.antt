@@ -96,7 +96,7 @@ module _ (unit : Source) (p : Program) (is : IsAccepted unit p) where
               λ free_field other. (
                 has.ty,
                 other_type (name.Local n) other ∙ ap (λ (o : Option (Local × Span)). in_scope_type span o (slice_get locals n)) placed ∙ ap (λ (o : Option Type_). in_scope_type span (Some local) o) typed
-                ∙ ap (λ b. if b then Some has.ty else None) starts,
+                    ∙ ap (λ b. if b then Some has.ty else None) starts,
                 ap (λ (o : Option Type_). what_holds (type_or_void o)) has.typed,
               )
           by_meaning (meaning.Param n) named = λ free_field other. (has.ty, other_type (name.Param n) other ∙ named, ap (λ (o : Option Type_). what_holds (type_or_void o)) has.typed)

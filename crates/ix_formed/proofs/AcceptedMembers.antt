@@ -218,7 +218,13 @@ module _ (unit : Source) (p : Program) (is : IsAccepted unit p) where
     where
       by_meaning : (m : Option Meaning) → f.meaning ≡ m → MeansField (names unit) (unit_parts unit) p f m → ConstantIs f → OnlyField m → classes.is_among f.class (class ∷ supers (parents unit.classes) class) ≡ true → FieldIs p site class f m
       by_meaning (Some (meaning.FieldNamed k)) same has const only up = (
-        has.0, has.1, has.2, has.3, has.4, ap (is_below p class) has.1 ∙ below unit p is class f.class (class_of_source class there) up, field_real 0 p.fields k (fields_do_fit unit p is) has.0,
+        has.0,
+        has.1,
+        has.2,
+        has.3,
+        has.4,
+        ap (is_below p class) has.1 ∙ below unit p is class f.class (class_of_source class there) up,
+        field_real 0 p.fields k (fields_do_fit unit p is) has.0,
       )
       by_meaning (Some (meaning.Constant n)) same has const only up = let c = const n same in (has.0, c.0, has.2, c.1)
       by_meaning None same has const only up = absurd has

@@ -215,9 +215,9 @@ module _ (unit : Source) (p : Program) (is : IsAccepted unit p) (l : Place) (d :
     entry_stands free = record {
       variables = all_so IsEntered (λ (v : Variable). (ty : Type_) → v.ty ≡ Some ty → Known (Some (entry_type p method)) (slot_of (scope_in own_ground []) (Some v.meaning)) ty) (λ v e. e.1) (source.params_from l 0 d.params) all_entered;
       this = λ e.
-      let instance = not_static method.is_static (is_static d) head.static e in
-      let f = ap (λ b. if b then 0 else 0 + 1) instance in
-      ap (λ (o : Option Type_). first_type o (this_type p method 0)) (param_before first method.param_types 0 (omega (arith, f)))
-      ∙ ap (λ b. if not b && ((0 == 0) && not (method.constructor && has_parent p method)) then Some (class_type method.class) else None) instance
-      ∙ ap (λ b. if not b then Some (class_type method.class) else None) free ∙ ap (λ c. Some (class_type c)) head.class;
+          let instance = not_static method.is_static (is_static d) head.static e in
+          let f = ap (λ b. if b then 0 else 0 + 1) instance in
+          ap (λ (o : Option Type_). first_type o (this_type p method 0)) (param_before first method.param_types 0 (omega (arith, f)))
+          ∙ ap (λ b. if not b && ((0 == 0) && not (method.constructor && has_parent p method)) then Some (class_type method.class) else None) instance
+          ∙ ap (λ b. if not b then Some (class_type method.class) else None) free ∙ ap (λ c. Some (class_type c)) head.class;
     }

@@ -167,8 +167,12 @@ module _ (z : Setting) (set : IsSet z) where
                 behind = k.behind;
                 steps = steps_both z.program z.method z.locals z.fixed made point y.made h.behind v.made k.behind h.steps k.steps;
                 spot = subst (λ t. SpotIs z k.behind v.made.free (cell_type is.ty) (spot.Cell y.slot v.slot t m.span)) (sym same) (
-                  (let lo = h.low in let up = k.steps.up in omega (arith, lo, up)), k.low, is.array,
-                  holds_on z.program y.made.free h.behind k.behind y.slot is.ty h.low k.steps.keeps (h.holds (array_real z.program is.ty is.array)), k.holds refl, refl,
+                  (let lo = h.low in let up = k.steps.up in omega (arith, lo, up)),
+                  k.low,
+                  is.array,
+                  holds_on z.program y.made.free h.behind k.behind y.slot is.ty h.low k.steps.keeps (h.holds (array_real z.program is.ty is.array)),
+                  k.holds refl,
+                  refl,
                 );
               }));
         }

@@ -46,8 +46,12 @@ module _ (z : Setting) (set : IsSet z) where
   spot_on before after free more ty (spot.FieldOf object field) base le keeps is =
       ((let low = is.0 in omega (arith, low, le)), is.1, is.2, is.3, holds_on z.program free before after object (class_type (field_at z.program field).class) is.0 keeps is.4)
   spot_on before after free more ty (spot.Cell array index array_type at) base le keeps is = (
-    (let low = is.0 in omega (arith, low, le)), (let low = is.1 in omega (arith, low, le)), is.2, holds_on z.program free before after array array_type is.0 keeps is.3,
-    holds_on z.program free before after index int_type is.1 keeps is.4, is.5,
+    (let low = is.0 in omega (arith, low, le)),
+    (let low = is.1 in omega (arith, low, le)),
+    is.2,
+    holds_on z.program free before after array array_type is.0 keeps is.3,
+    holds_on z.program free before after index int_type is.1 keeps is.4,
+    is.5,
   )
 
   most_is : (count most : ℕ) → count ≤ most → nat_lt count (most + 1) ≡ true

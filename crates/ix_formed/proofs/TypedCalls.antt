@@ -71,7 +71,9 @@ module _ (z : Setting) (set : IsSet z) where
   args_on before after free more [] (ty ∷ types) le keeps held = absurd held
   args_on before after free more (arg ∷ args) [] le keeps held = absurd held
   args_on before after free more (arg ∷ args) (ty ∷ types) le keeps held = (
-    (let low = held.0 in omega (arith, low, le)), holds_on z.program free before after arg.slot ty held.0 keeps held.1, args_on before after free more args types le keeps held.2,
+    (let low = held.0 in omega (arith, low, le)),
+    holds_on z.program free before after arg.slot ty held.0 keeps held.1,
+    args_on before after free more args types le keeps held.2,
   )
 
   args_more : (point : Point) (free : ℕ) (args : List Arg) (types : List Type_) (arg : Arg) (ty : Type_) → arg.slot < free → Holds z.program point arg.slot ty → ArgsHold point free args types
@@ -244,7 +246,7 @@ module _ (z : Setting) (set : IsSet z) where
         of_type = is.of_type;
         yields = λ made point ready.
             subst (λ o. Makes (Gives z.program z.method z.locals z.fixed z.avoided made point (method_at z.program m.number).result) (values.called (head_at z.scope.site (values.method_number o)) object (values.method_number o) ls ident.span z.scope made))
-                (sym (said.0 named)) (called_yields class m is object ident.span said.1 unused receiver made point ready);
+            (sym (said.0 named)) (called_yields class m is object ident.span said.1 unused receiver made point ready);
       }
 
       -- without a dot
@@ -257,9 +259,12 @@ module _ (z : Setting) (set : IsSet z) where
           let q = parted z (rules.not_static z.names m.signature.is_static ident.span) (reading.called z.names ident.span rs m).notes said in
           called_speaks z.names.class m (set.members.methods z.names.class ident.text m set.class_there e) None (λ made point ready. record { behind = point; steps = steps_none z.program z.method z.locals z.fixed made point })
           (λ static.
-          let has = by_has z.names.has_object (ap (λ b. not z.names.has_object && not b) (sym static) ∙ unbroken z (not z.names.has_object && not m.signature.is_static) rule.NotStatic ident.span q.0) in
-          (set.class_there, set.class, (λ made point ready. value_in_place z.program z.method z.locals z.fixed z.avoided made point 0 (class_type z.names.class)
-          (let a = set.static has in let b = ready.0 in omega (arith, a, b)) (this_apart z set has) (λ real. this_held z set point has ready.1)))) q.1
+          let has = by_has z.names.has_object (ap (λ b. not z.names.has_object && not b) (sym static) ∙ unbroken z (not z.names.has_object && not m.signature.is_static) rule.NotStatic ident.span q.0) in (
+            set.class_there,
+            set.class,
+            (λ made point ready. value_in_place z.program z.method z.locals z.fixed z.avoided made point 0 (class_type z.names.class)
+                (let a = set.static has in let b = ready.0 in omega (arith, a, b)) (this_apart z set has) (λ real. this_held z set point has ready.1)),
+          )) q.1
         where
           by_has : (b : Bool) → (not b && true) ≡ false → b ≡ true
           by_has true e = refl
@@ -338,7 +343,7 @@ module _ (z : Setting) (set : IsSet z) where
             yields = λ made point ready.
                 subst (λ o. Makes (Gives z.program z.method z.locals z.fixed z.avoided made point (class_type class))
                 (values.arguments_from [] ls z.scope made >>= (λ given. values.calling op.NewObject (constructor_at z.scope.site (values.class_number o)) None (values.class_number o) span given)))
-                    (sym (said.0 named)) (new_yields class there (set.members.constructors class there) said.1 made point ready);
+                (sym (said.0 named)) (new_yields class there (set.members.constructors class there) said.1 made point ready);
           }
 
       pub new_fits_too : Fits z (lowering_at z set (values.new_object ident ls span) span) (reading_at z set new_reading span)

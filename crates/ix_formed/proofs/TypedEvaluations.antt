@@ -72,16 +72,23 @@ module _ (g : Ground) (ground : IsGround g) where
       pub value_checked : (need : Type_) → is_type g.program need ≡ true → Says g (check (reading.reading e) s (of need)).notes
           → (ty : Type_) × Checks need ty × Makes (Evaluates g hi [] body types_now point ty) (evaluated g.site e body)
       value_checked need real said =
-          let c = check_fits z set (lowering e) (reading.reading e) fit need real said in
-          (c.ty, record { real = c.real; fits = c.fits }, value_evaluates g hi [] (kept (param_slot g.method 0) body.made.free slots) body types_now point c.ty ((lowering e).value (scope_for g.site body (assigns e).inside) body.made)
-          (c.yields body.made point (omega arith, ready)))
+          let c = check_fits z set (lowering e) (reading.reading e) fit need real said in (
+            c.ty,
+            record { real = c.real; fits = c.fits },
+            value_evaluates g hi [] (kept (param_slot g.method 0) body.made.free slots) body types_now point c.ty ((lowering e).value (scope_for g.site body (assigns e).inside) body.made)
+                (c.yields body.made point (omega arith, ready)),
+          )
 
       -- any value
       pub value_judged : Says g ((reading.reading e).judge s).notes → (ty : Type_) × (((reading.reading e).judge s).ty ≡ Some ty) × IsResult g.program ty × Makes (Evaluates g hi [] body types_now point ty) (evaluated g.site e body)
       value_judged said =
-          let j = fit.value said in
-          (j.ty, j.typed, j.of_type, value_evaluates g hi [] (kept (param_slot g.method 0) body.made.free slots) body types_now point j.ty ((lowering e).value (scope_for g.site body (assigns e).inside) body.made)
-          (j.yields body.made point (omega arith, ready)))
+          let j = fit.value said in (
+            j.ty,
+            j.typed,
+            j.of_type,
+            value_evaluates g hi [] (kept (param_slot g.method 0) body.made.free slots) body types_now point j.ty ((lowering e).value (scope_for g.site body (assigns e).inside) body.made)
+                (j.yields body.made point (omega arith, ready)),
+          )
 
       -- a condition
       pub record TestGives (t : Tested) : Type 0 where
@@ -127,6 +134,11 @@ module _ (g : Ground) (ground : IsGround g) where
       pub init_filled : (ty : Type_) → is_type g.program ty ≡ true → Says g (reading.filling i s (Some ty))
           → (given : Type_) × ((filling i).ty g.site ty ≡ given) × (is_type g.program given ≡ true) × (is_of g.program given ty ≡ true) × Makes (Evaluates g hi extra body types_now point given) (init_evaluated g.site i ty body)
       init_filled ty real said =
-          let f = fills_there g ground s body.locals types_now body.made.free init_slots extra lo hi hi scoped (omega arith) range others i refl spans known written fine ty real said in
-          (f.given, f.same, f.real, f.fits, value_evaluates g hi extra (kept (param_slot g.method 0) body.made.free init_slots) body types_now point f.given ((filling i).value (scope_for g.site body (init_assigns i)) ty body.made)
-          (f.yields body.made point (omega arith, stands_is g ground s body.locals types_now body.made.free init_slots extra lo hi hi scoped (omega arith) range others point stands)))
+          let f = fills_there g ground s body.locals types_now body.made.free init_slots extra lo hi hi scoped (omega arith) range others i refl spans known written fine ty real said in (
+            f.given,
+            f.same,
+            f.real,
+            f.fits,
+            value_evaluates g hi extra (kept (param_slot g.method 0) body.made.free init_slots) body types_now point f.given ((filling i).value (scope_for g.site body (init_assigns i)) ty body.made)
+                (f.yields body.made point (omega arith, stands_is g ground s body.locals types_now body.made.free init_slots extra lo hi hi scoped (omega arith) range others point stands)),
+          )

@@ -143,7 +143,7 @@ module _ (z : Setting) (set : IsSet z) where
     null = λ yes_null ty reference real table made point ready.
         let same : type_at z.scope span ≡ ty = ap or_void table in
         subst (λ t. Makes (Gives z.program z.method z.locals z.fixed z.avoided made point ty) (computed made (op.Const made.free (literal.NullOf t)) span)) (sym same)
-            (constant_yields z set (literal.NullOf ty) span made point ready (Rattle.ix_formed.proofs.NumberLists.both_true (is_reference_type ty) (is_type z.program ty) reference real));
+        (constant_yields z set (literal.NullOf ty) span made point ready (Rattle.ix_formed.proofs.NumberLists.both_true (is_reference_type ty) (is_type z.program ty) reference real));
     condition = λ said. absurd said.0;
     receiver = λ said. absurd said.0;
     unused = λ said. absurd said.0;

@@ -60,7 +60,6 @@ use Rattle.ix_formed.proofs.TypedSettings.{Apart}
 use Rattle.ix_formed.proofs.TypedSteps.{target_is, op_gives}
 
 module _ (g : Ground) (ground : IsGround g) where
-
   no_error : (error : NameError) → Agrees g.site.names g.parts (Wrong error) → ⊥
   no_error error wrong = wrong
 
@@ -86,15 +85,17 @@ module _ (g : Ground) (ground : IsGround g) where
         let b = said_parts (λ note. Agrees g.site.names g.parts note) (duplicate_name (is_taken s d.name) d.name.span) _ a.1 in
         let c = said_parts (λ note. Agrees g.site.names g.parts note) (declares_note d.name.span x.ty x.claims false) _ b.1 in
         let known = type_known (λ note. Agrees g.site.names g.parts note) no_error s.world.class d.ty (element_claims (target_before d.ty) d.mods.annots) (said_parts (λ note. Agrees g.site.names g.parts note) (written s.world.class d.ty []).notes _ a.0).0 in
-        let table = (subst (λ (o : Option Type_). Says g (declares_note d.name.span o x.claims false)) known.1 c.0).0 in
-        (known.0, record {
-          typed = known.1;
-          real = ground.declared_types d.ty d.mods.annots known.0 (ap (λ (w : Rattle.ix_meaning.specs.Members.World). (written w.class d.ty (element_claims (target_before d.ty) d.mods.annots)).ty) (sym scoped.world) ∙ known.1);
-          table = ap declared_type table;
-          claims = ap declared_claims table;
-          free_name = not_broken (λ note. Agrees g.site.names g.parts note) no_error (is_taken s d.name) rule.DuplicateName d.name.span b.0;
-          filled = subst (λ (o : Option Type_). Says g (init_notes d.init (pending d s) o)) known.1 c.1;
-        })
+        let table = (subst (λ (o : Option Type_). Says g (declares_note d.name.span o x.claims false)) known.1 c.0).0 in (
+          known.0,
+          record {
+            typed = known.1;
+            real = ground.declared_types d.ty d.mods.annots known.0 (ap (λ (w : Rattle.ix_meaning.specs.Members.World). (written w.class d.ty (element_claims (target_before d.ty) d.mods.annots)).ty) (sym scoped.world) ∙ known.1);
+            table = ap declared_type table;
+            claims = ap declared_claims table;
+            free_name = not_broken (λ note. Agrees g.site.names g.parts note) no_error (is_taken s d.name) rule.DuplicateName d.name.span b.0;
+            filled = subst (λ (o : Option Type_). Says g (init_notes d.init (pending d s) o)) known.1 c.1;
+          },
+        )
 
     -- the local, and the body in which it is declared
     abbrev local : Local × Span
@@ -226,7 +227,7 @@ module _ (g : Ground) (ground : IsGround g) where
           variables_apart [] all = tt
           variables_apart (v ∷ vs) all = (
             ap (λ n. if body.made.free == n then true else false) (Rattle.ix_formed.proofs.ScopedLocals.slot_front g body.locals (local ∷ []) types lo end all.0.ty v.meaning all.0.named)
-            ∙ ap (λ b. if b then true else false) (Rattle.ix_formed.proofs.NumberLists.is_more body.made.free (slot_of (scope_in g body.locals) (Some v.meaning)) all.0.low),
+                ∙ ap (λ b. if b then true else false) (Rattle.ix_formed.proofs.NumberLists.is_more body.made.free (slot_of (scope_in g body.locals) (Some v.meaning)) all.0.low),
             variables_apart vs all.1,
           )
 

@@ -233,7 +233,8 @@ module _ (z : Setting) (set : IsSet z) where
           typed = is.typed;
           real = is.real;
           spot = λ made point ready. subst (SpotIs z point made.free is.ty) (spot_variable k.meaning is.kind) (
-            is.slot, variable_known ident.text k e point ready.1 is.ty is.typed,
+            is.slot,
+            variable_known ident.text k e point ready.1 is.ty is.typed,
             sym is.stays ∙ covered (slot_of z.scope (Some k.meaning)) (ap (λ o. is_among (slot_of z.scope (Some k.meaning)) (with_slot z.scope o [])) (said.0 named) ∙ own_slot k.meaning is.kind),
           );
         }
@@ -290,7 +291,11 @@ module _ (z : Setting) (set : IsSet z) where
           typed = is.2;
           real = is.6;
           spot = λ made point ready. (
-            (let a = set.static has in let b = ready.0 in omega (arith, a, b)), is.0, refl, may_write true 0 k f is.1 is.3 (λ e. refl) may, holds_up z set point 0 (class_type z.names.class) (class_type (field_at z.program k).class) (this_held point has ready.1) is.5,
+            (let a = set.static has in let b = ready.0 in omega (arith, a, b)),
+            is.0,
+            refl,
+            may_write true 0 k f is.1 is.3 (λ e. refl) may,
+            holds_up z set point 0 (class_type z.names.class) (class_type (field_at z.program k).class) (this_held point has ready.1) is.5,
           );
         }
     field_aims f (Some (meaning.Constant n)) is static used final = absurd (constant_final f is.2 is.3 true (kept z (rules.may_assign z.names.in_constructor z.names.class true f) rule.FinalAssigned ident.span final))
