@@ -117,6 +117,10 @@ const ROWS: &[(&str, &str)] = &[
         "",
     ),
     (
+        "class A { A(int x) { } } class B extends A { B() { super(1); } void m() { } }",
+        "",
+    ),
+    (
         "class A { A(int x) { } } class B extends A { B() { super(); } }",
         "45-46 wrong.arguments;",
     ),

@@ -37,6 +37,10 @@ const ROWS: &[(&str, &str)] = &[
         "class A { void m() { int a = 1; { int a = 2; } } }",
         "38-39 duplicate.name;",
     ),
+    (
+        "class A { static void f() { int x = 1; boolean x = true; if (x) { } int y = x; } }",
+        "47-48 duplicate.name;61-62 type.mismatch;",
+    ),
     ("class A { void m() { { int a = 1; } { int a = 2; } } }", ""),
     ("class A { int f; int f; }", "21-22 duplicate.name;"),
     ("class A { int f; void f() { } }", "22-23 duplicate.name;"),
