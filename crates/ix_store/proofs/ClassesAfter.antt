@@ -174,3 +174,6 @@ told_classes facts outcome have = app_have facts (kept (outcome_facts (in_orders
 
 pub assumed_classes : (facts : List Fact) (claim : PathClaim) (p : Path) → HaveClasses facts → HaveClasses (with_facts (claim_facts claim p) facts)
 assumed_classes facts claim p have = app_have facts (kept (claim_facts claim p)) have (kept_have (claim_facts claim p) (claim_classes claim p))
+
+pub added_classes : (facts more : List Fact) → HaveClasses facts → HaveClasses more → HaveClasses (with_facts more facts)
+added_classes facts more have are = app_have facts (kept more) have (kept_have more are)

@@ -3,6 +3,7 @@ pub mod StoresOf
 mod SmallNumbers
 pub mod SameStores
 mod ClassesAfter
+mod RoundedClasses
 mod BehindRules
 mod CommonParts
 mod SixCommon

@@ -1,3 +1,4 @@
 pub mod EmptyRanges
 pub mod AllTables
 pub mod StoredFacts
+pub mod ChangedPaths

@@ -5,18 +5,21 @@ ghost use Rattle.ix_facts.specs.Assume as claims;
 ghost use Rattle.ix_facts.specs.Closure.{kept};
 ghost use Rattle.ix_facts.specs.Facts.{in_orders};
 ghost use Rattle.ix_facts.specs.Forget.{of_path, without};
+ghost use Rattle.ix_facts.specs.Round.{rounded};
 ghost use Rattle.ix_facts.specs.Stores.{operated, with_copy, with_outcome, with_facts};
 ghost use Rattle.ix_facts.specs.Systems.{HaveClasses};
 ghost use Rattle.ix_after.specs.SameFacts.{AreSame};
+ghost use Rattle.ix_store.specs.ChangedPaths.{is_changed};
 ghost use Rattle.ix_outcomes.specs.OverGroups.{outcome_of};
 
+use crate::changed::{Changed, unchanged};
 use crate::known::Known;
 use ix_after::{facts_after, facts_of_copy};
 use ix_claims::is_proved;
 use ix_core::{Fact, OpKind, Path, PathClaim, Profile, Type_};
 use ix_exact::{push_less, push_upper};
 use ix_fact_list::FactList;
-use ix_facts::facts_without_path;
+use ix_facts::{facts_without_path, rounded_facts};
 use ix_outcomes::{Outcome, facts_of_outcome};
 use ix_rules::push_claim;
 use std::alloc::{AllocError, Global};
@@ -122,6 +125,42 @@ impl Known {
         ensures classes { IfOk result (λ facts. HaveClasses facts.items) }
     {
         let facts = facts_without_path(alloc, self.list().as_slice(), path)?;
+        Ok(facts)
+    }
+
+    pub(crate) fn unchanged(
+        &self,
+        alloc: Global,
+        changed: &Changed,
+    ) -> Result<Vec<Fact>, AllocError>
+        ensures facts { IfOk result (λ facts. facts.items ≡ without (is_changed changed.now) self.now) }
+        ensures classes { IfOk result (λ facts. HaveClasses facts.items) }
+    {
+        let facts = unchanged(alloc, self.list().as_slice(), changed)?;
+        Ok(facts)
+    }
+
+    pub(crate) fn rounded(
+        &self,
+        alloc: Global,
+        marks: &[i32],
+        scope: u32,
+    ) -> Result<Vec<Fact>, AllocError>
+        ensures facts { IfOk result (λ facts. facts.items ≡ rounded marks.now scope self.now) }
+        ensures classes { IfOk result (λ facts. HaveClasses facts.items) }
+    {
+        let within = unchanged(alloc, self.list().as_slice(), &Changed::From(scope))?;
+        let facts = rounded_facts(alloc, &within, marks)?;
+        Ok(facts)
+    }
+
+    pub(crate) fn with_more(&self, alloc: Global, more: &[Fact]) -> Result<Vec<Fact>, AllocError>
+        requires classes { HaveClasses more.now }
+        ensures facts { IfOk result (λ facts. facts.items ≡ with_facts more.now self.now) }
+        ensures classes { IfOk result (λ facts. HaveClasses facts.items) }
+    {
+        let new = kept_facts(alloc, more)?;
+        let facts = both(alloc, self.list().as_slice(), &new)?;
         Ok(facts)
     }
 }

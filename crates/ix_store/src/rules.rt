@@ -1,14 +1,17 @@
 //! The store behind each rule.
 
 ghost use Rattle.std.specs.Prelude.{◌≡◌, ◌∷◌, [], ◌↔◌, IsTrue, IfOk};
-ghost use Rattle.ix_facts.specs.Stores.{Unreachable, Reached, IsBelow, IsJoined, IsStoreOf, IsAfter, IsCopied, IsTold, IsAssumed, IsForgotten, IsProved};
+ghost use Rattle.ix_facts.specs.Stores.{Unreachable, Reached, IsBelow, IsJoined, IsStoreOf, IsAfter, IsCopied, IsTold, IsAssumed, IsAdded, IsForgotten, IsRounded, IsProved};
 ghost use Rattle.ix_facts.specs.Systems.{HaveClasses};
-ghost use Rattle.ix_facts.specs.Forget.{of_path};
+ghost use Rattle.ix_facts.specs.Forget.{of_path, of_field, of_call, of_this};
+ghost use Rattle.ix_store.specs.ChangedPaths.{is_spared, is_final, is_changed};
 ghost use Rattle.ix_outcomes.specs.OverGroups.{outcome_of};
 
+use crate::changed::Changed;
 use crate::known::Known;
 use crate::store::Store;
-use ix_core::{Fact, OpKind, Path, PathClaim, Profile, Type_};
+use ix_core::{Fact, OpKind, Path, PathClaim, Profile, Program, Type_};
+use ix_facts::Landmarks;
 use ix_outcomes::Outcome;
 use ix_text::Joint;
 use std::alloc::{AllocError, Global};
@@ -109,6 +112,73 @@ impl Store {
             return Ok(Store::unreachable());
         };
         let facts = known.get().without(alloc, path)?;
+        let store = Store::of_facts(alloc, &facts)?;
+        Ok(store)
+    }
+
+    /// The store behind a write of a field: without the facts that name the field, of the object in any slot but the spared one, since two slots may hold one object (JLS 15.26.1). The only error is want of memory.
+    pub fn forget_field(
+        &self,
+        alloc: Global,
+        field: u32,
+        spared: Option<u32>,
+    ) -> Result<Store, AllocError>
+        ensures after { IfOk result (λ after. IsForgotten (of_field field (is_spared spared)) self.now after) }
+    {
+        self.forget_changed(alloc, &Changed::Field(field, spared))
+    }
+
+    /// The store behind a call that may have side effects: without the facts that name a field that isn't final, of the object in any slot but the spared one (JLS 15.12.4, 17.5). A field that the program doesn't have counts as one that isn't final. The only error is want of memory.
+    pub fn forget_call(
+        &self,
+        alloc: Global,
+        program: &Program,
+        spared: Option<u32>,
+    ) -> Result<Store, AllocError>
+        ensures after { IfOk result (λ after. IsForgotten (of_call (is_final program.now) (is_spared spared)) self.now after) }
+    {
+        self.forget_changed(alloc, &Changed::Call(program, spared))
+    }
+
+    /// The store behind a call of the parent's constructor: without the facts that name a field of the object in slot 0 (JLS 8.8.7.1). The only error is want of memory.
+    pub fn forget_this(&self, alloc: Global) -> Result<Store, AllocError>
+        ensures after { IfOk result (λ after. IsForgotten of_this self.now after) }
+    {
+        self.forget_changed(alloc, &Changed::This)
+    }
+
+    fn forget_changed(&self, alloc: Global, changed: &Changed) -> Result<Store, AllocError>
+        ensures after { IfOk result (λ after. IsForgotten (is_changed changed.now) self.now after) }
+    {
+        let Some(known) = &self.known else {
+            return Ok(Store::unreachable());
+        };
+        let facts = known.get().unchanged(alloc, changed)?;
+        let store = Store::of_facts(alloc, &facts)?;
+        Ok(store)
+    }
+
+    /// The store of a loop's label: without the facts that name a slot from `scope` on, the constants of the others moved to landmarks. The only error is want of memory.
+    pub fn round(&self, alloc: Global, marks: &Landmarks, scope: u32) -> Result<Store, AllocError>
+        ensures after { IfOk result (λ after. IsRounded marks.now.ints scope self.now after) }
+    {
+        let Some(known) = &self.known else {
+            return Ok(Store::unreachable());
+        };
+        let facts = known.get().rounded(alloc, marks.ints.as_slice(), scope)?;
+        let store = Store::of_facts(alloc, &facts)?;
+        Ok(store)
+    }
+
+    /// The store with more facts. What an int is at least must be -1, 0 or 1 in each of them. The only error is want of memory.
+    pub fn add(&self, alloc: Global, more: &[Fact]) -> Result<Store, AllocError>
+        requires classes { HaveClasses more.now }
+        ensures after { IfOk result (λ after. IsAdded more.now self.now after) }
+    {
+        let Some(known) = &self.known else {
+            return Ok(Store::unreachable());
+        };
+        let facts = known.get().with_more(alloc, more)?;
         let store = Store::of_facts(alloc, &facts)?;
         Ok(store)
     }

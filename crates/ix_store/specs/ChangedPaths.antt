@@ -1,0 +1,25 @@
+-- Which slot is spared and which field is final, as a step that may change paths is told; and those paths.
+use Rattle.std.specs.Prelude.{ℕ, Bool, false, ◌==◌, Option, Some, None}
+use Rattle.ix_core.specs.declared.fact.Path.{Path}
+use Rattle.ix_core.specs.declared.program.Program.{Program}
+use Rattle.ix_core.specs.Tables.{field_at}
+use Rattle.ix_facts.specs.Forget.{of_path, of_field, of_call, of_this}
+use Rattle.ix_facts.specs.Round.{is_beyond}
+use Rattle.ix_store.specs.declared.changed.Changed.{Changed}
+use Rattle.ix_store.specs.declared.changed.Changed.TheVariants.{At, Field, Call, This, From}
+
+-- The spared slot, where there is one.
+abbrev pub is_spared : Option ℕ → ℕ → Bool
+is_spared None s = false
+is_spared (Some t) s = s == t
+
+-- A field that the program doesn't have counts as one that isn't final.
+abbrev pub is_final : Program → ℕ → Bool
+is_final program f = (field_at program f).is_final
+
+abbrev pub is_changed : Changed → Path → Bool
+is_changed (At q) = of_path q
+is_changed (Field f spared) = of_field f (is_spared spared)
+is_changed (Call program spared) = of_call (is_final program.now) (is_spared spared)
+is_changed This = of_this
+is_changed (From first) = is_beyond first

@@ -1,0 +1,125 @@
+//! Which paths a step may change, and the facts that name none of them.
+
+ghost use Rattle.std.specs.Prelude.{◌≡◌, IfOk};
+ghost use Rattle.ix_core.specs.declared.fact.Path.TheVariants.{Slot, FieldOf};
+ghost use Rattle.ix_facts.specs.Forget.{offset_names, names, without};
+ghost use Rattle.ix_store.specs.ChangedPaths.{is_spared, is_final, is_changed};
+
+use ix_core::{Fact, Path, PathOff, Program};
+use ix_facts::is_of_path;
+use std::alloc::{AllocError, Global};
+
+/// The paths that a step may change.
+#[derive(Clone, Copy)]
+pub(crate) enum Changed<'a> {
+    /// a path; of a slot also each field of the object in it
+    At(Path),
+    /// a field, of the object in each slot but the spared one
+    Field(u32, Option<u32>),
+    /// each field of the program that isn't final, of the object in each slot but the spared one
+    Call(&'a Program, Option<u32>),
+    /// each field of the object in slot 0
+    This,
+    /// each slot from this one on, and the fields of the objects in them
+    From(u32),
+}
+
+fn is_in_spared(spared: Option<u32>, slot: u32) -> bool
+    ensures { result ≡ is_spared spared slot }
+{
+    match spared {
+        Some(other) => slot == other,
+        None => false,
+    }
+}
+
+fn is_final_field(program: &Program, field: u32) -> bool
+    ensures { result ≡ is_final program.now field }
+{
+    match program.fields.as_slice().get(field as usize) {
+        Some(field) => field.is_final,
+        None => false,
+    }
+}
+
+/// Whether the step may change the field of the object in the slot.
+fn changes_field(changed: &Changed, slot: u32, field: u32) -> bool
+    ensures { result ≡ is_changed changed.now (FieldOf slot field) }
+{
+    match *changed {
+        Changed::At(path) => is_of_path(&path, &Path::FieldOf(slot, field)),
+        Changed::Field(own, spared) => !is_in_spared(spared, slot) && field == own,
+        Changed::Call(program, spared) => {
+            !is_in_spared(spared, slot) && !is_final_field(program, field)
+        }
+        Changed::This => slot == 0,
+        Changed::From(first) => slot >= first,
+    }
+}
+
+fn changes_slot(changed: &Changed, slot: u32) -> bool
+    ensures { result ≡ is_changed changed.now (Slot slot) }
+{
+    match *changed {
+        Changed::At(path) => is_of_path(&path, &Path::Slot(slot)),
+        Changed::From(first) => slot >= first,
+        _ => false,
+    }
+}
+
+fn changes(changed: &Changed, p: &Path) -> bool
+    ensures { result ≡ is_changed changed.now p.now }
+{
+    match *p {
+        Path::Slot(slot) => changes_slot(changed, slot),
+        Path::FieldOf(slot, field) => changes_field(changed, slot, field),
+    }
+}
+
+fn changes_offset(changed: &Changed, offset: &PathOff) -> bool
+    ensures { result ≡ offset_names (is_changed changed.now) offset.now }
+{
+    match *offset {
+        PathOff::Nothing => false,
+        PathOff::Plus(q) => changes(changed, &q),
+        PathOff::Minus(q) => changes(changed, &q),
+    }
+}
+
+/// Whether the fact names a path that the step may change.
+fn names_changed(changed: &Changed, fact: &Fact) -> bool
+    ensures { result ≡ names (is_changed changed.now) fact.now }
+{
+    match *fact {
+        Fact::Rng(p, _, _) => changes(changed, &p),
+        Fact::LenRng(a, _, _) => changes(changed, &a),
+        Fact::Low(p, _) => changes(changed, &p),
+        Fact::Same(a, b) => changes(changed, &a) || changes(changed, &b),
+        Fact::IsLen(p, a) => changes(changed, &p) || changes(changed, &a),
+        Fact::Less(p, q, _) => changes(changed, &p) || changes(changed, &q),
+        Fact::Sum(t, y, z) => changes(changed, &t)
+            || (changes(changed, &y) || changes(changed, &z)),
+        Fact::Search(p, a) => changes(changed, &p) || changes(changed, &a),
+        Fact::Neg(p, a) => changes(changed, &p) || changes(changed, &a),
+        Fact::Upper(p, a, offset, _) => {
+            changes(changed, &p) || (changes(changed, &a) || changes_offset(changed, &offset))
+        }
+    }
+}
+
+/// The facts that name no path that the step may change.
+pub(crate) fn unchanged(
+    alloc: Global,
+    facts: &[Fact],
+    changed: &Changed,
+) -> Result<Vec<Fact>, AllocError>
+    ensures { IfOk result (λ kept. kept.items ≡ without (is_changed changed.now) facts.now) }
+{
+    let mut kept = Vec::new(alloc);
+    for fact in facts {
+        if !names_changed(changed, fact) {
+            kept.push(*fact)?;
+        }
+    }
+    Ok(kept)
+}
