@@ -65,3 +65,7 @@ pub mod MethodEntries
 pub mod SourceMethods
 pub mod PlainMethods
 pub mod FormedPrograms
+pub mod ConstructorCalls
+pub mod ConstructorFields
+pub mod ConstructorBodies
+pub mod ConstructorParents

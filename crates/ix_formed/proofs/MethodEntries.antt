@@ -61,7 +61,7 @@ param_past first (t ∷ types) slot le =
     let other : (first == slot) ≡ false = by_test (first == slot) (λ t. let z = equal first slot t in absurd (omega (arith, z, le))) (λ f. f) in
     ap (λ b. if b then Some t else param_type_from (first + 1) types slot) other ∙ param_past (first + 1) types slot (omega (arith, le))
 
-param_before : (first : ℕ) (types : List Type_) (slot : ℕ) → slot < first → param_type_from first types slot ≡ None
+pub param_before : (first : ℕ) (types : List Type_) (slot : ℕ) → slot < first → param_type_from first types slot ≡ None
 param_before first [] slot lt = refl
 param_before first (t ∷ types) slot lt =
     let other : (first == slot) ≡ false = by_test (first == slot) (λ t. let z = equal first slot t in absurd (omega (arith, z, lt))) (λ f. f) in
@@ -131,6 +131,9 @@ module _ (unit : Source) (p : Program) (is : IsAccepted unit p) (l : Place) (d :
   param_has_slot : (k : ℕ) → k < length d.params → slot_of (scope_in own_ground []) (Some (meaning.Param k)) ≡ first + k
   param_has_slot k lt =
       ap (λ (x : List Local). slot_in_params (slice_get x k)) site_params ∙ params_slot (names unit) (first_param (is_static d)) d.params k lt ∙ ap (λ n. n + k) first_same
+
+  pub types_past : (slot : ℕ) → first_free ≤ slot → param_type_from (param_slot method 0) method.param_types slot ≡ None
+  types_past slot le = let c = free_is in let b = own_types in param_past (param_slot method 0) method.param_types slot (omega (arith, le, c, b))
 
   -- ---- parameters
 
@@ -210,10 +213,13 @@ module _ (unit : Source) (p : Program) (is : IsAccepted unit p) (l : Place) (d :
       unused = λ slot le span within. let c = free_is in let b = own_types in ap (λ (o : Option Type_). first_type o None) (param_past first method.param_types slot (omega (arith, le, c, b)));
     }
 
+    pub entry_variables : AllOf (λ (v : Variable). (ty : Type_) → v.ty ≡ Some ty → Known (Some (entry_type p method)) (slot_of (scope_in own_ground []) (Some v.meaning)) ty) (source.params_from l 0 d.params)
+    entry_variables = all_so IsEntered (λ (v : Variable). (ty : Type_) → v.ty ≡ Some ty → Known (Some (entry_type p method)) (slot_of (scope_in own_ground []) (Some v.meaning)) ty) (λ v e. e.1) (source.params_from l 0 d.params) all_entered
+
     -- where the parent's constructor needn't run first
     pub entry_stands : (method.constructor && has_parent p method) ≡ false → Stands own_ground entry_scope [] (Some (entry_type p method))
     entry_stands free = record {
-      variables = all_so IsEntered (λ (v : Variable). (ty : Type_) → v.ty ≡ Some ty → Known (Some (entry_type p method)) (slot_of (scope_in own_ground []) (Some v.meaning)) ty) (λ v e. e.1) (source.params_from l 0 d.params) all_entered;
+      variables = entry_variables;
       this = λ e.
       let instance = not_static method.is_static (is_static d) head.static e in
       let f = ap (λ b. if b then 0 else 0 + 1) instance in

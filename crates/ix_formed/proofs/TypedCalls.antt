@@ -149,7 +149,7 @@ module _ (z : Setting) (set : IsSet z) where
 
   module _ (ls : List Lowering) (rs : List Reading) (all : AllFits ls rs) where
     -- the arguments of a call of a method that takes these
-    given_args : (number : ℕ) (params : List (Option Type_)) → TakesTypes z.program z.scope.site number params → (span : Span) → Told z (reading.given_to z.names rs params span) → (made : Made) (point : Point) → Ready z made point
+    pub given_args : (number : ℕ) (params : List (Option Type_)) → TakesTypes z.program z.scope.site number params → (span : Span) → Told z (reading.given_to z.names rs params span) → (made : Made) (point : Point) → Ready z made point
         → Makes (ArgsGive made point (method_at z.program number).param_types) (values.arguments_from [] ls z.scope made)
     given_args number params takes span said made point ready =
         let q = parted z (rules.wrong_arguments (length rs) (length params) span) (reading.arguments z.names rs params) said in

@@ -165,7 +165,7 @@ module _ (g : Ground) (ground : IsGround g) where
     InSpan (expression span) = Within lo hi span
     InSpan _ = Unit {0}
 
-    here_is : (ps : List Part) → AllOf InSpan ps → AllOf (IsKnown g) ps → AllOf (IsHere z) ps
+    pub here_is : (ps : List Part) → AllOf InSpan ps → AllOf (IsKnown g) ps → AllOf (IsHere z) ps
     here_is [] here known = tt
     here_is (expression span ∷ ps) here known = (here.0, here_is ps here.1 known.1)
     here_is (statement span ∷ ps) here known = (tt, here_is ps here.1 known.1)
