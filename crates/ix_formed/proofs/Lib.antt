@@ -69,3 +69,4 @@ pub mod ConstructorCalls
 pub mod ConstructorFields
 pub mod ConstructorBodies
 pub mod ConstructorParents
+pub mod ConstructorSupers
