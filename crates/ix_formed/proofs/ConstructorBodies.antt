@@ -1,6 +1,5 @@
 -- The body and the locals of a written constructor fit, where what it begins with does.
-use Rattle.std.proofs.Common.{◌≡◌, ◌≤◌, ◌<◌, ℕ, ◌+◌, Bool, true, false, List, [], ◌∷◌, ◌++◌, length, map, Option, Some, None, Ok, Err, refl, sym, ap, subst, ◌∙◌, arith}
-use Rattle.std.specs.Prelude.{if◌then◌else◌, ◌&&◌}
+use Rattle.std.proofs.Common.{◌≡◌, ◌≤◌, ◌<◌, ℕ, true, false, List, [], ◌∷◌, ◌++◌, length, map, Some, None, refl, sym, ap, subst, ◌∙◌, arith}
 use Rattle.std.proofs.lemmas.Bool.{false≢true}
 use Rattle.std.proofs.lemmas.List.{append-nil}
 use Rattle.ix_text.specs.declared.span.Span.{Span}
@@ -9,7 +8,7 @@ use Rattle.ix_core.specs.declared.code.Item.{Item}
 use Rattle.ix_core.specs.declared.program.Local.{Local}
 use Rattle.ix_core.specs.declared.program.Method.{Method}
 use Rattle.ix_core.specs.declared.program.Program.{Program}
-use Rattle.ix_core.specs.Code.{Code, End, items_code}
+use Rattle.ix_core.specs.Code.{End, items_code}
 use Rattle.ix_core.specs.Formed.{Ways, entry_type, code_ways, param_type_from, is_target}
 use Rattle.ix_core.specs.Tables.{param_slot, param_slots}
 use Rattle.ix_core.specs.Types.{Point, class_type}
@@ -24,13 +23,13 @@ use Rattle.ix_meaning.specs.Source as source
 use Rattle.ix_meaning.specs.Source.{Place}
 use Rattle.ix_plain.specs.declared.body.Body.{Body}
 use Rattle.ix_plain.specs.Parts.{◌>>=◌}
-use Rattle.ix_plain.specs.Program.{Tables, Home, start, tables, super_call, constructor_start, fields_initialised, written_start}
+use Rattle.ix_plain.specs.Program.{Home, start, tables, super_call, constructor_start, fields_initialised, written_start}
 use Rattle.ix_plain.specs.Scope.{slot_of}
 use Rattle.ix_plain.specs.Statements.{each, statement}
 use Rattle.ix_formed.specs.Additions.{Makes, AllOf, code_before}
 use Rattle.ix_formed.specs.Points.{Known}
 use Rattle.ix_formed.specs.TypedStatements.{Ground, IsGround, IsKnown, IsDeclared, HasVariable, Scoped, Stands, Begins, Tells, scope_in}
-use Rattle.ix_formed.proofs.ConstructorFields.{Declared, Begun, begun_both, AreInitialised, all_initialised}
+use Rattle.ix_formed.proofs.ConstructorFields.{Begun, begun_both, AreInitialised, all_initialised}
 use Rattle.ix_formed.proofs.FieldsFit.{IsAccepted}
 use Rattle.ix_formed.proofs.FormedPrograms.{FitsInside}
 use Rattle.ix_formed.proofs.HeadsAre.{IsWritten}

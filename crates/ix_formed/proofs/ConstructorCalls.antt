@@ -1,6 +1,6 @@
 -- The call of the parent's constructor, with which a constructor begins, fits, and `this` is known behind it.
-use Rattle.std.proofs.Common.{◌≡◌, ◌≤◌, ◌<◌, ℕ, ◌+◌, Bool, true, false, List, [], ◌∷◌, ◌++◌, length, Option, Some, None, Ok, Err, refl, sym, ap, subst, ◌∙◌, arith, append_assoc}
-use Rattle.std.specs.Prelude.{if◌then◌else◌, ◌&&◌, not, nat_lt, ◌==◌}
+use Rattle.std.proofs.Common.{◌≡◌, ◌≤◌, ◌<◌, ℕ, ◌+◌, Bool, true, false, List, [], ◌∷◌, ◌++◌, length, Some, Ok, Err, refl, sym, ap, subst, ◌∙◌, arith, append_assoc}
+use Rattle.std.specs.Prelude.{if◌then◌else◌, ◌&&◌, nat_lt, ◌==◌}
 use Rattle.ix_text.specs.declared.span.Span.{Span}
 use Rattle.ix_core.specs.declared.claim.Type_.{Type_}
 use Rattle.ix_core.specs.declared.code.Item.{Item}
@@ -20,7 +20,7 @@ use Rattle.ix_plain.specs.Scope.{constructor_at}
 use Rattle.ix_plain.specs.Parts.{◌>>=◌, Value, most_slots}
 use Rattle.ix_plain.specs.Values as values
 use Rattle.ix_plain.specs.Values.{Lowering}
-use Rattle.ix_formed.specs.Additions.{Makes, AllOf}
+use Rattle.ix_formed.specs.Additions.{Makes}
 use Rattle.ix_formed.specs.Points.{Known, Keeps, Leads}
 use Rattle.ix_formed.specs.Typed.{Setting, IsSet, Told, Ready, ConstructorIs}
 use Rattle.ix_formed.proofs.NumberLists.{both_true, is_itself}

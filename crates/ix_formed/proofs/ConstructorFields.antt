@@ -1,7 +1,7 @@
 -- The initialisers of fields, with which a constructor begins: each stands outside the constructor, so that none of its locals is in scope there.
-use Rattle.std.proofs.Common.{◌≡◌, ◌≤◌, ◌<◌, ℕ, ◌+◌, max, Bool, true, false, List, [], ◌∷◌, ◌++◌, length, Option, Some, None, Ok, Err, refl, sym, ap, subst, ◌∙◌, arith, append_assoc, ◌⊎◌, inl, inr, ⊎_elim}
+use Rattle.std.proofs.Common.{◌≡◌, ◌≤◌, ◌<◌, ℕ, max, Bool, true, false, List, [], ◌∷◌, ◌++◌, length, Option, Some, None, Ok, Err, refl, sym, ap, subst, ◌∙◌, arith, append_assoc, ◌⊎◌, ⊎_elim}
 use Rattle.std.specs.Prelude.{if◌then◌else◌, ◌&&◌, ◌||◌, not, nat_lt, ◌==◌}
-use Rattle.std.proofs.lemmas.Bool.{false≢true, and_parts}
+use Rattle.std.proofs.lemmas.Bool.{false≢true}
 use Rattle.std.proofs.lemmas.Bool.Decides.{nat_tests}
 use Rattle.std.proofs.lemmas.List.{append-nil}
 use Rattle.ix_text.specs.declared.span.Span.{Span}
@@ -11,7 +11,7 @@ use Rattle.ix_core.specs.declared.code.Item.TheVariants as item
 use Rattle.ix_core.specs.declared.op.Op.{Op}
 use Rattle.ix_core.specs.declared.op.OpKind.TheVariants as op
 use Rattle.ix_core.specs.declared.program.Local.{Local}
-use Rattle.ix_core.specs.Formed.{first_type, param_type_from, local_type_from, starts_within, at_most, is_there, field_fits, may_be_written, reads, op_fits}
+use Rattle.ix_core.specs.Formed.{first_type, param_type_from, local_type_from, at_most, is_there, field_fits, may_be_written, reads, op_fits}
 use Rattle.ix_core.specs.Tables.{field_at, param_slot, param_slots}
 use Rattle.ix_core.specs.Types.{Point, class_type, is_type, is_class}
 use Rattle.ix_tree.specs.declared.decl.LocalDecl.{LocalDecl}
@@ -19,7 +19,7 @@ use Rattle.ix_tree.specs.declared.decl.Member.{Member}
 use Rattle.ix_tree.specs.declared.decl.Member.TheVariants as member
 use Rattle.ix_tree.specs.declared.expr.Init.{Init}
 use Rattle.ix_tree.specs.Parts.{Part, expression, statement, declaration, in_type, elsewhere, entries, init_parts}
-use Rattle.ix_meaning.specs.Scope.{Known as Variable, Scope as Names}
+use Rattle.ix_meaning.specs.Scope.{Scope as Names}
 use Rattle.ix_meaning.specs.Source as source
 use Rattle.ix_meaning.specs.Source.{Place}
 use Rattle.ix_meaning.specs.Values as reading
@@ -28,7 +28,7 @@ use Rattle.ix_plain.specs.Assigned.{init_assigns}
 use Rattle.ix_plain.specs.Members.{next_field}
 use Rattle.ix_plain.specs.Parts.{◌>>=◌, Value}
 use Rattle.ix_plain.specs.Program.{field_initialised, member_initialised, fields_initialised}
-use Rattle.ix_plain.specs.Scope.{Scope, declared_type, is_among}
+use Rattle.ix_plain.specs.Scope.{declared_type, is_among}
 use Rattle.ix_plain.specs.Statements.{Evaluated, behind_value, init_evaluated, scope_for, assigned_by}
 use Rattle.ix_plain.specs.Values.{filling}
 use Rattle.ix_formed.specs.Additions.{Makes, AllOf}
@@ -36,7 +36,7 @@ use Rattle.ix_formed.specs.Points.{Known, Keeps, Leads}
 use Rattle.ix_formed.specs.Readable.{is_readable_init}
 use Rattle.ix_formed.specs.Typed as typed
 use Rattle.ix_formed.specs.Typed.{HasMembers, Setting, IsSet, IsHere, Gives, Holds, Fills, FitsFilling}
-use Rattle.ix_formed.specs.TypedStatements.{Ground, IsGround, Says, IsKnown, Within, IsDeclared, Outside, type_in, scope_in}
+use Rattle.ix_formed.specs.TypedStatements.{Ground, IsGround, Says, IsKnown, Within, IsDeclared, Outside}
 use Rattle.ix_formed.specs.Written.{is_written_init}
 use Rattle.ix_formed.proofs.AssignedVariables.{init_assigns_append}
 use Rattle.ix_formed.proofs.LayoutSpans.{PartIs}

@@ -1,6 +1,5 @@
 -- A constructor of a class with a parent begins with the call of the parent's constructor.
-use Rattle.std.proofs.Common.{◌≡◌, ◌≤◌, ◌<◌, ℕ, ◌+◌, max, Bool, true, false, List, [], ◌∷◌, ◌++◌, length, map, Option, Some, None, Result, Ok, Err, refl, sym, ap, subst, ◌∙◌, arith}
-use Rattle.std.specs.Prelude.{◌&&◌}
+use Rattle.std.proofs.Common.{◌≡◌, ◌≤◌, ℕ, max, true, List, [], ◌∷◌, ◌++◌, map, Some, Result, Ok, Err, refl, sym, ap, subst, ◌∙◌, arith}
 use Rattle.std.proofs.lemmas.Bool.{and_parts}
 use Rattle.ix_text.specs.declared.span.Span.{Span}
 use Rattle.ix_core.specs.declared.claim.Type_.{Type_}
@@ -15,17 +14,16 @@ use Rattle.ix_meaning.specs.Scope.{Known as Variable, Scope as Names}
 use Rattle.ix_meaning.specs.Source.{Place}
 use Rattle.ix_meaning.specs.Values as reading
 use Rattle.ix_plain.specs.declared.body.Body.{Body}
-use Rattle.ix_plain.specs.Assigned.{all, each, assigns, all_assign}
-use Rattle.ix_plain.specs.Parts.{◌>>=◌, Value}
+use Rattle.ix_plain.specs.Assigned.{assigns, all_assign}
+use Rattle.ix_plain.specs.Parts.{◌>>=◌}
 use Rattle.ix_plain.specs.Program.{parent_call}
-use Rattle.ix_plain.specs.Scope.{Scope, slot_of, is_among, constructor_at}
+use Rattle.ix_plain.specs.Scope.{slot_of, is_among, constructor_at}
 use Rattle.ix_plain.specs.Statements.{behind, assigned_by, scope_for}
 use Rattle.ix_plain.specs.Values as values
 use Rattle.ix_plain.specs.Values.{lowering}
 use Rattle.ix_formed.specs.Additions.{Makes, AllOf}
 use Rattle.ix_formed.specs.Points.{Known}
 use Rattle.ix_formed.specs.Readable.{shape, all_fine}
-use Rattle.ix_formed.specs.Typed as typed
 use Rattle.ix_formed.specs.Typed.{Setting, IsSet, IsHere}
 use Rattle.ix_formed.specs.TypedStatements.{Ground, IsGround, Says, IsKnown, Within, IsDeclared, Scoped, Stands, Begins, scope_in}
 use Rattle.ix_formed.specs.Written.{is_written_expr, all_true}

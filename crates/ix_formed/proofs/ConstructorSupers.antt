@@ -1,5 +1,5 @@
 -- What a written constructor begins with fits, where the initialisers of its class's fields do.
-use Rattle.std.proofs.Common.{◌≡◌, ◌≤◌, ◌<◌, ℕ, ◌+◌, Bool, true, false, List, [], ◌∷◌, ◌++◌, length, map, Option, Some, None, Ok, Err, refl, sym, ap, subst, ◌∙◌, arith}
+use Rattle.std.proofs.Common.{◌≡◌, ◌≤◌, ℕ, Bool, true, false, List, [], ◌∷◌, length, map, Option, Some, None, Ok, refl, sym, ap, subst, ◌∙◌, arith}
 use Rattle.std.specs.Prelude.{if◌then◌else◌, ◌&&◌, ◌||◌, not, ◌==◌}
 use Rattle.std.proofs.lemmas.Bool.{false≢true, and_parts}
 use Rattle.std.proofs.lemmas.List.{append-nil}
@@ -9,31 +9,27 @@ use Rattle.ix_core.specs.declared.program.Local.{Local}
 use Rattle.ix_core.specs.declared.program.Method.{Method}
 use Rattle.ix_core.specs.declared.program.Program.{Program}
 use Rattle.ix_core.specs.Formed.{first_type, entry_type, this_type, has_parent, param_type_from, is_target}
-use Rattle.ix_core.specs.Tables.{class_at, param_slot, param_slots}
+use Rattle.ix_core.specs.Tables.{class_at, param_slot}
 use Rattle.ix_core.specs.Types.{Point, class_type, is_class}
-use Rattle.ix_tree.specs.declared.decl.LocalDecl.{LocalDecl}
 use Rattle.ix_tree.specs.declared.decl.MethodDecl.{MethodDecl}
 use Rattle.ix_tree.specs.declared.decl.Unit.{Unit as Source}
 use Rattle.ix_tree.specs.declared.expr.Expr.{Expr}
 use Rattle.ix_tree.specs.Parts as parts
 use Rattle.ix_tree.specs.Parts.{Part, expression, statement, declaration, in_type, elsewhere, entries, expr_parts, args_parts, together, unit_parts}
 use Rattle.ix_tree.specs.Placed.{LaidOut, row, expr_piece, parent_pieces}
-use Rattle.ix_meaning.specs.Classes.{parents, parent}
 use Rattle.ix_meaning.specs.Members.{World, world, constructor_params}
 use Rattle.ix_meaning.specs.Resolved.{names}
-use Rattle.ix_meaning.specs.Scope.{Known as Variable, Scope as Names}
+use Rattle.ix_meaning.specs.Scope.{Scope as Names}
 use Rattle.ix_meaning.specs.Source as source
 use Rattle.ix_meaning.specs.Source.{Place}
 use Rattle.ix_meaning.specs.Values as reading
-use Rattle.ix_plain.specs.declared.body.Body.{Body}
 use Rattle.ix_plain.specs.Program.{Tables, Home, start, tables, args_or_none, super_call, written_start}
 use Rattle.ix_formed.specs.Additions.{Makes, AllOf}
-use Rattle.ix_formed.specs.Points.{Known}
 use Rattle.ix_formed.specs.Readable.{shape, is_readable_expr, is_readable_stmt, all_fine}
 use Rattle.ix_formed.specs.TypedStatements.{Ground, IsGround, Says, IsKnown, Within, Scoped, Stands}
 use Rattle.ix_formed.specs.Written.{is_written_expr, is_written_type, is_written_decl, is_written_stmt, has_no_result, all_true, each_true, maybe_true}
 use Rattle.ix_formed.proofs.AcceptedMethods.{class_is}
-use Rattle.ix_formed.proofs.ConstructorBodies.{Started, Starts, constructor_starts, constructor_inside}
+use Rattle.ix_formed.proofs.ConstructorBodies.{Starts, constructor_starts, constructor_inside}
 use Rattle.ix_formed.proofs.ConstructorFields.{AreInitialised, begun_none}
 use Rattle.ix_formed.proofs.ConstructorParents.{parent_called}
 use Rattle.ix_formed.proofs.FieldsFit.{IsAccepted, same_parents, parents_there, parent_count}

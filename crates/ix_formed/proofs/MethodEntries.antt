@@ -1,15 +1,14 @@
 -- At the entry of a written method its parameters, and `this`, are known and in scope.
-use Rattle.std.proofs.Common.{◌≡◌, ◌≤◌, ◌<◌, ℕ, zero, suc, ◌+◌, Bool, true, false, List, [], ◌∷◌, ◌++◌, length, Option, Some, None, refl, sym, ap, subst, ◌∙◌, arith}
+use Rattle.std.proofs.Common.{◌≡◌, ◌≤◌, ◌<◌, ℕ, zero, suc, ◌+◌, Bool, true, false, List, [], ◌∷◌, length, Option, Some, None, refl, sym, ap, subst, ◌∙◌, arith}
 use Rattle.std.specs.Prelude.{if◌then◌else◌, ◌&&◌, ◌||◌, not, ◌==◌, slice_get, unwrap_or}
 use Rattle.std.proofs.lemmas.Bool.{false≢true, and_parts}
-use Rattle.ix_text.specs.declared.span.Span.{Span}
 use Rattle.ix_core.specs.declared.claim.Type_.{Type_}
 use Rattle.ix_core.specs.declared.claim.Type_.TheVariants as type
 use Rattle.ix_core.specs.declared.program.Local.{Local}
 use Rattle.ix_core.specs.declared.program.Method.{Method}
 use Rattle.ix_core.specs.declared.program.Program.{Program}
 use Rattle.ix_core.specs.Formed.{first_type, param_type_from, entry_type, this_type, has_parent}
-use Rattle.ix_core.specs.Tables.{param_slot, param_slots}
+use Rattle.ix_core.specs.Tables.{param_slot}
 use Rattle.ix_core.specs.Types.{class_type, is_void}
 use Rattle.ix_core.proofs.Cases.{by_test, equal}
 use Rattle.ix_tree.specs.declared.annot.TypeTree.{TypeTree}
@@ -27,15 +26,15 @@ use Rattle.ix_meaning.specs.Source as source
 use Rattle.ix_meaning.specs.Source.{Place}
 use Rattle.ix_meaning.specs.Types.{need_like}
 use Rattle.ix_plain.specs.Counts.{most_counted}
-use Rattle.ix_plain.specs.Members.{is_static, params_from, slot_behind}
+use Rattle.ix_plain.specs.Members.{is_static, slot_behind}
 use Rattle.ix_plain.specs.Program as program
 use Rattle.ix_plain.specs.Program.{Tables, Home, written_head, first_param, tables}
 use Rattle.ix_plain.specs.Scope.{Site, declared_type, slot_of, slot_in_params}
 use Rattle.ix_formed.specs.Additions.{AllOf}
 use Rattle.ix_formed.specs.Points.{Known}
 use Rattle.ix_formed.specs.Shape.{IsMethod, params_of, types_of}
-use Rattle.ix_formed.specs.TypedStatements.{Ground, HasVariable, IsResult, Scoped, Stands, scope_in, type_in}
-use Rattle.ix_formed.specs.Written.{is_written_method, has_no_result}
+use Rattle.ix_formed.specs.TypedStatements.{Ground, HasVariable, IsResult, Scoped, Stands, scope_in}
+use Rattle.ix_formed.specs.Written.{has_no_result}
 use Rattle.ix_formed.proofs.AcceptedBodies.{ground}
 use Rattle.ix_formed.proofs.DeclaredMethods.{ParamsSay}
 use Rattle.ix_formed.proofs.DeclaredTypes.{declared_is_type}
@@ -221,9 +220,9 @@ module _ (unit : Source) (p : Program) (is : IsAccepted unit p) (l : Place) (d :
     entry_stands free = record {
       variables = entry_variables;
       this = λ e.
-      let instance = not_static method.is_static (is_static d) head.static e in
-      let f = ap (λ b. if b then 0 else 0 + 1) instance in
-      ap (λ (o : Option Type_). first_type o (this_type p method 0)) (param_before first method.param_types 0 (omega (arith, f)))
-      ∙ ap (λ b. if not b && ((0 == 0) && not (method.constructor && has_parent p method)) then Some (class_type method.class) else None) instance
-      ∙ ap (λ b. if not b then Some (class_type method.class) else None) free ∙ ap (λ c. Some (class_type c)) head.class;
+          let instance = not_static method.is_static (is_static d) head.static e in
+          let f = ap (λ b. if b then 0 else 0 + 1) instance in
+          ap (λ (o : Option Type_). first_type o (this_type p method 0)) (param_before first method.param_types 0 (omega (arith, f)))
+          ∙ ap (λ b. if not b && ((0 == 0) && not (method.constructor && has_parent p method)) then Some (class_type method.class) else None) instance
+          ∙ ap (λ b. if not b then Some (class_type method.class) else None) free ∙ ap (λ c. Some (class_type c)) head.class;
     }

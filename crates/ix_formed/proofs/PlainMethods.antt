@@ -1,5 +1,5 @@
 -- The body and the locals of a written method that is no constructor fit.
-use Rattle.std.proofs.Common.{◌≡◌, ◌≤◌, ◌<◌, ℕ, ◌+◌, Bool, true, false, List, [], ◌∷◌, ◌++◌, length, map, Option, Some, None, Ok, Err, refl, sym, ap, subst, ◌∙◌, arith}
+use Rattle.std.proofs.Common.{◌≡◌, ◌≤◌, ℕ, ◌+◌, Bool, true, false, List, [], ◌∷◌, map, Some, Ok, refl, sym, ap, ◌∙◌, arith}
 use Rattle.std.specs.Prelude.{if◌then◌else◌, ◌&&◌, ◌||◌, not}
 use Rattle.std.proofs.lemmas.Bool.{false≢true, and_parts}
 use Rattle.ix_text.specs.declared.span.Span.{Span}
@@ -7,10 +7,8 @@ use Rattle.ix_core.specs.declared.claim.Type_.{Type_}
 use Rattle.ix_core.specs.declared.program.Local.{Local}
 use Rattle.ix_core.specs.declared.program.Method.{Method}
 use Rattle.ix_core.specs.declared.program.Program.{Program}
-use Rattle.ix_core.specs.Code.{Code, items_code}
+use Rattle.ix_core.specs.Code.{items_code}
 use Rattle.ix_core.specs.Formed.{entry_type, has_parent, code_ways, locals_fit, body_fits, is_target}
-use Rattle.ix_core.specs.Tables.{param_slot}
-use Rattle.ix_core.specs.Types.{Point}
 use Rattle.ix_tree.specs.declared.decl.MethodDecl.{MethodDecl}
 use Rattle.ix_tree.specs.declared.decl.Unit.{Unit as Source}
 use Rattle.ix_tree.specs.declared.stmt.Stmt.{Stmt}
@@ -20,11 +18,11 @@ use Rattle.ix_meaning.specs.Resolved.{names}
 use Rattle.ix_meaning.specs.Scope.{Scope as Names}
 use Rattle.ix_meaning.specs.Source.{Place}
 use Rattle.ix_plain.specs.declared.body.Body.{Body}
-use Rattle.ix_plain.specs.Parts.{Within, ◌>>=◌}
+use Rattle.ix_plain.specs.Parts.{◌>>=◌}
 use Rattle.ix_plain.specs.Program as program
 use Rattle.ix_plain.specs.Program.{Tables, Home, start, tables, args_or_none}
 use Rattle.ix_plain.specs.Statements.{each, statement}
-use Rattle.ix_formed.specs.Additions.{Makes, AllOf}
+use Rattle.ix_formed.specs.Additions.{AllOf}
 use Rattle.ix_formed.specs.LocalTypes.{local_types}
 use Rattle.ix_formed.specs.Readable.{stmt_shape, is_readable_stmt, is_readable_expr, each_fine}
 use Rattle.ix_formed.specs.TypedStatements.{Ground, IsGround, IsKnown, Tells}

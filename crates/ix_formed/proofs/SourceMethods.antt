@@ -1,20 +1,17 @@
 -- Where the statements of each method of a source stand, and that the names in them are among those of the source.
-use Rattle.std.proofs.Common.{◌≡◌, ◌≤◌, ◌<◌, ℕ, ◌+◌, Bool, true, false, List, [], ◌∷◌, ◌++◌, length, map, Option, Some, None, refl, sym, ap, subst, ◌∙◌, arith, append_assoc}
-use Rattle.std.specs.Prelude.{◌==◌, ◌&&◌}
+use Rattle.std.proofs.Common.{◌≡◌, ◌≤◌, ℕ, true, List, [], ◌∷◌, ◌++◌, length, map, Option, Some, None, refl, sym, ap, subst, ◌∙◌, arith, append_assoc}
+use Rattle.std.specs.Prelude.{◌==◌}
 use Rattle.std.proofs.lemmas.Bool.{and_parts}
 use Rattle.ix_text.specs.declared.span.Span.{Span}
 use Rattle.ix_core.specs.Formed.{one_if}
-use Rattle.ix_tree.specs.declared.annot.Ident.{Ident}
 use Rattle.ix_tree.specs.declared.decl.ClassDecl.{ClassDecl}
-use Rattle.ix_tree.specs.declared.decl.LocalDecl.{LocalDecl}
 use Rattle.ix_tree.specs.declared.decl.Member.{Member}
 use Rattle.ix_tree.specs.declared.decl.Member.TheVariants as member
 use Rattle.ix_tree.specs.declared.decl.MethodDecl.{MethodDecl}
 use Rattle.ix_tree.specs.declared.decl.Unit.{Unit as Source}
-use Rattle.ix_tree.specs.declared.stmt.Stmt.{Stmt}
 use Rattle.ix_tree.specs.Parts as parts
 use Rattle.ix_tree.specs.Parts.{Part, expression, statement, declaration, in_type, elsewhere, entries, most_entries, All, IsShort, CanResolve, together, listed, each, class_parts, member_parts, method_parts, decl_parts, mods_parts, type_parts, args_parts, stmt_parts, unit_parts}
-use Rattle.ix_tree.specs.Placed.{Layout, nothing, node, copy, LaidOut, followed, row, piece, maybe, annot_piece, type_piece, name_piece, params_pieces, parent_pieces, stmt_piece, method_piece, own_pieces, field_shared, members_pieces, class_piece, Placed}
+use Rattle.ix_tree.specs.Placed.{Layout, nothing, node, copy, LaidOut, followed, row, maybe, annot_piece, type_piece, name_piece, params_pieces, parent_pieces, stmt_piece, own_pieces, field_shared, members_pieces, class_piece, Placed}
 use Rattle.ix_meaning.specs.Listed.{same_span}
 use Rattle.ix_meaning.specs.Limits.{methods_of, all_methods}
 use Rattle.ix_formed.specs.Additions.{AllOf}

@@ -1,11 +1,9 @@
 -- Every statement tells what it says.
-use Rattle.std.proofs.Common.{◌≡◌, ◌≤◌, ◌<◌, ℕ, ◌+◌, Bool, true, false, List, [], ◌∷◌, ◌++◌, length, map, Option, Some, None, Ok, refl, sym, ap, subst, ◌∙◌, arith}
+use Rattle.std.proofs.Common.{◌≡◌, Bool, true, false, List, [], ◌∷◌, ◌++◌, map, Option, Some, None, refl, sym, subst, ◌∙◌}
 use Rattle.std.specs.Prelude.{if◌then◌else◌, ◌&&◌}
 use Rattle.std.proofs.lemmas.Bool.{false≢true, and_parts}
 use Rattle.ix_text.specs.declared.span.Span.{Span}
 use Rattle.ix_core.specs.declared.claim.Type_.{Type_}
-use Rattle.ix_core.specs.Types.{Point}
-use Rattle.ix_tree.specs.declared.decl.LocalDecl.{LocalDecl}
 use Rattle.ix_tree.specs.declared.expr.Expr.{Expr}
 use Rattle.ix_tree.specs.declared.stmt.Stmt.{Stmt, Stmt-F, ind-Stmt, map-Stmt, roll-Stmt, fold-roll-Stmt}
 use Rattle.ix_tree.specs.declared.stmt.StmtKind.{StmtKind, StmtKind-F, map-StmtKind, roll-StmtKind, fold-StmtKind, fold-roll-StmtKind}
@@ -16,15 +14,13 @@ use Rattle.ix_tree.specs.Placed.{Layout, nothing, node, LaidOut, row, stmt_piece
 use Rattle.ix_meaning.specs.Bodies as bodies
 use Rattle.ix_meaning.specs.Bodies.{Telling, telling, after, all_told}
 use Rattle.ix_meaning.specs.Scope.{Scope as Names}
-use Rattle.ix_plain.specs.declared.body.Body.{Body}
 use Rattle.ix_plain.specs.Statements as statements
 use Rattle.ix_plain.specs.Statements.{Run, Running}
-use Rattle.ix_formed.specs.Additions.{Makes, AllOf}
 use Rattle.ix_formed.specs.LocalTypes.{types_step, stmt_types}
 use Rattle.ix_formed.specs.Readable as readable
 use Rattle.ix_formed.specs.Readable.{Statement, stmt_shape, shape, is_part, is_readable_expr, is_readable_decl, each_fine}
 use Rattle.ix_formed.specs.TypedParts.{DoesTell, KeepsNames, IsStatement}
-use Rattle.ix_formed.specs.TypedStatements.{Ground, IsGround, Says, IsKnown, Scoped, Stands, Tells}
+use Rattle.ix_formed.specs.TypedStatements.{Ground, IsGround, IsKnown}
 use Rattle.ix_formed.specs.Written as written
 use Rattle.ix_formed.specs.Written.{is_written_stmt, is_written_expr, is_written_decl, all_true, each_true, maybe_true}
 use Rattle.ix_formed.proofs.TypedExpressions.{all_parted}
@@ -106,77 +102,78 @@ module _ (g : Ground) (ground : IsGround g) where
     if_layer : (c : Expr) (first : S) (second : Option S) → Layer (StmtKind-F.If c first second)
     if_layer c first None span = (
       (λ s end body types point scoped stands counted some le laid known wr fine said.
-      let k = all_parted (IsKnown g) (expr_parts c) (stmt_parts (stmt first)) known in
-      let w = and_parts (is_written_expr c) (is_written_stmt (stmt first) && true) wr in
-      let v = and_parts (is_written_stmt (stmt first)) true w.1 in
-      let f = and_parts (is_readable_expr c) (is_part (stmt_shape (stmt first)) && true) fine in
-      let h = and_parts (is_part (stmt_shape (stmt first))) true f.1 in
-      if_tells g ground c (run_of first) (told first) (stmt_piece (stmt first)) (stmt_parts (stmt first)) (is_written_stmt (stmt first)) (stmt_shape (stmt first)) (stmt_types g.site.names (stmt first)) (stmt_is first) h.0 v.0 k.1 k.0 w.0 f.0 s span end body types point scoped stands counted some le laid said),
+          let k = all_parted (IsKnown g) (expr_parts c) (stmt_parts (stmt first)) known in
+          let w = and_parts (is_written_expr c) (is_written_stmt (stmt first) && true) wr in
+          let v = and_parts (is_written_stmt (stmt first)) true w.1 in
+          let f = and_parts (is_readable_expr c) (is_part (stmt_shape (stmt first)) && true) fine in
+          let h = and_parts (is_part (stmt_shape (stmt first))) true f.1 in
+          if_tells g ground c (run_of first) (told first) (stmt_piece (stmt first)) (stmt_parts (stmt first)) (is_written_stmt (stmt first)) (stmt_shape (stmt first)) (stmt_types g.site.names (stmt first)) (stmt_is first) h.0 v.0 k.1 k.0 w.0 f.0 s span end body types point scoped stands counted some le laid said),
       (λ fine declares s. let f = and_parts (is_readable_expr c) (is_part (stmt_shape (stmt first)) && true) fine in let h = and_parts (is_part (stmt_shape (stmt first))) true f.1 in names_of first h.0 s),
     )
     if_layer c first (Some second) span = (
       (λ s end body types point scoped stands counted some le laid known wr fine said.
-      let k = all_parted (IsKnown g) (expr_parts c) (stmt_parts (stmt first) ++ stmt_parts (stmt second)) known in
-      let k2 = all_parted (IsKnown g) (stmt_parts (stmt first)) (stmt_parts (stmt second)) k.1 in
-      let w = and_parts (is_written_expr c) (is_written_stmt (stmt first) && is_written_stmt (stmt second)) wr in
-      let v = and_parts (is_written_stmt (stmt first)) (is_written_stmt (stmt second)) w.1 in
-      let f = and_parts (is_readable_expr c) (is_part (stmt_shape (stmt first)) && is_part (stmt_shape (stmt second))) fine in
-      let h = and_parts (is_part (stmt_shape (stmt first))) (is_part (stmt_shape (stmt second))) f.1 in
-      else_tells g ground c (run_of first) (told first) (stmt_piece (stmt first)) (stmt_parts (stmt first)) (is_written_stmt (stmt first)) (stmt_shape (stmt first)) (stmt_types g.site.names (stmt first)) (stmt_is first) h.0 v.0 k2.0 k.0 w.0 f.0 s span end body types point scoped stands counted some le
-      (run_of second) (told second) (stmt_piece (stmt second)) (stmt_parts (stmt second)) (is_written_stmt (stmt second)) (stmt_shape (stmt second)) (stmt_types g.site.names (stmt second)) (stmt_is second) h.1 v.1 k2.1 laid said),
+          let k = all_parted (IsKnown g) (expr_parts c) (stmt_parts (stmt first) ++ stmt_parts (stmt second)) known in
+          let k2 = all_parted (IsKnown g) (stmt_parts (stmt first)) (stmt_parts (stmt second)) k.1 in
+          let w = and_parts (is_written_expr c) (is_written_stmt (stmt first) && is_written_stmt (stmt second)) wr in
+          let v = and_parts (is_written_stmt (stmt first)) (is_written_stmt (stmt second)) w.1 in
+          let f = and_parts (is_readable_expr c) (is_part (stmt_shape (stmt first)) && is_part (stmt_shape (stmt second))) fine in
+          let h = and_parts (is_part (stmt_shape (stmt first))) (is_part (stmt_shape (stmt second))) f.1 in
+          else_tells g ground c (run_of first) (told first) (stmt_piece (stmt first)) (stmt_parts (stmt first)) (is_written_stmt (stmt first)) (stmt_shape (stmt first)) (stmt_types g.site.names (stmt first)) (stmt_is first) h.0 v.0 k2.0 k.0 w.0 f.0 s span end body types point scoped stands counted some le
+          (run_of second) (told second) (stmt_piece (stmt second)) (stmt_parts (stmt second)) (is_written_stmt (stmt second)) (stmt_shape (stmt second)) (stmt_types g.site.names (stmt second)) (stmt_is second) h.1 v.1 k2.1 laid said),
       (λ fine declares s. let f = and_parts (is_readable_expr c) (is_part (stmt_shape (stmt first)) && is_part (stmt_shape (stmt second))) fine in
-      let h = and_parts (is_part (stmt_shape (stmt first))) (is_part (stmt_shape (stmt second))) f.1 in names_of second h.1 (after (told first) s) ∙ names_of first h.0 s),
+          let h = and_parts (is_part (stmt_shape (stmt first))) (is_part (stmt_shape (stmt second))) f.1 in names_of second h.1 (after (told first) s) ∙ names_of first h.0 s),
     )
 
     while_layer : (c : Expr) (turn : S) → Layer (StmtKind-F.While c turn)
     while_layer c turn span = (
       (λ s end body types point scoped stands counted some le laid known wr fine said.
-      let k = all_parted (IsKnown g) (expr_parts c) (stmt_parts (stmt turn)) known in
-      let w = and_parts (is_written_expr c) (is_written_stmt (stmt turn)) wr in
-      let f = and_parts (is_readable_expr c) (is_part (stmt_shape (stmt turn))) fine in
-      while_tells g ground c (run_of turn) (told turn) (stmt_piece (stmt turn)) (stmt_parts (stmt turn)) (is_written_stmt (stmt turn)) (stmt_shape (stmt turn)) (stmt_types g.site.names (stmt turn)) (stmt_is turn) f.1 w.1 k.1 k.0 w.0 f.0 s span end body types point scoped stands counted some le laid said),
+          let k = all_parted (IsKnown g) (expr_parts c) (stmt_parts (stmt turn)) known in
+          let w = and_parts (is_written_expr c) (is_written_stmt (stmt turn)) wr in
+          let f = and_parts (is_readable_expr c) (is_part (stmt_shape (stmt turn))) fine in
+          while_tells g ground c (run_of turn) (told turn) (stmt_piece (stmt turn)) (stmt_parts (stmt turn)) (is_written_stmt (stmt turn)) (stmt_shape (stmt turn)) (stmt_types g.site.names (stmt turn)) (stmt_is turn) f.1 w.1 k.1 k.0 w.0 f.0 s span end body types point scoped stands counted some le laid said),
       (λ fine declares s. let f = and_parts (is_readable_expr c) (is_part (stmt_shape (stmt turn))) fine in names_of turn f.1 (bodies.inside s)),
     )
 
     do_layer : (turn : S) (c : Expr) → Layer (StmtKind-F.Do turn c)
     do_layer turn c span = (
       (λ s end body types point scoped stands counted some le laid known wr fine said.
-      let k = all_parted (IsKnown g) (stmt_parts (stmt turn)) (expr_parts c) known in
-      let w = and_parts (is_written_stmt (stmt turn)) (is_written_expr c) wr in
-      let f = and_parts (is_part (stmt_shape (stmt turn))) (is_readable_expr c) fine in
-      do_tells g ground c (run_of turn) (told turn) (stmt_piece (stmt turn)) (stmt_parts (stmt turn)) (is_written_stmt (stmt turn)) (stmt_shape (stmt turn)) (stmt_types g.site.names (stmt turn)) (stmt_is turn) f.0 w.0 k.0 k.1 w.1 f.1 s span end body types point scoped stands counted some le laid said),
+          let k = all_parted (IsKnown g) (stmt_parts (stmt turn)) (expr_parts c) known in
+          let w = and_parts (is_written_stmt (stmt turn)) (is_written_expr c) wr in
+          let f = and_parts (is_part (stmt_shape (stmt turn))) (is_readable_expr c) fine in
+          do_tells g ground c (run_of turn) (told turn) (stmt_piece (stmt turn)) (stmt_parts (stmt turn)) (is_written_stmt (stmt turn)) (stmt_shape (stmt turn)) (stmt_types g.site.names (stmt turn)) (stmt_is turn) f.0 w.0 k.0 k.1 w.1 f.1 s span end body types point scoped stands counted some le laid said),
       (λ fine declares s. let f = and_parts (is_part (stmt_shape (stmt turn))) (is_readable_expr c) fine in names_of turn f.0 (bodies.inside s)),
     )
 
     for_layer : (first : List S) (c : Option Expr) (update : List Expr) (turn : S) → Layer (StmtKind-F.For first c update turn)
     for_layer first c update turn span = (
       (λ s end body types point scoped stands counted some le laid known wr fine said.
-      let k = all_parted (IsKnown g) (together (map stmt_parts (map stmt first))) (parts.maybe expr_parts c ++ (parts.listed (parts.each expr_parts update) ++ stmt_parts (stmt turn))) known.1 in
-      let k2 = all_parted (IsKnown g) (parts.maybe expr_parts c) (parts.listed (parts.each expr_parts update) ++ stmt_parts (stmt turn)) k.1 in
-      let k3 = all_parted (IsKnown g) (together (parts.each expr_parts update)) (stmt_parts (stmt turn)) k2.1.1 in
-      let w = and_parts (all_true (map is_written_stmt (map stmt first))) (maybe_true is_written_expr c && (each_true is_written_expr update && is_written_stmt (stmt turn))) wr in
-      let w2 = and_parts (maybe_true is_written_expr c) (each_true is_written_expr update && is_written_stmt (stmt turn)) w.1 in
-      let w3 = and_parts (each_true is_written_expr update) (is_written_stmt (stmt turn)) w2.1 in
-      let f = and_parts (each_fine (map stmt_shape (map stmt first))) (maybe_true is_readable_expr c && (each_true is_readable_expr update && is_part (stmt_shape (stmt turn)))) fine in
-      let f2 = and_parts (maybe_true is_readable_expr c) (each_true is_readable_expr update && is_part (stmt_shape (stmt turn))) f.1 in
-      let f3 = and_parts (each_true is_readable_expr update) (is_part (stmt_shape (stmt turn))) f2.1 in
-      for_tells g ground (map statements.statement (map stmt first)) (map telling (map stmt first)) (map stmt_piece (map stmt first)) (map stmt_parts (map stmt first)) (map is_written_stmt (map stmt first)) (map stmt_shape (map stmt first)) (map (stmt_types g.site.names) (map stmt first)) (are_statements first)
-      k.0 w.0 f.0 s span end body types point scoped stands counted some le c update (run_of turn) (told turn) (stmt_piece (stmt turn)) (stmt_parts (stmt turn)) (is_written_stmt (stmt turn)) (stmt_shape (stmt turn)) (stmt_types g.site.names (stmt turn)) (stmt_is turn) f3.1 w3.1 k3.1 k2.0 w2.0 f2.0
-      k3.0 w3.0 f3.0 laid said),
+          let k = all_parted (IsKnown g) (together (map stmt_parts (map stmt first))) (parts.maybe expr_parts c ++ (parts.listed (parts.each expr_parts update) ++ stmt_parts (stmt turn))) known.1 in
+          let k2 = all_parted (IsKnown g) (parts.maybe expr_parts c) (parts.listed (parts.each expr_parts update) ++ stmt_parts (stmt turn)) k.1 in
+          let k3 = all_parted (IsKnown g) (together (parts.each expr_parts update)) (stmt_parts (stmt turn)) k2.1.1 in
+          let w = and_parts (all_true (map is_written_stmt (map stmt first))) (maybe_true is_written_expr c && (each_true is_written_expr update && is_written_stmt (stmt turn))) wr in
+          let w2 = and_parts (maybe_true is_written_expr c) (each_true is_written_expr update && is_written_stmt (stmt turn)) w.1 in
+          let w3 = and_parts (each_true is_written_expr update) (is_written_stmt (stmt turn)) w2.1 in
+          let f = and_parts (each_fine (map stmt_shape (map stmt first))) (maybe_true is_readable_expr c && (each_true is_readable_expr update && is_part (stmt_shape (stmt turn)))) fine in
+          let f2 = and_parts (maybe_true is_readable_expr c) (each_true is_readable_expr update && is_part (stmt_shape (stmt turn))) f.1 in
+          let f3 = and_parts (each_true is_readable_expr update) (is_part (stmt_shape (stmt turn))) f2.1 in
+          for_tells g ground (map statements.statement (map stmt first)) (map telling (map stmt first)) (map stmt_piece (map stmt first)) (map stmt_parts (map stmt first)) (map is_written_stmt (map stmt first)) (map stmt_shape (map stmt first)) (map (stmt_types g.site.names) (map stmt first)) (are_statements first)
+          k.0 w.0 f.0 s span end body types point scoped stands counted some le c update (run_of turn) (told turn) (stmt_piece (stmt turn)) (stmt_parts (stmt turn)) (is_written_stmt (stmt turn)) (stmt_shape (stmt turn)) (stmt_types g.site.names (stmt turn)) (stmt_is turn) f3.1 w3.1 k3.1 k2.0 w2.0 f2.0
+          k3.0 w3.0 f3.0 laid said),
       (λ fine declares s. refl),
     )
 
     return_layer : (value : Option Expr) → Layer (StmtKind-F.Return value)
     return_layer None span = ((λ s end body types point scoped stands counted some le laid known wr fine said. return_tells g ground (bodies.stmt_kind_step (StmtKind-F.Return None) span) s span end body types point scoped stands counted some refl refl (bodies.keyword span 6) said), (λ fine declares s. refl))
     return_layer (Some e) span = (
-      (λ s end body types point scoped stands counted some le laid known wr fine said. given_back_tells g ground (bodies.stmt_kind_step (StmtKind-F.Return (Some e)) span) s span end body types point scoped stands counted some refl refl e laid known wr fine le said), (λ fine declares s. refl),
+      (λ s end body types point scoped stands counted some le laid known wr fine said. given_back_tells g ground (bodies.stmt_kind_step (StmtKind-F.Return (Some e)) span) s span end body types point scoped stands counted some refl refl e laid known wr fine le said),
+      (λ fine declares s. refl),
     )
 
     layer_is : (y : StmtKind-F K S) → Layer y
     layer_is (StmtKind-F.Block xs) span = (
       (λ s end body types point scoped stands counted some le laid known wr fine said.
-      block_tells g ground (map statements.statement (map stmt xs)) (map telling (map stmt xs)) (map stmt_piece (map stmt xs)) (map stmt_parts (map stmt xs)) (map is_written_stmt (map stmt xs)) (map stmt_shape (map stmt xs)) (map (stmt_types g.site.names) (map stmt xs)) (are_statements xs) known.1 wr fine s span end body
-      types point scoped stands counted some le laid said),
+          block_tells g ground (map statements.statement (map stmt xs)) (map telling (map stmt xs)) (map stmt_piece (map stmt xs)) (map stmt_parts (map stmt xs)) (map is_written_stmt (map stmt xs)) (map stmt_shape (map stmt xs)) (map (stmt_types g.site.names) (map stmt xs)) (are_statements xs) known.1 wr fine s span end body
+          types point scoped stands counted some le laid said),
       (λ fine declares s. refl),
     )
     layer_is StmtKind-F.Empty span = ((λ s end body types point scoped stands counted some le laid known wr fine said. empty_tells g ground (bodies.stmt_kind_step StmtKind-F.Empty span) s span end body types point scoped stands counted some refl refl), (λ fine declares s. refl))
@@ -189,20 +186,25 @@ module _ (g : Ground) (ground : IsGround g) where
     layer_is (StmtKind-F.Do turn c) span = do_layer turn c span
     layer_is (StmtKind-F.For first c update turn) span = for_layer first c update turn span
     layer_is StmtKind-F.Break span = (
-      (λ s end body types point scoped stands counted some le laid known wr fine said. break_tells g ground (bodies.stmt_kind_step StmtKind-F.Break span) s span end body types point scoped stands counted some refl refl (bodies.keyword span 5) said), (λ fine declares s. refl),
+      (λ s end body types point scoped stands counted some le laid known wr fine said. break_tells g ground (bodies.stmt_kind_step StmtKind-F.Break span) s span end body types point scoped stands counted some refl refl (bodies.keyword span 5) said),
+      (λ fine declares s. refl),
     )
     layer_is StmtKind-F.Continue span = (
-      (λ s end body types point scoped stands counted some le laid known wr fine said. continue_tells g ground (bodies.stmt_kind_step StmtKind-F.Continue span) s span end body types point scoped stands counted some refl refl (bodies.keyword span 8) said), (λ fine declares s. refl),
+      (λ s end body types point scoped stands counted some le laid known wr fine said. continue_tells g ground (bodies.stmt_kind_step StmtKind-F.Continue span) s span end body types point scoped stands counted some refl refl (bodies.keyword span 8) said),
+      (λ fine declares s. refl),
     )
     layer_is (StmtKind-F.Return value) span = return_layer value span
     layer_is (StmtKind-F.Throw ident) span = (
-      (λ s end body types point scoped stands counted some le laid known wr fine said. throw_tells g ground (bodies.stmt_kind_step (StmtKind-F.Throw ident) span) s span end body types point scoped stands counted some refl refl ident.text), (λ fine declares s. refl),
+      (λ s end body types point scoped stands counted some le laid known wr fine said. throw_tells g ground (bodies.stmt_kind_step (StmtKind-F.Throw ident) span) s span end body types point scoped stands counted some refl refl ident.text),
+      (λ fine declares s. refl),
     )
     layer_is (StmtKind-F.Print e) span = (
-      (λ s end body types point scoped stands counted some le laid known wr fine said. print_tells g ground (bodies.stmt_kind_step (StmtKind-F.Print e) span) s span end body types point scoped stands counted some refl refl e laid known wr fine le said), (λ fine declares s. refl),
+      (λ s end body types point scoped stands counted some le laid known wr fine said. print_tells g ground (bodies.stmt_kind_step (StmtKind-F.Print e) span) s span end body types point scoped stands counted some refl refl e laid known wr fine le said),
+      (λ fine declares s. refl),
     )
     layer_is (StmtKind-F.Run e) span = (
-      (λ s end body types point scoped stands counted some le laid known wr fine said. run_tells g ground (bodies.stmt_kind_step (StmtKind-F.Run e) span) s span end body types point scoped stands counted some refl refl e laid known wr fine le said), (λ fine declares s. refl),
+      (λ s end body types point scoped stands counted some le laid known wr fine said. run_tells g ground (bodies.stmt_kind_step (StmtKind-F.Run e) span) s span end body types point scoped stands counted some refl refl e laid known wr fine le said),
+      (λ fine declares s. refl),
     )
 
     kind_rolled : (y : StmtKind-F K S) → KindIs (roll-StmtKind (map-StmtKind K S StmtKind Stmt kind stmt y))

@@ -1,7 +1,7 @@
 -- Calls and creations of objects fit, as each place wants them.
-use Rattle.std.proofs.Common.{◌≡◌, ◌≤◌, ◌<◌, ℕ, zero, suc, ◌+◌, Bool, true, false, List, [], ◌∷◌, ◌++◌, map, length, drop, Option, Some, None, Ok, Err, refl, sym, ap, subst, ◌∙◌, arith, append_assoc}
-use Rattle.std.specs.Prelude.{if◌then◌else◌, ◌&&◌, ◌||◌, not, nat_lt, ◌==◌}
-use Rattle.std.proofs.lemmas.Bool.{false≢true, and_parts}
+use Rattle.std.proofs.Common.{◌≡◌, ◌≤◌, ◌<◌, ℕ, Bool, true, false, List, [], ◌∷◌, ◌++◌, map, length, Option, Some, None, refl, sym, ap, subst, ◌∙◌, arith, append_assoc}
+use Rattle.std.specs.Prelude.{if◌then◌else◌, ◌&&◌, ◌||◌, not, ◌==◌}
+use Rattle.std.proofs.lemmas.Bool.{false≢true}
 use Rattle.std.proofs.lemmas.Bool.Decides.{nat_tests}
 use Rattle.ix_text.specs.declared.span.Span.{Span}
 use Rattle.ix_core.specs.declared.claim.Base.TheVariants as base
@@ -11,38 +11,33 @@ use Rattle.ix_core.specs.declared.code.Item.TheVariants as item
 use Rattle.ix_core.specs.declared.op.Arg.{Arg}
 use Rattle.ix_core.specs.declared.op.CallOp.{CallOp}
 use Rattle.ix_core.specs.declared.op.Op.{Op}
-use Rattle.ix_core.specs.declared.op.OpKind.{OpKind}
 use Rattle.ix_core.specs.declared.op.OpKind.TheVariants as op
-use Rattle.ix_core.specs.Formed.{assigned, is_there, is_target, is_argument, is_super_call, is_some_of, args_fit, call_fits, receiver_fits, new_fits, static_fits, instance_fits, op_fits, op_types, reads}
+use Rattle.ix_core.specs.Formed.{assigned, is_there, is_target, is_argument, is_super_call, args_fit, call_fits, receiver_fits, new_fits, static_fits, instance_fits, op_fits, op_types, reads}
 use Rattle.ix_core.specs.Tables.{method_at}
-use Rattle.ix_core.specs.Types.{Point, class_type, is_void, is_type, is_of, is_class, is_below, is_reference_type}
+use Rattle.ix_core.specs.Types.{Point, class_type, is_void, is_type, is_class, is_below}
 use Rattle.ix_core.proofs.Cases.{equal}
 use Rattle.ix_tree.specs.declared.annot.Ident.{Ident}
 use Rattle.ix_tree.specs.Parts.{elsewhere}
-use Rattle.ix_meaning.specs.declared.note.Meaning.{Meaning}
-use Rattle.ix_meaning.specs.declared.note.Meaning.TheVariants as meaning
 use Rattle.ix_meaning.specs.declared.note.Rule.TheVariants as rule
 use Rattle.ix_meaning.specs.Members.{Callee, method_named, constructor_params}
 use Rattle.ix_meaning.specs.Rules as rules
 use Rattle.ix_meaning.specs.Types.{of}
 use Rattle.ix_meaning.specs.Values as reading
 use Rattle.ix_meaning.specs.Values.{Reading, KindReading, Object, no_object, of_class, value, check, valued}
-use Rattle.ix_plain.specs.declared.body.Head.{Head}
 use Rattle.ix_plain.specs.declared.made.Made.{Made}
-use Rattle.ix_plain.specs.Scope.{Scope, meaning_at, type_at, or_void, class_of, head_at, constructor_at}
-use Rattle.ix_plain.specs.Parts.{Within, ◌>>=◌, Value, in_place, taking, computed}
+use Rattle.ix_plain.specs.Scope.{Scope, meaning_at, or_void, class_of, head_at, constructor_at}
+use Rattle.ix_plain.specs.Parts.{Within, ◌>>=◌, Value, taking}
 use Rattle.ix_plain.specs.Values as values
 use Rattle.ix_plain.specs.Values.{Lowering, Arguments}
 use Rattle.ix_formed.specs.Additions.{Makes, AllOf}
-use Rattle.ix_formed.specs.Points.{Known, Keeps}
-use Rattle.ix_formed.specs.Typed.{Steps, Runs, Gives, Holds, Setting, Told, IsHere, IsSet, IsResult, TakesTypes, MethodIs, ConstructorIs, Ready, Yields, ReceiverIs, Fits}
+use Rattle.ix_formed.specs.Points.{Keeps}
+use Rattle.ix_formed.specs.Typed.{Steps, Runs, Gives, Holds, Setting, Told, IsHere, IsSet, TakesTypes, MethodIs, ConstructorIs, Ready, Yields, ReceiverIs, Fits}
 use Rattle.ix_formed.proofs.NumberLists.{both_true, is_itself}
 use Rattle.ix_formed.proofs.PlainItems.{makes_more, makes_then}
-use Rattle.ix_formed.proofs.SameTypes.{real_result}
-use Rattle.ix_formed.proofs.TypedChecks.{parted, kept, unbroken, Tabled, Speaks, Checked, check_fits, computes_fits, lowering_at, reading_at}
+use Rattle.ix_formed.proofs.TypedChecks.{parted, kept, unbroken, Speaks, check_fits, computes_fits, lowering_at, reading_at}
 use Rattle.ix_formed.proofs.TypedNames.{new_target, there_is, this_held}
-use Rattle.ix_formed.proofs.TypedPoints.{keeps_none, assigned_known, new_keeps}
-use Rattle.ix_formed.proofs.TypedSteps.{differs, steps_none, steps_both, value_after, value_in_place, op_leads_to, op_given, new_apart, this_apart, reads_held, holds_on, holds_up, ready_on}
+use Rattle.ix_formed.proofs.TypedPoints.{keeps_none}
+use Rattle.ix_formed.proofs.TypedSteps.{steps_none, steps_both, value_after, value_in_place, op_leads_to, op_given, new_apart, this_apart, reads_held, holds_on, holds_up, ready_on}
 
 pub both_false : (a b : Bool) → a ≡ false → b ≡ false → (a || b) ≡ false
 both_false a b x y = ap (λ a. a || b) x ∙ y
@@ -71,7 +66,9 @@ module _ (z : Setting) (set : IsSet z) where
   args_on before after free more [] (ty ∷ types) le keeps held = absurd held
   args_on before after free more (arg ∷ args) [] le keeps held = absurd held
   args_on before after free more (arg ∷ args) (ty ∷ types) le keeps held = (
-    (let low = held.0 in omega (arith, low, le)), holds_on z.program free before after arg.slot ty held.0 keeps held.1, args_on before after free more args types le keeps held.2,
+    (let low = held.0 in omega (arith, low, le)),
+    holds_on z.program free before after arg.slot ty held.0 keeps held.1,
+    args_on before after free more args types le keeps held.2,
   )
 
   args_more : (point : Point) (free : ℕ) (args : List Arg) (types : List Type_) (arg : Arg) (ty : Type_) → arg.slot < free → Holds z.program point arg.slot ty → ArgsHold point free args types
@@ -244,7 +241,7 @@ module _ (z : Setting) (set : IsSet z) where
         of_type = is.of_type;
         yields = λ made point ready.
             subst (λ o. Makes (Gives z.program z.method z.locals z.fixed z.avoided made point (method_at z.program m.number).result) (values.called (head_at z.scope.site (values.method_number o)) object (values.method_number o) ls ident.span z.scope made))
-                (sym (said.0 named)) (called_yields class m is object ident.span said.1 unused receiver made point ready);
+            (sym (said.0 named)) (called_yields class m is object ident.span said.1 unused receiver made point ready);
       }
 
       -- without a dot
@@ -257,9 +254,12 @@ module _ (z : Setting) (set : IsSet z) where
           let q = parted z (rules.not_static z.names m.signature.is_static ident.span) (reading.called z.names ident.span rs m).notes said in
           called_speaks z.names.class m (set.members.methods z.names.class ident.text m set.class_there e) None (λ made point ready. record { behind = point; steps = steps_none z.program z.method z.locals z.fixed made point })
           (λ static.
-          let has = by_has z.names.has_object (ap (λ b. not z.names.has_object && not b) (sym static) ∙ unbroken z (not z.names.has_object && not m.signature.is_static) rule.NotStatic ident.span q.0) in
-          (set.class_there, set.class, (λ made point ready. value_in_place z.program z.method z.locals z.fixed z.avoided made point 0 (class_type z.names.class)
-          (let a = set.static has in let b = ready.0 in omega (arith, a, b)) (this_apart z set has) (λ real. this_held z set point has ready.1)))) q.1
+          let has = by_has z.names.has_object (ap (λ b. not z.names.has_object && not b) (sym static) ∙ unbroken z (not z.names.has_object && not m.signature.is_static) rule.NotStatic ident.span q.0) in (
+            set.class_there,
+            set.class,
+            (λ made point ready. value_in_place z.program z.method z.locals z.fixed z.avoided made point 0 (class_type z.names.class)
+                (let a = set.static has in let b = ready.0 in omega (arith, a, b)) (this_apart z set has) (λ real. this_held z set point has ready.1)),
+          )) q.1
         where
           by_has : (b : Bool) → (not b && true) ≡ false → b ≡ true
           by_has true e = refl
@@ -338,7 +338,7 @@ module _ (z : Setting) (set : IsSet z) where
             yields = λ made point ready.
                 subst (λ o. Makes (Gives z.program z.method z.locals z.fixed z.avoided made point (class_type class))
                 (values.arguments_from [] ls z.scope made >>= (λ given. values.calling op.NewObject (constructor_at z.scope.site (values.class_number o)) None (values.class_number o) span given)))
-                    (sym (said.0 named)) (new_yields class there (set.members.constructors class there) said.1 made point ready);
+                (sym (said.0 named)) (new_yields class there (set.members.constructors class there) said.1 made point ready);
           }
 
       pub new_fits_too : Fits z (lowering_at z set (values.new_object ident ls span) span) (reading_at z set new_reading span)
