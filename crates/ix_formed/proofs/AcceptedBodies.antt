@@ -1,8 +1,7 @@
 -- What a body of an accepted source stands in: the members that its names mean, and types and claims of its locals that fit.
-use Rattle.std.proofs.Common.{◌≡◌, ◌≤◌, ◌<◌, ℕ, ◌+◌, Bool, true, false, List, [], ◌∷◌, ◌++◌, length, Option, Some, None, refl, sym, ap, subst, ◌∙◌, arith}
-use Rattle.std.specs.Prelude.{if◌then◌else◌, ◌&&◌, not, nat_lt, slice_get}
+use Rattle.std.proofs.Common.{◌≡◌, ◌≤◌, ◌<◌, ℕ, true, false, List, [], ◌∷◌, length, Option, Some, None, ap, subst, ◌∙◌, arith}
+use Rattle.std.specs.Prelude.{if◌then◌else◌, not, nat_lt, slice_get}
 use Rattle.std.specs.List.{list_all}
-use Rattle.std.proofs.lemmas.Bool.{false≢true}
 use Rattle.std.proofs.lemmas.Bool.Decides.{nat_tests}
 use Rattle.ix_text.specs.declared.span.Span.{Span}
 use Rattle.ix_annot.specs.Named.{is_own, what_holds}
@@ -12,7 +11,7 @@ use Rattle.ix_core.specs.declared.claim.Type_.{Type_}
 use Rattle.ix_core.specs.declared.program.Local.{Local}
 use Rattle.ix_core.specs.declared.program.Method.{Method}
 use Rattle.ix_core.specs.declared.program.Program.{Program}
-use Rattle.ix_core.specs.Formed.{claim_fits, others, local_named_type, in_scope_type, starts_within, at_most, type_of_field}
+use Rattle.ix_core.specs.Formed.{claim_fits, others, local_named_type, in_scope_type, starts_within, at_most}
 use Rattle.ix_core.specs.Tables.{field_at, all_fields, is_among, param_slot}
 use Rattle.ix_tree.specs.declared.decl.LocalDecl.{LocalDecl}
 use Rattle.ix_tree.specs.declared.decl.Unit.{Unit as Source}
@@ -38,7 +37,7 @@ use Rattle.ix_formed.proofs.AcceptedMethods.{class_is, method_is, created_is}
 use Rattle.ix_formed.proofs.ClaimsFit.{all_true, Whenever}
 use Rattle.ix_formed.proofs.ClassesHaveWays.{named_within}
 use Rattle.ix_formed.proofs.DeclaredFields.{MeansField}
-use Rattle.ix_formed.proofs.DeclaredTypes.{NamesClasses, declared_is_type, variable_fits}
+use Rattle.ix_formed.proofs.DeclaredTypes.{declared_is_type, variable_fits}
 use Rattle.ix_formed.proofs.FieldsFit.{IsAccepted, names_classes, fields_known, inherits}
 use Rattle.ix_formed.proofs.NumberLists.{both_true}
 use Rattle.ix_formed.proofs.ScopedLocals.{get_front}

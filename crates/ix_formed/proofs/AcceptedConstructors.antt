@@ -1,6 +1,6 @@
 -- The constructor of each class of an accepted source is the program's of its number.
 use Rattle.std.proofs.Common.{◌≡◌, ◌≤◌, ◌<◌, ℕ, zero, suc, ◌+◌, Bool, true, false, List, [], ◌∷◌, ◌++◌, length, map, Option, Some, None, refl, sym, ap, subst, ◌∙◌, arith, append_assoc, length-append, ◌⊎◌, inl, inr, ⊎_elim}
-use Rattle.std.specs.Prelude.{if◌then◌else◌, ◌&&◌, ◌||◌, not, nat_lt, ◌==◌, bytes_eq, slice_get, unwrap_or}
+use Rattle.std.specs.Prelude.{if◌then◌else◌, ◌&&◌, ◌||◌, not, ◌==◌, bytes_eq, slice_get, unwrap_or}
 use Rattle.std.proofs.lemmas.Bool.{false≢true, and_parts}
 use Rattle.std.proofs.lemmas.Bool.Decides.{nat_tests}
 use Rattle.std.proofs.lemmas.List.{append-nil}
@@ -12,10 +12,8 @@ use Rattle.ix_core.specs.Tables.{method_at, no_method}
 use Rattle.ix_core.specs.Types.{is_type, is_class}
 use Rattle.ix_core.proofs.Cases.{by_test, equal}
 use Rattle.ix_tree.specs.declared.decl.ClassDecl.{ClassDecl}
-use Rattle.ix_tree.specs.declared.decl.LocalDecl.{LocalDecl}
 use Rattle.ix_tree.specs.declared.decl.Member.{Member}
 use Rattle.ix_tree.specs.declared.decl.Member.TheVariants as member
-use Rattle.ix_tree.specs.declared.decl.MethodDecl.{MethodDecl}
 use Rattle.ix_tree.specs.declared.decl.Unit.{Unit as Source}
 use Rattle.ix_tree.specs.Parts.{unit_parts}
 use Rattle.ix_meaning.specs.declared.members.Signature.{Signature}

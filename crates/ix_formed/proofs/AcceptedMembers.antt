@@ -1,23 +1,17 @@
 -- What names mean in an accepted source, its program has: types that fit, classes, fields and methods.
-use Rattle.std.proofs.Common.{◌≡◌, ◌≤◌, ◌<◌, ℕ, zero, suc, ◌+◌, ℤ, Bool, true, false, List, [], ◌∷◌, ◌++◌, length, map, Option, Some, None, refl, sym, ap, subst, ◌∙◌, arith, append_assoc, length-append}
-use Rattle.std.specs.Prelude.{if◌then◌else◌, ◌&&◌, ◌||◌, not, nat_lt, ◌==◌, slice_get, unwrap_or, option_map}
+use Rattle.std.proofs.Common.{◌≡◌, ◌≤◌, ◌<◌, ℕ, zero, suc, ◌+◌, ℤ, Bool, true, false, List, [], ◌∷◌, length, Option, Some, None, refl, sym, ap, subst, ◌∙◌, arith}
+use Rattle.std.specs.Prelude.{if◌then◌else◌, ◌&&◌, ◌||◌, nat_lt, ◌==◌, slice_get, unwrap_or, option_map}
 use Rattle.std.specs.Option.{option_and_then}
 use Rattle.std.proofs.lemmas.Bool.{false≢true, and_parts}
 use Rattle.std.proofs.lemmas.Bool.Decides.{nat_tests}
-use Rattle.ix_core.specs.declared.claim.Base.{Base}
 use Rattle.ix_core.specs.declared.claim.Base.TheVariants as base
-use Rattle.ix_core.specs.declared.claim.Claim.{Claim}
-use Rattle.ix_core.specs.declared.claim.Name.{Name}
 use Rattle.ix_core.specs.declared.claim.Type_.{Type_}
 use Rattle.ix_core.specs.declared.claim.Type_.TheVariants as type
 use Rattle.ix_core.specs.declared.program.Field.{Field as ProgramField}
-use Rattle.ix_core.specs.declared.program.Method.{Method}
 use Rattle.ix_core.specs.declared.program.Program.{Program}
 use Rattle.ix_core.specs.Formed.{fields_fit, result_fits}
-use Rattle.ix_core.specs.Machine.{is_int}
-use Rattle.ix_core.specs.Tables.{field_at, method_at, no_field, no_method, most_on_way}
-use Rattle.ix_core.specs.Types.{int_type, is_type, is_array, is_array_type, is_class, is_void, is_below, is_of, same_type}
-use Rattle.ix_core.proofs.Cases.{by_test, equal}
+use Rattle.ix_core.specs.Tables.{no_field, most_on_way}
+use Rattle.ix_core.specs.Types.{int_type, is_type, is_class, is_below, is_of}
 use Rattle.ix_tree.specs.declared.annot.BaseTree.{BaseTree}
 use Rattle.ix_tree.specs.declared.annot.BaseTree.TheVariants as tree
 use Rattle.ix_tree.specs.declared.annot.TypeTree.{TypeTree}
@@ -45,7 +39,7 @@ use Rattle.ix_formed.proofs.ClaimsFit.{Whenever}
 use Rattle.ix_formed.proofs.ClassesHaveWays.{few_supers}
 use Rattle.ix_formed.proofs.DeclaredFields.{IsField, MeansField}
 use Rattle.ix_formed.proofs.FieldsFit.{IsAccepted, class_count, parent_count, same_parents, no_cycle, parents_there, below, fields_known, fields_do_fit}
-use Rattle.ix_formed.proofs.NumberLists.{is_itself, both_true, all_joined}
+use Rattle.ix_formed.proofs.NumberLists.{is_itself, all_joined}
 use Rattle.ix_formed.proofs.Overrides.{same_type_is, nearest_is}
 use Rattle.ix_formed.proofs.SameTypes.{same_is, same_itself}
 use Rattle.ix_formed.proofs.ScopesKnow.{own_field_is}

@@ -1,5 +1,5 @@
 -- The methods that names mean in an accepted source, its program has, and new arrays have types of it.
-use Rattle.std.proofs.Common.{◌≡◌, ◌≤◌, ◌<◌, ℕ, zero, suc, ◌+◌, Bool, true, false, List, [], ◌∷◌, ◌++◌, length, map, Option, Some, None, refl, sym, ap, subst, ◌∙◌, arith, append_assoc, length-append}
+use Rattle.std.proofs.Common.{◌≡◌, ◌≤◌, ◌<◌, ℕ, ◌+◌, Bool, true, false, List, [], ◌∷◌, ◌++◌, length, map, Option, Some, None, refl, sym, ap, subst, ◌∙◌, arith, append_assoc, length-append}
 use Rattle.std.specs.Prelude.{if◌then◌else◌, ◌&&◌, ◌||◌, not, nat_lt, ◌==◌, bytes_eq, slice_get, unwrap_or}
 use Rattle.std.proofs.lemmas.Bool.{false≢true, and_parts}
 use Rattle.std.proofs.lemmas.Bool.Decides.{nat_tests}
@@ -9,7 +9,6 @@ use Rattle.ix_core.specs.declared.claim.Base.TheVariants as base
 use Rattle.ix_core.specs.declared.claim.Claim.{Claim}
 use Rattle.ix_core.specs.declared.claim.Type_.{Type_}
 use Rattle.ix_core.specs.declared.claim.Type_.TheVariants as type
-use Rattle.ix_core.specs.declared.program.Method.{Method}
 use Rattle.ix_core.specs.declared.program.Program.{Program}
 use Rattle.ix_core.specs.SameClaims.{distinct}
 use Rattle.ix_core.specs.Tables.{method_at}
@@ -27,7 +26,7 @@ use Rattle.ix_tree.specs.declared.decl.MethodDecl.{MethodDecl}
 use Rattle.ix_tree.specs.declared.decl.Unit.{Unit as Source}
 use Rattle.ix_annot.specs.declared.scope.Target.TheVariants as on
 use Rattle.ix_meaning.specs.declared.members.Signature.{Signature}
-use Rattle.ix_meaning.specs.Annotated.{written, based, class_use, given, names_nothing, is_int_tree, of_result}
+use Rattle.ix_meaning.specs.Annotated.{based, class_use, given, names_nothing, is_int_tree, of_result}
 use Rattle.ix_meaning.specs.Classes as classes
 use Rattle.ix_meaning.specs.Classes.{parents, supers, class_named}
 use Rattle.ix_meaning.specs.Members as members
@@ -35,7 +34,7 @@ use Rattle.ix_meaning.specs.Members.{ClassOf, World, Callee, world, signature, p
 use Rattle.ix_meaning.specs.Types.{shaped}
 use Rattle.ix_meaning.specs.Values as values
 use Rattle.ix_plain.specs.declared.body.Head.{Head}
-use Rattle.ix_plain.specs.Counts.{one, most_counted}
+use Rattle.ix_plain.specs.Counts.{most_counted}
 use Rattle.ix_plain.specs.Members.{heads_in, heads_from, heads, is_static}
 use Rattle.ix_plain.specs.Scope.{Site, head_at, no_head}
 use Rattle.ix_formed.specs.Additions.{AllOf}

@@ -10,7 +10,7 @@ use Rattle.ix_tree.specs.declared.expr.ExprKind.{ExprKind, ExprKind-F, map-ExprK
 use Rattle.ix_tree.specs.declared.expr.Init.{Init, Init-F, ind-Init, map-Init, roll-Init, fold-roll-Init}
 use Rattle.ix_meaning.specs.declared.note.Meaning.{Meaning}
 use Rattle.ix_meaning.specs.declared.note.Meaning.TheVariants as meaning
-use Rattle.ix_plain.specs.Scope.{Site, Scope, slot_of, meaning_at, is_among}
+use Rattle.ix_plain.specs.Scope.{Site, Scope, meaning_at, is_among}
 use Rattle.ix_plain.specs.Assigned as assigned
 use Rattle.ix_plain.specs.Assigned.{Adding, Assigns, none, both, all, maybe, each, with_slot, through, assigns, init_assigns}
 

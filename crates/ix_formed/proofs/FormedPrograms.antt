@@ -1,41 +1,36 @@
 -- The program of an accepted source is formed, where the bodies and the locals of its constructors fit.
-use Rattle.std.proofs.Common.{◌≡◌, ◌≤◌, ◌<◌, ℕ, ◌+◌, Bool, true, false, List, [], ◌∷◌, ◌++◌, length, Option, Some, None, refl, sym, ap, subst, ◌∙◌, arith}
-use Rattle.std.specs.Prelude.{if◌then◌else◌, ◌&&◌, ◌||◌, not, nat_lt, count_by}
-use Rattle.std.proofs.lemmas.Bool.{false≢true, and_parts}
+use Rattle.std.proofs.Common.{◌≡◌, ◌≤◌, ℕ, Bool, true, false, List, [], ◌∷◌, length, refl, sym, ap, subst, ◌∙◌, arith}
+use Rattle.std.specs.Prelude.{if◌then◌else◌, ◌||◌, not, nat_lt, count_by}
+use Rattle.std.proofs.lemmas.Bool.{and_parts}
 use Rattle.ix_text.specs.declared.span.Span.{Span}
-use Rattle.ix_core.specs.declared.claim.Claim.{Claim}
 use Rattle.ix_core.specs.declared.claim.Type_.{Type_}
 use Rattle.ix_core.specs.declared.program.Local.{Local}
 use Rattle.ix_core.specs.declared.program.Method.{Method}
 use Rattle.ix_core.specs.declared.program.Program.{Program}
-use Rattle.ix_core.specs.Formed.{at_most, classes_fit, fields_fit, params_fit, locals_fit, body_fits, result_fits, constructor_fits, overrides_fit, super_calls_fit, method_fits, methods_fit, is_formed, Formed, same_numbers, loop_numbers, numbers_from, code_size}
+use Rattle.ix_core.specs.Formed.{at_most, classes_fit, fields_fit, params_fit, locals_fit, body_fits, result_fits, constructor_fits, overrides_fit, super_calls_fit, method_fits, methods_fit, Formed, same_numbers, loop_numbers, numbers_from, code_size}
 use Rattle.ix_core.specs.Tables.{param_slots, body_of}
-use Rattle.ix_core.specs.Types.{is_class, is_void, is_empty}
+use Rattle.ix_core.specs.Types.{is_class}
 use Rattle.ix_core.proofs.Cases.{by_test}
-use Rattle.ix_tree.specs.declared.annot.TypeTree.{TypeTree}
 use Rattle.ix_tree.specs.declared.decl.ClassDecl.{ClassDecl}
-use Rattle.ix_tree.specs.declared.decl.LocalDecl.{LocalDecl}
 use Rattle.ix_tree.specs.declared.decl.MethodDecl.{MethodDecl}
 use Rattle.ix_tree.specs.declared.decl.Unit.{Unit as Source}
 use Rattle.ix_tree.specs.Parts.{unit_parts}
 use Rattle.ix_tree.specs.Placed.{Placed}
 use Rattle.ix_meaning.specs.Members.{world}
 use Rattle.ix_meaning.specs.Resolved.{names}
-use Rattle.ix_meaning.specs.Source as source
-use Rattle.ix_meaning.specs.Source.{Place, has_constructor}
+use Rattle.ix_meaning.specs.Source.{has_constructor}
 use Rattle.ix_plain.specs.declared.numbers.Next.{Next}
-use Rattle.ix_plain.specs.Counts.{most_counted}
 use Rattle.ix_plain.specs.Members.{next_behind, is_static, first_numbers}
-use Rattle.ix_plain.specs.Program.{Tables, Home, home, tables, first_param, overrides, written_head}
+use Rattle.ix_plain.specs.Program.{Tables, Home, home, tables, first_param, overrides}
 use Rattle.ix_formed.specs.Additions.{AllOf}
 use Rattle.ix_formed.specs.Readable.{is_readable}
-use Rattle.ix_formed.specs.Shape.{AreInSlots, IsDefault, IsOneDefault, IfElse, AreDefaults, MethodHasShape, params_of, types_of}
+use Rattle.ix_formed.specs.Shape.{AreInSlots, IsDefault, IsOneDefault, IfElse, AreDefaults, MethodHasShape, params_of}
 use Rattle.ix_formed.specs.Written.{is_written_type, is_written_decl, has_no_result, each_true, maybe_true}
 use Rattle.ix_formed.proofs.ClassesFit.{matched, matched_with, methods_have, classes_do_fit}
 use Rattle.ix_formed.proofs.FieldsFit.{IsAccepted, fields_do_fit, shape, is_small}
 use Rattle.ix_formed.proofs.HeadsAre.{IsWritten, head_matches}
-use Rattle.ix_formed.proofs.HeadsFit.{HasHead, all_params_say, params_do_fit, result_does_fit, constructor_does_fit}
-use Rattle.ix_formed.proofs.NumberLists.{both_true, all_so, all_joined, all_split}
+use Rattle.ix_formed.proofs.HeadsFit.{all_params_say, params_do_fit, result_does_fit, constructor_does_fit}
+use Rattle.ix_formed.proofs.NumberLists.{both_true, all_joined, all_split}
 use Rattle.ix_formed.proofs.Overrides.{overrides_do_fit}
 use Rattle.ix_formed.proofs.PlainMethods.{own_types, plain_body_fits, plain_locals_fit}
 use Rattle.ix_formed.proofs.ProgramsHaveShape.{params_behind}

@@ -59,6 +59,7 @@ module _ (unit : Source) (p : Program) (is : IsAccepted unit p) where
     pub head : HasHead unit p is place decl method
     pub same : IsMethod t at decl method
     pub class : at.class ≡ place.class
+    pub parent : at.parent ≡ t.world.parent at.class
 
   pub head_matches : (l : Place) (d : MethodDecl) (method : Method) → HasHead unit p is l d method → Matches method (signature l.world.class l.class d)
   head_matches l d method head =
@@ -95,14 +96,14 @@ module _ (unit : Source) (p : Program) (is : IsAccepted unit p) where
       says = method_says (names unit) (unit_parts unit) (place (world unit.classes) ss c k) (signature (world unit.classes).class c d) d says;
     }
 
-    members_match : (ss : List Signature) (c : ℕ) (k : ClassDecl) (at : Home) (named : List ℕ → Option ℕ) (i next : ℕ) (ms : List Member) (methods before later : List Method) → at.class ≡ c → c < length unit.classes
+    members_match : (ss : List Signature) (c : ℕ) (k : ClassDecl) (at : Home) (named : List ℕ → Option ℕ) (i next : ℕ) (ms : List Member) (methods before later : List Method) → at.class ≡ c → at.parent ≡ t.world.parent at.class → c < length unit.classes
         → each_true is_written_member ms ≡ true → MembersSay (Agrees (names unit) (unit_parts unit)) (place (world unit.classes) ss c k) named i next ms → AreMethods t at ms methods
         → AllOf Q (methods_of ms) → p.methods ≡ before ++ (methods ++ later)
         → SignaturesMatch (length before) (members.methods_in (world unit.classes).class c ms) × AllOf (IsWritten Q t) methods
-    members_match ss c k at named i next [] methods before later class there wr says are fine e = (tt, subst (AllOf (IsWritten Q t)) (sym are) tt)
-    members_match ss c k at named i next (member.Field d ∷ ms) methods before later class there wr says are fine e =
-        members_match ss c k at named (i + 1) (members.next_field next d) ms methods before later class there (and_parts (is_written_member (member.Field d)) (each_true is_written_member ms) wr).1 says.2 are fine e
-    members_match ss c k at named i next (member.Method d ∷ ms) methods before later class there wr says are fine e =
+    members_match ss c k at named i next [] methods before later class above there wr says are fine e = (tt, subst (AllOf (IsWritten Q t)) (sym are) tt)
+    members_match ss c k at named i next (member.Field d ∷ ms) methods before later class above there wr says are fine e =
+        members_match ss c k at named (i + 1) (members.next_field next d) ms methods before later class above there (and_parts (is_written_member (member.Field d)) (each_true is_written_member ms) wr).1 says.2 are fine e
+    members_match ss c k at named i next (member.Method d ∷ ms) methods before later class above there wr says are fine e =
         let parts_w = and_parts (is_written_method d) (each_true is_written_member ms) wr in
         let method = are.0 in
         let head = written_head_is ss c k at d method class there parts_w.0 are.3 says.1 in
@@ -111,7 +112,7 @@ module _ (unit : Source) (p : Program) (is : IsAccepted unit p) where
         let long = ap (λ (l : List Method). length l) all in
         let more = length-append before (method ∷ (are.1 ++ later)) in
         let up : length (before ++ method ∷ []) ≡ length before + 1 = (let a = length-append before (method ∷ []) in omega (arith, a)) in
-        let rest = members_match ss c k at named (i + 1) next ms are.1 (before ++ method ∷ []) later class there parts_w.1 says.2 are.4 fine.1 (all ∙ sym (append_assoc before (method ∷ []) (are.1 ++ later))) in (
+        let rest = members_match ss c k at named (i + 1) next ms are.1 (before ++ method ∷ []) later class above there parts_w.1 says.2 are.4 fine.1 (all ∙ sym (append_assoc before (method ∷ []) (are.1 ++ later))) in (
           (
             (
               (let lt : length before < length p.methods = omega (arith, long, more) in lt),
@@ -119,7 +120,7 @@ module _ (unit : Source) (p : Program) (is : IsAccepted unit p) where
             ),
             subst (λ n. SignaturesMatch n (members.methods_in (world unit.classes).class c ms)) up rest.0,
           ),
-          subst (AllOf (IsWritten Q t)) (sym are.2) (record { place = place (world unit.classes) ss c k; decl = d; fine = fine.0; at = at; head = head; same = are.3; class = class }, rest.1),
+          subst (AllOf (IsWritten Q t)) (sym are.2) (record { place = place (world unit.classes) ss c k; decl = d; fine = fine.0; at = at; head = head; same = are.3; class = class; parent = above }, rest.1),
         )
 
     signatures_both : (number other : ℕ) (xs ys : List Signature) → SignaturesMatch number xs → other ≡ number + length xs → SignaturesMatch other ys → SignaturesMatch number (xs ++ ys)
@@ -143,7 +144,7 @@ module _ (unit : Source) (p : Program) (is : IsAccepted unit p) where
         let at = home t next k in
         let each = all_split Q (methods_of k.members) (all_methods ks) fine in
         let all : p.methods ≡ before ++ (are.0 ++ (are.1 ++ later)) = e ∙ ap (λ (l : List Method). before ++ (l ++ later)) are.2 ∙ ap (λ (l : List Method). before ++ l) (append_assoc are.0 are.1 later) in
-        let own = members_match ss c k at (source.member_named k.members) 0 nf k.members are.0 before (are.1 ++ later) class (omega (arith, le)) parts_w.0 says.0.members are.3 each.0 all in
+        let own = members_match ss c k at (source.member_named k.members) 0 nf k.members are.0 before (are.1 ++ later) class refl (omega (arith, le)) parts_w.0 says.0.members are.3 each.0 all in
         let rest = all_match ps ss (c + 1) (members.next_fields nf k.members) (next_behind next k) ks are.1 (before ++ are.0) later (omega (arith, up, class)) (goes_on next k ks number) (omega (arith, le)) parts_w.1 says.1 are.4 each.1
         (all ∙ sym (append_assoc before are.0 (are.1 ++ later))) in
         let count : length (before ++ are.0) ≡ length before + length (members.methods_in (world unit.classes).class c k.members) =

@@ -1,15 +1,14 @@
 -- At the entry of a written method its parameters, and `this`, are known and in scope.
-use Rattle.std.proofs.Common.{◌≡◌, ◌≤◌, ◌<◌, ℕ, zero, suc, ◌+◌, Bool, true, false, List, [], ◌∷◌, ◌++◌, length, Option, Some, None, refl, sym, ap, subst, ◌∙◌, arith}
+use Rattle.std.proofs.Common.{◌≡◌, ◌≤◌, ◌<◌, ℕ, zero, suc, ◌+◌, Bool, true, false, List, [], ◌∷◌, length, Option, Some, None, refl, sym, ap, subst, ◌∙◌, arith}
 use Rattle.std.specs.Prelude.{if◌then◌else◌, ◌&&◌, ◌||◌, not, ◌==◌, slice_get, unwrap_or}
 use Rattle.std.proofs.lemmas.Bool.{false≢true, and_parts}
-use Rattle.ix_text.specs.declared.span.Span.{Span}
 use Rattle.ix_core.specs.declared.claim.Type_.{Type_}
 use Rattle.ix_core.specs.declared.claim.Type_.TheVariants as type
 use Rattle.ix_core.specs.declared.program.Local.{Local}
 use Rattle.ix_core.specs.declared.program.Method.{Method}
 use Rattle.ix_core.specs.declared.program.Program.{Program}
 use Rattle.ix_core.specs.Formed.{first_type, param_type_from, entry_type, this_type, has_parent}
-use Rattle.ix_core.specs.Tables.{param_slot, param_slots}
+use Rattle.ix_core.specs.Tables.{param_slot}
 use Rattle.ix_core.specs.Types.{class_type, is_void}
 use Rattle.ix_core.proofs.Cases.{by_test, equal}
 use Rattle.ix_tree.specs.declared.annot.TypeTree.{TypeTree}
@@ -27,15 +26,15 @@ use Rattle.ix_meaning.specs.Source as source
 use Rattle.ix_meaning.specs.Source.{Place}
 use Rattle.ix_meaning.specs.Types.{need_like}
 use Rattle.ix_plain.specs.Counts.{most_counted}
-use Rattle.ix_plain.specs.Members.{is_static, params_from, slot_behind}
+use Rattle.ix_plain.specs.Members.{is_static, slot_behind}
 use Rattle.ix_plain.specs.Program as program
 use Rattle.ix_plain.specs.Program.{Tables, Home, written_head, first_param, tables}
 use Rattle.ix_plain.specs.Scope.{Site, declared_type, slot_of, slot_in_params}
 use Rattle.ix_formed.specs.Additions.{AllOf}
 use Rattle.ix_formed.specs.Points.{Known}
 use Rattle.ix_formed.specs.Shape.{IsMethod, params_of, types_of}
-use Rattle.ix_formed.specs.TypedStatements.{Ground, HasVariable, IsResult, Scoped, Stands, scope_in, type_in}
-use Rattle.ix_formed.specs.Written.{is_written_method, has_no_result}
+use Rattle.ix_formed.specs.TypedStatements.{Ground, HasVariable, IsResult, Scoped, Stands, scope_in}
+use Rattle.ix_formed.specs.Written.{has_no_result}
 use Rattle.ix_formed.proofs.AcceptedBodies.{ground}
 use Rattle.ix_formed.proofs.DeclaredMethods.{ParamsSay}
 use Rattle.ix_formed.proofs.DeclaredTypes.{declared_is_type}
@@ -61,7 +60,7 @@ param_past first (t ∷ types) slot le =
     let other : (first == slot) ≡ false = by_test (first == slot) (λ t. let z = equal first slot t in absurd (omega (arith, z, le))) (λ f. f) in
     ap (λ b. if b then Some t else param_type_from (first + 1) types slot) other ∙ param_past (first + 1) types slot (omega (arith, le))
 
-param_before : (first : ℕ) (types : List Type_) (slot : ℕ) → slot < first → param_type_from first types slot ≡ None
+pub param_before : (first : ℕ) (types : List Type_) (slot : ℕ) → slot < first → param_type_from first types slot ≡ None
 param_before first [] slot lt = refl
 param_before first (t ∷ types) slot lt =
     let other : (first == slot) ≡ false = by_test (first == slot) (λ t. let z = equal first slot t in absurd (omega (arith, z, lt))) (λ f. f) in
@@ -131,6 +130,9 @@ module _ (unit : Source) (p : Program) (is : IsAccepted unit p) (l : Place) (d :
   param_has_slot : (k : ℕ) → k < length d.params → slot_of (scope_in own_ground []) (Some (meaning.Param k)) ≡ first + k
   param_has_slot k lt =
       ap (λ (x : List Local). slot_in_params (slice_get x k)) site_params ∙ params_slot (names unit) (first_param (is_static d)) d.params k lt ∙ ap (λ n. n + k) first_same
+
+  pub types_past : (slot : ℕ) → first_free ≤ slot → param_type_from (param_slot method 0) method.param_types slot ≡ None
+  types_past slot le = let c = free_is in let b = own_types in param_past (param_slot method 0) method.param_types slot (omega (arith, le, c, b))
 
   -- ---- parameters
 
@@ -210,10 +212,13 @@ module _ (unit : Source) (p : Program) (is : IsAccepted unit p) (l : Place) (d :
       unused = λ slot le span within. let c = free_is in let b = own_types in ap (λ (o : Option Type_). first_type o None) (param_past first method.param_types slot (omega (arith, le, c, b)));
     }
 
+    pub entry_variables : AllOf (λ (v : Variable). (ty : Type_) → v.ty ≡ Some ty → Known (Some (entry_type p method)) (slot_of (scope_in own_ground []) (Some v.meaning)) ty) (source.params_from l 0 d.params)
+    entry_variables = all_so IsEntered (λ (v : Variable). (ty : Type_) → v.ty ≡ Some ty → Known (Some (entry_type p method)) (slot_of (scope_in own_ground []) (Some v.meaning)) ty) (λ v e. e.1) (source.params_from l 0 d.params) all_entered
+
     -- where the parent's constructor needn't run first
     pub entry_stands : (method.constructor && has_parent p method) ≡ false → Stands own_ground entry_scope [] (Some (entry_type p method))
     entry_stands free = record {
-      variables = all_so IsEntered (λ (v : Variable). (ty : Type_) → v.ty ≡ Some ty → Known (Some (entry_type p method)) (slot_of (scope_in own_ground []) (Some v.meaning)) ty) (λ v e. e.1) (source.params_from l 0 d.params) all_entered;
+      variables = entry_variables;
       this = λ e.
           let instance = not_static method.is_static (is_static d) head.static e in
           let f = ap (λ b. if b then 0 else 0 + 1) instance in

@@ -1,5 +1,5 @@
 -- The body and the locals of a written method that is no constructor fit.
-use Rattle.std.proofs.Common.{◌≡◌, ◌≤◌, ◌<◌, ℕ, ◌+◌, Bool, true, false, List, [], ◌∷◌, ◌++◌, length, map, Option, Some, None, Ok, Err, refl, sym, ap, subst, ◌∙◌, arith}
+use Rattle.std.proofs.Common.{◌≡◌, ◌≤◌, ℕ, ◌+◌, Bool, true, false, List, [], ◌∷◌, map, Some, Ok, refl, sym, ap, ◌∙◌, arith}
 use Rattle.std.specs.Prelude.{if◌then◌else◌, ◌&&◌, ◌||◌, not}
 use Rattle.std.proofs.lemmas.Bool.{false≢true, and_parts}
 use Rattle.ix_text.specs.declared.span.Span.{Span}
@@ -7,10 +7,8 @@ use Rattle.ix_core.specs.declared.claim.Type_.{Type_}
 use Rattle.ix_core.specs.declared.program.Local.{Local}
 use Rattle.ix_core.specs.declared.program.Method.{Method}
 use Rattle.ix_core.specs.declared.program.Program.{Program}
-use Rattle.ix_core.specs.Code.{Code, items_code}
+use Rattle.ix_core.specs.Code.{items_code}
 use Rattle.ix_core.specs.Formed.{entry_type, has_parent, code_ways, locals_fit, body_fits, is_target}
-use Rattle.ix_core.specs.Tables.{param_slot}
-use Rattle.ix_core.specs.Types.{Point}
 use Rattle.ix_tree.specs.declared.decl.MethodDecl.{MethodDecl}
 use Rattle.ix_tree.specs.declared.decl.Unit.{Unit as Source}
 use Rattle.ix_tree.specs.declared.stmt.Stmt.{Stmt}
@@ -20,11 +18,11 @@ use Rattle.ix_meaning.specs.Resolved.{names}
 use Rattle.ix_meaning.specs.Scope.{Scope as Names}
 use Rattle.ix_meaning.specs.Source.{Place}
 use Rattle.ix_plain.specs.declared.body.Body.{Body}
-use Rattle.ix_plain.specs.Parts.{Within, ◌>>=◌}
+use Rattle.ix_plain.specs.Parts.{◌>>=◌}
 use Rattle.ix_plain.specs.Program as program
 use Rattle.ix_plain.specs.Program.{Tables, Home, start, tables, args_or_none}
 use Rattle.ix_plain.specs.Statements.{each, statement}
-use Rattle.ix_formed.specs.Additions.{Makes, AllOf}
+use Rattle.ix_formed.specs.Additions.{AllOf}
 use Rattle.ix_formed.specs.LocalTypes.{local_types}
 use Rattle.ix_formed.specs.Readable.{stmt_shape, is_readable_stmt, is_readable_expr, each_fine}
 use Rattle.ix_formed.specs.TypedStatements.{Ground, IsGround, IsKnown, Tells}
@@ -38,24 +36,24 @@ use Rattle.ix_formed.proofs.PlainItems.{made_is}
 use Rattle.ix_formed.proofs.SourceMethods.{IsAmong, IsSound}
 use Rattle.ix_formed.proofs.TypedMethods.{whole_fits, whole_locals_fit, body_tells}
 
-each_written : (xs : List Stmt) → each_true is_written_stmt xs ≡ true → all_true (map is_written_stmt xs) ≡ true
+pub each_written : (xs : List Stmt) → each_true is_written_stmt xs ≡ true → all_true (map is_written_stmt xs) ≡ true
 each_written [] e = refl
 each_written (x ∷ xs) e = let parts = and_parts (is_written_stmt x) (each_true is_written_stmt xs) e in ap (λ b. b && all_true (map is_written_stmt xs)) parts.0 ∙ each_written xs parts.1
 
-each_readable : (xs : List Stmt) → each_true is_readable_stmt xs ≡ true → each_fine (map stmt_shape xs) ≡ true
+pub each_readable : (xs : List Stmt) → each_true is_readable_stmt xs ≡ true → each_fine (map stmt_shape xs) ≡ true
 each_readable [] e = refl
 each_readable (x ∷ xs) e = let parts = and_parts (is_readable_stmt x) (each_true is_readable_stmt xs) e in ap (λ b. b && each_fine (map stmt_shape xs)) parts.0 ∙ each_readable xs parts.1
 
-body_written : (d : MethodDecl) → Rattle.ix_formed.specs.Written.is_written_method d ≡ true → each_true is_written_stmt d.body ≡ true
+pub body_written : (d : MethodDecl) → Rattle.ix_formed.specs.Written.is_written_method d ≡ true → each_true is_written_stmt d.body ≡ true
 body_written d e =
     let a = (and_parts (not d.constructor || has_no_result d.result) _ e).1 in
     let b = (and_parts (maybe_true is_written_type d.result) _ a).1 in
     let c = (and_parts (each_true is_written_decl d.params) _ b).1 in (and_parts (maybe_true (each_true is_written_expr) d.parent_args) (each_true is_written_stmt d.body) c).1
 
-body_readable : (d : MethodDecl) → Rattle.ix_formed.specs.Readable.is_readable_method d ≡ true → each_true is_readable_stmt d.body ≡ true
+pub body_readable : (d : MethodDecl) → Rattle.ix_formed.specs.Readable.is_readable_method d ≡ true → each_true is_readable_stmt d.body ≡ true
 body_readable d e = (and_parts (maybe_true (each_true is_readable_expr) d.parent_args) (each_true is_readable_stmt d.body) e).1
 
-known_is : (g : Ground) (part : Part) → IsAmong g.parts part → IsKnown g part
+pub known_is : (g : Ground) (part : Part) → IsAmong g.parts part → IsKnown g part
 known_is g (elsewhere name) among = among
 known_is g (entries n) among = among
 known_is g (expression span) among = tt
@@ -83,16 +81,16 @@ module _ (unit : Source) (p : Program) (is : IsAccepted unit p) where
     abbrev pub own_types : List Type_
     own_types = local_types (names unit) w.decl.body
 
-    abbrev g : Ground
+    abbrev pub g : Ground
     g = own_ground unit p is l d method w.head w.at w.same w.fine.few own_types
 
-    abbrev free : ℕ
+    abbrev pub free : ℕ
     free = first_free unit p is l d method w.head w.at w.same w.fine.few own_types
 
-    abbrev s : Names
+    abbrev pub s : Names
     s = entry_scope unit p is l d method w.head w.at w.same w.fine.few own_types
 
-    grounded : IsGround g
+    pub grounded : IsGround g
     grounded = is_ground unit p is method own_types (own_site unit p is l d method w.head w.at w.same w.fine.few own_types) l.class w.head.there w.head.class refl refl w.class
         (λ e. let f = ap (λ b. if b then 0 else 0 + 1) (w.head.static ∙ instance_of d.mods.is_static d.constructor (sym w.head.constructor ∙ e)) in omega (arith, f))
 

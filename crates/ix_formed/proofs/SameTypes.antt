@@ -1,6 +1,6 @@
 -- A type is one with itself, and what follows of a type from what it is below.
-use Rattle.std.proofs.Common.{◌≡◌, ℕ, ℤ, Bool, true, false, List, [], ◌∷◌, Some, None, refl, sym, ap, ◌∙◌, arith}
-use Rattle.std.specs.Prelude.{◌==◌, ◌&&◌, ◌||◌}
+use Rattle.std.proofs.Common.{◌≡◌, ℕ, ℤ, true, List, [], ◌∷◌, refl, ap, ◌∙◌, arith}
+use Rattle.std.specs.Prelude.{◌==◌, ◌&&◌}
 use Rattle.std.specs.Ordering.{int_eq}
 use Rattle.std.proofs.lemmas.Bool.{false≢true, and_parts}
 use Rattle.std.proofs.lemmas.Bool.Decides.{Decides-int_eq}
@@ -17,7 +17,7 @@ use Rattle.ix_core.specs.declared.claim.Type_.{Type_}
 use Rattle.ix_core.specs.declared.claim.Type_.TheVariants as type
 use Rattle.ix_core.specs.declared.program.Program.{Program}
 use Rattle.ix_core.specs.SameClaims.{same_name, same_offset, same_claim}
-use Rattle.ix_core.specs.Types.{int_type, bool_type, same_base, same_type, same_claims, is_of, is_type, is_void, is_reference_type}
+use Rattle.ix_core.specs.Types.{int_type, bool_type, same_base, same_type, same_claims, is_of, is_type, is_reference_type}
 use Rattle.ix_core.proofs.Cases.{equal}
 use Rattle.ix_meaning.specs.Types as meaning
 use Rattle.ix_formed.specs.Typed.{IsResult}

@@ -1,22 +1,21 @@
 -- Which variable a slot is at a place, where locals are added behind.
-use Rattle.std.proofs.Common.{◌≡◌, ◌≤◌, ◌<◌, ℕ, zero, suc, ◌+◌, Bool, true, false, List, [], ◌∷◌, ◌++◌, length, Option, Some, None, refl, sym, ap, subst, ◌∙◌, arith, length-append, append_assoc}
+use Rattle.std.proofs.Common.{◌≡◌, ◌≤◌, ◌<◌, ℕ, zero, suc, Bool, true, false, List, [], ◌∷◌, ◌++◌, length, Option, Some, None, refl, sym, ap, subst, ◌∙◌, arith, length-append, append_assoc}
 use Rattle.std.specs.Prelude.{if◌then◌else◌, nat_lt, ◌&&◌, ◌==◌, slice_get}
-use Rattle.std.proofs.lemmas.Bool.{false≢true}
 use Rattle.std.proofs.lemmas.Bool.Decides.{nat_tests}
 use Rattle.ix_text.specs.declared.span.Span.{Span}
 use Rattle.ix_core.specs.declared.claim.Type_.{Type_}
 use Rattle.ix_core.specs.declared.program.Local.{Local}
 use Rattle.ix_core.specs.Formed.{at_most, first_type, local_type_from, param_type_from, starts_within}
 use Rattle.ix_core.specs.Tables.{param_slot}
-use Rattle.ix_core.specs.Types.{Point, is_type}
+use Rattle.ix_core.specs.Types.{Point}
 use Rattle.ix_meaning.specs.declared.note.Meaning.{Meaning}
 use Rattle.ix_meaning.specs.declared.note.Meaning.TheVariants as meaning
 use Rattle.ix_meaning.specs.Scope.{Known as Variable, Scope as Names}
-use Rattle.ix_plain.specs.Scope.{slot_of, slot_in_locals, slot_in_params}
+use Rattle.ix_plain.specs.Scope.{slot_of, slot_in_locals}
 use Rattle.ix_formed.specs.Additions.{AllOf}
 use Rattle.ix_formed.specs.Points.{Known, Keeps}
 use Rattle.ix_formed.specs.TypedStatements.{Ground, Within, type_in, scope_in, IsNamed, IsResult, HasVariable, Scoped, Stands, Outside, IsDeclared, Begins}
-use Rattle.ix_formed.proofs.NumberLists.{both_true, is_itself, all_so, all_joined}
+use Rattle.ix_formed.proofs.NumberLists.{all_so, all_joined}
 
 -- ---- lists
 

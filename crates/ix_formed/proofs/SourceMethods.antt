@@ -1,20 +1,17 @@
 -- Where the statements of each method of a source stand, and that the names in them are among those of the source.
-use Rattle.std.proofs.Common.{◌≡◌, ◌≤◌, ◌<◌, ℕ, ◌+◌, Bool, true, false, List, [], ◌∷◌, ◌++◌, length, map, Option, Some, None, refl, sym, ap, subst, ◌∙◌, arith, append_assoc}
-use Rattle.std.specs.Prelude.{◌==◌, ◌&&◌}
+use Rattle.std.proofs.Common.{◌≡◌, ◌≤◌, ℕ, true, List, [], ◌∷◌, ◌++◌, length, map, Option, Some, None, refl, sym, ap, subst, ◌∙◌, arith, append_assoc}
+use Rattle.std.specs.Prelude.{◌==◌}
 use Rattle.std.proofs.lemmas.Bool.{and_parts}
 use Rattle.ix_text.specs.declared.span.Span.{Span}
 use Rattle.ix_core.specs.Formed.{one_if}
-use Rattle.ix_tree.specs.declared.annot.Ident.{Ident}
 use Rattle.ix_tree.specs.declared.decl.ClassDecl.{ClassDecl}
-use Rattle.ix_tree.specs.declared.decl.LocalDecl.{LocalDecl}
 use Rattle.ix_tree.specs.declared.decl.Member.{Member}
 use Rattle.ix_tree.specs.declared.decl.Member.TheVariants as member
 use Rattle.ix_tree.specs.declared.decl.MethodDecl.{MethodDecl}
 use Rattle.ix_tree.specs.declared.decl.Unit.{Unit as Source}
-use Rattle.ix_tree.specs.declared.stmt.Stmt.{Stmt}
 use Rattle.ix_tree.specs.Parts as parts
 use Rattle.ix_tree.specs.Parts.{Part, expression, statement, declaration, in_type, elsewhere, entries, most_entries, All, IsShort, CanResolve, together, listed, each, class_parts, member_parts, method_parts, decl_parts, mods_parts, type_parts, args_parts, stmt_parts, unit_parts}
-use Rattle.ix_tree.specs.Placed.{Layout, nothing, node, copy, LaidOut, followed, row, piece, maybe, annot_piece, type_piece, name_piece, params_pieces, parent_pieces, stmt_piece, method_piece, own_pieces, field_shared, members_pieces, class_piece, Placed}
+use Rattle.ix_tree.specs.Placed.{Layout, nothing, node, copy, LaidOut, followed, row, maybe, annot_piece, type_piece, name_piece, params_pieces, parent_pieces, stmt_piece, own_pieces, field_shared, members_pieces, class_piece, Placed}
 use Rattle.ix_meaning.specs.Listed.{same_span}
 use Rattle.ix_meaning.specs.Limits.{methods_of, all_methods}
 use Rattle.ix_formed.specs.Additions.{AllOf}
@@ -23,7 +20,7 @@ use Rattle.ix_formed.specs.Readable.{is_readable, is_readable_member, is_readabl
 use Rattle.ix_formed.specs.Weights.{total}
 use Rattle.ix_formed.specs.Written.{each_true}
 use Rattle.ix_formed.proofs.ExpressionNotes.{total_append}
-use Rattle.ix_formed.proofs.LayoutSpans.{laid_parts}
+use Rattle.ix_formed.proofs.LayoutSpans.{laid_up, laid_parts}
 use Rattle.ix_formed.proofs.NumberLists.{both_true, is_itself, all_joined, all_split}
 
 -- ---- parts
@@ -50,7 +47,7 @@ all_among before [] short = tt
 all_among before (part ∷ rest) short =
     (one_among before part rest short.0, subst (λ (l : List Part). AllOf (IsAmong l) rest) (append_assoc before (part ∷ []) rest) (all_among (before ++ part ∷ []) rest short.1))
 
-each_is_map : {A : Type 0} (f : A → List Part) (xs : List A) → each f xs ≡ map f xs
+pub each_is_map : {A : Type 0} (f : A → List Part) (xs : List A) → each f xs ≡ map f xs
 each_is_map f [] = refl
 each_is_map f (x ∷ xs) = ap (λ (l : List (List Part)). f x ∷ l) (each_is_map f xs)
 
@@ -69,35 +66,49 @@ behind_row : (start lo hi : ℕ) (xs ys : List Layout) → LaidOut start lo hi (
 behind_row start lo hi xs ys laid =
     let r = laid_parts start lo hi (row xs) (row ys) (subst (LaidOut start lo hi) (row_joined xs ys) laid) in (r.0, r.2)
 
+-- and where the first part stands
+both_rows : (start lo hi : ℕ) (xs ys : List Layout) → LaidOut start lo hi (row (xs ++ ys)) → (mid : ℕ) × LaidOut start lo mid (row xs) × LaidOut start mid hi (row ys)
+both_rows start lo hi xs ys laid = laid_parts start lo hi (row xs) (row ys) (subst (LaidOut start lo hi) (row_joined xs ys) laid)
+
 -- ---- methods
 
 -- What is so of each method of a source.
 pub record IsSound (all : List Part) (d : MethodDecl) : Type 0 where
   pub few : length d.params ≤ 32
   pub from : ℕ
+  -- the arguments for the parent's constructor, and behind them the statements
+  pub args_from : ℕ
+  pub within : d.span.from ≤ args_from
+  pub args_laid : LaidOut d.span.from args_from from (row (parent_pieces d.parent_args))
+  pub args_among : AllOf (IsAmong all) (parts.maybe args_parts d.parent_args)
   pub laid : LaidOut d.span.from from d.span.to (row (map stmt_piece d.body))
   pub among : AllOf (IsAmong all) (together (map stmt_parts d.body))
   pub readable : is_readable_method d ≡ true
 
 statements_laid : (d : MethodDecl) → LaidOut d.span.from d.span.from d.span.to (row (map annot_piece d.mods.annots ++ (maybe type_piece d.result ++ name_piece d.name ∷ (params_pieces d.params ++ (parent_pieces d.parent_args ++ map stmt_piece d.body)))))
-    → (from : ℕ) × LaidOut d.span.from from d.span.to (row (map stmt_piece d.body))
+    → (args_from : ℕ) × (from : ℕ) × (d.span.from ≤ args_from) × LaidOut d.span.from args_from from (row (parent_pieces d.parent_args)) × LaidOut d.span.from from d.span.to (row (map stmt_piece d.body))
 statements_laid d laid =
     let start = d.span.from in
     let end = d.span.to in
-    let a = behind_row start start end (map annot_piece d.mods.annots) (maybe type_piece d.result ++ name_piece d.name ∷ (params_pieces d.params ++ (parent_pieces d.parent_args ++ map stmt_piece d.body))) laid in
-    let b = behind_row start a.0 end (maybe type_piece d.result) (name_piece d.name ∷ (params_pieces d.params ++ (parent_pieces d.parent_args ++ map stmt_piece d.body))) a.1 in
-    let c = behind_row start b.0 end (name_piece d.name ∷ []) (params_pieces d.params ++ (parent_pieces d.parent_args ++ map stmt_piece d.body)) b.1 in
-    let e = behind_row start c.0 end (params_pieces d.params) (parent_pieces d.parent_args ++ map stmt_piece d.body) c.1 in
-    behind_row start e.0 end (parent_pieces d.parent_args) (map stmt_piece d.body) e.1
+    let a = both_rows start start end (map annot_piece d.mods.annots) (maybe type_piece d.result ++ name_piece d.name ∷ (params_pieces d.params ++ (parent_pieces d.parent_args ++ map stmt_piece d.body))) laid in
+    let b = both_rows start a.0 end (maybe type_piece d.result) (name_piece d.name ∷ (params_pieces d.params ++ (parent_pieces d.parent_args ++ map stmt_piece d.body))) a.2 in
+    let c = both_rows start b.0 end (name_piece d.name ∷ []) (params_pieces d.params ++ (parent_pieces d.parent_args ++ map stmt_piece d.body)) b.2 in
+    let e = both_rows start c.0 end (params_pieces d.params) (parent_pieces d.parent_args ++ map stmt_piece d.body) c.2 in
+    let f = both_rows start e.0 end (parent_pieces d.parent_args) (map stmt_piece d.body) e.2 in
+    let up_a = laid_up start start a.0 (row (map annot_piece d.mods.annots)) a.1 in
+    let up_b = laid_up start a.0 b.0 (row (maybe type_piece d.result)) b.1 in
+    let up_c = laid_up start b.0 c.0 (row (name_piece d.name ∷ [])) c.1 in
+    let up_e = laid_up start c.0 e.0 (row (params_pieces d.params)) e.1 in
+    (e.0, f.0, omega (arith, up_a, up_b, up_c, up_e), f.1, f.2)
 
-statements_among : (P : Part → Type 0) (d : MethodDecl) → AllOf P (method_parts d) → AllOf P (together (map stmt_parts d.body))
+statements_among : (P : Part → Type 0) (d : MethodDecl) → AllOf P (method_parts d) → AllOf P (parts.maybe args_parts d.parent_args) × AllOf P (together (map stmt_parts d.body))
 statements_among P d all =
     let last = parts.maybe args_parts d.parent_args ++ listed (each stmt_parts d.body) in
     let a = (all_split P (mods_parts d.mods) (parts.maybe type_parts d.result ++ elsewhere d.name ∷ (listed (each decl_parts d.params) ++ last)) all.1).1 in
     let b = (all_split P (parts.maybe type_parts d.result) (elsewhere d.name ∷ (listed (each decl_parts d.params) ++ last)) a).1 in
     let c = (all_split P (listed (each decl_parts d.params)) last b.1).1 in
-    let e = (all_split P (parts.maybe args_parts d.parent_args) (listed (each stmt_parts d.body)) c).1 in
-    subst (λ (l : List (List Part)). AllOf P (together l)) (each_is_map stmt_parts d.body) e.1
+    let e = all_split P (parts.maybe args_parts d.parent_args) (listed (each stmt_parts d.body)) c in
+    (e.0, subst (λ (l : List (List Part)). AllOf P (together l)) (each_is_map stmt_parts d.body) e.1.1)
 
 module _ (all : List Part) where
   members_sound : (before : Option Span) (start lo hi : ℕ) (ms : List Member) → AllOf (λ (d : MethodDecl). length d.params ≤ 32) (methods_of ms) → LaidOut start lo hi (row (members_pieces before ms))
@@ -110,8 +121,9 @@ module _ (all : List Part) where
   members_sound before start lo hi (member.Method d ∷ ms) few laid among readable =
       let own = all_split (IsAmong all) (method_parts d) (together (each member_parts ms)) among in
       let read = and_parts (is_readable_method d) (each_true is_readable_member ms) readable in
-      let at = statements_laid d laid.2 in (
-        record { few = few.0; from = at.0; laid = at.1; among = statements_among (IsAmong all) d own.0; readable = read.0 },
+      let at = statements_laid d laid.2 in
+      let among_d = statements_among (IsAmong all) d own.0 in (
+        record { few = few.0; from = at.1; args_from = at.0; within = at.2; args_laid = at.3; args_among = among_d.0; laid = at.4; among = among_d.1; readable = read.0 },
         members_sound None start d.span.to hi ms few.1 laid.3 own.1 read.1,
       )
 

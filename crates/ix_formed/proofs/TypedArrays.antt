@@ -1,23 +1,18 @@
 -- Cells and new arrays fit, as each place wants them.
-use Rattle.std.proofs.Common.{◌≡◌, ◌≤◌, ◌<◌, ℕ, zero, suc, ◌+◌, ◌-◌, Bool, true, false, List, [], ◌∷◌, ◌++◌, map, length, Option, Some, None, Ok, Err, refl, sym, ap, subst, ◌∙◌, arith, length-append}
-use Rattle.std.specs.Prelude.{if◌then◌else◌, ◌&&◌, ◌||◌, not, nat_lt, ◌==◌, is_some}
+use Rattle.std.proofs.Common.{◌≡◌, ◌≤◌, ◌<◌, ℕ, zero, suc, ◌+◌, ◌-◌, Bool, true, false, List, [], ◌∷◌, ◌++◌, length, Option, Some, None, refl, sym, ap, subst, ◌∙◌, arith, length-append}
+use Rattle.std.specs.Prelude.{if◌then◌else◌, ◌&&◌, not, nat_lt, ◌==◌, is_some}
 use Rattle.std.specs.List.{list_all}
 use Rattle.std.proofs.lemmas.Bool.{false≢true, and_parts}
 use Rattle.std.proofs.lemmas.Bool.Decides.{nat_tests}
 use Rattle.ix_text.specs.declared.span.Span.{Span}
-use Rattle.ix_core.specs.declared.claim.Base.{Base}
-use Rattle.ix_core.specs.declared.claim.Base.TheVariants as base
-use Rattle.ix_core.specs.declared.claim.Claim.{Claim}
 use Rattle.ix_core.specs.declared.claim.Type_.{Type_}
 use Rattle.ix_core.specs.declared.claim.Type_.TheVariants as type
 use Rattle.ix_core.specs.declared.op.OpKind.TheVariants as op
 use Rattle.ix_core.specs.declared.program.Program.{Program}
 use Rattle.ix_core.specs.Formed.{assigned, at_most, is_target, reads, are_entries}
-use Rattle.ix_core.specs.Types.{Point, int_type, cell_type, is_array_type, is_type, is_of, is_array, is_base, is_int_type, is_element_claim, is_empty}
+use Rattle.ix_core.specs.Types.{Point, int_type, cell_type, is_array_type, is_type, is_array, is_base, is_int_type, is_element_claim, is_empty}
 use Rattle.ix_tree.specs.declared.annot.TypeTree.{TypeTree}
 use Rattle.ix_tree.specs.Parts.{most_entries}
-use Rattle.ix_meaning.specs.declared.note.NameError.{NameError}
-use Rattle.ix_meaning.specs.declared.note.Note.TheVariants.{Wrong}
 use Rattle.ix_meaning.specs.declared.note.Rule.TheVariants as rule
 use Rattle.ix_meaning.specs.Annotated.{written, given, names_nothing}
 use Rattle.ix_core.specs.SameClaims.{distinct}
@@ -28,18 +23,18 @@ use Rattle.ix_meaning.specs.Values as reading
 use Rattle.ix_meaning.specs.Values.{Reading, KindReading, as_object, check, valued}
 use Rattle.ix_plain.specs.declared.made.Made.{Made}
 use Rattle.ix_plain.specs.declared.made.Spot.TheVariants as spot
-use Rattle.ix_plain.specs.Scope.{Scope, type_at, type_in, or_void}
-use Rattle.ix_plain.specs.Parts.{Within, ◌>>=◌, Value, Target, computed, taking, done}
+use Rattle.ix_plain.specs.Scope.{type_at, or_void}
+use Rattle.ix_plain.specs.Parts.{computed, taking, done}
 use Rattle.ix_plain.specs.Values as values
 use Rattle.ix_plain.specs.Values.{Lowering, Filling, Entries}
 use Rattle.ix_formed.specs.Additions.{Makes, AllOf}
 use Rattle.ix_formed.specs.NoErrors.{Agrees}
-use Rattle.ix_formed.specs.Typed.{Steps, Runs, Gives, Holds, Setting, Told, IsSet, IsResult, Ready, Yields, SpotIs, Aims, Assigns, Fits, FitsTarget, Fills, FitsFilling}
+use Rattle.ix_formed.specs.Typed.{Steps, Gives, Holds, Setting, Told, IsSet, IsResult, Ready, Yields, SpotIs, Aims, Fits, FitsTarget, FitsFilling}
 use Rattle.ix_formed.proofs.EachMember.{type_known}
 use Rattle.ix_formed.proofs.NumberLists.{both_true, all_so, all_joined}
 use Rattle.ix_formed.proofs.PlainItems.{makes_more, makes_then}
-use Rattle.ix_formed.proofs.SameTypes.{of_int, real_result}
-use Rattle.ix_formed.proofs.TypedChecks.{parted, kept, noted, Tabled, Speaks, Checked, check_fits, computes_fits, lowering_at, reading_at}
+use Rattle.ix_formed.proofs.SameTypes.{real_result}
+use Rattle.ix_formed.proofs.TypedChecks.{parted, kept, noted, check_fits, computes_fits, lowering_at, reading_at}
 use Rattle.ix_formed.proofs.TypedNames.{new_target}
 use Rattle.ix_formed.proofs.TypedOperators.{int_checked}
 use Rattle.ix_formed.proofs.TypedSteps.{differs, steps_none, steps_both, then_value, value_after, op_given, reads_held, holds_on, holds_up, ready_on}

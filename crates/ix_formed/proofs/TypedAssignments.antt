@@ -1,17 +1,16 @@
 -- Assignments write values of their target's type, and give them.
-use Rattle.std.proofs.Common.{◌≡◌, ◌≤◌, ◌<◌, ℕ, ◌+◌, pos, Bool, true, false, List, [], ◌∷◌, ◌++◌, length, Option, Some, None, Ok, Err, refl, sym, ap, subst, ◌∙◌, arith}
-use Rattle.std.specs.Prelude.{if◌then◌else◌, ◌&&◌, ◌||◌, not, nat_lt, ◌==◌, unwrap_or}
-use Rattle.std.proofs.lemmas.Bool.{false≢true, and_parts}
+use Rattle.std.proofs.Common.{◌≡◌, ◌≤◌, ◌<◌, ℕ, ◌+◌, pos, Bool, true, false, [], ◌∷◌, length, Some, None, refl, sym, ap, subst, ◌∙◌, arith}
+use Rattle.std.specs.Prelude.{if◌then◌else◌, not, nat_lt, ◌==◌, unwrap_or}
+use Rattle.std.proofs.lemmas.Bool.{false≢true}
 use Rattle.std.proofs.lemmas.Bool.Decides.{nat_tests}
 use Rattle.ix_text.specs.declared.span.Span.{Span}
 use Rattle.ix_num.specs.declared.arith.Arith.{Arith}
 use Rattle.ix_num.specs.declared.arith.Arith.TheVariants.{Add, Sub}
 use Rattle.ix_core.specs.declared.claim.Type_.{Type_}
 use Rattle.ix_core.specs.declared.op.OpKind.TheVariants as op
-use Rattle.ix_core.specs.declared.program.Method.{Method}
-use Rattle.ix_core.specs.Formed.{assigned, at_most, is_there, is_slot, is_target, reads, variable_type, copy_fits, field_fits, may_be_written}
+use Rattle.ix_core.specs.Formed.{assigned, is_there, is_slot, reads, variable_type, copy_fits, field_fits, may_be_written}
 use Rattle.ix_core.specs.Tables.{field_at, param_slot}
-use Rattle.ix_core.specs.Types.{Point, int_type, class_type, cell_type, is_type, is_of, is_array}
+use Rattle.ix_core.specs.Types.{Point, int_type, class_type, cell_type, is_of, is_array}
 use Rattle.ix_core.proofs.Cases.{by_test, equal}
 use Rattle.ix_meaning.specs.declared.note.Rule.TheVariants as rule
 use Rattle.ix_meaning.specs.Rules as rules
@@ -22,17 +21,17 @@ use Rattle.ix_meaning.specs.Values.{Reading, KindReading, check, valued}
 use Rattle.ix_plain.specs.declared.made.Made.{Made}
 use Rattle.ix_plain.specs.declared.made.Spot.{Spot}
 use Rattle.ix_plain.specs.declared.made.Spot.TheVariants as spot
-use Rattle.ix_plain.specs.Scope.{Scope, type_at, or_void, is_among}
-use Rattle.ix_plain.specs.Parts.{Within, ◌>>=◌, Value, Target, with_item, in_place, computed, read, write}
+use Rattle.ix_plain.specs.Scope.{type_at, or_void, is_among}
+use Rattle.ix_plain.specs.Parts.{◌>>=◌, Value, Target, with_item, in_place, computed, read, write}
 use Rattle.ix_plain.specs.Values as values
 use Rattle.ix_plain.specs.Values.{Lowering, int_value}
 use Rattle.ix_formed.specs.Additions.{Makes}
 use Rattle.ix_formed.specs.Points.{Known, Keeps}
-use Rattle.ix_formed.specs.Typed.{Steps, Runs, Gives, Holds, Setting, Told, IsSet, IsSlotOf, IsResult, Ready, Yields, SpotIs, Aims, Assigns, Fits, FitsTarget}
+use Rattle.ix_formed.specs.Typed.{Steps, Gives, Holds, Setting, Told, IsSet, Ready, Yields, SpotIs, Aims, Assigns, Fits, FitsTarget}
 use Rattle.ix_formed.proofs.NumberLists.{both_true}
-use Rattle.ix_formed.proofs.PlainItems.{makes_more, makes_then}
+use Rattle.ix_formed.proofs.PlainItems.{makes_then}
 use Rattle.ix_formed.proofs.SameTypes.{of_int, real_result}
-use Rattle.ix_formed.proofs.TypedChecks.{parted, kept, Tabled, Speaks, Checked, check_fits, computes_fits, lowering_at, reading_at}
+use Rattle.ix_formed.proofs.TypedChecks.{parted, kept, Checked, check_fits, computes_fits, lowering_at, reading_at}
 use Rattle.ix_formed.proofs.TypedNames.{there_is, int_yields, field_yields, copied}
 use Rattle.ix_formed.proofs.TypedArrays.{load_yields}
 use Rattle.ix_formed.proofs.TypedOperators.{int_checked, num_yields}

@@ -1,5 +1,5 @@
 -- Blocks of their own, choices and loops.
-use Rattle.std.proofs.Common.{◌≡◌, ◌≤◌, ◌<◌, ℕ, zero, suc, ◌+◌, max, Bool, true, false, List, [], ◌∷◌, ◌++◌, length, map, Option, Some, None, Ok, Err, refl, sym, ap, subst, ◌∙◌, arith, append_assoc, length-append}
+use Rattle.std.proofs.Common.{◌≡◌, ◌≤◌, ◌<◌, ℕ, zero, suc, ◌+◌, Bool, true, false, List, [], ◌∷◌, ◌++◌, length, Option, Some, None, refl, sym, ap, subst, ◌∙◌, arith}
 use Rattle.std.specs.Prelude.{if◌then◌else◌, ◌&&◌, not, nat_lt}
 use Rattle.std.proofs.lemmas.Bool.{false≢true, and_parts}
 use Rattle.std.proofs.lemmas.Bool.Decides.{nat_tests}
@@ -11,20 +11,20 @@ use Rattle.ix_core.specs.declared.code.Cond.{Cond}
 use Rattle.ix_core.specs.declared.code.Item.{Item}
 use Rattle.ix_core.specs.declared.code.Item.TheVariants as item
 use Rattle.ix_core.specs.declared.program.Local.{Local}
-use Rattle.ix_core.specs.Code.{Code, End, If, Loop, Condition, block_code, items_code, cond_code}
+use Rattle.ix_core.specs.Code.{Code, End, block_code, items_code, cond_code}
 use Rattle.ix_core.specs.Formed.{Ways, Answers, if_ways, loop_ways, body_start, is_straight, is_straight_condition, condition_ways}
-use Rattle.ix_core.specs.Types.{Point, Types, meeting, keeps_types, point_below, says, says_below, same_type, types_below}
+use Rattle.ix_core.specs.Types.{Point, meeting, keeps_types, point_below, says, says_below}
 use Rattle.ix_core.proofs.Translated.{item_code-If, item_code-Loop}
 use Rattle.ix_tree.specs.Parts.{Part}
-use Rattle.ix_tree.specs.Placed.{Layout, nothing, node, LaidOut}
+use Rattle.ix_tree.specs.Placed.{Layout, LaidOut}
 use Rattle.ix_meaning.specs.Bodies.{Telling, after}
 use Rattle.ix_meaning.specs.Scope.{Scope as Names}
 use Rattle.ix_plain.specs.declared.body.Body.{Body}
 use Rattle.ix_plain.specs.declared.made.Made.{Made}
-use Rattle.ix_plain.specs.Parts.{◌>>=◌, Within as Made_, empty, block}
-use Rattle.ix_plain.specs.Statements.{Running, Inside, with_last, inside, branch}
+use Rattle.ix_plain.specs.Parts.{empty, block}
+use Rattle.ix_plain.specs.Statements.{Running, Inside, with_last, branch}
 use Rattle.ix_formed.specs.Additions.{Makes, AllOf, code_before}
-use Rattle.ix_formed.specs.Points.{Known, Keeps, Decides}
+use Rattle.ix_formed.specs.Points.{Keeps, Decides}
 use Rattle.ix_formed.specs.Readable.{Statement, is_part}
 use Rattle.ix_formed.specs.TypedParts.{until, IsStatement}
 use Rattle.ix_formed.specs.TypedStatements.{Ground, IsGround, Says, IsKnown, Begins, IsDeclared, DoFit, Scoped, Stands, ways, Passes, Leaves, Adds, Tells}

@@ -1,7 +1,7 @@
 -- Calls and creations of objects fit, as each place wants them.
-use Rattle.std.proofs.Common.{◌≡◌, ◌≤◌, ◌<◌, ℕ, zero, suc, ◌+◌, Bool, true, false, List, [], ◌∷◌, ◌++◌, map, length, drop, Option, Some, None, Ok, Err, refl, sym, ap, subst, ◌∙◌, arith, append_assoc}
-use Rattle.std.specs.Prelude.{if◌then◌else◌, ◌&&◌, ◌||◌, not, nat_lt, ◌==◌}
-use Rattle.std.proofs.lemmas.Bool.{false≢true, and_parts}
+use Rattle.std.proofs.Common.{◌≡◌, ◌≤◌, ◌<◌, ℕ, Bool, true, false, List, [], ◌∷◌, ◌++◌, map, length, Option, Some, None, refl, sym, ap, subst, ◌∙◌, arith, append_assoc}
+use Rattle.std.specs.Prelude.{if◌then◌else◌, ◌&&◌, ◌||◌, not, ◌==◌}
+use Rattle.std.proofs.lemmas.Bool.{false≢true}
 use Rattle.std.proofs.lemmas.Bool.Decides.{nat_tests}
 use Rattle.ix_text.specs.declared.span.Span.{Span}
 use Rattle.ix_core.specs.declared.claim.Base.TheVariants as base
@@ -11,38 +11,33 @@ use Rattle.ix_core.specs.declared.code.Item.TheVariants as item
 use Rattle.ix_core.specs.declared.op.Arg.{Arg}
 use Rattle.ix_core.specs.declared.op.CallOp.{CallOp}
 use Rattle.ix_core.specs.declared.op.Op.{Op}
-use Rattle.ix_core.specs.declared.op.OpKind.{OpKind}
 use Rattle.ix_core.specs.declared.op.OpKind.TheVariants as op
-use Rattle.ix_core.specs.Formed.{assigned, is_there, is_target, is_argument, is_super_call, is_some_of, args_fit, call_fits, receiver_fits, new_fits, static_fits, instance_fits, op_fits, op_types, reads}
+use Rattle.ix_core.specs.Formed.{assigned, is_there, is_target, is_argument, is_super_call, args_fit, call_fits, receiver_fits, new_fits, static_fits, instance_fits, op_fits, op_types, reads}
 use Rattle.ix_core.specs.Tables.{method_at}
-use Rattle.ix_core.specs.Types.{Point, class_type, is_void, is_type, is_of, is_class, is_below, is_reference_type}
+use Rattle.ix_core.specs.Types.{Point, class_type, is_void, is_type, is_class, is_below}
 use Rattle.ix_core.proofs.Cases.{equal}
 use Rattle.ix_tree.specs.declared.annot.Ident.{Ident}
 use Rattle.ix_tree.specs.Parts.{elsewhere}
-use Rattle.ix_meaning.specs.declared.note.Meaning.{Meaning}
-use Rattle.ix_meaning.specs.declared.note.Meaning.TheVariants as meaning
 use Rattle.ix_meaning.specs.declared.note.Rule.TheVariants as rule
 use Rattle.ix_meaning.specs.Members.{Callee, method_named, constructor_params}
 use Rattle.ix_meaning.specs.Rules as rules
 use Rattle.ix_meaning.specs.Types.{of}
 use Rattle.ix_meaning.specs.Values as reading
 use Rattle.ix_meaning.specs.Values.{Reading, KindReading, Object, no_object, of_class, value, check, valued}
-use Rattle.ix_plain.specs.declared.body.Head.{Head}
 use Rattle.ix_plain.specs.declared.made.Made.{Made}
-use Rattle.ix_plain.specs.Scope.{Scope, meaning_at, type_at, or_void, class_of, head_at, constructor_at}
-use Rattle.ix_plain.specs.Parts.{Within, ◌>>=◌, Value, in_place, taking, computed}
+use Rattle.ix_plain.specs.Scope.{Scope, meaning_at, or_void, class_of, head_at, constructor_at}
+use Rattle.ix_plain.specs.Parts.{Within, ◌>>=◌, Value, taking}
 use Rattle.ix_plain.specs.Values as values
 use Rattle.ix_plain.specs.Values.{Lowering, Arguments}
 use Rattle.ix_formed.specs.Additions.{Makes, AllOf}
-use Rattle.ix_formed.specs.Points.{Known, Keeps}
-use Rattle.ix_formed.specs.Typed.{Steps, Runs, Gives, Holds, Setting, Told, IsHere, IsSet, IsResult, TakesTypes, MethodIs, ConstructorIs, Ready, Yields, ReceiverIs, Fits}
+use Rattle.ix_formed.specs.Points.{Keeps}
+use Rattle.ix_formed.specs.Typed.{Steps, Runs, Gives, Holds, Setting, Told, IsHere, IsSet, TakesTypes, MethodIs, ConstructorIs, Ready, Yields, ReceiverIs, Fits}
 use Rattle.ix_formed.proofs.NumberLists.{both_true, is_itself}
 use Rattle.ix_formed.proofs.PlainItems.{makes_more, makes_then}
-use Rattle.ix_formed.proofs.SameTypes.{real_result}
-use Rattle.ix_formed.proofs.TypedChecks.{parted, kept, unbroken, Tabled, Speaks, Checked, check_fits, computes_fits, lowering_at, reading_at}
+use Rattle.ix_formed.proofs.TypedChecks.{parted, kept, unbroken, Speaks, check_fits, computes_fits, lowering_at, reading_at}
 use Rattle.ix_formed.proofs.TypedNames.{new_target, there_is, this_held}
-use Rattle.ix_formed.proofs.TypedPoints.{keeps_none, assigned_known, new_keeps}
-use Rattle.ix_formed.proofs.TypedSteps.{differs, steps_none, steps_both, value_after, value_in_place, op_leads_to, op_given, new_apart, this_apart, reads_held, holds_on, holds_up, ready_on}
+use Rattle.ix_formed.proofs.TypedPoints.{keeps_none}
+use Rattle.ix_formed.proofs.TypedSteps.{steps_none, steps_both, value_after, value_in_place, op_leads_to, op_given, new_apart, this_apart, reads_held, holds_on, holds_up, ready_on}
 
 pub both_false : (a b : Bool) → a ≡ false → b ≡ false → (a || b) ≡ false
 both_false a b x y = ap (λ a. a || b) x ∙ y
@@ -151,7 +146,7 @@ module _ (z : Setting) (set : IsSet z) where
 
   module _ (ls : List Lowering) (rs : List Reading) (all : AllFits ls rs) where
     -- the arguments of a call of a method that takes these
-    given_args : (number : ℕ) (params : List (Option Type_)) → TakesTypes z.program z.scope.site number params → (span : Span) → Told z (reading.given_to z.names rs params span) → (made : Made) (point : Point) → Ready z made point
+    pub given_args : (number : ℕ) (params : List (Option Type_)) → TakesTypes z.program z.scope.site number params → (span : Span) → Told z (reading.given_to z.names rs params span) → (made : Made) (point : Point) → Ready z made point
         → Makes (ArgsGive made point (method_at z.program number).param_types) (values.arguments_from [] ls z.scope made)
     given_args number params takes span said made point ready =
         let q = parted z (rules.wrong_arguments (length rs) (length params) span) (reading.arguments z.names rs params) said in

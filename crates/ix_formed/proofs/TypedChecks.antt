@@ -1,22 +1,18 @@
 -- What stands at a place that needs a type gives a value of it; and how the two makers of lowering fit.
 use Rattle.std.proofs.Common.{◌≡◌, ◌≤◌, ◌<◌, ℕ, ◌+◌, Bool, true, false, List, [], ◌∷◌, ◌++◌, Option, Some, None, Ok, Err, refl, sym, ap, subst, ◌∙◌, arith}
-use Rattle.std.specs.Prelude.{if◌then◌else◌, ◌&&◌, ◌||◌, not, nat_lt, length, ◌==◌}
-use Rattle.std.proofs.lemmas.Bool.{false≢true, and_parts}
-use Rattle.std.proofs.lemmas.List.{append-nil}
+use Rattle.std.specs.Prelude.{if◌then◌else◌, ◌&&◌, not, nat_lt}
+use Rattle.std.proofs.lemmas.Bool.{false≢true}
 use Rattle.ix_text.specs.declared.span.Span.{Span}
 use Rattle.ix_core.specs.declared.claim.Type_.{Type_}
 use Rattle.ix_core.specs.declared.code.Block.{Block}
-use Rattle.ix_core.specs.declared.code.Cond.{Cond}
-use Rattle.ix_core.specs.declared.code.Cond.TheVariants as cond
-use Rattle.ix_core.specs.declared.code.Item.{Item}
 use Rattle.ix_core.specs.declared.code.Item.TheVariants as item
 use Rattle.ix_core.specs.declared.op.Literal.TheVariants as literal
 use Rattle.ix_core.specs.declared.op.Op.{Op}
 use Rattle.ix_core.specs.declared.op.OpKind.TheVariants as op
 use Rattle.ix_core.specs.declared.program.Method.{Method}
 use Rattle.ix_core.specs.declared.program.Program.{Program}
-use Rattle.ix_core.specs.Code.{Code, End, If, Condition, block_code, items_code, cond_code}
-use Rattle.ix_core.specs.Formed.{Ways, Answers, also, beside, assigned, code_ways, condition_ways, is_straight, is_straight_condition, is_target, reads, super_calls_in}
+use Rattle.ix_core.specs.Code.{End, block_code, items_code, cond_code}
+use Rattle.ix_core.specs.Formed.{Ways, also, beside, assigned, code_ways, condition_ways, is_straight, is_straight_condition, reads, super_calls_in}
 use Rattle.ix_core.specs.Tables.{param_slots}
 use Rattle.ix_core.specs.Types.{Point, bool_type, meeting, is_type, is_of, is_reference_type}
 use Rattle.ix_core.proofs.Translated.{item_code-If, cond_code-Truth}
@@ -28,23 +24,23 @@ use Rattle.ix_meaning.specs.declared.note.Rule.TheVariants as rule
 use Rattle.ix_meaning.specs.declared.note.Which.TheVariants as which
 use Rattle.ix_meaning.specs.Rules as rules
 use Rattle.ix_meaning.specs.Scope.{Scope as Names}
-use Rattle.ix_meaning.specs.Types.{Need, Judged, judged, of, typed, type_note, wrong_if, fits, is_reference}
+use Rattle.ix_meaning.specs.Types.{Judged, of, typed, type_note, wrong_if, fits, is_reference}
 use Rattle.ix_meaning.specs.Values as values
 use Rattle.ix_meaning.specs.Values.{Reading, KindReading, Object, no_object, of_class, value, Received, check, fitted, null_at, as_object, object_for, object_notes, no_reference, valued, valued_and_assigned}
 use Rattle.ix_plain.specs.declared.made.Made.{Made}
 use Rattle.ix_plain.specs.Scope.{Scope, is_among}
-use Rattle.ix_plain.specs.Parts.{Within, ◌>>=◌, Value, Asked, empty, block, done, taking, truth_item, truth_value, truth_of, most_slots}
+use Rattle.ix_plain.specs.Parts.{Within, ◌>>=◌, Value, Asked, empty, block, truth_item, truth_value, truth_of, most_slots}
 use Rattle.ix_plain.specs.Values.{Lowering, computes, asks, asked_value, without_value}
-use Rattle.ix_formed.specs.Additions.{Makes, AllOf, IsPlain, IsPlainCondition}
+use Rattle.ix_formed.specs.Additions.{Makes, IsPlain}
 use Rattle.ix_formed.specs.NoErrors.{Agrees}
-use Rattle.ix_formed.specs.Points.{Known, Keeps, Leads, Decides}
-use Rattle.ix_formed.specs.Typed.{Steps, Runs, Gives, Holds, Tests, Setting, Told, IsSet, IsResult, Stands, Ready, Yields, Judges, ReceiverIs, Fits, FitsTarget, Assigns}
+use Rattle.ix_formed.specs.Points.{Keeps, Leads, Decides}
+use Rattle.ix_formed.specs.Typed.{Steps, Runs, Gives, Tests, Setting, Told, IsSet, IsResult, Stands, Ready, Yields, Judges, ReceiverIs, Fits}
 use Rattle.ix_formed.proofs.EachMember.{said_parts, not_broken}
 use Rattle.ix_formed.proofs.NumberLists.{both_true}
-use Rattle.ix_formed.proofs.PlainItems.{makes_more, makes_then, plain_block, plain_supers, plain_truth, items_before}
-use Rattle.ix_formed.proofs.SameTypes.{of_bool, fits_real, reference_real, real_result, reference_is}
+use Rattle.ix_formed.proofs.PlainItems.{makes_then, plain_block, plain_supers, plain_truth, items_before}
+use Rattle.ix_formed.proofs.SameTypes.{of_bool, fits_real, reference_real, reference_is}
 use Rattle.ix_formed.proofs.TypedPoints.{keeps_both, assigned_known, new_keeps, meeting_known, meeting_keeps}
-use Rattle.ix_formed.proofs.TypedSteps.{target_is, reads_held, ready_on, new_apart}
+use Rattle.ix_formed.proofs.TypedSteps.{target_is, reads_held, new_apart}
 
 some_is : {A : Type 0} (x y : A) → ◌≡◌ {A = Option A} (Some x) (Some y) → x ≡ y
 some_is x y e = cc

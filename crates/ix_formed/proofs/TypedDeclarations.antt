@@ -1,35 +1,29 @@
 -- Declarations of locals.
-use Rattle.std.proofs.Common.{◌≡◌, ◌≤◌, ◌<◌, ℕ, zero, suc, ◌+◌, max, Bool, true, false, List, [], ◌∷◌, ◌++◌, length, Option, Some, None, Ok, Err, refl, sym, ap, subst, ◌∙◌, arith, length-append}
-use Rattle.std.specs.Prelude.{if◌then◌else◌, ◌&&◌, not, nat_lt, ◌==◌, slice_get, unwrap_or}
-use Rattle.std.proofs.lemmas.Bool.{false≢true, and_parts}
+use Rattle.std.proofs.Common.{◌≡◌, ◌≤◌, ◌<◌, ℕ, ◌+◌, true, false, List, [], ◌∷◌, ◌++◌, length, Some, None, refl, sym, ap, subst, ◌∙◌, arith, length-append}
+use Rattle.std.specs.Prelude.{if◌then◌else◌, ◌&&◌, not, nat_lt, ◌==◌, unwrap_or}
+use Rattle.std.proofs.lemmas.Bool.{false≢true}
 use Rattle.std.proofs.lemmas.Bool.Decides.{nat_tests}
 use Rattle.ix_text.specs.declared.span.Span.{Span}
 use Rattle.ix_core.specs.declared.claim.Base.TheVariants as base
 use Rattle.ix_core.specs.declared.claim.Type_.{Type_}
 use Rattle.ix_core.specs.declared.claim.Type_.TheVariants as type
-use Rattle.ix_core.specs.declared.code.Item.{Item}
 use Rattle.ix_core.specs.declared.code.Item.TheVariants as item
-use Rattle.ix_core.specs.declared.op.Literal.TheVariants as literal
 use Rattle.ix_core.specs.declared.op.Op.{Op}
 use Rattle.ix_core.specs.declared.op.OpKind.TheVariants as op
 use Rattle.ix_core.specs.declared.program.Local.{Local}
-use Rattle.ix_core.specs.Formed.{at_most, assigned, first_type, local_type_from, param_type_from, starts_within, op_fits, op_types, copy_fits, variable_type, literal_fits, literal_type, is_slot, is_target, reads}
-use Rattle.ix_core.specs.Tables.{param_slot, param_slots}
-use Rattle.ix_core.specs.Types.{Point, is_type, is_of, is_reference_type}
+use Rattle.ix_core.specs.Formed.{at_most, assigned, first_type, local_type_from, param_type_from, starts_within, op_fits, op_types, copy_fits, variable_type, literal_fits, literal_type, is_slot, reads}
+use Rattle.ix_core.specs.Tables.{param_slot}
+use Rattle.ix_core.specs.Types.{Point, is_type, is_of}
 use Rattle.ix_meaning.specs.declared.note.Meaning.TheVariants as meaning
 use Rattle.ix_meaning.specs.Scope.{Known as Variable, Scope as Names}
-use Rattle.ix_plain.specs.declared.body.Body.{Body}
-use Rattle.ix_plain.specs.declared.made.Made.{Made}
-use Rattle.ix_plain.specs.Parts.{with_item, default}
+use Rattle.ix_plain.specs.Parts.{default}
 use Rattle.ix_plain.specs.Scope.{slot_of}
-use Rattle.ix_formed.specs.Additions.{Makes, AllOf}
+use Rattle.ix_formed.specs.Additions.{AllOf}
 use Rattle.ix_formed.specs.Points.{Known, Keeps, Leads}
-use Rattle.ix_formed.specs.Typed.{Steps, Holds}
 use Rattle.ix_formed.specs.TypedStatements.{Ground, IsGround, Within, type_in, scope_in, IsNamed, HasVariable, Scoped, Stands, Begins, IsDeclared}
-use Rattle.ix_formed.proofs.NumberLists.{both_true, is_itself, is_less, all_so, all_joined}
-use Rattle.ix_formed.proofs.ScopedLocals.{get_front, get_behind, first_is, first_none, locals_both, type_final, scoped_within, stands_more, has_first, type_more, variables_more}
-use Rattle.ix_formed.proofs.TypedPoints.{keeps_none, keeps_both, assigned_known, assigned_keeps, new_keeps, op_leads, reads_known}
-use Rattle.ix_formed.proofs.TypedSteps.{target_is}
+use Rattle.ix_formed.proofs.NumberLists.{both_true, is_itself, is_less, all_joined}
+use Rattle.ix_formed.proofs.ScopedLocals.{get_behind, first_none, locals_both, type_final, stands_more, has_first, variables_more}
+use Rattle.ix_formed.proofs.TypedPoints.{op_leads, reads_known}
 
 module _ (g : Ground) where
   -- ---- a new local

@@ -1,6 +1,5 @@
 -- The full expressions of statements.
-use Rattle.std.proofs.Common.{◌≡◌, ◌≤◌, ◌<◌, ℕ, ◌+◌, max, Bool, true, false, List, [], ◌∷◌, ◌++◌, length, Option, Some, None, Ok, Err, refl, sym, ap, subst, ◌∙◌, arith}
-use Rattle.std.specs.Prelude.{if◌then◌else◌, ◌&&◌}
+use Rattle.std.proofs.Common.{◌≡◌, ◌≤◌, ◌<◌, ℕ, max, true, List, [], ◌∷◌, Some, refl, arith}
 use Rattle.ix_text.specs.declared.span.Span.{Span}
 use Rattle.ix_core.specs.declared.claim.Type_.{Type_}
 use Rattle.ix_core.specs.declared.program.Local.{Local}
@@ -8,18 +7,15 @@ use Rattle.ix_core.specs.Tables.{param_slot}
 use Rattle.ix_core.specs.Types.{Point, bool_type, is_type, is_of}
 use Rattle.ix_tree.specs.declared.expr.Expr.{Expr}
 use Rattle.ix_tree.specs.declared.expr.Init.{Init}
-use Rattle.ix_tree.specs.Parts.{Part, expr_parts, init_parts}
-use Rattle.ix_meaning.specs.Rules as rules
+use Rattle.ix_tree.specs.Parts.{expr_parts, init_parts}
 use Rattle.ix_meaning.specs.Scope.{Known as Variable, Scope as Names}
-use Rattle.ix_meaning.specs.Types as types
 use Rattle.ix_meaning.specs.Types.{of}
 use Rattle.ix_meaning.specs.Values as reading
 use Rattle.ix_meaning.specs.Values.{check}
 use Rattle.ix_plain.specs.declared.body.Body.{Body}
 use Rattle.ix_plain.specs.Assigned.{assigns, init_assigns}
-use Rattle.ix_plain.specs.Parts.{◌>>=◌, Value, Asked}
-use Rattle.ix_plain.specs.Scope.{Scope, slot_of}
-use Rattle.ix_plain.specs.Statements.{Evaluated, Tested, evaluated, init_evaluated, tested, behind, behind_value, scope_for, assigned_by}
+use Rattle.ix_plain.specs.Scope.{slot_of}
+use Rattle.ix_plain.specs.Statements.{Tested, evaluated, init_evaluated, tested, scope_for, assigned_by}
 use Rattle.ix_plain.specs.Values.{lowering, filling}
 use Rattle.ix_formed.specs.Additions.{Makes, AllOf, IsPlainCondition}
 use Rattle.ix_formed.specs.Points.{Keeps, Decides}
@@ -29,11 +25,10 @@ use Rattle.ix_formed.specs.Typed.{Tests, Setting, IsSet, IsResult, Fits, Fills}
 use Rattle.ix_formed.specs.TypedStatements.{Ground, IsGround, Says, IsKnown, Within, Scoped, Stands, Begins, scope_in}
 use Rattle.ix_formed.specs.Written.{is_written_expr, is_written_init}
 use Rattle.ix_formed.proofs.LayoutSpans.{PartIs}
-use Rattle.ix_formed.proofs.PlainItems.{makes_more, makes_then}
-use Rattle.ix_formed.proofs.ScopedLocals.{scoped_within}
-use Rattle.ix_formed.proofs.TypedChecks.{Checked, check_fits, condition_fits}
+use Rattle.ix_formed.proofs.PlainItems.{makes_then}
+use Rattle.ix_formed.proofs.TypedChecks.{check_fits, condition_fits}
 use Rattle.ix_formed.proofs.TypedItems.{Evaluates, value_evaluates}
-use Rattle.ix_formed.proofs.TypedSettings.{setting, setting_is, stands_is, fits_there, fills_there, kept, Apart, scope_with, InSpan}
+use Rattle.ix_formed.proofs.TypedSettings.{setting, setting_is, stands_is, fits_there, fills_there, kept, Apart}
 
 module _ (g : Ground) (ground : IsGround g) where
   -- An expression stands between two places, and is as the grammar has it.

@@ -1,16 +1,13 @@
 -- Every expression without errors on names becomes operations that fit, and gives a value of its type.
-use Rattle.std.proofs.Common.{◌≡◌, ◌≤◌, ◌<◌, ℕ, ◌+◌, Bool, true, false, List, [], ◌∷◌, ◌++◌, map, length, Option, Some, None, Ok, refl, sym, ap, subst, ◌∙◌, arith}
+use Rattle.std.proofs.Common.{◌≡◌, ◌≤◌, ℕ, Bool, true, false, List, [], ◌∷◌, ◌++◌, map, length, Option, Some, None, refl, sym, ap, subst, ◌∙◌, arith}
 use Rattle.std.specs.Prelude.{if◌then◌else◌, ◌&&◌, nat_lt}
 use Rattle.std.proofs.lemmas.Bool.{false≢true, and_parts}
 use Rattle.ix_text.specs.declared.span.Span.{Span}
 use Rattle.ix_num.specs.declared.arith.Arith.{Arith}
-use Rattle.ix_core.specs.declared.claim.Type_.{Type_}
-use Rattle.ix_core.specs.declared.code.Cond.TheVariants as cond
 use Rattle.ix_core.specs.declared.op.Literal.TheVariants as literal
 use Rattle.ix_core.specs.declared.op.OpKind.TheVariants as op
 use Rattle.ix_core.specs.Machine.{is_int}
-use Rattle.ix_core.specs.Types.{Point, int_type, bool_type, class_type, is_type, is_reference_type}
-use Rattle.ix_tree.specs.declared.annot.TypeTree.{TypeTree}
+use Rattle.ix_core.specs.Types.{int_type, bool_type, class_type, is_type, is_reference_type}
 use Rattle.ix_tree.specs.declared.expr.Expr.{Expr, Expr-F, ind-Expr, map-Expr, roll-Expr, fold-roll-Expr}
 use Rattle.ix_tree.specs.declared.expr.ExprKind.{ExprKind, ExprKind-F, map-ExprKind, roll-ExprKind, fold-ExprKind, fold-roll-ExprKind}
 use Rattle.ix_tree.specs.declared.expr.Init.{Init, Init-F, ind-Init, map-Init, roll-Init, fold-roll-Init}
@@ -20,21 +17,19 @@ use Rattle.ix_meaning.specs.Rules as rules
 use Rattle.ix_meaning.specs.Types as types
 use Rattle.ix_meaning.specs.Values as reading
 use Rattle.ix_meaning.specs.Values.{Reading, KindReading, valued}
-use Rattle.ix_plain.specs.declared.made.Made.{Made}
-use Rattle.ix_plain.specs.Scope.{Scope, type_at, or_void, is_among}
+use Rattle.ix_plain.specs.Scope.{type_at, or_void, is_among}
 use Rattle.ix_plain.specs.Assigned as assigned
 use Rattle.ix_plain.specs.Assigned.{Adding, Assigns, all, each, assigns, init_assigns, both}
-use Rattle.ix_plain.specs.Parts.{Within, Value, in_place, computed}
+use Rattle.ix_plain.specs.Parts.{in_place, computed}
 use Rattle.ix_plain.specs.Values as values
 use Rattle.ix_plain.specs.Values.{Lowering, Filling, lowering, filling}
 use Rattle.ix_formed.specs.Additions.{Makes, AllOf}
 use Rattle.ix_formed.specs.Readable as readable
 use Rattle.ix_formed.specs.Readable.{Shape, shape, is_readable_init, all_fine}
-use Rattle.ix_formed.specs.Typed.{Gives, Setting, Told, IsHere, IsSet, Ready, Yields, Tests, Fits, FitsTarget, FitsFilling}
+use Rattle.ix_formed.specs.Typed.{Gives, Setting, IsHere, IsSet, Fits, FitsTarget, FitsFilling}
 use Rattle.ix_formed.specs.Written as written
 use Rattle.ix_formed.specs.Written.{is_written_expr, is_written_init, all_true}
 use Rattle.ix_formed.proofs.AssignedVariables.{Appends, among_left, among_right, assigns_append, init_assigns_append, none_appends, both_append}
-use Rattle.ix_formed.proofs.SameTypes.{real_result}
 use Rattle.ix_formed.proofs.TypedArrays.{AllFit, element_fits, element_target, new_array_fits, new_items_fits, value_filling, items_filling}
 use Rattle.ix_formed.proofs.TypedAssignments.{assignment_fits, compound_fits, step_fits}
 use Rattle.ix_formed.proofs.TypedCalls.{AllFits, bare_fits, dot_fits, new_fits_too}

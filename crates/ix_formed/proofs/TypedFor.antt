@@ -1,14 +1,14 @@
 -- `for` and sequences of statements tell what they say.
-use Rattle.std.proofs.Common.{◌≡◌, ◌≤◌, ◌<◌, ℕ, ◌+◌, max, Bool, true, false, List, [], ◌∷◌, ◌++◌, length, map, Option, Some, None, Ok, Err, refl, sym, ap, subst, ◌∙◌, arith, append_assoc, length-append}
+use Rattle.std.proofs.Common.{◌≡◌, ◌≤◌, ◌<◌, ℕ, ◌+◌, max, Bool, true, false, List, [], ◌∷◌, ◌++◌, length, map, Option, Some, None, Ok, Err, refl, sym, ap, subst, ◌∙◌, arith, append_assoc}
 use Rattle.std.specs.Prelude.{if◌then◌else◌, ◌&&◌, nat_lt}
-use Rattle.std.proofs.lemmas.Bool.{false≢true, and_parts}
+use Rattle.std.proofs.lemmas.Bool.{and_parts}
 use Rattle.std.proofs.lemmas.List.{append-nil}
 use Rattle.ix_text.specs.declared.span.Span.{Span}
 use Rattle.ix_core.specs.declared.claim.Type_.{Type_}
 use Rattle.ix_core.specs.declared.code.Item.{Item}
 use Rattle.ix_core.specs.declared.code.Item.TheVariants as item
 use Rattle.ix_core.specs.declared.program.Local.{Local}
-use Rattle.ix_core.specs.Code.{Code, End, block_code, items_code, cond_code}
+use Rattle.ix_core.specs.Code.{block_code}
 use Rattle.ix_core.specs.Formed.{is_straight}
 use Rattle.ix_core.specs.Types.{Point, meeting, point_below}
 use Rattle.ix_tree.specs.declared.expr.Expr.{Expr}
@@ -22,26 +22,26 @@ use Rattle.ix_meaning.specs.Bodies.{Telling, after, then_told, noted_then, loope
 use Rattle.ix_meaning.specs.Scope.{Scope as Names}
 use Rattle.ix_plain.specs.declared.body.Body.{Body}
 use Rattle.ix_plain.specs.declared.made.Made.{Made}
-use Rattle.ix_plain.specs.Parts.{◌>>=◌, empty, block}
+use Rattle.ix_plain.specs.Parts.{◌>>=◌, empty}
 use Rattle.ix_plain.specs.Statements as statements
 use Rattle.ix_plain.specs.Statements.{Running, Inside, Tested, tested_if, with_last, with_free, branch, inside, all_ran, ran, evaluated, Evaluated, most_loops}
-use Rattle.ix_formed.specs.Additions.{Makes, AllOf, IsPlain, code_before}
+use Rattle.ix_formed.specs.Additions.{Makes, AllOf, IsPlain}
 use Rattle.ix_formed.specs.LocalTypes.{joined}
-use Rattle.ix_formed.specs.Points.{Known, Keeps, Leads, Decides}
-use Rattle.ix_formed.specs.Readable.{shape, Statement, is_part, each_fine, is_readable_expr}
+use Rattle.ix_formed.specs.Points.{Keeps, Leads}
+use Rattle.ix_formed.specs.Readable.{Statement, is_part, each_fine, is_readable_expr}
 use Rattle.ix_formed.specs.TypedParts.{IsStatement, until}
 use Rattle.ix_formed.specs.TypedStatements.{Ground, IsGround, Says, IsKnown, Scoped, Stands, Begins, IsDeclared, Passes, Leaves, Adds, Tells}
 use Rattle.ix_formed.specs.Written.{is_written_expr, maybe_true, each_true, all_true}
 use Rattle.ix_formed.proofs.LayoutSpans.{laid_parts, laid_up}
-use Rattle.ix_formed.proofs.NumberLists.{both_true, all_so}
+use Rattle.ix_formed.proofs.NumberLists.{all_so}
 use Rattle.ix_formed.proofs.PlainItems.{makes_more, makes_then, plain_none, plain_both, plain_block}
-use Rattle.ix_formed.proofs.ScopedLocals.{scoped_within, scoped_for, scoped_more, stands_for, stands_more, has_first, later_outside, ended_outside}
-use Rattle.ix_formed.proofs.TypedBlocks.{BlockFits, block_fits, Nests, closed_scope, closed_stands, below_keeps, loop_leaves, closed_adds, nest_adds}
-use Rattle.ix_formed.proofs.TypedEvaluations.{IsRead, value_judged}
+use Rattle.ix_formed.proofs.ScopedLocals.{scoped_within, scoped_for, scoped_more, stands_for, stands_more, has_first, later_outside}
+use Rattle.ix_formed.proofs.TypedBlocks.{BlockFits, block_fits, Nests, below_keeps, loop_leaves, closed_adds, nest_adds}
+use Rattle.ix_formed.proofs.TypedEvaluations.{value_judged}
 use Rattle.ix_formed.proofs.TypedExpressions.{all_parted}
-use Rattle.ix_formed.proofs.TypedForms.{parted, after_both, tells_both, tells_later, none_declared, closed_tells}
-use Rattle.ix_formed.proofs.TypedItems.{Evaluates, adds_none, adds_both, adds_as, leads_leave, none_passes, no_jump, begins_as, begins_middle, evaluated_adds}
-use Rattle.ix_formed.proofs.TypedLoops.{Asks, asks_if, read_there, scoped_same, stands_same, below_stands, keeps_stands, earlier, begins_back, nest_on, same_free, adds_from, adds_to}
+use Rattle.ix_formed.proofs.TypedForms.{parted, after_both, tells_both, none_declared, closed_tells}
+use Rattle.ix_formed.proofs.TypedItems.{Evaluates, adds_both, adds_as, leads_leave, none_passes, no_jump, begins_as}
+use Rattle.ix_formed.proofs.TypedLoops.{Asks, asks_if, read_there, below_stands, keeps_stands, earlier, begins_back, nest_on, same_free, adds_from, adds_to}
 use Rattle.ix_formed.proofs.TypedPoints.{keeps_none, keeps_both, meeting_keeps, leads_none, leads_both}
 
 module _ (g : Ground) (ground : IsGround g) where

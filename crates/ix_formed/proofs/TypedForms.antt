@@ -1,6 +1,6 @@
 -- Every form of statement tells what it says.
-use Rattle.std.proofs.Common.{◌≡◌, ◌≤◌, ◌<◌, ℕ, ◌+◌, max, Bool, true, false, List, [], ◌∷◌, ◌++◌, length, map, Option, Some, None, Ok, Err, refl, sym, ap, subst, ◌∙◌, arith, append_assoc, length-append}
-use Rattle.std.specs.Prelude.{if◌then◌else◌, ◌&&◌, ◌||◌, not, nat_lt, ◌==◌}
+use Rattle.std.proofs.Common.{◌≡◌, ◌≤◌, ◌<◌, ℕ, ◌+◌, Bool, true, false, List, [], ◌∷◌, ◌++◌, length, Option, Some, None, refl, sym, ap, subst, ◌∙◌, arith, append_assoc}
+use Rattle.std.specs.Prelude.{if◌then◌else◌, ◌||◌, not}
 use Rattle.std.proofs.lemmas.Bool.{false≢true, and_parts}
 use Rattle.std.proofs.lemmas.List.{append-nil}
 use Rattle.ix_text.specs.declared.span.Span.{Span}
@@ -9,11 +9,9 @@ use Rattle.ix_core.specs.declared.claim.Type_.{Type_}
 use Rattle.ix_core.specs.declared.claim.Type_.TheVariants as type
 use Rattle.ix_core.specs.declared.code.Item.{Item}
 use Rattle.ix_core.specs.declared.code.Item.TheVariants as item
-use Rattle.ix_core.specs.declared.op.Op.{Op}
 use Rattle.ix_core.specs.declared.op.OpKind.TheVariants as op
 use Rattle.ix_core.specs.declared.program.Local.{Local}
-use Rattle.ix_core.specs.Code.{Code}
-use Rattle.ix_core.specs.Formed.{Ways, is_printed, reads, op_fits, return_fits}
+use Rattle.ix_core.specs.Formed.{is_printed, reads, return_fits}
 use Rattle.ix_core.specs.Types.{Point, int_type, bool_type, meeting, is_type, is_of, is_void}
 use Rattle.ix_tree.specs.declared.decl.LocalDecl.{LocalDecl}
 use Rattle.ix_tree.specs.declared.expr.Expr.{Expr}
@@ -33,16 +31,14 @@ use Rattle.ix_meaning.specs.Types.{Need, never, printed, of, unknown}
 use Rattle.ix_meaning.specs.Values as reading
 use Rattle.ix_meaning.specs.Values.{Reading, check, fitted, null_at}
 use Rattle.ix_plain.specs.declared.body.Body.{Body}
-use Rattle.ix_plain.specs.declared.made.Made.{Made}
-use Rattle.ix_plain.specs.Parts.{◌>>=◌, done}
+use Rattle.ix_plain.specs.Parts.{done}
 use Rattle.ix_plain.specs.Statements as statements
 use Rattle.ix_plain.specs.Statements.{Evaluated, evaluated, with_last, used, ran}
 use Rattle.ix_formed.specs.Additions.{Makes, AllOf}
 use Rattle.ix_formed.specs.LocalTypes.{decl_types}
 use Rattle.ix_formed.specs.NoErrors.{Agrees}
 use Rattle.ix_formed.specs.Points.{Known, Keeps}
-use Rattle.ix_formed.specs.Readable.{shape, is_readable_init, is_readable_decl}
-use Rattle.ix_formed.specs.Typed.{Holds, IsResult}
+use Rattle.ix_formed.specs.Readable.{shape, is_readable_decl}
 use Rattle.ix_formed.specs.TypedStatements.{Ground, IsGround, Says, IsKnown, Scoped, Stands, Begins, IsDeclared, ways, Passes, Leaves, Adds, Tells}
 use Rattle.ix_formed.specs.Written.{is_written_expr, is_written_decl, is_written_type, is_written_init, maybe_true, each_true}
 use Rattle.ix_formed.proofs.EachMember.{said_parts, not_broken}
@@ -54,7 +50,7 @@ use Rattle.ix_formed.proofs.ScopedLocals.{scoped_within}
 use Rattle.ix_formed.proofs.TypedBlocks.{closed_scope, closed_stands}
 use Rattle.ix_formed.proofs.TypedEvaluations.{IsRead, value_checked, value_judged}
 use Rattle.ix_formed.proofs.TypedExpressions.{all_parted}
-use Rattle.ix_formed.proofs.TypedItems.{Evaluates, evaluated_adds, last_adds, adds_none, adds_both, adds_as, leads_leave, no_jump, none_passes, begins_as}
+use Rattle.ix_formed.proofs.TypedItems.{Evaluates, evaluated_adds, last_adds, adds_none, adds_both, adds_as, leads_leave, no_jump, none_passes}
 use Rattle.ix_formed.proofs.TypedLocals.{declaration_tells}
 use Rattle.ix_formed.proofs.TypedPoints.{keeps_none, meeting_keeps, reads_known, op_leads}
 

@@ -1,30 +1,26 @@
 -- What is added to a body, one behind the other, and what full expressions add.
-use Rattle.std.proofs.Common.{◌≡◌, ◌≤◌, ◌<◌, ℕ, ◌+◌, max, Bool, true, false, List, [], ◌∷◌, ◌++◌, length, Option, Some, None, Ok, Err, refl, sym, ap, subst, ◌∙◌, arith, append_assoc, length-append}
-use Rattle.std.specs.Prelude.{if◌then◌else◌, ◌&&◌, ◌==◌}
+use Rattle.std.proofs.Common.{◌≡◌, ◌≤◌, ◌<◌, ℕ, ◌+◌, max, Bool, true, false, List, [], ◌∷◌, ◌++◌, length, refl, sym, ap, subst, ◌∙◌, arith, append_assoc, length-append}
+use Rattle.std.specs.Prelude.{if◌then◌else◌, ◌==◌}
 use Rattle.std.proofs.lemmas.List.{append-nil}
 use Rattle.ix_text.specs.declared.span.Span.{Span}
 use Rattle.ix_core.specs.declared.claim.Type_.{Type_}
 use Rattle.ix_core.specs.declared.code.Item.{Item}
-use Rattle.ix_core.specs.declared.code.Item.TheVariants as item
-use Rattle.ix_core.specs.declared.op.Op.{Op}
 use Rattle.ix_core.specs.declared.program.Local.{Local}
-use Rattle.ix_core.specs.Code.{Code}
-use Rattle.ix_core.specs.Formed.{Ways, op_fits, op_types}
+use Rattle.ix_core.specs.Formed.{Ways}
 use Rattle.ix_core.specs.Types.{Point, is_type}
 use Rattle.ix_meaning.specs.Scope.{Scope as Names}
 use Rattle.ix_plain.specs.declared.body.Body.{Body}
-use Rattle.ix_plain.specs.declared.made.Made.{Made}
 use Rattle.ix_plain.specs.Scope.{is_among}
 use Rattle.ix_plain.specs.Parts.{Within as Made_, ◌>>=◌, Value}
 use Rattle.ix_plain.specs.Statements.{Evaluated, behind, behind_value, with_last}
-use Rattle.ix_formed.specs.Additions.{Makes, AllOf, IsPlain, code_before}
+use Rattle.ix_formed.specs.Additions.{Makes, IsPlain, code_before}
 use Rattle.ix_formed.specs.Points.{Keeps, Leads}
 use Rattle.ix_formed.specs.Typed.{Gives, Holds}
 use Rattle.ix_formed.specs.TypedStatements.{Ground, Begins, IsDeclared, DoFit, ways, Passes, Leaves, Adds}
 use Rattle.ix_formed.proofs.NumberLists.{all_so, all_joined}
 use Rattle.ix_formed.proofs.PlainItems.{before_append, makes_then}
 use Rattle.ix_formed.proofs.ScopedLocals.{begins_before}
-use Rattle.ix_formed.proofs.TypedPoints.{keeps_none, keeps_both, leads_both, op_leads}
+use Rattle.ix_formed.proofs.TypedPoints.{keeps_none, keeps_both}
 
 module _ (g : Ground) where
   -- ---- items

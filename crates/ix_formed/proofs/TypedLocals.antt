@@ -1,19 +1,15 @@
 -- A declaration of locals tells what it says.
-use Rattle.std.proofs.Common.{◌≡◌, ◌≤◌, ◌<◌, ℕ, zero, suc, ◌+◌, max, Bool, true, false, List, [], ◌∷◌, ◌++◌, length, Option, Some, None, Ok, Err, refl, sym, ap, subst, ◌∙◌, arith, append_assoc, length-append}
-use Rattle.std.specs.Prelude.{if◌then◌else◌, ◌&&◌, not, nat_lt, ◌==◌}
+use Rattle.std.proofs.Common.{◌≡◌, ◌≤◌, ◌<◌, ℕ, ◌+◌, max, Bool, true, false, List, [], ◌∷◌, ◌++◌, length, Option, Some, None, Ok, Err, refl, sym, ap, subst, ◌∙◌, arith, append_assoc, length-append}
+use Rattle.std.specs.Prelude.{if◌then◌else◌, not, nat_lt, ◌==◌}
 use Rattle.std.specs.List.{list_all}
-use Rattle.std.proofs.lemmas.Bool.{false≢true, and_parts}
-use Rattle.std.proofs.lemmas.Bool.Decides.{nat_tests}
 use Rattle.ix_text.specs.declared.span.Span.{Span}
 use Rattle.ix_core.specs.declared.claim.Name.TheVariants as name
 use Rattle.ix_core.specs.declared.claim.Type_.{Type_}
-use Rattle.ix_core.specs.declared.code.Item.{Item}
 use Rattle.ix_core.specs.declared.code.Item.TheVariants as item
 use Rattle.ix_core.specs.declared.op.Op.{Op}
 use Rattle.ix_core.specs.declared.op.OpKind.TheVariants as op
 use Rattle.ix_core.specs.declared.program.Local.{Local}
-use Rattle.ix_core.specs.Formed.{assigned, is_target, literal_fits, literal_type, op_fits, claim_fits, others, local_named_type}
-use Rattle.ix_core.specs.Tables.{param_slot, param_slots}
+use Rattle.ix_core.specs.Formed.{assigned, is_target, literal_fits, claim_fits, others, local_named_type}
 use Rattle.ix_core.specs.Types.{Point, is_type, is_of}
 use Rattle.ix_tree.specs.declared.decl.LocalDecl.{LocalDecl}
 use Rattle.ix_tree.specs.declared.expr.Init.{Init}
@@ -26,31 +22,29 @@ use Rattle.ix_meaning.specs.declared.note.NameError.{NameError}
 use Rattle.ix_meaning.specs.declared.note.Note.TheVariants.{Wrong}
 use Rattle.ix_meaning.specs.declared.note.Rule.TheVariants as rule
 use Rattle.ix_meaning.specs.Annotated.{written, element_claims, target_before}
-use Rattle.ix_meaning.specs.Bodies.{Telling, after, declared, local_known, local_declaration, declares_note, is_taken, init_notes, pending, own_names}
+use Rattle.ix_meaning.specs.Bodies.{after, declared, local_known, local_declaration, declares_note, is_taken, init_notes, pending}
 use Rattle.ix_meaning.specs.Rules.{duplicate_name}
 use Rattle.ix_meaning.specs.Scope.{Known as Variable, Scope as Names}
 use Rattle.ix_meaning.specs.Values as reading
 use Rattle.ix_plain.specs.declared.body.Body.{Body}
-use Rattle.ix_plain.specs.declared.made.Made.{Made}
 use Rattle.ix_plain.specs.declared.made.Spot.TheVariants as spot
 use Rattle.ix_meaning.specs.declared.note.Which.TheVariants as which
-use Rattle.ix_plain.specs.Parts.{◌>>=◌, Value, computed, taking, write, default, most_slots}
+use Rattle.ix_plain.specs.Parts.{◌>>=◌, computed, write, default, most_slots}
 use Rattle.ix_plain.specs.Scope.{is_among, slot_of, declared_type, declared_claims}
 use Rattle.ix_plain.specs.Statements as statements
 use Rattle.ix_plain.specs.Statements.{Evaluated, behind_value, init_evaluated, with_last, with_local}
 use Rattle.ix_plain.specs.Values.{filling}
 use Rattle.ix_formed.specs.Additions.{Makes, AllOf}
 use Rattle.ix_formed.specs.NoErrors.{Agrees}
-use Rattle.ix_formed.specs.Points.{Known, Keeps, Leads}
+use Rattle.ix_formed.specs.Points.{Keeps}
 use Rattle.ix_formed.specs.Readable.{is_readable_init}
-use Rattle.ix_formed.specs.Typed.{Gives, Holds}
-use Rattle.ix_formed.specs.TypedStatements.{Ground, IsGround, Says, IsKnown, Within, scope_in, HasVariable, Scoped, Stands, Begins, IsDeclared, DoFit, Adds, Tells}
-use Rattle.ix_formed.specs.Written.{is_written_type, is_written_init, is_written_decl, maybe_true}
+use Rattle.ix_formed.specs.Typed.{Gives}
+use Rattle.ix_formed.specs.TypedStatements.{Ground, IsGround, Says, IsKnown, Within, scope_in, HasVariable, Scoped, Stands, Begins, Tells}
+use Rattle.ix_formed.specs.Written.{is_written_type, is_written_init, maybe_true}
 use Rattle.ix_formed.proofs.EachMember.{said_parts, not_broken, type_known}
-use Rattle.ix_formed.proofs.LayoutSpans.{laid_parts, laid_up, init_spans, init_single}
+use Rattle.ix_formed.proofs.LayoutSpans.{laid_parts, init_spans, init_single}
 use Rattle.ix_formed.proofs.NumberLists.{both_true, is_itself, is_less}
-use Rattle.ix_formed.proofs.PlainItems.{makes_more, makes_then}
-use Rattle.ix_formed.proofs.SameTypes.{same_itself}
+use Rattle.ix_formed.proofs.PlainItems.{makes_then}
 use Rattle.ix_formed.proofs.ScopedLocals.{scoped_within, scoped_for, stands_for, stands_more, has_first}
 use Rattle.ix_formed.proofs.TypedDeclarations.{scoped_pending, scoped_declared, stands_declared, copy_leads, default_is}
 use Rattle.ix_formed.proofs.TypedEvaluations.{init_filled}

@@ -1,18 +1,13 @@
 -- Choices and loops tell what they say.
-use Rattle.std.proofs.Common.{◌≡◌, ◌≤◌, ◌<◌, ℕ, ◌+◌, max, Bool, true, false, List, [], ◌∷◌, ◌++◌, length, map, Option, Some, None, Ok, Err, refl, sym, ap, subst, ◌∙◌, arith, append_assoc, length-append}
-use Rattle.std.specs.Prelude.{if◌then◌else◌, ◌&&◌, nat_lt}
-use Rattle.std.proofs.lemmas.Bool.{false≢true, and_parts}
+use Rattle.std.proofs.Common.{◌≡◌, ◌≤◌, ◌<◌, ℕ, ◌+◌, Bool, true, false, List, [], ◌∷◌, ◌++◌, length, Option, Some, None, Ok, Err, refl, sym, ap, subst, ◌∙◌, arith, append_assoc}
+use Rattle.std.specs.Prelude.{if◌then◌else◌, nat_lt}
 use Rattle.std.proofs.lemmas.List.{append-nil}
 use Rattle.ix_text.specs.declared.span.Span.{Span}
 use Rattle.ix_core.specs.declared.claim.Type_.{Type_}
-use Rattle.ix_core.specs.declared.code.Block.{Block}
-use Rattle.ix_core.specs.declared.code.Cond.TheVariants as cond
-use Rattle.ix_core.specs.declared.code.Item.{Item}
 use Rattle.ix_core.specs.declared.code.Item.TheVariants as item
 use Rattle.ix_core.specs.declared.program.Local.{Local}
-use Rattle.ix_core.specs.Code.{Code, End, block_code, items_code, cond_code}
-use Rattle.ix_core.specs.Formed.{is_straight, is_straight_condition, condition_ways}
-use Rattle.ix_core.specs.Types.{Point, bool_type, meeting, point_below}
+use Rattle.ix_core.specs.Code.{block_code}
+use Rattle.ix_core.specs.Types.{Point, meeting, point_below}
 use Rattle.ix_tree.specs.declared.expr.Expr.{Expr}
 use Rattle.ix_tree.specs.Parts as parts
 use Rattle.ix_tree.specs.Parts.{Part, expr_parts, together}
@@ -22,27 +17,25 @@ use Rattle.ix_meaning.specs.Bodies as bodies
 use Rattle.ix_meaning.specs.Bodies.{Telling, after, then_told, noted_then, then_noted, looped, or_else, closed, all_told}
 use Rattle.ix_meaning.specs.Scope.{Scope as Names}
 use Rattle.ix_meaning.specs.declared.note.Which.TheVariants as which
-use Rattle.ix_meaning.specs.Types.{of}
-use Rattle.ix_meaning.specs.Values as reading
 use Rattle.ix_plain.specs.declared.body.Body.{Body}
 use Rattle.ix_plain.specs.declared.made.Made.{Made}
-use Rattle.ix_plain.specs.Parts.{◌>>=◌, Within as Made_, empty, block}
+use Rattle.ix_plain.specs.Parts.{◌>>=◌}
 use Rattle.ix_plain.specs.Statements as statements
 use Rattle.ix_plain.specs.Statements.{Running, Inside, Tested, tested, tested_if, with_last, with_free, branch, inside, in_loop, all_ran, ran, evaluated, Evaluated, no_block, most_loops}
-use Rattle.ix_formed.specs.Additions.{Makes, AllOf, IsPlain, IsPlainCondition, code_before}
-use Rattle.ix_formed.specs.Points.{Known, Keeps, Leads, Decides}
+use Rattle.ix_formed.specs.Additions.{Makes, AllOf, IsPlainCondition}
+use Rattle.ix_formed.specs.Points.{Keeps, Decides}
 use Rattle.ix_formed.specs.Readable.{shape, Statement, is_part}
 use Rattle.ix_formed.specs.TypedParts.{IsStatement}
 use Rattle.ix_formed.specs.TypedStatements.{Ground, IsGround, Says, IsKnown, Within, Scoped, Stands, Begins, IsDeclared, Passes, Leaves, Adds, Tells}
 use Rattle.ix_formed.specs.Written.{is_written_expr}
-use Rattle.ix_formed.proofs.LayoutSpans.{PartIs, laid_parts, laid_up, expr_spans, expr_single}
-use Rattle.ix_formed.proofs.NumberLists.{both_true, all_so}
-use Rattle.ix_formed.proofs.PlainItems.{makes_more, makes_then, plain_block}
-use Rattle.ix_formed.proofs.ScopedLocals.{scoped_within, scoped_for, scoped_more, stands_for, stands_more, has_first, later_outside}
-use Rattle.ix_formed.proofs.TypedBlocks.{BlockFits, block_fits, no_block_fits, Nests, part_nests, none_known, closed_scope, closed_stands, either_jump, either_passes, if_leaves, below_keeps, loop_leaves, closed_adds, nest_adds}
-use Rattle.ix_formed.proofs.TypedEvaluations.{IsRead, TestGives, condition_tested, value_judged}
-use Rattle.ix_formed.proofs.TypedForms.{parted, closed_tells, plain_tells, none_declared}
-use Rattle.ix_formed.proofs.TypedItems.{Evaluates, adds_none, adds_both, adds_as, none_passes, begins_as, begins_middle}
+use Rattle.ix_formed.proofs.LayoutSpans.{laid_parts, laid_up, expr_spans, expr_single}
+use Rattle.ix_formed.proofs.NumberLists.{all_so}
+use Rattle.ix_formed.proofs.PlainItems.{makes_more, makes_then}
+use Rattle.ix_formed.proofs.ScopedLocals.{scoped_within, scoped_for, stands_for, stands_more, has_first}
+use Rattle.ix_formed.proofs.TypedBlocks.{BlockFits, no_block_fits, Nests, part_nests, none_known, closed_scope, closed_stands, either_jump, either_passes, if_leaves, below_keeps, loop_leaves, closed_adds, nest_adds}
+use Rattle.ix_formed.proofs.TypedEvaluations.{IsRead, TestGives, condition_tested}
+use Rattle.ix_formed.proofs.TypedForms.{parted, closed_tells}
+use Rattle.ix_formed.proofs.TypedItems.{adds_both, adds_as, none_passes, begins_as, begins_middle}
 use Rattle.ix_formed.proofs.TypedPoints.{keeps_none, keeps_both, meeting_keeps}
 
 module _ (g : Ground) (ground : IsGround g) where

@@ -1,35 +1,30 @@
 -- The body of a method without errors on names fits, and so do its locals.
-use Rattle.std.proofs.Common.{◌≡◌, ◌≤◌, ◌<◌, ℕ, zero, suc, ◌+◌, Bool, true, false, List, [], ◌∷◌, ◌++◌, length, map, Option, Some, None, Ok, Err, refl, sym, ap, subst, ◌∙◌, arith}
-use Rattle.std.specs.Prelude.{if◌then◌else◌, ◌&&◌, not, nat_lt, ◌==◌, slice_get}
+use Rattle.std.proofs.Common.{◌≡◌, ◌≤◌, ℕ, ◌+◌, true, false, List, [], ◌∷◌, ◌++◌, length, map, refl, sym, ap, subst, ◌∙◌}
 use Rattle.std.specs.List.{list_all}
-use Rattle.std.proofs.lemmas.Bool.{false≢true, and_parts}
-use Rattle.std.proofs.lemmas.Bool.Decides.{nat_tests}
+use Rattle.std.proofs.lemmas.Bool.{false≢true}
 use Rattle.std.proofs.lemmas.List.{append-nil}
 use Rattle.ix_text.specs.declared.span.Span.{Span}
 use Rattle.ix_core.specs.declared.claim.Name.TheVariants as name
 use Rattle.ix_core.specs.declared.claim.Type_.{Type_}
 use Rattle.ix_core.specs.declared.program.Local.{Local}
-use Rattle.ix_core.specs.Code.{Code, End, items_code}
-use Rattle.ix_core.specs.Formed.{first_type, entry_type, this_type, param_type_from, code_ways, locals_fit, is_target, claim_fits, others, local_named_type, has_parent}
-use Rattle.ix_core.specs.Tables.{param_slot, param_slots}
-use Rattle.ix_core.specs.Types.{Point, class_type, is_type}
+use Rattle.ix_core.specs.Code.{End, items_code}
+use Rattle.ix_core.specs.Formed.{code_ways, locals_fit, is_target, claim_fits, others, local_named_type}
+use Rattle.ix_core.specs.Types.{Point, is_type}
 use Rattle.ix_tree.specs.declared.stmt.Stmt.{Stmt}
-use Rattle.ix_tree.specs.Parts.{Part, stmt_parts, together}
+use Rattle.ix_tree.specs.Parts.{stmt_parts, together}
 use Rattle.ix_tree.specs.Placed.{LaidOut, row, stmt_piece}
-use Rattle.ix_meaning.specs.declared.note.Meaning.TheVariants as meaning
 use Rattle.ix_meaning.specs.Bodies.{after, all_told, telling}
-use Rattle.ix_meaning.specs.Scope.{Known as Variable, Scope as Names}
+use Rattle.ix_meaning.specs.Scope.{Scope as Names}
 use Rattle.ix_plain.specs.declared.body.Body.{Body}
 use Rattle.ix_plain.specs.Statements as statements
 use Rattle.ix_plain.specs.Statements.{statement}
 use Rattle.ix_formed.specs.Additions.{Makes, AllOf}
 use Rattle.ix_formed.specs.LocalTypes.{stmt_types, local_types}
-use Rattle.ix_formed.specs.Points.{Known}
 use Rattle.ix_formed.specs.Readable.{stmt_shape, each_fine}
 use Rattle.ix_formed.specs.TypedStatements.{Ground, IsGround, Says, IsKnown, Scoped, Stands, Begins, DoFit, Adds, Tells}
 use Rattle.ix_formed.specs.Written.{is_written_stmt, all_true}
 use Rattle.ix_formed.proofs.NumberLists.{both_true}
-use Rattle.ix_formed.proofs.PlainItems.{makes_more, items_before}
+use Rattle.ix_formed.proofs.PlainItems.{items_before}
 use Rattle.ix_formed.proofs.StatementsTell.{statements_are}
 use Rattle.ix_formed.proofs.TypedFor.{each_tells}
 

@@ -1,5 +1,5 @@
 -- Literals and names give values of their types, and a name that may be assigned is a spot for them.
-use Rattle.std.proofs.Common.{◌≡◌, ◌≤◌, ◌<◌, ℕ, ℤ, pos, Bool, true, false, List, [], ◌∷◌, ◌++◌, Option, Some, None, Ok, Err, refl, sym, ap, subst, ◌∙◌, arith}
+use Rattle.std.proofs.Common.{◌≡◌, ◌≤◌, ◌<◌, ℕ, ℤ, Bool, true, false, List, [], ◌∷◌, Option, Some, None, refl, sym, ap, subst, ◌∙◌, arith}
 use Rattle.std.specs.Prelude.{if◌then◌else◌, ◌&&◌, ◌||◌, not, nat_lt, length, ◌==◌, bytes_eq, unwrap_or}
 use Rattle.std.proofs.lemmas.Bool.{false≢true, and_parts}
 use Rattle.std.proofs.lemmas.Bool.Decides.{nat_tests}
@@ -8,9 +8,9 @@ use Rattle.ix_core.specs.declared.claim.Type_.{Type_}
 use Rattle.ix_core.specs.declared.op.Literal.{Literal}
 use Rattle.ix_core.specs.declared.op.Literal.TheVariants as literal
 use Rattle.ix_core.specs.declared.op.OpKind.TheVariants as op
-use Rattle.ix_core.specs.Formed.{assigned, is_there, is_target, is_slot, literal_fits, literal_type, variable_type, copy_fits, field_fits, may_be_written, reads}
+use Rattle.ix_core.specs.Formed.{assigned, is_there, is_target, literal_fits, literal_type, variable_type, copy_fits, field_fits, may_be_written, reads}
 use Rattle.ix_core.specs.Machine.{is_int}
-use Rattle.ix_core.specs.Tables.{field_at, param_slots}
+use Rattle.ix_core.specs.Tables.{field_at}
 use Rattle.ix_core.specs.Types.{Point, int_type, class_type, is_type}
 use Rattle.ix_tree.specs.declared.annot.Ident.{Ident}
 use Rattle.ix_meaning.specs.declared.members.Field.{Field}
@@ -24,14 +24,14 @@ use Rattle.ix_meaning.specs.Types.{judged}
 use Rattle.ix_meaning.specs.Values as reading
 use Rattle.ix_plain.specs.declared.made.Made.{Made}
 use Rattle.ix_plain.specs.declared.made.Spot.TheVariants as spot
-use Rattle.ix_plain.specs.Scope.{Scope, slot_of, meaning_at, type_at, or_void, is_among}
+use Rattle.ix_plain.specs.Scope.{slot_of, meaning_at, type_at, or_void, is_among}
 use Rattle.ix_plain.specs.Assigned.{with_slot}
-use Rattle.ix_plain.specs.Parts.{Within, Value, in_place, done, computed}
+use Rattle.ix_plain.specs.Parts.{in_place, computed}
 use Rattle.ix_plain.specs.Values as values
 use Rattle.ix_plain.specs.Values.{int_value}
 use Rattle.ix_formed.specs.Additions.{Makes, AllOf}
 use Rattle.ix_formed.specs.Points.{Known}
-use Rattle.ix_formed.specs.Typed.{Gives, Holds, Setting, Told, IsHere, IsSet, IsResult, IsSlotOf, IsVariable, is_variable, FieldIs, Stands, Ready, Yields, SpotIs}
+use Rattle.ix_formed.specs.Typed.{Gives, Holds, Setting, Told, IsHere, IsSet, IsSlotOf, IsVariable, is_variable, FieldIs, Stands, Ready, Yields, SpotIs}
 use Rattle.ix_formed.proofs.NumberLists.{both_true, is_itself}
 use Rattle.ix_formed.proofs.SameTypes.{real_result}
 use Rattle.ix_formed.proofs.TypedChecks.{parted, unbroken, kept, Tabled, Speaks}

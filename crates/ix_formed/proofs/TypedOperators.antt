@@ -1,26 +1,21 @@
 -- Operators give values of their types, and tests and what they are put together from lead where they are said to.
-use Rattle.std.proofs.Common.{◌≡◌, ◌≤◌, ◌<◌, ℕ, Bool, true, false, List, [], ◌∷◌, ◌++◌, Option, Some, None, Ok, Err, refl, sym, ap, subst, ◌∙◌, arith}
-use Rattle.std.specs.Prelude.{if◌then◌else◌, ◌&&◌, ◌||◌, not, nat_lt, length, ◌==◌}
+use Rattle.std.proofs.Common.{◌≡◌, ◌≤◌, ◌<◌, ℕ, Bool, true, false, List, [], ◌++◌, Some, None, refl, sym, ap, subst, ◌∙◌, arith}
+use Rattle.std.specs.Prelude.{if◌then◌else◌, ◌&&◌, ◌||◌, not, ◌==◌}
 use Rattle.std.proofs.lemmas.Bool.{false≢true, and_parts}
 use Rattle.ix_text.specs.declared.span.Span.{Span}
 use Rattle.ix_num.specs.declared.arith.Arith.{Arith}
 use Rattle.ix_num.specs.declared.rel.Rel.{Rel}
-use Rattle.ix_num.specs.declared.rel.Rel.TheVariants as rel
 use Rattle.ix_core.specs.declared.claim.Base.{Base}
 use Rattle.ix_core.specs.declared.claim.Base.TheVariants as base
 use Rattle.ix_core.specs.declared.claim.Claim.{Claim}
 use Rattle.ix_core.specs.declared.claim.Type_.{Type_}
 use Rattle.ix_core.specs.declared.claim.Type_.TheVariants as type
-use Rattle.ix_core.specs.declared.code.Cond.{Cond}
-use Rattle.ix_core.specs.declared.code.Cond.TheVariants as cond
 use Rattle.ix_core.specs.declared.op.OpKind.TheVariants as op
 use Rattle.ix_core.specs.declared.op.Test.{Test}
 use Rattle.ix_core.specs.declared.op.UnaryNum.{UnaryNum}
 use Rattle.ix_core.specs.declared.op.UnaryNum.TheVariants as unary
-use Rattle.ix_core.specs.declared.program.Method.{Method}
-use Rattle.ix_core.specs.declared.program.Program.{Program}
-use Rattle.ix_core.specs.Code.{Code, Condition, block_code, cond_code}
-use Rattle.ix_core.specs.Formed.{Ways, Answers, condition_ways, both_answers, either_answers, opposite_answers, is_straight, is_straight_condition, is_slot, is_target, is_class_in, is_class_at, operand_fits, reads, super_calls_in}
+use Rattle.ix_core.specs.Code.{block_code, cond_code}
+use Rattle.ix_core.specs.Formed.{Ways, condition_ways, is_straight, is_straight_condition, is_slot, is_target, is_class_in, is_class_at, operand_fits, reads, super_calls_in}
 use Rattle.ix_core.specs.Types.{Point, int_type, bool_type, meeting, is_type, is_of, is_reference_type}
 use Rattle.ix_core.proofs.Translated.{cond_code-Compare, cond_code-Both, cond_code-Either, cond_code-Opposite}
 use Rattle.ix_tree.specs.declared.expr.BinaryOp.{BinaryOp}
@@ -29,26 +24,25 @@ use Rattle.ix_tree.specs.declared.expr.UnaryOp.{UnaryOp}
 use Rattle.ix_tree.specs.declared.expr.UnaryOp.TheVariants as operator
 use Rattle.ix_meaning.specs.declared.note.Rule.TheVariants as rule
 use Rattle.ix_meaning.specs.Rules as rules
-use Rattle.ix_meaning.specs.Scope.{Scope as Names}
 use Rattle.ix_meaning.specs.Types as types
 use Rattle.ix_meaning.specs.Types.{Need, need_like, of, judged}
 use Rattle.ix_meaning.specs.Values as reading
 use Rattle.ix_meaning.specs.Values.{Reading, KindReading, as_object, check, null_at, valued}
 use Rattle.ix_plain.specs.declared.made.Made.{Made}
-use Rattle.ix_plain.specs.Scope.{Scope, type_at, or_void}
-use Rattle.ix_plain.specs.Parts.{Within, ◌>>=◌, Value, Asked, empty, block, computed}
+use Rattle.ix_plain.specs.Scope.{type_at, or_void}
+use Rattle.ix_plain.specs.Parts.{empty, block, computed}
 use Rattle.ix_plain.specs.Values as values
 use Rattle.ix_plain.specs.Values.{Lowering}
-use Rattle.ix_formed.specs.Additions.{Makes, AllOf, IsPlain, IsPlainCondition}
-use Rattle.ix_formed.specs.Points.{Known, Keeps, Leads, Decides}
-use Rattle.ix_formed.specs.Typed.{Steps, Gives, Holds, Tests, Setting, Told, IsSet, IsResult, Stands, Ready, Yields, Judges, Fits}
+use Rattle.ix_formed.specs.Additions.{Makes}
+use Rattle.ix_formed.specs.Points.{Known}
+use Rattle.ix_formed.specs.Typed.{Gives, Holds, Tests, Setting, Told, IsSet, IsResult, Stands, Ready, Yields, Fits}
 use Rattle.ix_formed.proofs.NumberLists.{both_true}
-use Rattle.ix_formed.proofs.PlainItems.{makes_more, makes_then, plain_block, plain_supers}
+use Rattle.ix_formed.proofs.PlainItems.{makes_then, plain_block, plain_supers}
 use Rattle.ix_formed.proofs.SameTypes.{of_int, reference_real, primitive_real, same_is, primitive_same}
-use Rattle.ix_formed.proofs.TypedChecks.{parted, unbroken, kept, noted, Tabled, Speaks, Checked, check_fits, condition_fits, block_leads, block_straight, computes_fits, asks_fits, lowering_at, reading_at}
+use Rattle.ix_formed.proofs.TypedChecks.{parted, kept, noted, check_fits, condition_fits, block_leads, block_straight, computes_fits, asks_fits, lowering_at, reading_at}
 use Rattle.ix_formed.proofs.TypedNames.{new_target, there_is}
 use Rattle.ix_formed.proofs.TypedPoints.{keeps_both, meeting_keeps, reads_known}
-use Rattle.ix_formed.proofs.TypedSteps.{target_is, differs, steps_both, then_value, op_given, reads_held, holds_on, holds_up, stands_on, ready_on}
+use Rattle.ix_formed.proofs.TypedSteps.{differs, steps_both, then_value, op_given, reads_held, holds_on, holds_up, stands_on, ready_on}
 
 module _ (z : Setting) (set : IsSet z) where
   -- an int where an int is needed

@@ -1,6 +1,6 @@
 -- How items that fit lead from the types at one point to those at another, and which types stay known.
 use Rattle.std.proofs.Common.{◌≡◌, ◌≤◌, ◌<◌, ℕ, Bool, true, List, [], ◌∷◌, ◌++◌, Some, None, refl, sym, ap, ◌∙◌, arith}
-use Rattle.std.specs.Prelude.{if◌then◌else◌, ◌==◌, ◌&&◌, nat_lt}
+use Rattle.std.specs.Prelude.{if◌then◌else◌, ◌==◌, nat_lt}
 use Rattle.std.proofs.lemmas.Bool.Decides.{nat_tests}
 use Rattle.ix_core.specs.declared.claim.Type_.{Type_}
 use Rattle.ix_core.specs.declared.code.Item.{Item}
@@ -8,7 +8,6 @@ use Rattle.ix_core.specs.declared.code.Item.TheVariants as item
 use Rattle.ix_core.specs.declared.op.Op.{Op}
 use Rattle.ix_core.specs.declared.program.Method.{Method}
 use Rattle.ix_core.specs.declared.program.Program.{Program}
-use Rattle.ix_core.specs.Code.{Code}
 use Rattle.ix_core.specs.Formed.{Ways, also, assigned, op_fits, op_types, code_ways, is_slot, type_fits, reads}
 use Rattle.ix_core.specs.Types.{Point, meeting, if_same, is_of}
 use Rattle.ix_core.proofs.Cases.{by_test, equal}

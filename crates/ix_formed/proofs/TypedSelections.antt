@@ -1,7 +1,7 @@
 -- A name and a selection fit, as each place wants them.
-use Rattle.std.proofs.Common.{◌≡◌, ◌≤◌, ◌<◌, ℕ, ℤ, Bool, true, false, List, [], ◌∷◌, ◌++◌, Option, Some, None, Ok, Err, Result, refl, sym, ap, subst, ◌∙◌, arith}
-use Rattle.std.specs.Prelude.{if◌then◌else◌, ◌&&◌, ◌||◌, not, nat_lt, length, ◌==◌, bytes_eq, codes}
-use Rattle.std.proofs.lemmas.Bool.{false≢true, and_parts}
+use Rattle.std.proofs.Common.{◌≡◌, ◌<◌, ℕ, ℤ, Bool, true, false, List, [], ◌∷◌, Option, Some, None, Ok, Err, Result, refl, sym, ap, subst, ◌∙◌, arith}
+use Rattle.std.specs.Prelude.{if◌then◌else◌, ◌&&◌, ◌||◌, not, length, ◌==◌, bytes_eq, codes}
+use Rattle.std.proofs.lemmas.Bool.{false≢true}
 use Rattle.ix_text.specs.declared.span.Span.{Span}
 use Rattle.ix_core.specs.declared.claim.Base.{Base}
 use Rattle.ix_core.specs.declared.claim.Base.TheVariants as base
@@ -12,7 +12,7 @@ use Rattle.ix_core.specs.declared.op.OpKind.TheVariants as op
 use Rattle.ix_core.specs.Formed.{is_slot, is_target, is_array_in, is_array_at}
 use Rattle.ix_core.specs.Machine.{is_int}
 use Rattle.ix_core.specs.Tables.{field_at}
-use Rattle.ix_core.specs.Types.{Point, int_type, class_type, is_type, is_of, is_class, is_reference_type}
+use Rattle.ix_core.specs.Types.{Point, int_type, class_type, is_type, is_of, is_class}
 use Rattle.ix_tree.specs.declared.annot.Ident.{Ident}
 use Rattle.ix_tree.specs.Parts.{elsewhere}
 use Rattle.ix_meaning.specs.declared.members.Field.{Field}
@@ -27,17 +27,17 @@ use Rattle.ix_meaning.specs.Values.{Reading, KindReading, Object, no_object, of_
 use Rattle.ix_plain.specs.declared.made.Made.{Made}
 use Rattle.ix_plain.specs.declared.made.Spot.TheVariants as spot
 use Rattle.ix_plain.specs.Scope.{Scope, meaning_at}
-use Rattle.ix_plain.specs.Parts.{Within, ◌>>=◌, Value, Target, computed}
+use Rattle.ix_plain.specs.Parts.{Within, ◌>>=◌, Value}
 use Rattle.ix_plain.specs.Values as values
 use Rattle.ix_plain.specs.Values.{Lowering, without_value}
 use Rattle.ix_formed.specs.Additions.{Makes}
 use Rattle.ix_formed.specs.Points.{Known}
-use Rattle.ix_formed.specs.Typed.{Steps, Runs, Gives, Holds, Setting, Told, IsHere, IsSet, IsResult, FieldIs, Ready, Yields, SpotIs, Aims, ReceiverIs, Assigns, Fits, FitsTarget}
+use Rattle.ix_formed.specs.Typed.{Runs, Gives, Holds, Setting, Told, IsHere, IsSet, FieldIs, Ready, Yields, SpotIs, Aims, ReceiverIs, Fits, FitsTarget}
 use Rattle.ix_formed.proofs.NumberLists.{both_true}
 use Rattle.ix_formed.proofs.PlainItems.{makes_more, makes_then, makes_both}
 use Rattle.ix_formed.proofs.SameTypes.{real_result}
-use Rattle.ix_formed.proofs.TypedChecks.{parted, kept, tabled, noted, Tabled, Speaks, judges, computes_fits, lowering_at, reading_at}
-use Rattle.ix_formed.proofs.TypedNames.{new_target, there_is, int_yields, field_yields, may_write, is_value, NameSpeaks, NameAims, name_speaks, name_aims, IsCovered}
+use Rattle.ix_formed.proofs.TypedChecks.{parted, kept, tabled, noted, Speaks, computes_fits, lowering_at, reading_at}
+use Rattle.ix_formed.proofs.TypedNames.{new_target, there_is, int_yields, field_yields, may_write, is_value, NameSpeaks, name_speaks, name_aims, IsCovered}
 use Rattle.ix_formed.proofs.TypedSteps.{differs, steps_none, then_value, value_after, op_given, holds_up, ready_on}
 
 module _ (z : Setting) (set : IsSet z) where

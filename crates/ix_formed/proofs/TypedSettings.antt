@@ -1,5 +1,5 @@
 -- A full expression stands in a setting, where the scope of its body is as it has to be.
-use Rattle.std.proofs.Common.{◌≡◌, ◌≤◌, ◌<◌, ℕ, ◌+◌, Bool, true, false, List, [], ◌∷◌, ◌++◌, length, Option, Some, None, refl, sym, ap, subst, ◌∙◌, arith}
+use Rattle.std.proofs.Common.{◌≡◌, ◌≤◌, ◌<◌, ℕ, ◌+◌, Bool, true, false, List, [], ◌∷◌, ◌++◌, Some, refl, sym, ap, subst, ◌∙◌, arith}
 use Rattle.std.specs.Prelude.{if◌then◌else◌, nat_lt, ◌&&◌, ◌==◌}
 use Rattle.std.proofs.lemmas.Bool.{false≢true, and_parts}
 use Rattle.std.proofs.lemmas.Bool.Decides.{nat_tests}
@@ -8,14 +8,13 @@ use Rattle.ix_core.specs.declared.claim.Type_.{Type_}
 use Rattle.ix_core.specs.declared.program.Local.{Local}
 use Rattle.ix_core.specs.Formed.{at_most}
 use Rattle.ix_core.specs.Tables.{param_slot}
-use Rattle.ix_core.specs.Types.{Point, class_type, is_class, is_type}
+use Rattle.ix_core.specs.Types.{Point, class_type, is_class}
 use Rattle.ix_core.proofs.Cases.{by_test, equal}
 use Rattle.ix_tree.specs.declared.expr.Expr.{Expr}
 use Rattle.ix_tree.specs.declared.expr.Init.{Init}
 use Rattle.ix_tree.specs.Parts.{Part, expression, statement, declaration, in_type, elsewhere, entries, expr_parts, init_parts}
 use Rattle.ix_meaning.specs.declared.note.Meaning.{Meaning}
 use Rattle.ix_meaning.specs.declared.note.Meaning.TheVariants as meaning
-use Rattle.ix_meaning.specs.Members.{World}
 use Rattle.ix_meaning.specs.Scope.{Known as Variable, Scope as Names}
 use Rattle.ix_meaning.specs.Values as reading
 use Rattle.ix_plain.specs.Assigned.{Adding, assigns, init_assigns}
@@ -26,10 +25,10 @@ use Rattle.ix_formed.specs.Points.{Known}
 use Rattle.ix_formed.specs.Readable.{shape, is_readable_init}
 use Rattle.ix_formed.specs.Typed as typed
 use Rattle.ix_formed.specs.Typed.{HasMembers, Setting, IsSet, IsHere, IsVariable, is_variable, Fits, FitsFilling}
-use Rattle.ix_formed.specs.TypedStatements.{Ground, IsGround, IsKnown, Within, type_in, scope_in, IsNamed, HasVariable, Scoped, Stands, Begins}
+use Rattle.ix_formed.specs.TypedStatements.{Ground, IsGround, IsKnown, Within, scope_in, IsNamed, HasVariable, Scoped, Stands, Begins}
 use Rattle.ix_formed.specs.Written.{is_written_expr, is_written_init}
 use Rattle.ix_formed.proofs.AssignedVariables.{Appends, assigns_append, init_assigns_append}
-use Rattle.ix_formed.proofs.NumberLists.{both_true, all_so, all_joined}
+use Rattle.ix_formed.proofs.NumberLists.{both_true, all_joined}
 use Rattle.ix_formed.proofs.ScopedLocals.{type_final}
 use Rattle.ix_formed.proofs.TypedExpressions.{Covers, expression_fits, initialiser_fits}
 
@@ -165,7 +164,7 @@ module _ (g : Ground) (ground : IsGround g) where
     InSpan (expression span) = Within lo hi span
     InSpan _ = Unit {0}
 
-    here_is : (ps : List Part) → AllOf InSpan ps → AllOf (IsKnown g) ps → AllOf (IsHere z) ps
+    pub here_is : (ps : List Part) → AllOf InSpan ps → AllOf (IsKnown g) ps → AllOf (IsHere z) ps
     here_is [] here known = tt
     here_is (expression span ∷ ps) here known = (here.0, here_is ps here.1 known.1)
     here_is (statement span ∷ ps) here known = (tt, here_is ps here.1 known.1)

@@ -1,10 +1,9 @@
 -- Typed steps, one behind the other, and the operations that they are made of.
-use Rattle.std.proofs.Common.{◌≡◌, ◌≤◌, ◌<◌, ℕ, ◌+◌, Bool, true, false, List, [], ◌∷◌, ◌++◌, Option, Some, None, Ok, Err, refl, sym, ap, subst, ◌∙◌, arith, append_assoc}
-use Rattle.std.specs.Prelude.{if◌then◌else◌, nat_lt, ◌==◌, ◌&&◌, ◌||◌, not}
+use Rattle.std.proofs.Common.{◌≡◌, ◌≤◌, ◌<◌, ℕ, ◌+◌, Bool, true, false, List, [], ◌∷◌, ◌++◌, Some, Ok, Err, refl, sym, ap, subst, ◌∙◌, arith, append_assoc}
+use Rattle.std.specs.Prelude.{if◌then◌else◌, nat_lt, ◌==◌, not}
 use Rattle.std.proofs.lemmas.Bool.Decides.{nat_tests}
 use Rattle.std.proofs.lemmas.List.{append-nil}
 use Rattle.ix_core.specs.declared.claim.Type_.{Type_}
-use Rattle.ix_core.specs.declared.code.Item.{Item}
 use Rattle.ix_core.specs.declared.code.Item.TheVariants as item
 use Rattle.ix_core.specs.declared.op.Op.{Op}
 use Rattle.ix_core.specs.declared.program.Method.{Method}
@@ -16,10 +15,10 @@ use Rattle.ix_meaning.specs.declared.note.Which.TheVariants as which
 use Rattle.ix_meaning.specs.Scope.{Known as Variable}
 use Rattle.ix_plain.specs.declared.made.Made.{Made}
 use Rattle.ix_plain.specs.Scope.{slot_of, is_among}
-use Rattle.ix_plain.specs.Parts.{Within, ◌>>=◌, Value, Asked, Target, with_item, taking, most_slots}
+use Rattle.ix_plain.specs.Parts.{Within, ◌>>=◌, Value, with_item, taking, most_slots}
 use Rattle.ix_formed.specs.Additions.{Makes, AllOf}
 use Rattle.ix_formed.specs.Points.{Known, Keeps, Leads}
-use Rattle.ix_formed.specs.Typed.{Steps, Runs, Gives, Holds, Tests, Setting, IsSet, IsVariable, Stands, Ready, Aims}
+use Rattle.ix_formed.specs.Typed.{Steps, Gives, Holds, Setting, IsSet, IsVariable, Stands, Ready}
 use Rattle.ix_formed.proofs.NumberLists.{both_true, all_so}
 use Rattle.ix_formed.proofs.PlainItems.{makes_more, makes_then, plain_none, plain_both, plain_op}
 use Rattle.ix_formed.proofs.TypedPoints.{keeps_none, keeps_both, assigned_known, new_keeps, leads_none, leads_both, op_leads, reads_known}

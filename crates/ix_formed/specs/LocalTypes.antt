@@ -1,9 +1,9 @@
 -- The types of the locals that a body declares, by the table, in the order in which they are made.
-use Rattle.std.specs.Prelude.{List, [], ◌∷◌, ◌++◌, map, Option, Some, None}
+use Rattle.std.specs.Prelude.{List, [], ◌∷◌, ◌++◌, map, Some, None}
 use Rattle.ix_core.specs.declared.claim.Type_.{Type_}
 use Rattle.ix_tree.specs.declared.decl.LocalDecl.{LocalDecl}
 use Rattle.ix_tree.specs.declared.stmt.Stmt.{Stmt, fold-Stmt}
-use Rattle.ix_tree.specs.declared.stmt.StmtKind.{StmtKind, StmtKind-F, fold-StmtKind}
+use Rattle.ix_tree.specs.declared.stmt.StmtKind.{StmtKind-F}
 use Rattle.ix_meaning.specs.Resolved.{Names}
 use Rattle.ix_plain.specs.Scope.{declared_type}
 

@@ -1,5 +1,5 @@
 -- What is known of slots at a point of a body, and how items lead from one point to another.
-use Rattle.std.specs.Prelude.{◌≡◌, ◌<◌, ℕ, Bool, true, List, Option, Some, None}
+use Rattle.std.specs.Prelude.{◌≡◌, ◌<◌, ℕ, Bool, true, List, Some, None}
 use Rattle.ix_core.specs.declared.claim.Type_.{Type_}
 use Rattle.ix_core.specs.declared.code.Cond.{Cond}
 use Rattle.ix_core.specs.declared.code.Item.{Item}

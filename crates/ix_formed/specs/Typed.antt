@@ -1,6 +1,6 @@
 -- What an expression without errors on names becomes: operations that fit, and a slot with a value of its type. This is the statement of the induction over
 -- expressions, in a scope that stays the same.
-use Rattle.std.specs.Prelude.{◌≡◌, ◌≤◌, ◌<◌, ℕ, ◌+◌, Bool, true, false, ◌||◌, List, [], ◌∷◌, ◌++◌, map, length, nat_lt, Option, Some, None}
+use Rattle.std.specs.Prelude.{◌≡◌, ◌≤◌, ◌<◌, ℕ, Bool, true, false, ◌||◌, List, ◌++◌, map, length, nat_lt, Option, Some, None}
 use Rattle.ix_text.specs.declared.span.Span.{Span}
 use Rattle.ix_core.specs.declared.claim.Type_.{Type_}
 use Rattle.ix_core.specs.declared.code.Item.{Item}
@@ -13,12 +13,10 @@ use Rattle.ix_core.specs.Types.{Point, int_type, class_type, cell_type, is_void,
 use Rattle.ix_tree.specs.declared.annot.TypeTree.{TypeTree}
 use Rattle.ix_tree.specs.Parts.{Part, expression, elsewhere, entries, most_entries}
 use Rattle.ix_meaning.specs.declared.members.Field.{Field}
-use Rattle.ix_meaning.specs.declared.members.Signature.{Signature}
 use Rattle.ix_meaning.specs.declared.note.Meaning.{Meaning}
 use Rattle.ix_meaning.specs.declared.note.Meaning.TheVariants as meaning
 use Rattle.ix_meaning.specs.declared.note.Note.{Note}
 use Rattle.ix_meaning.specs.Members.{World, Callee, field_named, method_named, constructor_params}
-use Rattle.ix_meaning.specs.Resolved.{Names as Table}
 use Rattle.ix_meaning.specs.Scope.{Known as Variable, Scope as Names}
 use Rattle.ix_meaning.specs.Types.{fits}
 use Rattle.ix_meaning.specs.Values as values
