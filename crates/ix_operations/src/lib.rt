@@ -8,7 +8,6 @@
 #![tactic(auto)]
 
 mod calls;
-mod classes;
 mod operations;
 mod rows;
 

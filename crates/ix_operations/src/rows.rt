@@ -4,7 +4,7 @@ ghost use Rattle.std.specs.declared.alloc.Global.{Global};
 ghost use Rattle.ix_core.specs.Tables.{all_fields, place_among};
 ghost use Rattle.ix_operations.specs.Rows.{AreFields, fields_once};
 
-use crate::classes::instance_fields;
+use ix_classes::instance_fields;
 use ix_core::Program;
 use std::alloc::{AllocError, Global};
 

@@ -3,6 +3,7 @@
 ghost use Rattle.std.specs.Prelude.{true, false, IfOk};
 ghost use Rattle.ix_facts.specs.Stores.{AreTold, IsTested};
 ghost use Rattle.ix_outcomes.specs.OverGroups.{outcomes_of};
+ghost use Rattle.ix_store.specs.StoredFacts.{stored};
 
 use ix_core::Test;
 use ix_outcomes::{Outcome, outcomes};
@@ -10,7 +11,7 @@ use ix_store::Store;
 use std::alloc::{AllocError, Global};
 
 fn told_all(alloc: Global, store: Store, told: &[Outcome]) -> Result<Store, AllocError>
-    ensures { IfOk result (λ after. AreTold (outcomes_of told.now) store after) }
+    ensures { IfOk result (λ after. AreTold (outcomes_of told.now) (stored store) (stored after)) }
 {
     let mut after = store;
     for outcome in told {
@@ -21,7 +22,7 @@ fn told_all(alloc: Global, store: Store, told: &[Outcome]) -> Result<Store, Allo
 
 /// The store where the test has this answer. The only error is want of memory.
 pub fn branch(alloc: Global, store: &Store, test: &Test, answer: bool) -> Result<Store, AllocError>
-    ensures tested { IfOk result (λ after. IsTested answer test.now store.now after) }
+    ensures tested { IfOk result (λ after. IsTested answer test.now (stored store.now) (stored after)) }
 {
     let told = outcomes(alloc, test, answer)?;
     let first = store.share()?;
@@ -31,8 +32,8 @@ pub fn branch(alloc: Global, store: &Store, test: &Test, answer: bool) -> Result
 
 /// The stores where the test is true, and where it is false. The only error is want of memory.
 pub fn branch_test(alloc: Global, store: &Store, test: &Test) -> Result<(Store, Store), AllocError>
-    ensures holds { IfOk result (λ both. IsTested true test.now store.now both.0) }
-    ensures fails { IfOk result (λ both. IsTested false test.now store.now both.1) }
+    ensures holds { IfOk result (λ both. IsTested true test.now (stored store.now) (stored both.0)) }
+    ensures fails { IfOk result (λ both. IsTested false test.now (stored store.now) (stored both.1)) }
 {
     let holds = branch(alloc, store, test, true)?;
     let fails = branch(alloc, store, test, false)?;

@@ -1,7 +1,6 @@
 -- What an int is at least in the facts behind a rule is -1, 0 or 1.
 use Rattle.std.specs.Prelude.{◌≡◌, Bool, true, false, not, ◌||◌, ℤ, pos, ◌+ℤ◌, ◌-ℤ◌, int_le, int_lt, List, [], ◌∷◌, ◌++◌, refl}
-use Rattle.std.proofs.Common.{sym, ◌∙◌, subst, ⊎_elim}
-use Rattle.std.proofs.lemmas.Bool.{false≢true}
+use Rattle.std.proofs.Common.{sym, subst, ⊎_elim}
 use Rattle.ix_num.specs.Ints.{least_int, greatest_int}
 use Rattle.ix_core.specs.declared.fact.Path.{Path}
 use Rattle.ix_core.specs.declared.fact.PathClaim.{PathClaim}
@@ -15,7 +14,7 @@ use Rattle.ix_facts.specs.Bounds
 use Rattle.ix_facts.specs.Bounds.{is_path}
 use Rattle.ix_facts.specs.Closure.{kept, kept_fact}
 use Rattle.ix_facts.specs.Exact.{if_so, each}
-use Rattle.ix_facts.specs.Facts.{IsIn, in_orders}
+use Rattle.ix_facts.specs.Facts.{in_orders}
 use Rattle.ix_facts.specs.Stores.{with_outcome, with_facts}
 use Rattle.ix_facts.specs.Systems.{HasClass, HaveClasses}
 use Rattle.ix_facts.proofs.ClassesStay.{claim_classes}

@@ -1,16 +1,15 @@
 -- A range that both of two lists say isn't empty, where one of them has no empty range.
-use Rattle.std.specs.Prelude.{◌≡◌, ◌⊎◌, Bool, true, false, ◌||◌, ℤ, ◌≤ℤ◌, int_lt, List, [], ◌∷◌, refl}
-use Rattle.std.proofs.Common.{arith, inl, inr, sym, ◌∙◌, subst, ⊎_elim}
-use Rattle.std.proofs.lemmas.Bool.{false≢true}
+use Rattle.std.specs.Prelude.{◌≡◌, Bool, true, false, int_lt, List, [], ◌∷◌, refl}
+use Rattle.std.proofs.Common.{arith, inl, inr, ◌∙◌, subst, ⊎_elim}
 use Rattle.std.proofs.lemmas.Int.{ints}
-use Rattle.ix_core.specs.declared.fact.Path.{Path}
 use Rattle.ix_core.specs.declared.fact.Fact.{Fact}
 use Rattle.ix_core.specs.declared.fact.Fact.TheVariants.{Rng, LenRng, Low, Same, IsLen, Less, Sum, Search, Neg, Upper}
 use Rattle.ix_facts.specs.Facts.{IsIn}
 use Rattle.ix_facts.specs.Closure.{Said, IsCommon}
 use Rattle.ix_facts.proofs.FactLists.{from_in_orders}
 use Rattle.ix_store.specs.EmptyRanges.{is_empty, some_empty}
-use Rattle.ix_store.proofs.StoresOf.{none, covers_rng, covers_len, range_order}
+use Rattle.ix_store.specs.StoreLaws.{each_full}
+use Rattle.ix_store.proofs.StoresOf.{covers_rng, covers_len, range_order}
 
 by_test : {G : Type 0} (t : Bool) → (t ≡ true → G) → (t ≡ false → G) → G
 by_test true first second = first refl
@@ -25,7 +24,7 @@ said_full facts (Rng p l h) n said =
     let y = covers_rng x.0 p l h x.2 in
     let o = from_in_orders x.0 facts x.1 in
     let same : o.0 ≡ x.0 = range_order x.0 o.0 p y.0 y.1 (inl y.2) o.2 in
-    let full : int_lt y.1 y.0 ≡ false = subst (λ g. is_empty g ≡ false) (same ∙ y.2) (none facts o.0 n o.1) in
+    let full : int_lt y.1 y.0 ≡ false = subst (λ g. is_empty g ≡ false) (same ∙ y.2) (each_full facts o.0 n o.1) in
     let low = y.3 in
     let high = y.4 in
     grind (arith, ints, full, low, high))
@@ -37,7 +36,7 @@ said_full facts (LenRng p l h) n said =
     let y = covers_len x.0 p l h x.2 in
     let o = from_in_orders x.0 facts x.1 in
     let same : o.0 ≡ x.0 = range_order x.0 o.0 p y.0 y.1 (inr y.2) o.2 in
-    let full : int_lt y.1 y.0 ≡ false = subst (λ g. is_empty g ≡ false) (same ∙ y.2) (none facts o.0 n o.1) in
+    let full : int_lt y.1 y.0 ≡ false = subst (λ g. is_empty g ≡ false) (same ∙ y.2) (each_full facts o.0 n o.1) in
     let low = y.3 in
     let high = y.4 in
     grind (arith, ints, full, low, high))

@@ -5,7 +5,5 @@ pub mod SameStores
 mod ClassesAfter
 mod RoundedClasses
 mod BehindRules
-mod CommonParts
-mod SixCommon
 mod FullCommon
 mod JoinedStores

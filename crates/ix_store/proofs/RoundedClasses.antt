@@ -1,17 +1,13 @@
 -- What an int is at least stays -1, 0 or 1 where facts are dropped, rounded or added.
-use Rattle.std.specs.Prelude.{◌≡◌, ℕ, Bool, ℤ, List, [], ◌∷◌, ◌++◌, Option, Some, None, refl}
+use Rattle.std.specs.Prelude.{ℕ, Bool, ℤ, List, [], ◌∷◌, Option, Some, None, refl}
 use Rattle.std.proofs.Common.{inl, inr, sym, subst, ⊎_elim}
 use Rattle.ix_core.specs.declared.fact.Path.{Path}
 use Rattle.ix_core.specs.declared.fact.Fact.{Fact}
 use Rattle.ix_core.specs.declared.fact.Fact.TheVariants.{Rng, LenRng, Low, Same, IsLen, Less, Sum, Search, Neg, Upper}
-use Rattle.ix_facts.specs.Closure.{kept}
-use Rattle.ix_facts.specs.Exact.{each, if_some}
-use Rattle.ix_facts.specs.Facts.{IsIn}
+use Rattle.ix_facts.specs.Exact.{if_some}
 use Rattle.ix_facts.specs.Forget.{without}
 use Rattle.ix_facts.specs.Round.{mark_below, mark_above, if_both, rounded_fact, rounded, is_beyond}
-use Rattle.ix_facts.specs.Stores.{with_facts}
 use Rattle.ix_facts.specs.Systems.{HasClass, HaveClasses, system_rounded}
-use Rattle.ix_facts.proofs.ClosureLaws.{from_kept}
 use Rattle.ix_facts.proofs.FactLists.{in_either}
 use Rattle.ix_facts.proofs.Frame.{in_without}
 

@@ -1,9 +1,7 @@
 -- Lists with the same facts have the same closed store.
-use Rattle.std.specs.Prelude.{◌≡◌, List, ◌++◌}
-use Rattle.std.proofs.Common.{sym, ◌∙◌, subst}
+use Rattle.std.specs.Prelude.{List}
 use Rattle.ix_core.specs.declared.fact.Fact.{Fact}
-use Rattle.ix_facts.specs.Facts.{IsIn, Stronger}
-use Rattle.ix_facts.specs.Closure.{Follows, SaysAll, IsClosedOf, Contradicts}
+use Rattle.ix_facts.specs.Closure.{Follows, SaysAll}
 use Rattle.ix_facts.specs.Stores.{Stored, IsStoreOf, unreachable, reached}
 use Rattle.ix_facts.specs.Systems.{HaveClasses}
 use Rattle.ix_facts.proofs.FactLists.{covers_itself}

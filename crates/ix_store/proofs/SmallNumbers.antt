@@ -1,9 +1,8 @@
 -- The facts of tables of which no range is empty have small numbers, and those behind the ranges are no ranges.
-use Rattle.std.specs.Prelude.{◌≡◌, ◌⊎◌, ℕ, zero, suc, ◌+◌, ◌<◌, Bool, true, false, ◌||◌, ℤ, pos, negsuc, ◌≤ℤ◌, ◌<ℤ◌, int_lt, ◌^◌, All, List, [], ◌∷◌, ◌++◌, length, slice_index_or, refl}
+use Rattle.std.specs.Prelude.{◌≡◌, true, false, ℤ, ◌≤ℤ◌, All, List, ◌++◌, slice_index_or, refl}
 use Rattle.std.proofs.Common.{arith, inl, inr, sym, ◌∙◌, subst, ⊎_elim}
 use Rattle.std.proofs.lemmas.Bool.{false≢true}
 use Rattle.std.proofs.lemmas.Int.{ints}
-use Rattle.ix_num.specs.Ints.{least_int, greatest_int}
 use Rattle.ix_core.specs.declared.fact.Path.{Path}
 use Rattle.ix_core.specs.declared.fact.Fact.{Fact}
 use Rattle.ix_core.specs.declared.fact.Fact.TheVariants.{Rng, LenRng, Low, Same, IsLen, Less, Sum, Search, Neg, Upper}
@@ -11,7 +10,7 @@ use Rattle.ix_facts.specs.declared.kind.Kind.{Kind}
 use Rattle.ix_facts.specs.declared.kind.Kind.TheVariants as kind
 use Rattle.ix_facts.specs.Facts.{IsIn}
 use Rattle.ix_facts.specs.Kinds.{is_of}
-use Rattle.ix_facts.specs.Small.{IsEnd, HasSmallNumbers}
+use Rattle.ix_facts.specs.Small.{HasSmallNumbers}
 use Rattle.ix_facts.specs.Systems.{MayStand, HaveClasses}
 use Rattle.ix_facts.proofs.FactLists.{in_either}
 use Rattle.ix_fact_table.specs.declared.fact_table.FactTable.{FactTable}
@@ -21,7 +20,8 @@ use Rattle.ix_fact_table.proofs.Searches.{in_place}
 use Rattle.ix_store.specs.declared.tables.Tables.{Tables}
 use Rattle.ix_store.specs.AllTables.{all_facts, AreOfKinds}
 use Rattle.ix_store.specs.EmptyRanges.{is_empty, some_empty}
-use Rattle.ix_store.proofs.StoresOf.{IsNoRange, none}
+use Rattle.ix_store.proofs.StoresOf.{IsNoRange}
+use Rattle.ix_store.specs.StoreLaws.{each_full}
 
 abbrev pub rest_facts : Tables → List Fact
 rest_facts tables = facts_of tables.lows ++ (facts_of tables.lengths ++ (facts_of tables.differences ++ (facts_of tables.searches ++ facts_of tables.uppers)))
@@ -121,7 +121,7 @@ module _ (tables : Tables) (kinds : AreOfKinds tables) (full : some_empty (facts
   small : (f : Fact) → IsIn f (all_facts tables) → HasSmallNumbers f
   small f i =
       small_one f (may tables f i)
-      (⊎_elim (λ j. none (facts_of tables.ranges) f full j) (λ j. not_empty f (no_ranges tables kinds f j)) (in_either f (facts_of tables.ranges) (rest_facts tables) i))
+      (⊎_elim (λ j. each_full (facts_of tables.ranges) f full j) (λ j. not_empty f (no_ranges tables kinds f j)) (in_either f (facts_of tables.ranges) (rest_facts tables) i))
 
   pub all_small : All HasSmallNumbers (all_facts tables)
   all_small k d lt = small (slice_index_or (all_facts tables) k d) (in_place (all_facts tables) k d lt)

@@ -7,15 +7,15 @@ use Rattle.ix_core.specs.declared.fact.Path.{Path}
 use Rattle.ix_core.specs.declared.fact.PathOff.TheVariants.{Nothing, Plus, Minus}
 use Rattle.ix_core.specs.declared.fact.Fact.{Fact}
 use Rattle.ix_core.specs.declared.fact.Fact.TheVariants.{Rng, LenRng, Low, Same, IsLen, Less, Sum, Search, Neg, Upper}
-use Rattle.ix_facts.specs.Facts.{IsIn, Covers, rng, len_rng, orders, in_orders}
-use Rattle.ix_facts.specs.Closure.{Follows, Contradicts, IsClosedOf}
-use Rattle.ix_facts.specs.Closure as closure
+use Rattle.ix_facts.specs.Facts.{IsIn, Covers, rng, len_rng, orders}
+use Rattle.ix_facts.specs.Closure.{Contradicts, IsClosedOf}
 use Rattle.ix_facts.specs.Systems.{IsTable}
 use Rattle.ix_facts.specs.Stores.{IsStoreOf, unreachable, reached, Unreachable, Reached}
 use Rattle.ix_facts.proofs.FactLists.{in_left, in_either, from_in_orders}
 use Rattle.ix_closure.specs.Saturated.{IsSaturated}
 use Rattle.ix_closure.proofs.Only.{merges_follow}
 use Rattle.ix_store.specs.EmptyRanges.{is_empty, some_empty, HasEmpty}
+use Rattle.ix_store.specs.StoreLaws.{each_full}
 
 pub table_closed : (facts more table : List Fact) → IsSaturated facts more → IsTable more table → IsClosedOf facts table
 table_closed facts more table is made = record {
@@ -97,13 +97,6 @@ found [] t = absurd (false≢true t)
 found (f ∷ facts) t =
     by_test (is_empty f) (λ u. (f, inl refl, u)) (λ u. let x = found facts (subst (λ b. (b || some_empty facts) ≡ true) u t) in (x.0, inr x.1, x.2))
 
-pub none : (facts : List Fact) (f : Fact) → some_empty facts ≡ false → IsIn f facts → is_empty f ≡ false
-none [] f n i = absurd i
-none (g ∷ facts) f n i =
-    by_test (is_empty g)
-    (λ u. absurd (false≢true (sym n ∙ subst (λ b. (b || some_empty facts) ≡ true) (sym u) refl)))
-    (λ u. ⊎_elim (λ e. subst (λ x. is_empty x ≡ false) (sym e) u) (λ j. none facts f (subst (λ b. (b || some_empty facts) ≡ false) u n) j) i)
-
 -- the ranges are the first part of a list whose other facts are no ranges
 pub front_empty : (ranges rest : List Fact) → some_empty ranges ≡ true → HasEmpty (ranges ++ rest)
 front_empty ranges rest t = let x = found ranges t in one_empty x.0 (ranges ++ rest) x.2 (in_left x.0 ranges rest x.1)
@@ -122,12 +115,12 @@ none_empty ranges rest n others e =
     ⊎_elim
     (λ i.
     ⊎_elim
-    (λ j. false≢true (sym (none ranges (Rng p l h) n j) ∙ empty_range p l h e.4))
+    (λ j. false≢true (sym (each_full ranges (Rng p l h) n j) ∙ empty_range p l h e.4))
     (λ j. others (Rng p l h) j p l h (inl refl))
     (in_either (Rng p l h) ranges rest i))
     (λ i.
     ⊎_elim
-    (λ j. false≢true (sym (none ranges (LenRng p l h) n j) ∙ empty_range p l h e.4))
+    (λ j. false≢true (sym (each_full ranges (LenRng p l h) n j) ∙ empty_range p l h e.4))
     (λ j. others (LenRng p l h) j p l h (inr refl))
     (in_either (LenRng p l h) ranges rest i))
     e.3

@@ -4,7 +4,7 @@ use Rattle.std.proofs.Common.{inl, inr, ap, sym, ◌∙◌, subst, ⊎_elim}
 use Rattle.std.proofs.lemmas.Bool.{false≢true}
 use Rattle.ix_core.specs.declared.fact.PathOff.TheVariants.{Plus}
 use Rattle.ix_core.specs.declared.fact.Fact.{Fact}
-use Rattle.ix_core.specs.declared.fact.Fact.TheVariants.{Rng, LenRng, Low, Same, IsLen, Less, Sum, Search, Neg, Upper}
+use Rattle.ix_core.specs.declared.fact.Fact.TheVariants.{Rng, LenRng, Same, Sum, Upper}
 use Rattle.ix_facts.specs.declared.kind.Kind.{Kind}
 use Rattle.ix_facts.specs.declared.kind.Kind.TheVariants as kind
 use Rattle.ix_facts.specs.Facts.{IsIn, Covers, rng, len_rng, low, same, is_len, less, sum, search, neg, upper}
@@ -12,7 +12,7 @@ use Rattle.ix_facts.specs.Closure.{Said, AllTell}
 use Rattle.ix_facts.specs.Kinds.{kind_of, is_kind, is_of, of_kind}
 use Rattle.ix_facts.specs.Systems.{Merges, IsTable, HaveClasses}
 use Rattle.ix_facts.specs.Systems as merges
-use Rattle.ix_facts.proofs.FactLists.{in_left, in_right, in_either}
+use Rattle.ix_facts.proofs.FactLists.{in_either}
 use Rattle.ix_facts.proofs.SaidLaws.{in_orders_left, in_orders_right}
 
 by_test : {G : Type 0} (t : Bool) → (t ≡ true → G) → (t ≡ false → G) → G

@@ -2,8 +2,17 @@
 use Rattle.std.specs.Prelude.{List, Option, Some, None}
 use Rattle.ix_core.specs.declared.fact.Fact.{Fact}
 use Rattle.ix_facts.specs.Stores.{Stored, Unreachable, Reached}
+use Rattle.ix_store.specs.declared.known.Known.{Known}
+use Rattle.ix_store.specs.declared.store.Store.{Store}
+use Rattle.ix_store.specs.AllTables.{all_facts}
+
+abbrev pub facts_in : Known → List Fact
+facts_in known = all_facts known.tables
 
 -- no facts: the place is unreachable
-abbrev pub stored : Option (List Fact) → Stored
-stored None = Unreachable
-stored (Some facts) = Reached facts
+abbrev pub stored_in : Option Known → Stored
+stored_in None = Unreachable
+stored_in (Some known) = Reached (facts_in known)
+
+abbrev pub stored : Store → Stored
+stored store = stored_in store.known

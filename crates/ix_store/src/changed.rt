@@ -2,7 +2,7 @@
 
 ghost use Rattle.std.specs.Prelude.{◌≡◌, IfOk};
 ghost use Rattle.ix_core.specs.declared.fact.Path.TheVariants.{Slot, FieldOf};
-ghost use Rattle.ix_facts.specs.Forget.{offset_names, names, without};
+ghost use Rattle.ix_facts.specs.Forget.{offset_names, names, without, of_call};
 ghost use Rattle.ix_store.specs.ChangedPaths.{is_spared, is_final, is_changed};
 
 use ix_core::{Fact, Path, PathOff, Program};
@@ -18,8 +18,10 @@ pub(crate) enum Changed<'a> {
     Field(u32, Option<u32>),
     /// each field of the program that isn't final, of the object in each slot but the spared one
     Call(&'a Program, Option<u32>),
-    /// each field of the object in slot 0
-    This,
+    /// the slot of the result of a call and, where the callee isn't side-effect-free, what a call may change: program, slot, whether it is, spared slot
+    Called(&'a Program, u32, bool, Option<u32>),
+    /// the same of the parent's constructor, and each field of the object in slot 0
+    Parent(&'a Program, u32, bool, Option<u32>),
     /// each slot from this one on, and the fields of the objects in them
     From(u32),
 }
@@ -42,6 +44,13 @@ fn is_final_field(program: &Program, field: u32) -> bool
     }
 }
 
+/// Whether a call that may have side effects may change the field of the object in the slot.
+fn call_changes(program: &Program, spared: Option<u32>, slot: u32, field: u32) -> bool
+    ensures { result ≡ of_call (is_final program.now) (is_spared spared) (FieldOf slot field) }
+{
+    !is_in_spared(spared, slot) && !is_final_field(program, field)
+}
+
 /// Whether the step may change the field of the object in the slot.
 fn changes_field(changed: &Changed, slot: u32, field: u32) -> bool
     ensures { result ≡ is_changed changed.now (FieldOf slot field) }
@@ -49,10 +58,13 @@ fn changes_field(changed: &Changed, slot: u32, field: u32) -> bool
     match *changed {
         Changed::At(path) => is_of_path(&path, &Path::FieldOf(slot, field)),
         Changed::Field(own, spared) => !is_in_spared(spared, slot) && field == own,
-        Changed::Call(program, spared) => {
-            !is_in_spared(spared, slot) && !is_final_field(program, field)
+        Changed::Call(program, spared) => call_changes(program, spared, slot, field),
+        Changed::Called(program, target, free, spared) => {
+            slot == target || (!free && call_changes(program, spared, slot, field))
         }
-        Changed::This => slot == 0,
+        Changed::Parent(program, target, free, spared) => {
+            (slot == target || (!free && call_changes(program, spared, slot, field))) || slot == 0
+        }
         Changed::From(first) => slot >= first,
     }
 }
@@ -62,8 +74,11 @@ fn changes_slot(changed: &Changed, slot: u32) -> bool
 {
     match *changed {
         Changed::At(path) => is_of_path(&path, &Path::Slot(slot)),
+        Changed::Called(_, target, _, _) => slot == target,
+        Changed::Parent(_, target, _, _) => slot == target,
         Changed::From(first) => slot >= first,
-        _ => false,
+        Changed::Field(_, _) => false,
+        Changed::Call(_, _) => false,
     }
 }
 

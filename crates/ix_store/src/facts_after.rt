@@ -4,12 +4,13 @@ ghost use Rattle.std.specs.Prelude.{◌≡◌, ◌++◌, ◌∷◌, [], IfOk, On
 ghost use Rattle.ix_facts.specs.Assume as claims;
 ghost use Rattle.ix_facts.specs.Closure.{kept};
 ghost use Rattle.ix_facts.specs.Facts.{in_orders};
-ghost use Rattle.ix_facts.specs.Forget.{of_path, without};
+ghost use Rattle.ix_facts.specs.Forget.{without};
 ghost use Rattle.ix_facts.specs.Round.{rounded};
 ghost use Rattle.ix_facts.specs.Stores.{operated, with_copy, with_outcome, with_facts};
 ghost use Rattle.ix_facts.specs.Systems.{HaveClasses};
 ghost use Rattle.ix_after.specs.SameFacts.{AreSame};
 ghost use Rattle.ix_store.specs.ChangedPaths.{is_changed};
+ghost use Rattle.ix_store.specs.StoredFacts.{facts_in};
 ghost use Rattle.ix_outcomes.specs.OverGroups.{outcome_of};
 
 use crate::changed::{Changed, unchanged};
@@ -19,7 +20,7 @@ use ix_claims::is_proved;
 use ix_core::{Fact, OpKind, Path, PathClaim, Profile, Type_};
 use ix_exact::{push_less, push_upper};
 use ix_fact_list::FactList;
-use ix_facts::{facts_without_path, rounded_facts};
+use ix_facts::rounded_facts;
 use ix_outcomes::{Outcome, facts_of_outcome};
 use ix_rules::push_claim;
 use std::alloc::{AllocError, Global};
@@ -64,7 +65,7 @@ impl Known {
         profile: Profile,
         kind: &OpKind,
     ) -> Result<Vec<Fact>, AllocError>
-        ensures facts { IfOk result (λ facts. AreSame facts.items (operated profile kind.now self.now)) }
+        ensures facts { IfOk result (λ facts. AreSame facts.items (operated profile kind.now (facts_in self.now))) }
         ensures classes { IfOk result (λ facts. HaveClasses facts.items) }
     {
         let beside = FactList::beside_target(alloc, self.list(), kind)?;
@@ -80,7 +81,7 @@ impl Known {
         target: &Path,
         source: &Path,
     ) -> Result<Vec<Fact>, AllocError>
-        ensures facts { IfOk result (λ facts. AreSame facts.items (with_copy ty.now target.now source.now self.now)) }
+        ensures facts { IfOk result (λ facts. AreSame facts.items (with_copy ty.now target.now source.now (facts_in self.now))) }
         ensures classes { IfOk result (λ facts. HaveClasses facts.items) }
     {
         let beside = FactList::beside_path(alloc, self.list(), target)?;
@@ -90,7 +91,7 @@ impl Known {
     }
 
     pub(crate) fn told(&self, alloc: Global, outcome: &Outcome) -> Result<Vec<Fact>, AllocError>
-        ensures facts { IfOk result (λ facts. AreSame facts.items (with_outcome (outcome_of outcome.now) self.now)) }
+        ensures facts { IfOk result (λ facts. AreSame facts.items (with_outcome (outcome_of outcome.now) (facts_in self.now))) }
         ensures classes { IfOk result (λ facts. HaveClasses facts.items) }
     {
         let new = facts_of_outcome(alloc, self.list(), outcome)?;
@@ -104,7 +105,7 @@ impl Known {
         claim: &PathClaim,
         at: &Path,
     ) -> Result<Vec<Fact>, AllocError>
-        ensures facts { IfOk result (λ facts. facts.items ≡ with_facts (claims.claim_facts claim.now at.now) self.now) }
+        ensures facts { IfOk result (λ facts. facts.items ≡ with_facts (claims.claim_facts claim.now at.now) (facts_in self.now)) }
         ensures classes { IfOk result (λ facts. HaveClasses facts.items) }
     {
         let mut told = Vec::new(alloc);
@@ -115,17 +116,9 @@ impl Known {
     }
 
     pub(crate) fn proves(&self, claim: &PathClaim, at: &Path) -> bool
-        ensures proved { result ≡ claims.proves (in_orders self.now) claim.now at.now }
+        ensures proved { result ≡ claims.proves (in_orders (facts_in self.now)) claim.now at.now }
     {
         is_proved(self.list(), claim, at)
-    }
-
-    pub(crate) fn without(&self, alloc: Global, path: &Path) -> Result<Vec<Fact>, AllocError>
-        ensures facts { IfOk result (λ facts. facts.items ≡ without (of_path path.now) self.now) }
-        ensures classes { IfOk result (λ facts. HaveClasses facts.items) }
-    {
-        let facts = facts_without_path(alloc, self.list().as_slice(), path)?;
-        Ok(facts)
     }
 
     pub(crate) fn unchanged(
@@ -133,7 +126,7 @@ impl Known {
         alloc: Global,
         changed: &Changed,
     ) -> Result<Vec<Fact>, AllocError>
-        ensures facts { IfOk result (λ facts. facts.items ≡ without (is_changed changed.now) self.now) }
+        ensures facts { IfOk result (λ facts. facts.items ≡ without (is_changed changed.now) (facts_in self.now)) }
         ensures classes { IfOk result (λ facts. HaveClasses facts.items) }
     {
         let facts = unchanged(alloc, self.list().as_slice(), changed)?;
@@ -146,7 +139,7 @@ impl Known {
         marks: &[i32],
         scope: u32,
     ) -> Result<Vec<Fact>, AllocError>
-        ensures facts { IfOk result (λ facts. facts.items ≡ rounded marks.now scope self.now) }
+        ensures facts { IfOk result (λ facts. facts.items ≡ rounded marks.now scope (facts_in self.now)) }
         ensures classes { IfOk result (λ facts. HaveClasses facts.items) }
     {
         let within = unchanged(alloc, self.list().as_slice(), &Changed::From(scope))?;
@@ -156,7 +149,7 @@ impl Known {
 
     pub(crate) fn with_more(&self, alloc: Global, more: &[Fact]) -> Result<Vec<Fact>, AllocError>
         requires classes { HaveClasses more.now }
-        ensures facts { IfOk result (λ facts. facts.items ≡ with_facts more.now self.now) }
+        ensures facts { IfOk result (λ facts. facts.items ≡ with_facts more.now (facts_in self.now)) }
         ensures classes { IfOk result (λ facts. HaveClasses facts.items) }
     {
         let new = kept_facts(alloc, more)?;

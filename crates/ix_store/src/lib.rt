@@ -7,9 +7,11 @@
 #![tactic(auto, using(std::proofs::lemmas::List::append_assoc, ix_exact::specs::KeptLaws::kept_joined, ix_exact::specs::KeptLaws::same_int))]
 
 mod changed;
+mod closed;
 mod facts_after;
 mod joins;
 mod known;
+mod lattice;
 mod making;
 mod rules;
 mod store;

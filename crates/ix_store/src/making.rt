@@ -59,7 +59,7 @@ fn push_all(facts: &mut Vec<Fact>, more: &[Fact]) -> Result<(), AllocError>
 }
 
 /// All facts of the tables.
-pub(crate) fn facts_in(alloc: Global, tables: &Tables) -> Result<Vec<Fact>, AllocError>
+pub(crate) fn all_facts(alloc: Global, tables: &Tables) -> Result<Vec<Fact>, AllocError>
     ensures facts { IfOk result (λ facts. facts.items ≡ all_facts tables.now) }
 {
     let mut facts = Vec::new(alloc);

@@ -1,10 +1,11 @@
 //! The store behind each rule.
 
 ghost use Rattle.std.specs.Prelude.{◌≡◌, ◌∷◌, [], ◌↔◌, IsTrue, IfOk};
-ghost use Rattle.ix_facts.specs.Stores.{Unreachable, Reached, IsBelow, IsJoined, IsStoreOf, IsAfter, IsCopied, IsTold, IsAssumed, IsAdded, IsForgotten, IsRounded, IsProved};
+ghost use Rattle.ix_facts.specs.Stores.{Unreachable, Reached, IsStoreOf, IsAfter, IsCopied, IsTold, IsAssumed, IsAdded, IsForgotten, IsRounded, IsProved};
 ghost use Rattle.ix_facts.specs.Systems.{HaveClasses};
-ghost use Rattle.ix_facts.specs.Forget.{of_path, of_field, of_call, of_this};
-ghost use Rattle.ix_store.specs.ChangedPaths.{is_spared, is_final, is_changed};
+ghost use Rattle.ix_facts.specs.Forget.{of_path, of_field, of_call};
+ghost use Rattle.ix_store.specs.ChangedPaths.{is_spared, is_final, of_called, of_parent, is_changed};
+ghost use Rattle.ix_store.specs.StoredFacts.{facts_in, stored};
 ghost use Rattle.ix_outcomes.specs.OverGroups.{outcome_of};
 
 use crate::changed::Changed;
@@ -16,8 +17,8 @@ use ix_outcomes::Outcome;
 use ix_text::Joint;
 use std::alloc::{AllocError, Global};
 
-fn reached(alloc: Global, known: Known) -> Result<Store, AllocError>
-    ensures { IfOk result (λ store. store ≡ Reached known) }
+pub(crate) fn reached(alloc: Global, known: Known) -> Result<Store, AllocError>
+    ensures { IfOk result (λ store. stored store ≡ Reached (facts_in known)) }
 {
     let known = Joint::new(alloc, known)?;
     Ok(Store { known: Some(known) })
@@ -26,14 +27,14 @@ fn reached(alloc: Global, known: Known) -> Result<Store, AllocError>
 impl Store {
     /// The store at a place where no state is. It takes no memory.
     pub fn unreachable() -> Store
-        ensures store { result ≡ Unreachable }
+        ensures store { stored result ≡ Unreachable }
     {
         Store { known: None }
     }
 
     /// Whether no state is at the place. It takes no memory.
     pub fn is_unreachable(&self) -> bool
-        ensures answer { IsTrue result ↔ (self.now ≡ Unreachable) }
+        ensures answer { IsTrue result ↔ (stored self.now ≡ Unreachable) }
     {
         self.known.is_none()
     }
@@ -42,7 +43,7 @@ impl Store {
     /// memory.
     pub fn of_facts(alloc: Global, facts: &[Fact]) -> Result<Store, AllocError>
         requires classes { HaveClasses facts.now }
-        ensures store { IfOk result (λ store. IsStoreOf facts.now store) }
+        ensures store { IfOk result (λ store. IsStoreOf facts.now (stored store)) }
     {
         match Known::closed(alloc, facts)? {
             None => Ok(Store::unreachable()),
@@ -52,7 +53,7 @@ impl Store {
 
     /// The store behind an operation that is no call and touches no field. The only error is want of memory.
     pub fn after(&self, alloc: Global, profile: Profile, kind: &OpKind) -> Result<Store, AllocError>
-        ensures after { IfOk result (λ after. IsAfter profile kind.now self.now after) }
+        ensures after { IfOk result (λ after. IsAfter profile kind.now (stored self.now) (stored after)) }
     {
         let Some(known) = &self.known else {
             return Ok(Store::unreachable());
@@ -70,7 +71,7 @@ impl Store {
         source: &Path,
         ty: &Type_,
     ) -> Result<Store, AllocError>
-        ensures after { IfOk result (λ after. IsCopied ty.now target.now source.now self.now after) }
+        ensures after { IfOk result (λ after. IsCopied ty.now target.now source.now (stored self.now) (stored after)) }
     {
         let Some(known) = &self.known else {
             return Ok(Store::unreachable());
@@ -82,7 +83,7 @@ impl Store {
 
     /// The store where an outcome is told. The only error is want of memory.
     pub fn told(&self, alloc: Global, outcome: &Outcome) -> Result<Store, AllocError>
-        ensures after { IfOk result (λ after. IsTold (outcome_of outcome.now) self.now after) }
+        ensures after { IfOk result (λ after. IsTold (outcome_of outcome.now) (stored self.now) (stored after)) }
     {
         let Some(known) = &self.known else {
             return Ok(Store::unreachable());
@@ -94,7 +95,7 @@ impl Store {
 
     /// The store with the facts of a claim of the path, where it is assumed. The only error is want of memory.
     pub fn assume(&self, alloc: Global, claim: &PathClaim, at: &Path) -> Result<Store, AllocError>
-        ensures after { IfOk result (λ after. IsAssumed claim.now at.now self.now after) }
+        ensures after { IfOk result (λ after. IsAssumed claim.now at.now (stored self.now) (stored after)) }
     {
         let Some(known) = &self.known else {
             return Ok(Store::unreachable());
@@ -106,14 +107,9 @@ impl Store {
 
     /// The store without the facts that name the path; of a slot also without those that name a field of the object in it. The only error is want of memory.
     pub fn forget(&self, alloc: Global, path: &Path) -> Result<Store, AllocError>
-        ensures after { IfOk result (λ after. IsForgotten (of_path path.now) self.now after) }
+        ensures after { IfOk result (λ after. IsForgotten (of_path path.now) (stored self.now) (stored after)) }
     {
-        let Some(known) = &self.known else {
-            return Ok(Store::unreachable());
-        };
-        let facts = known.get().without(alloc, path)?;
-        let store = Store::of_facts(alloc, &facts)?;
-        Ok(store)
+        self.forget_changed(alloc, &Changed::At(*path))
     }
 
     /// The store behind a write of a field: without the facts that name the field, of the object in any slot but the spared one, since two slots may hold one object (JLS 15.26.1). The only error is want of memory.
@@ -123,7 +119,7 @@ impl Store {
         field: u32,
         spared: Option<u32>,
     ) -> Result<Store, AllocError>
-        ensures after { IfOk result (λ after. IsForgotten (of_field field (is_spared spared)) self.now after) }
+        ensures after { IfOk result (λ after. IsForgotten (of_field field (is_spared spared)) (stored self.now) (stored after)) }
     {
         self.forget_changed(alloc, &Changed::Field(field, spared))
     }
@@ -135,20 +131,41 @@ impl Store {
         program: &Program,
         spared: Option<u32>,
     ) -> Result<Store, AllocError>
-        ensures after { IfOk result (λ after. IsForgotten (of_call (is_final program.now) (is_spared spared)) self.now after) }
+        ensures after { IfOk result (λ after. IsForgotten (of_call (is_final program.now) (is_spared spared)) (stored self.now) (stored after)) }
     {
         self.forget_changed(alloc, &Changed::Call(program, spared))
     }
 
-    /// The store behind a call of the parent's constructor: without the facts that name a field of the object in slot 0 (JLS 8.8.7.1). The only error is want of memory.
-    pub fn forget_this(&self, alloc: Global) -> Result<Store, AllocError>
-        ensures after { IfOk result (λ after. IsForgotten of_this self.now after) }
+    /// The store behind a call, without what is known of its result: without the facts that name the slot that gets it and, where the callee isn't side-effect-free, those that `forget_call` drops. The only error is want of memory.
+    pub fn forget_called(
+        &self,
+        alloc: Global,
+        program: &Program,
+        target: u32,
+        free: bool,
+        spared: Option<u32>,
+    ) -> Result<Store, AllocError>
+        ensures after { IfOk result (λ after. IsForgotten (of_called program.now target free spared) (stored self.now) (stored after)) }
     {
-        self.forget_changed(alloc, &Changed::This)
+        self.forget_changed(alloc, &Changed::Called(program, target, free, spared))
+    }
+
+    /// The same behind a call of the parent's constructor: also without the facts that name a field of the object in slot 0 (JLS 8.8.7.1). The only error is want of memory.
+    pub fn forget_parent(
+        &self,
+        alloc: Global,
+        program: &Program,
+        target: u32,
+        free: bool,
+        spared: Option<u32>,
+    ) -> Result<Store, AllocError>
+        ensures after { IfOk result (λ after. IsForgotten (of_parent program.now target free spared) (stored self.now) (stored after)) }
+    {
+        self.forget_changed(alloc, &Changed::Parent(program, target, free, spared))
     }
 
     fn forget_changed(&self, alloc: Global, changed: &Changed) -> Result<Store, AllocError>
-        ensures after { IfOk result (λ after. IsForgotten (is_changed changed.now) self.now after) }
+        ensures after { IfOk result (λ after. IsForgotten (is_changed changed.now) (stored self.now) (stored after)) }
     {
         let Some(known) = &self.known else {
             return Ok(Store::unreachable());
@@ -160,7 +177,7 @@ impl Store {
 
     /// The store of a loop's label: without the facts that name a slot from `scope` on, the constants of the others moved to landmarks. The only error is want of memory.
     pub fn round(&self, alloc: Global, marks: &Landmarks, scope: u32) -> Result<Store, AllocError>
-        ensures after { IfOk result (λ after. IsRounded marks.now.ints scope self.now after) }
+        ensures after { IfOk result (λ after. IsRounded marks.now.ints scope (stored self.now) (stored after)) }
     {
         let Some(known) = &self.known else {
             return Ok(Store::unreachable());
@@ -173,7 +190,7 @@ impl Store {
     /// The store with more facts. What an int is at least must be -1, 0 or 1 in each of them. The only error is want of memory.
     pub fn add(&self, alloc: Global, more: &[Fact]) -> Result<Store, AllocError>
         requires classes { HaveClasses more.now }
-        ensures after { IfOk result (λ after. IsAdded more.now self.now after) }
+        ensures after { IfOk result (λ after. IsAdded more.now (stored self.now) (stored after)) }
     {
         let Some(known) = &self.known else {
             return Ok(Store::unreachable());
@@ -181,31 +198,6 @@ impl Store {
         let facts = known.get().with_more(alloc, more)?;
         let store = Store::of_facts(alloc, &facts)?;
         Ok(store)
-    }
-
-    /// Whether the store says all that the other says; the unreachable one says everything. It takes no memory.
-    pub fn is_below(&self, other: &Store) -> bool
-        ensures below { IsTrue result ↔ IsBelow self.now other.now }
-    {
-        match (&self.known, &other.known) {
-            (None, _) => true,
-            (Some(_), None) => false,
-            (Some(known), Some(others)) => known.get().says_all(others.get()),
-        }
-    }
-
-    /// The store of what both say; of an unreachable one and another what the other says. The only error is want of memory.
-    pub fn join(&self, alloc: Global, other: &Store) -> Result<Store, AllocError>
-        ensures joined { IfOk result (λ store. IsJoined self.now other.now store) }
-    {
-        match (&self.known, &other.known) {
-            (_, None) => self.share(),
-            (None, Some(_)) => other.share(),
-            (Some(known), Some(others)) => {
-                let known = known.get().common(alloc, others.get())?;
-                reached(alloc, known)
-            }
-        }
     }
 
     /// The same store once more, without a copy of its facts. The only error is want of memory for one owner more.
@@ -223,7 +215,7 @@ impl Store {
 
     /// Whether the store proves the claim of the path; the unreachable one proves every claim. It takes no memory.
     pub fn proves(&self, claim: &PathClaim, at: &Path) -> bool
-        ensures proved { IsTrue result ↔ IsProved claim.now at.now self.now }
+        ensures proved { IsTrue result ↔ IsProved claim.now at.now (stored self.now) }
     {
         match &self.known {
             None => true,

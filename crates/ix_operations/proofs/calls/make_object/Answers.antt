@@ -4,7 +4,7 @@ use Rattle.std.proofs.lemmas.List.{length-map}
 use Rattle.ix_core.specs.Heap.{cells_used, default_of}
 use Rattle.ix_core.specs.Tables.{all_fields, field_at}
 use Rattle.ix_heap.specs.View.{heap_of}
-use Rattle.ix_operations.proofs.Ways.{room_left}
+use Rattle.ix_operations.proofs.FieldRows.{room_left}
 use Rattle.ix_operations.proofs.calls.make_object.Goals as goal
 
 pub make_object-requires : goal.make_object-requires

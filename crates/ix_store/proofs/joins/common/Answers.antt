@@ -1,4 +1,4 @@
-use Rattle.ix_store.proofs.SixCommon.{six_common}
+use Rattle.ix_store.specs.SixCommon.{six_common}
 use Rattle.ix_store.proofs.joins.common.Goals as goal
 
 pub returns-clause-common : goal.returns-clause-common

@@ -1,8 +1,8 @@
-use Rattle.std.proofs.Common.{◌≡◌, sym, subst}
+use Rattle.std.proofs.Common.{sym, subst}
 use Rattle.std.specs.Prelude.{◌↔◌, IsTrue}
 use Rattle.ix_facts.specs.Closure.{SaysAll}
 use Rattle.ix_store.specs.AllTables.{all_facts}
-use Rattle.ix_store.proofs.SixCommon.{six_answers}
+use Rattle.ix_store.specs.SixCommon.{six_answers}
 use Rattle.ix_store.proofs.joins.says_all.Goals as goal
 
 pub returns : goal.returns

@@ -1,7 +1,7 @@
 use Rattle.std.proofs.Common.{◌≡◌, ◌≤◌, ◌⊎◌, ℕ, List, [], Vec, Some, length, map, subst, arith}
 use Rattle.std.specs.Prelude.{slice_get}
 use Rattle.std.specs.declared.alloc.Global.{Global}
-use Rattle.ix_operations.proofs.Ways.{row_is}
+use Rattle.ix_operations.proofs.FieldRows.{row_is}
 use Rattle.ix_operations.proofs.rows.Rows.fields.Goals as goal
 
 pub returns : goal.returns

@@ -1,4 +1,4 @@
-use Rattle.ix_operations.proofs.Ways.{rows_next}
+use Rattle.ix_operations.proofs.FieldRows.{rows_next}
 use Rattle.ix_operations.proofs.rows.Rows.new.Goals as goal
 
 pub loop-class-preserved : goal.loop-class-preserved

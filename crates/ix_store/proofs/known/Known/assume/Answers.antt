@@ -4,11 +4,12 @@ use Rattle.ix_facts.specs.Closure.{kept}
 use Rattle.ix_facts.specs.Stores.{with_facts}
 use Rattle.ix_facts.specs.Systems.{HaveClasses}
 use Rattle.ix_store.proofs.ClassesAfter.{assumed_classes}
+use Rattle.ix_store.specs.StoredFacts.{facts_in}
 use Rattle.ix_store.proofs.known.Known.assume.Goals as goal
 
 pub returns-clause-classes : goal.returns-clause-classes
 returns-clause-classes c =
-    let known = c.args.self.now in
+    let known = facts_in c.args.self.now in
     let told = claim_facts c.args.claim.now c.args.at.now in
     let is : c.in_ok-facts.facts.items ≡ with_facts told known =
     c.in_ok-facts.ensures

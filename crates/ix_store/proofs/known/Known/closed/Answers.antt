@@ -1,6 +1,5 @@
-use Rattle.std.proofs.Common.{◌≡◌, ◌++◌, true, false, All, sym, subst, ap, ◌∙◌}
+use Rattle.std.proofs.Common.{◌≡◌, true, false, All, sym, subst, ap, ◌∙◌}
 use Rattle.ix_facts.specs.Small.{HasSmallNumbers}
-use Rattle.ix_facts.specs.Stores.{IsStoreOf, Reached}
 use Rattle.ix_facts.specs.Systems.{IsTable}
 use Rattle.ix_fact_table.specs.FactTables.{facts_of}
 use Rattle.ix_store.specs.AllTables.{all_facts}
@@ -31,4 +30,4 @@ returns c =
     let tables = c.in_ok-tables.tables in
     let table : IsTable more (all_facts tables) = subst (λ l. IsTable l (all_facts tables)) c.deref.ensures.value c.in_ok-tables.ensures.table in
     let full : some_empty (facts_of tables.ranges) ≡ false = ap some_empty (sym c.as_slice.ensures.facts) ∙ (sym c.has_empty.ensures ∙ c.if-has_empty.false) in
-    record { store = subst (λ l. IsStoreOf facts (Reached l)) (sym (c.in_ok-list.ensures.facts ∙ c.in_ok-all.ensures.facts)) (reached_store facts more (facts_of tables.ranges) (rest_facts tables) c.in_ok-more.ensures.saturated table full (no_ranges tables c.in_ok-tables.ensures.kinds)) }
+    record { store = reached_store facts more (facts_of tables.ranges) (rest_facts tables) c.in_ok-more.ensures.saturated table full (no_ranges tables c.in_ok-tables.ensures.kinds) }

@@ -1,0 +1,6 @@
+pub mod SignSteps
+pub mod SignTruth
+pub mod LeastSteps
+mod SignClasses
+mod Alike
+mod Rules

@@ -1,0 +1,28 @@
+use Rattle.std.proofs.Common.{sym, subst, ◌∙◌}
+use Rattle.ix_core.specs.Tables.{method_at}
+use Rattle.ix_facts.specs.Stores.{IsAdded, IsForgotten}
+use Rattle.ix_facts.specs.Systems.{HaveClasses}
+use Rattle.ix_store.specs.ChangedPaths.{of_called}
+use Rattle.ix_store.specs.StoredFacts.{stored}
+use Rattle.ix_sign.specs.Signs.{result_facts}
+use Rattle.ix_sign.specs.Spared.{this_if}
+use Rattle.ix_sign.proofs.Rules.{call_least}
+use Rattle.ix_sign.proofs.SignClasses.{result_have}
+use Rattle.ix_sign.proofs.calls.after_call.Goals as goal
+
+pub add-requires : goal.add-requires
+add-requires c = record { classes = subst HaveClasses (sym (c.deref.ensures.value ∙ c.in_ok-facts.ensures)) (result_have c.args.program.now c.args.call.now) }
+
+pub returns : goal.returns
+returns c =
+    let program = c.args.program.now in
+    let method = c.args.within.now in
+    let call = c.args.call.now in
+    let s = stored c.args.store.now in
+    let between = stored c.in_ok-rest.rest in
+    let forgotten : IsForgotten (of_called program call.target (method_at program call.method).effect_free (this_if method.constructor)) s between =
+    subst (λ b. IsForgotten (of_called program call.target b (this_if method.constructor)) s between) c.is_effect_free-free.ensures
+    (subst (λ o. IsForgotten (of_called program call.target c.is_effect_free-free.result o) s between) c.this_if-spared.ensures c.in_ok-rest.ensures.after) in
+    let added : IsAdded (result_facts program call) between (stored c.in_ok-after.after) =
+    subst (λ l. IsAdded l between (stored c.in_ok-after.after)) (c.deref.ensures.value ∙ c.in_ok-facts.ensures) c.in_ok-after.ensures.after in
+    record { least = call_least program method call s between (stored c.in_ok-after.after) forgotten added }

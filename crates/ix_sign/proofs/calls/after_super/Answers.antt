@@ -1,0 +1,29 @@
+use Rattle.std.proofs.Common.{◌++◌, sym, subst, ◌∙◌}
+use Rattle.ix_core.specs.Tables.{method_at}
+use Rattle.ix_facts.specs.Stores.{IsAdded, IsForgotten}
+use Rattle.ix_facts.specs.Systems.{HaveClasses}
+use Rattle.ix_store.specs.ChangedPaths.{of_parent}
+use Rattle.ix_store.specs.StoredFacts.{stored}
+use Rattle.ix_sign.specs.Signs.{zero_fields, fields_facts, own_fields, inherited_fields}
+use Rattle.ix_sign.specs.Spared.{this_if}
+use Rattle.ix_sign.proofs.Rules.{super_least}
+use Rattle.ix_sign.proofs.SignClasses.{super_have}
+use Rattle.ix_sign.proofs.calls.after_super.Goals as goal
+
+pub add-requires : goal.add-requires
+add-requires c =
+    record { classes = subst HaveClasses (sym (c.deref.ensures.value ∙ c.in_ok-facts.ensures)) (super_have c.args.program.now (own_fields c.args.program.now c.args.within.now) (inherited_fields c.args.program.now c.args.within.now)) }
+
+pub returns : goal.returns
+returns c =
+    let program = c.args.program.now in
+    let method = c.args.within.now in
+    let call = c.args.call.now in
+    let s = stored c.args.store.now in
+    let between = stored c.in_ok-rest.rest in
+    let forgotten : IsForgotten (of_parent program call.target (method_at program call.method).effect_free (this_if method.constructor)) s between =
+    subst (λ b. IsForgotten (of_parent program call.target b (this_if method.constructor)) s between) c.is_effect_free-free.ensures
+    (subst (λ o. IsForgotten (of_parent program call.target c.is_effect_free-free.result o) s between) c.this_if-spared.ensures c.in_ok-rest.ensures.after) in
+    let added : IsAdded (zero_fields program (own_fields program method) ++ fields_facts program (inherited_fields program method)) between (stored c.in_ok-after.after) =
+    subst (λ l. IsAdded l between (stored c.in_ok-after.after)) (c.deref.ensures.value ∙ c.in_ok-facts.ensures) c.in_ok-after.ensures.after in
+    record { least = super_least program method call s between (stored c.in_ok-after.after) forgotten added }
