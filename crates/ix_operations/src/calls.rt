@@ -12,8 +12,8 @@ ghost use Rattle.ix_frames.specs.Values.{receivers};
 ghost use Rattle.ix_operations.specs.Calls.{call_of};
 ghost use Rattle.ix_operations.specs.Kinds.{kind_of, called_of};
 
-use ix_classes::found;
 use crate::rows::Rows;
+use ix_classes::found;
 use ix_core::{CallOp, Item, OpKind, Program, Type_};
 use ix_frames::Frame;
 use ix_heap::{Heap, Held, default_of};

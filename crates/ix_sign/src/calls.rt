@@ -34,7 +34,12 @@ fn result_facts(alloc: Global, program: &Program, call: &CallOp) -> Result<Vec<F
     if let Some(callee) = program.methods.as_slice().get(call.method as usize) {
         let at = Path::Slot(call.target);
         push_received(&mut facts, &callee.result, &at)?;
-        push_claims(&mut facts, &Naming::AtCall(call), &at, callee.result_claims.as_slice())?;
+        push_claims(
+            &mut facts,
+            &Naming::AtCall(call),
+            &at,
+            callee.result_claims.as_slice(),
+        )?;
     }
     Ok(facts)
 }
@@ -74,11 +79,7 @@ fn inherited_fields(
 }
 
 /// What is known of `this` behind a call of the parent's constructor.
-fn facts_of_this(
-    alloc: Global,
-    program: &Program,
-    within: &Method,
-) -> Result<Vec<Fact>, AllocError>
+fn facts_of_this(alloc: Global, program: &Program, within: &Method) -> Result<Vec<Fact>, AllocError>
     requires small { HaveSmallNames program.now }
     ensures { IfOk result (λ facts. facts.items ≡ zero_fields program.now (own_fields program.now within.now) ++ fields_facts program.now (signs.inherited_fields program.now within.now)) }
 {

@@ -52,7 +52,12 @@ fn facts_at_read(
     let mut facts = Vec::new(alloc);
     if is_built(within, object) {
         let at = Path::FieldOf(object, field);
-        push_claims(&mut facts, &Naming::OfObject(object), &at, claims_of(program, field))?;
+        push_claims(
+            &mut facts,
+            &Naming::OfObject(object),
+            &at,
+            claims_of(program, field),
+        )?;
     }
     Ok(facts)
 }
@@ -71,7 +76,12 @@ pub(crate) fn facts_at_write(
     let mut facts = Vec::new(alloc);
     if is_built(within, object) {
         let at = Path::FieldOf(object, field);
-        push_claims(&mut facts, &Naming::OfObject(object), &at, claims_of(program, field))?;
+        push_claims(
+            &mut facts,
+            &Naming::OfObject(object),
+            &at,
+            claims_of(program, field),
+        )?;
         push_dependents(&mut facts, program, object, field)?;
     }
     Ok(facts)
