@@ -2,7 +2,7 @@
 use Rattle.std.proofs.Common.{◌≡◌, ℕ, zero, suc, List, [], ◌∷◌, ◌++◌, length, set, slice_get, Some, arith, refl, subst}
 use Rattle.std.specs.List.{AllZip}
 use Rattle.ix_lattice.specs.Lattice.{LatticeLaws, IsJoin}
-use Rattle.ix_solve.specs.Solutions.{IsBottom, AreBottom, IsLeast, IsMonotone}
+use Rattle.ix_solve.specs.Solutions.{IsBottom, AreBottom, IsLeast, IsLeastOf, IsMonotone}
 
 module _ {V : Type 0} (Below : V → V → Type 0) where
   -- a label is changed to one that is still below the other's
@@ -12,6 +12,10 @@ module _ {V : Type 0} (Below : V → V → Type 0) where
   zip_set (x ∷ a) [] i y m zip at below = absurd zip
   zip_set (x ∷ a) (q ∷ b) zero y m zip at below = let is : m ≡ q = cc in (subst (Below y) is below, zip.1)
   zip_set (x ∷ a) (q ∷ b) (suc i) y m zip at below = (zip.0, zip_set a b i y m zip.1 at below)
+
+  pub zip_same : ((v : V) → Below v v) → (a : List V) → AllZip Below a a
+  zip_same reflexive [] = tt
+  zip_same reflexive (x ∷ a) = (reflexive x, zip_same reflexive a)
 
   -- at each place the other has a label that is above
   pub zip_at : (a b : List V) (i : ℕ) (x : V) → AllZip Below a b → slice_get a i ≡ Some x → (m : V) × (slice_get b i ≡ Some m) × Below x m
@@ -31,12 +35,18 @@ module _ {V : Type 0} (Below : V → V → Type 0) where
   zip_bottom (x ∷ a) [] all same = absurd (omega arith)
   zip_bottom (x ∷ a) (q ∷ b) all same = (all.0 q, zip_bottom a b all.1 (omega arith))
 
-module _ {V : Type 0} {Below : V → V → Type 0} {rank : V → ℕ} (laws : LatticeLaws Below rank) {size : ℕ} {Says : ℕ → List V → V → Type 0}
-    (monotone : IsMonotone Below Says) where
+module _ {V : Type 0} {Below : V → V → Type 0} {rank : V → ℕ} (laws : LatticeLaws Below rank) {size : ℕ} {Asks : ℕ → List V → V → Type 0}
+    (monotone : IsMonotone Below Asks) where
   -- least labels stay so where one is joined with what its equation says
-  pub least_set : (a : List V) (at : ℕ) (label value join : V) → IsLeast Below size Says a → slice_get a at ≡ Some label → Says at a value → IsJoin Below label value join → IsLeast Below size Says (set a at join)
+  pub least_set : (a : List V) (at : ℕ) (label value join : V) → IsLeast Below size Asks a → slice_get a at ≡ Some label → IsLeastOf Below (Asks at a) value → IsJoin Below label value join → IsLeast Below size Asks (set a at join)
   least_set a at label value join least found says is other solution =
       let zip = least other solution in
       let theirs = zip_at Below a other at label zip found in
       let above = solution.above at theirs.0 theirs.1 in
-      zip_set Below a other at join theirs.0 zip theirs.1 (is.least theirs.0 theirs.2 (laws.transitive _ _ _ (monotone at a other value above.0 zip says above.1) above.2))
+      zip_set Below a other at join theirs.0 zip theirs.1 (is.least theirs.0 theirs.2 (says.1 theirs.0 (monotone at a other theirs.0 theirs.0 zip above (laws.reflexive theirs.0))))
+
+module _ {V : Type 0} {Below : V → V → Type 0} {rank : V → ℕ} (laws : LatticeLaws Below rank) {Asks : ℕ → List V → V → Type 0}
+    (monotone : IsMonotone Below Asks) where
+  -- what is high enough stays so where it rises
+  pub enough_above : (a : List V) (at : ℕ) (v w : V) → Asks at a v → Below v w → Asks at a w
+  enough_above a at v w says below = monotone at a a v w (zip_same Below laws.reflexive a) says below

@@ -4,19 +4,19 @@ use Rattle.std.proofs.lemmas.Bool.{cases_eq}
 use Rattle.std.proofs.lemmas.List.Elements.{Contains-append_left, All-contains}
 use Rattle.std.proofs.lemmas.Option.{slice_get_within}
 use Rattle.ix_lattice.specs.Lattice.{LatticeLaws, IsJoin, falls_strictly}
-use Rattle.ix_solve.specs.Solutions.{IsLeast, IsMonotone}
+use Rattle.ix_solve.specs.Solutions.{IsLeast, IsLeastOf, IsMonotone}
 use Rattle.ix_solve.specs.Readers.{AgreeWhereRead, DependsOnRead}
 use Rattle.ix_solve.specs.Waiting.{AddsEach}
-use Rattle.ix_solve.proofs.LabelLists.{least_set}
+use Rattle.ix_solve.proofs.LabelLists.{least_set, enough_above}
 use Rattle.ix_solve.proofs.NodeLists.{contains_cases, contains_or_not, slice_get-set_same, slice_get-set_other}
 use Rattle.ix_solve.proofs.Weights.{weight, weight_falls}
 
--- Each node waits, or its label is above what a visit answers. What was spent, what waits and what the labels
+-- Each node waits, or its label is high enough. What was spent, what waits and what the labels
 -- weigh is at most what it was at the start.
-pub record Working {V : Type 0} (Below : V → V → Type 0) (rank : V → ℕ) (readers : List (List ℕ)) (Visits : ℕ → List V → V → Type 0) (before steps : ℕ) (first now : List V) (waiting : List ℕ) : Type 0 where
+pub record Working {V : Type 0} (Below : V → V → Type 0) (rank : V → ℕ) (readers : List (List ℕ)) (Asks : ℕ → List V → V → Type 0) (before steps : ℕ) (first now : List V) (waiting : List ℕ) : Type 0 where
   pub len : length now ≡ length readers
-  pub least : IsLeast Below (length readers) Visits now
-  pub settled : (node : ℕ) (label : V) → slice_get now node ≡ Some label → ((value : V) × Visits node now value × Below value label) ⊎ Contains waiting node
+  pub least : IsLeast Below (length readers) Asks now
+  pub settled : (node : ℕ) (label : V) → slice_get now node ≡ Some label → Asks node now label ⊎ Contains waiting node
   pub cost : steps + length waiting + weight rank readers now ≤ before + length readers + weight rank readers first
   pub floor : before + length readers ≤ steps + length waiting
 
@@ -37,12 +37,12 @@ module _ {V : Type 0} {Below : V → V → Type 0} {rank : V → ℕ} (laws : La
   pub strict_join : (label value join : V) → IsJoin Below label value join → ¬ Below value label → rank join < rank label
   strict_join label value join is apart = falls_strictly laws label join is.left (λ back. apart (laws.transitive _ _ _ is.right back))
 
-module _ {V : Type 0} {Below : V → V → Type 0} {rank : V → ℕ} (laws : LatticeLaws Below rank) {readers : List (List ℕ)} {Visits : ℕ → List V → V → Type 0}
-    (monotone : IsMonotone Below Visits)
-    (depends : DependsOnRead readers Visits) where
+module _ {V : Type 0} {Below : V → V → Type 0} {rank : V → ℕ} (laws : LatticeLaws Below rank) {readers : List (List ℕ)} {Asks : ℕ → List V → V → Type 0}
+    (monotone : IsMonotone Below Asks)
+    (depends : DependsOnRead readers Asks) where
   -- the label is above what the visit answered
-  pub visited_kept : (before steps at : ℕ) (first a : List V) (old waiting : List ℕ) (label value : V) → old ≡ at ∷ waiting → slice_get a at ≡ Some label → Visits at a value → Below value label
-      → Working Below rank readers Visits before steps first a old → Working Below rank readers Visits before (steps + 1) first a waiting
+  pub visited_kept : (before steps at : ℕ) (first a : List V) (old waiting : List ℕ) (label value : V) → old ≡ at ∷ waiting → slice_get a at ≡ Some label → IsLeastOf Below (Asks at a) value → Below value label
+      → Working Below rank readers Asks before steps first a old → Working Below rank readers Asks before (steps + 1) first a waiting
   visited_kept before steps at first a old waiting label value is found says below now =
       let long : length old ≡ length (at ∷ waiting) = ap length is in
       record {
@@ -53,7 +53,7 @@ module _ {V : Type 0} {Below : V → V → Type 0} {rank : V → ℕ} (laws : La
             (λ e.
             let both : Some label ≡ Some other = sym found ∙ subst (λ t. slice_get a t ≡ Some other) (sym e) g in
             let same : label ≡ other = cc in
-            inl (value, subst (λ t. Visits t a value) e says, subst (Below value) same below))
+            inl (subst (Asks node a) same (subst (λ t. Asks t a label) e (enough_above laws monotone a at value label says.0 below))))
             inr
             (contains_cases at node waiting (subst (λ xs. Contains xs node) is waits)))
             (now.settled node other g);
@@ -62,8 +62,8 @@ module _ {V : Type 0} {Below : V → V → Type 0} {rank : V → ℕ} (laws : La
       }
 
   -- the label rises, and its readers wait
-  pub visited_raised : (before steps at : ℕ) (first a : List V) (old waiting new by : List ℕ) (label value join : V) → old ≡ at ∷ waiting → AddsEach waiting new by → slice_get readers at ≡ Some by → slice_get a at ≡ Some label → Visits at a value → IsJoin Below label value join → ¬ Below value label
-      → Working Below rank readers Visits before steps first a old → Working Below rank readers Visits before (steps + 1) first (set a at join) new
+  pub visited_raised : (before steps at : ℕ) (first a : List V) (old waiting new by : List ℕ) (label value join : V) → old ≡ at ∷ waiting → AddsEach waiting new by → slice_get readers at ≡ Some by → slice_get a at ≡ Some label → IsLeastOf Below (Asks at a) value → IsJoin Below label value join → ¬ Below value label
+      → Working Below rank readers Asks before steps first a old → Working Below rank readers Asks before (steps + 1) first (set a at join) new
   visited_raised before steps at first a old waiting new by label value join is adds read found says joins apart now =
       let long : length old ≡ length (at ∷ waiting) = ap length is in
       let more : length new ≡ length waiting + length adds.more = ap length adds.appended ∙ length-append waiting adds.more in
@@ -81,11 +81,11 @@ module _ {V : Type 0} {Below : V → V → Type 0} {rank : V → ℕ} (laws : La
             (λ e.
             let both : Some join ≡ Some other = sym (slice_get-set_same a at join label found) ∙ subst (λ t. slice_get (set a at join) t ≡ Some other) e g in
             let same : join ≡ other = cc in
-            inl (value, depends node a (set a at join) value within agree (subst (λ t. Visits t a value) (sym e) says), subst (Below value) same joins.right))
+            inl (subst (Asks node (set a at join)) same (depends node a (set a at join) join within agree (subst (λ t. Asks t a join) (sym e) (enough_above laws monotone a at value join says.0 joins.right)))))
             (λ differs.
             let was : slice_get a node ≡ Some other = sym (slice_get-set_other a at node join differs) ∙ g in
             ⊎_elim
-            (λ met. inl (met.0, depends node a (set a at join) met.0 within agree met.1, met.2))
+            (λ met. inl (depends node a (set a at join) other within agree met))
             (λ waits. ⊎_elim
             (λ e. absurd (differs (sym e)))
             (λ later. inr (subst (λ xs. Contains xs node) (sym adds.appended) (Contains-append_left waiting adds.more node later)))

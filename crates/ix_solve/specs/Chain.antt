@@ -14,7 +14,7 @@ height_rank a = 5 - a.value
 abbrev pub chain_readers : List (List ℕ)
 chain_readers = (1 ∷ []) ∷ (2 ∷ []) ∷ (3 ∷ []) ∷ [] ∷ []
 
--- node 0 is at the first height, and each other node reads the one before it
-abbrev pub ChainVisits : Height → ℕ → List Height → Height → Type 0
-ChainVisits first zero labels value = value ≡ first
-ChainVisits first (suc at) labels value = slice_get labels at ≡ Some value
+-- node 0 is at least at the first height, and each other node at least as high as the one before it
+abbrev pub ChainAsks : Height → ℕ → List Height → Height → Type 0
+ChainAsks first zero labels value = HeightBelow first value
+ChainAsks first (suc at) labels value = (left : Height) × (slice_get labels at ≡ Some left) × HeightBelow left value

@@ -1,20 +1,20 @@
 //! Equations over a lattice, and their least solution by rounds.
 
 ghost use Rattle.std.specs.Prelude.{◌≡◌, ℕ, ◌<◌, List, length, IfOk, true, false, sum_by, vec_len};
-ghost use Rattle.ix_solve.specs.Solutions.{IsBottom, IsMonotone, IsSolution, IsLeast};
+ghost use Rattle.ix_solve.specs.Solutions.{IsBottom, IsMonotone, IsLeastOf, IsSolution, IsLeast};
 
 use ix_lattice::Lattice;
 use std::alloc::{AllocError, Global};
 
-/// Equations with numbers from 0 on. Each says of all labels what its own label must be above.
+/// Equations with numbers from 0 on. Each asks, by all labels, that its own label is high enough.
 pub trait Equations {
     type Value: Lattice;
 
     /// How many equations there are.
     ghost size: { Self → ℕ };
 
-    /// What `apply` may answer at an equation and labels.
-    ghost Applies: { Self → ℕ → List Self.Value → Self.Value → Type 0 };
+    /// Whether a value is high enough for an equation at labels.
+    ghost Asks: { Self → ℕ → List Self.Value → Self.Value → Type 0 };
 
     fn len(&self) -> usize
         ensures size { result ≡ size self.now };
@@ -23,7 +23,7 @@ pub trait Equations {
     fn least(&self) -> Self::Value
         ensures bottom { IsBottom Self.Value.Below result };
 
-    /// What the label of equation `at` must be above, or want of memory.
+    /// The least value that is high enough for equation `at`, or want of memory.
     fn apply(
         &self,
         alloc: Global,
@@ -32,18 +32,18 @@ pub trait Equations {
     ) -> Result<Self::Value, AllocError>
         requires at { at < size self.now }
         requires labels { length labels.now ≡ size self.now }
-        ensures value { IfOk result (Applies self.now at labels.now) };
+        ensures value { IfOk result (IsLeastOf Self.Value.Below (Asks self.now at labels.now)) };
 
-    /// Of higher labels an equation says what is no lower.
-    ghost monotone: { (equations : Self) → IsMonotone Self.Value.Below (Applies equations) };
+    /// What is high enough at labels is so at lower labels, and so is what is above it.
+    ghost monotone: { (equations : Self) → IsMonotone Self.Value.Below (Asks equations) };
 }
 
-/// The least labels, one for each equation, that are above what the equations say of them.
+/// The least labels, one for each equation, that are high enough for all equations.
 pub fn solve<E: Equations>(alloc: Global, equations: &E) -> Result<Vec<E::Value>, AllocError>
     ensures solution { IfOk result (λ labels.
-        IsSolution E.Value.Below (E.size equations.now) (E.Applies equations.now) labels.items) }
+        IsSolution E.Value.Below (E.size equations.now) (E.Asks equations.now) labels.items) }
     ensures least { IfOk result (λ labels.
-        IsLeast E.Value.Below (E.size equations.now) (E.Applies equations.now) labels.items) }
+        IsLeast E.Value.Below (E.size equations.now) (E.Asks equations.now) labels.items) }
 {
     let mut labels = all_least(alloc, equations)?;
     while round(alloc, equations, &mut labels)? {}
@@ -53,7 +53,7 @@ pub fn solve<E: Equations>(alloc: Global, equations: &E) -> Result<Vec<E::Value>
 fn all_least<E: Equations>(alloc: Global, equations: &E) -> Result<Vec<E::Value>, AllocError>
     ensures len { IfOk result (λ labels. vec_len labels ≡ E.size equations.now) }
     ensures least { IfOk result (λ labels.
-        IsLeast E.Value.Below (E.size equations.now) (E.Applies equations.now) labels.items) }
+        IsLeast E.Value.Below (E.size equations.now) (E.Asks equations.now) labels.items) }
 {
     let mut labels = Vec::new(alloc);
     for _ in 0..equations.len() {
@@ -69,12 +69,12 @@ fn round<E: Equations>(
     labels: &mut Vec<E::Value>,
 ) -> Result<bool, AllocError>
     requires len { vec_len labels.old ≡ E.size equations.now }
-    requires least { IsLeast E.Value.Below (E.size equations.now) (E.Applies equations.now) labels.old.items }
+    requires least { IsLeast E.Value.Below (E.size equations.now) (E.Asks equations.now) labels.old.items }
     ensures len { IfOk result (λ _. vec_len labels.new ≡ E.size equations.now) }
     ensures least { IfOk result (λ _.
-        IsLeast E.Value.Below (E.size equations.now) (E.Applies equations.now) labels.new.items) }
+        IsLeast E.Value.Below (E.size equations.now) (E.Asks equations.now) labels.new.items) }
     ensures quiet { IfOk result (λ rose. rose ≡ false →
-        IsSolution E.Value.Below (E.size equations.now) (E.Applies equations.now) labels.new.items) }
+        IsSolution E.Value.Below (E.size equations.now) (E.Asks equations.now) labels.new.items) }
     ensures falls { IfOk result (λ rose. rose ≡ true →
         sum_by E.Value.rank labels.new.items < sum_by E.Value.rank labels.old.items) }
 {

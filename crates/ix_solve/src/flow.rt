@@ -1,7 +1,7 @@
 //! Problems on a flow graph, and their least solution by a worklist.
 
 ghost use Rattle.std.specs.Prelude.{◌≡◌, ℕ, ◌+◌, ◌<◌, ◌≤◌, List, length, slice_get, Some, IfOk, vec_len};
-ghost use Rattle.ix_solve.specs.Solutions.{IsBottom, AreBottom, IsMonotone, IsSolution, IsLeast};
+ghost use Rattle.ix_solve.specs.Solutions.{IsBottom, AreBottom, IsMonotone, IsLeastOf, IsSolution, IsLeast};
 ghost use Rattle.ix_solve.specs.Readers.{AreReadersInRange, DependsOnRead, VisitsAtMost};
 
 use crate::steps::Steps;
@@ -17,8 +17,8 @@ pub trait FlowProblem {
     /// Of each node, the nodes that read its label.
     ghost readers_of: { Self → List (List ℕ) };
 
-    /// What a visit of a node may answer at labels.
-    ghost Visits: { Self → ℕ → List Self.Value → Self.Value → Type 0 };
+    /// Whether a value is high enough for a node at labels.
+    ghost Asks: { Self → ℕ → List Self.Value → Self.Value → Type 0 };
 
     /// How many nodes there are.
     fn len(&self) -> usize
@@ -34,7 +34,7 @@ pub trait FlowProblem {
         requires at { at < length (readers_of self.now) }
         ensures readers { slice_get (readers_of self.now) at ≡ Some result.now };
 
-    /// What the label of node `at` must be above, or want of memory. It ticks once.
+    /// The least value that is high enough for node `at`, or want of memory. It ticks once.
     fn visit<L: Ledger>(
         &self,
         alloc: Global,
@@ -44,17 +44,17 @@ pub trait FlowProblem {
     ) -> Result<Self::Value, AllocError>
         requires at { at < length (readers_of self.now) }
         requires labels { length labels.now ≡ length (readers_of self.now) }
-        ensures value { IfOk result (Visits self.now at labels.now) }
+        ensures value { IfOk result (IsLeastOf Self.Value.Below (Asks self.now at labels.now)) }
         ensures step { steps.new ≡ steps.old + 1 };
 
-    /// Of higher labels a visit answers what is no lower.
-    ghost monotone: { (problem : Self) → IsMonotone Self.Value.Below (Visits problem) };
+    /// What is high enough at labels is so at lower labels, and so is what is above it.
+    ghost monotone: { (problem : Self) → IsMonotone Self.Value.Below (Asks problem) };
 
-    /// A visit depends only on labels that have the node among their readers.
-    ghost depends: { (problem : Self) → DependsOnRead (readers_of problem) (Visits problem) };
+    /// What is high enough for a node depends only on labels that have the node among their readers.
+    ghost depends: { (problem : Self) → DependsOnRead (readers_of problem) (Asks problem) };
 }
 
-/// The least labels, one for each node, that are above what visits answer of them. Each node is visited
+/// The least labels, one for each node, that are high enough for all nodes. Each node is visited
 /// at least once, and then only where a label that it reads has risen.
 pub fn solve_graph<G: FlowProblem, L: Ledger>(
     alloc: Global,
@@ -62,9 +62,9 @@ pub fn solve_graph<G: FlowProblem, L: Ledger>(
     steps: &mut Steps<L>,
 ) -> Result<Vec<G::Value>, AllocError>
     ensures solution { IfOk result (λ labels.
-        IsSolution G.Value.Below (length (G.readers_of problem.now)) (G.Visits problem.now) labels.items) }
+        IsSolution G.Value.Below (length (G.readers_of problem.now)) (G.Asks problem.now) labels.items) }
     ensures least { IfOk result (λ labels.
-        IsLeast G.Value.Below (length (G.readers_of problem.now)) (G.Visits problem.now) labels.items) }
+        IsLeast G.Value.Below (length (G.readers_of problem.now)) (G.Asks problem.now) labels.items) }
 
     // Visits: at least one for each node, and at most one more for each reading of a label that rose.
     ensures at_least { IfOk result (λ _. steps.old + length (G.readers_of problem.now) ≤ steps.new) }

@@ -1,0 +1,2 @@
+-- The flow of a method, over any stores.
+pub mod Flow

@@ -1,0 +1,8 @@
+-- A solution of the graph gives a flow of the method, and a flow of the method a solution of the graph.
+pub mod FlowOfGraph
+pub mod GraphOfFlow
+-- The least solution of the graph has the least labels at the heads, and derives the errors that the rules derive.
+pub mod LeastAgree
+pub mod ErrorsAgree
+-- What a solver finds for the graph.
+pub mod Solved

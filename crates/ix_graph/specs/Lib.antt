@@ -1,0 +1,4 @@
+-- The flow graph of a method.
+pub mod Graph
+-- What a solution of it is, and what it asks of each node's label.
+pub mod GraphSolutions

@@ -1,0 +1,2 @@
+//! The flow graph of a method.
+#![tactic(auto)]
