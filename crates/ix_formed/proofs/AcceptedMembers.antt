@@ -186,7 +186,7 @@ module _ (unit : Source) (p : Program) (is : IsAccepted unit p) where
         all_joined ConstantIs (members.fields_in class c next k.members) (members.fields_from class (c + 1) (members.next_fields next k.members) ks) (constants_in c next k.members) (constants_from (c + 1) (members.next_fields next k.members) ks)
 
   -- the type of a field of the program
-  field_real : (number : ℕ) (fs : List ProgramField) (k : ℕ) → fields_fit p number fs ≡ true → k < length fs → is_type p (unwrap_or (slice_get fs k) no_field).ty ≡ true
+  pub field_real : (number : ℕ) (fs : List ProgramField) (k : ℕ) → fields_fit p number fs ≡ true → k < length fs → is_type p (unwrap_or (slice_get fs k) no_field).ty ≡ true
   field_real number [] k fit lt = absurd (omega (arith, lt))
   field_real number (f ∷ fs) zero fit lt = (and_parts (is_type p f.ty) _ (and_parts (is_class p f.class) _ fit).1).0
   field_real number (f ∷ fs) (suc k) fit lt = field_real (number + 1) fs k (and_parts _ (fields_fit p (number + 1) fs) (and_parts (is_type p f.ty) _ (and_parts (is_class p f.class) _ fit).1).1).1 (omega (arith, lt))

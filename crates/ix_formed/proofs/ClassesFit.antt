@@ -32,7 +32,7 @@ use Rattle.ix_plain.specs.declared.numbers.Next.{Next}
 use Rattle.ix_plain.specs.Counts.{most_counted}
 use Rattle.ix_plain.specs.Members.{next_behind, class_of, own_methods, first_numbers}
 use Rattle.ix_plain.specs.Program as program
-use Rattle.ix_plain.specs.Program.{Tables, tables, overrides, number_of}
+use Rattle.ix_plain.specs.Program.{Tables, Home, tables, overrides, number_of}
 use Rattle.ix_formed.specs.Additions.{AllOf}
 use Rattle.ix_formed.specs.NoErrors.{Agrees, MembersSay, ClassSays, ClassesSay}
 use Rattle.ix_formed.specs.Shape.{IsNext, AllNumbered, ListsFields, ListsMethods, HasMethods, classes_of, AreDefaults, IfElse, IsOneDefault}
@@ -42,10 +42,10 @@ use Rattle.ix_formed.proofs.ClassesHaveWays.{HasWay, classes_have_ways}
 use Rattle.ix_formed.proofs.DeclaredMethods.{method_says}
 use Rattle.ix_formed.proofs.EachMember.{not_broken, said_parts}
 use Rattle.ix_formed.proofs.FieldsFit.{IsAccepted, is_small, shape, said}
-use Rattle.ix_formed.proofs.HeadsAre.{SignaturesMatch, IsWritten, all_match, signatures_parts}
+use Rattle.ix_formed.proofs.HeadsAre.{SignaturesMatch, IsWritten, AreSo, all_match, signatures_parts}
 use Rattle.ix_formed.proofs.MethodNumbers.{method_numbers, default_numbers, first_next, first_default}
 use Rattle.ix_formed.proofs.Numbering.{goes, goes_on, classes_behind}
-use Rattle.ix_formed.proofs.NumberLists.{all_so, all_joined, both_true}
+use Rattle.ix_formed.proofs.NumberLists.{all_so, all_joined, all_split, both_true}
 use Rattle.ix_formed.proofs.OneOfEachName.{same_text, Differ, all_differ, counted, AsksName, numbers, one_asked}
 use Rattle.ix_formed.proofs.Overrides.{IsCallee, callees, nearest_is}
 use Rattle.ix_formed.proofs.ProgramsHaveShape.{at_most_is, written_length}
@@ -114,15 +114,20 @@ module _ (unit : Source) (p : Program) (is : IsAccepted unit p) where
       first_next unit.classes s.classes s.methods (let a = few_fields unit.classes in let b = s.members in omega (arith, a, b))
 
   -- the signatures are those of the methods, and the methods are those that are written
-  pub matched_with : (Q : MethodDecl → Type 0) → AllOf Q (all_methods unit.classes) → SignaturesMatch unit p is 0 (members.methods unit.classes) × AllOf (IsWritten unit p is Q (tables (names unit) unit.classes)) methods_have.written
+  pub matched_with : (Q : Place → Home → MethodDecl → Type 0) → AreSo unit p is Q (tables (names unit) unit.classes) refl (members.methods unit.classes) 0 (first_numbers unit.classes) unit.classes
+      → SignaturesMatch unit p is 0 (members.methods unit.classes) × AllOf (IsWritten unit p is Q (tables (names unit) unit.classes)) methods_have.written
   matched_with Q fine = all_match unit p is Q (tables (names unit) unit.classes) refl (parents unit.classes) (members.methods unit.classes) 0 0 (first_numbers unit.classes) unit.classes methods_have.written [] methods_have.default refl numbers_go
       (omega arith) is.written (said unit p is) methods_have.are_written fine methods_have.same
 
-  abbrev pub HasFewParams : MethodDecl → Type 0
-  HasFewParams d = length d.params ≤ 32
+  abbrev pub HasFewParams : Place → Home → MethodDecl → Type 0
+  HasFewParams l at d = length d.params ≤ 32
+
+  few_params : (ss : List Signature) (c : ℕ) (next : Next) (ks : List ClassDecl) → AllOf (λ (d : MethodDecl). length d.params ≤ 32) (all_methods ks) → AreSo unit p is HasFewParams (tables (names unit) unit.classes) refl ss c next ks
+  few_params ss c next [] few = tt
+  few_params ss c next (k ∷ ks) few = let f = all_split (λ (d : MethodDecl). length d.params ≤ 32) (methods_of k.members) (all_methods ks) few in (f.0, few_params ss (c + 1) (next_behind next k) ks f.1)
 
   pub matched : SignaturesMatch unit p is 0 (members.methods unit.classes) × AllOf (IsWritten unit p is HasFewParams (tables (names unit) unit.classes)) methods_have.written
-  matched = matched_with HasFewParams (is_small unit p is).params
+  matched = matched_with HasFewParams (few_params (members.methods unit.classes) 0 (first_numbers unit.classes) unit.classes (is_small unit p is).params)
 
   -- ---- what a method overrides has its name
 

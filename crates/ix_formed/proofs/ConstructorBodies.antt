@@ -37,7 +37,8 @@ use Rattle.ix_formed.proofs.MethodEntries.{entry_scoped, entry_variables}
 use Rattle.ix_formed.proofs.NumberLists.{all_so}
 use Rattle.ix_formed.proofs.PlainItems.{made_is, makes_more, makes_then, items_before, before_append}
 use Rattle.ix_formed.proofs.PlainMethods.{own_types, g, free, s, grounded, each_written, each_readable, body_written, body_readable, known_is}
-use Rattle.ix_formed.proofs.SourceMethods.{IsAmong, IsSound}
+use Rattle.ix_formed.proofs.ClassFields.{IsMember}
+use Rattle.ix_formed.proofs.SourceMethods.{IsAmong}
 use Rattle.ix_formed.proofs.TypedMethods.{whole_locals_fit, body_tells}
 
 -- ---- what a constructor begins with
@@ -64,7 +65,7 @@ module _ (g : Ground) (ground : IsGround g) (l : Place) (world : l.world ≡ g.w
 
 -- ---- the whole
 
-module _ (unit : Source) (p : Program) (is : IsAccepted unit p) (method : Method) (w : IsWritten unit p is (IsSound (unit_parts unit)) (tables (names unit) unit.classes) method) (constructor : method.constructor ≡ true) where
+module _ (unit : Source) (p : Program) (is : IsAccepted unit p) (method : Method) (w : IsWritten unit p is (IsMember unit p) (tables (names unit) unit.classes) method) (constructor : method.constructor ≡ true) where
   abbrev d : MethodDecl
   d = w.decl
 
@@ -87,10 +88,10 @@ module _ (unit : Source) (p : Program) (is : IsAccepted unit p) (method : Method
   entry = Some (entry_type p method)
 
   abbrev pub Starts : Body → Type 0
-  Starts = Started own (grounded unit p is method w) l w.head.world refl constructor w.fine.from d.span.to (start none) entry
+  Starts = Started own (grounded unit p is method w) l w.head.world refl constructor w.fine.sound.from d.span.to (start none) entry
 
   known_behind : (behind : Point) → ((slot : ℕ) → slot < none → (ty : Type_) → Known entry slot ty → Known behind slot ty) → (vs : List Variable)
-      → AllOf (HasVariable own [] [] none w.fine.from d.span.to) vs → AllOf (λ (v : Variable). (ty : Type_) → v.ty ≡ Some ty → Known entry (slot_of (scope_in own []) (Some v.meaning)) ty) vs
+      → AllOf (HasVariable own [] [] none w.fine.sound.from d.span.to) vs → AllOf (λ (v : Variable). (ty : Type_) → v.ty ≡ Some ty → Known entry (slot_of (scope_in own []) (Some v.meaning)) ty) vs
       → AllOf (λ (v : Variable). (ty : Type_) → v.ty ≡ Some ty → Known behind (slot_of (scope_in own []) (Some v.meaning)) ty) vs
   known_behind behind keeps [] has known = tt
   known_behind behind keeps (v ∷ vs) has known = ((λ ty typed. keeps (slot_of (scope_in own []) (Some v.meaning)) has.0.low ty (known.0 ty typed)), known_behind behind keeps vs has.1 known.1)
@@ -99,23 +100,23 @@ module _ (unit : Source) (p : Program) (is : IsAccepted unit p) (method : Method
   pub record IsWhole (body : Body) : Type 0 where
     pub begun : Body
     pub started : Starts begun
-    pub tells : Tells own scope (after (all_told (map telling d.body)) scope) w.fine.from d.span.to d.span.to d.span.to begun [] types started.begun.behind body
+    pub tells : Tells own scope (after (all_told (map telling d.body)) scope) w.fine.sound.from d.span.to d.span.to d.span.to begun [] types started.begun.behind body
 
   statements_tell : (begun : Body) → Starts begun → Makes IsWhole (each (map statement d.body) own.site d.span.to begun)
   statements_tell begun started =
       let behind = started.begun.behind in
-      let entered = entry_scoped unit p is l d method w.head w.at w.same w.fine.few types w.fine.from d.span.to in
-      let known = entry_variables unit p is l d method w.head w.at w.same w.fine.few types w.fine.from d.span.to in
+      let entered = entry_scoped unit p is l d method w.head w.at w.same w.fine.sound.few types w.fine.sound.from d.span.to in
+      let known = entry_variables unit p is l d method w.head w.at w.same w.fine.sound.few types w.fine.sound.from d.span.to in
       let no_locals : begun.locals ≡ [] = started.begun.locals in
-      let scoped : Scoped own scope begun.locals [] begun.made.free w.fine.from d.span.to =
-      subst (λ ls. Scoped own scope ls [] begun.made.free w.fine.from d.span.to) (sym no_locals) (subst (λ f. Scoped own scope [] [] f w.fine.from d.span.to) (sym started.begun.free) entered) in
+      let scoped : Scoped own scope begun.locals [] begun.made.free w.fine.sound.from d.span.to =
+      subst (λ ls. Scoped own scope ls [] begun.made.free w.fine.sound.from d.span.to) (sym no_locals) (subst (λ f. Scoped own scope [] [] f w.fine.sound.from d.span.to) (sym started.begun.free) entered) in
       let stands : Stands own scope begun.locals behind =
       subst (λ ls. Stands own scope ls behind) (sym no_locals) (record { variables = known_behind behind started.begun.keeps (source.params_from l 0 d.params) entered.variables known; this = λ e. started.this }) in
-      makes_more (Tells own scope (after (all_told (map telling d.body)) scope) w.fine.from d.span.to d.span.to d.span.to begun [] types behind) IsWhole (λ body told. record { begun = begun; started = started; tells = told })
+      makes_more (Tells own scope (after (all_told (map telling d.body)) scope) w.fine.sound.from d.span.to d.span.to d.span.to begun [] types behind) IsWhole (λ body told. record { begun = begun; started = started; tells = told })
       (each (map statement d.body) own.site d.span.to begun)
-      (body_tells own (grounded unit p is method w) d.body scope d.span.from w.fine.from d.span.to d.span.to begun [] behind scoped stands (sym (ap (λ (ls : List (Local × Span)). length ls) no_locals)) w.fine.laid (omega arith)
-      (all_so (IsAmong (unit_parts unit)) (IsKnown own) (known_is own) (together (map stmt_parts d.body)) w.fine.among)
-      (each_written d.body (body_written d w.head.written)) (each_readable d.body (body_readable d w.fine.readable)) w.head.says.body)
+      (body_tells own (grounded unit p is method w) d.body scope d.span.from w.fine.sound.from d.span.to d.span.to begun [] behind scoped stands (sym (ap (λ (ls : List (Local × Span)). length ls) no_locals)) w.fine.sound.laid (omega arith)
+      (all_so (IsAmong (unit_parts unit)) (IsKnown own) (known_is own) (together (map stmt_parts d.body)) w.fine.sound.among)
+      (each_written d.body (body_written d w.head.written)) (each_readable d.body (body_readable d w.fine.sound.readable)) w.head.says.body)
 
   -- The constructor fits inside.
   pub constructor_inside : Makes Starts (written_start own.site w.at d (start none)) → AllOf (λ (local : Local × Span). is_target p method local.0.slot ≡ true) method.locals → FitsInside p method
@@ -130,7 +131,7 @@ module _ (unit : Source) (p : Program) (is : IsAccepted unit p) (method : Method
       let most : body.most ≤ method.slots = (let e = ap (λ (m : Method). m.slots) w.same.same in omega (arith, e)) in
       let few : begun.most ≤ method.slots = (let m = a.most in omega (arith, m, most)) in
       let added : method.locals ≡ a.added = locals ∙ a.grown ∙ ap (λ ls. ls ++ a.added) b.locals in
-      let declared : AllOf (IsDeclared w.fine.from d.span.to) method.locals = subst (AllOf (IsDeclared w.fine.from d.span.to)) (sym added) a.places in
+      let declared : AllOf (IsDeclared w.fine.sound.from d.span.to) method.locals = subst (AllOf (IsDeclared w.fine.sound.from d.span.to)) (sym added) a.places in
       let begins : Begins own body.locals a.added_types d.span.to = record { later = []; later_types = []; locals = locals ∙ sym (append-nil body.locals); types = sym whole.tells.typed ∙ sym (append-nil a.added_types); behind = tt } in
       let leaves = a.leaves begins most false (λ e. absurd (false≢true e)) in
       let items : body.made.items ≡ b.items ++ a.items = a.appended ∙ ap (λ (xs : List Item). xs ++ a.items) b.appended in
@@ -138,6 +139,6 @@ module _ (unit : Source) (p : Program) (is : IsAccepted unit p) (method : Method
       let fits : (code_ways p method types false (items_code body.made.items) entry).fits ≡ true =
       ap (λ c. (code_ways p method types false c entry).fits) code ∙ ap (λ (x : Ways). x.fits) (b.leads declared few false (code_before a.items End)) ∙ leaves.fits End refl in (
         types,
-        whole_locals_fit own (grounded unit p is method w) scope w.fine.from d.span.to d.span.to begun b.behind body a b.locals locals (sym whole.tells.typed) targets,
+        whole_locals_fit own (grounded unit p is method w) scope w.fine.sound.from d.span.to d.span.to begun b.behind body a b.locals locals (sym whole.tells.typed) targets,
         ap (λ (m : Method). (code_ways p method types false (items_code m.body.items) entry).fits) w.same.same ∙ fits,
       )

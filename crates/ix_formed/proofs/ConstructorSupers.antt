@@ -39,7 +39,8 @@ use Rattle.ix_formed.proofs.LayoutSpans.{PartIs, laid_up, laid_parts, expr_spans
 use Rattle.ix_formed.proofs.MethodEntries.{entry_scoped, entry_variables, entry_stands, param_before, types_past}
 use Rattle.ix_formed.proofs.NumberLists.{all_so, all_joined}
 use Rattle.ix_formed.proofs.PlainMethods.{own_types, g, free, s, grounded, known_is}
-use Rattle.ix_formed.proofs.SourceMethods.{IsAmong, IsSound, each_is_map}
+use Rattle.ix_formed.proofs.ClassFields.{IsMember}
+use Rattle.ix_formed.proofs.SourceMethods.{IsAmong, each_is_map}
 
 -- ---- arguments
 
@@ -75,7 +76,7 @@ args_written d e =
     let b = (and_parts (maybe_true is_written_type d.result) _ a).1 in
     let c = (and_parts (each_true is_written_decl d.params) _ b).1 in (and_parts (maybe_true (each_true is_written_expr) d.parent_args) (each_true is_written_stmt d.body) c).0
 
-module _ (unit : Source) (p : Program) (is : IsAccepted unit p) (method : Method) (w : IsWritten unit p is (IsSound (unit_parts unit)) (tables (names unit) unit.classes) method) (constructor : method.constructor ≡ true) where
+module _ (unit : Source) (p : Program) (is : IsAccepted unit p) (method : Method) (w : IsWritten unit p is (IsMember unit p) (tables (names unit) unit.classes) method) (constructor : method.constructor ≡ true) where
   abbrev d : MethodDecl
   d = w.decl
 
@@ -100,7 +101,7 @@ module _ (unit : Source) (p : Program) (is : IsAccepted unit p) (method : Method
 
   -- What the arguments of the parent's constructor are.
   pub record AreArguments (args : List Expr) : Type 0 where
-    pub spans : AllOf (PartIs (Within d.span.from w.fine.from)) (together (map expr_parts args))
+    pub spans : AllOf (PartIs (Within d.span.from w.fine.sound.from)) (together (map expr_parts args))
     pub known : AllOf (IsKnown own) (together (map expr_parts args))
     pub written : all_true (map is_written_expr args) ≡ true
     pub readable : all_fine (map shape args) ≡ true
@@ -119,11 +120,11 @@ module _ (unit : Source) (p : Program) (is : IsAccepted unit p) (method : Method
         subst (Says own) (sym (append-nil (Rattle.ix_meaning.specs.Rules.wrong_arguments 0 (length (constructor_params l.world above)) d.name.span))) parent_given;
   }
   arguments_are (Some args) e = record {
-    spans = args_spans args d.span.from w.fine.args_from w.fine.from w.fine.within (subst (λ o. LaidOut d.span.from w.fine.args_from w.fine.from (row (parent_pieces o))) e w.fine.args_laid);
+    spans = args_spans args d.span.from w.fine.sound.args_from w.fine.sound.from w.fine.sound.within (subst (λ o. LaidOut d.span.from w.fine.sound.args_from w.fine.sound.from (row (parent_pieces o))) e w.fine.sound.args_laid);
     known = subst (λ (x : List (List Part)). AllOf (IsKnown own) (together x)) (each_is_map expr_parts args)
-        (all_so (IsAmong (unit_parts unit)) (IsKnown own) (known_is own) (args_parts args) (subst (λ o. AllOf (IsAmong (unit_parts unit)) (parts.maybe args_parts o)) e w.fine.args_among)).1;
+        (all_so (IsAmong (unit_parts unit)) (IsKnown own) (known_is own) (args_parts args) (subst (λ o. AllOf (IsAmong (unit_parts unit)) (parts.maybe args_parts o)) e w.fine.sound.args_among)).1;
     written = each_written args (subst (λ o. maybe_true (each_true is_written_expr) o ≡ true) e (args_written d w.head.written));
-    readable = each_readable args (subst (λ o. maybe_true (each_true is_readable_expr) o ≡ true) e (and_parts (maybe_true (each_true is_readable_expr) d.parent_args) (each_true is_readable_stmt d.body) w.fine.readable).0);
+    readable = each_readable args (subst (λ o. maybe_true (each_true is_readable_expr) o ≡ true) e (and_parts (maybe_true (each_true is_readable_expr) d.parent_args) (each_true is_readable_stmt d.body) w.fine.sound.readable).0);
     said = λ above f.
         let told = subst (λ b. Says own (if b then source.super_given l (s unit p is method w) d.parent_args d.name.span else [])) (sym w.head.constructor ∙ constructor) w.head.says.supers in
         let given = subst (λ o. Says own (source.super_given l (s unit p is method w) o d.name.span)) e told in
@@ -136,7 +137,7 @@ module _ (unit : Source) (p : Program) (is : IsAccepted unit p) (method : Method
 
   scoped : (lo hi : ℕ) → Scoped own outside [] [] none lo hi
   scoped lo hi =
-      let e = entry_scoped unit p is l d method w.head w.at w.same w.fine.few (own_types unit p is method w) lo hi in
+      let e = entry_scoped unit p is l d method w.head w.at w.same w.fine.sound.few (own_types unit p is method w) lo hi in
       record {
         world = e.world;
         class = e.class;
@@ -155,9 +156,9 @@ module _ (unit : Source) (p : Program) (is : IsAccepted unit p) (method : Method
   super_called None e =
       let no_call : (method.constructor && has_parent p method) ≡ false =
       ap (λ b. b && has_parent p method) constructor ∙ ap Rattle.ix_core.specs.Formed.is_some_of (same_parent ∙ e) in
-      let stands = entry_stands unit p is l d method w.head w.at w.same w.fine.few (own_types unit p is method w) w.fine.from d.span.to no_call in
+      let stands = entry_stands unit p is l d method w.head w.at w.same w.fine.sound.few (own_types unit p is method w) w.fine.sound.from d.span.to no_call in
       record {
-        begun = begun_none own ground l w.head.world refl constructor w.fine.from d.span.to (start none) entry;
+        begun = begun_none own ground l w.head.world refl constructor w.fine.sound.from d.span.to (start none) entry;
         this = stands.this (ap (λ b. not (d.mods.is_static && not b)) (sym w.head.constructor ∙ constructor) ∙ no_static d.mods.is_static);
       }
     where
@@ -170,9 +171,9 @@ module _ (unit : Source) (p : Program) (is : IsAccepted unit p) (method : Method
       let there : is_class p above ≡ true =
       class_is unit p is above (let lt = parents_there unit p is w.at.class above (sym w.parent ∙ e) in let c = parent_count unit p is in omega (arith, lt, c)) in
       let stands : Stands own outside [] entry =
-      record { variables = entry_variables unit p is l d method w.head w.at w.same w.fine.few (own_types unit p is method w) w.fine.from d.span.to; this = λ f. absurd (false≢true f) } in
-      parent_called own ground l w.head.world refl constructor w.fine.from d.span.to outside above (args_or_none d.parent_args) d.span.from w.fine.from d.name.span d.name.span (start none) entry
-      (scoped d.span.from w.fine.from) stands refl (omega arith) there (same_parent ∙ e) a.spans a.known a.written a.readable (a.said above up) unknown
+      record { variables = entry_variables unit p is l d method w.head w.at w.same w.fine.sound.few (own_types unit p is method w) w.fine.sound.from d.span.to; this = λ f. absurd (false≢true f) } in
+      parent_called own ground l w.head.world refl constructor w.fine.sound.from d.span.to outside above (args_or_none d.parent_args) d.span.from w.fine.sound.from d.name.span d.name.span (start none) entry
+      (scoped d.span.from w.fine.sound.from) stands refl (omega arith) there (same_parent ∙ e) a.spans a.known a.written a.readable (a.said above up) unknown
     where
       no_type : (ty : Type_) → ◌≡◌ {A = Option Type_} None (Some ty) → ⊥
       no_type ty e = cc
@@ -191,10 +192,10 @@ module _ (unit : Source) (p : Program) (is : IsAccepted unit p) (method : Method
           ∙ never method.is_static) ∙ f)
 
   -- A written constructor fits inside, where the initialisers of its class's fields are as they have to be.
-  pub written_constructor_inside : AreInitialised own ground l w.head.world refl constructor w.fine.from d.span.to w.at.field w.at.members → AllOf (λ (local : Local × Span). is_target p method local.0.slot ≡ true) method.locals → FitsInside p method
+  pub written_constructor_inside : AreInitialised own ground l w.head.world refl constructor w.fine.sound.from d.span.to w.at.field w.at.members → AllOf (λ (local : Local × Span). is_target p method local.0.slot ≡ true) method.locals → FitsInside p method
   written_constructor_inside fields targets =
-      let e = entry_scoped unit p is l d method w.head w.at w.same w.fine.few (own_types unit p is method w) w.fine.from d.span.to in
-      let started = constructor_starts own ground l w.head.world refl constructor w.fine.from d.span.to w.at (args_or_none d.parent_args) d.name.span (start none) entry fields e.params
-      (types_past unit p is l d method w.head w.at w.same w.fine.few (own_types unit p is method w)) e.first (super_called w.at.parent refl) in
+      let e = entry_scoped unit p is l d method w.head w.at w.same w.fine.sound.few (own_types unit p is method w) w.fine.sound.from d.span.to in
+      let started = constructor_starts own ground l w.head.world refl constructor w.fine.sound.from d.span.to w.at (args_or_none d.parent_args) d.name.span (start none) entry fields e.params
+      (types_past unit p is l d method w.head w.at w.same w.fine.sound.few (own_types unit p is method w)) e.first (super_called w.at.parent refl) in
       constructor_inside unit p is method w constructor
       (subst (λ b. Makes (Starts unit p is method w constructor) (if b then Rattle.ix_plain.specs.Program.constructor_start own.site w.at (args_or_none d.parent_args) d.name.span (start none) else Ok (start none))) (sym (sym w.head.constructor ∙ constructor)) started) targets

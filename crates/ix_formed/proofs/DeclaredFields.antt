@@ -97,7 +97,7 @@ module _ (names : Names) (parts : List Part) where
     abbrev pub IsField : Known → Type 0
     IsField f = MeansField f f.meaning
 
-    get_behind : (before : List Field) (x : Field) (later : List Field) → slice_get (before ++ x ∷ later) (length before) ≡ Some x
+    pub get_behind : (before : List Field) (x : Field) (later : List Field) → slice_get (before ++ x ∷ later) (length before) ≡ Some x
     get_behind [] x later = refl
     get_behind (y ∷ before) x later = get_behind before x later
 
@@ -118,7 +118,7 @@ module _ (names : Names) (parts : List Part) where
         by_constant None int some = absurd (false≢true some)
         by_constant (Some n) int some = (int, field_has_type l c next d said, static)
 
-    instance_field_is : (l : Place) (c next : ℕ) (d : LocalDecl) (before later : List Field) → l.class ≡ c → d.mods.is_static ≡ false → p.fields ≡ before ++ field_of names c d ∷ later → length before ≡ next
+    pub instance_field_is : (l : Place) (c next : ℕ) (d : LocalDecl) (before later : List Field) → l.class ≡ c → d.mods.is_static ≡ false → p.fields ≡ before ++ field_of names c d ∷ later → length before ≡ next
         → Says (source.field_notes l (members.field_of l.world.class c next d) d) → IsField (members.field_of l.world.class c next d)
     instance_field_is l c next d before later class static e count said =
         let f = members.field_of l.world.class c next d in

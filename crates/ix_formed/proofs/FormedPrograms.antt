@@ -14,11 +14,10 @@ use Rattle.ix_core.proofs.Cases.{by_test}
 use Rattle.ix_tree.specs.declared.decl.ClassDecl.{ClassDecl}
 use Rattle.ix_tree.specs.declared.decl.MethodDecl.{MethodDecl}
 use Rattle.ix_tree.specs.declared.decl.Unit.{Unit as Source}
-use Rattle.ix_tree.specs.Parts.{unit_parts}
 use Rattle.ix_tree.specs.Placed.{Placed}
 use Rattle.ix_meaning.specs.Members.{world}
 use Rattle.ix_meaning.specs.Resolved.{names}
-use Rattle.ix_meaning.specs.Source.{has_constructor}
+use Rattle.ix_meaning.specs.Source.{Place, has_constructor}
 use Rattle.ix_plain.specs.declared.numbers.Next.{Next}
 use Rattle.ix_plain.specs.Members.{next_behind, is_static, first_numbers}
 use Rattle.ix_plain.specs.Program.{Tables, Home, home, tables, first_param, overrides}
@@ -27,7 +26,7 @@ use Rattle.ix_formed.specs.Readable.{is_readable}
 use Rattle.ix_formed.specs.Shape.{AreInSlots, IsDefault, IsOneDefault, IfElse, AreDefaults, MethodHasShape, params_of}
 use Rattle.ix_formed.specs.Written.{is_written_type, is_written_decl, has_no_result, each_true, maybe_true}
 use Rattle.ix_formed.proofs.ClassesFit.{matched, matched_with, methods_have, classes_do_fit}
-use Rattle.ix_formed.proofs.FieldsFit.{IsAccepted, fields_do_fit, shape, is_small}
+use Rattle.ix_formed.proofs.FieldsFit.{IsAccepted, fields_do_fit, shape}
 use Rattle.ix_formed.proofs.HeadsAre.{IsWritten, head_matches}
 use Rattle.ix_formed.proofs.HeadsFit.{all_params_say, params_do_fit, result_does_fit, constructor_does_fit}
 use Rattle.ix_formed.proofs.NumberLists.{both_true, all_joined, all_split}
@@ -35,7 +34,7 @@ use Rattle.ix_formed.proofs.Overrides.{overrides_do_fit}
 use Rattle.ix_formed.proofs.PlainMethods.{own_types, plain_body_fits, plain_locals_fit}
 use Rattle.ix_formed.proofs.ProgramsHaveShape.{params_behind}
 use Rattle.ix_formed.proofs.SizesFit.{IsSmallBody, sizes_do_fit}
-use Rattle.ix_formed.proofs.SourceMethods.{IsSound, methods_sound}
+use Rattle.ix_formed.proofs.ClassFields.{IsMember, members_are}
 
 few_first : (b : Bool) → ◌≤◌ (if b then 0 else 1) 1
 few_first true = omega arith
@@ -91,7 +90,7 @@ module _ (unit : Source) (p : Program) (is : IsAccepted unit p) where
 
   -- ---- heads
 
-  written_head_fits : (Q : MethodDecl → Type 0) (method : Method) (w : IsWritten unit p is Q t method) → length w.decl.params ≤ 32 → MethodHasShape p method → HasGoodHead p method
+  written_head_fits : (Q : Place → Home → MethodDecl → Type 0) (method : Method) (w : IsWritten unit p is Q t method) → length w.decl.params ≤ 32 → MethodHasShape p method → HasGoodHead p method
   written_head_fits Q method w few has =
       let d = w.decl in
       let l = w.place in
@@ -141,16 +140,16 @@ module _ (unit : Source) (p : Program) (is : IsAccepted unit p) where
   abbrev pub WhereConstructor : Method → Type 0
   WhereConstructor method = method.constructor ≡ true → FitsInside p method
 
-  inside_written : (method : Method) → IsWritten unit p is (IsSound (unit_parts unit)) t method → MethodHasShape p method → WhereConstructor method → FitsInside p method
+  inside_written : (method : Method) → IsWritten unit p is (IsMember unit p) t method → MethodHasShape p method → WhereConstructor method → FitsInside p method
   inside_written method w has constructor =
       by_test w.decl.constructor (λ c. constructor (w.head.constructor ∙ c))
       (λ plain. (own_types unit p is method w, plain_locals_fit unit p is method w plain has.locals, plain_body_fits unit p is method w plain))
 
-  written_heads_fit : (methods : List Method) → AllOf (IsWritten unit p is (IsSound (unit_parts unit)) t) methods → AllOf (MethodHasShape p) methods → AllOf (HasGoodHead p) methods
+  written_heads_fit : (methods : List Method) → AllOf (IsWritten unit p is (IsMember unit p) t) methods → AllOf (MethodHasShape p) methods → AllOf (HasGoodHead p) methods
   written_heads_fit [] ws has = tt
-  written_heads_fit (method ∷ methods) ws has = (written_head_fits (IsSound (unit_parts unit)) method ws.0 ws.0.fine.few has.0, written_heads_fit methods ws.1 has.1)
+  written_heads_fit (method ∷ methods) ws has = (written_head_fits (IsMember unit p) method ws.0 ws.0.fine.sound.few has.0, written_heads_fit methods ws.1 has.1)
 
-  all_inside_written : (methods : List Method) → AllOf (IsWritten unit p is (IsSound (unit_parts unit)) t) methods → AllOf (MethodHasShape p) methods → AllOf WhereConstructor methods → AllOf (FitsInside p) methods
+  all_inside_written : (methods : List Method) → AllOf (IsWritten unit p is (IsMember unit p) t) methods → AllOf (MethodHasShape p) methods → AllOf WhereConstructor methods → AllOf (FitsInside p) methods
   all_inside_written [] ws has constructors = tt
   all_inside_written (method ∷ methods) ws has constructors = (inside_written method ws.0 has.0 constructors.0, all_inside_written methods ws.1 has.1 constructors.1)
 
@@ -166,7 +165,7 @@ module _ (unit : Source) (p : Program) (is : IsAccepted unit p) where
       let split = subst (AllOf WhereConstructor) have.same constructors in
       let c = all_split WhereConstructor have.written have.default split in
       let s = all_split (MethodHasShape p) have.written have.default (subst (AllOf (MethodHasShape p)) have.same each.each) in
-      let ws = (matched_with unit p is (IsSound (unit_parts unit)) (methods_sound unit end is.can placed readable (is_small unit p is).params)).1 in
+      let ws = (matched_with unit p is (IsMember unit p) (members_are unit p is end placed readable)).1 in
       let heads = subst (AllOf (HasGoodHead p)) (sym have.same)
       (all_joined (HasGoodHead p) have.written have.default (written_heads_fit have.written ws s.0) (default_heads_fit (first_numbers unit.classes) unit.classes have.default have.are_default)) in
       let inside = subst (AllOf (FitsInside p)) (sym have.same)

@@ -13,7 +13,7 @@ use Rattle.ix_tree.specs.declared.decl.MethodDecl.{MethodDecl}
 use Rattle.ix_tree.specs.declared.decl.Unit.{Unit as Source}
 use Rattle.ix_tree.specs.Parts.{unit_parts}
 use Rattle.ix_meaning.specs.declared.members.Signature.{Signature}
-use Rattle.ix_meaning.specs.Limits.{methods_of, all_methods}
+use Rattle.ix_meaning.specs.Limits.{methods_of}
 use Rattle.ix_meaning.specs.Members as members
 use Rattle.ix_meaning.specs.Members.{World, world, signature, param_type, result_type}
 use Rattle.ix_meaning.specs.Resolved.{Names, names}
@@ -31,7 +31,7 @@ use Rattle.ix_formed.proofs.DeclaredMethods.{method_says, params_typed}
 use Rattle.ix_formed.proofs.FieldsFit.{IsAccepted}
 use Rattle.ix_formed.proofs.HeadsFit.{HasHead, all_params_say, result_said}
 use Rattle.ix_formed.proofs.Numbering.{goes, goes_on}
-use Rattle.ix_formed.proofs.NumberLists.{all_joined, all_split}
+use Rattle.ix_formed.proofs.NumberLists.{all_joined}
 use Rattle.ix_formed.proofs.ProgramsHaveShape.{types_behind}
 
 module _ (unit : Source) (p : Program) (is : IsAccepted unit p) where
@@ -51,11 +51,11 @@ module _ (unit : Source) (p : Program) (is : IsAccepted unit p) where
   SignaturesMatch number (m ∷ ms) = ((number < length p.methods) × Matches (method_at p number) m) × SignaturesMatch (number + 1) ms
 
   -- a method of the program that is written, where it stands and as what, and what else is so of it
-  pub record IsWritten (Q : MethodDecl → Type 0) (t : Tables) (method : Method) : Type 0 where
+  pub record IsWritten (Q : Place → Home → MethodDecl → Type 0) (t : Tables) (method : Method) : Type 0 where
     pub place : Place
     pub decl : MethodDecl
-    pub fine : Q decl
     pub at : Home
+    pub fine : Q place at decl
     pub head : HasHead unit p is place decl method
     pub same : IsMethod t at decl method
     pub class : at.class ≡ place.class
@@ -78,7 +78,12 @@ module _ (unit : Source) (p : Program) (is : IsAccepted unit p) where
   method_behind [] x later = refl
   method_behind (y ∷ before) x later = method_behind before x later
 
-  module _ (Q : MethodDecl → Type 0) (t : Tables) (same_names : t.names ≡ names unit) where
+  module _ (Q : Place → Home → MethodDecl → Type 0) (t : Tables) (same_names : t.names ≡ names unit) where
+    -- so it is of the methods of each class
+    abbrev pub AreSo : List Signature → ℕ → Next → List ClassDecl → Type 0
+    AreSo ss c next [] = Unit {0}
+    AreSo ss c next (k ∷ ks) = AllOf (Q (place (world unit.classes) ss c k) (home t next k)) (methods_of k.members) × AreSo ss (c + 1) (next_behind next k) ks
+
     written_head_is : (ss : List Signature) (c : ℕ) (k : ClassDecl) (at : Home) (d : MethodDecl) (method : Method) → at.class ≡ c → c < length unit.classes → is_written_method d ≡ true
         → IsMethod t at d method → Rattle.ix_formed.proofs.DeclaredFields.Says (names unit) (unit_parts unit) (source.method_notes (place (world unit.classes) ss c k) (signature (world unit.classes).class c d) d)
         → HasHead unit p is (place (world unit.classes) ss c k) d method
@@ -98,7 +103,7 @@ module _ (unit : Source) (p : Program) (is : IsAccepted unit p) where
 
     members_match : (ss : List Signature) (c : ℕ) (k : ClassDecl) (at : Home) (named : List ℕ → Option ℕ) (i next : ℕ) (ms : List Member) (methods before later : List Method) → at.class ≡ c → at.parent ≡ t.world.parent at.class → c < length unit.classes
         → each_true is_written_member ms ≡ true → MembersSay (Agrees (names unit) (unit_parts unit)) (place (world unit.classes) ss c k) named i next ms → AreMethods t at ms methods
-        → AllOf Q (methods_of ms) → p.methods ≡ before ++ (methods ++ later)
+        → AllOf (Q (place (world unit.classes) ss c k) at) (methods_of ms) → p.methods ≡ before ++ (methods ++ later)
         → SignaturesMatch (length before) (members.methods_in (world unit.classes).class c ms) × AllOf (IsWritten Q t) methods
     members_match ss c k at named i next [] methods before later class above there wr says are fine e = (tt, subst (AllOf (IsWritten Q t)) (sym are) tt)
     members_match ss c k at named i next (member.Field d ∷ ms) methods before later class above there wr says are fine e =
@@ -120,7 +125,7 @@ module _ (unit : Source) (p : Program) (is : IsAccepted unit p) where
             ),
             subst (λ n. SignaturesMatch n (members.methods_in (world unit.classes).class c ms)) up rest.0,
           ),
-          subst (AllOf (IsWritten Q t)) (sym are.2) (record { place = place (world unit.classes) ss c k; decl = d; fine = fine.0; at = at; head = head; same = are.3; class = class; parent = above }, rest.1),
+          subst (AllOf (IsWritten Q t)) (sym are.2) (record { place = place (world unit.classes) ss c k; decl = d; at = at; fine = fine.0; head = head; same = are.3; class = class; parent = above }, rest.1),
         )
 
     signatures_both : (number other : ℕ) (xs ys : List Signature) → SignaturesMatch number xs → other ≡ number + length xs → SignaturesMatch other ys → SignaturesMatch number (xs ++ ys)
@@ -135,17 +140,16 @@ module _ (unit : Source) (p : Program) (is : IsAccepted unit p) where
 
     pub all_match : (ps : List (Option ℕ)) (ss : List Signature) (c nf : ℕ) (next : Next) (ks : List ClassDecl) (methods before later : List Method) → next.class ≡ c → IsNext next ks → c + length ks ≤ length unit.classes
         → each_true (λ (k : ClassDecl). each_true is_written_member k.members) ks ≡ true → ClassesSay (Agrees (names unit) (unit_parts unit)) (world unit.classes) ps ss c nf ks → AreAllMethods t next ks methods
-        → AllOf Q (all_methods ks) → p.methods ≡ before ++ (methods ++ later)
+        → AreSo ss c next ks → p.methods ≡ before ++ (methods ++ later)
         → SignaturesMatch (length before) (members.methods_from (world unit.classes).class c ks) × AllOf (IsWritten Q t) methods
     all_match ps ss c nf next [] methods before later class number le wr says are fine e = (tt, subst (AllOf (IsWritten Q t)) (sym are) tt)
     all_match ps ss c nf next (k ∷ ks) methods before later class number le wr says are fine e =
         let parts_w = and_parts (each_true is_written_member k.members) (each_true (λ (k : ClassDecl). each_true is_written_member k.members) ks) wr in
         let up = (goes next k ks number).class in
         let at = home t next k in
-        let each = all_split Q (methods_of k.members) (all_methods ks) fine in
         let all : p.methods ≡ before ++ (are.0 ++ (are.1 ++ later)) = e ∙ ap (λ (l : List Method). before ++ (l ++ later)) are.2 ∙ ap (λ (l : List Method). before ++ l) (append_assoc are.0 are.1 later) in
-        let own = members_match ss c k at (source.member_named k.members) 0 nf k.members are.0 before (are.1 ++ later) class refl (omega (arith, le)) parts_w.0 says.0.members are.3 each.0 all in
-        let rest = all_match ps ss (c + 1) (members.next_fields nf k.members) (next_behind next k) ks are.1 (before ++ are.0) later (omega (arith, up, class)) (goes_on next k ks number) (omega (arith, le)) parts_w.1 says.1 are.4 each.1
+        let own = members_match ss c k at (source.member_named k.members) 0 nf k.members are.0 before (are.1 ++ later) class refl (omega (arith, le)) parts_w.0 says.0.members are.3 fine.0 all in
+        let rest = all_match ps ss (c + 1) (members.next_fields nf k.members) (next_behind next k) ks are.1 (before ++ are.0) later (omega (arith, up, class)) (goes_on next k ks number) (omega (arith, le)) parts_w.1 says.1 are.4 fine.1
         (all ∙ sym (append_assoc before are.0 (are.1 ++ later))) in
         let count : length (before ++ are.0) ≡ length before + length (members.methods_in (world unit.classes).class c k.members) =
         (let a = length-append before are.0 in let b = own_length (world unit.classes).class c at k.members are.0 are.3 in omega (arith, a, b)) in (

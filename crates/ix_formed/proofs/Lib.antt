@@ -70,3 +70,9 @@ pub mod ConstructorFields
 pub mod ConstructorBodies
 pub mod ConstructorParents
 pub mod ConstructorSupers
+pub mod FieldPlaces
+pub mod FieldTypes
+pub mod ClassFields
+pub mod FieldsInitialised
+pub mod DefaultConstructors
+pub mod FormedSources

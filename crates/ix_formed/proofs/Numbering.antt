@@ -115,7 +115,7 @@ own_field_counted names class decl = static_or_not decl.mods.is_static
     static_or_not true = (refl, tt)
     static_or_not false = (refl, (refl, tt))
 
-fields_counted : (names : Names) (class : ℕ) (members : List Member) → (length (fields_of_class names class members) ≡ field_count members) × AllOf (λ (field : Field). field.class ≡ class) (fields_of_class names class members)
+pub fields_counted : (names : Names) (class : ℕ) (members : List Member) → (length (fields_of_class names class members) ≡ field_count members) × AllOf (λ (field : Field). field.class ≡ class) (fields_of_class names class members)
 fields_counted names class [] = (refl, tt)
 fields_counted names class (member.Field decl ∷ members) =
     let one = own_field_counted names class decl in

@@ -33,7 +33,8 @@ use Rattle.ix_formed.proofs.HeadsAre.{IsWritten}
 use Rattle.ix_formed.proofs.MethodEntries.{own_site, own_ground, entry_scope, first_free, entry_scoped, entry_stands}
 use Rattle.ix_formed.proofs.NumberLists.{all_so}
 use Rattle.ix_formed.proofs.PlainItems.{made_is}
-use Rattle.ix_formed.proofs.SourceMethods.{IsAmong, IsSound}
+use Rattle.ix_formed.proofs.ClassFields.{IsMember}
+use Rattle.ix_formed.proofs.SourceMethods.{IsAmong}
 use Rattle.ix_formed.proofs.TypedMethods.{whole_fits, whole_locals_fit, body_tells}
 
 pub each_written : (xs : List Stmt) → each_true is_written_stmt xs ≡ true → all_true (map is_written_stmt xs) ≡ true
@@ -70,7 +71,7 @@ module _ (unit : Source) (p : Program) (is : IsAccepted unit p) where
   abbrev t : Tables
   t = tables (names unit) unit.classes
 
-  module _ (method : Method) (w : IsWritten unit p is (IsSound (unit_parts unit)) t method) where
+  module _ (method : Method) (w : IsWritten unit p is (IsMember unit p) t method) where
     abbrev d : MethodDecl
     d = w.decl
 
@@ -82,16 +83,16 @@ module _ (unit : Source) (p : Program) (is : IsAccepted unit p) where
     own_types = local_types (names unit) w.decl.body
 
     abbrev pub g : Ground
-    g = own_ground unit p is l d method w.head w.at w.same w.fine.few own_types
+    g = own_ground unit p is l d method w.head w.at w.same w.fine.sound.few own_types
 
     abbrev pub free : ℕ
-    free = first_free unit p is l d method w.head w.at w.same w.fine.few own_types
+    free = first_free unit p is l d method w.head w.at w.same w.fine.sound.few own_types
 
     abbrev pub s : Names
-    s = entry_scope unit p is l d method w.head w.at w.same w.fine.few own_types
+    s = entry_scope unit p is l d method w.head w.at w.same w.fine.sound.few own_types
 
     pub grounded : IsGround g
-    grounded = is_ground unit p is method own_types (own_site unit p is l d method w.head w.at w.same w.fine.few own_types) l.class w.head.there w.head.class refl refl w.class
+    grounded = is_ground unit p is method own_types (own_site unit p is l d method w.head w.at w.same w.fine.sound.few own_types) l.class w.head.there w.head.class refl refl w.class
         (λ e. let f = ap (λ b. if b then 0 else 0 + 1) (w.head.static ∙ instance_of d.mods.is_static d.constructor (sym w.head.constructor ∙ e)) in omega (arith, f))
 
     abbrev body : Body
@@ -101,16 +102,16 @@ module _ (unit : Source) (p : Program) (is : IsAccepted unit p) where
     made plain =
         sym (ap (λ b. (if b then program.constructor_start g.site w.at (args_or_none d.parent_args) d.name.span (start free) else Ok (start free)) >>= each (map statement d.body) g.site d.span.to) plain) ∙ w.same.made
 
-    tells : (plain : d.constructor ≡ false) → Tells g s (after (all_told (map telling d.body)) s) w.fine.from d.span.to d.span.to d.span.to (start free) [] own_types (Some (entry_type p method)) body
+    tells : (plain : d.constructor ≡ false) → Tells g s (after (all_told (map telling d.body)) s) w.fine.sound.from d.span.to d.span.to d.span.to (start free) [] own_types (Some (entry_type p method)) body
     tells plain =
         let no_call : (method.constructor && has_parent p method) ≡ false = ap (λ b. b && has_parent p method) (w.head.constructor ∙ plain) in
-        made_is (Tells g s (after (all_told (map telling d.body)) s) w.fine.from d.span.to d.span.to d.span.to (start free) [] own_types (Some (entry_type p method))) (each (map statement d.body) g.site d.span.to (start free)) body
-        (body_tells g grounded d.body s d.span.from w.fine.from d.span.to d.span.to (start free) [] (Some (entry_type p method))
-        (entry_scoped unit p is l d method w.head w.at w.same w.fine.few own_types w.fine.from d.span.to)
-        (entry_stands unit p is l d method w.head w.at w.same w.fine.few own_types w.fine.from d.span.to no_call)
-        refl w.fine.laid (omega arith)
-        (all_so (IsAmong (unit_parts unit)) (IsKnown g) (known_is g) (together (map stmt_parts d.body)) w.fine.among)
-        (each_written d.body (body_written d w.head.written)) (each_readable d.body (body_readable d w.fine.readable)) w.head.says.body)
+        made_is (Tells g s (after (all_told (map telling d.body)) s) w.fine.sound.from d.span.to d.span.to d.span.to (start free) [] own_types (Some (entry_type p method))) (each (map statement d.body) g.site d.span.to (start free)) body
+        (body_tells g grounded d.body s d.span.from w.fine.sound.from d.span.to d.span.to (start free) [] (Some (entry_type p method))
+        (entry_scoped unit p is l d method w.head w.at w.same w.fine.sound.few own_types w.fine.sound.from d.span.to)
+        (entry_stands unit p is l d method w.head w.at w.same w.fine.sound.few own_types w.fine.sound.from d.span.to no_call)
+        refl w.fine.sound.laid (omega arith)
+        (all_so (IsAmong (unit_parts unit)) (IsKnown g) (known_is g) (together (map stmt_parts d.body)) w.fine.sound.among)
+        (each_written d.body (body_written d w.head.written)) (each_readable d.body (body_readable d w.fine.sound.readable)) w.head.says.body)
         (made plain)
 
     locals_same : method.locals ≡ body.locals
@@ -122,10 +123,10 @@ module _ (unit : Source) (p : Program) (is : IsAccepted unit p) where
         let told = tells plain in
         let most : body.most ≤ method.slots = (let e = ap (λ (m : Method). m.slots) w.same.same in omega (arith, e)) in
         ap (λ (m : Method). (code_ways p method own_types false (items_code m.body.items) (Some (entry_type p method))).fits) w.same.same
-        ∙ whole_fits g grounded s (after (all_told (map telling d.body)) s) w.fine.from d.span.to d.span.to (start free) (Some (entry_type p method)) body told.adds refl refl locals_same (sym told.typed) most refl
+        ∙ whole_fits g grounded s (after (all_told (map telling d.body)) s) w.fine.sound.from d.span.to d.span.to (start free) (Some (entry_type p method)) body told.adds refl refl locals_same (sym told.typed) most refl
 
     -- and the locals do.
     pub plain_locals_fit : d.constructor ≡ false → AllOf (λ (local : Local × Span). is_target p method local.0.slot ≡ true) method.locals → locals_fit p method own_types 0 method.locals own_types ≡ true
     plain_locals_fit plain targets =
         let told = tells plain in
-        whole_locals_fit g grounded s w.fine.from d.span.to d.span.to (start free) (Some (entry_type p method)) body told.adds refl locals_same (sym told.typed) targets
+        whole_locals_fit g grounded s w.fine.sound.from d.span.to d.span.to (start free) (Some (entry_type p method)) body told.adds refl locals_same (sym told.typed) targets

@@ -42,7 +42,7 @@ one_among before (statement span) later short = tt
 one_among before declaration later short = tt
 one_among before (in_type name) later short = tt
 
-all_among : (before rest : List Part) → All IsShort rest → AllOf (IsAmong (before ++ rest)) rest
+pub all_among : (before rest : List Part) → All IsShort rest → AllOf (IsAmong (before ++ rest)) rest
 all_among before [] short = tt
 all_among before (part ∷ rest) short =
     (one_among before part rest short.0, subst (λ (l : List Part). AllOf (IsAmong l) rest) (append_assoc before (part ∷ []) rest) (all_among (before ++ part ∷ []) rest short.1))
@@ -62,12 +62,12 @@ row_joined : (xs ys : List Layout) → row (xs ++ ys) ≡ followed (row xs) (row
 row_joined [] ys = refl
 row_joined (x ∷ xs) ys = ap (followed x) (row_joined xs ys) ∙ sym (followed_again x (row xs) (row ys))
 
-behind_row : (start lo hi : ℕ) (xs ys : List Layout) → LaidOut start lo hi (row (xs ++ ys)) → (mid : ℕ) × LaidOut start mid hi (row ys)
+pub behind_row : (start lo hi : ℕ) (xs ys : List Layout) → LaidOut start lo hi (row (xs ++ ys)) → (mid : ℕ) × LaidOut start mid hi (row ys)
 behind_row start lo hi xs ys laid =
     let r = laid_parts start lo hi (row xs) (row ys) (subst (LaidOut start lo hi) (row_joined xs ys) laid) in (r.0, r.2)
 
 -- and where the first part stands
-both_rows : (start lo hi : ℕ) (xs ys : List Layout) → LaidOut start lo hi (row (xs ++ ys)) → (mid : ℕ) × LaidOut start lo mid (row xs) × LaidOut start mid hi (row ys)
+pub both_rows : (start lo hi : ℕ) (xs ys : List Layout) → LaidOut start lo hi (row (xs ++ ys)) → (mid : ℕ) × LaidOut start lo mid (row xs) × LaidOut start mid hi (row ys)
 both_rows start lo hi xs ys laid = laid_parts start lo hi (row xs) (row ys) (subst (LaidOut start lo hi) (row_joined xs ys) laid)
 
 -- ---- methods

@@ -13,3 +13,4 @@ pub mod TypedStatements
 pub mod Readable
 pub mod TypedParts
 pub mod LocalTypes
+pub mod Parsed
