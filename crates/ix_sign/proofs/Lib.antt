@@ -4,3 +4,6 @@ pub mod LeastSteps
 mod SignClasses
 mod Alike
 mod Rules
+mod Refused
+mod WritesRefused
+mod OverridesRefused

@@ -6,5 +6,7 @@ pub mod Spared
 pub mod Signs
 -- What they refuse.
 pub mod SignErrors
+pub mod Exactly
+pub mod Refusals
 -- What the rules owe.
 pub mod SignLaws

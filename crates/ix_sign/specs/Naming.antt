@@ -33,11 +33,14 @@ abbrev pub AreSmallClaims : List Claim → Type 0
 AreSmallClaims [] = Unit {0}
 AreSmallClaims (claim ∷ claims) = AreSmallNames (claim_names claim) × AreSmallClaims claims
 
+abbrev pub AreSmallParams : List Variable → Type 0
+AreSmallParams params = (number : ℕ) (param : Variable) → slice_get params number ≡ Some param → AreSmallClaims param.claims
+
 -- a method has fewer parameters than that, and its claims name none beyond
 pub record HasSmallNames (method : Method) : Type 0 where
   pub few : length method.params + 1 < 2 ^ 32
   pub types : length method.param_types + 1 < 2 ^ 32
-  pub params : (number : ℕ) (param : Variable) → slice_get method.params number ≡ Some param → AreSmallClaims param.claims
+  pub params : AreSmallParams method.params
   pub result : AreSmallClaims method.result_claims
 
 -- so of all methods; fields have numbers of 32 bits, and their claims name no parameter beyond

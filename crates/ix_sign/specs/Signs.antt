@@ -42,6 +42,11 @@ pub record IsLeastOf (Step : Stored → Stored → Type 0) (s t : Stored) : Type
   pub above : Step s t
   pub least : (u : Stored) → Step s u → IsBelow t u
 
+-- The store is the least of those that are allowed.
+pub record IsLeastAllowed (Allowed : Stored → Type 0) (t : Stored) : Type 0 where
+  pub above : Allowed t
+  pub least : (u : Stored) → Allowed u → IsBelow t u
+
 -- ---- claims
 
 -- what claims on a path add, where names stand for these paths

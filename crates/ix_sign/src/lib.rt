@@ -6,14 +6,27 @@
 //! It never looks at a body.
 #![tactic(auto)]
 
+mod call_errors;
 mod calls;
 mod dependent;
 mod entry;
 mod facts;
+mod field_errors;
 mod fields;
+mod leave;
 mod naming;
+mod overriding;
 mod paths;
+mod ranked;
+mod unproved;
+mod write;
 
+pub use call_errors::{push_argument_errors, push_effect_error};
 pub use calls::{after_call, after_super};
 pub use entry::enter;
+pub use field_errors::push_field_errors;
 pub use fields::{after_read, after_write};
+pub use leave::{push_constructor_errors, push_missing_return, push_return_errors};
+pub use overriding::push_override_errors;
+pub use ranked::Ranked;
+pub use write::Write;
