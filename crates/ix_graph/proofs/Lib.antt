@@ -6,3 +6,5 @@ pub mod LeastAgree
 pub mod ErrorsAgree
 -- What a solver finds for the graph.
 pub mod Solved
+-- What is made of a statement or a condition.
+pub mod Makes
