@@ -8,3 +8,7 @@ pub mod ErrorsAgree
 pub mod Solved
 -- What is made of a statement or a condition.
 pub mod Makes
+-- The numbers of nodes, and of the ends of edges.
+pub mod Numbers
+-- The nodes with their edges.
+pub mod Attached

@@ -4,3 +4,4 @@ pub mod Graph
 pub mod GraphSolutions
 -- How its nodes and edges are made.
 pub mod Built
+pub mod Linked
