@@ -6,3 +6,9 @@ pub mod LeastAgree
 pub mod ErrorsAgree
 -- What a solver finds for the graph.
 pub mod Solved
+-- What is made of a statement or a condition.
+pub mod Makes
+-- The numbers of nodes, and of the ends of edges.
+pub mod Numbers
+-- The nodes with their edges.
+pub mod Attached

@@ -1,6 +1,6 @@
 -- The flow graph of a method: its nodes with their numbers, and its edges. A node's label is the store before what it stands for; an edge carries
 -- what comes of that label on its way. Sections of statements and conditions are those of JLS 8.
-use Rattle.std.specs.Prelude.{◌<◌, ℕ, suc, Bool, true, false, List, [], ◌∷◌, Option}
+use Rattle.std.specs.Prelude.{◌≡◌, ◌<◌, ℕ, suc, Bool, true, false, List, [], ◌∷◌, Option}
 use Rattle.ix_text.specs.declared.span.Span.{Span}
 use Rattle.ix_core.specs.declared.op.Op.{Op}
 use Rattle.ix_core.specs.declared.op.Test.{Test}
@@ -131,3 +131,9 @@ abbrev pub AreBelow : ℕ → List Part → Type 0
 AreBelow size [] = Unit {0}
 AreBelow size (NodePart at kind ∷ parts) = (at < size) × AreBelow size parts
 AreBelow size (EdgePart node pass target ∷ parts) = (node < size) × (target < size) × AreBelow size parts
+
+-- The nodes have the numbers from `at` on, in order.
+abbrev pub AreNumbered : ℕ → List Part → Type 0
+AreNumbered at [] = Unit {0}
+AreNumbered at (NodePart number kind ∷ parts) = (number ≡ at) × AreNumbered (suc at) parts
+AreNumbered at (EdgePart node pass target ∷ parts) = AreNumbered at parts

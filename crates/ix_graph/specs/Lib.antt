@@ -2,3 +2,6 @@
 pub mod Graph
 -- What a solution of it is, and what it asks of each node's label.
 pub mod GraphSolutions
+-- How its nodes and edges are made.
+pub mod Built
+pub mod Linked
