@@ -1,7 +1,5 @@
 -- What is found of bytes, and that nothing else is.
-use Rattle.std.proofs.Common.{◌≡◌, ◌≢◌, ℕ, zero, suc, ◌<◌, ◌≤◌, drop, codes, ◌⊎◌, inl, inr, List, [], ◌∷◌, Option, Some, None, length, take, ap, sym, subst, ◌∙◌, refl, arith}
-use Rattle.ix_core.specs.declared.error.Error.{Error}
-use Rattle.ix_check.specs.declared.check_source.Counts.{Counts}
+use Rattle.std.proofs.Common.{◌≡◌, ◌≢◌, ℕ, zero, suc, ◌<◌, ◌≤◌, drop, codes, ◌⊎◌, inl, inr, List, [], ◌∷◌, Some, length, ap, sym, subst, ◌∙◌, refl, arith}
 use Rattle.ix_lexer.specs.declared.token.LexError.{LexError}
 use Rattle.ix_lexer.specs.declared.token.LexError.TheVariants as lexical
 use Rattle.ix_lexer.specs.declared.token.Token.{Token}
@@ -11,7 +9,7 @@ use Rattle.ix_lexer.specs.Spans.{InOrder, IsWithin as LexWithin}
 use Rattle.ix_lexer.specs.Tokens.{Tokens, Fails, most_tokens}
 use Rattle.ix_grammar.specs.declared.error.ParseError.TheVariants as syntax
 use Rattle.ix_finding.specs.Found.{Finding, TooLong, Broken, Past, Found, too_long, no_tokens, lexed, FoundOf, no_tree, tree, FoundIn, of_lex_error, of_parse_error, start_of}
-use Rattle.ix_finding.specs.Findings.{IsPlaced}
+use Rattle.ix_finding.specs.Findings.{IsPlaced, HasFormed}
 use Rattle.ix_outside.specs.Reading.{most_bytes}
 use Rattle.ix_tree.specs.declared.decl.Unit.{Unit as Source}
 
@@ -69,6 +67,11 @@ refusal_placed tokens end (syntax.Syntax number) finding order within is =
 refusal_placed tokens end (syntax.TooDeep from) finding order within is = rw (some_is finding (Past from (codes "height")) is) (omega (arith, within))
 refusal_placed tokens end syntax.Memory finding order within is = cc
 
+pub refusal_formed : (tokens : List Token) (end : ℕ) (why : ParseError) (finding : Finding) → Some finding ≡ of_parse_error tokens end why → HasFormed finding
+refusal_formed tokens end (syntax.Syntax number) finding is = rw (some_is finding (Broken (start_of (drop number tokens) end) (codes "syntax")) is) tt
+refusal_formed tokens end (syntax.TooDeep from) finding is = rw (some_is finding (Past from (codes "height")) is) tt
+refusal_formed tokens end syntax.Memory finding is = cc
+
 pub lex_placed : (why : LexError) (end : ℕ) (finding : Finding) → LexWithin end why → Some finding ≡ of_lex_error why → IsPlaced end finding
 lex_placed (lexical.BadUtf8 at) end finding within is = rw (some_is finding _ is) within
 lex_placed (lexical.BadChar at) end finding within is = rw (some_is finding _ is) within
@@ -107,3 +110,12 @@ cause_only bytes why finding other is short none one (no_tokens error small fail
   | inr e ↦ absurd (known_cause why finding is e)
 ]
 cause_only bytes why finding other is short none one (lexed more small lexing few found) = absurd (known_cause why finding is (none more lexing few))
+
+pub lex_formed : (why : LexError) (finding : Finding) → Some finding ≡ of_lex_error why → HasFormed finding
+lex_formed (lexical.BadUtf8 at) finding is = rw (some_is finding _ is) tt
+lex_formed (lexical.BadChar at) finding is = rw (some_is finding _ is) tt
+lex_formed (lexical.OpenComment at) finding is = rw (some_is finding _ is) tt
+lex_formed (lexical.OpenString at) finding is = rw (some_is finding _ is) tt
+lex_formed (lexical.BadNumber at) finding is = rw (some_is finding _ is) tt
+lex_formed (lexical.TooMany at) finding is = rw (some_is finding _ is) tt
+lex_formed lexical.Memory finding is = cc

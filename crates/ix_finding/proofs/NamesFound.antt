@@ -1,5 +1,5 @@
 -- What is found of a source's names, and that nothing else is.
-use Rattle.std.proofs.Common.{◌≡◌, ◌≢◌, ◌≤◌, ◌⊎◌, inl, inr, ℕ, min, List, [], ◌∷◌, Option, Some, None, Result, Ok, Err, refl, sym, ap, subst, ◌∙◌, arith}
+use Rattle.std.proofs.Common.{◌≡◌, inl, inr, ℕ, min, List, [], Option, Some, None, Result, Ok, Err, refl, sym, ap, subst, ◌∙◌, arith}
 use Rattle.ix_tree.specs.declared.decl.Unit.{Unit as Source}
 use Rattle.ix_meaning.specs.declared.note.NameError.{NameError}
 use Rattle.ix_meaning.specs.declared.note.NameErrors.TheVariants as refusal
@@ -12,7 +12,7 @@ use Rattle.ix_lower.specs.declared.source.LowerError.TheVariants as lowering
 use Rattle.ix_plain.specs.Program.{program}
 use Rattle.ix_name_report.specs.Texts.{limit_name}
 use Rattle.ix_name_report.proofs.OneList.{one_list, none_listed}
-use Rattle.ix_finding.specs.Findings.{IsPlaced}
+use Rattle.ix_finding.specs.Findings.{IsPlaced, HasFormed}
 use Rattle.ix_meaning.specs.declared.note.NameErrors.{NameErrors}
 use Rattle.ix_finding.specs.Found.{Finding, Past, Misnamed, Whole, judgement, FoundIn, passes_limit, misnames, inherits, too_big, named, of_limit, of_name_errors, of_lower_error}
 
@@ -72,6 +72,10 @@ unlowered_only end source lowering.Memory finding other accepts bad is found = c
 pub unlowered_placed : (end : ℕ) (why : LowerError) (finding : Finding) → Some finding ≡ of_lower_error end why → IsPlaced end finding
 unlowered_placed end (lowering.Limit which place) finding is = subst (IsPlaced end) (sym (some_is finding (Past (min place end) (limit_name which)) is)) (omega arith)
 unlowered_placed end lowering.Memory finding is = cc
+
+pub unlowered_formed : (end : ℕ) (why : LowerError) (finding : Finding) → Some finding ≡ of_lower_error end why → HasFormed finding
+unlowered_formed end (lowering.Limit which place) finding is = subst HasFormed (sym (some_is finding (Past (min place end) (limit_name which)) is)) tt
+unlowered_formed end lowering.Memory finding is = cc
 
 -- ---- errors
 
@@ -146,3 +150,8 @@ pub refused_placed : (end : ℕ) (why : NameErrors) (finding : Finding) → Some
 refused_placed end (refusal.Errors errors) finding is = subst (IsPlaced end) (sym (some_is finding (Misnamed errors) is)) tt
 refused_placed end (refusal.Limit which place) finding is = subst (IsPlaced end) (sym (some_is finding (Past (min place end) (limit_name which)) is)) (omega arith)
 refused_placed end refusal.Memory finding is = cc
+
+pub refused_formed : (end : ℕ) (why : NameErrors) (finding : Finding) → Some finding ≡ of_name_errors end why → HasFormed finding
+refused_formed end (refusal.Errors errors) finding is = subst HasFormed (sym (some_is finding (Misnamed errors) is)) tt
+refused_formed end (refusal.Limit which place) finding is = subst HasFormed (sym (some_is finding (Past (min place end) (limit_name which)) is)) tt
+refused_formed end refusal.Memory finding is = cc

@@ -1,5 +1,6 @@
 -- What a finding of the code says, and where it stands.
-use Rattle.std.specs.Prelude.{ℕ, ◌≤◌, List}
+use Rattle.std.specs.Prelude.{ℕ, ◌≤◌}
+use Rattle.ix_core.specs.Formed.{Formed}
 use Rattle.ix_finding.specs.declared.finding.Finding.{Finding as Seen}
 use Rattle.ix_finding.specs.declared.finding.Finding.TheVariants as code
 use Rattle.ix_finding.specs.declared.finding.Judgement.{Judgement as SeenJudgement}
@@ -22,3 +23,8 @@ abbrev pub IsPlaced : ℕ → Finding → Type 0
 IsPlaced end (Broken at key) = at ≤ end
 IsPlaced end (Past at name) = at ≤ end
 IsPlaced end _ = Unit {0}
+
+-- The plain form of a source is formed.
+abbrev pub HasFormed : Finding → Type 0
+HasFormed (Whole judgement program) = Formed program
+HasFormed _ = Unit {0}

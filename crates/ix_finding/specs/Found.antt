@@ -1,5 +1,5 @@
 -- What the bytes of a file turn out to be.
-use Rattle.std.specs.Prelude.{◌≡◌, ◌≤◌, ◌<◌, min, ℕ, List, [], ◌∷◌, Option, Some, None, Result, Ok, Err, length, drop, codes}
+use Rattle.std.specs.Prelude.{◌≡◌, ◌≤◌, ◌<◌, min, ℕ, List, [], ◌∷◌, Option, Some, None, Ok, Err, length, drop, codes}
 use Rattle.ix_lexer.specs.declared.token.LexError.{LexError}
 use Rattle.ix_lexer.specs.declared.token.LexError.TheVariants as lexical
 use Rattle.ix_lexer.specs.declared.token.Token.{Token}

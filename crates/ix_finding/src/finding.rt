@@ -1,12 +1,13 @@
 //! What the bytes of a file turn out to be.
 ghost use Rattle.std.specs.Prelude.{◌≡◌, ◌≤◌, length, option_map, drop, IfOk};
 ghost use Rattle.ix_lexer.specs.Spans.{InOrder};
-ghost use Rattle.ix_tree.specs.Parts.{CanResolve};
 ghost use Rattle.ix_meaning.specs.Resolved.{Accepts, names};
 ghost use Rattle.ix_table.specs.Numbered.{shown};
 ghost use Rattle.ix_grammar.specs.Refusals.{IsWithin as TokenWithin};
+ghost use Rattle.ix_formed.specs.Parsed.{IsParsed};
+ghost use Rattle.ix_parsed.specs.IntTokens.{HaveInts};
 ghost use Rattle.ix_finding.specs.Found as spec;
-ghost use Rattle.ix_finding.specs.Findings.{seen, judged, IsPlaced};
+ghost use Rattle.ix_finding.specs.Findings.{seen, judged, IsPlaced, HasFormed};
 
 use ix_check::{Counts, UnitError, check_unit, count_unit};
 use ix_core::{Error, Program};
@@ -138,12 +139,13 @@ fn of_program(alloc: Global, unit: &Unit, program: Program) -> Result<Finding, A
 /// What a source is whose names mean what the table says, in a text of `end` bytes.
 #[tactic(auto, using(ix_counts::proofs::FewDeclarations::few_classes, ix_counts::proofs::FewDeclarations::few_members))]
 fn of_lowered(alloc: Global, unit: &Unit, table: &Table, end: u32) -> Result<Finding, AllocError>
-    requires can_resolve { CanResolve unit.now }
+    requires parsed { IsParsed unit.now }
     requires accepts { Accepts unit.now }
     requires table { shown table.now ≡ names unit.now }
     ensures right { IfOk result (λ finding. spec.FoundIn end unit.now (seen finding)) }
     ensures only { (other : spec.Finding) → spec.FoundIn end unit.now other → IfOk result (λ finding. seen finding ≡ other) }
     ensures placed { IfOk result (λ finding. IsPlaced end (seen finding)) }
+    ensures formed { IfOk result (λ finding. HasFormed (seen finding)) }
 {
     match lower(alloc, unit, table) {
         Ok(program) => of_program(alloc, unit, program),
@@ -156,22 +158,24 @@ fn of_lowered(alloc: Global, unit: &Unit, table: &Table, end: u32) -> Result<Fin
 
 /// What a source without errors on names is, in a text of `end` bytes.
 fn of_resolved(alloc: Global, unit: &Unit, table: Table, end: u32) -> Result<Finding, AllocError>
-    requires can_resolve { CanResolve unit.now }
+    requires parsed { IsParsed unit.now }
     requires accepts { Accepts unit.now }
     requires table { shown table ≡ names unit.now }
     ensures right { IfOk result (λ finding. spec.FoundIn end unit.now (seen finding)) }
     ensures only { (other : spec.Finding) → spec.FoundIn end unit.now other → IfOk result (λ finding. seen finding ≡ other) }
     ensures placed { IfOk result (λ finding. IsPlaced end (seen finding)) }
+    ensures formed { IfOk result (λ finding. HasFormed (seen finding)) }
 {
     of_lowered(alloc, unit, &table, end)
 }
 
 /// What a source in a text of `end` bytes is.
 fn of_unit(alloc: Global, unit: &Unit, end: u32) -> Result<Finding, AllocError>
-    requires can_resolve { CanResolve unit.now }
+    requires parsed { IsParsed unit.now }
     ensures right { IfOk result (λ finding. spec.FoundIn end unit.now (seen finding)) }
     ensures only { (other : spec.Finding) → spec.FoundIn end unit.now other → IfOk result (λ finding. seen finding ≡ other) }
     ensures placed { IfOk result (λ finding. IsPlaced end (seen finding)) }
+    ensures formed { IfOk result (λ finding. HasFormed (seen finding)) }
 {
     match resolve(alloc, unit) {
         Ok(table) => of_resolved(alloc, unit, table, end),
@@ -186,9 +190,11 @@ fn of_unit(alloc: Global, unit: &Unit, end: u32) -> Result<Finding, AllocError>
 fn of_tokens(alloc: Global, tokens: &[Token], end: u32) -> Result<Finding, AllocError>
     requires few { length tokens.now ≤ 200000 }
     requires in_order { InOrder 0 end tokens.now }
+    requires ints { HaveInts tokens.now }
     ensures right { IfOk result (λ finding. spec.FoundOf tokens.now end (seen finding)) }
     ensures only { (other : spec.Finding) → spec.FoundOf tokens.now end other → IfOk result (λ finding. seen finding ≡ other) }
     ensures placed { IfOk result (λ finding. IsPlaced end (seen finding)) }
+    ensures formed { IfOk result (λ finding. HasFormed (seen finding)) }
 {
     match parse(alloc, tokens, end) {
         Ok(unit) => of_unit(alloc, &unit, end),
@@ -204,6 +210,7 @@ pub fn of_bytes(alloc: Global, bytes: &[u8]) -> Result<Finding, AllocError>
     ensures right { IfOk result (λ finding. spec.Found bytes.now (seen finding)) }
     ensures only { (other : spec.Finding) → spec.Found bytes.now other → IfOk result (λ finding. seen finding ≡ other) }
     ensures placed { IfOk result (λ finding. IsPlaced (length bytes.now) (seen finding)) }
+    ensures formed { IfOk result (λ finding. HasFormed (seen finding)) }
 {
     if bytes.len() > MOST_BYTES {
         return Ok(Finding::TooLong);

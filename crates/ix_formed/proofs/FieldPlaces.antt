@@ -20,7 +20,7 @@ use Rattle.ix_formed.proofs.LayoutSpans.{PartIs, laid_up, laid_parts, init_spans
 use Rattle.ix_formed.proofs.NumberLists.{all_split}
 use Rattle.ix_formed.proofs.SourceMethods.{IsAmong, behind_row, both_rows}
 
--- Places are such a pair.
+-- What is asked of a stretch of the text, from its start to its end.
 abbrev pub Places : Type 1
 Places = ℕ → ℕ → Type 0
 
@@ -34,7 +34,7 @@ abbrev pub Beside : Span → Places
 Beside span lo hi = (hi ≤ span.from) ⊎ (span.to ≤ lo)
 
 module _ (all : List Part) where
-  -- An initialiser stands at such places, and its names are among those of the source.
+  -- An initialiser stands in a stretch of which this is so, and its names are among those of the source.
   pub record StandsAt (Where : Places) (i : Init) : Type 0 where
     pub lo : ℕ
     pub hi : ℕ

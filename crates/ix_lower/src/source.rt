@@ -1,12 +1,15 @@
 //! Whole sources.
 ghost use Rattle.std.specs.Prelude.{◌≡◌, ◌++◌, ◌∷◌, ◌+◌, ◌<◌, ◌^◌, [], ℕ, Ok, Err, length, IfOk, OnOk, IsErrOf};
+ghost use Rattle.ix_core.specs.Formed.{Formed};
 ghost use Rattle.ix_meaning.specs.declared.note.Which.{Which};
+ghost use Rattle.ix_meaning.specs.Resolved.{Accepts, names};
 ghost use Rattle.ix_meaning.specs.Source.{members_in};
 ghost use Rattle.ix_table.specs.Numbered.{shown};
 ghost use Rattle.ix_plain.specs.declared.made.Stop.TheVariants as stop;
 ghost use Rattle.ix_plain.specs.declared.numbers.Next.{Next};
 ghost use Rattle.ix_plain.specs.Counts as counts;
 ghost use Rattle.ix_plain.specs.Program as spec;
+ghost use Rattle.ix_formed.specs.Parsed.{IsParsed};
 ghost use Rattle.ix_lower.specs.declared.source.LowerError.TheVariants as error;
 ghost use Rattle.ix_lower.specs.Homes.{shown_tables, shown_home};
 
@@ -192,12 +195,14 @@ fn methods<'t>(
     Ok(methods)
 }
 
-/// The plain form of a source whose names mean what the table says.
+/// The plain form of a source whose names mean what the table says. Of a tree that `parse` answers, with the table of its names and without errors on them, it is
+/// formed: its numbers are in range, its types and its calls fit.
 pub fn lower(alloc: Global, unit: &Unit, table: &Table) -> Result<Program, LowerError>
     requires few_classes { length unit.now.classes < 2 ^ 32 }
     requires few_members { members_in unit.now.classes + 1 < 2 ^ 32 }
     ensures program { IfOk result (λ program. spec.program (shown table.now) unit.now.classes ≡ Ok program) }
     ensures limit { (which : Which) (place : ℕ) → IsErrOf result (error.Limit which place) → spec.program (shown table.now) unit.now.classes ≡ Err (record { which = which; place = place }) }
+    ensures formed { IsParsed unit.now → Accepts unit.now → shown table.now ≡ names unit.now → IfOk result (λ program. Formed program) }
 {
     let decls = unit.classes.as_slice();
     let (world, _) = world_of(alloc, decls)?;

@@ -1,7 +1,8 @@
-use Rattle.std.proofs.Common.{rules, sym, ◌∙◌, ap, subst, inl, inr}
+use Rattle.std.proofs.Common.{rules, sym}
 use Rattle.std.proofs.lemmas.Result.{IfOk-weaker}
+use Rattle.ix_parsed.proofs.LexedInts.{tokens_have_ints}
 use Rattle.ix_finding.specs.Found as spec
-use Rattle.ix_finding.proofs.BytesFound.{of_lexed, cause_of, cause_only}
+use Rattle.ix_finding.proofs.BytesFound.{of_lexed, cause_of, cause_only, lex_formed}
 use Rattle.ix_finding.proofs.finding.of_bytes.Goals as goal
 
 pub returns-then-bytes-gt-MOST_BYTES-clause-right : goal.returns-then-bytes-gt-MOST_BYTES-clause-right
@@ -20,3 +21,9 @@ returns-in-Some-clause-right c = cause_of _ _ _ c.in-Some.ensures (search rules)
 
 pub returns-in-Some-clause-only : goal.returns-in-Some-clause-only
 returns-in-Some-clause-only c = λ other found. cause_only _ _ _ other c.in-Some.ensures (search rules) c.in-Err.ensures.only_tokens c.in-Err.ensures.only_cause found
+
+pub returns-in-Some-clause-formed : goal.returns-in-Some-clause-formed
+returns-in-Some-clause-formed c = lex_formed _ _ c.in-Some.ensures
+
+pub of_tokens-requires-clause-ints : goal.of_tokens-requires-clause-ints
+of_tokens-requires-clause-ints c = rw c.deref.ensures.value (tokens_have_ints c.args.bytes.now c.in-Ok.tokens.items c.in-Ok.ensures.tokens)

@@ -1,9 +1,10 @@
-use Rattle.std.proofs.Common.{rules, sym, ◌≡◌, ◌∙◌, ap, subst, Ok, Err, Some}
+use Rattle.std.proofs.Common.{sym, ◌≡◌, ◌∙◌, ap, subst, Ok, Err}
 use Rattle.std.proofs.lemmas.Result.{IfOk-weaker}
 use Rattle.ix_plain.specs.Program.{program}
 use Rattle.ix_meaning.specs.Resolved.{names}
 use Rattle.ix_finding.specs.Found as spec
-use Rattle.ix_finding.proofs.NamesFound.{accepted_only, unlowered_found, unlowered_only, unlowered_placed}
+use Rattle.ix_finding.specs.Findings.{HasFormed}
+use Rattle.ix_finding.proofs.NamesFound.{accepted_only, unlowered_found, unlowered_only, unlowered_placed, unlowered_formed}
 use Rattle.ix_finding.proofs.finding.of_lowered.Goals as goal
 
 pub returns-in-Ok-clause-right : goal.returns-in-Ok-clause-right
@@ -28,3 +29,10 @@ returns-in-Some-clause-only c = λ other found.
 
 pub returns-in-Some-clause-placed : goal.returns-in-Some-clause-placed
 returns-in-Some-clause-placed c = unlowered_placed _ _ _ c.in-Some.ensures
+
+pub returns-in-Ok-clause-formed : goal.returns-in-Ok-clause-formed
+returns-in-Ok-clause-formed c =
+    IfOk-weaker c.of_program.result _ _ (λ finding is. subst HasFormed (sym is) (c.in-Ok.ensures.formed c.requires.parsed c.requires.accepts c.requires.table)) c.of_program.ensures.found
+
+pub returns-in-Some-clause-formed : goal.returns-in-Some-clause-formed
+returns-in-Some-clause-formed c = unlowered_formed _ _ _ c.in-Some.ensures

@@ -1,7 +1,7 @@
-use Rattle.std.proofs.Common.{rules, sym, ◌∙◌, ap, subst, inl, inr}
 use Rattle.std.proofs.lemmas.Result.{IfOk-weaker}
+use Rattle.ix_parsed.proofs.ParsedTrees.{parsed}
 use Rattle.ix_finding.specs.Found as spec
-use Rattle.ix_finding.proofs.BytesFound.{tree_found, refusal_only, refusal_of, refusal_placed}
+use Rattle.ix_finding.proofs.BytesFound.{tree_found, refusal_only, refusal_of, refusal_placed, refusal_formed}
 use Rattle.ix_finding.proofs.finding.of_tokens.Goals as goal
 
 pub returns-in-Ok-clause-right : goal.returns-in-Ok-clause-right
@@ -18,3 +18,10 @@ returns-in-Some-clause-only c = λ other found. refusal_only _ _ _ _ other c.in-
 
 pub returns-in-Some-clause-placed : goal.returns-in-Some-clause-placed
 returns-in-Some-clause-placed c = refusal_placed _ _ _ _ c.requires.in_order c.in-Err.ensures.within c.in-Some.ensures
+
+pub returns-in-Some-clause-formed : goal.returns-in-Some-clause-formed
+returns-in-Some-clause-formed c = refusal_formed _ _ _ _ c.in-Some.ensures
+
+pub of_unit-requires : goal.of_unit-requires
+of_unit-requires c =
+    record { parsed = parsed c.args.tokens.now c.in-Ok.unit c.requires.ints c.in-Ok.ensures.found c.in-Ok.ensures.resolvable c.args.end c.in-Ok.ensures.placed }

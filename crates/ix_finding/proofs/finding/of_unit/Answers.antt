@@ -1,4 +1,4 @@
-use Rattle.ix_finding.proofs.NamesFound.{refused_found, refused_only, refused_placed}
+use Rattle.ix_finding.proofs.NamesFound.{refused_found, refused_only, refused_placed, refused_formed}
 use Rattle.ix_finding.proofs.finding.of_unit.Goals as goal
 
 pub returns-in-Some-clause-right : goal.returns-in-Some-clause-right
@@ -9,3 +9,6 @@ returns-in-Some-clause-only c = λ other found. refused_only _ _ _ _ other c.in-
 
 pub returns-in-Some-clause-placed : goal.returns-in-Some-clause-placed
 returns-in-Some-clause-placed c = refused_placed _ _ _ c.in-Some.ensures
+
+pub returns-in-Some-clause-formed : goal.returns-in-Some-clause-formed
+returns-in-Some-clause-formed c = refused_formed _ _ _ c.in-Some.ensures

@@ -1,0 +1,5 @@
+pub mod FoldsOfForms
+pub mod LexedInts
+pub mod ParsedExpressions
+pub mod ParsedStatements
+pub mod ParsedTrees

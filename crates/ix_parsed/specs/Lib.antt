@@ -1,0 +1,2 @@
+-- Tokens whose literals are ints.
+pub mod IntTokens
