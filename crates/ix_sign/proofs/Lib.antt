@@ -1,7 +1,7 @@
 pub mod SignSteps
 pub mod SignTruth
 pub mod LeastSteps
-mod SignClasses
+pub mod SignClasses
 mod Alike
 mod Rules
 mod Refused

@@ -1,5 +1,6 @@
 -- What names stand for in a claim, and which names have a path that can be written down.
 use Rattle.std.specs.Prelude.{◌≡◌, ℕ, ◌+◌, ◌<◌, ◌^◌, List, [], ◌∷◌, length, slice_get, Some}
+use Rattle.ix_text.specs.declared.span.Span.{Span}
 use Rattle.ix_core.specs.declared.claim.Claim.{Claim}
 use Rattle.ix_core.specs.declared.claim.Name.{Name}
 use Rattle.ix_core.specs.declared.claim.Name.TheVariants.{Param}
@@ -36,12 +37,14 @@ AreSmallClaims (claim ∷ claims) = AreSmallNames (claim_names claim) × AreSmal
 abbrev pub AreSmallParams : List Variable → Type 0
 AreSmallParams params = (number : ℕ) (param : Variable) → slice_get params number ≡ Some param → AreSmallClaims param.claims
 
--- a method has fewer parameters than that, and its claims name none beyond
+-- a method has fewer parameters and locals than that, and its claims name no parameter beyond
 pub record HasSmallNames (method : Method) : Type 0 where
   pub few : length method.params + 1 < 2 ^ 32
   pub types : length method.param_types + 1 < 2 ^ 32
   pub params : AreSmallParams method.params
   pub result : AreSmallClaims method.result_claims
+  pub few_locals : length method.locals < 2 ^ 32
+  pub locals : (number : ℕ) (local : Variable × Span) → slice_get method.locals number ≡ Some local → AreSmallClaims local.0.claims
 
 -- so of all methods; fields have numbers of 32 bits, and their claims name no parameter beyond
 pub record HaveSmallNames (program : Program) : Type 0 where

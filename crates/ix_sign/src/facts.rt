@@ -17,8 +17,8 @@ use ix_exact::push_if;
 use ix_rules::push_claim;
 use std::alloc::AllocError;
 
-/// What claims of a path add.
-pub(crate) fn push_claims(
+/// What claims of a path add. The only error is want of memory.
+pub fn push_claims(
     out: &mut Vec<Fact>,
     naming: &Naming<'_>,
     at: &Path,

@@ -4,7 +4,7 @@ use ix_core::{CallOp, Method};
 
 /// Where a claim is looked at, and so which paths its names stand for.
 #[derive(Clone, Copy)]
-pub(crate) enum Naming<'a> {
+pub enum Naming<'a> {
     /// inside a method: a variable has its own slot, and a field is one of `this`
     Inside(&'a Method),
     /// at a call: a parameter has the argument's slot, and a field is one of the receiver

@@ -11,7 +11,7 @@ use crate::naming::Naming;
 use ix_core::{CallOp, Claim, Method, Name, Off, Path, PathClaim, PathOff};
 
 /// The slot of a parameter: after `this`, but in a static method.
-pub(crate) fn param_slot(method: &Method, number: u32) -> u32
+pub fn param_slot(method: &Method, number: u32) -> u32
     requires { number + 1 < 2 ^ 32 }
     ensures { result ≡ tables.param_slot method.now number }
 {

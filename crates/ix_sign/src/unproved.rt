@@ -16,10 +16,10 @@ use std::alloc::AllocError;
 
 /// What an error says besides its claim: the rule's number, the place, and whom the claim speaks of.
 #[derive(Clone, Copy)]
-pub(crate) struct Report {
-    pub(crate) rule: u8,
-    pub(crate) span: Span,
-    pub(crate) subject: Subject,
+pub struct Report {
+    pub rule: u8,
+    pub span: Span,
+    pub subject: Subject,
 }
 
 impl Report {
@@ -34,14 +34,15 @@ impl Report {
     }
 }
 
-fn refuses(store: &Store, claim: &PathClaim, at: &Path) -> bool
+/// Whether the store doesn't prove the claim of the path. It takes no memory.
+pub fn refuses(store: &Store, claim: &PathClaim, at: &Path) -> bool
     ensures { result ≡ not (is_proved claim.now at.now (stored store.now)) }
 {
     !store.proves(claim, at)
 }
 
-/// The claims that the store doesn't prove of the path.
-pub(crate) fn push_unproved(
+/// The claims that the store doesn't prove of the path. The only error is want of memory.
+pub fn push_unproved(
     out: &mut Vec<Ranked>,
     store: &Store,
     naming: &Naming<'_>,

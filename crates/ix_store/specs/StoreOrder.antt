@@ -11,6 +11,10 @@ use Rattle.ix_store.specs.StoredFacts.{stored}
 abbrev pub StoreBelow : Store → Store → Type 0
 StoreBelow low high = IsBelow (stored low) (stored high)
 
+-- the unreachable store, below all
+abbrev pub nowhere : Store
+nowhere = record { known = None }
+
 abbrev pub tables_rank : Tables → ℕ
 tables_rank tables =
     table_rank tables.ranges + (table_rank tables.lows + (table_rank tables.lengths + (table_rank tables.differences + (table_rank tables.searches + table_rank tables.uppers))))

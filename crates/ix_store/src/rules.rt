@@ -6,6 +6,7 @@ ghost use Rattle.ix_facts.specs.Systems.{HaveClasses};
 ghost use Rattle.ix_facts.specs.Forget.{of_path, of_field, of_call};
 ghost use Rattle.ix_store.specs.ChangedPaths.{is_spared, is_final, of_called, of_parent, is_changed};
 ghost use Rattle.ix_store.specs.StoredFacts.{facts_in, stored};
+ghost use Rattle.ix_store.specs.StoreOrder.{nowhere};
 ghost use Rattle.ix_outcomes.specs.OverGroups.{outcome_of};
 
 use crate::changed::Changed;
@@ -27,7 +28,7 @@ pub(crate) fn reached(alloc: Global, known: Known) -> Result<Store, AllocError>
 impl Store {
     /// The store at a place where no state is. It takes no memory.
     pub fn unreachable() -> Store
-        ensures store { stored result ≡ Unreachable }
+        ensures store { result ≡ nowhere }
     {
         Store { known: None }
     }

@@ -1,0 +1,3 @@
+pub mod MethodLaws
+pub mod ErrorsWeaker
+mod AfterRules

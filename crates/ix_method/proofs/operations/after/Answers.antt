@@ -1,0 +1,45 @@
+use Rattle.std.proofs.Common.{sym, subst, ◌∙◌}
+use Rattle.std.specs.Prelude.{IfOk}
+use Rattle.ix_facts.specs.Stores.{IsAdded}
+use Rattle.ix_facts.specs.Systems.{HaveClasses}
+use Rattle.ix_store.specs.StoredFacts.{stored}
+use Rattle.ix_sign.specs.Signs.{IsLeastOf}
+use Rattle.ix_method.specs.MethodRules.{copied_claims, KindGives}
+use Rattle.ix_method.proofs.AfterRules.{copied_have, copy_least, plain_gives, plain_least}
+use Rattle.ix_method.proofs.operations.after.Goals as goal
+
+pub add-requires : goal.add-requires
+add-requires c = record { classes = subst HaveClasses (sym (c.deref.ensures.value ∙ c.in_ok-facts-in-Copy.ensures)) (copied_have c.args.within.now c.in-Copy.target c.args.done.now.span.from) }
+
+pub returns-in_ok-after-in-Copy : goal.returns-in_ok-after-in-Copy
+returns-in_ok-after-in-Copy c =
+    let method = c.args.within.now in
+    let place = c.args.done.now.span.from in
+    let between = stored c.in_ok-copied-in-Copy.copied in
+    let t = stored c.in_ok-after-in-Copy.after in
+    let added : IsAdded (copied_claims method c.in-Copy.target place) between t =
+    subst (λ l. IsAdded l between t) (c.deref.ensures.value ∙ c.in_ok-facts-in-Copy.ensures) c.in_ok-after-in-Copy.ensures.after in
+    record { least = copy_least c.args.program.now method c.args.profile c.args.done.now.kind c.in-Copy.target _ c.in-Copy.field-2 place (stored c.args.store.now) between t c.in-Copy.is c.in_ok-copied-in-Copy.ensures.after added }
+
+pub returns-in-ReadField : goal.returns-in-ReadField
+returns-in-ReadField c = record {
+  least = subst (λ k. IfOk c.after_read.result (λ after. IsLeastOf (KindGives c.args.program.now c.args.within.now c.args.profile k c.args.done.now.span.from) (stored c.args.store.now) (stored after))) (sym c.in-ReadField.is) c.after_read.ensures.least;
+}
+
+pub returns-in-WriteField : goal.returns-in-WriteField
+returns-in-WriteField c = record {
+  least = subst (λ k. IfOk c.after_write.result (λ after. IsLeastOf (KindGives c.args.program.now c.args.within.now c.args.profile k c.args.done.now.span.from) (stored c.args.store.now) (stored after))) (sym c.in-WriteField.is) c.after_write.ensures.least;
+}
+
+pub returns-in_default : goal.returns-in_default
+returns-in_default c =
+    let program = c.args.program.now in
+    let method = c.args.within.now in
+    let kind = c.args.done.now.kind in
+    let place = c.args.done.now.span.from in
+    let nots = c.in_default in
+    record {
+      least = plain_least program method c.args.profile kind place (stored c.args.store.now) c.after-in_default.result
+          (plain_gives program method c.args.profile kind place nots.not-Copy nots.not-ReadField nots.not-WriteField nots.not-NewObject nots.not-StaticCall nots.not-InstanceCall nots.not-SuperCall)
+          c.after-in_default.ensures.after;
+    }

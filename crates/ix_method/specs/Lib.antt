@@ -1,0 +1,5 @@
+-- The rules of a method as rules of flow.
+pub mod MethodRules
+-- The errors that the rules derive.
+pub mod RuleErrors
+pub mod Shown

@@ -1,0 +1,63 @@
+-- The rules of a method of a program in a profile, as rules of flow over stores.
+use Rattle.std.specs.Prelude.{ℕ, ℤ, List, [], Option, None, Some}
+use Rattle.ix_core.specs.declared.claim.Claim.{Claim}
+use Rattle.ix_core.specs.declared.claim.Name.{Name}
+use Rattle.ix_core.specs.declared.fact.Fact.{Fact}
+use Rattle.ix_core.specs.declared.fact.Path.TheVariants.{Slot}
+use Rattle.ix_core.specs.declared.fact.Profile.{Profile}
+use Rattle.ix_core.specs.declared.op.Op.{Op}
+use Rattle.ix_core.specs.declared.op.OpKind.{OpKind}
+use Rattle.ix_core.specs.declared.op.OpKind.TheVariants as op
+use Rattle.ix_core.specs.declared.program.Method.{Method}
+use Rattle.ix_core.specs.declared.program.Program.{Program}
+use Rattle.ix_facts.specs.MethodLandmarks.{AreLandmarksOf}
+use Rattle.ix_facts.specs.Round.{rounded}
+use Rattle.ix_facts.specs.Stores.{Stored, IsBelow, Gives, Then, OutcomesGive, operated, outcomes_of}
+use Rattle.ix_flow.specs.Flow.{Rules}
+use Rattle.ix_steps.specs.MachineSteps.{own_path}
+use Rattle.ix_store.specs.declared.store.Store.{Store}
+use Rattle.ix_store.specs.StoredFacts.{stored}
+use Rattle.ix_store.specs.StoreOrder.{StoreBelow, nowhere}
+use Rattle.ix_sign.specs.Names.{variable_at}
+use Rattle.ix_sign.specs.Signs.{Adds, claims_facts, EntryGives, ReadGives, WriteGives, CallGives, SuperGives}
+
+-- the claims of the variable that a copy goes into
+abbrev pub variable_claims : Option (Name × List Claim) → List Claim
+variable_claims None = []
+variable_claims (Some variable) = variable.1
+
+-- A copy into a variable with claims: its claims, which were proved of the value, hold of it.
+abbrev pub copied_claims : Method → ℕ → ℕ → List Fact
+copied_claims method slot place = claims_facts (own_path method) (Slot slot) (variable_claims (variable_at method slot place))
+
+module _ (program : Program) (method : Method) (profile : Profile) where
+  -- what an operation at this place gives
+  abbrev pub KindGives : OpKind → ℕ → Stored → Stored → Type 0
+  KindGives (op.Copy target source ty) place = Then (Gives (operated profile (op.Copy target source ty))) (Adds (copied_claims method target place))
+  KindGives (op.ReadField target object field) place = ReadGives program method target object field
+  KindGives (op.WriteField object field value) place = WriteGives program method object field value
+  KindGives (op.NewObject call) place = CallGives program method call
+  KindGives (op.StaticCall call) place = CallGives program method call
+  KindGives (op.InstanceCall call) place = CallGives program method call
+  KindGives (op.SuperCall call) place = SuperGives program method call
+  KindGives kind place = Gives (operated profile kind)
+
+  abbrev pub AfterGives : Op → Stored → Stored → Type 0
+  AfterGives done = KindGives done.kind done.span.from
+
+-- The label of a loop: rounded to the method's landmarks, without what isn't in scope.
+abbrev pub RoundedGives : Program → Method → ℕ → Stored → Stored → Type 0
+RoundedGives program method scope s t = (marks : List ℤ) × AreLandmarksOf program method marks × Gives (rounded marks scope) s t
+
+-- The rules of a method. Of a boolean slot no fact speaks, so it tells nothing.
+abbrev pub method_rules : Program → Method → Profile → Rules
+method_rules program method profile = record {
+  Store = Store;
+  Below = StoreBelow;
+  nowhere = nowhere;
+  Entry = λ s. EntryGives program method (stored s);
+  After = λ done s t. AfterGives program method profile done (stored s) (stored t);
+  Tested = λ answer test s t. OutcomesGive (outcomes_of answer test) (stored s) (stored t);
+  Told = λ answer code slot s t. IsBelow (stored s) (stored t);
+  Rounded = λ scope s t. RoundedGives program method scope (stored s) (stored t);
+}
