@@ -1,11 +1,12 @@
 //! Statements.
-ghost use Rattle.std.specs.Prelude.{◌≡◌, true, Ok, Err, map, IfOk, OnOk, IsErrOf};
+ghost use Rattle.std.specs.Prelude.{◌≡◌, Ok, Err, map, IfOk, OnOk, IsErrOf};
 ghost use Rattle.ix_meaning.specs.declared.note.Which.{Which};
 ghost use Rattle.ix_plain.specs.declared.made.Stop.TheVariants as stop;
 ghost use Rattle.ix_plain.specs.Parts.{block, empty};
 ghost use Rattle.ix_plain.specs.Statements as spec;
 ghost use Rattle.ix_lower_values.specs.Shown.{shown_site};
-ghost use Rattle.ix_lower_bodies.specs.Loops.{is_loop};
+ghost use Rattle.ix_lower_bodies.specs.declared.statement.Form.TheVariants as form;
+ghost use Rattle.ix_lower_bodies.specs.Forms.{form_of};
 
 use crate::declare::declarations;
 use crate::full::{copied_text, evaluate, push_last, run, run_all, test, test_if};
@@ -20,6 +21,16 @@ use std::mem;
 
 /// How many loops a method may have.
 pub const MOST_LOOPS: u32 = 128;
+
+/// By which function a form of statement is made.
+#[derive(Clone, Copy)]
+pub enum Form {
+    While,
+    Do,
+    For,
+    /// All others.
+    Plain,
+}
 
 /// Begins a loop.
 fn enter_loop(body: &mut Body) -> Result<(), Stop>
@@ -106,14 +117,14 @@ fn print(alloc: Global, site: &Site<'_>, value: &Expr, body: &mut Body) -> Resul
     Ok(())
 }
 
-fn is_loop(kind: &StmtKind) -> bool
-    ensures { result ≡ is_loop kind.now }
+fn form_of(kind: &StmtKind) -> Form
+    ensures { result ≡ form_of kind.now }
 {
     match kind {
-        StmtKind::While(_, _) => true,
-        StmtKind::Do(_, _) => true,
-        StmtKind::For(_, _, _, _) => true,
-        _ => false,
+        StmtKind::While(_, _) => Form::While,
+        StmtKind::Do(_, _) => Form::Do,
+        StmtKind::For(_, _, _, _) => Form::For,
+        _ => Form::Plain,
     }
 }
 
@@ -129,9 +140,21 @@ fn statement(
     ensures body { OnOk result ((spec.statement stmt.now).run (shown_site site.now) end body.old ≡ Ok body.new) }
     ensures limit { (which : Which) → IsErrOf result (stop.Limit which) → (spec.statement stmt.now).run (shown_site site.now) end body.old ≡ Err which }
 {
-    if is_loop(&stmt.kind) {
-        return looped(alloc, site, stmt, end, body);
+    match form_of(&stmt.kind) {
+        Form::While => while_loop(alloc, site, stmt, end, body),
+        Form::Do => do_loop(alloc, site, stmt, end, body),
+        Form::For => for_loop(alloc, site, stmt, end, body),
+        Form::Plain => plain(alloc, site, stmt, end, body),
     }
+}
+
+/// A statement that is no loop.
+#[cycle(statements)]
+fn plain(alloc: Global, site: &Site<'_>, stmt: &Stmt, end: u32, body: &mut Body) -> Result<(), Stop>
+    requires { form_of stmt.now.kind ≡ form.Plain }
+    ensures body { OnOk result ((spec.statement stmt.now).run (shown_site site.now) end body.old ≡ Ok body.new) }
+    ensures limit { (which : Which) → IsErrOf result (stop.Limit which) → (spec.statement stmt.now).run (shown_site site.now) end body.old ≡ Err which }
+{
     match &stmt.kind {
         StmtKind::Block(statements) => {
             let top = body.made.free;
@@ -171,15 +194,16 @@ fn statement(
     }
 }
 
+/// `while`: the condition before each turn.
 #[cycle(statements)]
-fn looped(
+fn while_loop(
     alloc: Global,
     site: &Site<'_>,
     stmt: &Stmt,
     end: u32,
     body: &mut Body,
 ) -> Result<(), Stop>
-    requires { is_loop stmt.now.kind ≡ true }
+    requires { form_of stmt.now.kind ≡ form.While }
     ensures body { OnOk result ((spec.statement stmt.now).run (shown_site site.now) end body.old ≡ Ok body.new) }
     ensures limit { (which : Which) → IsErrOf result (stop.Limit which) → (spec.statement stmt.now).run (shown_site site.now) end body.old ≡ Err which }
 {
@@ -201,6 +225,24 @@ fn looped(
             push_last(body, item)?;
             Ok(())
         }
+        _ => unreachable!(),
+    }
+}
+
+/// `do`: the condition behind each turn.
+#[cycle(statements)]
+fn do_loop(
+    alloc: Global,
+    site: &Site<'_>,
+    stmt: &Stmt,
+    end: u32,
+    body: &mut Body,
+) -> Result<(), Stop>
+    requires { form_of stmt.now.kind ≡ form.Do }
+    ensures body { OnOk result ((spec.statement stmt.now).run (shown_site site.now) end body.old ≡ Ok body.new) }
+    ensures limit { (which : Which) → IsErrOf result (stop.Limit which) → (spec.statement stmt.now).run (shown_site site.now) end body.old ≡ Err which }
+{
+    match &stmt.kind {
         StmtKind::Do(turn, condition) => {
             let number = body.loops;
             let scope = body.made.free;
@@ -218,6 +260,24 @@ fn looped(
             push_last(body, item)?;
             Ok(())
         }
+        _ => unreachable!(),
+    }
+}
+
+/// `for`: its first part, and a loop whose update runs before the next turn.
+#[cycle(statements)]
+fn for_loop(
+    alloc: Global,
+    site: &Site<'_>,
+    stmt: &Stmt,
+    end: u32,
+    body: &mut Body,
+) -> Result<(), Stop>
+    requires { form_of stmt.now.kind ≡ form.For }
+    ensures body { OnOk result ((spec.statement stmt.now).run (shown_site site.now) end body.old ≡ Ok body.new) }
+    ensures limit { (which : Which) → IsErrOf result (stop.Limit which) → (spec.statement stmt.now).run (shown_site site.now) end body.old ≡ Err which }
+{
+    match &stmt.kind {
         StmtKind::For(first, condition, update, turn) => {
             let top = body.made.free;
             each(alloc, site, first.as_slice(), stmt.span.to, body)?;

@@ -59,19 +59,21 @@ all_initial scope inits ty made = entries_from [] (map filling inits) (shown_sco
 
 abbrev pub form_of_unary : UnaryOp → Form
 form_of_unary unary.Not = form.Asks
-form_of_unary _ = form.Computes
+form_of_unary _ = form.Operates
 
 abbrev pub form_of_binary : BinaryOp → Form
-form_of_binary (binary.Num arith) = form.Computes
+form_of_binary (binary.Num arith) = form.Operates
 form_of_binary _ = form.Asks
 
 abbrev pub form_step : ExprKind-F Form Form Form → Form
 form_step (ExprKind-F.Unary operator operand) = form_of_unary operator
 form_step (ExprKind-F.Binary operator left right) = form_of_binary operator
 form_step (ExprKind-F.Call object name args) = form.Calls
-form_step (ExprKind-F.New name args) = form.Calls
-form_step (ExprKind-F.NewArray ty size) = form.Calls
-form_step (ExprKind-F.NewItems ty items) = form.Calls
+form_step (ExprKind-F.New name args) = form.Creates
+form_step (ExprKind-F.NewArray ty size) = form.Creates
+form_step (ExprKind-F.NewItems ty items) = form.Creates
+form_step (ExprKind-F.Select object name) = form.Selects
+form_step (ExprKind-F.Index array index) = form.Selects
 form_step (ExprKind-F.Assign operator target value) = form.Assigns
 form_step (ExprKind-F.Step up after target) = form.Assigns
 form_step _ = form.Computes

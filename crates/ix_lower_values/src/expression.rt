@@ -27,10 +27,15 @@ use std::alloc::{AllocError, Global};
 pub enum Form {
     /// `!`, `&&`, `||` and comparisons.
     Asks,
-    /// Calls and creations.
     Calls,
+    /// New objects and arrays.
+    Creates,
     /// Assignments and steps.
     Assigns,
+    /// Selections and elements.
+    Selects,
+    /// Operators on ints.
+    Operates,
     /// All others.
     Computes,
 }
@@ -40,12 +45,15 @@ fn form_of(kind: &ExprKind) -> Form
 {
     match kind {
         ExprKind::Unary(UnaryOp::Not, _) => Form::Asks,
-        ExprKind::Binary(BinaryOp::Num(_), _, _) => Form::Computes,
+        ExprKind::Unary(_, _) => Form::Operates,
+        ExprKind::Binary(BinaryOp::Num(_), _, _) => Form::Operates,
         ExprKind::Binary(_, _, _) => Form::Asks,
+        ExprKind::Select(_, _) => Form::Selects,
+        ExprKind::Index(_, _) => Form::Selects,
         ExprKind::Call(_, _, _) => Form::Calls,
-        ExprKind::New(_, _) => Form::Calls,
-        ExprKind::NewArray(_, _) => Form::Calls,
-        ExprKind::NewItems(_, _) => Form::Calls,
+        ExprKind::New(_, _) => Form::Creates,
+        ExprKind::NewArray(_, _) => Form::Creates,
+        ExprKind::NewItems(_, _) => Form::Creates,
         ExprKind::Assign(_, _, _) => Form::Assigns,
         ExprKind::Step { .. } => Form::Assigns,
         _ => Form::Computes,
@@ -253,12 +261,15 @@ pub fn value(alloc: Global, scope: &Scope<'_>, expr: &Expr, made: &mut Made) -> 
             Ok(slot)
         }
         Form::Calls => called(alloc, scope, expr, made),
+        Form::Creates => created(alloc, scope, expr, made),
+        Form::Selects => selected(alloc, scope, expr, made),
+        Form::Operates => operated(alloc, scope, expr, made),
         Form::Assigns => assigned(alloc, scope, expr, made),
         Form::Computes => computed(alloc, scope, expr, made),
     }
 }
 
-#[cycle(lowering)]
+/// A literal, `this` or a name.
 fn computed(alloc: Global, scope: &Scope<'_>, expr: &Expr, made: &mut Made) -> Result<u32, Stop>
     requires { form_of expr.now.kind ≡ form.Computes }
     ensures made { IfOk result (λ at. valued scope.now expr.now made.old ≡ in_place made.new at) }
@@ -275,6 +286,18 @@ fn computed(alloc: Global, scope: &Scope<'_>, expr: &Expr, made: &mut Made) -> R
         ExprKind::Name(name) => {
             named(alloc, scope, expr.span, meaning_at(scope, name.span), made)
         }
+        _ => unreachable!(),
+    }
+}
+
+/// A field, a length, a constant or an element.
+#[cycle(lowering)]
+fn selected(alloc: Global, scope: &Scope<'_>, expr: &Expr, made: &mut Made) -> Result<u32, Stop>
+    requires { form_of expr.now.kind ≡ form.Selects }
+    ensures made { IfOk result (λ at. valued scope.now expr.now made.old ≡ in_place made.new at) }
+    ensures limit { (which : Which) → IsErrOf result (stop.Limit which) → valued scope.now expr.now made.old ≡ Err which }
+{
+    match &expr.kind {
         ExprKind::Select(object, name) => match meaning_at(scope, name.span) {
             Some(Meaning::Constant(n)) => {
                 unused(alloc, scope, object.get(), made)?;
@@ -299,6 +322,18 @@ fn computed(alloc: Global, scope: &Scope<'_>, expr: &Expr, made: &mut Made) -> R
             let slot = compute(alloc, made, kind, index.get().span)?;
             Ok(slot)
         }
+        _ => unreachable!(),
+    }
+}
+
+/// An operator on ints.
+#[cycle(lowering)]
+fn operated(alloc: Global, scope: &Scope<'_>, expr: &Expr, made: &mut Made) -> Result<u32, Stop>
+    requires { form_of expr.now.kind ≡ form.Operates }
+    ensures made { IfOk result (λ at. valued scope.now expr.now made.old ≡ in_place made.new at) }
+    ensures limit { (which : Which) → IsErrOf result (stop.Limit which) → valued scope.now expr.now made.old ≡ Err which }
+{
+    match &expr.kind {
         ExprKind::Unary(UnaryOp::Plus, operand) => value(alloc, scope, operand.get(), made),
         ExprKind::Unary(UnaryOp::Minus, operand) => {
             let y = value(alloc, scope, operand.get(), made)?;
@@ -403,6 +438,18 @@ fn called(alloc: Global, scope: &Scope<'_>, expr: &Expr, made: &mut Made) -> Res
             let call = call_op(made.free, method, Some(o), args, class, name.span);
             compute(alloc, made, OpKind::InstanceCall(call), name.span)
         }
+        _ => unreachable!(),
+    }
+}
+
+/// A new object or array.
+#[cycle(lowering)]
+fn created(alloc: Global, scope: &Scope<'_>, expr: &Expr, made: &mut Made) -> Result<u32, Stop>
+    requires { form_of expr.now.kind ≡ form.Creates }
+    ensures made { IfOk result (λ at. valued scope.now expr.now made.old ≡ in_place made.new at) }
+    ensures limit { (which : Which) → IsErrOf result (stop.Limit which) → valued scope.now expr.now made.old ≡ Err which }
+{
+    match &expr.kind {
         ExprKind::New(name, args) => {
             let class = class_number(meaning_at(scope, name.span));
             let method = constructor_at(&scope.site, class);
