@@ -4,6 +4,7 @@ pub mod LeastSteps
 pub mod SignClasses
 mod Alike
 mod Rules
+mod SmallNames
 mod Refused
 mod WritesRefused
 mod OverridesRefused

@@ -5,6 +5,7 @@ use Rattle.ix_core.specs.declared.claim.Claim.{Claim}
 use Rattle.ix_core.specs.declared.claim.Name.{Name}
 use Rattle.ix_core.specs.declared.claim.Name.TheVariants.{Param}
 use Rattle.ix_core.specs.declared.fact.Path.{Path}
+use Rattle.ix_core.specs.declared.program.Field.{Field}
 use Rattle.ix_core.specs.declared.program.Local.{Local as Variable}
 use Rattle.ix_core.specs.declared.program.Method.{Method}
 use Rattle.ix_core.specs.declared.program.Program.{Program}
@@ -37,6 +38,9 @@ AreSmallClaims (claim ∷ claims) = AreSmallNames (claim_names claim) × AreSmal
 abbrev pub AreSmallParams : List Variable → Type 0
 AreSmallParams params = (number : ℕ) (param : Variable) → slice_get params number ≡ Some param → AreSmallClaims param.claims
 
+abbrev pub AreSmallLocals : List (Variable × Span) → Type 0
+AreSmallLocals locals = (number : ℕ) (local : Variable × Span) → slice_get locals number ≡ Some local → AreSmallClaims local.0.claims
+
 -- a method has fewer parameters and locals than that, and its claims name no parameter beyond
 pub record HasSmallNames (method : Method) : Type 0 where
   pub few : length method.params + 1 < 2 ^ 32
@@ -44,7 +48,15 @@ pub record HasSmallNames (method : Method) : Type 0 where
   pub params : AreSmallParams method.params
   pub result : AreSmallClaims method.result_claims
   pub few_locals : length method.locals < 2 ^ 32
-  pub locals : (number : ℕ) (local : Variable × Span) → slice_get method.locals number ≡ Some local → AreSmallClaims local.0.claims
+  pub locals : AreSmallLocals method.locals
+
+abbrev pub AreSmallMethods : List Method → Type 0
+AreSmallMethods [] = Unit {0}
+AreSmallMethods (method ∷ methods) = HasSmallNames method × AreSmallMethods methods
+
+abbrev pub AreSmallFields : List Field → Type 0
+AreSmallFields [] = Unit {0}
+AreSmallFields (field ∷ fields) = AreSmallClaims field.claims × AreSmallFields fields
 
 -- so of all methods; fields have numbers of 32 bits, and their claims name no parameter beyond
 pub record HaveSmallNames (program : Program) : Type 0 where

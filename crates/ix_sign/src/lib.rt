@@ -18,6 +18,7 @@ mod naming;
 mod overriding;
 mod paths;
 mod ranked;
+mod small;
 mod unproved;
 mod write;
 
@@ -32,5 +33,6 @@ pub use naming::Naming;
 pub use overriding::push_override_errors;
 pub use paths::param_slot;
 pub use ranked::Ranked;
+pub use small::have_small_names;
 pub use unproved::{Report, push_unproved, refuses};
 pub use write::Write;
