@@ -5,10 +5,11 @@ use Rattle.std.proofs.lemmas.Option.{slice_get_within}
 use Rattle.std.proofs.lemmas.Bool.{cases_lt}
 use Rattle.ix_core.specs.Code.{Code}
 use Rattle.ix_solve.specs.Solutions.{IsSolution, IsLeast}
-use Rattle.ix_flow.specs.Flow.{Rules, RulesLaws, IsFlow, Anything}
-use Rattle.ix_graph.specs.Graph.{Kind, Starts, Does, Compares, Tells, Joins, Heads, Returns, Ends, Pass, Onward, Through, Testing, Telling, Part, NodePart, EdgePart, AreBelow, method_parts}
-use Rattle.ix_graph.specs.GraphSolutions.{AllKeep, AllNodes, AllHeads, EdgesTo, KindAt, label_at, NodeAsks, Settles, Carries}
+use Rattle.ix_flow.specs.Flow.{Rules, RulesLaws, IsFlow, IsLeastFlow, Anything}
+use Rattle.ix_graph.specs.Graph.{Kind, Starts, Does, Compares, Tells, Joins, Heads, Returns, Ends, Pass, Onward, Through, Testing, Telling, Part, NodePart, EdgePart, AreBelow, behind_code, method_parts}
+use Rattle.ix_graph.specs.GraphSolutions.{AllKeep, AllNodes, AllHeads, HasHead, EdgesTo, KindAt, label_at, NodeAsks, Settles, Carries}
 use Rattle.ix_graph.proofs.LeastAgree.{least_agrees}
+use Rattle.ix_graph.proofs.Numbers.{method_below}
 
 module _ (R : Rules) (L : RulesLaws R) where
   abbrev pub read : (labels : List R.Store) (at : ℕ) → at < length labels → (label : R.Store) × (slice_get labels at ≡ Some label) × (label_at R labels at ≡ label)
@@ -157,3 +158,27 @@ module _ (R : Rules) (L : RulesLaws R) where
       least_agrees R L body (labels_of (method_parts body) stores size solution head) (joined_of (method_parts body) stores size solution head) (label_at R stores)
       (solution_keeps (method_parts body) stores size solution head below heads)
       (λ labels J N kept. nodes_below N stores size (method_parts body) (least (table N 0 size) (keeps_solution labels J N size (method_parts body) kept below)) below)
+
+  -- what holds at each head holds at each loop whose head is there
+  at_loop : (P : ℕ → Type 0) (loop : ℕ) (parts : List Part) → AllHeads (λ at number. P number) parts → HasHead loop parts → P loop
+  at_loop P loop [] all has = absurd has
+  at_loop P loop (NodePart at Starts ∷ parts) all has = at_loop P loop parts all has
+  at_loop P loop (NodePart at (Does op) ∷ parts) all has = at_loop P loop parts all has
+  at_loop P loop (NodePart at (Compares test) ∷ parts) all has = at_loop P loop parts all has
+  at_loop P loop (NodePart at (Tells code slot) ∷ parts) all has = at_loop P loop parts all has
+  at_loop P loop (NodePart at Joins ∷ parts) all has = at_loop P loop parts all has
+  at_loop P loop (NodePart at (Heads number scope) ∷ parts) all (inl is) = subst P is all.0
+  at_loop P loop (NodePart at (Heads number scope) ∷ parts) all (inr has) = at_loop P loop parts all.1 has
+  at_loop P loop (NodePart at (Returns value span) ∷ parts) all has = at_loop P loop parts all has
+  at_loop P loop (NodePart at Ends ∷ parts) all has = at_loop P loop parts all has
+  at_loop P loop (EdgePart node pass target ∷ parts) all has = at_loop P loop parts all has
+
+  -- What `solve_graph` answers for the graph of a body whose loops have the numbers below `loops`, each at one head: the least labels of its loops.
+  pub solved_least : (body : Code) (loops : ℕ) (stores : List R.Store) (head : ℕ → ℕ) → AllHeads (λ at number. head number ≡ at) (method_parts body) → ((number : ℕ) → number < loops → HasHead number (method_parts body))
+      → IsSolution R.Below (behind_code body 2) (NodeAsks R (method_parts body)) stores → IsLeast R.Below (behind_code body 2) (NodeAsks R (method_parts body)) stores
+      → IsLeastFlow R body loops (λ number. label_at R stores (head number))
+  solved_least body loops stores head heads there solution least =
+      let solved = solved_flow body (behind_code body 2) stores head (method_below body) heads solution least in (
+        solved.0,
+        λ other flow number within. at_loop (λ n. R.Below (label_at R stores (head n)) (other n)) number (method_parts body) (solved.1 other flow) (there number within),
+      )

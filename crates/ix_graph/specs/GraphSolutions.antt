@@ -1,5 +1,5 @@
 -- What a solution of a flow graph is: stores at its nodes, above what its edges carry to them.
-use Rattle.std.specs.Prelude.{◌≡◌, slice_get, unwrap_or, ℕ, List, [], ◌∷◌}
+use Rattle.std.specs.Prelude.{◌≡◌, ◌⊎◌, slice_get, unwrap_or, ℕ, List, [], ◌∷◌}
 use Rattle.ix_flow.specs.Flow.{Point, Doing, Returning, Ending, Rules}
 use Rattle.ix_graph.specs.Graph.{Kind, Starts, Does, Heads, Returns, Ends, Pass, Onward, Through, Testing, Telling, Part, NodePart, EdgePart}
 
@@ -40,6 +40,13 @@ AllHeads P [] = Unit {0}
 AllHeads P (NodePart at (Heads number scope) ∷ parts) = P at number × AllHeads P parts
 AllHeads P (NodePart at _ ∷ parts) = AllHeads P parts
 AllHeads P (EdgePart node pass target ∷ parts) = AllHeads P parts
+
+-- a loop's head is among the nodes
+abbrev pub HasHead : ℕ → List Part → Type 0
+HasHead loop [] = ⊥
+HasHead loop (NodePart at (Heads number scope) ∷ parts) = (number ≡ loop) ⊎ HasHead loop parts
+HasHead loop (NodePart at _ ∷ parts) = HasHead loop parts
+HasHead loop (EdgePart node pass target ∷ parts) = HasHead loop parts
 
 -- the point of a node, where it has one, with the node's number
 abbrev pub AllPoints : (ℕ → Point → Type 0) → List Part → Type 0
