@@ -5,6 +5,7 @@ pub mod SignClasses
 mod Alike
 mod Rules
 mod SmallNames
-mod Refused
+-- Lists that have exactly the errors of a rule: crates above cite these.
+pub mod Refused
 mod WritesRefused
 mod OverridesRefused
