@@ -1,3 +1,4 @@
 pub mod MethodLaws
 pub mod ErrorsWeaker
 mod AfterRules
+mod Listed

@@ -3,3 +3,5 @@ pub mod MethodRules
 -- The errors that the rules derive.
 pub mod RuleErrors
 pub mod Shown
+-- The errors of an operation as lists.
+pub mod Lists
