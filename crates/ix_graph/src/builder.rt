@@ -43,7 +43,7 @@ impl<'a> Builder<'a> {
         }
     }
 
-    /// Adds a node, and answers its number.
+    /// Adds a node, and answers its number. The one error is want of memory: more nodes than have numbers are more than there is memory for.
     pub fn add(&mut self, kind: NodeKind<'a>) -> Result<u32, AllocError>
         ensures number { IfOk result (λ number. number ≡ size (made_of self.old)) }
         ensures added { IfOk result (λ _. made_of self.new ≡ with_node (made_of self.old) (kind_of kind.entry)) }
