@@ -1,10 +1,10 @@
 -- Nodes, as edges are attached to them one by one.
-use Rattle.std.proofs.Common.{◌≡◌, ◌≢◌, ◌==◌, ◌<◌, ◌≤◌, ℕ, zero, suc, ◌+◌, Bool, true, false, List, [], ◌∷◌, ◌++◌, length, map, take, set, drop, get_or, slice_get, Some, ◌⊎◌, inl, inr, ⊎_elim, arith, refl, ap, sym, ◌∙◌, subst, All, add-one}
+use Rattle.std.proofs.Common.{◌≡◌, ◌≢◌, ◌==◌, ◌<◌, ◌≤◌, ℕ, zero, suc, ◌+◌, true, false, List, [], ◌∷◌, ◌++◌, length, map, take, set, drop, get_or, slice_get, Some, ◌⊎◌, inl, inr, ⊎_elim, arith, refl, ap, sym, ◌∙◌, subst, add-one}
 use Rattle.std.proofs.Math.Seq.{drop-cons}
 use Rattle.std.proofs.lemmas.Bool.{cases_eq}
 use Rattle.std.proofs.lemmas.List.{append-nil, append_assoc, drop_all, length-map, map-append, take_more}
 use Rattle.std.proofs.lemmas.List.Elements.{All-cons, All-nil}
-use Rattle.std.proofs.lemmas.Option.{slice_get_within, slice_get_read, get_or_from_slice_get}
+use Rattle.std.proofs.lemmas.Option.{slice_get_read}
 use Rattle.ix_core.proofs.Cases.{by_test, differ, equal}
 use Rattle.ix_solve.proofs.NodeLists.{slice_get-set_same, slice_get-set_other}
 use Rattle.ix_core.specs.Code.{Code}
@@ -14,7 +14,7 @@ use Rattle.ix_graph.specs.declared.node.Node.{Node}
 use Rattle.ix_graph.specs.declared.node.NodeKind.{NodeKind}
 use Rattle.ix_graph.specs.Graph.{Kind, Starts, Ends, Part, NodePart, EdgePart, From, Onward, behind_code, code_parts, method_parts, AreBelow}
 use Rattle.ix_graph.specs.Built.{Made, size, with_node, with_parts, kind_of, kinds_of, edge_of, edges_of, edges_to, targets_from, MakesCode}
-use Rattle.ix_graph.specs.Linked.{kinds_in, HasEdges, HaveEdges, AreWithin, Attaches}
+use Rattle.ix_graph.specs.Linked.{kinds_in, HaveEdges, AreWithin, Attaches}
 use Rattle.ix_graph.proofs.Makes.{node_size}
 use Rattle.ix_graph.proofs.Numbers.{method_below}
 
@@ -181,6 +181,7 @@ edges_within count (EdgePart node pass target ∷ parts) below =
     All-cons (λ (e : ℕ × Edge × ℕ). (e.0 < count) × (e.2 < count)) edge (edges_of parts) within (edges_within count parts below.2)
 
 pub record IsWhole (body : Code) (made : Made) : Type 0 where
+  pub count : behind_code body 2 ≡ size made
   pub kinds : made.kinds ≡ kinds_of (method_parts body)
   pub edges : made.edges ≡ edges_of (method_parts body)
   pub within : AreWithin (length made.kinds) made.edges
@@ -204,6 +205,7 @@ whole body entry end m0 m1 m2 m3 none first starts last ends makes =
     let kinds : m3.kinds ≡ kinds_of (method_parts body) = sym (are.0 ∙ ap (λ (m : Made). m.kinds) all) in
     let edges : m3.edges ≡ edges_of (method_parts body) = sym (are.1 ∙ ap (λ (m : Made). m.edges) all) in
     record {
+      count = count;
       kinds = kinds;
       edges = edges;
       within = subst (AreWithin (length m3.kinds)) (sym edges) (subst (λ n. AreWithin n (edges_of (method_parts body))) count (edges_within (behind_code body 2) (method_parts body) (method_below body)));

@@ -12,3 +12,7 @@ pub mod Makes
 pub mod Numbers
 -- The nodes with their edges.
 pub mod Attached
+-- Each edge carries what its node gives; what is asked of a label; the graph as a problem with its laws.
+pub mod EdgesFit
+pub mod NodesAsk
+pub mod AsProblem

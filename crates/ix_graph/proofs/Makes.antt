@@ -1,15 +1,16 @@
 -- What is made of a statement or a condition, by what is made of its parts.
-use Rattle.std.proofs.Common.{◌≡◌, ℕ, suc, ◌+◌, Bool, true, false, List, [], ◌∷◌, ◌++◌, length, length-append, drop, get_or, ◌<◌, Option, None, Some, arith, refl, ap, sym, ◌∙◌, subst}
+use Rattle.std.proofs.Common.{◌≡◌, ℕ, suc, ◌+◌, Bool, true, false, List, [], ◌∷◌, length, length-append, drop, get_or, ◌<◌, Option, None, Some, arith, refl, ap, sym, ◌∙◌, subst}
 use Rattle.std.proofs.Math.Seq.{drop-cons}
 use Rattle.std.proofs.Common.{add-one}
-use Rattle.ix_text.specs.declared.span.Span.{Span}
-use Rattle.ix_core.specs.declared.op.Op.{Op}
 use Rattle.ix_core.specs.declared.code.Item.{Item}
-use Rattle.ix_core.specs.Code.{Code, End, Do, If, Break, Continue, Return, Throw, Loop, Condition, Known, Both, Either, Opposite, item_code, items_code}
+use Rattle.ix_core.specs.Code.{Code, End, If, Loop, Condition, Both, Either, Opposite, item_code, items_code}
 use Rattle.ix_graph.specs.declared.node.Edge.{Edge}
 use Rattle.ix_graph.specs.declared.node.Edge.TheVariants.{Next, WhenTrue, WhenFalse}
 use Rattle.ix_graph.specs.Graph.{Kind, Joins, Heads, Pass, Onward, Telling, Part, NodePart, EdgePart, Source, Unreached, From, leads, behind_code, behind_condition, code_parts, condition_parts}
-use Rattle.ix_graph.specs.Built.{Made, size, with_node, with_edge, led, branched, with_parts, edge_of, open_edge, source_behind, MakesCode, MakesItem, MakesCondition, ordered}
+use Rattle.ix_graph.specs.Built.{Made, size, with_node, with_edge, led, branched, with_parts, edge_of, open_edge, source_behind, MakesCode, MakesItem, MakesCondition, ordered, AddsTurns}
+use Rattle.ix_graph.specs.declared.builder.Jumps.{Jumps}
+use Rattle.ix_graph.specs.declared.builder.Turns.{Turns}
+use Rattle.ix_graph.specs.declared.builder.Ways.{Ways}
 
 -- ---- one node, one edge
 
@@ -186,6 +187,29 @@ loop_makes false asked body next from leave0 again0 number scope head turn out a
     }
 
 -- ---- conditions
+
+-- the same, of the nodes that were added for the loop
+pub turns_makes : (test_first : Bool) (asked : Condition) (body next : Code) (from : Option (ℕ × Edge)) (leave again number scope : ℕ) (turns : Turns) (around within : Jumps) (ways : Ways) (old m5 m6 m7 new : Made)
+    → AddsTurns old m5 (Heads number scope) from test_first turns
+    → around ≡ record { leave = turns.out; again = again } → within ≡ record { leave = around.leave; again = turns.again } → ways ≡ record { holds = turns.begun; fails = turns.out }
+    → MakesCondition asked (Some (turns.tested, Next)) ways.holds ways.fails around.leave around.again m5 m6
+    → MakesCode body (Some (turns.begun, Next)) turns.again within.leave within.again m6 m7
+    → MakesCode next (Some (turns.again, Next)) turns.tested around.leave around.again m7 new
+    → MakesItem (Loop test_first asked body next number scope) from (Some (turns.out, Next)) leave again old new
+turns_makes test_first asked body next from leave again number scope turns around within ways old m5 m6 m7 new adds is_around is_within is_ways ask one two =
+    let m1 = with_node old (Heads number scope) in
+    let m2 = with_node m1 Joins in
+    let m3 = with_node m2 Joins in
+    let s1 = node_size old m1 (Heads number scope) refl in
+    let s2 = node_size m1 m2 Joins refl in
+    let s3 = node_size m2 m3 Joins refl in
+    let inside = is_within ∙ ap (λ (j : Jumps). record { leave = j.leave; again = turns.again }) is_around in
+    loop_makes test_first asked body next from leave again number scope (size old) (suc (size old)) turns.out turns.again turns.tested turns.begun old m1 m2 m3 (with_node m3 Joins) m5 m6 m7 new
+    refl refl (sym s1) refl (adds.out ∙ sym (s2 ∙ ap suc s1)) refl (adds.again ∙ sym (s3 ∙ ap suc (s2 ∙ ap suc s1))) refl adds.made adds.tested adds.begun
+    (subst (λ (w : Ways). MakesCondition asked (Some (turns.tested, Next)) w.holds w.fails turns.out again m5 m6) is_ways
+    (subst (λ (j : Jumps). MakesCondition asked (Some (turns.tested, Next)) ways.holds ways.fails j.leave j.again m5 m6) is_around ask))
+    (subst (λ (j : Jumps). MakesCode body (Some (turns.begun, Next)) turns.again j.leave j.again m6 m7) inside one)
+    (subst (λ (j : Jumps). MakesCode next (Some (turns.again, Next)) turns.tested j.leave j.again m7 new) is_around two)
 
 -- a node that is tested, behind the code that comes before it
 pub read_makes : (asked : Condition) (kind : Kind) (when_true when_false : Pass) (code : Code) (from : Option (ℕ × Edge)) (holds fails leave again at0 : ℕ) (old m1 m2 new : Made)

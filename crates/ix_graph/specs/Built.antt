@@ -6,6 +6,7 @@ use Rattle.ix_graph.specs.declared.node.Edge.TheVariants.{Next, WhenTrue, WhenFa
 use Rattle.ix_graph.specs.declared.node.NodeKind.{NodeKind}
 use Rattle.ix_graph.specs.declared.node.NodeKind.TheVariants as node
 use Rattle.ix_graph.specs.declared.builder.Builder.{Builder}
+use Rattle.ix_graph.specs.declared.builder.Turns.{Turns}
 use Rattle.ix_graph.specs.Graph.{Kind, Starts, Does, Compares, Tells, Joins, Heads, Returns, Ends, Pass, Onward, Through, Testing, Telling, Part, NodePart, EdgePart, Source, Unreached, From, behind_code, behind_condition, code_parts, condition_parts}
 
 -- what a node stands for
@@ -95,6 +96,19 @@ source_behind (If asked first second rest) at = From (suc (suc at)) Onward
 source_behind (Loop test_first asked body next number scope rest) at = From (suc (suc at)) Onward
 source_behind _ at = Unreached
 
+-- From where a loop's condition is asked and where its turns begin: at the head and behind it, or the other way round.
+abbrev pub ordered : Bool → ℕ → ℕ → ℕ × ℕ
+ordered true head turn = (head, turn)
+ordered false head turn = (turn, head)
+
+-- The second has besides the four nodes of a loop, in order, and the open edge `from` led to the first of them.
+pub record AddsTurns (old new : Made) (head : Kind) (from : Option (ℕ × Edge)) (test_first : Bool) (turns : Turns) : Type 0 where
+  pub made : new ≡ led (with_node (with_node (with_node (with_node old head) Joins) Joins) Joins) from (size old)
+  pub tested : turns.tested ≡ (ordered test_first (size old) (suc (size old))).0
+  pub begun : turns.begun ≡ (ordered test_first (size old) (suc (size old))).1
+  pub out : turns.out ≡ suc (suc (size old))
+  pub again : turns.again ≡ suc (suc (suc (size old)))
+
 -- The second has besides what the first has the parts of the code: from the open edge `from` to the node `end`, at a `break` to `leave` and at a
 -- `continue` to `again`.
 pub record MakesCode (code : Code) (from : Option (ℕ × Edge)) (end leave again : ℕ) (old new : Made) : Type 0 where
@@ -114,8 +128,3 @@ pub record MakesCondition (asked : Condition) (from : Option (ℕ × Edge)) (hol
   pub numbers : (at : ℕ) → at ≡ size old → behind_condition asked at ≡ size new
   pub parts : (at : ℕ) (source : Source) (more : List Part) → at ≡ size old → open_edge source ≡ from
       → with_parts old (condition_parts asked at source holds fails leave again more) ≡ with_parts new more
-
--- From where a loop's condition is asked and where its turns begin: at the head and behind it, or the other way round.
-abbrev pub ordered : Bool → ℕ → ℕ → ℕ × ℕ
-ordered true head turn = (head, turn)
-ordered false head turn = (turn, head)

@@ -5,3 +5,5 @@ pub mod GraphSolutions
 -- How its nodes and edges are made.
 pub mod Built
 pub mod Linked
+-- What its edges bring to a node.
+pub mod Brought

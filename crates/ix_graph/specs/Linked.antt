@@ -1,5 +1,5 @@
 -- The nodes of a graph with their edges.
-use Rattle.std.specs.Prelude.{◌≡◌, ◌<◌, ℕ, List, [], ◌∷◌, ◌++◌, All, length, map, slice_get, Some}
+use Rattle.std.specs.Prelude.{◌≡◌, ◌<◌, ℕ, List, [], ◌∷◌, ◌++◌, All, map, slice_get, Some}
 use Rattle.ix_graph.specs.declared.node.Edge.{Edge}
 use Rattle.ix_graph.specs.declared.node.Node.{Node}
 use Rattle.ix_graph.specs.Graph.{Kind}

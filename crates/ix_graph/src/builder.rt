@@ -2,7 +2,7 @@
 
 ghost use Rattle.std.specs.Prelude.{◌≡◌, [], IfOk};
 ghost use Rattle.ix_core.specs.Code.{block_code, item_code, cond_code};
-ghost use Rattle.ix_graph.specs.Built.{made_of, with_node, led, size, kind_of, branched, ordered, MakesCode, MakesItem, MakesCondition};
+ghost use Rattle.ix_graph.specs.Built.{made_of, with_node, led, size, kind_of, branched, ordered, AddsTurns, MakesCode, MakesItem, MakesCondition};
 
 use crate::node::{Edge, NodeKind};
 use ix_core::{Block, Cond, Item};
@@ -11,19 +11,69 @@ use std::alloc::{AllocError, Global};
 /// The nodes to which `break` and `continue` lead.
 #[derive(Clone, Copy)]
 pub(crate) struct Jumps {
-    pub leave: u32,
-    pub again: u32,
+    pub leave: usize,
+    pub again: usize,
+}
+
+/// The nodes to which a condition leads: where it holds, and where it fails.
+#[derive(Clone, Copy)]
+struct Ways {
+    holds: usize,
+    fails: usize,
+}
+
+/// The nodes of a loop: from where its condition is asked, where a turn begins, behind it, and where the next turn begins.
+#[derive(Clone, Copy)]
+struct Turns {
+    tested: usize,
+    begun: usize,
+    out: usize,
+    again: usize,
+}
+
+impl Jumps {
+    /// Where `break` leads behind a loop.
+    fn leaving(&self, out: usize) -> Jumps
+        ensures { result ≡ record { leave = out; again = self.now.again } }
+    {
+        Jumps {
+            leave: out,
+            again: self.again,
+        }
+    }
+
+    /// Where `continue` leads to the next turn.
+    fn going_on(&self, next: usize) -> Jumps
+        ensures { result ≡ record { leave = self.now.leave; again = next } }
+    {
+        Jumps {
+            leave: self.leave,
+            again: next,
+        }
+    }
+}
+
+impl Turns {
+    /// Where the loop's condition leads: to a turn, or behind the loop.
+    fn ways(&self) -> Ways
+        ensures { result ≡ record { holds = self.now.begun; fails = self.now.out } }
+    {
+        Ways {
+            holds: self.begun,
+            fails: self.out,
+        }
+    }
 }
 
 /// What has been made: the nodes, by their numbers, and the edges, each from a node to a node.
 #[derive(Drop)]
 pub(crate) struct Builder<'a> {
     pub nodes: Vec<NodeKind<'a>>,
-    pub edges: Vec<(u32, Edge, u32)>,
+    pub edges: Vec<(usize, Edge, usize)>,
 }
 
 /// From where a loop's condition is asked, and where a turn begins.
-fn order(test_first: bool, head: u32, turn: u32) -> (u32, u32)
+fn order(test_first: bool, head: usize, turn: usize) -> (usize, usize)
     ensures { result ≡ ordered test_first head turn }
 {
     if test_first {
@@ -43,20 +93,18 @@ impl<'a> Builder<'a> {
         }
     }
 
-    /// Adds a node, and answers its number. The one error is want of memory: more nodes than have numbers are more than there is memory for.
-    pub fn add(&mut self, kind: NodeKind<'a>) -> Result<u32, AllocError>
+    /// Adds a node, and answers its number.
+    pub fn add(&mut self, kind: NodeKind<'a>) -> Result<usize, AllocError>
         ensures number { IfOk result (λ number. number ≡ size (made_of self.old)) }
         ensures added { IfOk result (λ _. made_of self.new ≡ with_node (made_of self.old) (kind_of kind.entry)) }
     {
-        let Ok(number) = u32::try_from(self.nodes.len()) else {
-            return Err(AllocError);
-        };
+        let number = self.nodes.len();
         self.nodes.push(kind)?;
         Ok(number)
     }
 
     /// Leads what comes from the source to a node.
-    fn lead(&mut self, source: Option<(u32, Edge)>, target: u32) -> Result<(), AllocError>
+    fn lead(&mut self, source: Option<(usize, Edge)>, target: usize) -> Result<(), AllocError>
         ensures led { IfOk result (λ _. made_of self.new ≡ led (made_of self.old) source target) }
     {
         if let Some((node, edge)) = source {
@@ -65,13 +113,36 @@ impl<'a> Builder<'a> {
         Ok(())
     }
 
+    /// Adds the nodes of a loop, of which the source leads to the head.
+    fn turns(
+        &mut self,
+        test_first: bool,
+        head_kind: NodeKind<'a>,
+        source: Option<(usize, Edge)>,
+    ) -> Result<Turns, AllocError>
+        ensures made { IfOk result (λ turns. AddsTurns (made_of self.old) (made_of self.new) (kind_of head_kind.entry) source test_first turns) }
+    {
+        let head = self.add(head_kind)?;
+        let turn = self.add(NodeKind::Join)?;
+        let out = self.add(NodeKind::Join)?;
+        let again = self.add(NodeKind::Join)?;
+        self.lead(source, head)?;
+        let (tested, begun) = order(test_first, head, turn);
+        Ok(Turns {
+            tested,
+            begun,
+            out,
+            again,
+        })
+    }
+
     /// Adds a block, from the source to the node `end`.
     #[cycle(build)]
     pub fn block(
         &mut self,
         block: &'a Block,
-        source: Option<(u32, Edge)>,
-        end: u32,
+        source: Option<(usize, Edge)>,
+        end: usize,
         jumps: Jumps,
     ) -> Result<(), AllocError>
         ensures made { IfOk result (λ _. MakesCode (block_code block.now) source end jumps.leave jumps.again (made_of self.old) (made_of self.new)) }
@@ -88,9 +159,9 @@ impl<'a> Builder<'a> {
     fn item(
         &mut self,
         item: &'a Item,
-        source: Option<(u32, Edge)>,
+        source: Option<(usize, Edge)>,
         jumps: Jumps,
-    ) -> Result<Option<(u32, Edge)>, AllocError>
+    ) -> Result<Option<(usize, Edge)>, AllocError>
         ensures made { IfOk result (λ last. MakesItem (item_code item.now) source last jumps.leave jumps.again (made_of self.old) (made_of self.new)) }
     {
         match item {
@@ -103,7 +174,7 @@ impl<'a> Builder<'a> {
                 let holds = self.add(NodeKind::Join)?;
                 let fails = self.add(NodeKind::Join)?;
                 let behind = self.add(NodeKind::Join)?;
-                self.cond(cond, source, holds, fails, jumps)?;
+                self.cond(cond, source, Ways { holds, fails }, jumps)?;
                 self.block(first, Some((holds, Edge::Next)), behind, jumps)?;
                 self.block(second, Some((fails, Edge::Next)), behind, jumps)?;
                 Ok(Some((behind, Edge::Next)))
@@ -134,25 +205,13 @@ impl<'a> Builder<'a> {
                 number,
                 scope,
             } => {
-                let head = self.add(NodeKind::Head(*number, *scope))?;
-                let turn = self.add(NodeKind::Join)?;
-                let out = self.add(NodeKind::Join)?;
-                let again = self.add(NodeKind::Join)?;
-                self.lead(source, head)?;
-                let (tested, begun) = order(*test_first, head, turn);
-                let around = Jumps {
-                    leave: out,
-                    again: jumps.again,
-                };
-                self.cond(cond, Some((tested, Edge::Next)), begun, out, around)?;
-                self.block(
-                    body,
-                    Some((begun, Edge::Next)),
-                    again,
-                    Jumps { leave: out, again },
-                )?;
-                self.block(next, Some((again, Edge::Next)), tested, around)?;
-                Ok(Some((out, Edge::Next)))
+                let turns = self.turns(*test_first, NodeKind::Head(*number, *scope), source)?;
+                let around = jumps.leaving(turns.out);
+                let within = around.going_on(turns.again);
+                self.cond(cond, Some((turns.tested, Edge::Next)), turns.ways(), around)?;
+                self.block(body, Some((turns.begun, Edge::Next)), turns.again, within)?;
+                self.block(next, Some((turns.again, Edge::Next)), turns.tested, around)?;
+                Ok(Some((turns.out, Edge::Next)))
             }
         }
     }
@@ -162,54 +221,49 @@ impl<'a> Builder<'a> {
     fn cond(
         &mut self,
         cond: &'a Cond,
-        source: Option<(u32, Edge)>,
-        holds: u32,
-        fails: u32,
+        source: Option<(usize, Edge)>,
+        ways: Ways,
         jumps: Jumps,
     ) -> Result<(), AllocError>
-        ensures made { IfOk result (λ _. MakesCondition (cond_code cond.now) source holds fails jumps.leave jumps.again (made_of self.old) (made_of self.new)) }
+        ensures made { IfOk result (λ _. MakesCondition (cond_code cond.now) source ways.holds ways.fails jumps.leave jumps.again (made_of self.old) (made_of self.new)) }
     {
         match cond {
-            Cond::Known(true) => self.lead(source, holds),
-            Cond::Known(false) => self.lead(source, fails),
+            Cond::Known(true) => self.lead(source, ways.holds),
+            Cond::Known(false) => self.lead(source, ways.fails),
             Cond::Compare(block, test) => {
                 let at = self.add(NodeKind::Compare(test))?;
-                self.branch(at, holds, fails)?;
+                self.branch(at, ways.holds, ways.fails)?;
                 self.block(block, source, at, jumps)
             }
             Cond::Truth(block, slot) => {
                 let at = self.add(NodeKind::Truth(block, *slot))?;
-                self.branch(at, holds, fails)?;
+                self.branch(at, ways.holds, ways.fails)?;
                 self.block(block, source, at, jumps)
             }
             Cond::Both(first, second) => {
-                let between = self.add(NodeKind::Join)?;
-                self.cond(first.get(), source, between, fails, jumps)?;
-                self.cond(
-                    second.get(),
-                    Some((between, Edge::Next)),
-                    holds,
-                    fails,
-                    jumps,
-                )
+                let holds = self.add(NodeKind::Join)?;
+                let fails = ways.fails;
+                self.cond(first.get(), source, Ways { holds, fails }, jumps)?;
+                self.cond(second.get(), Some((holds, Edge::Next)), ways, jumps)
             }
             Cond::Either(first, second) => {
-                let between = self.add(NodeKind::Join)?;
-                self.cond(first.get(), source, holds, between, jumps)?;
-                self.cond(
-                    second.get(),
-                    Some((between, Edge::Next)),
-                    holds,
-                    fails,
-                    jumps,
-                )
+                let fails = self.add(NodeKind::Join)?;
+                let holds = ways.holds;
+                self.cond(first.get(), source, Ways { holds, fails }, jumps)?;
+                self.cond(second.get(), Some((fails, Edge::Next)), ways, jumps)
             }
-            Cond::Opposite(asked) => self.cond(asked.get(), source, fails, holds, jumps),
+            Cond::Opposite(asked) => {
+                let ways = Ways {
+                    holds: ways.fails,
+                    fails: ways.holds,
+                };
+                self.cond(asked.get(), source, ways, jumps)
+            }
         }
     }
 
     /// Leads from a node with a test to where it is true and to where it is false.
-    fn branch(&mut self, node: u32, holds: u32, fails: u32) -> Result<(), AllocError>
+    fn branch(&mut self, node: usize, holds: usize, fails: usize) -> Result<(), AllocError>
         ensures led { IfOk result (λ _. made_of self.new ≡ branched (made_of self.old) node holds fails) }
     {
         self.lead(Some((node, Edge::WhenTrue)), holds)?;

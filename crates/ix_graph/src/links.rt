@@ -2,7 +2,7 @@
 
 ghost use Rattle.std.specs.Prelude.{◌≡◌, ◌<◌, IfOk, OnOk, length, map, []};
 ghost use Rattle.ix_core.specs.Code.{block_code};
-ghost use Rattle.ix_graph.specs.Graph.{method_parts};
+ghost use Rattle.ix_graph.specs.Graph.{behind_code, method_parts};
 ghost use Rattle.ix_graph.specs.Built.{kind_of, kinds_of, edges_of};
 ghost use Rattle.ix_graph.specs.Linked.{kinds_in, Attaches, HaveEdges, AreWithin};
 
@@ -12,14 +12,14 @@ use ix_core::Method;
 use std::alloc::{AllocError, Global};
 
 /// Attaches an edge to both of its nodes.
-fn attach<'a>(nodes: &mut Vec<Node<'a>>, edge: (u32, Edge, u32)) -> Result<(), AllocError>
+fn attach<'a>(nodes: &mut Vec<Node<'a>>, edge: (usize, Edge, usize)) -> Result<(), AllocError>
     requires node { edge.0 < length nodes.old.items }
     requires target { edge.2 < length nodes.old.items }
     ensures attached { OnOk result (Attaches nodes.old.items nodes.new.items edge) }
 {
     let (node, way, target) = edge;
-    nodes[target as usize].from.push((node, way))?;
-    nodes[node as usize].readers.push(target)?;
+    nodes[target].from.push((node, way))?;
+    nodes[node].readers.push(target)?;
     Ok(())
 }
 
@@ -43,7 +43,7 @@ fn unlinked<'a>(alloc: Global, kinds: &[NodeKind<'a>]) -> Result<Vec<Node<'a>>, 
 fn linked<'a>(
     alloc: Global,
     kinds: &[NodeKind<'a>],
-    edges: &[(u32, Edge, u32)],
+    edges: &[(usize, Edge, usize)],
 ) -> Result<Graph<'a>, AllocError>
     requires within { AreWithin (length kinds.now) edges.now }
     ensures kinds { IfOk result (λ graph. kinds_in graph.nodes.items ≡ map kind_of kinds.now) }
@@ -59,6 +59,7 @@ fn linked<'a>(
 /// The flow graph of a method: node 0 is its entry, node 1 the end of its body, and the others stand in the order of its statements. The one error
 /// is want of memory.
 pub fn graph<'a>(alloc: Global, method: &'a Method) -> Result<Graph<'a>, AllocError>
+    ensures size { IfOk result (λ graph. length graph.nodes.items ≡ behind_code (block_code method.now.body) 2) }
     ensures kinds { IfOk result (λ graph. kinds_in graph.nodes.items ≡ kinds_of (method_parts (block_code method.now.body))) }
     ensures edges { IfOk result (λ graph. HaveEdges graph.nodes.items (edges_of (method_parts (block_code method.now.body)))) }
 {

@@ -34,8 +34,8 @@ pub enum NodeKind<'a> {
 #[derive(Drop)]
 pub struct Node<'a> {
     pub kind: NodeKind<'a>,
-    pub from: Vec<(u32, Edge)>,
-    pub readers: Vec<u32>,
+    pub from: Vec<(usize, Edge)>,
+    pub readers: Vec<usize>,
 }
 
 /// The flow graph of a method.

@@ -30,7 +30,7 @@ pub trait FlowProblem {
         ensures bottom { IsBottom Self.Value.Below result };
 
     /// The nodes that read the label of node `at`. Each is below `len`.
-    fn readers(&self, at: usize) -> &[u32]
+    fn readers(&self, at: usize) -> &[usize]
         requires at { at < length (readers_of self.now) }
         ensures readers { slice_get (readers_of self.now) at ≡ Some result.now };
 

@@ -1,10 +1,10 @@
-use Rattle.std.proofs.Common.{ap, ◌∙◌, ◌≡◌, ◌≤◌, sym, refl, subst, length, drop, get_or, arith, true, false}
+use Rattle.std.proofs.Common.{ap, ◌∙◌, ◌≡◌, sym, refl, subst, length, drop, get_or, arith, true, false}
 use Rattle.std.proofs.lemmas.List.{drop_all}
 use Rattle.std.proofs.lemmas.Result.{IfOk-weaker}
 use Rattle.ix_core.specs.Code.{block_code, cond_code, item_code, items_code}
 use Rattle.ix_core.proofs.Translated.{cond_code-Compare, cond_code-Truth, cond_code-Both, cond_code-Either, cond_code-Opposite, item_code-If, item_code-Loop}
 use Rattle.ix_graph.specs.Graph.{Compares, Tells, Testing, Telling}
-use Rattle.ix_graph.proofs.Makes.{item_as, ask_as, if_makes, loop_makes, read_makes, both_makes, either_makes, opposite_makes, some_goes, some_ends}
+use Rattle.ix_graph.proofs.Makes.{item_as, ask_as, if_makes, turns_makes, read_makes, both_makes, either_makes, opposite_makes, some_goes, some_ends}
 use Rattle.ix_graph.proofs.builder.Builder.+build.Goals as goal
 
 pub cond-returns-in_ok-branch-in-Compare : goal.cond-returns-in_ok-branch-in-Compare
@@ -36,7 +36,7 @@ cond-returns-in_ok-cond-in-Both t c = record {
       (λ x makes.
       let code = ap cond_code c.in-Both.is ∙ cond_code-Both c.in-Both.first c.in-Both.second in
       ask_as (sym code)
-      (both_makes _ _ _ _ _ _ _ _ _ _ _ _ c.in_ok-between-in-Both.ensures.number c.in_ok-between-in-Both.ensures.added (ask_as (ap cond_code c.get.ensures) c.in_ok-cond-in-Both.ensures.made)
+      (both_makes _ _ _ _ _ _ _ _ _ _ _ _ c.in_ok-holds-in-Both.ensures.number c.in_ok-holds-in-Both.ensures.added (ask_as (ap cond_code c.get.ensures) c.in_ok-cond-in-Both.ensures.made)
       (ask_as (ap cond_code c.get-in-Both.ensures) makes)))
       c.cond-in-Both.ensures.made;
 }
@@ -47,7 +47,7 @@ cond-returns-in_ok-cond-in-Either t c = record {
       (λ x makes.
       let code = ap cond_code c.in-Either.is ∙ cond_code-Either c.in-Either.first c.in-Either.second in
       ask_as (sym code)
-      (either_makes _ _ _ _ _ _ _ _ _ _ _ _ c.in_ok-between-in-Either.ensures.number c.in_ok-between-in-Either.ensures.added (ask_as (ap cond_code c.get-in-Either.ensures) c.in_ok-cond-in-Either.ensures.made)
+      (either_makes _ _ _ _ _ _ _ _ _ _ _ _ c.in_ok-fails-in-Either.ensures.number c.in_ok-fails-in-Either.ensures.added (ask_as (ap cond_code c.get-in-Either.ensures) c.in_ok-cond-in-Either.ensures.made)
       (ask_as (ap cond_code c.get-in-Either-2.ensures) makes)))
       c.cond-in-Either-2.ensures.made;
 }
@@ -72,10 +72,8 @@ item-returns-in_ok-block-in-If-2 t c = record {
 pub item-returns-in_ok-block-in-Loop-2 : goal.item-returns-in_ok-block-in-Loop-2
 item-returns-in_ok-block-in-Loop-2 t c = record {
   made = item_as (λ rest. ap (λ i. item_code i rest) c.in-Loop.is ∙ item_code-Loop c.in-Loop.test_first c.in-Loop.cond c.in-Loop.body c.in-Loop.next c.in-Loop.number c.in-Loop.scope rest)
-      (loop_makes c.in-Loop.test_first (cond_code c.in-Loop.cond) (block_code c.in-Loop.body) (block_code c.in-Loop.next) _ _ _ c.in-Loop.number c.in-Loop.scope _ _ _ _ _ _ _ _ _ _ _ _ _ _ _
-      c.in_ok-head-in-Loop.ensures.number c.in_ok-head-in-Loop.ensures.added c.in_ok-turn-in-Loop.ensures.number c.in_ok-turn-in-Loop.ensures.added c.in_ok-out-in-Loop.ensures.number c.in_ok-out-in-Loop.ensures.added
-      c.in_ok-again-in-Loop.ensures.number c.in_ok-again-in-Loop.ensures.added c.in_ok-lead-in-Loop.ensures.led
-      (ap (λ p. p.0) c.order-tested.ensures) (ap (λ p. p.1) c.order-tested.ensures)
+      (turns_makes c.in-Loop.test_first (cond_code c.in-Loop.cond) (block_code c.in-Loop.body) (block_code c.in-Loop.next) _ _ _ c.in-Loop.number c.in-Loop.scope c.in_ok-turns-in-Loop.turns _ _ _ _ _ _ _ _
+      c.in_ok-turns-in-Loop.ensures.made c.leaving-around.ensures c.going_on-within.ensures c.ways.ensures
       c.in_ok-cond-in-Loop.ensures.made c.in_ok-block-in-Loop.ensures.made c.in_ok-block-in-Loop-2.ensures.made);
 }
 

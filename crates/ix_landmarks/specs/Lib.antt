@@ -1,0 +1,2 @@
+-- What is added to a list of numbers.
+pub mod Items
