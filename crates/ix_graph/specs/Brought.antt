@@ -6,7 +6,7 @@ use Rattle.ix_graph.specs.declared.node.Edge.{Edge}
 use Rattle.ix_graph.specs.declared.node.Edge.TheVariants.{WhenTrue, WhenFalse}
 use Rattle.ix_graph.specs.Built.{kinds_of}
 use Rattle.ix_graph.specs.Graph.{Kind, Starts, Does, Compares, Tells, Joins, Heads, Pass, Onward, Through, Testing, Telling, Part}
-use Rattle.ix_graph.specs.GraphSolutions.{Carries, label_at}
+use Rattle.ix_graph.specs.GraphSolutions.{Carries, Settles, label_at}
 
 -- what an edge of a node carries, by what the node stands for
 abbrev pub pass_of : Kind → Edge → Pass
@@ -30,6 +30,12 @@ module _ (R : Rules) (kinds : ℕ → Kind) (labels : List R.Store) where
   abbrev pub AllBring : List (ℕ × Edge) → R.Store → Type 0
   AllBring [] store = Unit {0}
   AllBring (from ∷ edges) store = Brings from store × AllBring edges store
+
+-- What is asked of a node's label, where nodes stand for these kinds and have these edges: some store is above what the edges bring, and the label above what
+-- the node makes of it.
+abbrev pub Gathers : (R : Rules) → (ℕ → Kind) → (ℕ → List (ℕ × Edge)) → ℕ → List R.Store → R.Store → Type 0
+Gathers R kinds edges at labels label =
+    (joined : R.Store) × AllBring R kinds labels (edges at) joined × Settles R (Anything R) (λ number. label) (kinds at) joined label
 
 -- The label is the least that a node makes of a store: at the entry the least of the method's start, at a head the least of the rounded stores, and
 -- elsewhere the store itself.

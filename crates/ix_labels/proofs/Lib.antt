@@ -1,0 +1,3 @@
+mod Visited
+mod SameLandmarks
+mod Solved

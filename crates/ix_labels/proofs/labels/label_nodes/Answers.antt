@@ -1,0 +1,25 @@
+use Rattle.std.proofs.Common.{ℕ, ap, sym, ◌∙◌, length, slice_get, unwrap_or}
+use Rattle.std.proofs.lemmas.List.{length-map}
+use Rattle.ix_core.specs.Code.{block_code}
+use Rattle.ix_graph.specs.declared.node.Node.{Node}
+use Rattle.ix_graph.specs.Built.{kind_of}
+use Rattle.ix_graph.specs.Graph.{Joins, behind_code}
+use Rattle.ix_labels.specs.Problem.{readers_in, kind_in}
+use Rattle.ix_labels.proofs.Solved.{solved, least}
+use Rattle.ix_labels.proofs.labels.label_nodes.Goals as goal
+
+pub returns-clause-labels : goal.returns-clause-labels
+returns-clause-labels c e =
+    let method = e.args.within.now in
+    let body = block_code method.body in
+    let nodes = e.in_ok-graph.graph.nodes.items in
+    let kinds = e.in_ok-graph.ensures.kinds in
+    let are = λ (at : ℕ). ap (λ ks. unwrap_or (slice_get ks at) Joins) kinds in
+    let same = length-map nodes (λ (node : Node). node.readers.items) ∙ e.in_ok-graph.ensures.size in
+    let many = sym (ap length kinds) ∙ length-map nodes (λ (node : Node). kind_of node.kind) ∙ e.in_ok-graph.ensures.size in
+    let marks = e.in_ok-marks.marks.ints in
+    record {
+      kinds = kinds;
+      solution = solved e.args.program.now method e.args.profile marks e.in_ok-marks.ensures.landmarks body (kind_in nodes) are (length (readers_in nodes)) (behind_code body 2) e.in_ok-stores.stores.items same many e.in_ok-stores.ensures.solution;
+      least = least e.args.program.now method e.args.profile marks e.in_ok-marks.ensures.landmarks body (kind_in nodes) are (length (readers_in nodes)) (behind_code body 2) e.in_ok-stores.stores.items same many e.in_ok-stores.ensures.least;
+    }

@@ -1,0 +1,60 @@
+-- The graph of a method as a problem of flow, by the rules of the method with given landmarks.
+use Rattle.std.specs.Prelude.{ℕ, ℤ, List, map, slice_get, unwrap_or}
+use Rattle.ix_core.specs.declared.fact.Profile.{Profile}
+use Rattle.ix_core.specs.declared.program.Method.{Method}
+use Rattle.ix_core.specs.declared.program.Program.{Program}
+use Rattle.ix_core.specs.Code.{block_code}
+use Rattle.ix_facts.specs.Round.{rounded}
+use Rattle.ix_facts.specs.Stores.{Gives}
+use Rattle.ix_flow.specs.Flow.{Rules}
+use Rattle.ix_graph.specs.declared.node.Edge.{Edge}
+use Rattle.ix_graph.specs.declared.node.Node.{Node}
+use Rattle.ix_graph.specs.Graph.{Kind, Joins, Part, method_parts}
+use Rattle.ix_graph.specs.Brought.{Gathers}
+use Rattle.ix_graph.specs.Built.{edges_of, edges_to}
+use Rattle.ix_graph.specs.Linked.{kinds_in}
+use Rattle.ix_method.specs.MethodRules.{method_rules}
+use Rattle.ix_store.specs.declared.store.Store.{Store}
+use Rattle.ix_store.specs.StoredFacts.{stored}
+use Rattle.ix_labels.specs.declared.problem.Problem.{Problem}
+
+-- the nodes that read each node's label
+abbrev pub readers_in : List Node → List (List ℕ)
+readers_in nodes = map (λ (node : Node). node.readers.items) nodes
+
+abbrev pub readers_of : Problem → List (List ℕ)
+readers_of problem = readers_in problem.graph.nodes.items
+
+-- the rules of a method, where a loop's label is rounded to these landmarks
+abbrev pub rules_with : Program → Method → Profile → List ℤ → Rules
+rules_with program method profile marks = record {
+  Store = Store;
+  Below = (method_rules program method profile).Below;
+  nowhere = (method_rules program method profile).nowhere;
+  Entry = (method_rules program method profile).Entry;
+  After = (method_rules program method profile).After;
+  Tested = (method_rules program method profile).Tested;
+  Told = (method_rules program method profile).Told;
+  Rounded = λ scope s t. Gives (rounded marks scope) (stored s) (stored t);
+}
+
+abbrev pub rules_of : Problem → Rules
+rules_of problem = rules_with problem.program.now problem.within.now problem.profile problem.marks.ints
+
+-- what the node of a number stands for
+abbrev pub kind_in : List Node → ℕ → Kind
+kind_in nodes at = unwrap_or (slice_get (kinds_in nodes) at) Joins
+
+abbrev pub kinds_at : Problem → ℕ → Kind
+kinds_at problem = kind_in problem.graph.nodes.items
+
+abbrev pub parts_of : Problem → List Part
+parts_of problem = method_parts (block_code problem.within.now.body)
+
+-- the edges to a node
+abbrev pub edges_at : Problem → ℕ → List (ℕ × Edge)
+edges_at problem at = edges_to at (edges_of (parts_of problem))
+
+-- what is asked of a node's label
+abbrev pub Asks : Problem → ℕ → List Store → Store → Type 0
+Asks problem = Gathers (rules_of problem) (kinds_at problem) (edges_at problem)

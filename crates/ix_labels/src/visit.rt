@@ -1,0 +1,107 @@
+//! The visits of a graph's nodes.
+
+ghost use Rattle.std.specs.Prelude.{◌≡◌, ◌<◌, IfOk, length};
+ghost use Rattle.ix_solve.specs.Solutions.{IsLeastOf};
+ghost use Rattle.ix_flow.specs.Flow.{Anything};
+ghost use Rattle.ix_graph.specs.GraphSolutions.{Carries};
+ghost use Rattle.ix_graph.specs.Brought.{pass_of, AllBring, IsSettled};
+ghost use Rattle.ix_store.specs.StoreOrder.{StoreBelow};
+ghost use Rattle.ix_labels.specs.Problem.{rules_of, kinds_at, edges_at};
+
+use crate::problem::Problem;
+use ix_graph::{Edge, NodeKind};
+use ix_lattice::Lattice;
+use ix_method::after;
+use ix_refine::branch;
+use ix_sign::enter;
+use ix_solve::{FlowProblem, Steps};
+use ix_store::Store;
+use std::alloc::{AllocError, Global};
+use std::sync::ledger::Ledger;
+
+impl<'a> Problem<'a> {
+    /// What an edge brings of the label of the node that it comes from: the least store above that.
+    fn brought(
+        &self,
+        alloc: Global,
+        from: (usize, Edge),
+        label: &Store,
+    ) -> Result<Store, AllocError>
+        requires node { from.0 < length self.now.graph.nodes.items }
+        ensures least { IfOk result (IsLeastOf StoreBelow (Carries (rules_of self.now) (Anything (rules_of self.now)) (λ number. label.now) (pass_of (kinds_at self.now from.0) from.1) label.now)) }
+    {
+        match (&self.graph.nodes[from.0].kind, from.1) {
+            (NodeKind::Do(op), _) => {
+                after(alloc, label, self.program, self.within, self.profile, op)
+            }
+            (NodeKind::Compare(test), Edge::WhenTrue) => branch(alloc, label, test, true),
+            (NodeKind::Compare(test), Edge::WhenFalse) => branch(alloc, label, test, false),
+            _ => label.share(),
+        }
+    }
+
+    /// The least store above what all edges to a node bring.
+    fn gathered(&self, alloc: Global, at: usize, labels: &[Store]) -> Result<Store, AllocError>
+        requires node { at < length self.now.graph.nodes.items }
+        requires labels { length labels.now ≡ length self.now.graph.nodes.items }
+        ensures least { IfOk result (IsLeastOf StoreBelow (AllBring (rules_of self.now) (kinds_at self.now) labels.now (edges_at self.now at))) }
+    {
+        let mut joined = Store::unreachable();
+        for from in self.graph.nodes[at].from.as_slice() {
+            let brought = self.brought(alloc, *from, &labels[from.0])?;
+            joined = joined.join(alloc, &brought)?;
+        }
+        Ok(joined)
+    }
+
+    /// The label of a node, by the store above what its edges bring.
+    fn settled(&self, alloc: Global, at: usize, joined: &Store) -> Result<Store, AllocError>
+        requires node { at < length self.now.graph.nodes.items }
+        ensures settled { IfOk result (IsSettled (rules_of self.now) (kinds_at self.now at) joined.now) }
+    {
+        match self.graph.nodes[at].kind {
+            NodeKind::Entry => enter(alloc, self.program, self.within),
+            NodeKind::Head(_, scope) => joined.round(alloc, &self.marks, scope),
+            _ => joined.share(),
+        }
+    }
+}
+
+impl<'a> FlowProblem for Problem<'a> {
+    ghost use Rattle.ix_labels.specs.Problem.{readers_of, Asks};
+    ghost use Rattle.ix_labels.specs.ProblemLaws.{problem_monotone, problem_depends};
+
+    type Value = Store;
+
+    ghost readers_of = { readers_of };
+
+    ghost Asks = { Asks };
+
+    ghost monotone = { problem_monotone };
+
+    ghost depends = { problem_depends };
+
+    fn len(&self) -> usize {
+        self.graph.nodes.len()
+    }
+
+    fn least(&self) -> Store {
+        Store::unreachable()
+    }
+
+    fn readers(&self, at: usize) -> &[usize] {
+        self.graph.nodes[at].readers.as_slice()
+    }
+
+    fn visit<L: Ledger>(
+        &self,
+        alloc: Global,
+        at: usize,
+        labels: &[Store],
+        steps: &mut Steps<L>,
+    ) -> Result<Store, AllocError> {
+        steps.tick();
+        let joined = self.gathered(alloc, at, labels)?;
+        self.settled(alloc, at, &joined)
+    }
+}
