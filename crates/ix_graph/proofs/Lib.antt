@@ -16,3 +16,4 @@ pub mod Attached
 pub mod EdgesFit
 pub mod NodesAsk
 pub mod AsProblem
+pub mod HeadTable

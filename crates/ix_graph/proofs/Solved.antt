@@ -144,7 +144,7 @@ module _ (R : Rules) (L : RulesLaws R) where
   zip_label M (x ∷ labels) at (suc size) zero zip within = let e : at ≡ at + 0 = omega arith in subst (λ n. R.Below x (M n)) e zip.0
   zip_label M (x ∷ labels) at (suc size) (suc k) zip within = let e : suc at + k ≡ at + suc k = omega arith in subst (λ n. R.Below (label_at R labels k) (M n)) e (zip_label M labels (suc at) size k zip.1 (omega arith))
 
-  nodes_below : (N : ℕ → R.Store) (stores : List R.Store) (size : ℕ) (parts : List Part) → AllZip R.Below stores (table N 0 size) → AreBelow size parts → AllNodes (λ at. R.Below (label_at R stores at) (N at)) parts
+  pub nodes_below : (N : ℕ → R.Store) (stores : List R.Store) (size : ℕ) (parts : List Part) → AllZip R.Below stores (table N 0 size) → AreBelow size parts → AllNodes (λ at. R.Below (label_at R stores at) (N at)) parts
   nodes_below N stores size [] zip below = tt
   nodes_below N stores size (NodePart at kind ∷ parts) zip below = (let e : 0 + at ≡ at = omega arith in subst (λ n. R.Below (label_at R stores at) (N n)) e (zip_label N stores 0 size at zip below.0), nodes_below N stores size parts zip below.1)
   nodes_below N stores size (EdgePart node pass target ∷ parts) zip below = nodes_below N stores size parts zip below.2

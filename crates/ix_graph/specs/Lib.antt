@@ -7,3 +7,5 @@ pub mod Built
 pub mod Linked
 -- What its edges bring to a node.
 pub mod Brought
+-- The heads of loops by their numbers.
+pub mod Heads
