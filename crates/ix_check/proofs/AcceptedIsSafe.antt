@@ -13,7 +13,6 @@ use Rattle.ix_core.specs.Tables.{method_at, no_method}
 use Rattle.ix_core.specs.Types.{is_int_type}
 use Rattle.ix_text.specs.declared.span.Span.{Span}
 use Rattle.ix_check.specs.Form.{is_empty, is_param, are_params, has_plain_head, is_idle_constructor, has_plain_classes}
-use Rattle.ix_check.specs.Promise.{IsSafe}
 use Rattle.ix_check.specs.Rules.{written_errors, unwritten_errors, method_errors, all_errors, errors_of}
 use Rattle.ix_check.proofs.PlainRuns.{runs_well}
 
@@ -73,6 +72,6 @@ program_safe program profile none number inputs begins limits steps counts bad =
     let parts = guarded (has_plain_head found) _ (entry_written found found.written begins.static (none_of_each program.methods number found none begins.at)) in
     runs_well program number found inputs limits (head_even found parts.0) begins.typed begins.meets is parts.1 steps bad
 
-pub accepted_safe : (program : Program) (errors : List Error) → errors_of program ≡ Some errors → errors ≡ [] → IsSafe program
+pub accepted_safe : (program : Program) (errors : List Error) → errors_of program ≡ Some errors → errors ≡ [] → (profile : Profile) → Safe program profile
 accepted_safe program errors is none profile =
     program_safe program profile (guarded (has_plain_classes program) (all_errors program.methods) (is ∙ ap Some none)).1

@@ -4,5 +4,6 @@ mod ErrorsInOrder
 mod ClaimsMet
 mod PlainRuns
 mod AcceptedIsSafe
+mod RuleRows
 mod FewMethods
 mod UnknownSlots

@@ -2,4 +2,3 @@ pub mod Form
 pub mod Origins
 pub mod Rules
 pub mod Counts
-pub mod Promise

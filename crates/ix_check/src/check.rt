@@ -1,9 +1,10 @@
 //! The check of a whole program.
 ghost use Rattle.std.specs.Prelude.{◌≡◌, ◌≢◌, ◌≤◌, Some, None, [], IfOk, MatchResult};
 ghost use Rattle.ix_core.specs.Formed.{Formed};
+ghost use Rattle.ix_core.specs.Safe.{Safe};
+ghost use Rattle.ix_core.specs.declared.fact.Profile.{Profile};
 ghost use Rattle.ix_core.specs.declared.program.Program.{Program as Any};
 ghost use Rattle.ix_check.specs.Counts as counts;
-ghost use Rattle.ix_check.specs.Promise.{IsSafe};
 ghost use Rattle.ix_check.specs.Rules.{errors_of};
 ghost use Rattle.ix_check.specs.declared.error.CheckError.TheVariants.{Memory};
 
@@ -17,7 +18,7 @@ use std::alloc::Global;
 /// annotations.
 pub fn check_program(alloc: Global, program: &Program) -> Result<Vec<Error>, CheckError>
     ensures errors { MatchResult result (λ errors. errors_of program.now ≡ Some errors.items) (λ error. error ≢ Memory → errors_of program.now ≡ None) }
-    ensures safe { IfOk result (λ errors. errors.items ≡ [] → IsSafe program.now) }
+    ensures safe { IfOk result (λ errors. errors.items ≡ [] → (profile : Profile) → Safe program.now profile) }
 {
     match program_errors(alloc, program) {
         Ok(errors) => Ok(errors),
@@ -62,5 +63,5 @@ pub fn count_program(program: &Program) -> Counts
 
 /// A law, which runs nothing: a program whose errors are none is safe.
 pub fn accepted_is_safe()
-    ensures { (program : Any) → errors_of program ≡ Some [] → IsSafe program }
+    ensures { (program : Any) → errors_of program ≡ Some [] → (profile : Profile) → Safe program profile }
 {}
