@@ -5,10 +5,11 @@ use Rattle.ix_core.specs.declared.error.Error.{Error}
 use Rattle.ix_core.specs.declared.program.Program.{Program}
 use Rattle.ix_core.specs.Machine.{State, Ending}
 use Rattle.ix_core.specs.Machine as ending
-use Rattle.ix_check.specs.declared.check_source.Counts.{Counts}
+use Rattle.ix_check.specs.declared.check.Counts.{Counts}
 use Rattle.ix_check.specs.Rules.{errors_of}
 use Rattle.ix_check.specs.Counts.{counts_of}
-use Rattle.ix_check.specs.Promise.{IsSafe}
+use Rattle.ix_core.specs.declared.fact.Profile.{Profile}
+use Rattle.ix_core.specs.Safe.{Safe}
 use Rattle.ix_lexer.specs.declared.token.LexError.{LexError}
 use Rattle.ix_lexer.specs.declared.token.LexError.TheVariants as lexical
 use Rattle.ix_lexer.specs.declared.token.Token.{Token}
@@ -146,17 +147,16 @@ other_status result other so not_so same = cc (ap is_answer same)
 -- ---- what is accepted
 
 abbrev pub Law : Type 0
-Law = (source : Source) → errors_of source ≡ Some [] → IsSafe source
+Law = (program : Program) → errors_of program ≡ Some [] → (profile : Profile) → Safe program profile
 
 verdict_done : (file bytes : List ℕ) (counts : Counts) (errors : List Error) → (verdict file bytes counts errors).status ≡ Done → errors ≡ []
 verdict_done file bytes counts [] done = refl
 verdict_done file bytes counts (error ∷ errors) done = absurd (cc)
 
 -- what is accepted has no errors
-judged_done : (file bytes : List ℕ) (counts : Option Counts) (errors : Option (List Error)) → (check_answer file bytes (judged_by counts errors)).status ≡ Done → errors ≡ Some []
-judged_done file bytes (Some counts) (Some errors) done = ap (λ (e : List Error). Some e) (verdict_done file bytes counts errors done)
-judged_done file bytes (Some counts) None done = absurd (cc)
-judged_done file bytes None errors done = absurd (cc)
+judged_done : (file bytes : List ℕ) (counts : Counts) (errors : Option (List Error)) → (check_answer file bytes (judged_by counts errors)).status ≡ Done → errors ≡ Some []
+judged_done file bytes counts (Some errors) done = ap (λ (e : List Error). Some e) (verdict_done file bytes counts errors done)
+judged_done file bytes counts None done = absurd (cc)
 
 status_is : (one other : Answer) → one ≡ other → one.status ≡ other.status
 status_is one other is = ap (λ (a : Answer). a.status) is
@@ -198,7 +198,11 @@ found_safe law sums file bytes _ answer (lexed tokens short lexing few (tree sou
   lexed = lexing;
   source = source;
   parsed = has;
-  safe = law source (judged_done file bytes (counts_of source) (errors_of source) (sym (status_is answer (check_answer file bytes (judgement source)) on) ∙ done));
+  safe = record {
+    program = made;
+    plain = is;
+    safe = law made (judged_done file bytes (counts_of made) (errors_of made) (sym (status_is answer (check_answer file bytes (judgement made)) on) ∙ done));
+  };
 }
 
 -- an answer of `check` that accepts is of bytes that are safe

@@ -2,7 +2,7 @@
 use Rattle.std.specs.Prelude.{◌≡◌, ℕ, List, [], ◌∷◌, ◌++◌, Option, Some, None, length, codes, decimal, option_and_then}
 use Rattle.ix_core.specs.declared.error.Error.{Error}
 use Rattle.ix_core.specs.declared.program.Program.{Program}
-use Rattle.ix_check.specs.declared.check_source.Counts.{Counts}
+use Rattle.ix_check.specs.declared.check.Counts.{Counts}
 use Rattle.ix_gen.specs.Workload.{workload}
 use Rattle.ix_name_report.specs.Texts.{misnamed}
 use Rattle.ix_report.specs.Texts.{line, accepted, rejected, broken, past_limit, past_bytes}
