@@ -31,7 +31,7 @@ fn sources(rt: HostRuntime) -> Result<(), Fail> {
         (
             "class A { static int f(int[] a, @IndexFor(\"a\") int i, int k) { int x = i; x = k; return a[x]; } } class B { static int g(int[] b, @LTLengthOf(\"b\") int i) { int x; { x = i; } return b[x]; } }",
             Status::Rejected,
-            "A.java:1:91: access.low\nA.java:1:91: access.high\nA.java:1:183: access.low\nrejected: 3 errors\n",
+            "A.java:1:91: access.low\nA.java:1:91: access.high\nA.java:1:184: access.low\nrejected: 3 errors\n",
             "",
         ),
         (
