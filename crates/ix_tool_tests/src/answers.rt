@@ -29,9 +29,9 @@ fn sources(rt: HostRuntime) -> Result<(), Fail> {
         ),
         ("", Status::Done, "accepted: 0 methods, 0 accesses\n", ""),
         (
-            "class A { static int f(int[] a, @IndexFor(\"a\") int i, int k) { int x = i; x = k; return a[x]; } } class B { static int g(int[] b, @LTLengthOf(\"b\") int i) { int x; { x = i; } return b[x]; } }",
+            "class A { static int f(int[] a, @IndexFor(\"a\") int i, int k) { int x = i; x = k; return a[x]; } } class B { static int g(int[] b, @LTLengthOf(\"b\") int i, int k) { int x = k; { int y = i; x = y; } return b[x]; } }",
             Status::Rejected,
-            "A.java:1:91: access.low\nA.java:1:91: access.high\nA.java:1:184: access.low\nrejected: 3 errors\n",
+            "A.java:1:91: access.low\nA.java:1:91: access.high\nA.java:1:206: access.low\nrejected: 3 errors\n",
             "",
         ),
         (
