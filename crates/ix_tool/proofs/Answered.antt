@@ -1,5 +1,5 @@
 -- What is right of an answer, and that nothing else is.
-use Rattle.std.proofs.Common.{◌≡◌, ◌≢◌, ◌⊎◌, inl, inr, ℕ, ◌<◌, ◌≤◌, true, false, List, [], ◌∷◌, Option, Some, None, Result, Ok, Err, length, take, ap, sym, subst, ◌∙◌, refl, arith}
+use Rattle.std.proofs.Common.{◌≡◌, ◌≢◌, inl, inr, ℕ, ◌<◌, true, false, List, [], ◌∷◌, Option, Some, None, Result, Ok, Err, length, take, ap, sym, subst, ◌∙◌, refl, arith}
 use Rattle.std.proofs.lemmas.List.{length-take}
 use Rattle.ix_core.specs.declared.error.Error.{Error}
 use Rattle.ix_core.specs.declared.program.Program.{Program}
@@ -15,7 +15,6 @@ use Rattle.ix_lexer.specs.declared.token.LexError.TheVariants as lexical
 use Rattle.ix_lexer.specs.declared.token.Token.{Token}
 use Rattle.ix_grammar.specs.declared.error.ParseError.{ParseError}
 use Rattle.ix_grammar.specs.declared.error.ParseError.TheVariants as syntax
-use Rattle.ix_tree.specs.declared.decl.Unit.{Unit as Source}
 use Rattle.ix_machine.specs.declared.start.StartError.{StartError}
 use Rattle.ix_machine.proofs.OneStart.{starts_one}
 use Rattle.ix_outside.specs.Outside.{Files, bytes_under}
@@ -27,12 +26,12 @@ use Rattle.ix_words.specs.declared.values.Sums.{Sums}
 use Rattle.ix_words.specs.Words.{Text}
 use Rattle.ix_words.specs.Commands.{Command, Check, Run, Bench}
 use Rattle.ix_answer.specs.declared.status.Status.{Status}
-use Rattle.ix_answer.specs.declared.status.Status.TheVariants.{Done, Rejected, Usage, Limit, WriteFault, Memory}
+use Rattle.ix_answer.specs.declared.status.Status.TheVariants.{Done, Rejected, Limit}
 use Rattle.ix_answer.specs.Statuses.{is_answer}
-use Rattle.ix_answer.specs.Answer.{Answer, out_answer, err_answer}
+use Rattle.ix_answer.specs.Answer.{Answer, out_answer}
 use Rattle.ix_finding.specs.Found.{Finding, TooLong, Broken, Past, Misnamed, Whole, Judgement, NotBuilt, Judged, judged_by, judgement, Found, too_long, no_tokens, lexed, no_tree, tree, passes_limit, misnames, inherits, too_big, named, of_lex_error, of_parse_error}
-use Rattle.ix_tool.specs.Runs.{RunAnswers, start_answer, run_answer, status_of}
-use Rattle.ix_tool.specs.Answers.{usage, Answers, IsVerdict, AnswersOn, AnswersWhole, verdict, check_answer, bench_verdict, bench_answer, source_bytes, source_name, file_in, file_of}
+use Rattle.ix_tool.specs.Runs.{RunAnswers, start_answer, status_of}
+use Rattle.ix_tool.specs.Answers.{IsVerdict, AnswersOn, AnswersWhole, verdict, check_answer, bench_verdict, bench_answer, source_bytes, file_in}
 use Rattle.ix_tool.specs.Ends.{bytes_of, SafeBytes}
 use Rattle.ix_answer.specs.Delivery.{IsOnly}
 use Rattle.ix_run.specs.Ends.{end_of}

@@ -12,7 +12,6 @@ use Rattle.ix_words.specs.Commands.{Command, Check, Run, Bench}
 use Rattle.ix_answer.specs.Answer.{Answer, out_answer, err_answer}
 use Rattle.ix_finding.specs.Found.{Finding, TooLong, Broken, Past, Misnamed, Whole, Judgement, NotBuilt, Judged, Found}
 use Rattle.ix_tool.specs.Runs.{RunAnswers}
-use Rattle.ix_answer.specs.declared.status.Status.{Status}
 use Rattle.ix_answer.specs.declared.status.Status.TheVariants.{Done, Rejected, Usage, Limit, Unbuilt}
 
 -- ---- commands and files
