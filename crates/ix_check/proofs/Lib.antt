@@ -1,8 +1,9 @@
-mod EachDecoded
-mod SourceSteps
-mod VariableSlots
-mod EntryInputs
-mod MarkClaims
+mod ParamsInOrder
+mod CopiesInOrder
+mod ErrorsInOrder
+mod ClaimsMet
 mod PlainRuns
 mod AcceptedIsSafe
 mod RuleRows
+mod FewMethods
+mod UnknownSlots

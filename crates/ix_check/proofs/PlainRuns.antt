@@ -1,33 +1,39 @@
--- The runs of the plain form of a source that is judged and has no error.
-use Rattle.std.proofs.Common.{◌≡◌, ℕ, zero, suc, ◌+◌, ◌-◌, add-zero, zero-add, ◌<◌, ◌≤◌, ℤ, pos, ◌≤ℤ◌, ◌<ℤ◌, int_le, int_lt, unsigned_abs, Bool, true, false, List, [], ◌∷◌, ◌++◌, length, map, replicate, Option, Some, None, is_some, bytes_eq, ◌⊎◌, inl, inr, slice_get, slice_set, refl, sym, ap, subst, ◌∙◌, arith, length-append}
+-- The runs of a method of the form without errors.
+use Rattle.std.proofs.Common.{◌≡◌, ◌≢◌, ℕ, zero, suc, ◌+◌, ◌-◌, ◌<◌, ◌≤◌, nat_le, nat_lt, ◌==◌, ℤ, pos, ◌≤ℤ◌, ◌<ℤ◌, int_le, int_lt, unsigned_abs, Bool, true, false, ◌&&◌, cond, List, [], ◌∷◌, ◌++◌, length, replicate, Option, Some, None, ◌⊎◌, inl, inr, slice_get, slice_set, refl, sym, ap, subst, ◌∙◌, arith}
+use Rattle.std.proofs.lemmas.Bool.Decides.{nat_tests}
 use Rattle.std.proofs.lemmas.Int.{ints}
-use Rattle.std.proofs.lemmas.Bool.{leb-true}
-use Rattle.std.proofs.lemmas.Option.{slice_get_within}
+use Rattle.std.proofs.lemmas.List.{length-append, length-set}
+use Rattle.std.specs.List.{list_any}
 use Rattle.ix_core.specs.declared.claim.Type_.{Type_}
 use Rattle.ix_core.specs.declared.code.Item.{Item}
-use Rattle.ix_core.specs.declared.code.Item.TheVariants.{Do, Return}
-use Rattle.ix_core.specs.declared.op.OpKind.TheVariants.{Load}
-use Rattle.ix_core.specs.declared.fact.Profile.{Profile}
+use Rattle.ix_core.specs.declared.code.Item.TheVariants as item
+use Rattle.ix_core.specs.declared.error.Error.{Error}
+use Rattle.ix_core.specs.declared.op.Op.{Op}
+use Rattle.ix_core.specs.declared.op.OpKind.{OpKind}
+use Rattle.ix_core.specs.declared.op.OpKind.TheVariants as op
+use Rattle.ix_core.specs.declared.program.Local.{Local as Variable}
 use Rattle.ix_core.specs.declared.program.Method.{Method}
 use Rattle.ix_core.specs.declared.program.Program.{Program}
 use Rattle.ix_core.specs.Code.{items_code}
-use Rattle.ix_core.specs.Heap.{Held, Num, At, Heap, int_reading, value_at, array_at, is_within}
-use Rattle.ix_core.specs.Machine.{Ending, Ended, State, Limits, Effect, Done, frame, operate, effect_then, result_shown, moved, step_from, step, run, slots_with}
-use Rattle.ix_core.specs.Safe.{Input, Whole, HaveTypes, Meets, reading_in, input_values, input_heap, input_names, start, IsBad, Safe}
-use Rattle.ix_core.specs.Tables.{Tables, tables_of}
+use Rattle.ix_core.specs.Heap.{Held, Num, Boolean, Null, At, Heap, int_of, size_of, value_at, array_at, is_within}
+use Rattle.ix_core.specs.Machine.{Ending, Ended, NullUsed, State, Limits, Effect, Done, Stopped, frame, operate, effect_then, result_shown, result_of, moved, step_from, step, run, slots_with, int_at}
+use Rattle.ix_core.specs.Safe.{Input, HaveTypes, Meets, reading_in, input_values, input_heap, input_names, start, IsBad}
+use Rattle.ix_core.specs.Tables.{Tables, tables_of, method_at}
 use Rattle.ix_core.specs.Tasks.{Empty, code_then}
+use Rattle.ix_core.specs.Types.{is_int_type}
+use Rattle.ix_core.proofs.Cases.{by_test, equal}
+use Rattle.ix_core.proofs.GoodStarts.{values_read}
+use Rattle.ix_core.proofs.Heaps.{value_set, value_other}
+use Rattle.ix_core.proofs.TypedStarts.{inputs_count, values_count}
 use Rattle.ix_text.specs.declared.span.Span.{Span}
-use Rattle.ix_check.specs.declared.form.Form.{Form}
-use Rattle.ix_check.specs.declared.form.Local.{Local}
-use Rattle.ix_check.specs.declared.form.Param.{Param}
-use Rattle.ix_check.specs.declared.form.Value.{Value}
-use Rattle.ix_check.specs.declared.form.Value.TheVariants.{Variable, Access}
-use Rattle.ix_check.specs.Conditions.{all_differ, names, param_named, source, source_through, is_judged, is_value_in_scope}
-use Rattle.ix_check.specs.Rules.{marks_in, marks_at, access_errors, array_errors, value_errors}
-use Rattle.ix_check.specs.Plain.{slot_of, slot_or_first, type_of, copies_from, return_items, slot_at_end, temporary, slot_count, plain_method, default_constructor, plain_program, int_array}
-use Rattle.ix_check.proofs.VariableSlots.{front_differs, across_differs, Copied, copied_start, copied_more, set_other, set_length, named_at, named_slot, named_among, param_in_scope, param_names, local_names, both_true, some_same}
-use Rattle.ix_check.proofs.EntryInputs.{whole_at, ints_at, types_count, values_count, whole_value, ints_value}
-use Rattle.ix_check.proofs.MarkClaims.{claims_shown, low_met, high_met, array_found, met_at}
+use Rattle.ix_check.specs.Form.{claims_low, is_array_at}
+use Rattle.ix_check.specs.Origins.{Origins, param_origins, first_origins, origin_at, is_behind_params, copies, is_copy, with_copy, after_copy}
+use Rattle.ix_check.specs.Rules.{access_errors, claims_at, index_errors, load_errors, end_errors, rest_errors}
+use Rattle.ix_check.proofs.ClaimsMet.{claims_shown, low_met, high_met, met_at}
+
+both : (a b : Bool) → (a && b) ≡ true → (a ≡ true) × (b ≡ true)
+both true b h = (refl, h)
+both false b h = cc
 
 either : (b : Bool) → (b ≡ true) ⊎ (b ≡ false)
 either true = inl refl
@@ -44,13 +50,13 @@ final limits tables zero state ending is = refl
 final limits tables (suc steps) state ending is =
     ap (run limits tables steps) (step_ended limits tables state state.ended ending is) ∙ final limits tables steps state ending is
 
--- an ended run isn't bad
-ended_well : (limits : Limits) (tables : Tables) (steps : ℕ) (state : State) (value : _) → state.ended ≡ Some (Ended value) → IsBad (run limits tables steps state).ended → ⊥
-ended_well limits tables steps state value is bad =
-    let same : (run limits tables steps state).ended ≡ Some (Ended value) = ap (λ (s : State). s.ended) (final limits tables steps state (Ended value) is) ∙ is in
-    subst (λ (o : Option Ending). IsBad o) same bad
+-- a run that ended otherwise stays so
+ended_well : (limits : Limits) (tables : Tables) (steps : ℕ) (state : State) (ending : Ending) → state.ended ≡ Some ending → (IsBad (Some ending) → ⊥) → IsBad (run limits tables steps state).ended → ⊥
+ended_well limits tables steps state ending is well bad =
+    let same : (run limits tables steps state).ended ≡ Some ending = ap (λ (s : State). s.ended) (final limits tables steps state ending is) ∙ is in
+    well (subst (λ (o : Option Ending). IsBad o) same bad)
 
--- ---- lists of values
+-- ---- lists of values and of origins
 
 front_value : (values others : List Held) (place : ℕ) → place < length values → value_at (values ++ others) place ≡ value_at values place
 front_value [] others place within = absurd (omega (arith, within))
@@ -61,42 +67,32 @@ copies_length : (count : ℕ) (value : Held) → length (replicate count value) 
 copies_length zero value = refl
 copies_length (suc count) value = ap suc (copies_length count value)
 
-numbers_length : (ns : List ℤ) → length (map Num ns) ≡ length ns
-numbers_length [] = refl
-numbers_length (n ∷ ns) = ap suc (numbers_length ns)
+unknown : (count slot : ℕ) (number : ℕ) → origin_at (replicate count None) slot ≡ Some number → ⊥
+unknown zero slot number is = cc
+unknown (suc count) zero number is = cc
+unknown (suc count) (suc slot) number is = unknown count slot number is
 
--- ---- what is judged
+chosen : (b : Bool) (number found : ℕ) → cond b (Some number) None ≡ Some found → number ≡ found
+chosen true number found is = cc
+chosen false number found is = cc
 
-some_found : {A : Type 0} (found : Option A) → is_some found ≡ true → (value : A) × (found ≡ Some value)
-some_found None h = cc
-some_found (Some value) h = (value, refl)
+-- where a method begins, an origin is the slot itself
+own_origin : (first : ℕ) (types : List Type_) (count slot number : ℕ) → origin_at (param_origins first types ++ replicate count None) slot ≡ Some number → first + slot ≡ number
+own_origin first [] count slot number is = absurd (unknown count slot number is)
+own_origin first (ty ∷ types) count zero number is = let e : first ≡ number = chosen _ first number is in omega (arith, e)
+own_origin first (ty ∷ types) count (suc slot) number is = let e = own_origin (first + 1) types count slot number is in omega (arith, e)
 
--- the variable's source is an int parameter
-abbrev IsIntParam : List Param → ℕ → Type 0
-IsIntParam params found = (param : Param) × (slice_get params found ≡ Some param) × (param.is_array ≡ false)
+origin_set : (origins : Origins) (target : ℕ) (origin : Option ℕ) (number : ℕ) → origin_at (slice_set origins target origin) target ≡ Some number → origin ≡ Some number
+origin_set [] target origin number is = cc
+origin_set (first ∷ rest) zero origin number is = is
+origin_set (first ∷ rest) (suc target) origin number is = origin_set rest target origin number is
 
-through_param : (params : List Param) (at : Option Local) (name : List ℕ) (earlier : List ℕ → Option ℕ) (found : ℕ) → ((other : List ℕ) → earlier other ≡ Some found → IsIntParam params found)
-    → source_through at name earlier ≡ Some found → IsIntParam params found
-through_param params None name earlier found each is = each name is
-through_param params (Some local) name earlier found each is = elim (either (bytes_eq local.name name)) [
-  | inl same ↦ each local.init (let from : earlier local.init ≡ Some found = rw same at is in from)
-  | inr other ↦ each name (let from : earlier name ≡ Some found = rw other at is in from)
-]
-
-source_param : (params : List Param) (locals : List Local) (scope : ℕ) (name : List ℕ) (found : ℕ) → source params locals scope name ≡ Some found → IsIntParam params found
-source_param params locals zero name found h =
-    let at = named_at false 0 params name found h in
-    let e : 0 + at.1 ≡ at.1 = omega arith in
-    (at.0, subst (λ (n : ℕ). slice_get params n ≡ Some at.0) (sym (at.2 ∙ e)) at.3, at.4)
-source_param params locals (suc scope) name found h =
-    through_param params (slice_get locals scope) name (source params locals scope) found (λ other is. source_param params locals scope other found is) h
-
-array_param : (params : List Param) (name : List ℕ) (found : ℕ) → param_named true 0 params name ≡ Some found
-    → (param : Param) × (slice_get params found ≡ Some param) × (param.is_array ≡ true)
-array_param params name found h =
-    let at = named_at true 0 params name found h in
-    let e : 0 + at.1 ≡ at.1 = omega arith in
-    (at.0, subst (λ (n : ℕ). slice_get params n ≡ Some at.0) (sym (at.2 ∙ e)) at.3, at.4)
+origin_other : (origins : Origins) (target slot : ℕ) (origin : Option ℕ) → slot ≢ target → origin_at (slice_set origins target origin) slot ≡ origin_at origins slot
+origin_other [] target slot origin apart = refl
+origin_other (first ∷ rest) zero zero origin apart = absurd (apart refl)
+origin_other (first ∷ rest) zero (suc slot) origin apart = refl
+origin_other (first ∷ rest) (suc target) zero origin apart = refl
+origin_other (first ∷ rest) (suc target) (suc slot) origin apart = origin_other rest target slot origin (λ same. apart (ap suc same))
 
 is_within_true : (n : ℤ) (size : ℕ) → pos 0 ≤ℤ n → n <ℤ pos size → is_within n size ≡ true
 is_within_true n size low high =
@@ -104,28 +100,22 @@ is_within_true n size low high =
     let b : int_lt n (pos size) ≡ true = grind (arith, ints) in
     rw (a, b) refl
 
--- ---- runs of one form with one list of inputs
+-- ---- runs of one method with one list of inputs
 
-module _ (form : Form) (inputs : List Input) (limits : Limits) where
-  abbrev program : Program
-  program = plain_program form
-
+module _ (program : Program) (number : ℕ) (method : Method) (inputs : List Input) (limits : Limits) where
   abbrev tables : Tables
   tables = tables_of program
 
-  abbrev types : List Type_
-  types = map type_of form.params
-
   abbrev heap : Heap
-  heap = input_heap inputs types
+  heap = input_heap inputs method.param_types
 
   abbrev first_slots : List Held
-  first_slots = slots_with (slot_count form form.value) (input_values 0 inputs)
+  first_slots = slots_with method.slots (input_values 0 inputs)
 
   -- the state with these items left
   abbrev at : List Item → List Held → State
   at items slots = record {
-    now = frame 0 (code_then (items_code items) Empty) slots;
+    now = frame number (code_then (items_code items) Empty) slots;
     below = [];
     heap = heap;
     wrapped = false;
@@ -135,187 +125,234 @@ module _ (form : Form) (inputs : List Input) (limits : Limits) where
   abbrev Ends : List Item → List Held → Type 0
   Ends items slots = (steps : ℕ) → IsBad (run limits tables steps (at items slots)).ended → ⊥
 
-  starts : start program 0 inputs ≡ at (copies_from form.params form.locals 0 form.locals ++ return_items form form.value) first_slots
-  starts = refl
+  starts : method_at program number ≡ method → start program number inputs ≡ at method.body.items first_slots
+  starts is = ap (λ (m : Method). record {
+    now = frame number (code_then (items_code m.body.items) Empty) (slots_with m.slots (input_values 0 inputs));
+    below = [];
+    heap = input_heap inputs m.param_types;
+    wrapped = false;
+    ended = None;
+  }) is
 
   -- a return ends the run well
-  returns_well : (slot : ℕ) (span : Span) (slots : List Held) → Ends (Return (Some slot) span ∷ []) slots
+  returns_well : (slot : ℕ) (span : Span) (slots : List Held) → Ends (item.Return (Some slot) span ∷ []) slots
   returns_well slot span slots zero bad = bad
-  returns_well slot span slots (suc steps) bad = ended_well limits tables steps (step limits tables (at (Return (Some slot) span ∷ []) slots)) (result_shown heap (Some (value_at slots slot))) refl bad
+  returns_well slot span slots (suc steps) bad =
+      ended_well limits tables steps (step limits tables (at (item.Return (Some slot) span ∷ []) slots)) (Ended (result_shown heap (result_of (tables.routines number) slots (Some slot)))) refl (λ b. b) bad
 
-  -- a load within the array is done
-  load_done : (array index target number size : ℕ) (n : ℤ) (place : ℕ) (slots : List Held) → value_at slots array ≡ At number → value_at slots index ≡ Num n → length (array_at heap number) ≡ size
-      → pos 0 ≤ℤ n → n <ℤ pos size
-      → operate limits tables place slots heap (Load target array index int_array) ≡ Done (slice_set slots target (value_at (array_at heap number) (unsigned_abs n))) heap
-  load_done array index target number size n place slots at_array at_index count low high =
-      let fits : is_within n (length (array_at heap number)) ≡ true = rw count (is_within_true n size low high) in
-      rw (at_array, at_index, fits) refl
+  -- an operation that is done ends well where what follows does
+  done_well : (does : Op) (items : List Item) (slots after : List Held) → operate limits tables does.span.from slots heap does.kind ≡ Done after heap → Ends items after → Ends (item.Do does ∷ items) slots
+  done_well does items slots after is go zero bad = bad
+  done_well does items slots after is go (suc steps) bad =
+      let before : State = at (item.Do does ∷ items) slots in
+      let next : step limits tables before ≡ at items after = ap (λ (d : Effect). moved limits tables (effect_then d does.span.from (code_then (items_code items) Empty)) before) is in
+      go steps (subst (λ (s : State). IsBad (run limits tables steps s).ended) next bad)
 
-  -- an access within the array, and then a return, end well
-  access_well : (array index target number size slot : ℕ) (n : ℤ) (span whole : Span) (slots : List Held) → value_at slots array ≡ At number → value_at slots index ≡ Num n → length (array_at heap number) ≡ size
-      → pos 0 ≤ℤ n → n <ℤ pos size
-      → Ends (Do record { kind = Load target array index int_array; span = span; parts = [] } ∷ Return (Some slot) whole ∷ []) slots
-  access_well array index target number size slot n span whole slots at_array at_index count low high zero bad = bad
-  access_well array index target number size slot n span whole slots at_array at_index count low high (suc steps) bad =
-      let items : List Item = Return (Some slot) whole ∷ [] in
-      let before : State = at (Do record { kind = Load target array index int_array; span = span; parts = [] } ∷ items) slots in
-      let done = load_done array index target number size n span.from slots at_array at_index count low high in
-      let next : step limits tables before ≡ at items (slice_set slots target (value_at (array_at heap number) (unsigned_abs n))) =
-      ap (λ (d : Effect). moved limits tables (effect_then d span.from (code_then (items_code items) Empty)) before) done in
-      returns_well slot whole (slice_set slots target (value_at (array_at heap number) (unsigned_abs n))) steps (subst (λ (s : State). IsBad (run limits tables steps s).ended) next bad)
+  -- one that stops the run otherwise ends it well
+  stopped_well : (does : Op) (items : List Item) (slots : List Held) (ending : Ending) → operate limits tables does.span.from slots heap does.kind ≡ Stopped ending → (IsBad (Some ending) → ⊥)
+      → Ends (item.Do does ∷ items) slots
+  stopped_well does items slots ending is well zero bad = bad
+  stopped_well does items slots ending is well (suc steps) bad =
+      let before : State = at (item.Do does ∷ items) slots in
+      let next = ap (λ (d : Effect). (moved limits tables (effect_then d does.span.from (code_then (items_code items) Empty)) before).ended) is in
+      ended_well limits tables steps (step limits tables before) ending next well bad
 
-  -- what the slots hold when so many locals are copied
-  record Ready (scope : ℕ) (slots : List Held) : Type 0 where
-    size : length slots ≡ slot_count form form.value
-    params : (place : ℕ) → place < length form.params → value_at slots place ≡ value_at first_slots place
-    copied : Copied first_slots slots form.params form.locals scope
+  -- ---- what the slots hold behind copies
 
-  -- the locals from that number on
-  abbrev Rest : ℕ → List Local → Type 0
-  Rest scope rest = ((place : ℕ) → slice_get form.locals (scope + place) ≡ slice_get rest place) × (length form.locals ≡ scope + length rest)
+  record Ready (origins : Origins) (slots : List Held) : Type 0 where
+    room : method.slots ≤ length slots
+    params : (place : ℕ) → place < length method.param_types → value_at slots place ≡ value_at first_slots place
+    held : (slot param : ℕ) → origin_at origins slot ≡ Some param → value_at slots slot ≡ value_at first_slots param
 
-  count_room : (scope : ℕ) (local : Local) (rest : List Local) → Rest scope (local ∷ rest) → length form.params + scope < slot_count form form.value
-  count_room scope local rest tail = room form.value
-    where
-      room : (value : Value) → length form.params + scope < slot_count form value
-      room (Variable name span) = omega (arith, tail.1)
-      room (Access array index span whole) = omega (arith, tail.1)
+  first_ready : Ready (first_origins method) first_slots
+  first_ready = record {
+    room = omega (arith, length-append (input_values 0 inputs) (replicate (method.slots - length (input_values 0 inputs)) (Num (pos 0))), copies_length (method.slots - length (input_values 0 inputs)) (Num (pos 0)));
+    params = λ place within. refl;
+    held = λ slot param is. ap (value_at first_slots) (let e = own_origin 0 method.param_types (method.slots - length method.param_types) slot param is in omega (arith, e));
+  }
 
-  -- the value of a variable that has a source
-  slot_value : (scope : ℕ) (slots : List Held) (name : List ℕ) (parameter : ℕ) → Copied first_slots slots form.params form.locals scope → source form.params form.locals scope name ≡ Some parameter
-      → value_at slots (slot_or_first (slot_of form.params form.locals scope name)) ≡ value_at first_slots parameter
-  slot_value scope slots name parameter copied h =
-      let held = copied name parameter h in
-      ap (λ (o : Option ℕ). value_at slots (slot_or_first o)) held.1 ∙ held.3
+  module _ (origins : Origins) (slots : List Held) (target source : ℕ) (ready : Ready origins slots) (behind : is_behind_params method target ≡ true) where
+    abbrev after : List Held
+    after = slice_set slots target (value_at slots source)
 
-  ready_more : (scope : ℕ) (local : Local) (rest : List Local) (slots : List Held) → Rest scope (local ∷ rest) → Ready scope slots
-      → Ready (suc scope) (slice_set slots (length form.params + scope) (value_at slots (slot_or_first (slot_of form.params form.locals scope local.init))))
-  ready_more scope local rest slots tail ready =
-      let here : slice_get form.locals scope ≡ Some local = ap (slice_get form.locals) (sym (add-zero scope)) ∙ tail.0 0 in
-      let room : length form.params + scope < length slots = rw ready.size (count_room scope local rest tail) in
-      let value : Held = value_at slots (slot_or_first (slot_of form.params form.locals scope local.init)) in
-      record {
-        size = set_length slots (length form.params + scope) value ∙ ready.size;
-        params = λ place within. set_other slots (length form.params + scope) place value (λ same. omega (arith, within, same)) ∙ ready.params place within;
-        copied = copied_more first_slots slots form.params form.locals scope local value here room ready.copied (λ parameter h. slot_value scope slots local.init parameter ready.copied h);
-      }
+    above : length method.param_types ≤ target
+    above = let parts = both (nat_le (length method.param_types) target) (nat_lt target method.slots) behind in let a = parts.0 in grind (arith, nat_tests)
 
-  rest_more : (scope : ℕ) (local : Local) (rest : List Local) → Rest scope (local ∷ rest) → Rest (suc scope) rest
-  rest_more scope local rest tail =
-      (λ place. (let e : suc scope + place ≡ scope + suc place = omega arith in ap (slice_get form.locals) e ∙ tail.0 (suc place)), omega (arith, tail.1))
+    below_end : target < length slots
+    below_end = let parts = both (nat_le (length method.param_types) target) (nat_lt target method.slots) behind in let b = parts.1 in let r = ready.room in let c : target < method.slots = grind (arith, nat_tests) in omega (arith, r, c)
 
-  -- copies end well where what follows them does
-  copies_well : (items : List Item) (scope : ℕ) (rest : List Local) (slots : List Held) → Rest scope rest → Ready scope slots
-      → ((last : List Held) → Ready (length form.locals) last → Ends items last)
-      → Ends (copies_from form.params form.locals scope rest ++ items) slots
-  copies_well items scope [] slots tail ready go steps bad = (go slots (let e : scope ≡ length form.locals = omega (arith, tail.1) in subst (λ (n : ℕ). Ready n slots) e ready)) steps bad
-  copies_well items scope (local ∷ rest) slots tail ready go zero bad = bad
-  copies_well items scope (local ∷ rest) slots tail ready go (suc steps) bad =
-      let next = copies_well items (suc scope) rest (slice_set slots (length form.params + scope) (value_at slots (slot_or_first (slot_of form.params form.locals scope local.init)))) (rest_more scope local rest tail) (ready_more scope local rest slots tail ready) go in
-      let e : suc scope ≡ scope + 1 = omega arith in
-      (subst (λ (n : ℕ). Ends (copies_from form.params form.locals n rest ++ items) (slice_set slots (length form.params + scope) (value_at slots (slot_or_first (slot_of form.params form.locals scope local.init))))) e next) steps bad
-
-  -- ---- the start
-
-  module _ (typed : HaveTypes inputs (map type_of form.params)) (differ : all_differ (names form) ≡ true) where
-    counted : length (input_values 0 inputs) ≡ length form.params
-    counted = values_count 0 inputs ∙ types_count inputs form.params typed
-
-    first_size : length first_slots ≡ slot_count form form.value
-    first_size = sized form.value
+    copy_held : (slot param : ℕ) → origin_at (slice_set origins target (origin_at origins source)) slot ≡ Some param → value_at after slot ≡ value_at first_slots param
+    copy_held slot param is =
+        by_test (slot == target)
+        (λ t.
+        let same : slot ≡ target = equal slot target t in
+        let from : origin_at origins source ≡ Some param = origin_set origins target (origin_at origins source) param (subst (λ (k : ℕ). origin_at (slice_set origins target (origin_at origins source)) k ≡ Some param) same is) in
+        subst (λ (k : ℕ). value_at after k ≡ value_at first_slots param) (sym same) (value_set slots target (value_at slots source) below_end ∙ ready.held source param from))
+        (λ t.
+        let apart : slot ≢ target = λ same. (let a : (slot == target) ≡ true = subst (λ (k : ℕ). (slot == k) ≡ true) same (same_is slot) in cc (sym a ∙ t)) in
+        value_other slots target slot (value_at slots source) t ∙ ready.held slot param (sym (origin_other origins target slot (origin_at origins source) apart) ∙ is))
       where
-        sized : (value : Value) → length (slots_with (slot_count form value) (input_values 0 inputs)) ≡ slot_count form value
-        sized (Variable name span) =
-            length-append (input_values 0 inputs) (replicate (slot_count form (Variable name span) - length (input_values 0 inputs)) (Num (pos 0)))
-            ∙ omega (arith, counted, copies_length (slot_count form (Variable name span) - length (input_values 0 inputs)) (Num (pos 0)))
-        sized (Access array index span whole) =
-            length-append (input_values 0 inputs) (replicate (slot_count form (Access array index span whole) - length (input_values 0 inputs)) (Num (pos 0)))
-            ∙ omega (arith, counted, copies_length (slot_count form (Access array index span whole) - length (input_values 0 inputs)) (Num (pos 0)))
+        same_is : (k : ℕ) → (k == k) ≡ true
+        same_is k = grind (arith, nat_tests)
 
-    first_value : (place : ℕ) → place < length form.params → value_at first_slots place ≡ value_at (input_values 0 inputs) place
-    first_value place within =
-        front_value (input_values 0 inputs) (replicate (slot_count form form.value - length (input_values 0 inputs)) (Num (pos 0))) place (omega (arith, within, counted))
+    copy_params : (place : ℕ) → place < length method.param_types → value_at after place ≡ value_at first_slots place
+    copy_params place within =
+        let o : (place == target) ≡ false = (let a = above in grind (arith, nat_tests)) in
+        value_other slots target place (value_at slots source) o ∙ ready.params place within
 
-    variables_differ : all_differ (param_names form.params ++ local_names form.locals) ≡ true
-    variables_differ = (both_true _ _ (both_true _ _ differ).1).1
-
-    params_differ : all_differ (param_names form.params) ≡ true
-    params_differ = front_differs (param_names form.params) (local_names form.locals) variables_differ
-
-    first_ready : Ready 0 first_slots
-    first_ready = record {
-      size = first_size;
-      params = λ place within. refl;
-      copied = copied_start first_slots form.params form.locals params_differ;
+    copy_ready : Ready (slice_set origins target (origin_at origins source)) after
+    copy_ready = record {
+      room = (let r = ready.room in let l = length-set slots target (value_at slots source) in omega (arith, r, l));
+      params = copy_params;
+      held = copy_held;
     }
 
-    -- the array of an access is in the slot of its parameter
-    array_slot : (array : List ℕ) (found : ℕ) → param_named true 0 form.params array ≡ Some found → slot_at_end form array ≡ found
-    array_slot array found h =
-        let apart = across_differs (param_names form.params) (local_names form.locals) array variables_differ (named_among true 0 form.params array found h) in
-        ap slot_or_first (param_in_scope form.params form.locals (length form.locals) array found apart (named_slot true 0 form.params array found params_differ h))
+  -- an operation that copies ends well where what follows does
+  does_copy : (origins : Origins) (slots : List Held) (does : Op) (items : List Item) (kind : OpKind) → does.kind ≡ kind → copies method kind ≡ true → Ready origins slots
+      → ((next : List Held) → Ready (with_copy origins kind) next → Ends items next) → Ends (item.Do does ∷ items) slots
+  does_copy origins slots does items (op.Copy target source ty) kind_is is ready go =
+      let parts = both (is_int_type ty) (is_behind_params method target) is in
+      done_well does items slots (slice_set slots target (value_at slots source)) (ap (operate limits tables does.span.from slots heap) kind_is)
+      (go (slice_set slots target (value_at slots source)) (copy_ready origins slots target source ready parts.1))
+  does_copy origins slots does items (op.Const target value) kind_is is ready go = cc
+  does_copy origins slots does items (op.Num target arith left right) kind_is is ready go = cc
+  does_copy origins slots does items (op.Unary target unary operand) kind_is is ready go = cc
+  does_copy origins slots does items (op.Length target array) kind_is is ready go = cc
+  does_copy origins slots does items (op.NewArray target ty size) kind_is is ready go = cc
+  does_copy origins slots does items (op.Fill target ty entries) kind_is is ready go = cc
+  does_copy origins slots does items (op.Load target array index ty) kind_is is ready go = cc
+  does_copy origins slots does items (op.Store array index value ty) kind_is is ready go = cc
+  does_copy origins slots does items (op.ReadField target object field) kind_is is ready go = cc
+  does_copy origins slots does items (op.WriteField object field value) kind_is is ready go = cc
+  does_copy origins slots does items (op.NewObject call) kind_is is ready go = cc
+  does_copy origins slots does items (op.StaticCall call) kind_is is ready go = cc
+  does_copy origins slots does items (op.InstanceCall call) kind_is is ready go = cc
+  does_copy origins slots does items (op.SuperCall call) kind_is is ready go = cc
+  does_copy origins slots does items (op.Print value) kind_is is ready go = cc
 
-    -- an access that is judged to have no error ends well
-    access_ends : (few : length form.params ≤ 32) (meets : Meets (plain_method form) inputs) (array index : List ℕ) (span whole : Span)
-        → is_value_in_scope form.params form.locals (Access array index span whole) ≡ true → value_errors form.params form.locals (Access array index span whole) ≡ []
-        → (slots : List Held) → Ready (length form.locals) slots → Ends (return_items form (Access array index span whole)) slots
-    access_ends few meets array index span whole in_scope none slots ready =
-        let scoped = both_true _ _ in_scope in
-        let array_found_is = some_found (param_named true 0 form.params array) scoped.0 in
-        let source_is = some_found (source form.params form.locals (length form.locals) index) scoped.1 in
-        let array_is = array_param form.params array array_found_is.0 array_found_is.1 in
-        let index_is = source_param form.params form.locals (length form.locals) index source_is.0 source_is.1 in
-        let ints_are = ints_at inputs form.params array_found_is.0 array_is.0 typed array_is.1 array_is.2 in
-        let whole_is = whole_at inputs form.params source_is.0 index_is.0 typed index_is.1 index_is.2 in
-        let on_heap = ints_value 0 inputs form.params array_found_is.0 ints_are.0 typed ints_are.1 in
-        let array_within = slice_get_within form.params array_found_is.0 array_is.0 array_is.1 in
-        let index_within = slice_get_within form.params source_is.0 index_is.0 index_is.1 in
-        let errors : access_errors index_is.0.marks array_found_is.0 span ≡ [] =
-        sym (ap (λ (o : Option ℕ). array_errors (marks_at form.params (source form.params form.locals (length form.locals) index)) span o) array_found_is.1
-        ∙ ap (λ (o : Option ℕ). access_errors (marks_at form.params o) array_found_is.0 span) source_is.1
-        ∙ ap (λ (o : Option Param). access_errors (marks_in o) array_found_is.0 span) index_is.1) ∙ none in
-        let claims = claims_shown index_is.0.marks array_found_is.0 span errors in
-        let met = met_at inputs form.params 0 form.params (input_names inputs) source_is.0 index_is.0 (Whole whole_is.0) meets index_is.1 whole_is.1 in
-        let low = low_met form.params index_is.0.marks (int_reading whole_is.0) (input_names inputs) claims.0 met in
-        let names_it = array_found form.params array_found_is.0 array_is.0 array_is.1 array_is.2 (omega (arith, array_within, few)) in
-        let high = high_met form.params array_found_is.0 index_is.0.marks (int_reading whole_is.0) (input_names inputs) names_it claims.1 met in
-        let size : length (array_at heap (0 + on_heap.0)) ≡ length ints_are.0 =
-        ap (λ (n : ℕ). length (array_at heap n)) (zero-add on_heap.0) ∙ (ap (λ (l : List Held). length l) on_heap.2 ∙ numbers_length ints_are.0) in
-        let below : whole_is.0 <ℤ pos (length ints_are.0) = subst (λ (o : Option Input). whole_is.0 <ℤ (reading_in o).size) ints_are.1 high in
-        let array_value : value_at slots (slot_at_end form array) ≡ At (0 + on_heap.0) =
-        ap (value_at slots) (array_slot array array_found_is.0 array_found_is.1) ∙ (ready.params array_found_is.0 array_within ∙ (first_value array_found_is.0 array_within ∙ on_heap.1)) in
-        let index_value : value_at slots (slot_at_end form index) ≡ Num whole_is.0 =
-        slot_value (length form.locals) slots index source_is.0 ready.copied source_is.1 ∙ (first_value source_is.0 index_within ∙ whole_value 0 inputs source_is.0 whole_is.0 whole_is.1) in
-        access_well (slot_at_end form array) (slot_at_end form index) (temporary form) (0 + on_heap.0) (length ints_are.0) (temporary form) whole_is.0 span whole slots array_value index_value size low below
+  copy_well : (origins : Origins) (slots : List Held) (this : Item) (items : List Item) → is_copy method this ≡ true → Ready origins slots
+      → ((next : List Held) → Ready (after_copy origins this) next → Ends items next) → Ends (this ∷ items) slots
+  copy_well origins slots (item.Do does) items is ready go = does_copy origins slots does items does.kind refl is ready go
+  copy_well origins slots (item.If' asked shape_then first shape_else second) items is ready go = cc
+  copy_well origins slots item.Break items is ready go = cc
+  copy_well origins slots item.Continue items is ready go = cc
+  copy_well origins slots (item.Return value span) items is ready go = cc
+  copy_well origins slots (item.Throw name span) items is ready go = cc
+  copy_well origins slots (item.Loop' test_first asked shape_body body shape_next next number scope) items is ready go = cc
 
-    value_ends : (few : length form.params ≤ 32) (meets : Meets (plain_method form) inputs) (value : Value)
-        → is_value_in_scope form.params form.locals value ≡ true → value_errors form.params form.locals value ≡ []
-        → (slots : List Held) → Ready (length form.locals) slots → Ends (return_items form value) slots
-    value_ends few meets (Variable name span) in_scope none slots ready = returns_well (slot_at_end form name) span slots
-    value_ends few meets (Access array index span whole) in_scope none slots ready = access_ends few meets array index span whole in_scope none slots ready
+  -- ---- the access
 
-    -- every run ends well
-    run_ends : (few : length form.params ≤ 32) (meets : Meets (plain_method form) inputs) → is_value_in_scope form.params form.locals form.value ≡ true
-        → value_errors form.params form.locals form.value ≡ [] → (steps : ℕ) → IsBad (run limits tables steps (start program 0 inputs)).ended → ⊥
-    run_ends few meets in_scope none =
-        copies_well (return_items form form.value) 0 form.locals first_slots ((λ place. ap (slice_get form.locals) (zero-add place)), sym (zero-add (length form.locals))) first_ready
-        (value_ends few meets form.value in_scope none)
+  guarded : (b : Bool) (o : Option (List Error)) (errors : List Error) → cond b o None ≡ Some errors → (b ≡ true) × (o ≡ Some errors)
+  guarded true o errors is = (refl, is)
+  guarded false o errors is = cc
 
--- ---- the promise
+  index_shown : (array : ℕ) (span : Span) (origin : Option ℕ) → index_errors method array span origin ≡ Some [] → (param : ℕ) × (origin ≡ Some param) × (access_errors (claims_at method.params param) array span ≡ [])
+  index_shown array span None is = cc
+  index_shown array span (Some param) is = (param, refl, cc is)
 
--- A form that is judged and has no error is safe, in both profiles.
-pub form_safe : (form : Form) (profile : Profile) → is_judged form ≡ true → value_errors form.params form.locals form.value ≡ [] → Safe (plain_program form) profile
-form_safe form profile judged none zero inputs begins limits steps counts bad =
-    let method : begins.found ≡ plain_method form = sym (some_same (plain_method form) begins.found begins.at) in
-    let typed : HaveTypes inputs (map type_of form.params) = subst (λ (m : Method). HaveTypes inputs m.param_types) method begins.typed in
-    let meets : Meets (plain_method form) inputs = subst (λ (m : Method). Meets m inputs) method begins.meets in
-    let few = both_true _ _ judged in
-    let locals = both_true _ _ few.1 in
-    let differ = both_true _ _ locals.1 in
-    let fit = both_true _ _ differ.1 in
-    let scoped = both_true _ _ fit.1 in
-    run_ends form inputs limits typed differ.0 (leb-true (length form.params) 32 few.0) meets scoped.1 none steps bad
-form_safe form profile judged none (suc zero) inputs begins limits steps counts bad =
-    let method : begins.found ≡ default_constructor form = sym (some_same (default_constructor form) begins.found begins.at) in
-    let static : false ≡ true = subst (λ (m : Method). m.is_static ≡ true) method begins.static in absurd (cc)
-form_safe form profile judged none (suc (suc number)) inputs begins limits steps counts bad = let at = begins.at in absurd (cc)
+  claimed_within : (params : List Variable) (param : ℕ) → list_any claims_low (claims_at params param) ≡ true → param < length params
+  claimed_within [] param is = cc
+  claimed_within (first ∷ params) zero is = omega arith
+  claimed_within (first ∷ params) (suc param) is = let e = claimed_within params param is in omega (arith, e)
+
+  array_within : (types : List Type_) (array : ℕ) → is_array_at types array ≡ true → array < length types
+  array_within [] array is = cc
+  array_within (ty ∷ types) zero is = omega arith
+  array_within (ty ∷ types) (suc array) is = let e = array_within types array is in omega (arith, e)
+
+  -- a load at an index within the array is done, and one of no array stops the run
+  load_well : (slots : List Held) (does : Op) (items : List Item) (target array index : ℕ) (ty : Type_) (n : ℤ) (held : Held) → does.kind ≡ op.Load target array index ty
+      → value_at slots array ≡ held → int_at slots index ≡ n → pos 0 ≤ℤ n → n <ℤ size_of heap held → ((next : List Held) → Ends items next) → Ends (item.Do does ∷ items) slots
+  load_well slots does items target array index ty n (At object) kind_is array_is index_is low high go =
+      let fits : is_within n (length (array_at heap object)) ≡ true = is_within_true n (length (array_at heap object)) low high in
+      done_well does items slots (slice_set slots target (value_at (array_at heap object) (unsigned_abs n))) (ap (operate limits tables does.span.from slots heap) kind_is ∙ (rw (array_is, index_is, fits) refl))
+      (go (slice_set slots target (value_at (array_at heap object) (unsigned_abs n))))
+  load_well slots does items target array index ty n (Num m) kind_is array_is index_is low high go =
+      stopped_well does items slots (NullUsed does.span.from) (ap (operate limits tables does.span.from slots heap) kind_is ∙ (rw array_is refl)) (λ b. b)
+  load_well slots does items target array index ty n (Boolean answer) kind_is array_is index_is low high go =
+      stopped_well does items slots (NullUsed does.span.from) (ap (operate limits tables does.span.from slots heap) kind_is ∙ (rw array_is refl)) (λ b. b)
+  load_well slots does items target array index ty n Null kind_is array_is index_is low high go =
+      stopped_well does items slots (NullUsed does.span.from) (ap (operate limits tables does.span.from slots heap) kind_is ∙ (rw array_is refl)) (λ b. b)
+
+  module _ (even : length method.params ≡ length method.param_types) (typed : HaveTypes inputs method.param_types) (meets : Meets method inputs) where
+    counted : length (input_values 0 inputs) ≡ length method.param_types
+    counted = values_count program 0 inputs ∙ inputs_count program inputs method.param_types typed
+
+    first_value : (place : ℕ) → place < length method.param_types → value_at first_slots place ≡ value_at (input_values 0 inputs) place
+    first_value place within =
+        front_value (input_values 0 inputs) (replicate (method.slots - length (input_values 0 inputs)) (Num (pos 0))) place (let c = counted in omega (arith, within, c))
+
+    access_well : (origins : Origins) (slots : List Held) (does : Op) (items : List Item) (target array index : ℕ) (ty : Type_) (param : ℕ) → does.kind ≡ op.Load target array index ty
+        → Ready origins slots → is_array_at method.param_types array ≡ true → origin_at origins index ≡ Some param → access_errors (claims_at method.params param) array does.span ≡ []
+        → ((next : List Held) → Ends items next) → Ends (item.Do does ∷ items) slots
+    access_well origins slots does items target array index ty param kind_is ready is_array from none go =
+        let claims = claims_shown (claims_at method.params param) array does.span none in
+        let met = met_at inputs method.params method.param_types (input_names inputs) param even typed meets in
+        let low = low_met (claims_at method.params param) (reading_in (slice_get inputs param)) (input_names inputs) claims.0 met in
+        let high = high_met array (claims_at method.params param) (reading_in (slice_get inputs param)) (input_names inputs) claims.1 met in
+        let param_in = claimed_within method.params param claims.0 in
+        let array_in = array_within method.param_types array is_array in
+        let index_value : value_at slots index ≡ value_at (input_values 0 inputs) param = ready.held index param from ∙ first_value param (omega (arith, param_in, even)) in
+        let array_value : value_at slots array ≡ value_at (input_values 0 inputs) array = ready.params array array_in ∙ first_value array array_in in
+        let int_is : int_at slots index ≡ (reading_in (slice_get inputs param)).int =
+        ap int_of index_value ∙ ap (λ r. r.int) (values_read inputs method.param_types typed param) in
+        let size_is : (reading_in (slice_get inputs array)).size ≡ size_of heap (value_at slots array) =
+        sym (ap (size_of heap) array_value ∙ ap (λ r. r.size) (values_read inputs method.param_types typed array)) in
+        load_well slots does items target array index ty (reading_in (slice_get inputs param)).int (value_at slots array) kind_is refl int_is low
+        (subst (λ (size : ℤ). (reading_in (slice_get inputs param)).int <ℤ size) size_is high) go
+
+    does_load : (origins : Origins) (slots : List Held) (does : Op) (items : List Item) (kind : OpKind) → does.kind ≡ kind → load_errors method origins kind does.span ≡ Some [] → Ready origins slots
+        → ((next : List Held) → Ends items next) → Ends (item.Do does ∷ items) slots
+    does_load origins slots does items (op.Load target array index ty) kind_is is ready go =
+        let parts = guarded (is_behind_params method target && is_array_at method.param_types array) (index_errors method array does.span (origin_at origins index)) [] is in
+        let from = index_shown array does.span (origin_at origins index) parts.1 in
+        access_well origins slots does items target array index ty from.0 kind_is ready (both (is_behind_params method target) (is_array_at method.param_types array) parts.0).1 from.1 from.2 go
+    does_load origins slots does items (op.Copy target source ty) kind_is is ready go = cc
+    does_load origins slots does items (op.Const target value) kind_is is ready go = cc
+    does_load origins slots does items (op.Num target arith left right) kind_is is ready go = cc
+    does_load origins slots does items (op.Unary target unary operand) kind_is is ready go = cc
+    does_load origins slots does items (op.Length target array) kind_is is ready go = cc
+    does_load origins slots does items (op.NewArray target ty size) kind_is is ready go = cc
+    does_load origins slots does items (op.Fill target ty entries) kind_is is ready go = cc
+    does_load origins slots does items (op.Store array index value ty) kind_is is ready go = cc
+    does_load origins slots does items (op.ReadField target object field) kind_is is ready go = cc
+    does_load origins slots does items (op.WriteField object field value) kind_is is ready go = cc
+    does_load origins slots does items (op.NewObject call) kind_is is ready go = cc
+    does_load origins slots does items (op.StaticCall call) kind_is is ready go = cc
+    does_load origins slots does items (op.InstanceCall call) kind_is is ready go = cc
+    does_load origins slots does items (op.SuperCall call) kind_is is ready go = cc
+    does_load origins slots does items (op.Print value) kind_is is ready go = cc
+
+    -- what follows the copies ends well
+    end_well : (origins : Origins) (slots : List Held) (items : List Item) → end_errors method origins items ≡ Some [] → Ready origins slots → Ends items slots
+    end_well origins slots [] is ready = cc
+    end_well origins slots (item.Return (Some slot) span ∷ []) is ready = returns_well slot span slots
+    end_well origins slots (item.Return (Some slot) span ∷ more ∷ items) is ready = cc
+    end_well origins slots (item.Return None span ∷ items) is ready = cc
+    end_well origins slots (item.Do does ∷ []) is ready = cc
+    end_well origins slots (item.Do does ∷ item.Return (Some slot) span ∷ []) is ready = does_load origins slots does (item.Return (Some slot) span ∷ []) does.kind refl is ready (λ next. returns_well slot span next)
+    end_well origins slots (item.Do does ∷ item.Return (Some slot) span ∷ more ∷ items) is ready = cc
+    end_well origins slots (item.Do does ∷ item.Return None span ∷ items) is ready = cc
+    end_well origins slots (item.Do does ∷ item.Do other ∷ items) is ready = cc
+    end_well origins slots (item.Do does ∷ item.If' asked shape_then first shape_else second ∷ items) is ready = cc
+    end_well origins slots (item.Do does ∷ item.Break ∷ items) is ready = cc
+    end_well origins slots (item.Do does ∷ item.Continue ∷ items) is ready = cc
+    end_well origins slots (item.Do does ∷ item.Throw name span ∷ items) is ready = cc
+    end_well origins slots (item.Do does ∷ item.Loop' test_first asked shape_body body shape_next next number scope ∷ items) is ready = cc
+    end_well origins slots (item.If' asked shape_then first shape_else second ∷ items) is ready = cc
+    end_well origins slots (item.Break ∷ items) is ready = cc
+    end_well origins slots (item.Continue ∷ items) is ready = cc
+    end_well origins slots (item.Throw name span ∷ items) is ready = cc
+    end_well origins slots (item.Loop' test_first asked shape_body body shape_next next number scope ∷ items) is ready = cc
+
+    rest_well : (origins : Origins) (slots : List Held) (items : List Item) → rest_errors method origins items ≡ Some [] → Ready origins slots → Ends items slots
+    rest_well origins slots [] is ready = cc
+    rest_well origins slots (this ∷ items) is ready = elim (either (is_copy method this)) [
+      | inl copy ↦ copy_well origins slots this items copy ready (λ next after. rest_well (after_copy origins this) next items (let e : rest_errors method (after_copy origins this) items ≡ Some [] = rw copy at is in e) after)
+      | inr other ↦ end_well origins slots (this ∷ items) (let e : end_errors method origins (this ∷ items) ≡ Some [] = rw other at is in e) ready
+    ]
+
+    -- every run of the method ends well
+    pub runs_well : method_at program number ≡ method → rest_errors method (first_origins method) method.body.items ≡ Some [] → (steps : ℕ) → IsBad (run limits tables steps (start program number inputs)).ended → ⊥
+    runs_well is none steps bad =
+        rest_well (first_origins method) first_slots method.body.items none first_ready steps (subst (λ (s : State). IsBad (run limits tables steps s).ended) (starts is) bad)

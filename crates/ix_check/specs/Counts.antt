@@ -1,18 +1,11 @@
--- What an accepted source is counted by: its methods, of which the first form has one, and its array accesses.
-use Rattle.std.specs.Prelude.{ℕ, Option, option_map}
-use Rattle.ix_tree.specs.declared.decl.Unit.{Unit as Source}
-use Rattle.ix_check.specs.declared.check_source.Counts.{Counts}
-use Rattle.ix_check.specs.declared.form.Form.{Form}
-use Rattle.ix_check.specs.declared.form.Value.{Value}
-use Rattle.ix_check.specs.declared.form.Value.TheVariants.{Variable, Access}
-use Rattle.ix_check.specs.Form.{form_of}
+-- What an accepted program is counted by: the methods that are written, and the array accesses.
+use Rattle.std.specs.Prelude.{ℕ, List, count_by}
+use Rattle.ix_core.specs.declared.program.Method.{Method}
+use Rattle.ix_core.specs.declared.program.Program.{Program}
+use Rattle.ix_check.specs.declared.check.Counts.{Counts}
 
-abbrev pub accesses_in : Value → ℕ
-accesses_in (Variable name span) = 0
-accesses_in (Access array index span whole) = 1
+abbrev pub written_in : List Method → ℕ
+written_in methods = count_by (λ method. method.written) methods
 
-abbrev pub counts_in : Form → Counts
-counts_in form = record { methods = 1; accesses = accesses_in form.value }
-
-abbrev pub counts_of : Source → Option Counts
-counts_of source = option_map counts_in (form_of source)
+abbrev pub counts_of : Program → Counts
+counts_of program = record { methods = written_in program.methods; accesses = program.accesses }

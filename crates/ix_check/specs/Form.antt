@@ -1,192 +1,85 @@
--- What a source of the first form says: one class with one static method, whose locals copy ints and whose value is a variable or one
--- array access. A tree that shows none has another form.
-use Rattle.std.specs.Prelude.{ℕ, Bool, true, false, not, ◌&&◌, ◌==◌, if◌then◌else◌, List, [], ◌∷◌, Option, Some, None, option_map, option_and_then, is_none, bytes_eq, codes, length, take, slice_get, ◌-◌}
-use Rattle.ix_text.specs.declared.span.Span.{Span}
-use Rattle.ix_tree.specs.declared.annot.Annot.{Annot}
-use Rattle.ix_tree.specs.declared.annot.AnnotArg.{AnnotArg}
-use Rattle.ix_tree.specs.declared.annot.AnnotValue.{AnnotValue}
-use Rattle.ix_tree.specs.declared.annot.AnnotValue.TheVariants.{Texts, Number, Truth}
-use Rattle.ix_tree.specs.declared.annot.BaseTree.{BaseTree}
-use Rattle.ix_tree.specs.declared.annot.BaseTree.TheVariants as base
-use Rattle.ix_tree.specs.declared.annot.Ident.{Ident}
-use Rattle.ix_tree.specs.declared.annot.Mods.{Mods}
-use Rattle.ix_tree.specs.declared.annot.TypeTree.{TypeTree}
-use Rattle.ix_tree.specs.declared.decl.ClassDecl.{ClassDecl}
-use Rattle.ix_tree.specs.declared.decl.LocalDecl.{LocalDecl}
-use Rattle.ix_tree.specs.declared.decl.Member.{Member}
-use Rattle.ix_tree.specs.declared.decl.Member.TheVariants.{Field, Method}
-use Rattle.ix_tree.specs.declared.decl.MethodDecl.{MethodDecl}
-use Rattle.ix_tree.specs.declared.decl.Unit.{Unit as Source}
-use Rattle.ix_tree.specs.declared.expr.Expr.{Expr}
-use Rattle.ix_tree.specs.declared.expr.ExprKind.{ExprKind, ExprKind-F, out-ExprKind}
-use Rattle.ix_tree.specs.declared.expr.Init.{Init, Init-F, out-Init}
-use Rattle.ix_tree.specs.declared.stmt.Stmt.{Stmt}
-use Rattle.ix_tree.specs.declared.stmt.StmtKind.{StmtKind, StmtKind-F, out-StmtKind}
-use Rattle.ix_check.specs.declared.form.Form.{Form}
-use Rattle.ix_check.specs.declared.form.Local.{Local}
-use Rattle.ix_check.specs.declared.form.Mark.{Mark}
-use Rattle.ix_check.specs.declared.form.Mark.TheVariants.{NonNegative, LtLengthOf, IndexFor}
-use Rattle.ix_check.specs.declared.form.Param.{Param}
-use Rattle.ix_check.specs.declared.form.Value.{Value}
-use Rattle.ix_check.specs.declared.form.Value.TheVariants.{Variable, Access}
-
--- ---- annotations and parameters
-
--- the one string of an annotation's argument that has no name before it
-abbrev pub only : {A : Type 0} → List A → Option A
-only [] = None
-only (x ∷ []) = Some x
-only (x ∷ more ∷ rest) = None
-
-abbrev pub only_text : AnnotValue → Option (List ℕ)
-only_text (Texts texts) = only texts
-only_text (Number n) = None
-only_text (Truth b) = None
-
-abbrev pub arg_text : AnnotArg → Option (List ℕ)
-arg_text arg = if is_none arg.name then only_text arg.value else None
-
-abbrev pub mark_with : List ℕ → List ℕ → Option Mark
-mark_with name text =
-    if bytes_eq name (codes "LTLengthOf") then Some (LtLengthOf text)
-    else if bytes_eq name (codes "IndexFor") then Some (IndexFor text)
-    else None
-
-abbrev pub mark_by : List ℕ → List AnnotArg → Option Mark
-mark_by name [] = if bytes_eq name (codes "NonNegative") then Some NonNegative else None
-mark_by name (arg ∷ []) = option_and_then (mark_with name) (arg_text arg)
-mark_by name (arg ∷ more ∷ rest) = None
-
-abbrev pub mark_of : Annot → Option Mark
-mark_of annot = mark_by annot.name.text annot.args
-
--- what each of a list says, where each says something
-abbrev pub each_of : {A B : Type 0} → (A → Option B) → List A → Option (List B)
-each_of decode [] = Some []
-each_of decode (x ∷ xs) = option_and_then (λ y. option_map (λ ys. y ∷ ys) (each_of decode xs)) (decode x)
+-- The form of the programs that are judged so far: there are no fields and no parents, and each method that is written is static, takes ints and arrays of ints, and
+-- answers an int. Of claims there are two: that an int is at least 0, and that it is below an array parameter's length.
+use Rattle.std.specs.Prelude.{ℕ, pos, Bool, true, false, not, ◌&&◌, ◌||◌, ◌==◌, if◌then◌else◌, List, [], ◌∷◌, Option, Some, None, is_none, slice_get}
+use Rattle.std.specs.List.{list_all}
+use Rattle.std.specs.Ordering.{int_eq}
+use Rattle.ix_core.specs.declared.claim.Base.TheVariants as base
+use Rattle.ix_core.specs.declared.claim.Claim.{Claim}
+use Rattle.ix_core.specs.declared.claim.Claim.TheVariants.{Low, Upper}
+use Rattle.ix_core.specs.declared.claim.Name.TheVariants.{Param}
+use Rattle.ix_core.specs.declared.claim.Off.TheVariants.{Nothing}
+use Rattle.ix_core.specs.declared.claim.Type_.{Type_}
+use Rattle.ix_core.specs.declared.claim.Type_.TheVariants.{Array}
+use Rattle.ix_core.specs.declared.program.Local.{Local as Variable}
+use Rattle.ix_core.specs.declared.program.Method.{Method}
+use Rattle.ix_core.specs.declared.program.Program.{Program}
+use Rattle.ix_core.specs.Types.{is_int_type}
 
 abbrev pub is_empty : {A : Type 0} → List A → Bool
 is_empty [] = true
 is_empty (x ∷ xs) = false
 
-abbrev pub is_int_base : BaseTree → Bool
-is_int_base base.Int = true
-is_int_base _ = false
+-- ---- claims
 
--- int, or an array of int
-abbrev pub is_int : ℕ → TypeTree → Bool
-is_int depth ty = is_int_base ty.base && (is_empty ty.annots && ty.depth == depth)
+-- `@NonNegative`: at least 0 (Checker Framework manual, Index Checker, "Lower bounds")
+abbrev pub claims_low : Claim → Bool
+claims_low (Low low) = int_eq low (pos 0)
+claims_low _ = false
 
--- no modifier but that one, if any
-abbrev pub is_plain : Bool → Mods → Bool
-is_plain is_static mods = (if is_static then mods.is_static else not mods.is_static) && (not mods.is_final && not mods.is_private)
+-- `@LTLengthOf`: below the length of the parameter of that number (Checker Framework manual, Index Checker, "Upper bounds")
+abbrev pub claims_high : ℕ → Claim → Bool
+claims_high array (Upper (Param number) Nothing constant) = number == array && int_eq constant (pos 0)
+claims_high array _ = false
 
-abbrev pub param_with : List ℕ → Bool → Option (List Mark) → Option Param
-param_with name is_array marks = option_map (λ ms. record { name = name; is_array = is_array; marks = ms }) marks
+-- ---- parameters
 
-abbrev pub param_of : LocalDecl → Option Param
-param_of decl =
-    if is_plain false decl.mods && is_none decl.init
-    then if is_int 0 decl.ty then param_with decl.name.text false (each_of mark_of decl.mods.annots)
-    else if is_int 1 decl.ty && is_empty decl.mods.annots then param_with decl.name.text true (Some [])
-    else None
-    else None
+-- an array of ints, without claims on its elements
+abbrev pub is_int_array : Type_ → Bool
+is_int_array (Array base.Int depth element) = depth == 1 && is_empty element
+is_int_array _ = false
 
--- ---- expressions and statements
+abbrev pub is_int_array_in : Option Type_ → Bool
+is_int_array_in None = false
+is_int_array_in (Some ty) = is_int_array ty
 
-abbrev pub name_in : ExprKind-F ExprKind Init Expr → Option Ident
-name_in (ExprKind-F.Name name) = Some name
-name_in _ = None
+-- the parameter of that number is an array of ints
+abbrev pub is_array_at : List Type_ → ℕ → Bool
+is_array_at types number = is_int_array_in (slice_get types number)
 
-abbrev pub name_of : Expr → Option Ident
-name_of expr = name_in (out-ExprKind expr.kind)
+abbrev pub claims_high_of_any : List Type_ → Claim → Bool
+claims_high_of_any types (Upper (Param number) Nothing constant) = is_array_at types number && int_eq constant (pos 0)
+claims_high_of_any types _ = false
 
-abbrev pub access_of : Expr → Expr → Span → Option Value
-access_of array index whole = option_and_then (λ a. option_map (λ i. Access a.text i.text index.span whole) (name_of index)) (name_of array)
+-- of the two claims one, where parameters have these types
+abbrev pub is_claim : List Type_ → Claim → Bool
+is_claim types claim = claims_low claim || claims_high_of_any types claim
 
-abbrev pub value_in : Span → ExprKind-F ExprKind Init Expr → Option Value
-value_in span (ExprKind-F.Name name) = Some (Variable name.text span)
-value_in span (ExprKind-F.Index array index) = access_of array index span
-value_in span _ = None
+-- an int with such claims, or an array of ints without any
+abbrev pub is_param : List Type_ → Type_ → List Claim → Bool
+is_param types ty claims = if is_int_type ty then list_all (is_claim types) claims else (is_int_array ty && is_empty claims)
 
-abbrev pub value_of : Expr → Option Value
-value_of expr = value_in expr.span (out-ExprKind expr.kind)
+abbrev pub are_params : List Type_ → List Variable → List Type_ → Bool
+are_params all [] [] = true
+are_params all (param ∷ params) (ty ∷ types) = is_param all ty param.claims && are_params all params types
+are_params all _ _ = false
 
-abbrev pub init_in : Init-F ExprKind Init Expr → Option Ident
-init_in (Init-F.Value expr) = name_of expr
-init_in (Init-F.Items items span) = None
+-- ---- methods and classes
 
-abbrev pub init_of : Init → Option Ident
-init_of init = init_in (out-Init init)
+-- static, from such parameters to an int; neither the result nor a local has claims
+abbrev pub has_plain_head : Method → Bool
+has_plain_head method =
+    method.is_static
+    && (not method.constructor
+    && (is_none method.overrides
+    && (is_int_type method.result
+    && (is_empty method.result_claims
+    && (list_all (λ local. is_empty local.0.claims) method.locals
+    && are_params method.param_types method.params method.param_types)))))
 
-abbrev pub decl_init : LocalDecl → Option Ident
-decl_init decl = option_and_then init_of decl.init
+-- the constructor of a class that has none written (JLS 8.8.9); it has nothing to do
+abbrev pub is_idle_constructor : Method → Bool
+is_idle_constructor method = method.constructor && (not method.is_static && is_empty method.body.items)
 
-abbrev pub local_with : Ident → Ident → Local
-local_with name init = record { name = name.text; name_span = name.span; init = init.text; init_span = init.span }
-
-abbrev pub local_of_decl : LocalDecl → Option Local
-local_of_decl decl =
-    if is_plain false decl.mods && (is_empty decl.mods.annots && is_int 0 decl.ty)
-    then option_map (local_with decl.name) (decl_init decl)
-    else None
-
-abbrev pub local_in : StmtKind-F StmtKind Stmt → Option Local
-local_in (StmtKind-F.Local decls) = option_and_then local_of_decl (only decls)
-local_in _ = None
-
-abbrev pub local_of : Stmt → Option Local
-local_of stmt = local_in (out-StmtKind stmt.kind)
-
-abbrev pub returned_in : StmtKind-F StmtKind Stmt → Option Value
-returned_in (StmtKind-F.Return value) = option_and_then value_of value
-returned_in _ = None
-
-abbrev pub returned_of : Stmt → Option Value
-returned_of stmt = returned_in (out-StmtKind stmt.kind)
-
--- ---- methods, classes and sources
-
--- all statements but the last are locals, and the last one returns the value
-abbrev pub body_of : List Stmt → Option (List Local × Value)
-body_of statements =
-    option_and_then (λ locals. option_map (λ value. (locals, value)) (option_and_then returned_of (slice_get statements (length statements - 1))))
-    (each_of local_of (take (length statements - 1) statements))
-
-abbrev pub is_int_result : Option TypeTree → Bool
-is_int_result (Some ty) = is_int 0 ty
-is_int_result None = false
-
-abbrev pub form_with : Ident → MethodDecl → List Param → List Local × Value → Form
-form_with class decl params body = record {
-  class = class.text;
-  class_span = class.span;
-  method = decl.name.text;
-  method_span = decl.name.span;
-  end = decl.span.to;
-  params = params;
-  locals = body.0;
-  value = body.1;
-}
-
--- static int, and no more
-abbrev pub is_plain_head : MethodDecl → Bool
-is_plain_head decl =
-    is_plain true decl.mods && (is_empty decl.mods.annots && (is_int_result decl.result && (not decl.constructor && is_none decl.parent_args)))
-
-abbrev pub method_form : Ident → MethodDecl → Option Form
-method_form class decl =
-    if is_plain_head decl
-    then option_and_then (λ params. option_map (form_with class decl params) (body_of decl.body)) (each_of param_of decl.params)
-    else None
-
-abbrev pub member_form : Ident → Member → Option Form
-member_form class (Method decl) = method_form class decl
-member_form class (Field decl) = None
-
-abbrev pub class_form : ClassDecl → Option Form
-class_form class = if is_none class.parent then option_and_then (member_form class.name) (only class.members) else None
-
--- what the source says, where it has the first form
-abbrev pub form_of : Source → Option Form
-form_of source = option_and_then class_form (only source.classes)
+-- no field, and no class that extends another
+abbrev pub has_plain_classes : Program → Bool
+has_plain_classes program = is_empty program.fields && list_all (λ class. is_none class.parent) program.classes

@@ -1,7 +1,4 @@
 pub mod Form
-pub mod Conditions
+pub mod Origins
 pub mod Rules
 pub mod Counts
-pub mod Plain
-pub mod Promise
-pub mod Decoding

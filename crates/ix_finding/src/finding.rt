@@ -1,5 +1,6 @@
 //! What the bytes of a file turn out to be.
 ghost use Rattle.std.specs.Prelude.{◌≡◌, ◌≤◌, length, option_map, drop, IfOk};
+ghost use Rattle.ix_core.specs.Formed.{Formed};
 ghost use Rattle.ix_lexer.specs.Spans.{InOrder};
 ghost use Rattle.ix_meaning.specs.Resolved.{Accepts, names};
 ghost use Rattle.ix_table.specs.Numbered.{shown};
@@ -9,7 +10,7 @@ ghost use Rattle.ix_parsed.specs.IntTokens.{HaveInts};
 ghost use Rattle.ix_finding.specs.Found as spec;
 ghost use Rattle.ix_finding.specs.Findings.{seen, judged, IsPlaced, HasFormed};
 
-use ix_check::{Counts, UnitError, check_unit, count_unit};
+use ix_check::{CheckError, Counts, check_program, count_program};
 use ix_core::{Error, Program};
 use ix_lexer::{LexError, Token, lex};
 use ix_lower::{LowerError, lower};
@@ -22,7 +23,7 @@ use ix_text::List;
 use ix_tree::Unit;
 use std::alloc::{AllocError, Global};
 
-/// What the rules say of a source without errors on names.
+/// What the rules say of the program of a source without errors on names.
 #[derive(Drop)]
 pub enum Judgement {
     /// It is of a form that isn't judged yet.
@@ -42,7 +43,7 @@ pub enum Finding {
     Past(u32, &'static str),
     /// Errors on names, types and annotations, as they are listed.
     Misnamed(List<NameError>),
-    /// A source without these: what the rules say of it, and its plain form.
+    /// A source without these: what the rules say of its program, and the program.
     Whole(Judgement, Program),
 }
 
@@ -88,19 +89,15 @@ fn of_parse_error(tokens: &[Token], end: u32, why: ParseError) -> Option<Finding
     }
 }
 
-/// What the rules say of a source without errors on names.
-fn judge(alloc: Global, unit: &Unit) -> Result<Judgement, AllocError>
-    ensures { IfOk result (λ said. judged said ≡ spec.judgement unit.now) }
+/// What the rules say of the program of a source without errors on names.
+fn judge(alloc: Global, program: &Program) -> Result<Judgement, AllocError>
+    requires formed { Formed program.now }
+    ensures { IfOk result (λ said. judged said ≡ spec.judgement program.now) }
 {
-    let counts = match count_unit(alloc, unit) {
-        Ok(counts) => counts,
-        Err(UnitError::Unbuilt) => return Ok(Judgement::NotBuilt),
-        Err(UnitError::Memory) => return Err(AllocError),
-    };
-    match check_unit(alloc, unit) {
-        Ok(errors) => Ok(Judgement::Judged(counts, errors)),
-        Err(UnitError::Unbuilt) => Ok(Judgement::NotBuilt),
-        Err(UnitError::Memory) => Err(AllocError),
+    match check_program(alloc, program) {
+        Ok(errors) => Ok(Judgement::Judged(count_program(program), errors)),
+        Err(CheckError::Unbuilt) => Ok(Judgement::NotBuilt),
+        Err(CheckError::Memory) => Err(AllocError),
     }
 }
 
@@ -125,12 +122,13 @@ fn of_lower_error(end: u32, why: LowerError) -> Option<Finding>
     }
 }
 
-/// What a source with that plain form is.
-fn of_program(alloc: Global, unit: &Unit, program: Program) -> Result<Finding, AllocError>
-    ensures found { IfOk result (λ finding. seen finding ≡ spec.Whole (spec.judgement unit.now) program) }
+/// What a source with that program is.
+fn of_program(alloc: Global, program: Program) -> Result<Finding, AllocError>
+    requires formed { Formed program }
+    ensures found { IfOk result (λ finding. seen finding ≡ spec.Whole (spec.judgement program) program) }
     ensures placed { IfOk result (λ finding. IsPlaced 0 (seen finding)) }
 {
-    match judge(alloc, unit) {
+    match judge(alloc, &program) {
         Ok(judgement) => Ok(Finding::Whole(judgement, program)),
         Err(_) => Err(AllocError),
     }
@@ -148,7 +146,7 @@ fn of_lowered(alloc: Global, unit: &Unit, table: &Table, end: u32) -> Result<Fin
     ensures formed { IfOk result (λ finding. HasFormed (seen finding)) }
 {
     match lower(alloc, unit, table) {
-        Ok(program) => of_program(alloc, unit, program),
+        Ok(program) => of_program(alloc, program),
         Err(why) => match of_lower_error(end, why) {
             Some(finding) => Ok(finding),
             None => Err(AllocError),

@@ -1,20 +1,20 @@
 -- What is right of an answer, and that nothing else is.
-use Rattle.std.proofs.Common.{◌≡◌, ◌≢◌, ◌⊎◌, inl, inr, ℕ, ◌<◌, ◌≤◌, true, false, List, [], ◌∷◌, Option, Some, None, Result, Ok, Err, length, take, ap, sym, subst, ◌∙◌, refl, arith}
+use Rattle.std.proofs.Common.{◌≡◌, ◌≢◌, inl, inr, ℕ, ◌<◌, true, false, List, [], ◌∷◌, Option, Some, None, Result, Ok, Err, length, take, ap, sym, subst, ◌∙◌, refl, arith}
 use Rattle.std.proofs.lemmas.List.{length-take}
 use Rattle.ix_core.specs.declared.error.Error.{Error}
 use Rattle.ix_core.specs.declared.program.Program.{Program}
 use Rattle.ix_core.specs.Machine.{State, Ending}
 use Rattle.ix_core.specs.Machine as ending
-use Rattle.ix_check.specs.declared.check_source.Counts.{Counts}
+use Rattle.ix_check.specs.declared.check.Counts.{Counts}
 use Rattle.ix_check.specs.Rules.{errors_of}
 use Rattle.ix_check.specs.Counts.{counts_of}
-use Rattle.ix_check.specs.Promise.{IsSafe}
+use Rattle.ix_core.specs.declared.fact.Profile.{Profile}
+use Rattle.ix_core.specs.Safe.{Safe}
 use Rattle.ix_lexer.specs.declared.token.LexError.{LexError}
 use Rattle.ix_lexer.specs.declared.token.LexError.TheVariants as lexical
 use Rattle.ix_lexer.specs.declared.token.Token.{Token}
 use Rattle.ix_grammar.specs.declared.error.ParseError.{ParseError}
 use Rattle.ix_grammar.specs.declared.error.ParseError.TheVariants as syntax
-use Rattle.ix_tree.specs.declared.decl.Unit.{Unit as Source}
 use Rattle.ix_machine.specs.declared.start.StartError.{StartError}
 use Rattle.ix_machine.proofs.OneStart.{starts_one}
 use Rattle.ix_outside.specs.Outside.{Files, bytes_under}
@@ -26,12 +26,12 @@ use Rattle.ix_words.specs.declared.values.Sums.{Sums}
 use Rattle.ix_words.specs.Words.{Text}
 use Rattle.ix_words.specs.Commands.{Command, Check, Run, Bench}
 use Rattle.ix_answer.specs.declared.status.Status.{Status}
-use Rattle.ix_answer.specs.declared.status.Status.TheVariants.{Done, Rejected, Usage, Limit, WriteFault, Memory}
+use Rattle.ix_answer.specs.declared.status.Status.TheVariants.{Done, Rejected, Limit}
 use Rattle.ix_answer.specs.Statuses.{is_answer}
-use Rattle.ix_answer.specs.Answer.{Answer, out_answer, err_answer}
+use Rattle.ix_answer.specs.Answer.{Answer, out_answer}
 use Rattle.ix_finding.specs.Found.{Finding, TooLong, Broken, Past, Misnamed, Whole, Judgement, NotBuilt, Judged, judged_by, judgement, Found, too_long, no_tokens, lexed, no_tree, tree, passes_limit, misnames, inherits, too_big, named, of_lex_error, of_parse_error}
-use Rattle.ix_tool.specs.Runs.{RunAnswers, start_answer, run_answer, status_of}
-use Rattle.ix_tool.specs.Answers.{usage, Answers, IsVerdict, AnswersOn, AnswersWhole, verdict, check_answer, bench_verdict, bench_answer, source_bytes, source_name, file_in, file_of}
+use Rattle.ix_tool.specs.Runs.{RunAnswers, start_answer, status_of}
+use Rattle.ix_tool.specs.Answers.{IsVerdict, AnswersOn, AnswersWhole, verdict, check_answer, bench_verdict, bench_answer, source_bytes, file_in}
 use Rattle.ix_tool.specs.Ends.{bytes_of, SafeBytes}
 use Rattle.ix_answer.specs.Delivery.{IsOnly}
 use Rattle.ix_run.specs.Ends.{end_of}
@@ -146,17 +146,16 @@ other_status result other so not_so same = cc (ap is_answer same)
 -- ---- what is accepted
 
 abbrev pub Law : Type 0
-Law = (source : Source) → errors_of source ≡ Some [] → IsSafe source
+Law = (program : Program) → errors_of program ≡ Some [] → (profile : Profile) → Safe program profile
 
 verdict_done : (file bytes : List ℕ) (counts : Counts) (errors : List Error) → (verdict file bytes counts errors).status ≡ Done → errors ≡ []
 verdict_done file bytes counts [] done = refl
 verdict_done file bytes counts (error ∷ errors) done = absurd (cc)
 
 -- what is accepted has no errors
-judged_done : (file bytes : List ℕ) (counts : Option Counts) (errors : Option (List Error)) → (check_answer file bytes (judged_by counts errors)).status ≡ Done → errors ≡ Some []
-judged_done file bytes (Some counts) (Some errors) done = ap (λ (e : List Error). Some e) (verdict_done file bytes counts errors done)
-judged_done file bytes (Some counts) None done = absurd (cc)
-judged_done file bytes None errors done = absurd (cc)
+judged_done : (file bytes : List ℕ) (counts : Counts) (errors : Option (List Error)) → (check_answer file bytes (judged_by counts errors)).status ≡ Done → errors ≡ Some []
+judged_done file bytes counts (Some errors) done = ap (λ (e : List Error). Some e) (verdict_done file bytes counts errors done)
+judged_done file bytes counts None done = absurd (cc)
 
 status_is : (one other : Answer) → one ≡ other → one.status ≡ other.status
 status_is one other is = ap (λ (a : Answer). a.status) is
@@ -198,7 +197,11 @@ found_safe law sums file bytes _ answer (lexed tokens short lexing few (tree sou
   lexed = lexing;
   source = source;
   parsed = has;
-  safe = law source (judged_done file bytes (counts_of source) (errors_of source) (sym (status_is answer (check_answer file bytes (judgement source)) on) ∙ done));
+  safe = record {
+    program = made;
+    plain = is;
+    safe = law made (judged_done file bytes (counts_of made) (errors_of made) (sym (status_is answer (check_answer file bytes (judgement made)) on) ∙ done));
+  };
 }
 
 -- an answer of `check` that accepts is of bytes that are safe

@@ -1,9 +1,9 @@
 -- What an obeyed command leaves is what a call of the tool promises.
-use Rattle.std.proofs.Common.{◌≡◌, ◌≢◌, ◌⊎◌, inl, inr, ℕ, true, false, List, [], ◌∷◌, ◌++◌, append-nil, Option, Some, None, ap, sym, subst, ◌∙◌, refl, arith}
+use Rattle.std.proofs.Common.{◌≡◌, ◌≢◌, ◌⊎◌, inl, inr, ℕ, true, List, [], ◌++◌, append-nil, Option, Some, ap, sym, subst, ◌∙◌, refl}
 use Rattle.ix_answer.specs.declared.status.Status.{Status}
 use Rattle.ix_answer.specs.declared.status.Status.TheVariants.{Done, ReadFault, WriteFault, Memory}
 use Rattle.ix_answer.specs.Statuses.{is_answer}
-use Rattle.ix_answer.specs.Answer.{Answer, err_answer, out_of_memory}
+use Rattle.ix_answer.specs.Answer.{Answer, err_answer}
 use Rattle.ix_answer.specs.Delivery.{Sinks, Delivers, IsOnly, RoseOne}
 use Rattle.ix_answer.specs.Ends.{Texts, EndsWell, TookPart, TookWanted, TookNothing}
 use Rattle.ix_outside.specs.Outside.{Files, bytes_under, Rose, Took, TookPrefix}

@@ -2,7 +2,7 @@
 use Rattle.std.specs.Prelude.{◌≡◌, ℕ, List, [], ◌∷◌, ◌++◌, Option, Some, None, length, codes, decimal, option_and_then}
 use Rattle.ix_core.specs.declared.error.Error.{Error}
 use Rattle.ix_core.specs.declared.program.Program.{Program}
-use Rattle.ix_check.specs.declared.check_source.Counts.{Counts}
+use Rattle.ix_check.specs.declared.check.Counts.{Counts}
 use Rattle.ix_gen.specs.Workload.{workload}
 use Rattle.ix_name_report.specs.Texts.{misnamed}
 use Rattle.ix_report.specs.Texts.{line, accepted, rejected, broken, past_limit, past_bytes}
@@ -12,7 +12,6 @@ use Rattle.ix_words.specs.Commands.{Command, Check, Run, Bench}
 use Rattle.ix_answer.specs.Answer.{Answer, out_answer, err_answer}
 use Rattle.ix_finding.specs.Found.{Finding, TooLong, Broken, Past, Misnamed, Whole, Judgement, NotBuilt, Judged, Found}
 use Rattle.ix_tool.specs.Runs.{RunAnswers}
-use Rattle.ix_answer.specs.declared.status.Status.{Status}
 use Rattle.ix_answer.specs.declared.status.Status.TheVariants.{Done, Rejected, Usage, Limit, Unbuilt}
 
 -- ---- commands and files

@@ -4,7 +4,7 @@ use Rattle.ix_lexer.specs.declared.token.Token.{Token}
 use Rattle.ix_lexer.specs.Tokens.{Tokens}
 use Rattle.ix_tree.specs.declared.decl.Unit.{Unit as Source}
 use Rattle.ix_grammar.specs.Refusals.{HasTree}
-use Rattle.ix_check.specs.Promise.{IsSafe}
+use Rattle.ix_finding.specs.Promise.{IsSafe}
 use Rattle.ix_answer.specs.Ends.{Texts}
 use Rattle.ix_outside.specs.Outside.{Files, bytes_under, Rose, Took, TookPrefix}
 use Rattle.ix_tool.specs.Answers.{read_failed}
@@ -38,7 +38,7 @@ pub record TookUnread (IsSure : List ℕ → Type 0) (before after : ℕ) (named
   pub out : new.out ≡ old.out
   pub err : TookPrefix (read_failed unread.file) old.err new.err
 
--- The bytes are a source no run of whose program indexes outside an array or makes one of negative length.
+-- The bytes are a source whose program is safe: no run of it indexes outside an array or makes one of negative length.
 pub record SafeBytes (bytes : List ℕ) : Type 0 where
   pub tokens : List Token
   pub lexed : Tokens bytes tokens

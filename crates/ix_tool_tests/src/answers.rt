@@ -27,7 +27,19 @@ fn sources(rt: HostRuntime) -> Result<(), Fail> {
             "",
             UNBUILT,
         ),
-        ("", Status::Unbuilt, "", UNBUILT),
+        ("", Status::Done, "accepted: 0 methods, 0 accesses\n", ""),
+        (
+            "class A { static int f(int[] a, @IndexFor(\"a\") int i, int k) { int x = i; x = k; return a[x]; } } class B { static int g(int[] b, @LTLengthOf(\"b\") int i, int k) { int x = k; { int y = i; x = y; } return b[x]; } }",
+            Status::Rejected,
+            "A.java:1:91: access.low\nA.java:1:91: access.high\nA.java:1:206: access.low\nrejected: 3 errors\n",
+            "",
+        ),
+        (
+            "class A { static int f(int[] a, @Positive @LTLengthOf(\"a\") int i) { return a[i]; } }",
+            Status::Unbuilt,
+            "",
+            UNBUILT,
+        ),
         (
             "class A { static int low() { return 2147483648; } }",
             Status::Rejected,
@@ -69,9 +81,9 @@ fn sources(rt: HostRuntime) -> Result<(), Fail> {
 fn words(rt: HostRuntime) -> Result<(), Fail> {
     let rows: &[(&[&str], Status, &str)] = &[
         (
-            &["check", "B.java"],
-            Status::Unbuilt,
-            "B.java: not built yet\n",
+            &["run", "B.java", "A.f"],
+            Status::InputsRefused,
+            "inputs: no such entry\n",
         ),
         (&[], Status::Usage, USAGE),
         (&["check"], Status::Usage, USAGE),

@@ -1,10 +1,9 @@
-use Rattle.std.proofs.Common.{inl, sym, ap, subst, ◌∙◌, List, ℕ}
+use Rattle.std.proofs.Common.{inl, subst, ◌∙◌, List, ℕ}
 use Rattle.ix_words.specs.Shown.{shown}
-use Rattle.ix_tool.specs.Answers.{IsVerdict, source_bytes}
+use Rattle.ix_tool.specs.Answers.{IsVerdict}
 use Rattle.ix_answer.specs.Answer.{Answer}
 use Rattle.ix_answer.specs.Delivery.{IsOnly}
 use Rattle.ix_answer.proofs.Deliveries.{delivers_weaker}
-use Rattle.ix_tool.proofs.Obeyed.{Obeys}
 use Rattle.ix_tool.proofs.tool.obey.Goals as goal
 
 pub returns-in-Ok-clause-delivers : goal.returns-in-Ok-clause-delivers

@@ -1,4 +1,4 @@
-use Rattle.std.proofs.Common.{rules, ◌≡◌, Some, inl, inr, refl, sym, ap, ◌∙◌, ◌++◌}
+use Rattle.std.proofs.Common.{rules, ◌≡◌, Some, inl, inr, refl, ap, ◌∙◌, ◌++◌}
 use Rattle.ix_words.specs.Commands.{command_of}
 use Rattle.ix_words.specs.Shown.{shown, words_of}
 use Rattle.ix_tool.specs.Answers.{file_of}
