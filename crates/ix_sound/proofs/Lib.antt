@@ -1,1 +1,3 @@
 mod ChainMoves
+mod Stable
+mod NamedClaims
