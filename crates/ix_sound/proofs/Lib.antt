@@ -1,3 +1,4 @@
 mod ChainMoves
 mod Stable
 mod NamedClaims
+mod OperationsKeep

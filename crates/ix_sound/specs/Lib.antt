@@ -1,2 +1,4 @@
 -- From which stores the tasks of a frame have no error.
 pub mod Chain
+-- What has to be known of an operation.
+pub mod Shown
