@@ -2,3 +2,4 @@ mod ChainMoves
 mod Stable
 mod NamedClaims
 mod OperationsKeep
+mod FormedOperations

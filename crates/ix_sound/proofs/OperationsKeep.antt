@@ -24,7 +24,8 @@ use Rattle.ix_core.proofs.Kept.{all_on}
 use Rattle.ix_core.proofs.SlotSteps.{assign_keeps, read_keeps}
 use Rattle.ix_core.proofs.ArraySteps.{array_keeps, cell_keeps}
 use Rattle.ix_core.proofs.FieldSteps.{write_keeps}
-use Rattle.ix_sound.specs.Shown.{MayTake, Takes, Hides, Shown}
+use Rattle.ix_sound.specs.Clean.{Hides}
+use Rattle.ix_sound.specs.Shown.{MayTake, Takes, Shown}
 
 within : (n : ℤ) (size : ℕ) → pos 0 ≤ℤ n → n <ℤ pos size → is_within n size ≡ true
 within n size low high = grind (arith, ints, nat_tests)
@@ -128,7 +129,7 @@ module _ (world : World) (tables : IsWorld world) (limits : Limits) (place : ℕ
 
   -- ---- the operations
 
-  pub operation_keeps : (kind : OpKind) → Takes world method slots heap kind → Hides world method slots heap kind → Shown world method slots heap kind → Keeps (operate limits (tables_in world) place slots heap kind)
+  pub operation_keeps : (kind : OpKind) → Takes world method slots heap kind → Hides method kind → Shown world method slots heap kind → Keeps (operate limits (tables_in world) place slots heap kind)
   operation_keeps (op.Const t value) may hides shown = assigned t (literal_value value) may (literal_free value)
   operation_keeps (op.Copy t s ty) may hides shown = assigned t (value_at slots s) may (frame.free s hides)
   operation_keeps (op.Num t arith_op y z) may hides shown = result_kept t (exact_of arith_op (int_at slots y) (int_at slots z)) may

@@ -1,4 +1,5 @@
 -- From which stores the tasks of a frame have no error.
 pub mod Chain
 -- What has to be known of an operation.
+pub mod Clean
 pub mod Shown

@@ -28,14 +28,6 @@ module _ (world : World) (method : Method) (slots : List Held) (heap : Heap) whe
   Takes (op.ReadField t o f) = MayTake method slots t
   Takes _ = Unit {0}
 
-  -- the object that a constructor makes is given to nothing
-  abbrev pub Hides : OpKind → Type 0
-  Hides (op.Copy t s ty) = IsOwn method s → ⊥
-  Hides (op.Fill t ty entries) = (at entry : ℕ) → slice_get entries at ≡ Some entry → IsOwn method entry → ⊥
-  Hides (op.Store a i v ty) = IsOwn method v → ⊥
-  Hides (op.WriteField o f v) = IsOwn method v → ⊥
-  Hides _ = Unit {0}
-
   -- an index lies within the array
   abbrev pub IsInside : ℕ → ℕ → Type 0
   IsInside array index = (pos 0 ≤ℤ int_at slots index) × (int_at slots index <ℤ size_of heap (value_at slots array))
