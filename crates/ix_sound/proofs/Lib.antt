@@ -3,3 +3,4 @@ mod Stable
 mod NamedClaims
 mod OperationsKeep
 mod FormedOperations
+mod SuperMoves

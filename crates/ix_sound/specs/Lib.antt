@@ -3,3 +3,5 @@ pub mod Chain
 -- What has to be known of an operation.
 pub mod Clean
 pub mod Shown
+-- How far a constructor is.
+pub mod Supers
