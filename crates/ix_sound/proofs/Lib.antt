@@ -4,3 +4,5 @@ mod NamedClaims
 mod OperationsKeep
 mod FormedOperations
 mod SuperMoves
+mod Tracked
+mod StageMoves

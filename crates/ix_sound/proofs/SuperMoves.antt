@@ -79,6 +79,30 @@ super_ends true done rest tasks is ends = (refl, by_tasks tasks ends)
     by_tasks (Again asked body next more) ends = none ends
     by_tasks (Out more) ends = none ends
 
+-- the call is an item of the body itself, behind which there are no tasks
+pub super_last : (new : Bool) (done : Op) (rest : Code) (tasks : Tasks) → is_super_call done.kind ≡ true → SuperEnds new (Do done rest) tasks → Supers false tasks
+super_last new done rest tasks is ends = by_tasks new tasks ends
+  where
+    some : {A : Type 0} → one_if (is_super_call done.kind) + super_calls rest ≡ 0 → A
+    some e = let a = ap (λ b. one_if b + super_calls rest) is in absurd (omega (arith, e, a))
+
+    by_tasks : (new : Bool) (tasks : Tasks) → SuperEnds new (Do done rest) tasks → Supers false tasks
+    by_tasks new Empty ends = tt
+    by_tasks false (Run other more) ends = some ends
+    by_tasks false (Ask asked first second more) ends = some ends
+    by_tasks false (Decide test first second more) ends = some ends
+    by_tasks false (DecideTruth slot first second more) ends = some ends
+    by_tasks false (Head asked body next more) ends = some ends
+    by_tasks false (Again asked body next more) ends = some ends
+    by_tasks false (Out more) ends = some ends
+    by_tasks true (Run other more) ends = some ends
+    by_tasks true (Ask asked first second more) ends = some ends
+    by_tasks true (Decide test first second more) ends = some ends
+    by_tasks true (DecideTruth slot first second more) ends = some ends
+    by_tasks true (Head asked body next more) ends = some ends
+    by_tasks true (Again asked body next more) ends = some ends
+    by_tasks true (Out more) ends = some ends
+
 -- ---- tasks
 
 pub code_supers : (new : Bool) (code : Code) (tasks : Tasks) → SuperEnds new code tasks → Supers new tasks → Supers new (code_then code tasks)

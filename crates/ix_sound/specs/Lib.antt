@@ -5,3 +5,4 @@ pub mod Clean
 pub mod Shown
 -- How far a constructor is.
 pub mod Supers
+pub mod Making
