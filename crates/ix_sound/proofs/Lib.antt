@@ -6,3 +6,4 @@ mod FormedOperations
 mod SuperMoves
 mod Tracked
 mod StageMoves
+mod OperationsMeet
