@@ -7,3 +7,4 @@ mod SuperMoves
 mod Tracked
 mod StageMoves
 mod OperationsMeet
+mod FormedCalls
