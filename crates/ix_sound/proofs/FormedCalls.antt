@@ -14,11 +14,12 @@ use Rattle.ix_core.specs.Formed.{is_formed, at_most, is_target, is_there, is_arg
 use Rattle.ix_core.specs.Heap.{Held, Heap, value_at}
 use Rattle.ix_core.specs.Machine.{CallKind, Static, Instance, New, Super, call_values, target_of}
 use Rattle.ix_core.specs.Objects.{IsInput}
-use Rattle.ix_core.specs.Tables.{Tables, method_at, class_at, param_slot, param_slots, tables_of}
+use Rattle.ix_core.specs.Tables.{Tables, method_at, class_at, param_slot, param_slots}
 use Rattle.ix_core.specs.Typed.{SlotsTyped}
 use Rattle.ix_core.specs.Types.{Types, is_class, is_below, class_type}
 use Rattle.ix_core.specs.Waits.{FitsCall}
-use Rattle.ix_core.specs.World.{world_of}
+use Rattle.ix_core.specs.World.{tables_in}
+use Rattle.ix_sound.specs.Direct.{direct}
 use Rattle.ix_core.proofs.Cases.{by_test, equal}
 use Rattle.ix_core.proofs.Entered.{none_some}
 use Rattle.ix_core.proofs.TypedCalls.{method_has, not_static, args_count}
@@ -83,11 +84,11 @@ module _ (program : Program) (locals : List (List Type_)) (formed : is_formed pr
     room : param_slots named ≤ named.slots
     room = let h = (method_has program locals formed call.method has.there).room in grind (arith, nat_tests)
 
-    within : (kind : CallKind) (at : ℕ) → target_of (tables_of program) kind call ≡ Some at → at < method.slots
-    within kind at e = let t = target_is (tables_of program) kind call at e in let h = has.target.within in let s = size in omega (arith, t, h, s)
+    within : (kind : CallKind) (at : ℕ) → target_of (tables_in (direct program)) kind call ≡ Some at → at < method.slots
+    within kind at e = let t = target_is (tables_in (direct program)) kind call at e in let h = has.target.within in let s = size in omega (arith, t, h, s)
 
-    not_input : (kind : CallKind) (at : ℕ) → target_of (tables_of program) kind call ≡ Some at → IsInput method at → ⊥
-    not_input kind at e is = has.target.input (subst (IsInput method) (target_is (tables_of program) kind call at e) is)
+    not_input : (kind : CallKind) (at : ℕ) → target_of (tables_in (direct program)) kind call ≡ Some at → IsInput method at → ⊥
+    not_input kind at e is = has.target.input (subst (IsInput method) (target_is (tables_in (direct program)) kind call at e) is)
 
     abbrev arg_values : List Held
     arg_values = map (λ (arg : Arg). value_at [] arg.slot) call.args
@@ -103,7 +104,7 @@ module _ (program : Program) (locals : List (List Type_)) (formed : is_formed pr
 
   -- ---- by kind
 
-  pub static_fits_call : (call : CallOp) → static_fits program method (Some types) call ≡ true → IsClean program method (op.StaticCall call) → FitsCall (world_of program) method (method_at program call.method) Static call
+  pub static_fits_call : (call : CallOp) → static_fits program method (Some types) call ≡ true → IsClean program method (op.StaticCall call) → FitsCall (direct program) method (method_at program call.method) Static call
   static_fits_call call e clean =
       let one = and_parts (call_fits program method (Some types) call) _ e in
       let has = call_has call one.0 in
@@ -138,7 +139,7 @@ module _ (program : Program) (locals : List (List Type_)) (formed : is_formed pr
       let four = and_parts (not (method_at program call.method).constructor) _ three.1 in
       (is_false (method_at program call.method).is_static three.0, is_false (method_at program call.method).constructor four.0)
 
-  pub instance_fits_call : (call : CallOp) → instance_fits program method (Some types) call ≡ true → IsClean program method (op.InstanceCall call) → FitsCall (world_of program) method (method_at program call.method) Instance call
+  pub instance_fits_call : (call : CallOp) → instance_fits program method (Some types) call ≡ true → IsClean program method (op.InstanceCall call) → FitsCall (direct program) method (method_at program call.method) Instance call
   instance_fits_call call e clean =
       let one = and_parts (call_fits program method (Some types) call) _ e in
       let has = call_has call one.0 in
@@ -153,7 +154,7 @@ module _ (program : Program) (locals : List (List Type_)) (formed : is_formed pr
         target = not_input call has Instance;
       }
 
-  pub new_fits_call : (call : CallOp) → new_fits program method (Some types) call ≡ true → IsClean program method (op.NewObject call) → FitsCall (world_of program) method (method_at program call.method) (New call.class) call
+  pub new_fits_call : (call : CallOp) → new_fits program method (Some types) call ≡ true → IsClean program method (op.NewObject call) → FitsCall (direct program) method (method_at program call.method) (New call.class) call
   new_fits_call call e clean =
       let one = and_parts (call_fits program method (Some types) call) _ e in
       let has = call_has call one.0 in
@@ -176,7 +177,7 @@ module _ (program : Program) (locals : List (List Type_)) (formed : is_formed pr
   parent_of None class e = absurd (false≢true e)
   parent_of (Some other) class e = ap Some (equal other class e)
 
-  pub super_fits_call : (call : CallOp) → super_fits program method (Some types) call ≡ true → IsClean program method (op.SuperCall call) → FitsCall (world_of program) method (method_at program call.method) Super call
+  pub super_fits_call : (call : CallOp) → super_fits program method (Some types) call ≡ true → IsClean program method (op.SuperCall call) → FitsCall (direct program) method (method_at program call.method) Super call
   super_fits_call call e clean =
       let one = and_parts (call_fits program method (Some types) call) _ e in
       let has = call_has call one.0 in

@@ -21,7 +21,8 @@ use Rattle.ix_core.specs.Objects.{IsOwn, IsInput, This, Named, IntsOnly, kind_cl
 use Rattle.ix_core.specs.Tables.{method_at, field_at, param_slot, param_slots}
 use Rattle.ix_core.specs.Typed.{IsOfType, HeapTyped, SlotsTyped}
 use Rattle.ix_core.specs.Types.{Types, int_type, cell_type, is_array, class_type}
-use Rattle.ix_core.specs.World.{world_of}
+use Rattle.ix_core.specs.World.{tables_in}
+use Rattle.ix_sound.specs.Direct.{direct}
 use Rattle.ix_core.proofs.Cases.{by_test, equal, differ}
 use Rattle.ix_core.proofs.FormedParts.{locals_of, ways_end}
 use Rattle.ix_core.proofs.Kept.{int_is}
@@ -97,7 +98,7 @@ module _ (program : Program) (locals : List (List Type_)) (formed : is_formed pr
   abbrev Fits : Op → OpKind → Type 0
   Fits done kind = op_fits program method local_types (Some types) done kind ≡ true
 
-  pub takes : (done : Op) (kind : OpKind) → Fits done kind → IsClean program method kind → Takes (world_of program) method slots heap kind
+  pub takes : (done : Op) (kind : OpKind) → Fits done kind → IsClean program method kind → Takes (direct program) method slots heap kind
   takes done (op.Const t value) e clean = may_take t (and_parts (is_target program method t) _ (and_parts (literal_fits program method value) _ e).1).0
   takes done (op.Copy t s ty) e clean =
       let one = and_parts (reads program method (Some types) s ty) _ e in
@@ -134,7 +135,7 @@ module _ (program : Program) (locals : List (List Type_)) (formed : is_formed pr
   takes done (op.SuperCall call) e clean = tt
   takes done (op.Print value) e clean = tt
 
-  pub has_target : (kind : OpKind) → Takes (world_of program) method slots heap kind → HasTarget kind slots
+  pub has_target : (kind : OpKind) → Takes (direct program) method slots heap kind → HasTarget kind slots
   has_target (op.Const t value) may = may.within
   has_target (op.Copy t s ty) may = may.within
   has_target (op.Num t op_ y z) may = may.within

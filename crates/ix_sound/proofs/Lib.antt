@@ -8,3 +8,4 @@ mod Tracked
 mod StageMoves
 mod OperationsMeet
 mod FormedCalls
+mod Dispatch

@@ -22,10 +22,11 @@ use Rattle.ix_core.specs.Heap.{Held, Num, Boolean, Null, At, Heap, ArrayOf, valu
 use Rattle.ix_core.specs.Machine.{Limits, Done, Wrapped, operate}
 use Rattle.ix_core.specs.Numbers.{Numbers, HasInts, numbers_of}
 use Rattle.ix_core.specs.Objects.{AllOn, HeapKeeps, FrameKeeps, IsOwn}
-use Rattle.ix_core.specs.Tables.{tables_of, method_at}
+use Rattle.ix_core.specs.Tables.{method_at}
 use Rattle.ix_core.specs.Typed.{IsOfType, HeapTyped, SlotsTyped}
 use Rattle.ix_core.specs.Types.{Types, cell_type, is_array}
-use Rattle.ix_core.specs.World.{World, world_of}
+use Rattle.ix_core.specs.World.{World, tables_in}
+use Rattle.ix_sound.specs.Direct.{direct}
 use Rattle.ix_core.proofs.Cases.{by_test, equal}
 use Rattle.ix_core.proofs.FormedParts.{locals_of, ways_end}
 use Rattle.ix_core.proofs.Kept.{all_on}
@@ -71,7 +72,7 @@ IsNoCallOrField _ = Unit {0}
 
 module _ (program : Program) (locals : List (List Type_)) (formed : is_formed program locals ≡ true) (number : ℕ) (lt : number < length program.methods) (slots : List Held) (heap : Heap) (types : Types)
     (size : length slots ≡ (method_at program number).slots) (typed : SlotsTyped program types slots heap) (heap_typed : HeapTyped program heap)
-    (building : ℕ → Type 0) (keeps : HeapKeeps (world_of program) building heap) (frame : FrameKeeps building (method_at program number) slots heap) where
+    (building : ℕ → Type 0) (keeps : HeapKeeps (direct program) building heap) (frame : FrameKeeps building (method_at program number) slots heap) where
   abbrev method : Method
   method = method_at program number
 
@@ -79,7 +80,7 @@ module _ (program : Program) (locals : List (List Type_)) (formed : is_formed pr
   Fits done kind = op_fits program method (locals_of program locals formed number) (Some types) done kind ≡ true
 
   on : AllOn slots heap
-  on = all_on (world_of program) building method slots heap keeps frame
+  on = all_on (direct program) building method slots heap keeps frame
 
   -- ---- what is loaded
 
@@ -122,7 +123,7 @@ module _ (program : Program) (locals : List (List Type_)) (formed : is_formed pr
   loads done (op.Load t a i ty) e =
       let one = and_parts (is_array program ty) _ e in
       let two = and_parts (reads program method (Some types) a ty) _ one.1 in
-      loads_met (world_of program) building slots heap keeps t a i ty
+      loads_met (direct program) building slots heap keeps t a i ty
       (λ of at. elements_held ty of (array_kind ty of one.0 (subst (IsOfType program heap ty) at (read_typed program (ways_end program locals formed) method types slots heap size typed a ty two.0).1)))
   loads done (op.Const t value) e = tt
   loads done (op.Copy t s ty) e = tt
@@ -149,31 +150,31 @@ module _ (program : Program) (locals : List (List Type_)) (formed : is_formed pr
 
   -- ---- behind an operation
 
-  module _ (limits : Limits) (place : ℕ) (later : List Held) (after : Heap) (before : HasInts (world_of program).place slots heap) (behind : HasInts (world_of program).place later after) where
+  module _ (limits : Limits) (place : ℕ) (later : List Held) (after : Heap) (before : HasInts (direct program).place slots heap) (behind : HasInts (direct program).place later after) where
     abbrev v : Numbers
-    v = numbers_of (world_of program).place slots heap before
+    v = numbers_of (direct program).place slots heap before
 
     abbrev w : Numbers
-    w = numbers_of (world_of program).place later after behind
+    w = numbers_of (direct program).place later after behind
 
-    pub done_is : (profile : Profile) (done : Op) (kind : OpKind) → Fits done kind → Takes (world_of program) method slots heap kind → operate limits (tables_of program) place slots heap kind ≡ Done later after → Step profile kind v w
+    pub done_is : (profile : Profile) (done : Op) (kind : OpKind) → Fits done kind → Takes (direct program) method slots heap kind → operate limits (tables_in (direct program)) place slots heap kind ≡ Done later after → Step profile kind v w
     done_is profile done kind fits may is =
-        done_step profile limits (tables_of program) place slots heap later after before behind kind (has_target program locals formed number lt slots heap types size typed kind may) (loads done kind fits) on is
+        done_step profile limits (tables_in (direct program)) place slots heap later after before behind kind (has_target program locals formed number lt slots heap types size typed kind may) (loads done kind fits) on is
 
-    pub wrapped_is : (kind : OpKind) → Takes (world_of program) method slots heap kind → operate limits (tables_of program) place slots heap kind ≡ Wrapped later after → Step Int32 kind v w
-    wrapped_is kind may is = wrapped_step limits (tables_of program) place slots heap later after before behind kind (has_target program locals formed number lt slots heap types size typed kind may) is
+    pub wrapped_is : (kind : OpKind) → Takes (direct program) method slots heap kind → operate limits (tables_in (direct program)) place slots heap kind ≡ Wrapped later after → Step Int32 kind v w
+    wrapped_is kind may is = wrapped_step limits (tables_in (direct program)) place slots heap later after before behind kind (has_target program locals formed number lt slots heap types size typed kind may) is
 
     pub step_meets : (profile : Profile) (done : Op) (kind : OpKind) → Fits done kind → Step profile kind v w → (s t : Stored) → Gives (operated profile kind) s t → Meets s v → Meets t w
     step_meets profile done kind fits step s t =
         gives_meets (operated profile kind) v w (λ facts. after_hold profile kind facts v w (target_apart program locals formed number lt slots heap types size typed done kind fits) step) s t
 
     -- a read and a write of a field
-    pub read_is : (t o f : ℕ) → MayTake method slots t → operate limits (tables_of program) place slots heap (op.ReadField t o f) ≡ Done later after → IsRead t o f v w
-    read_is t o f may is = read_step limits (tables_of program) place slots heap later after before behind t o f may.within is
+    pub read_is : (t o f : ℕ) → MayTake method slots t → operate limits (tables_in (direct program)) place slots heap (op.ReadField t o f) ≡ Done later after → IsRead t o f v w
+    read_is t o f may is = read_step limits (tables_in (direct program)) place slots heap later after before behind t o f may.within is
 
-    pub write_is : (tables : IsWorld (world_of program)) (o f x : ℕ) → operate limits (tables_of program) place slots heap (op.WriteField o f x) ≡ Done later after → IsWritten o f x (spared_by method o) v w
+    pub write_is : (tables : IsWorld (direct program)) (o f x : ℕ) → operate limits (tables_in (direct program)) place slots heap (op.WriteField o f x) ≡ Done later after → IsWritten o f x (spared_by method o) v w
     write_is tables o f x is =
-        write_step limits (tables_of program) place slots heap later after before behind (kept_cells (world_of program) tables building heap keeps) o f x (spared_by method o)
+        write_step limits (tables_in (direct program)) place slots heap later after before behind (kept_cells (direct program) tables building heap keeps) o f x (spared_by method o)
         (alone_spares method slots (kept_alone building method slots heap frame) o) is
 
     -- ---- the fields of a constructor's object
@@ -182,10 +183,10 @@ module _ (program : Program) (locals : List (List Type_)) (formed : is_formed pr
       apart : (t : ℕ) → MayTake method slots t → (0 == t) ≡ false
       apart t may = by_test (0 == t) (λ e. absurd (may.own (made, sym (equal 0 t e)))) (λ e. e)
 
-      pub step_keeps : (profile : Profile) (kind : OpKind) → Takes (world_of program) method slots heap kind → ((field : ℕ) → of_target kind (FieldOf 0 field) ≡ false) → Step profile kind v w → KeepsThis v w
+      pub step_keeps : (profile : Profile) (kind : OpKind) → Takes (direct program) method slots heap kind → ((field : ℕ) → of_target kind (FieldOf 0 field) ≡ false) → Step profile kind v w → KeepsThis v w
       step_keeps profile kind may none step = keeps_by (of_target kind) v w step.others none
 
-      pub target_none : (kind : OpKind) → Takes (world_of program) method slots heap kind → IsNoCallOrField kind → (field : ℕ) → of_target kind (FieldOf 0 field) ≡ false
+      pub target_none : (kind : OpKind) → Takes (direct program) method slots heap kind → IsNoCallOrField kind → (field : ℕ) → of_target kind (FieldOf 0 field) ≡ false
       target_none (op.Const t value) may plain field = apart t may
       target_none (op.Copy t s ty) may plain field = apart t may
       target_none (op.Num t op_ y z) may plain field = apart t may

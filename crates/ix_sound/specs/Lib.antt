@@ -6,3 +6,5 @@ pub mod Shown
 -- How far a constructor is.
 pub mod Supers
 pub mod Making
+-- Calls that run another method than they name.
+pub mod Direct
