@@ -9,3 +9,4 @@ mod StageMoves
 mod OperationsMeet
 mod FormedCalls
 mod Dispatch
+mod Starts
