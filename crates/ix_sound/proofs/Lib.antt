@@ -10,3 +10,4 @@ mod OperationsMeet
 mod FormedCalls
 mod Dispatch
 mod Starts
+mod ClaimTruths
