@@ -11,3 +11,4 @@ mod FormedCalls
 mod Dispatch
 mod Starts
 mod ClaimTruths
+mod AccessesShown

@@ -8,3 +8,5 @@ pub mod Supers
 pub mod Making
 -- Calls that run another method than they name.
 pub mod Direct
+-- Errors.
+pub mod Errors
