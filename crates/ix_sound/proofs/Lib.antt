@@ -12,3 +12,6 @@ mod Dispatch
 mod Starts
 mod ClaimTruths
 mod AccessesShown
+mod FieldPlaces
+mod FieldsShown
+mod FieldsKept

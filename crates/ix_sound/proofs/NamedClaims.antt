@@ -1,5 +1,5 @@
 -- What the claims of a formed program name: each name has a type, so parameters and results name parameters that are there, and fields of `this`.
-use Rattle.std.specs.Prelude.{◌≡◌, ℕ, zero, suc, ◌+◌, ◌<◌, ◌≤◌, nat_lt, ◌==◌, Bool, true, false, ◌&&◌, if◌then◌else◌, List, [], ◌∷◌, length, slice_get, Option, None, Some, unwrap_or, refl}
+use Rattle.std.specs.Prelude.{◌≡◌, ℕ, zero, suc, ◌+◌, ◌<◌, ◌≤◌, nat_lt, ◌==◌, Bool, true, false, ◌&&◌, ◌||◌, if◌then◌else◌, List, [], ◌∷◌, length, slice_get, Option, None, Some, unwrap_or, refl}
 use Rattle.std.specs.List.{list_all}
 use Rattle.std.proofs.Common.{arith, sym, ap, subst, ◌∙◌}
 use Rattle.std.proofs.lemmas.Bool.{and_parts, false≢true}
@@ -12,15 +12,17 @@ use Rattle.ix_core.specs.declared.claim.Name.TheVariants.{Param, Local, FieldNam
 use Rattle.ix_core.specs.declared.claim.Off.{Off}
 use Rattle.ix_core.specs.declared.claim.Off.TheVariants.{Nothing, Plus, Minus}
 use Rattle.ix_core.specs.declared.claim.Type_.{Type_}
+use Rattle.ix_core.specs.declared.program.Field.{Field}
 use Rattle.ix_core.specs.declared.program.Local.{Local as Variable}
 use Rattle.ix_core.specs.declared.program.Method.{Method}
 use Rattle.ix_core.specs.declared.program.Program.{Program}
-use Rattle.ix_core.specs.Formed.{is_formed, claim_fits, offset_fits, is_int_of, is_array_of, named_type, type_of_field, has_this, others, params_fit, result_fits}
+use Rattle.ix_core.specs.Formed.{is_formed, claim_fits, offset_fits, is_int_of, is_array_of, named_type, type_of_field, has_this, others, params_fit, result_fits, fields_fit, field_type_of_name}
 use Rattle.ix_core.specs.Objects.{Names, claim_names, offset_names}
 use Rattle.ix_core.specs.SameClaims.{same_name}
-use Rattle.ix_core.specs.Tables.{no_method, method_at, param_slot}
-use Rattle.ix_core.specs.Types.{is_void, is_type, is_int_type, is_array_type, is_empty}
-use Rattle.ix_core.proofs.Cases.{by_test}
+use Rattle.ix_core.specs.Tables.{no_field, field_at, method_at, param_slot, all_fields, is_among}
+use Rattle.ix_core.specs.Types.{is_void, is_type, is_int_type, is_array_type, is_empty, is_class}
+use Rattle.ix_core.proofs.Cases.{by_test, equal}
+use Rattle.ix_core.proofs.FormedParts.{fields_all}
 use Rattle.ix_core.proofs.TypedCalls.{method_has, params_count}
 
 -- ---- each name of a claim that fits has a type
@@ -147,3 +149,58 @@ module _ (program : Program) (locals : List (List Type_)) (formed : is_formed pr
       by_void : (t : Bool) → (if t then is_empty method.result_claims else is_type program method.result && list_all (claim_fits method.result (named_type program method)) method.result_claims) ≡ true → MayName method name
       by_void true e = no_name method.result_claims e named
       by_void false e = may_name method (count_params number lt) name (claims_named method.result (named_type program method) method.result_claims name (and_parts (is_type program method.result) _ e).1 named)
+
+  -- ---- fields
+
+  field_fits_at : (first : ℕ) (fields : List Field) (k : ℕ) → fields_fit program first fields ≡ true → k < length fields
+      → list_all (claim_fits (unwrap_or (slice_get fields k) no_field).ty (others (FieldNamed (first + k)) (field_type_of_name program (unwrap_or (slice_get fields k) no_field)))) (unwrap_or (slice_get fields k) no_field).claims ≡ true
+  field_fits_at first [] k fits lt = absurd (omega (arith, lt))
+  field_fits_at first (field ∷ fields) zero fits lt =
+      let a = and_parts (is_class program field.class) _ fits in
+      let b = and_parts (is_type program field.ty) _ a.1 in
+      let c = and_parts (list_all (claim_fits field.ty (others (FieldNamed first) (field_type_of_name program field))) field.claims) (fields_fit program (first + 1) fields) b.1 in
+      let e : first ≡ first + 0 = omega arith in
+      subst (λ n. list_all (claim_fits field.ty (others (FieldNamed n) (field_type_of_name program field))) field.claims ≡ true) e c.0
+  field_fits_at first (field ∷ fields) (suc k) fits lt =
+      let a = and_parts (is_class program field.class) _ fits in
+      let b = and_parts (is_type program field.ty) _ a.1 in
+      let c = and_parts (list_all (claim_fits field.ty (others (FieldNamed first) (field_type_of_name program field))) field.claims) (fields_fit program (first + 1) fields) b.1 in
+      let e : first + 1 + k ≡ first + suc k = omega arith in
+      let there : Field = unwrap_or (slice_get fields k) no_field in
+      subst (λ n. list_all (claim_fits there.ty (others (FieldNamed n) (field_type_of_name program there))) there.claims ≡ true) e (field_fits_at (first + 1) fields k c.1 (omega (arith, lt)))
+
+  -- what a claim of a field names: a field of its class, or one that is final
+  pub record NamesField (field : ℕ) (name : Name) : Type 0 where
+    pub other : ℕ
+    pub is : name ≡ FieldNamed other
+    pub same : ((field_at program other).is_final ≡ false) → (field_at program other).class ≡ (field_at program field).class
+
+  field_named : (field : Field) (name : Name) → HasType (field_type_of_name program field) name → (other : ℕ) × (name ≡ FieldNamed other) × (((field_at program other).is_final ≡ false) → (field_at program other).class ≡ field.class)
+  field_named field (Param number) (ty, is) = no_type ty is
+  field_named field (Local number) (ty, is) = no_type ty is
+  field_named field (FieldNamed other) (ty, is) = (other, refl, λ plain. by_test (is_among (all_fields program field.class) other && (((field_at program other).class == field.class) || (field_at program other).is_final))
+      (λ t. same_class (and_parts (is_among (all_fields program field.class) other) _ t).1 plain)
+      (λ t. no_type ty (sym (rw t refl) ∙ is)))
+    where
+      same_class : (((field_at program other).class == field.class) || (field_at program other).is_final) ≡ true → (field_at program other).is_final ≡ false → (field_at program other).class ≡ field.class
+      same_class e plain = by_test ((field_at program other).class == field.class)
+          (λ t. equal (field_at program other).class field.class t)
+          (λ t. absurd (false≢true (sym (rw (t, plain) refl) ∙ e)))
+
+  pub field_names : (field : ℕ) (name : Name) → Names (field_at program field).claims name → NamesField field name
+  field_names field name named =
+      by_test (nat_lt field (length program.fields))
+      (λ t.
+      let within : field < length program.fields = grind (arith, nat_tests) in
+      let fits = field_fits_at 0 program.fields field (fields_all program locals formed) within in
+      let found = field_named (field_at program field) name (other_type (FieldNamed (0 + field)) (field_type_of_name program (field_at program field)) name (claims_named _ _ (field_at program field).claims name fits named)).0 in
+      record { other = found.0; is = found.1; same = found.2 })
+      (λ t.
+      let le : length program.fields ≤ field = grind (arith, nat_tests) in
+      none_named (ap (λ (o : Option Field). (unwrap_or o no_field).claims) (slice_get_past program.fields field le)) named)
+    where
+      none_named : {A : Type 0} → (field_at program field).claims ≡ [] → Names (field_at program field).claims name → A
+      none_named e named = let n = subst (λ claims. Names claims name) e named in none_there n.0 n.2 n.3
+        where
+          none_there : {A : Type 0} (k : ℕ) (claim : Claim) → slice_get [] k ≡ Some claim → A
+          none_there k claim is = absurd cc
