@@ -10,3 +10,6 @@ pub mod Making
 pub mod Direct
 -- Errors.
 pub mod Errors
+pub mod Known
+-- The promise.
+pub mod Sound
