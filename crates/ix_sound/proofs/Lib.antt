@@ -15,3 +15,4 @@ mod AccessesShown
 mod FieldPlaces
 mod FieldsShown
 mod FieldsKept
+mod CopiesShown

@@ -27,7 +27,7 @@ use Rattle.ix_core.proofs.TypedCalls.{method_has, params_count}
 
 -- ---- each name of a claim that fits has a type
 
-abbrev HasType : (Name → Option Type_) → Name → Type 0
+abbrev pub HasType : (Name → Option Type_) → Name → Type 0
 HasType types name = (ty : Type_) × (types name ≡ Some ty)
 
 some_int : (o : Option Type_) → is_int_of o ≡ true → (ty : Type_) × (o ≡ Some ty)
@@ -85,7 +85,7 @@ MayName method (Local number) = ⊥
 MayName method (FieldNamed field) = (method.is_static ≡ false) × (method.constructor ≡ false)
 
 module _ (program : Program) (locals : List (List Type_)) (formed : is_formed program locals ≡ true) where
-  no_type : {A : Type 0} (ty : Type_) → ◌≡◌ {A = Option Type_} None (Some ty) → A
+  pub no_type : {A : Type 0} (ty : Type_) → ◌≡◌ {A = Option Type_} None (Some ty) → A
   no_type ty is = absurd cc
 
   field_this : (method : Method) (static constructor : Bool) → method.is_static ≡ static → method.constructor ≡ constructor → (field : ℕ) (ty : Type_) → named_type program method (FieldNamed field) ≡ Some ty → (static ≡ false) × (constructor ≡ false)
@@ -98,7 +98,7 @@ module _ (program : Program) (locals : List (List Type_)) (formed : is_formed pr
   may_name method count (Local number) (ty, is) = no_type ty is
   may_name method count (FieldNamed field) (ty, is) = field_this method method.is_static method.constructor refl refl field ty is
 
-  other_type : (itself : Name) (types : Name → Option Type_) (name : Name) → HasType (others itself types) name → HasType types name × (same_name itself name ≡ false)
+  pub other_type : (itself : Name) (types : Name → Option Type_) (name : Name) → HasType (others itself types) name → HasType types name × (same_name itself name ≡ false)
   other_type itself types name (ty, is) = by_test (same_name itself name)
       (λ t. no_type ty (sym (rw t refl) ∙ is))
       (λ t. ((ty, sym (rw t refl) ∙ is), t))
