@@ -16,3 +16,4 @@ mod FieldPlaces
 mod FieldsShown
 mod FieldsKept
 mod CopiesShown
+mod OperationShown

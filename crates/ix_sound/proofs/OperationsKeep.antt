@@ -30,45 +30,33 @@ use Rattle.ix_sound.specs.Shown.{MayTake, Takes, Shown}
 within : (n : ℤ) (size : ℕ) → pos 0 ≤ℤ n → n <ℤ pos size → is_within n size ≡ true
 within n size low high = grind (arith, ints, nat_tests)
 
+-- an exact result may be no int
+abbrev pub MayWrap : OpKind → Type 0
+MayWrap (op.Num t arith_op y z) = Unit {0}
+MayWrap (op.Unary t unary y) = Unit {0}
+MayWrap _ = ⊥
+
+abbrev pub IsNoCall : OpKind → Type 0
+IsNoCall (op.NewObject call) = ⊥
+IsNoCall (op.StaticCall call) = ⊥
+IsNoCall (op.InstanceCall call) = ⊥
+IsNoCall (op.SuperCall call) = ⊥
+IsNoCall _ = Unit {0}
+
 module _ (world : World) (tables : IsWorld world) (limits : Limits) (place : ℕ) (building : ℕ → Type 0) (method : Method) (slots : List Held) (heap : Heap) (keeps : HeapKeeps world building heap) (frame : FrameKeeps building method slots heap) where
-  abbrev pub Keeps : Effect → Type 0
-  Keeps (Done later after) = StepKeeps world building method slots heap later after
-  Keeps (Wrapped later after) = StepKeeps world building method slots heap later after
-  Keeps (Printed value) = Unit {0}
-  Keeps (Called kind call) = Unit {0}
-  Keeps (Stopped ending) = IsBad (Some ending) → ⊥
+  -- what the operation is done with is kept; whether its result may be no int is told
+  abbrev pub Keeps : Type 0 → Effect → Type 0
+  Keeps Wraps (Done later after) = StepKeeps world building method slots heap later after
+  Keeps Wraps (Wrapped later after) = Wraps × StepKeeps world building method slots heap later after
+  Keeps Wraps (Printed value) = Unit {0}
+  Keeps Wraps (Called kind call) = ⊥
+  Keeps Wraps (Stopped ending) = IsBad (Some ending) → ⊥
 
   on : AllOn slots heap
   on = all_on world building method slots heap keeps frame
 
   assigned : (t : ℕ) (x : Held) → MayTake method slots t → IsFree building heap x → StepKeeps world building method slots heap (slice_set slots t x) heap
   assigned t x may free = assign_keeps world building method slots heap keeps frame t x free may.input may.own
-
-  through_kept : (held : Held) (next : ℕ → Effect) → ((number : ℕ) → held ≡ At number → Keeps (next number)) → Keeps (through limits (tables_in world) place slots heap held next)
-  through_kept (At number) next each = each number refl
-  through_kept (Num n) next each = λ bad. bad
-  through_kept (Boolean answer) next each = λ bad. bad
-  through_kept Null next each = λ bad. bad
-
-  place_kept : (found : Option ℕ) (next : ℕ → Effect) → ((cell : ℕ) → found ≡ Some cell → Keeps (next cell)) → Keeps (at_place limits (tables_in world) place slots heap found next)
-  place_kept None next each = λ bad. bad
-  place_kept (Some cell) next each = each cell refl
-
-  index_kept : (index : ℤ) (cells : List Held) (next : ℕ → Effect) → pos 0 ≤ℤ index → index <ℤ pos (length cells) → Keeps (next (unsigned_abs index)) → Keeps (at_index limits (tables_in world) place slots heap index cells next)
-  index_kept index cells next low high good = rw (within index (length cells) low high) good
-
-  -- ---- ints
-
-  int_kept : (t : ℕ) (exact : ℤ) → MayTake method slots t → Keeps (assign_int limits (tables_in world) place slots heap t exact)
-  int_kept t exact may = by_int (is_int exact)
-    where
-      by_int : (b : Bool) → Keeps (if b then Done (slice_set slots t (Num exact)) heap else Wrapped (slice_set slots t (Num (Rattle.ix_num.specs.Arithmetic.wrap_of exact))) heap)
-      by_int true = assigned t (Num exact) may tt
-      by_int false = assigned t (Num (Rattle.ix_num.specs.Arithmetic.wrap_of exact)) may tt
-
-  result_kept : (t : ℕ) (exact : Option ℤ) → MayTake method slots t → Keeps (assign_result limits (tables_in world) place slots heap t exact)
-  result_kept t None may = λ bad. bad
-  result_kept t (Some exact) may = int_kept t exact may
 
   literal_free : (value : Literal) → IsFree building heap (literal_value value)
   literal_free (literal.Int n) = tt
@@ -109,51 +97,76 @@ module _ (world : World) (tables : IsWorld world) (limits : Limits) (place : ℕ
   entries_meet claims (entry ∷ entries) each zero lt = each 0 entry refl
   entries_meet claims (entry ∷ entries) each (suc k) lt = entries_meet claims entries (λ at e is. each (suc at) e is) k (omega (arith, lt))
 
-  allocated : (t : ℕ) (ty : Type_) (size : ℕ) (cells : List Held) → MayTake method slots t → ((k : ℕ) → IsFree building heap (value_at cells k)) → ((k : ℕ) → k < length cells → MeetsElement (element_claims ty) (value_at cells k))
-      → Keeps (allocate limits (tables_in world) place slots heap t ty size cells)
-  allocated t ty size cells may free meets = by_room (is_past limits.cells (cells_used heap + (size + 1)))
-    where
-      by_room : (full : Bool) → Keeps (if full then Stopped (HeapFull place) else Done (slice_set slots t (At (length heap))) (heap ++ record { kind = ArrayOf ty; cells = cells } ∷ []))
-      by_room true = λ bad. bad
-      by_room false = array_keeps world building method slots heap keeps frame ty cells free meets t may.input may.own
-
-  made : (t : ℕ) (ty : Type_) (n : ℤ) → MayTake method slots t → pos 0 ≤ℤ n → (pos 0 <ℤ n → MeetsElement (element_claims ty) (cell_default ty)) → Keeps (new_array limits (tables_in world) place slots heap t ty n)
-  made t ty (pos size) may low meets =
-      allocated t ty size (replicate size (cell_default ty)) may (copies_free size (cell_default ty) (default_free ty))
-      (λ k lt. let is = copies_are size (cell_default ty) k lt in let some = is.0 in subst (MeetsElement (element_claims ty)) (sym is.1) (meets (omega (arith, ints, some))))
-  made t ty (negsuc n) may low meets = absurd (omega (arith, ints, low))
-
   cells_free : (kind : Kind) (cells : List Held) → ((k : ℕ) → IsFree building heap (value_at cells k)) → (k : ℕ) → IsFree building heap (value_at (array_cells kind cells) k)
   cells_free (ObjectOf class) cells free k = tt
   cells_free (ArrayOf ty) cells free k = free k
 
+  module _ (Wraps : Type 0) where
+    through_kept : (held : Held) (next : ℕ → Effect) → ((number : ℕ) → held ≡ At number → Keeps Wraps (next number)) → Keeps Wraps (through limits (tables_in world) place slots heap held next)
+    through_kept (At number) next each = each number refl
+    through_kept (Num n) next each = λ bad. bad
+    through_kept (Boolean answer) next each = λ bad. bad
+    through_kept Null next each = λ bad. bad
+
+    place_kept : (found : Option ℕ) (next : ℕ → Effect) → ((cell : ℕ) → found ≡ Some cell → Keeps Wraps (next cell)) → Keeps Wraps (at_place limits (tables_in world) place slots heap found next)
+    place_kept None next each = λ bad. bad
+    place_kept (Some cell) next each = each cell refl
+
+    index_kept : (index : ℤ) (cells : List Held) (next : ℕ → Effect) → pos 0 ≤ℤ index → index <ℤ pos (length cells) → Keeps Wraps (next (unsigned_abs index)) → Keeps Wraps (at_index limits (tables_in world) place slots heap index cells next)
+    index_kept index cells next low high good = rw (within index (length cells) low high) good
+
+    int_kept : Wraps → (t : ℕ) (exact : ℤ) → MayTake method slots t → Keeps Wraps (assign_int limits (tables_in world) place slots heap t exact)
+    int_kept wraps t exact may = by_int (is_int exact)
+      where
+        by_int : (b : Bool) → Keeps Wraps (if b then Done (slice_set slots t (Num exact)) heap else Wrapped (slice_set slots t (Num (Rattle.ix_num.specs.Arithmetic.wrap_of exact))) heap)
+        by_int true = assigned t (Num exact) may tt
+        by_int false = (wraps, assigned t (Num (Rattle.ix_num.specs.Arithmetic.wrap_of exact)) may tt)
+
+    result_kept : Wraps → (t : ℕ) (exact : Option ℤ) → MayTake method slots t → Keeps Wraps (assign_result limits (tables_in world) place slots heap t exact)
+    result_kept wraps t None may = λ bad. bad
+    result_kept wraps t (Some exact) may = int_kept wraps t exact may
+
+    allocated : (t : ℕ) (ty : Type_) (size : ℕ) (cells : List Held) → MayTake method slots t → ((k : ℕ) → IsFree building heap (value_at cells k)) → ((k : ℕ) → k < length cells → MeetsElement (element_claims ty) (value_at cells k))
+        → Keeps Wraps (allocate limits (tables_in world) place slots heap t ty size cells)
+    allocated t ty size cells may free meets = by_room (is_past limits.cells (cells_used heap + (size + 1)))
+      where
+        by_room : (full : Bool) → Keeps Wraps (if full then Stopped (HeapFull place) else Done (slice_set slots t (At (length heap))) (heap ++ record { kind = ArrayOf ty; cells = cells } ∷ []))
+        by_room true = λ bad. bad
+        by_room false = array_keeps world building method slots heap keeps frame ty cells free meets t may.input may.own
+
+    made : (t : ℕ) (ty : Type_) (n : ℤ) → MayTake method slots t → pos 0 ≤ℤ n → (pos 0 <ℤ n → MeetsElement (element_claims ty) (cell_default ty)) → Keeps Wraps (new_array limits (tables_in world) place slots heap t ty n)
+    made t ty (pos size) may low meets =
+        allocated t ty size (replicate size (cell_default ty)) may (copies_free size (cell_default ty) (default_free ty))
+        (λ k lt. let is = copies_are size (cell_default ty) k lt in let some = is.0 in subst (MeetsElement (element_claims ty)) (sym is.1) (meets (omega (arith, ints, some))))
+    made t ty (negsuc n) may low meets = absurd (omega (arith, ints, low))
+
   -- ---- the operations
 
-  pub operation_keeps : (kind : OpKind) → Takes world method slots heap kind → Hides method kind → Shown world method slots heap kind → Keeps (operate limits (tables_in world) place slots heap kind)
-  operation_keeps (op.Const t value) may hides shown = assigned t (literal_value value) may (literal_free value)
-  operation_keeps (op.Copy t s ty) may hides shown = assigned t (value_at slots s) may (frame.free s hides)
-  operation_keeps (op.Num t arith_op y z) may hides shown = result_kept t (exact_of arith_op (int_at slots y) (int_at slots z)) may
-  operation_keeps (op.Unary t unary y) may hides shown = int_kept t (unary_of unary (int_at slots y)) may
-  operation_keeps (op.Length t a) may hides shown = through_kept (value_at slots a) _ (λ number is. assigned t (Num (pos (length (array_at heap number)))) may tt)
-  operation_keeps (op.NewArray t ty n) may hides shown = made t ty (int_at slots n) may shown.0 shown.1
-  operation_keeps (op.Fill t ty entries) may hides shown = allocated t ty (length entries) (map (value_at slots) entries) may (entries_free entries hides) (entries_meet (element_claims ty) entries shown)
-  operation_keeps (op.Load t a i ty) may hides shown =
-      through_kept (value_at slots a) _
+  pub operation_keeps : (kind : OpKind) → IsNoCall kind → Takes world method slots heap kind → Hides method kind → Shown world method slots heap kind → Keeps (MayWrap kind) (operate limits (tables_in world) place slots heap kind)
+  operation_keeps (op.Const t value) plain may hides shown = assigned t (literal_value value) may (literal_free value)
+  operation_keeps (op.Copy t s ty) plain may hides shown = assigned t (value_at slots s) may (frame.free s hides)
+  operation_keeps (op.Num t arith_op y z) plain may hides shown = result_kept (Unit {0}) tt t (exact_of arith_op (int_at slots y) (int_at slots z)) may
+  operation_keeps (op.Unary t unary y) plain may hides shown = int_kept (Unit {0}) tt t (unary_of unary (int_at slots y)) may
+  operation_keeps (op.Length t a) plain may hides shown = through_kept ⊥ (value_at slots a) _ (λ number is. assigned t (Num (pos (length (array_at heap number)))) may tt)
+  operation_keeps (op.NewArray t ty n) plain may hides shown = made ⊥ t ty (int_at slots n) may shown.0 shown.1
+  operation_keeps (op.Fill t ty entries) plain may hides shown = allocated ⊥ t ty (length entries) (map (value_at slots) entries) may (entries_free entries hides) (entries_meet (element_claims ty) entries shown)
+  operation_keeps (op.Load t a i ty) plain may hides shown =
+      through_kept ⊥ (value_at slots a) _
       (λ number is.
-      index_kept (int_at slots i) (array_at heap number) (λ cell. Done (slice_set slots t (value_at (array_at heap number) cell)) heap) shown.0 (subst (λ held. int_at slots i <ℤ size_of heap held) is shown.1)
+      index_kept ⊥ (int_at slots i) (array_at heap number) (λ cell. Done (slice_set slots t (value_at (array_at heap number) cell)) heap) shown.0 (subst (λ held. int_at slots i <ℤ size_of heap held) is shown.1)
       (assigned t (value_at (array_at heap number) (unsigned_abs (int_at slots i))) may (cells_free (object_at heap number).kind (object_at heap number).cells (keeps.free number) (unsigned_abs (int_at slots i)))))
-  operation_keeps (op.Store a i v ty) may hides shown =
-      through_kept (value_at slots a) _
+  operation_keeps (op.Store a i v ty) plain may hides shown =
+      through_kept ⊥ (value_at slots a) _
       (λ number is.
-      index_kept (int_at slots i) (array_at heap number) (λ cell. Done slots (write_at heap number cell (value_at slots v))) shown.0.0 (subst (λ held. int_at slots i <ℤ size_of heap held) is shown.0.1)
+      index_kept ⊥ (int_at slots i) (array_at heap number) (λ cell. Done slots (write_at heap number cell (value_at slots v))) shown.0.0 (subst (λ held. int_at slots i <ℤ size_of heap held) is shown.0.1)
       (cell_keeps world building method slots heap keeps frame number (unsigned_abs (int_at slots i)) ty (value_at slots v) (subst (IsOn heap) is (on.held a)) (shown.2 number is) (frame.free v hides) shown.1))
-  operation_keeps (op.ReadField t o f) may hides shown =
-      through_kept (value_at slots o) _ (λ number is. place_kept (place_in world.place (object_at heap number).kind f) _ (λ cell placed. read_keeps world building method slots heap keeps frame t number cell may.input may.own))
-  operation_keeps (op.WriteField o f v) may hides shown =
-      through_kept (value_at slots o) _
-      (λ number is. place_kept (place_in world.place (object_at heap number).kind f) _ (λ cell placed. write_keeps world tables building method slots heap keeps frame o f number cell v is placed shown.0 hides (shown.1 number cell is placed)))
-  operation_keeps (op.NewObject call) may hides shown = tt
-  operation_keeps (op.StaticCall call) may hides shown = tt
-  operation_keeps (op.InstanceCall call) may hides shown = tt
-  operation_keeps (op.SuperCall call) may hides shown = tt
-  operation_keeps (op.Print value) may hides shown = tt
+  operation_keeps (op.ReadField t o f) plain may hides shown =
+      through_kept ⊥ (value_at slots o) _ (λ number is. place_kept ⊥ (place_in world.place (object_at heap number).kind f) _ (λ cell placed. read_keeps world building method slots heap keeps frame t number cell may.input may.own))
+  operation_keeps (op.WriteField o f v) plain may hides shown =
+      through_kept ⊥ (value_at slots o) _
+      (λ number is. place_kept ⊥ (place_in world.place (object_at heap number).kind f) _ (λ cell placed. write_keeps world tables building method slots heap keeps frame o f number cell v is placed shown.0 hides (shown.1 number cell is placed)))
+  operation_keeps (op.NewObject call) plain may hides shown = absurd plain
+  operation_keeps (op.StaticCall call) plain may hides shown = absurd plain
+  operation_keeps (op.InstanceCall call) plain may hides shown = absurd plain
+  operation_keeps (op.SuperCall call) plain may hides shown = absurd plain
+  operation_keeps (op.Print value) plain may hides shown = tt
