@@ -83,7 +83,7 @@ module _ (program : Program) (locals : List (List Type_)) (formed : is_formed pr
   abbrev v : Numbers
   v = numbers_of world.place slots heap ints_
 
-  not_own : (slot : ℕ) → is_built method slot ≡ true → IsOwn method slot → ⊥
+  pub not_own : (slot : ℕ) → is_built method slot ≡ true → IsOwn method slot → ⊥
   not_own slot built own = false≢true (sym (rw (own.0, own.1) refl) ∙ built)
 
   pub built_of : (slot : ℕ) → (IsOwn method slot → ⊥) → is_built method slot ≡ true

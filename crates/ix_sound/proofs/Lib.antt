@@ -17,3 +17,4 @@ mod FieldsShown
 mod FieldsKept
 mod CopiesShown
 mod OperationShown
+mod OperationSteps

@@ -66,7 +66,7 @@ module _ (program : Program) (locals : List (List Type_)) (formed : is_formed pr
       later true is e = e
       later false is e = absurd (false≢true is)
 
-  not_final : (o f : ℕ) → may_be_written program method o f ≡ true → (IsOwn method o → ⊥) → (field_at program f).is_final ≡ false
+  pub not_final : (o f : ℕ) → may_be_written program method o f ≡ true → (IsOwn method o → ⊥) → (field_at program f).is_final ≡ false
   not_final o f e other = by_test (field_at program f).is_final (λ t. absurd (other (final_own o f e t))) (λ t. t)
 
   may_write : (o f x : ℕ) → may_be_written program method o f ≡ true → IsClean program method (op.WriteField o f x) → (IsOwn method o → HasField world (ObjectOf method.class) f) → MayWrite world method o f
