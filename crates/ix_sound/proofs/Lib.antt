@@ -18,3 +18,4 @@ mod FieldsKept
 mod CopiesShown
 mod OperationShown
 mod OperationSteps
+mod OperationMoves

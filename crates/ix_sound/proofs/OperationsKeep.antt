@@ -36,11 +36,13 @@ MayWrap (op.Num t arith_op y z) = Unit {0}
 MayWrap (op.Unary t unary y) = Unit {0}
 MayWrap _ = ⊥
 
+-- the operation calls nothing and prints nothing
 abbrev pub IsNoCall : OpKind → Type 0
 IsNoCall (op.NewObject call) = ⊥
 IsNoCall (op.StaticCall call) = ⊥
 IsNoCall (op.InstanceCall call) = ⊥
 IsNoCall (op.SuperCall call) = ⊥
+IsNoCall (op.Print value) = ⊥
 IsNoCall _ = Unit {0}
 
 module _ (world : World) (tables : IsWorld world) (limits : Limits) (place : ℕ) (building : ℕ → Type 0) (method : Method) (slots : List Held) (heap : Heap) (keeps : HeapKeeps world building heap) (frame : FrameKeeps building method slots heap) where
@@ -48,7 +50,7 @@ module _ (world : World) (tables : IsWorld world) (limits : Limits) (place : ℕ
   abbrev pub Keeps : Type 0 → Effect → Type 0
   Keeps Wraps (Done later after) = StepKeeps world building method slots heap later after
   Keeps Wraps (Wrapped later after) = Wraps × StepKeeps world building method slots heap later after
-  Keeps Wraps (Printed value) = Unit {0}
+  Keeps Wraps (Printed value) = ⊥
   Keeps Wraps (Called kind call) = ⊥
   Keeps Wraps (Stopped ending) = IsBad (Some ending) → ⊥
 
@@ -169,4 +171,4 @@ module _ (world : World) (tables : IsWorld world) (limits : Limits) (place : ℕ
   operation_keeps (op.StaticCall call) plain may hides shown = absurd plain
   operation_keeps (op.InstanceCall call) plain may hides shown = absurd plain
   operation_keeps (op.SuperCall call) plain may hides shown = absurd plain
-  operation_keeps (op.Print value) plain may hides shown = tt
+  operation_keeps (op.Print value) plain may hides shown = absurd plain
