@@ -19,3 +19,4 @@ mod CopiesShown
 mod OperationShown
 mod OperationSteps
 mod OperationMoves
+mod LeaveMoves
