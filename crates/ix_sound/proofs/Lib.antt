@@ -20,3 +20,4 @@ mod OperationShown
 mod OperationSteps
 mod OperationMoves
 mod LeaveMoves
+mod ArgumentsMet

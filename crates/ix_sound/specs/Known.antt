@@ -44,6 +44,13 @@ pub data Overrides (program : Program) : ℕ → ℕ → Type 0 where
 abbrev pub call_of : CallOp → ℕ → CallOp
 call_of call method = record call { method = method }
 
+-- what a kind of call may call, and on what
+abbrev pub KindFits : CallKind → CallOp → Method → Type 0
+KindFits Static call named = named.is_static ≡ true
+KindFits Instance call named = (named.is_static ≡ false) × (named.constructor ≡ false) × (slot : ℕ) × (call.receiver ≡ Some slot)
+KindFits (New class) call named = (named.is_static ≡ false) × (named.constructor ≡ true)
+KindFits Super call named = (named.is_static ≡ false) × (named.constructor ≡ true)
+
 -- A call of a formed program by a method of it, of which no argument is an error where it is taken for a call of the named method.
 pub record CallsWell (program : Program) (caller callee : Method) (kind : CallKind) (call : CallOp) (store : Stored) : Type 0 where
   pub number : ℕ
@@ -53,6 +60,7 @@ pub record CallsWell (program : Program) (caller callee : Method) (kind : CallKi
   pub named : ℕ
   pub overrides : Overrides program call.method named
   pub known : named < length program.methods
+  pub kinds : KindFits kind call (method_at program named)
   pub args : length call.args ≡ length (method_at program named).params
   pub apart : is_argument call.args call.target ≡ false
   pub receiver : (slot : ℕ) → kind ≡ Instance → call.receiver ≡ Some slot → (slot == call.target) ≡ false
