@@ -21,3 +21,5 @@ mod OperationSteps
 mod OperationMoves
 mod LeaveMoves
 mod ArgumentsMet
+mod ResultSlots
+mod Overriding

@@ -13,3 +13,4 @@ pub mod Errors
 pub mod Known
 -- The promise.
 pub mod Sound
+pub mod Stands
