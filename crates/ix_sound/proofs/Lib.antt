@@ -23,3 +23,4 @@ mod LeaveMoves
 mod ArgumentsMet
 mod ResultSlots
 mod Overriding
+mod CallReturns

@@ -52,7 +52,7 @@ KindFits (New class) call named = (named.is_static ≡ false) × (named.construc
 KindFits Super call named = (named.is_static ≡ false) × (named.constructor ≡ true)
 
 -- A call of a formed program by a method of it, of which no argument is an error where it is taken for a call of the named method.
-pub record CallsWell (program : Program) (caller callee : Method) (kind : CallKind) (call : CallOp) (store : Stored) : Type 0 where
+pub record CallsWell (program : Program) (caller callee : Method) (kind : CallKind) (call : CallOp) (stage : Stage) (store : Stored) : Type 0 where
   pub number : ℕ
   pub there : number < length program.methods
   pub caller_is : caller ≡ method_at program number
@@ -62,6 +62,8 @@ pub record CallsWell (program : Program) (caller callee : Method) (kind : CallKi
   pub known : named < length program.methods
   pub kinds : KindFits kind call (method_at program named)
   pub args : length call.args ≡ length (method_at program named).params
+  pub makes : (class : ℕ) (new : Bool) (types : Types) → stage ≡ Making class new types → (caller.constructor ≡ true) × (class ≡ caller.class)
+  pub target : caller.constructor ≡ true → (0 == call.target) ≡ false
   pub apart : is_argument call.args call.target ≡ false
   pub receiver : (slot : ℕ) → kind ≡ Instance → call.receiver ≡ Some slot → (slot == call.target) ≡ false
   pub met : (error : Error) (rank : ℕ) → ArgumentClaim program (call_of call named) store error rank → ⊥
@@ -88,7 +90,7 @@ module _ (program : Program) (profile : Profile) (locals : ℕ → List Type_) w
     pub stage_fits : StageFits program locals number tasks stage
 
   pub record FineBehind (number : ℕ) (tasks : Tasks) (caller callee : Method) (kind : CallKind) (call : CallOp) (stage : Stage) (store : Store) : Type 0 where
-    pub well : CallsWell program caller callee kind call (stored store)
+    pub well : CallsWell program caller callee kind call stage (stored store)
     pub after : Store
     pub gives : BehindGives program caller kind (call_of call well.named) (stored store) (stored after)
     pub types : Types
@@ -99,7 +101,7 @@ module _ (program : Program) (profile : Profile) (locals : ℕ → List Type_) w
   BehindFine number tasks caller callee kind call _ = ⊥
 
   abbrev pub BehindHolds : Method → Method → CallKind → CallOp → Known → List Held → Heap → Type 0
-  BehindHolds caller callee kind call (Here stage store) slots heap = (well : CallsWell program caller callee kind call (stored store)) (after : Store) → BehindGives program caller kind (call_of call well.named) (stored store) (stored after)
+  BehindHolds caller callee kind call (Here stage store) slots heap = (well : CallsWell program caller callee kind call stage (stored store)) (after : Store) → BehindGives program caller kind (call_of call well.named) (stored store) (stored after)
       → (types : Types) → MeetsHere (stage_behind kind stage types) after slots heap
   BehindHolds caller callee kind call _ slots heap = Unit {0}
 
