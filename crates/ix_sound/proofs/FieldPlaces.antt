@@ -31,6 +31,15 @@ placed_among (first ∷ numbers) n place e =
     later None each f = absurd cc
     later (Some at) each f = each at refl
 
+pub among_placed : (numbers : List ℕ) (n : ℕ) → is_among numbers n ≡ true → (place : ℕ) × (place_among numbers n ≡ Some place)
+among_placed [] n e = absurd (false≢true e)
+among_placed (first ∷ numbers) n e =
+    by_test (first == n)
+    (λ t. (0, subst (λ b. (if b then Some 0 else option_map (λ (p : ℕ). p + 1) (place_among numbers n)) ≡ Some 0) (sym t) refl))
+    (λ t.
+    let found = among_placed numbers n (subst (λ b. (if b then true else is_among numbers n) ≡ true) t e) in
+    (found.0 + 1, subst (λ b. (if b then Some 0 else option_map (λ (p : ℕ). p + 1) (place_among numbers n)) ≡ Some (found.0 + 1)) (sym t) (ap (option_map (λ (p : ℕ). p + 1)) found.1)))
+
 either_among : (front back : List ℕ) (n : ℕ) → is_among (front ++ back) n ≡ true → (is_among front n ≡ true) ⊎ (is_among back n ≡ true)
 either_among [] back n e = inr e
 either_among (one ∷ front) back n e =

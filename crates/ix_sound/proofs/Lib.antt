@@ -24,3 +24,4 @@ mod ArgumentsMet
 mod ResultSlots
 mod Overriding
 mod CallReturns
+mod SuperReturns
