@@ -25,3 +25,4 @@ mod ResultSlots
 mod Overriding
 mod CallReturns
 mod SuperReturns
+mod CleanTexts

@@ -116,12 +116,12 @@ module _ (program : Program) (profile : Profile) (locals : ℕ → List Type_) w
   HoldsFor (Behind caller callee kind call known) slots heap = BehindHolds caller callee kind call known slots heap
 
   -- at the entry of a method
+  abbrev pub stage_if : Bool → Method → Stage
+  stage_if true method = Making method.class (has_parent program method) (entry_type program method)
+  stage_if false method = Plain
+
   abbrev pub entry_stage : ℕ → Stage
-  entry_stage number = cond_stage (method_at program number).constructor
-    where
-      cond_stage : Bool → Stage
-      cond_stage true = Making (method_at program number).class (has_parent program (method_at program number)) (entry_type program (method_at program number))
-      cond_stage false = Plain
+  entry_stage number = stage_if (method_at program number).constructor (method_at program number)
 
   abbrev pub known_at : (entries : (number : ℕ) → nat_lt number (length program.methods) ≡ true → Store) → (number : ℕ) (t : Bool) → nat_lt number (length program.methods) ≡ t → Known
   known_at entries number true there = Here (entry_stage number) (entries number there)
