@@ -26,3 +26,4 @@ mod Overriding
 mod CallReturns
 mod SuperReturns
 mod CleanTexts
+mod Entries
