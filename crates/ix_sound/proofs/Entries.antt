@@ -185,3 +185,46 @@ module _ (program : Program) (locals : List (List Type_)) (formed : is_formed pr
 
           no_param : (types : List Type_) → param_type_from (param_slot at 0) types 0 ≡ None
           no_param types = (let first : param_slot at 0 ≡ 1 = rw static refl in subst (λ n. param_type_from n types 0 ≡ None) (sym first) (past 1 types (omega (arith))))
+
+    -- a constructor of a class with a parent calls the parent's once, in its body itself
+    calls_once : super_calls_fit program at ≡ true
+    calls_once =
+        let numbers = loop_numbers (body_of at) in
+        let types = locals_of program locals formed number in
+        let a = and_parts (is_class program at.class) _ (method_is program locals formed number lt) in
+        let b = and_parts (params_fit program at 0 at.params at.param_types) _ a.1 in
+        let c = and_parts (at_most (param_slots at) at.slots) _ b.1 in
+        let d = and_parts (at_most at.slots 512) _ c.1 in
+        let e = and_parts (locals_fit program at types 0 at.locals types) _ d.1 in
+        let f = and_parts (result_fits program at) _ e.1 in
+        let g = and_parts (constructor_fits program at) _ f.1 in
+        let h = and_parts (overrides_fit program at at.overrides) _ g.1 in
+        let i = and_parts (same_numbers numbers (numbers_from 0 (length numbers))) _ h.1 in
+        let j = and_parts (at_most (length numbers) 128) _ i.1 in
+        let k = and_parts (nat_lt (code_size (body_of at)) 268435456) _ j.1 in
+        (and_parts (super_calls_fit program at) _ k.1).0
+
+    body_supers : at.constructor ≡ true → (parent : Bool) → has_parent program at ≡ parent → SuperEnds parent (body_of at) Empty
+    body_supers made parent is =
+        let both = and_parts (super_calls (body_of at) == one_if (at.constructor && has_parent program at)) _ calls_once in
+        let all = equal (super_calls (body_of at)) _ both.0 in
+        let own = equal (own_super_calls (body_of at)) _ both.1 in
+        by_parent parent (all ∙ ap (λ b. one_if (b && has_parent program at)) made ∙ ap one_if is) (own ∙ ap (λ b. one_if (b && has_parent program at)) made ∙ ap one_if is)
+      where
+        by_parent : (parent : Bool) → super_calls (body_of at) ≡ one_if parent → own_super_calls (body_of at) ≡ one_if parent → SuperEnds parent (body_of at) Empty
+        by_parent true all own = (all ∙ sym own, omega (arith, own))
+        by_parent false all own = all
+
+    pub entry_fits : StageFits program (types_in program locals formed) number (code_then (body_of at) Empty) (entry_stage program profile (types_in program locals formed) number)
+    entry_fits = by_made at.constructor refl
+      where
+        by_made : (b : Bool) → at.constructor ≡ b → StageFits program (types_in program locals formed) number (code_then (body_of at) Empty) (stage_if program profile (types_in program locals formed) b at)
+        by_made false e = e
+        by_made true e = record {
+          constructor = e;
+          of = refl;
+          tracks = entry_tracks e;
+          lead = body_lead program locals formed number lt;
+          hidden = entry_hidden e;
+          supers = code_supers (has_parent program at) (body_of at) Empty (body_supers e (has_parent program at) refl) tt;
+        }
