@@ -27,3 +27,5 @@ mod CallReturns
 mod SuperReturns
 mod CleanTexts
 mod Entries
+mod Overridden
+mod AfterCalls
