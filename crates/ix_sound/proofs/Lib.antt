@@ -29,3 +29,4 @@ mod CleanTexts
 mod Entries
 mod Overridden
 mod AfterCalls
+mod CallMoves
