@@ -30,3 +30,4 @@ mod Entries
 mod Overridden
 mod AfterCalls
 mod CallMoves
+mod Moves
