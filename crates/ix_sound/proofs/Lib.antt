@@ -31,3 +31,5 @@ mod Overridden
 mod AfterCalls
 mod CallMoves
 mod Moves
+mod Dispatched
+pub mod NoErrorsAreSafe
