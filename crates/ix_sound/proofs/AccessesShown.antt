@@ -1,7 +1,7 @@
 -- Where no error of an access, a new array or a value of an element is derived, indices lie within arrays, lengths aren't negative, and elements meet their claims.
-use Rattle.std.specs.Prelude.{◌≡◌, ◌⊎◌, ℕ, zero, suc, ◌<◌, nat_lt, ◌≤ℤ◌, ◌<ℤ◌, int_le, ℤ, pos, Bool, true, false, ◌&&◌, if◌then◌else◌, List, [], ◌∷◌, slice_get, Option, Some, unwrap_or, refl}
+use Rattle.std.specs.Prelude.{◌≡◌, ℕ, zero, suc, nat_lt, ◌≤ℤ◌, ◌<ℤ◌, int_le, ℤ, pos, Bool, true, false, ◌&&◌, if◌then◌else◌, List, [], ◌∷◌, slice_get, Some, refl}
 use Rattle.std.specs.List.{list_all}
-use Rattle.std.proofs.Common.{arith, sym, ap, ◌∙◌, subst, inl, inr}
+use Rattle.std.proofs.Common.{arith, sym, subst}
 use Rattle.std.proofs.lemmas.Bool.{and_parts, false≢true}
 use Rattle.std.proofs.lemmas.Bool.Decides.{nat_tests}
 use Rattle.std.proofs.lemmas.Int.{ints}
@@ -18,30 +18,24 @@ use Rattle.ix_core.specs.declared.error.Subject.TheVariants.{Element}
 use Rattle.ix_core.specs.declared.fact.Path.TheVariants.{Slot}
 use Rattle.ix_core.specs.declared.fact.PathOff.TheVariants.{Nothing}
 use Rattle.ix_core.specs.declared.fact.PathClaim.TheVariants as path_claim
-use Rattle.ix_core.specs.declared.op.Op.{Op}
-use Rattle.ix_core.specs.declared.op.OpKind.TheVariants as op
-use Rattle.ix_core.specs.declared.program.Method.{Method}
 use Rattle.ix_core.specs.declared.program.Program.{Program}
-use Rattle.ix_core.specs.Claims.{True, AreTrue, AreTrueOf}
+use Rattle.ix_core.specs.Claims.{True, AreTrueOf}
 use Rattle.ix_core.specs.Heap.{Held, Num, Boolean, Null, At, Heap, Places, value_at, int_of, size_of, int_reading, no_reading, cell_default, default_of_base}
 use Rattle.ix_core.specs.Machine.{int_at}
 use Rattle.ix_core.specs.Numbers.{Numbers, HasInts, numbers_of}
 use Rattle.ix_core.specs.Objects.{MeetsElement}
 use Rattle.ix_core.specs.Safe.{element_claims}
 use Rattle.ix_core.specs.Typed.{IsOfType}
-use Rattle.ix_core.specs.Types.{is_array, is_type, is_base, is_int_type, is_empty, is_element_claim, cell_type}
+use Rattle.ix_core.specs.Types.{is_array, is_base, is_int_type, is_empty, is_element_claim, cell_type}
 use Rattle.ix_core.proofs.Cases.{by_test}
 use Rattle.ix_facts.specs.AfterOperation.{loaded_claims}
 use Rattle.ix_facts.specs.Assume.{ClaimHolds}
 use Rattle.ix_facts.specs.Stores.{Stored, Meets}
 use Rattle.ix_steps.specs.MachineSteps.{on_paths}
-use Rattle.ix_sign.specs.SignErrors.{Refuses, Unproved, plain, part}
-use Rattle.ix_method.specs.RuleErrors.{AccessLow, AccessHigh, LengthNegative, ElementClaim, EntryClaim, FreshElement, zero_meets, no_path}
-use Rattle.ix_sound.specs.Errors.{NoKindErrors}
-use Rattle.ix_sound.specs.Shown.{IsInside}
+use Rattle.ix_sign.specs.SignErrors.{Refuses, plain}
+use Rattle.ix_method.specs.RuleErrors.{AccessLow, AccessHigh, LengthNegative, ElementClaim, FreshElement, zero_meets, no_path}
 use Rattle.ix_sound.proofs.ClaimTruths.{EachHolds, none_fails}
 use Rattle.ix_sound.proofs.Stable.{unrefused}
-use Rattle.ix_core.specs.World.{World}
 
 -- ---- claims on elements name nothing
 

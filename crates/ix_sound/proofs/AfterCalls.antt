@@ -1,7 +1,6 @@
 -- Behind a call what is known holds, whatever it was that was known before: the law of an analysis on calls.
-use Rattle.std.specs.Prelude.{◌≡◌, ℕ, ◌<◌, ◌==◌, nat_lt, Bool, true, false, List, length, Option, None, Some, refl}
+use Rattle.std.specs.Prelude.{◌≡◌, ℕ, true, false, List, length, Option, Some, refl}
 use Rattle.std.proofs.Common.{sym, ap, ◌∙◌, subst}
-use Rattle.std.proofs.lemmas.Bool.{false≢true}
 use Rattle.ix_core.specs.declared.claim.Type_.{Type_}
 use Rattle.ix_core.specs.declared.fact.Profile.{Profile}
 use Rattle.ix_core.specs.declared.op.CallOp.{CallOp}
@@ -10,10 +9,10 @@ use Rattle.ix_core.specs.declared.program.Program.{Program}
 use Rattle.ix_core.specs.Analysis.{IsIntIf, FillsTarget, Results}
 use Rattle.ix_core.specs.Formed.{is_formed}
 use Rattle.ix_core.specs.Heap.{Held, At, Heap, ObjectOf, value_at}
-use Rattle.ix_core.specs.Machine.{CallKind, Static, Instance, New, Super, call_values, call_heap, set_target, target_of}
-use Rattle.ix_core.specs.Numbers.{Numbers, HasInts, numbers_of}
+use Rattle.ix_core.specs.Machine.{CallKind, Static, Instance, New, Super, call_values, set_target, target_of}
+use Rattle.ix_core.specs.Numbers.{HasInts, numbers_of}
 use Rattle.ix_core.specs.Objects.{AllOn, KeepsInts, HasField, MeetsField}
-use Rattle.ix_core.specs.Tables.{method_at, class_at}
+use Rattle.ix_core.specs.Tables.{method_at}
 use Rattle.ix_core.specs.Types.{Types}
 use Rattle.ix_core.specs.Waits.{FitsKind, FitsCall, Since, AreFresh, is_super}
 use Rattle.ix_core.specs.World.{World, tables_in}
@@ -24,7 +23,7 @@ use Rattle.ix_store.specs.declared.store.Store.{Store}
 use Rattle.ix_store.specs.StoredFacts.{stored}
 use Rattle.ix_sign.specs.Signs.{CallGives}
 use Rattle.ix_sound.specs.Direct.{direct}
-use Rattle.ix_sound.specs.Known.{Known, Anything, Here, Behind, CallsWell, BehindGives, stage_behind, call_of, MeetsHere, BehindHolds, HoldsFor}
+use Rattle.ix_sound.specs.Known.{Known, Anything, Here, Behind, CallsWell, BehindGives, stage_behind, call_of, MeetsHere, HoldsFor}
 use Rattle.ix_sound.specs.Making.{Stage, Plain, Making, with_types, StageHolds}
 use Rattle.ix_sound.specs.Stands.{StandsFor}
 use Rattle.ix_sound.proofs.ArgumentsMet.{params_met}

@@ -1,8 +1,7 @@
 -- Where no argument of a call is an error, the claims of the named method's parameters are met.
-use Rattle.std.specs.Prelude.{◌≡◌, ℕ, zero, suc, ◌+◌, ◌<◌, Bool, true, false, if◌then◌else◌, pos, List, [], ◌∷◌, ◌++◌, length, map, slice_get, option_map, Option, None, Some, unwrap_or, refl}
-use Rattle.std.proofs.Common.{arith, sym, ap, ◌∙◌, subst}
+use Rattle.std.specs.Prelude.{◌≡◌, ℕ, zero, suc, ◌<◌, true, false, List, [], ◌∷◌, length, map, slice_get, option_map, Option, None, Some, unwrap_or, refl}
+use Rattle.std.proofs.Common.{arith, sym, ap, ◌∙◌}
 use Rattle.std.proofs.lemmas.Bool.{false≢true}
-use Rattle.ix_core.specs.declared.claim.Claim.{Claim}
 use Rattle.ix_core.specs.declared.claim.Name.{Name}
 use Rattle.ix_core.specs.declared.claim.Name.TheVariants.{Param, Local, FieldNamed}
 use Rattle.ix_core.specs.declared.claim.Type_.{Type_}
@@ -11,14 +10,13 @@ use Rattle.ix_core.specs.declared.error.Subject.TheVariants as subject
 use Rattle.ix_core.specs.declared.fact.Path.TheVariants.{Slot, FieldOf}
 use Rattle.ix_core.specs.declared.op.Arg.{Arg}
 use Rattle.ix_core.specs.declared.op.CallOp.{CallOp}
-use Rattle.ix_core.specs.declared.program.Local.{Local as Variable}
 use Rattle.ix_core.specs.declared.program.Method.{Method}
 use Rattle.ix_core.specs.declared.program.Program.{Program}
 use Rattle.ix_core.specs.Formed.{is_formed}
-use Rattle.ix_core.specs.Heap.{Held, Num, Boolean, Null, At, Heap, ObjectOf, Reading, value_at, reading_of}
+use Rattle.ix_core.specs.Heap.{Held, Num, Boolean, Null, At, Heap, ObjectOf, value_at, reading_of}
 use Rattle.ix_core.specs.Machine.{CallKind, Static, Instance, New, Super, call_values, call_heap, receiver_slot}
 use Rattle.ix_core.specs.Numbers.{Numbers, HasInts, numbers_of, field_of}
-use Rattle.ix_core.specs.Objects.{IsOn, AllOn, Later, Names}
+use Rattle.ix_core.specs.Objects.{AllOn, Later}
 use Rattle.ix_core.specs.Tables.{method_at, param_slot}
 use Rattle.ix_core.specs.Waits.{MeetParams, param_readings, reading_through}
 use Rattle.ix_core.specs.World.{World, tables_in}

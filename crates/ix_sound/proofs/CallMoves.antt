@@ -1,21 +1,19 @@
 -- A call without errors shows what the laws ask of it.
-use Rattle.std.specs.Prelude.{◌≡◌, ℕ, ◌<◌, ◌==◌, nat_lt, Bool, true, false, not, ◌&&◌, pos, List, [], length, Option, None, Some, refl}
+use Rattle.std.specs.Prelude.{◌≡◌, ℕ, ◌<◌, ◌==◌, nat_lt, Bool, true, false, List, [], length, Option, None, Some, refl}
 use Rattle.std.proofs.Common.{sym, ap, ◌∙◌, subst}
 use Rattle.std.proofs.lemmas.Bool.{and_parts, false≢true}
 use Rattle.ix_core.specs.declared.claim.Type_.{Type_}
 use Rattle.ix_core.specs.declared.error.Error.{Error}
-use Rattle.ix_core.specs.declared.fact.Path.TheVariants.{FieldOf}
 use Rattle.ix_core.specs.declared.fact.Profile.{Profile}
 use Rattle.ix_core.specs.declared.op.CallOp.{CallOp}
 use Rattle.ix_core.specs.declared.op.Op.{Op}
-use Rattle.ix_core.specs.declared.op.OpKind.{OpKind}
 use Rattle.ix_core.specs.declared.op.OpKind.TheVariants as op
 use Rattle.ix_core.specs.declared.program.Method.{Method}
 use Rattle.ix_core.specs.declared.program.Program.{Program}
-use Rattle.ix_core.specs.Analysis.{IsWorld, Calls}
+use Rattle.ix_core.specs.Analysis.{Calls}
 use Rattle.ix_core.specs.Code.{Code, Do}
 use Rattle.ix_core.specs.Formed.{is_formed, call_fits, new_fits, static_fits, instance_fits, super_fits, op_fits, is_super_call}
-use Rattle.ix_core.specs.Heap.{Held, At, Heap, ObjectOf, value_at, field_value, reading_of, no_reading}
+use Rattle.ix_core.specs.Heap.{Held, At, Heap, ObjectOf, value_at}
 use Rattle.ix_core.specs.Machine.{CallKind, Static, Instance, New, Super, frame}
 use Rattle.ix_core.specs.Numbers.{Numbers, HasInts, numbers_of}
 use Rattle.ix_core.specs.Objects.{HasField, HeapKeeps, FrameKeeps, KeepsInts, AllOn}
@@ -23,14 +21,13 @@ use Rattle.ix_core.specs.Tables.{method_at}
 use Rattle.ix_core.specs.Tasks.{Tasks, Run, code_then}
 use Rattle.ix_core.specs.Types.{Types}
 use Rattle.ix_core.specs.Waits.{Knowledge, FitsCall, AreFresh, is_super}
-use Rattle.ix_core.specs.World.{World, tables_in}
+use Rattle.ix_core.specs.World.{World}
 use Rattle.ix_core.proofs.Cases.{by_test, equal}
 use Rattle.ix_core.proofs.FormedParts.{locals_of}
 use Rattle.ix_core.proofs.Kept.{all_on, has_ints}
 use Rattle.ix_core.proofs.LawsAreSafe.{types_in}
 use Rattle.ix_core.proofs.TypedCalls.{not_static}
 use Rattle.ix_core.proofs.TypedStarts.{OperationFits}
-use Rattle.ix_steps.specs.MachineSteps.{reading_at}
 use Rattle.ix_steps.proofs.MachineTests.{field_is}
 use Rattle.ix_store.specs.declared.store.Store.{Store}
 use Rattle.ix_store.specs.StoredFacts.{stored}
@@ -39,10 +36,10 @@ use Rattle.ix_sound.specs.Chain.{Flowing}
 use Rattle.ix_sound.specs.Clean.{IsClean}
 use Rattle.ix_sound.specs.Direct.{direct}
 use Rattle.ix_sound.specs.Errors.{NoErrors, NoKindErrors}
-use Rattle.ix_sound.specs.Known.{Known, Here, KindFits, CallsWell, BehindGives, stage_behind, call_of, MeetsHere, FineHere, Itself, knowledge}
+use Rattle.ix_sound.specs.Known.{Here, KindFits, CallsWell, BehindGives, stage_behind, MeetsHere, Itself, knowledge}
 use Rattle.ix_sound.specs.Making.{Stage, Plain, Making, with_types, MakingFits, StageFits, StageHolds}
 use Rattle.ix_sound.proofs.ArgumentsMet.{params_met}
-use Rattle.ix_sound.proofs.FormedCalls.{CallHas, kind_of, call_has, static_fits_call, instance_fits_call, new_fits_call, super_fits_call, receiver_has, instance_named}
+use Rattle.ix_sound.proofs.FormedCalls.{CallHas, call_has, static_fits_call, instance_fits_call, new_fits_call, super_fits_call, receiver_has, instance_named}
 use Rattle.ix_sound.proofs.StageMoves.{operation_stays, super_made}
 
 module _ (program : Program) (locals : List (List Type_)) (formed : is_formed program locals ≡ true) (profile : Profile) (entries : (number : ℕ) → nat_lt number (length program.methods) ≡ true → Store)

@@ -1,8 +1,7 @@
 -- Behind a call that is no call of the parent's constructor each store that its rule gives is met.
-use Rattle.std.specs.Prelude.{◌≡◌, ◌⊎◌, ℕ, zero, suc, ◌<◌, ◌==◌, Bool, true, false, not, ◌&&◌, ◌||◌, if◌then◌else◌, pos, List, [], ◌∷◌, ◌++◌, length, slice_get, slice_set, option_map, Option, None, Some, unwrap_or, refl}
+use Rattle.std.specs.Prelude.{◌≡◌, ◌⊎◌, ℕ, zero, suc, ◌<◌, ◌==◌, Bool, true, false, not, ◌&&◌, ◌||◌, if◌then◌else◌, pos, List, [], ◌∷◌, length, slice_get, option_map, Option, None, Some, unwrap_or, refl}
 use Rattle.std.proofs.Common.{arith, sym, ap, ◌∙◌, subst, inl, inr, ⊎_elim}
 use Rattle.std.proofs.lemmas.Bool.{false≢true}
-use Rattle.std.proofs.lemmas.Bool.Decides.{nat_tests}
 use Rattle.std.proofs.lemmas.Int.{ints}
 use Rattle.ix_core.specs.declared.claim.Name.{Name}
 use Rattle.ix_core.specs.declared.claim.Name.TheVariants.{Param, Local, FieldNamed}
@@ -17,19 +16,18 @@ use Rattle.ix_core.specs.declared.program.Program.{Program}
 use Rattle.ix_core.specs.Analysis.{IsIntIf, FillsTarget, Results}
 use Rattle.ix_core.specs.Claims.{AreTrue}
 use Rattle.ix_core.specs.Formed.{is_formed, is_argument}
-use Rattle.ix_core.specs.Heap.{Held, Num, Boolean, Null, At, Heap, value_at, reading_of}
+use Rattle.ix_core.specs.Heap.{Held, Num, At, Heap, value_at, reading_of}
 use Rattle.ix_core.specs.Machine.{CallKind, Static, Instance, New, Super, call_values, set_target, target_of, receiver_slot}
 use Rattle.ix_core.specs.Numbers.{Numbers, HasInts, numbers_of, field_of}
-use Rattle.ix_core.specs.Objects.{IsOn, AllOn, IsIntHeld, KeepsInts, IsSame}
-use Rattle.ix_core.specs.Tables.{method_at, param_slot, default_result}
-use Rattle.ix_core.specs.Types.{Types, is_void, is_empty}
+use Rattle.ix_core.specs.Objects.{IsOn, AllOn, IsIntHeld, KeepsInts}
+use Rattle.ix_core.specs.Tables.{method_at, default_result}
+use Rattle.ix_core.specs.Types.{is_void, is_empty}
 use Rattle.ix_core.specs.Waits.{FitsCall, Since, Stays, NoEffect, Final, Hidden, is_super, param_readings, reading_through}
 use Rattle.ix_core.specs.World.{World, tables_in}
-use Rattle.ix_core.proofs.Cases.{by_test, equal}
+use Rattle.ix_core.proofs.Cases.{by_test}
 use Rattle.ix_core.proofs.Entered.{args_each, first_and}
 use Rattle.ix_core.proofs.Heaps.{value_set, value_other}
-use Rattle.ix_core.proofs.Kept.{has_ints}
-use Rattle.ix_core.proofs.TypedCalls.{method_has, not_static}
+use Rattle.ix_core.proofs.TypedCalls.{method_has}
 use Rattle.ix_facts.specs.Facts.{AllHold}
 use Rattle.ix_facts.specs.Forget.{SameBut, of_slot, of_call}
 use Rattle.ix_facts.specs.Stores.{Stored, Meets}
@@ -37,8 +35,8 @@ use Rattle.ix_facts.proofs.FactLists.{all_hold_app}
 use Rattle.ix_steps.specs.CallEffects.{spared_in}
 use Rattle.ix_steps.specs.MachineSteps.{own_slot, reading_at}
 use Rattle.ix_steps.proofs.ReturnedCalls.{called_step}
-use Rattle.ix_sign.specs.Names.{arg_slot, call_path}
-use Rattle.ix_sign.specs.Signs.{CallGives, of_callee, result_facts, received, claims_facts}
+use Rattle.ix_sign.specs.Names.{call_path}
+use Rattle.ix_sign.specs.Signs.{CallGives, of_callee, received, claims_facts}
 use Rattle.ix_sign.proofs.SignTruth.{signs_hold}
 use Rattle.ix_sound.specs.Direct.{direct}
 use Rattle.ix_sound.specs.Known.{KindFits, call_of}

@@ -1,13 +1,13 @@
 -- A frame's moves that do no operation lead from tasks without errors to tasks without errors.
-use Rattle.std.specs.Prelude.{◌≡◌, ℕ, Bool, true, false, if◌then◌else◌}
+use Rattle.std.specs.Prelude.{ℕ, Bool, true, false, if◌then◌else◌}
 use Rattle.std.proofs.Common.{sym, subst}
 use Rattle.ix_core.specs.declared.op.Op.{Op}
 use Rattle.ix_core.specs.Code.{Code, End, Do, If, Break, Continue, Return, Throw, Loop, Condition, Known, Compare, Truth, Both, Either, Opposite}
 use Rattle.ix_core.specs.Machine.{step_condition}
-use Rattle.ix_core.specs.Tasks.{Tasks, Empty, Run, Ask, Decide, DecideTruth, Head, Again, Out, code_then, followed_by, behind_loop, next_turn}
+use Rattle.ix_core.specs.Tasks.{Tasks, Empty, Ask, Decide, DecideTruth, Head, Again, Out, code_then, followed_by, behind_loop, next_turn}
 use Rattle.ix_core.proofs.TypedTasks.{behind_code, turn_code, followed_code}
 use Rattle.ix_flow.specs.Flow.{Point, Rules, Flows, Asks}
-use Rattle.ix_sound.specs.Chain.{Each, EachAsked, Passes, Same, Weaker, Rounding, Turns, Flowing, Running, Asking, Comparing, Telling, Turning, Returning, Leaving, Passing}
+use Rattle.ix_sound.specs.Chain.{Each, EachAsked, Same, Weaker, Rounding, Turns, Flowing, Running, Asking, Comparing, Telling, Turning, Returning, Leaving, Passing}
 
 module _ (R : Rules) (Fine : Point → R.Store → Type 0) (labels : ℕ → R.Store) (Okay : Op → Type 0) where
   -- the tasks at the three ways out of a block

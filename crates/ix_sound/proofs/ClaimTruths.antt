@@ -1,5 +1,5 @@
 -- Claims that are true give the facts that the rules add, and claims that the rules show are true.
-use Rattle.std.specs.Prelude.{◌≡◌, ℕ, zero, suc, pos, true, false, List, [], ◌∷◌, slice_get, Option, Some, unwrap_or, refl}
+use Rattle.std.specs.Prelude.{◌≡◌, ℕ, zero, suc, List, [], ◌∷◌, slice_get, Option, Some, unwrap_or, refl}
 use Rattle.std.proofs.Common.{arith, sym, ap, ◌∙◌, subst}
 use Rattle.std.proofs.lemmas.Int.{ints}
 use Rattle.ix_text.specs.declared.span.Span.{Span}

@@ -1,6 +1,6 @@
 -- Where no error is derived from a method's text, each of its operations is clean.
-use Rattle.std.specs.Prelude.{◌≡◌, ◌⊎◌, ℕ, zero, suc, ◌==◌, Bool, true, false, not, ◌&&◌, if◌then◌else◌, List, [], ◌∷◌, ◌++◌, slice_get, Option, None, Some, unwrap_or, refl}
-use Rattle.std.proofs.Common.{sym, ap, ◌∙◌, subst, inl, inr, arith}
+use Rattle.std.specs.Prelude.{◌≡◌, ℕ, zero, suc, ◌==◌, Bool, true, false, if◌then◌else◌, List, [], ◌∷◌, ◌++◌, slice_get, Option, None, Some, unwrap_or, refl}
+use Rattle.std.proofs.Common.{ap, ◌∙◌, inl, inr, arith}
 use Rattle.std.proofs.lemmas.Bool.{and_parts, false≢true}
 use Rattle.std.proofs.lemmas.Bool.Decides.{nat_tests}
 use Rattle.ix_text.specs.declared.span.Span.{Span}
@@ -13,13 +13,13 @@ use Rattle.ix_core.specs.declared.program.Method.{Method}
 use Rattle.ix_core.specs.declared.program.Program.{Program}
 use Rattle.ix_core.specs.Code.{Code, End, Do, If, Break, Continue, Return, Throw, Loop, Condition, Known, Compare, Truth, Both, Either, Opposite}
 use Rattle.ix_core.specs.Objects.{IsOwn}
-use Rattle.ix_core.specs.Tables.{method_at, body_of}
+use Rattle.ix_core.specs.Tables.{method_at}
 use Rattle.ix_core.specs.Waits.{AreNotOwn}
 use Rattle.ix_core.proofs.Cases.{by_test, equal}
 use Rattle.ix_steps.specs.MachineSteps.{own_slot}
 use Rattle.ix_sign.specs.Names.{is_built}
-use Rattle.ix_sign.specs.SignErrors.{plain, part, HasEffect, EffectWrite}
-use Rattle.ix_method.specs.RuleErrors.{Somewhere, SomewhereAsked, OpText, TestEscapes, TextErrors, OpEscapes, escapes_by, this_args, this_entries, is_this}
+use Rattle.ix_sign.specs.SignErrors.{plain, part, HasEffect}
+use Rattle.ix_method.specs.RuleErrors.{Somewhere, SomewhereAsked, OpText, TestEscapes, escapes_by, this_args, this_entries, is_this}
 use Rattle.ix_sound.specs.Chain.{Each, EachAsked}
 use Rattle.ix_sound.specs.Clean.{Hides, IsQuiet, IsClean}
 

@@ -1,7 +1,7 @@
 -- Behind a copy into a variable without errors the variable meets its claims.
-use Rattle.std.specs.Prelude.{◌≡◌, ◌⊎◌, ℕ, zero, suc, ◌+◌, ◌<◌, ◌≤◌, nat_lt, ◌==◌, Bool, true, false, not, ◌&&◌, if◌then◌else◌, List, [], ◌∷◌, length, slice_get, Option, None, Some, unwrap_or, refl}
+use Rattle.std.specs.Prelude.{◌≡◌, ℕ, zero, suc, ◌+◌, ◌<◌, ◌≤◌, nat_lt, ◌==◌, Bool, true, false, not, ◌&&◌, if◌then◌else◌, List, [], ◌∷◌, length, slice_get, Option, None, Some, unwrap_or, refl}
 use Rattle.std.specs.List.{list_all}
-use Rattle.std.proofs.Common.{arith, sym, ap, ◌∙◌, subst, inl, inr, ⊎_elim}
+use Rattle.std.proofs.Common.{arith, sym, ap, ◌∙◌, subst}
 use Rattle.std.proofs.lemmas.Bool.{and_parts, false≢true}
 use Rattle.std.proofs.lemmas.Bool.Decides.{nat_tests}
 use Rattle.std.proofs.lemmas.Option.{slice_get_within}
@@ -12,13 +12,11 @@ use Rattle.ix_core.specs.declared.claim.Name.TheVariants.{Param, Local, FieldNam
 use Rattle.ix_core.specs.declared.claim.Type_.{Type_}
 use Rattle.ix_core.specs.declared.error.Error.{Error}
 use Rattle.ix_core.specs.declared.fact.Path.{Path}
-use Rattle.ix_core.specs.declared.fact.Path.TheVariants.{Slot, FieldOf}
+use Rattle.ix_core.specs.declared.fact.Path.TheVariants.{Slot}
 use Rattle.ix_core.specs.declared.program.Local.{Local as Variable}
 use Rattle.ix_core.specs.declared.program.Method.{Method}
 use Rattle.ix_core.specs.declared.program.Program.{Program}
-use Rattle.ix_core.specs.Claims.{True, AreTrue}
-use Rattle.ix_core.specs.Formed.{is_formed, at_most, is_slot, is_target, claim_fits, others, local_named_type, type_of_field, in_scope_type, locals_fit, params_fit}
-use Rattle.ix_core.specs.Heap.{Reading}
+use Rattle.ix_core.specs.Formed.{is_formed, at_most, is_slot, is_target, claim_fits, others, local_named_type, locals_fit, params_fit}
 use Rattle.ix_core.specs.Numbers.{Numbers}
 use Rattle.ix_core.specs.Objects.{Names}
 use Rattle.ix_core.specs.SameClaims.{same_name}
@@ -35,7 +33,7 @@ use Rattle.ix_sign.specs.SignErrors.{Refuses}
 use Rattle.ix_method.specs.MethodRules.{variable_claims, copied_claims}
 use Rattle.ix_method.specs.RuleErrors.{AssignClaim, subject_of}
 use Rattle.ix_sound.specs.Sound.{LocalsApart}
-use Rattle.ix_sound.proofs.ClaimTruths.{EachHolds, claims_hold, each_true, none_fails}
+use Rattle.ix_sound.proofs.ClaimTruths.{claims_hold, each_true, none_fails}
 use Rattle.ix_sound.proofs.NamedClaims.{HasType, MayName, claims_named, param_names, count_params, other_type, no_type}
 use Rattle.ix_sound.proofs.Stable.{unrefused}
 

@@ -1,5 +1,5 @@
 -- A call of an instance method without errors may be taken for a call of the method that runs.
-use Rattle.std.specs.Prelude.{◌≡◌, ◌⊎◌, ℕ, suc, ◌+◌, ◌<◌, ◌≤◌, nat_lt, Bool, true, false, if◌then◌else◌, pos, List, length, option_map, Option, None, Some, refl}
+use Rattle.std.specs.Prelude.{◌≡◌, ◌⊎◌, ℕ, ◌+◌, ◌<◌, ◌≤◌, nat_lt, true, if◌then◌else◌, pos, List, length, option_map, refl}
 use Rattle.std.proofs.Common.{arith, sym, ap, ◌∙◌, subst, ⊎_elim}
 use Rattle.std.proofs.lemmas.Bool.Decides.{nat_tests}
 use Rattle.std.proofs.lemmas.Int.{ints}
@@ -11,9 +11,9 @@ use Rattle.ix_core.specs.declared.program.Program.{Program}
 use Rattle.ix_core.specs.Analysis.{Calls}
 use Rattle.ix_core.specs.Formed.{is_formed}
 use Rattle.ix_core.specs.Heap.{Held, Num, Heap, value_at}
-use Rattle.ix_core.specs.Machine.{CallKind, Instance, call_values, receiver_slot, target_of}
+use Rattle.ix_core.specs.Machine.{Instance, call_values, receiver_slot, target_of}
 use Rattle.ix_core.specs.Objects.{IsIntHeld, HeapKeeps, FrameKeeps, KeepsInts}
-use Rattle.ix_core.specs.Tables.{method_at, param_slots, default_result, found_method}
+use Rattle.ix_core.specs.Tables.{method_at, param_slots, default_result}
 use Rattle.ix_core.specs.Tasks.{Tasks}
 use Rattle.ix_core.specs.Waits.{Knowledge, FitsCall}
 use Rattle.ix_core.specs.World.{World, tables_in}
@@ -21,9 +21,8 @@ use Rattle.ix_core.proofs.Entered.{args_each, first_and}
 use Rattle.ix_core.proofs.LawsAreSafe.{types_in}
 use Rattle.ix_core.proofs.TypedCalls.{method_has}
 use Rattle.ix_store.specs.declared.store.Store.{Store}
-use Rattle.ix_store.specs.StoredFacts.{stored}
 use Rattle.ix_sound.specs.Direct.{direct}
-use Rattle.ix_sound.specs.Known.{Known, Anything, Here, Behind, Overrides, CallsWell, FineBehind, BehindFine, call_of, knowledge}
+use Rattle.ix_sound.specs.Known.{Known, Anything, Here, Behind, Overrides, BehindFine, call_of, knowledge}
 use Rattle.ix_sound.specs.Stands.{StandsFor}
 use Rattle.ix_sound.proofs.Dispatch.{IsFound}
 use Rattle.ix_sound.proofs.Overridden.{NoTexts, overrides_stands, overrides_overrides, found_overrides}

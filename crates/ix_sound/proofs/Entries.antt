@@ -1,27 +1,25 @@
 -- A method's entry: the store there is met where the claims of the parameters are, and a constructor begins before its parent's.
-use Rattle.std.specs.Prelude.{◌≡◌, ℕ, zero, suc, ◌+◌, ◌<◌, ◌≤◌, nat_lt, ◌==◌, Bool, true, false, not, ◌&&◌, if◌then◌else◌, pos, List, [], ◌∷◌, ◌++◌, length, map, slice_get, Option, None, Some, unwrap_or, refl}
+use Rattle.std.specs.Prelude.{◌≡◌, ℕ, suc, ◌+◌, ◌<◌, ◌≤◌, nat_lt, ◌==◌, Bool, true, false, ◌&&◌, if◌then◌else◌, pos, List, [], ◌∷◌, length, map, Option, None, Some, unwrap_or, refl}
 use Rattle.std.specs.List.{list_all}
 use Rattle.std.proofs.Common.{arith, sym, ap, ◌∙◌, subst}
 use Rattle.std.proofs.lemmas.Bool.{and_parts, false≢true}
 use Rattle.std.proofs.lemmas.Bool.Decides.{nat_tests}
 use Rattle.std.proofs.lemmas.List.{length-map}
 use Rattle.ix_core.specs.declared.claim.Type_.{Type_}
-use Rattle.ix_core.specs.declared.fact.Fact.{Fact}
 use Rattle.ix_core.specs.declared.fact.Path.TheVariants.{FieldOf}
 use Rattle.ix_core.specs.declared.fact.Profile.{Profile}
 use Rattle.ix_core.specs.declared.program.Local.{Local as Variable}
 use Rattle.ix_core.specs.declared.program.Method.{Method}
 use Rattle.ix_core.specs.declared.program.Program.{Program}
-use Rattle.ix_core.specs.Code.{Code}
-use Rattle.ix_core.specs.Formed.{is_formed, at_most, claim_fits, others, named_type, params_fit, entry_type, this_type, has_parent, is_some_of, first_type, param_type_from, super_calls, own_super_calls, one_if, super_calls_fit, locals_fit, result_fits, constructor_fits, overrides_fit, same_numbers, numbers_from, loop_numbers, code_size}
-use Rattle.ix_core.specs.Heap.{Held, At, Heap, ObjectOf, value_at, object_at, reading_of, field_value, default_of, no_reading}
+use Rattle.ix_core.specs.Formed.{is_formed, at_most, claim_fits, others, named_type, params_fit, entry_type, this_type, has_parent, first_type, param_type_from, super_calls, own_super_calls, one_if, super_calls_fit, locals_fit, result_fits, constructor_fits, overrides_fit, same_numbers, numbers_from, loop_numbers, code_size}
+use Rattle.ix_core.specs.Heap.{Held, At, Heap, ObjectOf, value_at, default_of, no_reading}
 use Rattle.ix_core.specs.Machine.{slots_with}
 use Rattle.ix_core.specs.Numbers.{Numbers, HasInts, numbers_of}
-use Rattle.ix_core.specs.Objects.{HasField, AllOn, KeepsInts}
-use Rattle.ix_core.specs.Tables.{method_at, class_at, field_at, param_slot, param_slots, body_of}
+use Rattle.ix_core.specs.Objects.{HasField}
+use Rattle.ix_core.specs.Tables.{method_at, class_at, param_slot, param_slots, body_of}
 use Rattle.ix_core.specs.Tasks.{Empty, code_then}
 use Rattle.ix_core.specs.Typed.{IsOfType}
-use Rattle.ix_core.specs.Types.{Types, is_type, is_class, is_below}
+use Rattle.ix_core.specs.Types.{is_type, is_class}
 use Rattle.ix_core.specs.Waits.{MeetParams, AreFresh}
 use Rattle.ix_core.specs.World.{World}
 use Rattle.ix_core.proofs.Ancestors.{first_among}
@@ -32,7 +30,6 @@ use Rattle.ix_core.proofs.LawsAreSafe.{types_in}
 use Rattle.ix_core.proofs.TypedCalls.{method_has, not_static, default_of_type, entry_typed, body_lead}
 use Rattle.ix_facts.specs.Exact.{if_so}
 use Rattle.ix_facts.specs.Facts.{AllHold}
-use Rattle.ix_facts.specs.Stores.{Stored, Meets}
 use Rattle.ix_facts.proofs.FactLists.{all_hold_app}
 use Rattle.ix_steps.specs.MachineSteps.{reading_at}
 use Rattle.ix_steps.proofs.MachineTests.{field_is}
@@ -40,9 +37,9 @@ use Rattle.ix_store.specs.declared.store.Store.{Store}
 use Rattle.ix_store.specs.StoredFacts.{stored}
 use Rattle.ix_sign.specs.Signs.{EntryGives, entry_facts, received_params, params_facts, zero_fields, own_fields, has_no_parent}
 use Rattle.ix_sound.specs.Direct.{direct}
-use Rattle.ix_sound.specs.Known.{MeetsHere, stage_if, entry_stage, known_at, HoldsFor}
-use Rattle.ix_sound.specs.Making.{Stage, Plain, Making, Tracks, StageFits, StageHolds}
-use Rattle.ix_sound.specs.Supers.{SuperEnds, Supers}
+use Rattle.ix_sound.specs.Known.{stage_if, entry_stage, known_at, HoldsFor}
+use Rattle.ix_sound.specs.Making.{Making, Tracks, StageFits, StageHolds}
+use Rattle.ix_sound.specs.Supers.{SuperEnds}
 use Rattle.ix_sound.proofs.FieldPlaces.{at_among, own_has}
 use Rattle.ix_sound.proofs.NamedClaims.{count_params}
 use Rattle.ix_sound.proofs.Overriding.{above_met, received_all, params_hold}

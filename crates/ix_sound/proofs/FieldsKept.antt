@@ -1,7 +1,7 @@
 -- Behind a write of a field without errors a built object meets the claims of all its fields.
-use Rattle.std.specs.Prelude.{◌≡◌, ◌⊎◌, ℕ, zero, suc, ◌==◌, Bool, true, false, not, ◌||◌, if◌then◌else◌, List, [], ◌∷◌, slice_get, Option, Some, unwrap_or, refl}
+use Rattle.std.specs.Prelude.{◌≡◌, ℕ, zero, suc, ◌==◌, true, false, if◌then◌else◌, List, [], ◌∷◌, slice_get, Option, Some, unwrap_or, refl}
 use Rattle.std.proofs.Common.{sym, ap, ◌∙◌, subst, ⊎_elim}
-use Rattle.std.proofs.lemmas.Bool.{and_parts, false≢true}
+use Rattle.std.proofs.lemmas.Bool.{false≢true}
 use Rattle.ix_text.specs.declared.span.Span.{Span}
 use Rattle.ix_core.specs.declared.claim.Claim.{Claim}
 use Rattle.ix_core.specs.declared.claim.Name.{Name}
@@ -28,7 +28,7 @@ use Rattle.ix_facts.specs.Assume.{ClaimHolds}
 use Rattle.ix_facts.specs.Stores.{Stored, Meets}
 use Rattle.ix_steps.specs.MachineSteps.{on_paths, reading_at}
 use Rattle.ix_steps.proofs.MachineTests.{claim_true, field_is}
-use Rattle.ix_sign.specs.Names.{written_path, is_built, names_field, some_field, is_field}
+use Rattle.ix_sign.specs.Names.{written_path, is_built, names_field}
 use Rattle.ix_sign.specs.Signs.{Adds, write_facts}
 use Rattle.ix_sign.specs.SignErrors.{AllRefuse, FieldClaim, FieldDependent}
 use Rattle.ix_sound.specs.Direct.{direct}

@@ -1,33 +1,26 @@
 -- Where no error of a write of a field is derived, a built object meets the claims of its fields behind it.
-use Rattle.std.specs.Prelude.{◌≡◌, ◌⊎◌, ℕ, zero, suc, ◌+◌, ◌<◌, nat_lt, ◌==◌, Bool, true, false, not, ◌&&◌, ◌||◌, if◌then◌else◌, List, [], ◌∷◌, ◌++◌, filter, length, slice_get, Option, None, Some, unwrap_or, refl}
-use Rattle.std.proofs.Common.{arith, sym, ap, ◌∙◌, subst, inl, inr, ⊎_elim}
+use Rattle.std.specs.Prelude.{◌≡◌, ℕ, zero, suc, ◌+◌, ◌<◌, ◌==◌, Bool, true, false, not, ◌||◌, if◌then◌else◌, List, [], ◌∷◌, filter, length, slice_get, Option, Some, unwrap_or, refl}
+use Rattle.std.proofs.Common.{arith, sym, ap, ◌∙◌, subst}
 use Rattle.std.proofs.lemmas.Bool.{and_parts, false≢true}
 use Rattle.std.proofs.lemmas.Bool.Decides.{nat_tests}
-use Rattle.ix_text.specs.declared.span.Span.{Span}
 use Rattle.ix_core.specs.declared.claim.Claim.{Claim}
 use Rattle.ix_core.specs.declared.claim.Name.{Name}
-use Rattle.ix_core.specs.declared.claim.Name.TheVariants.{Param, Local, FieldNamed}
+use Rattle.ix_core.specs.declared.claim.Name.TheVariants.{FieldNamed}
 use Rattle.ix_core.specs.declared.claim.Type_.{Type_}
-use Rattle.ix_core.specs.declared.error.Error.{Error}
-use Rattle.ix_core.specs.declared.error.Subject.TheVariants as subject
 use Rattle.ix_core.specs.declared.fact.Fact.{Fact}
-use Rattle.ix_core.specs.declared.fact.Path.TheVariants.{Slot, FieldOf}
+use Rattle.ix_core.specs.declared.fact.Path.TheVariants.{FieldOf}
 use Rattle.ix_core.specs.declared.program.Field.{Field}
 use Rattle.ix_core.specs.declared.program.Method.{Method}
 use Rattle.ix_core.specs.declared.program.Program.{Program}
 use Rattle.ix_core.specs.Analysis.{IsWorld}
 use Rattle.ix_core.specs.Claims.{True, AreTrue}
 use Rattle.ix_core.specs.Formed.{is_formed}
-use Rattle.ix_core.specs.Heap.{Held, At, Heap, Kind, ObjectOf, ArrayOf, Reading, value_at, object_at, place_in, field_value, reading_of, write_at}
+use Rattle.ix_core.specs.Heap.{Held, At, Heap, Reading, value_at, object_at}
 use Rattle.ix_core.specs.Numbers.{Numbers, HasInts, numbers_of}
-use Rattle.ix_core.specs.Objects.{HasField, MeetsField, MeetsFields, field_readings, IsFree, HeapKeeps, FrameKeeps, IsOwn, Names, claim_names, Later, IsSame}
-use Rattle.ix_core.specs.Tables.{no_field, method_at, field_at, all_fields, is_among, place_among}
+use Rattle.ix_core.specs.Objects.{HasField, MeetsField, field_readings, IsFree, HeapKeeps, FrameKeeps, IsOwn, Names, claim_names}
+use Rattle.ix_core.specs.Tables.{no_field, method_at, field_at}
 use Rattle.ix_core.specs.World.{World}
-use Rattle.ix_core.proofs.Cases.{by_test, equal, differ}
-use Rattle.ix_core.proofs.Entered.{reading_later, none_some}
-use Rattle.ix_core.proofs.FieldSteps.{write_later, write_same, write_value}
-use Rattle.ix_core.proofs.Kept.{all_on}
-use Rattle.ix_facts.specs.Assume.{ClaimHolds}
+use Rattle.ix_core.proofs.Cases.{by_test, equal}
 use Rattle.ix_facts.specs.Closure.{kept}
 use Rattle.ix_facts.specs.Exact.{if_so}
 use Rattle.ix_facts.specs.Facts.{AllHold}
@@ -35,16 +28,14 @@ use Rattle.ix_facts.specs.Stores.{Stored, Meets, with_facts}
 use Rattle.ix_facts.proofs.ClosureLaws.{kept_hold}
 use Rattle.ix_facts.proofs.FactLists.{all_hold_app}
 use Rattle.ix_facts.proofs.StepLaws.{gives_meets}
-use Rattle.ix_steps.specs.MachineSteps.{on_paths, reading_at, own_slot}
-use Rattle.ix_steps.proofs.MachineTests.{claim_holds, claim_true, field_is}
+use Rattle.ix_steps.specs.MachineSteps.{reading_at, own_slot}
+use Rattle.ix_steps.proofs.MachineTests.{field_is}
 use Rattle.ix_sign.specs.Names.{object_path, written_path, is_built, names_field}
 use Rattle.ix_sign.specs.Signs.{Adds, claims_facts, read_facts, write_facts, dependent_facts}
-use Rattle.ix_sign.specs.SignErrors.{AllRefuse, FieldClaim, FieldDependent}
 use Rattle.ix_sound.specs.Direct.{direct}
-use Rattle.ix_sound.proofs.ClaimTruths.{claims_hold, none_fails}
+use Rattle.ix_sound.proofs.ClaimTruths.{claims_hold}
 use Rattle.ix_sound.proofs.FieldPlaces.{has_same}
 use Rattle.ix_sound.proofs.NamedClaims.{field_names}
-use Rattle.ix_sound.proofs.Stable.{unrefused_by}
 
 -- facts that hold may be added
 pub adds_hold : (new : List Fact) (s t : Stored) (v : Numbers) → AllHold new v → Adds new s t → Meets s v → Meets t v

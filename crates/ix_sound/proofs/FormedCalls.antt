@@ -1,5 +1,5 @@
 -- A call of a formed program whose text has no error fits the method that it names.
-use Rattle.std.specs.Prelude.{◌≡◌, ℕ, suc, ◌+◌, ◌<◌, ◌≤◌, nat_lt, ◌==◌, Bool, true, false, not, ◌&&◌, if◌then◌else◌, List, [], ◌∷◌, length, map, option_map, Option, None, Some, unwrap_or, refl}
+use Rattle.std.specs.Prelude.{◌≡◌, ℕ, suc, ◌+◌, ◌<◌, ◌≤◌, ◌==◌, Bool, true, false, not, List, [], length, map, option_map, Option, None, Some, unwrap_or, refl}
 use Rattle.std.proofs.Common.{arith, sym, ap, ◌∙◌, subst}
 use Rattle.std.proofs.lemmas.Bool.{and_parts, false≢true}
 use Rattle.std.proofs.lemmas.Bool.Decides.{nat_tests}
@@ -10,13 +10,13 @@ use Rattle.ix_core.specs.declared.op.CallOp.{CallOp}
 use Rattle.ix_core.specs.declared.op.OpKind.TheVariants as op
 use Rattle.ix_core.specs.declared.program.Method.{Method}
 use Rattle.ix_core.specs.declared.program.Program.{Program}
-use Rattle.ix_core.specs.Formed.{is_formed, at_most, is_target, is_there, is_argument, is_this, is_parent, args_fit, call_fits, new_fits, static_fits, instance_fits, super_fits, receiver_fits, reads}
+use Rattle.ix_core.specs.Formed.{is_formed, is_target, is_there, is_argument, is_this, is_parent, args_fit, call_fits, new_fits, static_fits, instance_fits, super_fits, receiver_fits, reads}
 use Rattle.ix_core.specs.Heap.{Held, Heap, value_at}
-use Rattle.ix_core.specs.Machine.{CallKind, Static, Instance, New, Super, call_values, target_of}
+use Rattle.ix_core.specs.Machine.{CallKind, Static, Instance, New, Super, target_of}
 use Rattle.ix_core.specs.Objects.{IsInput}
-use Rattle.ix_core.specs.Tables.{Tables, method_at, class_at, param_slot, param_slots}
+use Rattle.ix_core.specs.Tables.{Tables, method_at, class_at, param_slots}
 use Rattle.ix_core.specs.Typed.{SlotsTyped}
-use Rattle.ix_core.specs.Types.{Types, is_class, is_below, class_type}
+use Rattle.ix_core.specs.Types.{Types, is_class, class_type}
 use Rattle.ix_core.specs.Waits.{FitsCall}
 use Rattle.ix_core.specs.World.{tables_in}
 use Rattle.ix_sound.specs.Direct.{direct}

@@ -1,36 +1,31 @@
 -- What an operation of a formed program has that fits the types at its place: its target may be assigned and is no operand, and its numbers are ints.
-use Rattle.std.specs.Prelude.{◌≡◌, ◌⊎◌, ℕ, zero, suc, ◌+◌, ◌<◌, ◌≤◌, nat_lt, ◌==◌, Bool, true, false, not, ◌&&◌, if◌then◌else◌, List, [], ◌∷◌, length, slice_get, Option, None, Some, refl}
-use Rattle.std.proofs.Common.{arith, sym, ap, subst, ◌∙◌, inl, inr}
-use Rattle.std.proofs.lemmas.Bool.{and_parts, false≢true}
+use Rattle.std.specs.Prelude.{◌≡◌, ℕ, ◌+◌, ◌<◌, ◌≤◌, ◌==◌, Bool, true, false, not, if◌then◌else◌, List, length, Option, None, Some, refl}
+use Rattle.std.proofs.Common.{arith, ap, subst}
+use Rattle.std.proofs.lemmas.Bool.{and_parts}
 use Rattle.std.proofs.lemmas.Bool.Decides.{nat_tests}
 use Rattle.ix_text.specs.declared.span.Span.{Span}
-use Rattle.ix_core.specs.declared.claim.Base.TheVariants as base
 use Rattle.ix_core.specs.declared.claim.Name.TheVariants.{Param}
 use Rattle.ix_core.specs.declared.claim.Type_.{Type_}
-use Rattle.ix_core.specs.declared.claim.Type_.TheVariants as type
 use Rattle.ix_core.specs.declared.op.Literal.TheVariants as literal
 use Rattle.ix_core.specs.declared.op.Op.{Op}
 use Rattle.ix_core.specs.declared.op.OpKind.{OpKind}
 use Rattle.ix_core.specs.declared.op.OpKind.TheVariants as op
 use Rattle.ix_core.specs.declared.program.Method.{Method}
 use Rattle.ix_core.specs.declared.program.Program.{Program}
-use Rattle.ix_core.specs.Formed.{is_formed, at_most, is_slot, is_target, reads, is_there, field_fits, is_array_at, are_entries, literal_fits, op_fits, variable_type, copy_fits}
-use Rattle.ix_core.specs.Heap.{Held, Num, Boolean, Null, At, Heap, Kind, ArrayOf, array_cells, value_at, object_at, array_at}
+use Rattle.ix_core.specs.Formed.{is_formed, at_most, is_slot, is_target, reads, field_fits, is_array_at, are_entries, literal_fits, op_fits, variable_type, copy_fits}
+use Rattle.ix_core.specs.Heap.{Held, Heap}
 use Rattle.ix_core.specs.Machine.{is_int}
 use Rattle.ix_core.specs.Objects.{IsOwn, IsInput, This, Named, IntsOnly, kind_claims}
-use Rattle.ix_core.specs.Tables.{method_at, field_at, param_slot, param_slots}
-use Rattle.ix_core.specs.Typed.{IsOfType, HeapTyped, SlotsTyped}
+use Rattle.ix_core.specs.Tables.{method_at, param_slot, param_slots}
+use Rattle.ix_core.specs.Typed.{SlotsTyped}
 use Rattle.ix_core.specs.Types.{Types, int_type, cell_type, is_array, class_type}
-use Rattle.ix_core.specs.World.{tables_in}
 use Rattle.ix_sound.specs.Direct.{direct}
-use Rattle.ix_core.proofs.Cases.{by_test, equal, differ}
 use Rattle.ix_core.proofs.FormedParts.{locals_of, ways_end}
 use Rattle.ix_core.proofs.Kept.{int_is}
-use Rattle.ix_core.proofs.TypedCalls.{method_has, not_static}
-use Rattle.ix_core.proofs.TypedValues.{read_typed, slot_there}
+use Rattle.ix_core.proofs.TypedCalls.{not_static}
+use Rattle.ix_core.proofs.TypedValues.{slot_there}
 use Rattle.ix_facts.specs.After.{TargetApart}
-use Rattle.ix_facts.specs.AfterOperation.{loaded_claims}
-use Rattle.ix_steps.specs.MachineSteps.{HasTarget, IsNumber, HoldsElements}
+use Rattle.ix_steps.specs.MachineSteps.{HasTarget}
 use Rattle.ix_sound.specs.Clean.{IsClean}
 use Rattle.ix_sound.specs.Shown.{MayTake, Takes}
 use Rattle.ix_sound.proofs.NamedClaims.{result_names}

@@ -1,9 +1,8 @@
 -- The end of a method without errors, and a `return`, show what the laws ask of a frame's end.
-use Rattle.std.specs.Prelude.{◌≡◌, ◌⊎◌, ℕ, ◌<◌, Bool, true, false, not, ◌&&◌, List, length, option_map, slice_get, Option, None, Some, refl}
-use Rattle.std.proofs.Common.{sym, ap, ◌∙◌, subst, inl, inr}
-use Rattle.std.proofs.lemmas.Bool.{and_parts, false≢true}
+use Rattle.std.specs.Prelude.{◌≡◌, ℕ, ◌<◌, true, false, List, length, option_map, Option, None, Some, refl}
+use Rattle.std.proofs.Common.{sym, ap, ◌∙◌, subst}
+use Rattle.std.proofs.lemmas.Bool.{false≢true}
 use Rattle.ix_text.specs.declared.span.Span.{Span}
-use Rattle.ix_core.specs.declared.claim.Claim.{Claim}
 use Rattle.ix_core.specs.declared.claim.Name.{Name}
 use Rattle.ix_core.specs.declared.claim.Name.TheVariants.{Param, Local, FieldNamed}
 use Rattle.ix_core.specs.declared.claim.Type_.{Type_}
@@ -15,17 +14,16 @@ use Rattle.ix_core.specs.declared.fact.Profile.{Profile}
 use Rattle.ix_core.specs.declared.program.Method.{Method}
 use Rattle.ix_core.specs.declared.program.Program.{Program}
 use Rattle.ix_core.specs.Analysis.{Leaves, IsFreeIf, Results}
-use Rattle.ix_core.specs.Formed.{is_formed, return_fits, reads}
+use Rattle.ix_core.specs.Formed.{is_formed, return_fits}
 use Rattle.ix_core.specs.Heap.{Held, At, Heap, ObjectOf, value_at, reading_of}
 use Rattle.ix_core.specs.Machine.{result_of}
 use Rattle.ix_core.specs.Numbers.{Numbers, HasInts, numbers_of}
-use Rattle.ix_core.specs.Objects.{HasField, MeetsField, field_readings, HeapKeeps, FrameKeeps, IsOwn, Names}
+use Rattle.ix_core.specs.Objects.{HasField, MeetsField, field_readings, FrameKeeps}
 use Rattle.ix_core.specs.Tables.{method_at, field_at, routine_of, default_result, all_fields}
 use Rattle.ix_core.specs.Types.{Types, is_void}
 use Rattle.ix_core.specs.Waits.{Knowledge, param_readings}
 use Rattle.ix_core.specs.World.{World}
 use Rattle.ix_core.proofs.Cases.{by_test}
-use Rattle.ix_core.proofs.TypedCalls.{method_has}
 use Rattle.ix_facts.specs.Stores.{Stored, Unreachable, Reached, Meets}
 use Rattle.ix_steps.specs.MachineSteps.{on_paths, own_path, reading_at, IsDeclared}
 use Rattle.ix_steps.proofs.MachineTests.{parameter_is, field_is}

@@ -1,6 +1,6 @@
 -- A frame's move from tasks without errors shows what the laws ask of it.
-use Rattle.std.specs.Prelude.{◌≡◌, ◌⊎◌, ℕ, ◌<◌, nat_lt, Bool, true, false, ◌&&◌, if◌then◌else◌, List, [], length, Option, None, Some, refl}
-use Rattle.std.proofs.Common.{sym, ap, ◌∙◌, subst, inl, inr}
+use Rattle.std.specs.Prelude.{◌≡◌, ℕ, ◌<◌, nat_lt, Bool, true, false, if◌then◌else◌, List, [], length, Option, None, Some, refl}
+use Rattle.std.proofs.Common.{sym, ap, subst, inl, inr}
 use Rattle.std.proofs.lemmas.Bool.{and_parts}
 use Rattle.ix_text.specs.declared.span.Span.{Span}
 use Rattle.ix_core.specs.declared.claim.Type_.{Type_}
@@ -12,7 +12,7 @@ use Rattle.ix_core.specs.declared.op.Test.{Test}
 use Rattle.ix_core.specs.declared.program.Method.{Method}
 use Rattle.ix_core.specs.declared.program.Program.{Program}
 use Rattle.ix_core.specs.Analysis.{IsWorld, Shows}
-use Rattle.ix_core.specs.Code.{Code, Condition, End, Do, If, Break, Continue, Return, Throw, Loop}
+use Rattle.ix_core.specs.Code.{Code, End, Do, If, Break, Continue, Return, Throw, Loop}
 use Rattle.ix_core.specs.Formed.{is_formed, code_ways, return_fits}
 use Rattle.ix_core.specs.Heap.{Held, Heap, value_at}
 use Rattle.ix_core.specs.Machine.{Limits, Move, Go, effect_then, operate, step_code, step_tasks, test_of, is_true, frame}
@@ -45,16 +45,16 @@ use Rattle.ix_method.specs.MethodRules.{method_rules, KindGives}
 use Rattle.ix_sound.specs.Chain.{Passes, Same, Weaker, Rounding, Flowing, Finishing, Running, Asking, Comparing, Telling, Turning, Returning, Leaving, Passing}
 use Rattle.ix_sound.specs.Clean.{IsClean}
 use Rattle.ix_sound.specs.Direct.{direct}
-use Rattle.ix_sound.specs.Errors.{NoErrors, NoKindErrors}
-use Rattle.ix_sound.specs.Known.{Known, Here, MeetsHere, knowledge}
-use Rattle.ix_sound.specs.Making.{Stage, with_types, StageFits, StageStays, StageHolds}
+use Rattle.ix_sound.specs.Errors.{NoErrors}
+use Rattle.ix_sound.specs.Known.{Here, MeetsHere, knowledge}
+use Rattle.ix_sound.specs.Making.{Stage, with_types, StageFits, StageStays}
 use Rattle.ix_sound.specs.Sound.{LocalsApart}
 use Rattle.ix_sound.proofs.CallMoves.{static_shown, instance_shown, new_shown, super_shown}
 use Rattle.ix_sound.proofs.ChainMoves.{code_flowing, if_flowing, condition_flowing, head_flowing, again_flowing, loop_flowing}
 use Rattle.ix_sound.proofs.LeaveMoves.{ends_shown, returns_shown}
 use Rattle.ix_sound.proofs.OperationMoves.{idle, operation_shown}
 use Rattle.ix_sound.proofs.OperationsMeet.{stage_kept}
-use Rattle.ix_sound.proofs.StageMoves.{DoesNone, stage_stays, operation_stays}
+use Rattle.ix_sound.proofs.StageMoves.{stage_stays, operation_stays}
 
 module _ (program : Program) (locals : List (List Type_)) (formed : is_formed program locals ≡ true) (tables : IsWorld (direct program)) (apart : LocalsApart program) (profile : Profile) (entries : (number : ℕ) → nat_lt number (length program.methods) ≡ true → Store)
     (limits : Limits) (building : ℕ → Type 0) (number : ℕ) (lt : number < length program.methods) (slots : List Held) (heap : Heap) (keeps : HeapKeeps (direct program) building heap)

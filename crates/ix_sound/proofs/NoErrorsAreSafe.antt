@@ -1,6 +1,6 @@
 -- A formed program in which the rules derive no error is safe.
-use Rattle.std.specs.Prelude.{◌≡◌, ◌⊎◌, ℕ, ◌<◌, ◌≤◌, nat_lt, Bool, true, false, List, length, slice_get, Option, Some, None, unwrap_or, refl}
-use Rattle.std.proofs.Common.{arith, sym, ap, ◌∙◌, subst, inl, inr}
+use Rattle.std.specs.Prelude.{◌≡◌, ℕ, ◌<◌, ◌≤◌, nat_lt, Bool, true, false, List, length, Option, unwrap_or, refl}
+use Rattle.std.proofs.Common.{arith, sym, ap, subst, inr}
 use Rattle.std.proofs.lemmas.Bool.Decides.{nat_tests}
 use Rattle.std.proofs.lemmas.Option.{slice_get_past}
 use Rattle.ix_core.specs.declared.claim.Type_.{Type_}
@@ -26,7 +26,6 @@ use Rattle.ix_core.proofs.TypedCalls.{method_has}
 use Rattle.ix_core.proofs.TypedRuns.{step_typed}
 use Rattle.ix_core.proofs.TypedStarts.{start_typed}
 use Rattle.ix_store.specs.declared.store.Store.{Store}
-use Rattle.ix_store.specs.StoredFacts.{stored}
 use Rattle.ix_method.specs.MethodRules.{method_rules}
 use Rattle.ix_sound.specs.Chain.{Finishing}
 use Rattle.ix_sound.specs.Clean.{IsClean}

@@ -1,10 +1,9 @@
 -- An operation without errors that is no call shows what the laws ask of a frame's move.
-use Rattle.std.specs.Prelude.{◌≡◌, ℕ, ◌<◌, ◌==◌, nat_lt, Bool, true, false, List, [], length, None, Some, refl}
-use Rattle.std.proofs.Common.{sym, ap, ◌∙◌, subst, inl}
+use Rattle.std.specs.Prelude.{◌≡◌, ℕ, ◌<◌, ◌==◌, nat_lt, true, false, List, [], length, None, Some, refl}
+use Rattle.std.proofs.Common.{sym, ◌∙◌, subst, inl}
 use Rattle.std.proofs.lemmas.Bool.{and_parts, false≢true}
 use Rattle.ix_core.specs.declared.claim.Type_.{Type_}
 use Rattle.ix_core.specs.declared.fact.Profile.{Profile}
-use Rattle.ix_core.specs.declared.fact.Profile.TheVariants.{Int32}
 use Rattle.ix_core.specs.declared.op.Op.{Op}
 use Rattle.ix_core.specs.declared.op.OpKind.{OpKind}
 use Rattle.ix_core.specs.declared.op.OpKind.TheVariants as op
@@ -14,12 +13,11 @@ use Rattle.ix_core.specs.Analysis.{IsWorld, Shows}
 use Rattle.ix_core.specs.Code.{Code, Do}
 use Rattle.ix_core.specs.Formed.{is_formed, field_fits, op_fits, is_super_call}
 use Rattle.ix_core.specs.Heap.{Held, Heap, ObjectOf}
-use Rattle.ix_core.specs.Machine.{Limits, Effect, Done, Wrapped, Printed, Called, Stopped, State, effect_then, operate, frame}
+use Rattle.ix_core.specs.Machine.{Limits, Effect, Done, Wrapped, Printed, Called, Stopped, effect_then, operate, frame}
 use Rattle.ix_core.specs.Numbers.{Numbers, HasInts, numbers_of}
 use Rattle.ix_core.specs.Objects.{HasField, HeapKeeps, FrameKeeps, KeepsInts, IsOwn, StepKeeps}
 use Rattle.ix_core.specs.Tables.{method_at}
 use Rattle.ix_core.specs.Tasks.{Tasks, Run, code_then}
-use Rattle.ix_core.specs.TypedStates.{NowTyped}
 use Rattle.ix_core.specs.Types.{Types}
 use Rattle.ix_core.specs.Waits.{Knowledge}
 use Rattle.ix_core.specs.World.{World, tables_in}
@@ -27,16 +25,16 @@ use Rattle.ix_core.proofs.Cases.{by_test, equal}
 use Rattle.ix_core.proofs.FormedParts.{locals_of}
 use Rattle.ix_core.proofs.Kept.{has_ints, done_keeps, wrapped_keeps}
 use Rattle.ix_core.proofs.LawsAreSafe.{types_in}
-use Rattle.ix_core.proofs.TypedStarts.{OperationFits, next_fits}
+use Rattle.ix_core.proofs.TypedStarts.{OperationFits}
 use Rattle.ix_core.proofs.Waiting.{later_refl}
 use Rattle.ix_store.specs.declared.store.Store.{Store}
 use Rattle.ix_store.specs.StoredFacts.{stored}
-use Rattle.ix_method.specs.MethodRules.{method_rules, KindGives, AfterGives}
+use Rattle.ix_method.specs.MethodRules.{method_rules, KindGives}
 use Rattle.ix_sound.specs.Chain.{Flowing}
 use Rattle.ix_sound.specs.Clean.{IsClean}
 use Rattle.ix_sound.specs.Direct.{direct}
 use Rattle.ix_sound.specs.Errors.{NoErrors, NoKindErrors}
-use Rattle.ix_sound.specs.Known.{Known, Here, MeetsHere, FineHere, knowledge}
+use Rattle.ix_sound.specs.Known.{Here, MeetsHere, FineHere, knowledge}
 use Rattle.ix_sound.specs.Making.{Stage, Plain, Making, with_types, MakingFits, StageFits, StageHolds}
 use Rattle.ix_sound.specs.Shown.{Takes}
 use Rattle.ix_sound.specs.Sound.{LocalsApart}

@@ -1,6 +1,6 @@
 -- What a rule without errors shows of an operation of a formed program.
-use Rattle.std.specs.Prelude.{◌≡◌, ◌⊎◌, ℕ, zero, suc, ◌<◌, nat_lt, ◌==◌, Bool, true, false, not, ◌&&◌, ◌||◌, List, [], ◌∷◌, length, slice_get, Option, Some, unwrap_or, refl}
-use Rattle.std.proofs.Common.{sym, ap, ◌∙◌, subst, inl, inr}
+use Rattle.std.specs.Prelude.{◌≡◌, ℕ, zero, suc, ◌<◌, ◌==◌, Bool, true, false, not, ◌||◌, List, [], ◌∷◌, length, slice_get, Option, Some, unwrap_or, refl}
+use Rattle.std.proofs.Common.{ap, subst, inl, inr}
 use Rattle.std.proofs.lemmas.Bool.{and_parts, false≢true}
 use Rattle.ix_core.specs.declared.claim.Type_.{Type_}
 use Rattle.ix_core.specs.declared.op.Op.{Op}
@@ -9,9 +9,9 @@ use Rattle.ix_core.specs.declared.op.OpKind.TheVariants as op
 use Rattle.ix_core.specs.declared.program.Method.{Method}
 use Rattle.ix_core.specs.declared.program.Program.{Program}
 use Rattle.ix_core.specs.Analysis.{IsWorld}
-use Rattle.ix_core.specs.Formed.{is_formed, is_target, reads, field_fits, may_be_written, are_entries, op_fits}
-use Rattle.ix_core.specs.Heap.{Held, At, Heap, ObjectOf, value_at, object_at, place_in}
-use Rattle.ix_core.specs.Numbers.{Numbers, HasInts, numbers_of}
+use Rattle.ix_core.specs.Formed.{is_formed, reads, field_fits, may_be_written, are_entries, op_fits}
+use Rattle.ix_core.specs.Heap.{Held, Heap, ObjectOf, value_at}
+use Rattle.ix_core.specs.Numbers.{HasInts, numbers_of}
 use Rattle.ix_core.specs.Objects.{HasField, HeapKeeps, FrameKeeps, IsOwn, MayWrite}
 use Rattle.ix_core.specs.Tables.{method_at, field_at}
 use Rattle.ix_core.specs.Typed.{IsOfType, HeapTyped, SlotsTyped}
@@ -22,7 +22,6 @@ use Rattle.ix_core.proofs.FormedParts.{locals_of, ways_end}
 use Rattle.ix_core.proofs.TypedSteps.{default_typed}
 use Rattle.ix_core.proofs.TypedValues.{read_typed}
 use Rattle.ix_facts.specs.Stores.{Stored, Meets}
-use Rattle.ix_steps.specs.MachineSteps.{own_slot}
 use Rattle.ix_sound.specs.Clean.{IsClean}
 use Rattle.ix_sound.specs.Direct.{direct}
 use Rattle.ix_sound.specs.Errors.{NoKindErrors}

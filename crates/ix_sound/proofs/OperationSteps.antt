@@ -1,12 +1,9 @@
 -- Behind an operation that is no call the store that its rule gives is met, whatever the operation.
-use Rattle.std.specs.Prelude.{◌≡◌, ℕ, ◌<◌, ◌==◌, Bool, true, false, not, List, length, Some, refl}
-use Rattle.std.proofs.Common.{arith, sym, ap, ◌∙◌, subst, inl, inr}
-use Rattle.std.proofs.lemmas.Bool.{and_parts, false≢true}
+use Rattle.std.specs.Prelude.{◌≡◌, ℕ, ◌<◌, ◌==◌, true, false, not, List, length, Some, refl}
+use Rattle.std.proofs.Common.{arith, sym, subst}
+use Rattle.std.proofs.lemmas.Bool.{and_parts}
 use Rattle.std.proofs.lemmas.Bool.Decides.{nat_tests}
 use Rattle.ix_core.specs.declared.claim.Type_.{Type_}
-use Rattle.ix_core.specs.declared.error.Error.{Error}
-use Rattle.ix_core.specs.declared.fact.Path.{Path}
-use Rattle.ix_core.specs.declared.fact.Path.TheVariants.{Slot, FieldOf}
 use Rattle.ix_core.specs.declared.fact.Profile.{Profile}
 use Rattle.ix_core.specs.declared.fact.Profile.TheVariants.{Int32}
 use Rattle.ix_core.specs.declared.op.Op.{Op}
@@ -19,28 +16,21 @@ use Rattle.ix_core.specs.Formed.{is_formed, is_target, reads, field_fits, may_be
 use Rattle.ix_core.specs.Heap.{Held, At, Heap, value_at, object_at, place_in}
 use Rattle.ix_core.specs.Machine.{Limits, Effect, Done, Wrapped, operate, at_place, assign}
 use Rattle.ix_core.specs.Numbers.{Numbers, HasInts, numbers_of}
-use Rattle.ix_core.specs.Objects.{HasField, HeapKeeps, FrameKeeps, IsOwn}
-use Rattle.ix_core.specs.Tables.{Tables, method_at, field_at}
+use Rattle.ix_core.specs.Objects.{HasField, HeapKeeps, FrameKeeps}
+use Rattle.ix_core.specs.Tables.{method_at, field_at}
 use Rattle.ix_core.specs.Typed.{HeapTyped, SlotsTyped}
 use Rattle.ix_core.specs.Types.{Types}
 use Rattle.ix_core.specs.World.{World, tables_in}
-use Rattle.ix_core.proofs.Cases.{by_test, equal}
 use Rattle.ix_core.proofs.FormedParts.{locals_of}
 use Rattle.ix_facts.specs.After.{Step}
-use Rattle.ix_facts.specs.Facts.{AllHold}
-use Rattle.ix_facts.specs.Forget.{of_slot}
 use Rattle.ix_facts.specs.Stores.{Stored, Meets, Gives, operated}
-use Rattle.ix_steps.specs.MachineSteps.{own_slot}
 use Rattle.ix_steps.proofs.FieldReads.{of_place}
 use Rattle.ix_steps.proofs.MachineSteps.{of_through}
-use Rattle.ix_sign.specs.Names.{is_built}
-use Rattle.ix_sign.specs.Signs.{read_facts, write_facts}
 use Rattle.ix_sign.proofs.SignTruth.{signs_hold}
 use Rattle.ix_method.specs.MethodRules.{KindGives, copied_claims}
-use Rattle.ix_sound.specs.Clean.{IsClean}
 use Rattle.ix_sound.specs.Direct.{direct}
 use Rattle.ix_sound.specs.Errors.{NoKindErrors}
-use Rattle.ix_sound.specs.Shown.{MayTake, Takes}
+use Rattle.ix_sound.specs.Shown.{Takes}
 use Rattle.ix_sound.specs.Sound.{LocalsApart}
 use Rattle.ix_sound.proofs.CopiesShown.{copied_hold}
 use Rattle.ix_sound.proofs.FieldsShown.{adds_hold, read_holds, write_holds, not_own}

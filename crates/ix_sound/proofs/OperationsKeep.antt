@@ -1,9 +1,8 @@
 -- An operation of which enough is shown keeps what a step of a frame keeps, or stops with no bad end.
 use Rattle.std.specs.Prelude.{◌≡◌, ℕ, zero, suc, ◌+◌, ◌<◌, nat_lt, ◌≤ℤ◌, ◌<ℤ◌, ℤ, pos, negsuc, unsigned_abs, Bool, true, false, if◌then◌else◌, List, [], ◌∷◌, ◌++◌, length, map, replicate, slice_get, slice_set, Option, Some, None, refl}
-use Rattle.std.proofs.Common.{arith, sym, ap, ◌∙◌, subst}
+use Rattle.std.proofs.Common.{arith, sym, subst}
 use Rattle.std.proofs.lemmas.Bool.Decides.{nat_tests}
 use Rattle.std.proofs.lemmas.Int.{ints}
-use Rattle.std.proofs.lemmas.List.{length-map}
 use Rattle.ix_num.specs.Arithmetic.{exact_of}
 use Rattle.ix_core.specs.declared.claim.Base.{Base}
 use Rattle.ix_core.specs.declared.claim.Base.TheVariants as base
@@ -15,7 +14,7 @@ use Rattle.ix_core.specs.declared.op.OpKind.{OpKind}
 use Rattle.ix_core.specs.declared.op.OpKind.TheVariants as op
 use Rattle.ix_core.specs.declared.program.Method.{Method}
 use Rattle.ix_core.specs.Analysis.{IsWorld}
-use Rattle.ix_core.specs.Heap.{Held, Num, Boolean, Null, At, Heap, Kind, ObjectOf, ArrayOf, cell_default, default_of_base, cells_used, array_cells, value_at, object_at, array_at, place_in, is_within, int_of, size_of, write_at}
+use Rattle.ix_core.specs.Heap.{Held, Num, Boolean, Null, At, Heap, Kind, ObjectOf, ArrayOf, cell_default, default_of_base, cells_used, array_cells, value_at, object_at, array_at, place_in, is_within, size_of, write_at}
 use Rattle.ix_core.specs.Machine.{Limits, HeapFull, Effect, Done, Stopped, Wrapped, Printed, Called, allocate, new_array, is_past, is_int, operate, through, at_place, at_index, assign_int, assign_result, literal_value, unary_of, int_at}
 use Rattle.ix_core.specs.Objects.{IsOn, MeetsElement, AllOn, IsFree, HeapKeeps, FrameKeeps, IsOwn, StepKeeps}
 use Rattle.ix_core.specs.Safe.{IsBad, element_claims}

@@ -1,14 +1,13 @@
 -- Behind an operation that is no call the store that its rule gives is met, and the fields of a new object are as they were.
-use Rattle.std.specs.Prelude.{◌≡◌, ◌⊎◌, ℕ, zero, suc, ◌<◌, nat_lt, ◌==◌, Bool, true, false, not, ◌&&◌, pos, List, [], ◌∷◌, length, Option, None, Some, refl}
+use Rattle.std.specs.Prelude.{◌≡◌, ℕ, zero, suc, ◌<◌, nat_lt, ◌==◌, Bool, true, false, List, [], ◌∷◌, length, Some, refl}
 use Rattle.std.proofs.Common.{arith, sym, ap, ◌∙◌, subst, inl, inr}
 use Rattle.std.proofs.lemmas.Bool.{and_parts, false≢true}
 use Rattle.std.proofs.lemmas.Bool.Decides.{nat_tests}
-use Rattle.ix_core.specs.declared.claim.Base.{Base}
 use Rattle.ix_core.specs.declared.claim.Base.TheVariants as base
 use Rattle.ix_core.specs.declared.claim.Type_.{Type_}
 use Rattle.ix_core.specs.declared.claim.Type_.TheVariants as type
 use Rattle.ix_core.specs.declared.fact.Path.{Path}
-use Rattle.ix_core.specs.declared.fact.Path.TheVariants.{Slot, FieldOf}
+use Rattle.ix_core.specs.declared.fact.Path.TheVariants.{FieldOf}
 use Rattle.ix_core.specs.declared.fact.Profile.{Profile}
 use Rattle.ix_core.specs.declared.fact.Profile.TheVariants.{Int32}
 use Rattle.ix_core.specs.declared.op.Op.{Op}
@@ -24,22 +23,21 @@ use Rattle.ix_core.specs.Numbers.{Numbers, HasInts, numbers_of}
 use Rattle.ix_core.specs.Objects.{AllOn, HeapKeeps, FrameKeeps, IsOwn}
 use Rattle.ix_core.specs.Tables.{method_at}
 use Rattle.ix_core.specs.Typed.{IsOfType, HeapTyped, SlotsTyped}
-use Rattle.ix_core.specs.Types.{Types, cell_type, is_array}
+use Rattle.ix_core.specs.Types.{Types, is_array}
 use Rattle.ix_core.specs.World.{World, tables_in}
 use Rattle.ix_sound.specs.Direct.{direct}
 use Rattle.ix_core.proofs.Cases.{by_test, equal}
 use Rattle.ix_core.proofs.FormedParts.{locals_of, ways_end}
 use Rattle.ix_core.proofs.Kept.{all_on}
 use Rattle.ix_core.proofs.TypedValues.{read_typed}
-use Rattle.ix_facts.specs.After.{Step, TargetApart, of_target}
-use Rattle.ix_facts.specs.AfterOperation.{loaded_claims}
+use Rattle.ix_facts.specs.After.{Step, of_target}
 use Rattle.ix_facts.specs.FieldSteps.{IsRead, IsWritten}
 use Rattle.ix_facts.specs.Forget.{SameBut, of_slot, of_field}
 use Rattle.ix_facts.specs.Stores.{Stored, Meets, Gives, operated}
 use Rattle.ix_facts.proofs.AfterLaws.{after_hold}
 use Rattle.ix_facts.proofs.StepLaws.{gives_meets}
 use Rattle.ix_steps.specs.FieldAccess.{spared_by}
-use Rattle.ix_steps.specs.MachineSteps.{HasTarget, LoadsMet, IsNumber, HoldsElements, own_slot}
+use Rattle.ix_steps.specs.MachineSteps.{LoadsMet, IsNumber, HoldsElements}
 use Rattle.ix_steps.proofs.FieldReads.{read_step}
 use Rattle.ix_steps.proofs.FieldWrites.{write_step, alone_spares, kept_cells, kept_alone}
 use Rattle.ix_steps.proofs.MachineLoads.{loads_met}

@@ -1,17 +1,15 @@
 -- The method that runs where a named one is called is that one or overrides it, and stands for it.
-use Rattle.std.specs.Prelude.{◌≡◌, ◌⊎◌, ℕ, zero, suc, ◌<◌, nat_lt, ◌==◌, Bool, true, false, not, ◌&&◌, List, length, flat_map, Option, None, Some, unwrap_or, refl}
+use Rattle.std.specs.Prelude.{◌≡◌, ◌⊎◌, ℕ, zero, suc, ◌<◌, Bool, true, false, not, List, length, flat_map, Option, None, Some, unwrap_or, refl}
 use Rattle.std.proofs.Common.{sym, ap, ◌∙◌, subst, inl, inr, ⊎_elim}
 use Rattle.std.proofs.lemmas.Bool.{and_parts, false≢true}
 use Rattle.std.proofs.lemmas.Bool.Decides.{nat_tests}
 use Rattle.ix_core.specs.declared.claim.Type_.{Type_}
 use Rattle.ix_core.specs.declared.error.Error.{Error}
-use Rattle.ix_core.specs.declared.program.Method.{Method}
 use Rattle.ix_core.specs.declared.program.Program.{Program}
 use Rattle.ix_core.specs.Formed.{is_formed, is_there, overrides_fit}
 use Rattle.ix_core.specs.Tables.{method_at, class_at, way_up, most_on_way, overridden, ancestors, is_among, first_where, found_method}
-use Rattle.ix_core.specs.World.{World}
 use Rattle.ix_core.proofs.Ancestors.{among_parts}
-use Rattle.ix_core.proofs.Cases.{by_test, equal}
+use Rattle.ix_core.proofs.Cases.{equal}
 use Rattle.ix_core.proofs.FormedParts.{method_listed, flat_parts, first_is}
 use Rattle.ix_core.proofs.TypedCalls.{method_has}
 use Rattle.ix_method.specs.RuleErrors.{TextErrors, OverridesBy}

@@ -1,11 +1,9 @@
 -- A method that overrides another without errors stands for it.
-use Rattle.std.specs.Prelude.{◌≡◌, ◌⊎◌, ℕ, zero, suc, ◌+◌, ◌<◌, ◌==◌, nat_lt, Bool, true, false, not, ◌&&◌, ◌||◌, if◌then◌else◌, pos, List, [], ◌∷◌, ◌++◌, length, slice_get, Option, None, Some, unwrap_or, refl}
+use Rattle.std.specs.Prelude.{◌≡◌, ◌⊎◌, ℕ, suc, ◌+◌, ◌<◌, ◌==◌, Bool, true, false, not, ◌&&◌, ◌||◌, if◌then◌else◌, pos, List, [], ◌∷◌, ◌++◌, length, slice_get, Some, refl}
 use Rattle.std.proofs.Common.{arith, sym, ap, ◌∙◌, subst, inl, inr, ⊎_elim}
 use Rattle.std.proofs.lemmas.Bool.{and_parts, false≢true}
 use Rattle.std.proofs.lemmas.Bool.Decides.{nat_tests}
-use Rattle.std.proofs.lemmas.Int.{ints}
 use Rattle.std.proofs.lemmas.Option.{slice_get_within}
-use Rattle.ix_core.specs.declared.claim.Claim.{Claim}
 use Rattle.ix_core.specs.declared.claim.Name.{Name}
 use Rattle.ix_core.specs.declared.claim.Name.TheVariants.{Param, Local, FieldNamed}
 use Rattle.ix_core.specs.declared.claim.Type_.{Type_}
@@ -20,20 +18,20 @@ use Rattle.ix_core.specs.declared.program.Program.{Program}
 use Rattle.ix_core.specs.Claims.{AreTrue}
 use Rattle.ix_core.specs.Formed.{is_formed, is_there, is_proper_ancestor, same_types, overrides_fit}
 use Rattle.ix_core.specs.Heap.{Held, Num, Boolean, Null, At, Heap, Reading, value_at, object_at, place_in, field_value, reading_of, int_of, size_of}
-use Rattle.ix_core.specs.Numbers.{Numbers, HasInts, numbers_of, field_of, held_at}
-use Rattle.ix_core.specs.Objects.{IsOn, AllOn, KeepsInts, IsIntHeld, Later, IsSame, Names}
-use Rattle.ix_core.specs.Tables.{method_at, field_at, param_slot, param_slots}
+use Rattle.ix_core.specs.Numbers.{Numbers, HasInts, numbers_of, field_of}
+use Rattle.ix_core.specs.Objects.{IsOn, AllOn, KeepsInts, IsIntHeld, Later, IsSame}
+use Rattle.ix_core.specs.Tables.{method_at, param_slot, param_slots}
 use Rattle.ix_core.specs.Types.{same_type}
 use Rattle.ix_core.specs.Waits.{MeetParams, param_readings, reading_through}
 use Rattle.ix_core.specs.World.{World}
-use Rattle.ix_core.proofs.Cases.{by_test, equal}
+use Rattle.ix_core.proofs.Cases.{by_test}
 use Rattle.ix_core.proofs.Entered.{reading_later, cell_each}
 use Rattle.ix_core.proofs.Kept.{has_ints}
 use Rattle.ix_core.proofs.TypeLaws.{type_is}
 use Rattle.ix_core.proofs.TypedCalls.{method_has}
 use Rattle.ix_facts.specs.AfterOperation.{is_array}
 use Rattle.ix_facts.specs.Facts.{AllHold}
-use Rattle.ix_facts.specs.Forget.{SameBut, of_slot, of_call, without}
+use Rattle.ix_facts.specs.Forget.{SameBut, without}
 use Rattle.ix_facts.specs.Stores.{Stored, Reached, Meets, IsAbove}
 use Rattle.ix_facts.specs.Exact.{if_so}
 use Rattle.ix_facts.proofs.FactLists.{all_hold_app}
@@ -45,7 +43,6 @@ use Rattle.ix_sign.specs.Signs.{received, received_params, params_facts, claims_
 use Rattle.ix_sign.specs.SignErrors.{AllRefuse, OverrideErrors, of_run, HasRun, plain}
 use Rattle.ix_sound.specs.Direct.{direct}
 use Rattle.ix_sound.specs.Stands.{StandsFor}
-use Rattle.ix_sound.proofs.ArgumentsMet.{through_is}
 use Rattle.ix_sound.proofs.ClaimTruths.{claims_hold, claims_true, none_fails}
 use Rattle.ix_sound.proofs.FieldsShown.{adds_hold}
 use Rattle.ix_sound.proofs.ResultSlots.{with_result, front_same, result_at, same_but, each_held, zero_int}

@@ -1,5 +1,5 @@
 -- A claim that can't be false is true, so what isn't refused holds.
-use Rattle.std.specs.Prelude.{◌≡◌, ◌≤ℤ◌, ◌<ℤ◌, ℤ, int_le, int_lt, true, false, pos, negsuc, ◌-ℤ◌, ◌+ℤ◌, refl}
+use Rattle.std.specs.Prelude.{◌≡◌, ◌≤ℤ◌, ◌<ℤ◌, ℤ, int_le, int_lt, true, false, negsuc, ◌-ℤ◌, ◌+ℤ◌}
 use Rattle.std.specs.Ordering.{int_eq}
 use Rattle.std.proofs.Common.{arith}
 use Rattle.std.proofs.lemmas.Bool.Decides.{nat_tests, Decides-int_eq}

@@ -1,6 +1,6 @@
 -- A constructor's moves that do no operation leave it at its stage.
-use Rattle.std.specs.Prelude.{◌≡◌, ℕ, ◌<◌, Bool, true, false, if◌then◌else◌, List, length, None, Some, Option, refl}
-use Rattle.std.proofs.Common.{sym, ap, subst, ◌∙◌}
+use Rattle.std.specs.Prelude.{◌≡◌, ℕ, ◌<◌, Bool, true, false, if◌then◌else◌, List, length, None, Some, refl}
+use Rattle.std.proofs.Common.{ap}
 use Rattle.std.proofs.lemmas.Bool.{and_parts, false≢true}
 use Rattle.ix_core.specs.declared.claim.Type_.{Type_}
 use Rattle.ix_core.specs.declared.op.CallOp.{CallOp}
@@ -8,13 +8,13 @@ use Rattle.ix_core.specs.declared.op.Op.{Op}
 use Rattle.ix_core.specs.declared.op.OpKind.TheVariants as op
 use Rattle.ix_core.specs.declared.program.Program.{Program}
 use Rattle.ix_core.specs.Code.{Code, End, Do, If, Break, Continue, Return, Throw, Loop, Condition}
-use Rattle.ix_core.specs.Formed.{is_formed, code_ways, condition_ways, op_fits, op_types, is_super_call}
+use Rattle.ix_core.specs.Formed.{is_formed, code_ways, op_fits, op_types, is_super_call}
 use Rattle.ix_core.specs.Heap.{Held, Heap}
 use Rattle.ix_core.specs.Machine.{Move, Go, Limits, step_tasks, step_code}
 use Rattle.ix_core.specs.Tables.{Tables, method_at}
 use Rattle.ix_core.specs.Tasks.{Tasks, Empty, Run, Ask, Decide, DecideTruth, Head, Again, Out, code_then, followed_by, behind_loop, next_turn}
 use Rattle.ix_core.specs.TypedStates.{Fit, Running, Asking, Comparing, Reading, Turning, Returning, Leaving, Nothing, Lead, Giving, Leads}
-use Rattle.ix_core.specs.Types.{Types, Point, class_type, with_type}
+use Rattle.ix_core.specs.Types.{Types, class_type, with_type}
 use Rattle.ix_core.proofs.FormedParts.{locals_of}
 use Rattle.ix_core.proofs.TypedTasks.{code_leads, condition_step, head_step, again_step, if_step, loop_step, itself, leads_first}
 use Rattle.ix_sound.specs.Making.{Stage, Plain, Making, with_types, Tracks, MakingFits, StageFits, StageStays}

@@ -17,7 +17,7 @@ use Rattle.ix_core.specs.Claims.{AreTrue}
 use Rattle.ix_core.specs.Heap.{Held, Num, Boolean, Null, At, Heap, Kind, ObjectOf, ArrayOf, Reading, no_reading, reading_of, value_at, object_at, place_in, field_value}
 use Rattle.ix_core.specs.Machine.{slots_with}
 use Rattle.ix_core.specs.Objects.{HeapKeeps, FrameKeeps, IsFree, HasField}
-use Rattle.ix_core.specs.Safe.{Input, HaveTypes, Begins, Meets, MeetEach, Safe, input_values, input_heap, input_reading, reading_in, input_names, start}
+use Rattle.ix_core.specs.Safe.{Input, HaveTypes, Begins, Meets, MeetEach, input_values, input_heap, input_reading, reading_in, input_names, start}
 use Rattle.ix_core.specs.Tables.{no_method, method_at, param_slot, param_slots}
 use Rattle.ix_core.specs.Waits.{Knowledge, MeetParams, param_readings, reading_through, Good, Runs}
 use Rattle.ix_core.specs.World.{World}

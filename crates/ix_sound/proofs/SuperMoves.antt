@@ -1,9 +1,7 @@
 -- A frame's moves leave at most one call of the parent's constructor, and none behind it.
 use Rattle.std.specs.Prelude.{◌≡◌, ℕ, ◌+◌, ◌≤◌, Bool, true, false, if◌then◌else◌, refl}
-use Rattle.std.proofs.Common.{arith, sym, ap, ◌∙◌, subst}
-use Rattle.std.proofs.lemmas.Bool.{false≢true}
+use Rattle.std.proofs.Common.{arith, ap}
 use Rattle.ix_core.specs.declared.op.Op.{Op}
-use Rattle.ix_core.specs.declared.op.Test.{Test}
 use Rattle.ix_core.specs.Code.{Code, End, Do, If, Break, Continue, Return, Throw, Loop, Condition, Known, Compare, Truth, Both, Either, Opposite}
 use Rattle.ix_core.specs.Formed.{super_calls, super_calls_in, own_super_calls, is_super_call, one_if}
 use Rattle.ix_core.specs.Machine.{step_condition}

@@ -1,6 +1,6 @@
 -- Behind a call of the parent's constructor each store that its rule gives is met: the class's own fields are as in a new object, and the claims of inherited
 -- fields hold.
-use Rattle.std.specs.Prelude.{◌≡◌, ◌⊎◌, ℕ, zero, suc, ◌<◌, ◌==◌, Bool, true, false, not, ◌&&◌, ◌||◌, pos, List, [], ◌∷◌, ◌++◌, length, slice_get, Option, None, Some, refl}
+use Rattle.std.specs.Prelude.{◌≡◌, ℕ, suc, ◌==◌, Bool, true, false, not, ◌&&◌, ◌||◌, pos, List, [], ◌∷◌, slice_get, Some, refl}
 use Rattle.std.proofs.Common.{sym, ap, ◌∙◌, subst}
 use Rattle.std.proofs.lemmas.Bool.{false≢true}
 use Rattle.ix_core.specs.declared.claim.Name.{Name}
@@ -15,7 +15,7 @@ use Rattle.ix_core.specs.Formed.{is_formed}
 use Rattle.ix_core.specs.Heap.{Held, At, Heap, ObjectOf, Reading, object_at, place_in, field_value, value_at, reading_of, no_reading}
 use Rattle.ix_core.specs.Machine.{Super}
 use Rattle.ix_core.specs.Numbers.{Numbers, HasInts, numbers_of}
-use Rattle.ix_core.specs.Objects.{IsOn, AllOn, HasField, MeetsField, field_readings, IsOwn}
+use Rattle.ix_core.specs.Objects.{IsOn, AllOn, HasField, MeetsField, field_readings}
 use Rattle.ix_core.specs.Tables.{method_at, class_at, field_at, all_fields, is_among}
 use Rattle.ix_core.specs.Waits.{Since, Hidden, AreFresh}
 use Rattle.ix_core.specs.World.{World}
@@ -23,7 +23,7 @@ use Rattle.ix_core.proofs.Entered.{reading_later, cell_each}
 use Rattle.ix_facts.specs.AfterOperation.{is_int, is_array}
 use Rattle.ix_facts.specs.Exact.{if_so}
 use Rattle.ix_facts.specs.Facts.{AllHold}
-use Rattle.ix_facts.specs.Forget.{SameBut, of_slot, of_call, of_this}
+use Rattle.ix_facts.specs.Forget.{SameBut, of_call, of_this}
 use Rattle.ix_facts.specs.Stores.{Stored, Meets}
 use Rattle.ix_facts.proofs.FactLists.{all_hold_app}
 use Rattle.ix_steps.specs.CallEffects.{spared_in}

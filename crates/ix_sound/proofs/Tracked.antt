@@ -1,11 +1,10 @@
 -- The types of a constructor's slots are those of some frame, behind each operation too; so no operation writes a field of its object before the parent's
 -- constructor has run, and behind it only fields of its own class.
-use Rattle.std.specs.Prelude.{◌≡◌, ℕ, zero, suc, ◌+◌, ◌<◌, ◌≤◌, nat_lt, ◌==◌, Bool, true, false, not, ◌&&◌, if◌then◌else◌, pos, List, [], ◌∷◌, length, slice_set, Option, None, Some, unwrap_or, refl}
+use Rattle.std.specs.Prelude.{◌≡◌, ℕ, ◌+◌, ◌<◌, ◌≤◌, ◌==◌, Bool, true, false, not, ◌&&◌, if◌then◌else◌, pos, List, length, slice_set, Option, None, Some, unwrap_or, refl}
 use Rattle.std.proofs.Common.{arith, sym, ap, subst, ◌∙◌}
 use Rattle.std.proofs.lemmas.Bool.{and_parts, false≢true}
 use Rattle.std.proofs.lemmas.Bool.Decides.{nat_tests}
 use Rattle.std.proofs.lemmas.List.{length-set}
-use Rattle.ix_core.specs.declared.claim.Base.{Base}
 use Rattle.ix_core.specs.declared.claim.Base.TheVariants as base
 use Rattle.ix_core.specs.declared.claim.Type_.{Type_}
 use Rattle.ix_core.specs.declared.claim.Type_.TheVariants as type
@@ -18,7 +17,7 @@ use Rattle.ix_core.specs.declared.op.OpKind.TheVariants as op
 use Rattle.ix_core.specs.declared.program.Method.{Method}
 use Rattle.ix_core.specs.declared.program.Program.{Program}
 use Rattle.ix_core.specs.Formed.{is_formed, at_most, is_slot, is_target, reads, is_there, field_fits, is_array_at, are_entries, literal_fits, literal_type, op_fits, op_types, variable_type, copy_fits, call_fits, with_result}
-use Rattle.ix_core.specs.Heap.{Held, Num, Boolean, Null, At, Heap, ObjectOf, value_at, object_at, cell_default, default_of}
+use Rattle.ix_core.specs.Heap.{Held, Num, Boolean, Null, At, Heap, ObjectOf, value_at, cell_default, default_of}
 use Rattle.ix_core.specs.Tables.{method_at, field_at, param_slot, param_slots}
 use Rattle.ix_core.specs.Typed.{IsOfType, SlotsTyped}
 use Rattle.ix_core.specs.TypedStates.{Gives}

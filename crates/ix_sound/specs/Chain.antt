@@ -1,5 +1,5 @@
 -- From which stores the tasks of a frame have no error, for any rules of flow: the code of each task flows to the store of the next.
-use Rattle.std.specs.Prelude.{ℕ, Bool, true, false}
+use Rattle.std.specs.Prelude.{ℕ, true, false}
 use Rattle.ix_core.specs.declared.op.Op.{Op}
 use Rattle.ix_core.specs.declared.op.Test.{Test}
 use Rattle.ix_core.specs.Code.{Code, End, Do, If, Break, Continue, Return, Throw, Loop, Condition, Known, Compare, Truth, Both, Either, Opposite}

@@ -1,5 +1,4 @@
 -- The world of a program in which each call runs the method that it names. A call that runs an overriding method is there a call of that method.
-use Rattle.std.specs.Prelude.{ℕ}
 use Rattle.ix_core.specs.declared.program.Program.{Program}
 use Rattle.ix_core.specs.World.{World, world_of}
 

@@ -1,6 +1,6 @@
 -- What is known of a frame, as the knowledge that the laws of an analysis speak of: a store of the rules, and how far a constructor is. Behind a call it is each
 -- store that the rule of the call gives, of a method that the called one is or overrides.
-use Rattle.std.specs.Prelude.{◌≡◌, ℕ, ◌<◌, ◌==◌, nat_lt, Bool, true, false, List, length, Option, None, Some, refl}
+use Rattle.std.specs.Prelude.{◌≡◌, ℕ, ◌<◌, ◌==◌, nat_lt, Bool, true, false, List, length, Some, refl}
 use Rattle.ix_core.specs.declared.claim.Type_.{Type_}
 use Rattle.ix_core.specs.declared.error.Error.{Error}
 use Rattle.ix_core.specs.declared.fact.Profile.{Profile}

@@ -1,5 +1,5 @@
 -- Where calls of the parent's constructor stand in what a constructor still has to do: at most one, and as an item of the body itself (JLS 8.8.7.1).
-use Rattle.std.specs.Prelude.{◌≡◌, ℕ, ◌≤◌, Bool, true, false}
+use Rattle.std.specs.Prelude.{◌≡◌, ◌≤◌, Bool, true, false}
 use Rattle.ix_core.specs.Code.{Code}
 use Rattle.ix_core.specs.Formed.{super_calls, super_calls_in, own_super_calls}
 use Rattle.ix_core.specs.Tasks.{Tasks, Empty, Run, Ask, Decide, DecideTruth, Head, Again, Out}
