@@ -55,10 +55,11 @@ module _ (program : Program) (locals : List (List Type_)) (formed : is_formed pr
     -- a call of a method, or of the constructor of a new object
     plain_holds : is_super kind ≡ false → CallGives program caller (call_of call well.named) (stored s) (stored t) → MeetsHere program profile (types_in program locals formed) (with_types stage types) t later heap
     plain_holds plain gives behind =
-        let met = params_met program locals formed slots began on before (stored s) meets_before kind call well.named well.known well.kinds well.args well.met in
-        (call_meets program locals formed caller callee kind call slots began heap value plain fits size on kept since kept_after int given results well.named well.known stands well.kinds well.args well.apart well.receiver met
-        (ap (λ (m : Method). m.result) well.callee_is) before behind (stored s) (stored t) gives meets_before,
-        stage_on stage refl (here before).1)
+        let met = params_met program locals formed slots began on before (stored s) meets_before kind call well.named well.known well.kinds well.args well.met in (
+          call_meets program locals formed caller callee kind call slots began heap value plain fits size on kept since kept_after int given results well.named well.known stands well.kinds well.args well.apart well.receiver met
+              (ap (λ (m : Method). m.result) well.callee_is) before behind (stored s) (stored t) gives meets_before,
+          stage_on stage refl (here before).1,
+        )
       where
         stage_on : (at : Stage) → stage ≡ at → StageHolds world stage (numbers_of world.place slots began before) → StageHolds world (with_types stage types) (numbers_of world.place later heap behind)
         stage_on Plain e holds = subst (λ x. StageHolds world (with_types x types) (numbers_of world.place later heap behind)) (sym e) tt
@@ -78,11 +79,12 @@ module _ (program : Program) (locals : List (List Type_)) (formed : is_formed pr
         let kinds : FitsKind world Super caller callee call = subst (λ k. FitsKind world k caller callee call) is fits.kinds in
         let this = built (ap is_super is) in
         let same : callee ≡ method_at program well.named
-        = well.callee_is ∙ ap (method_at program) (sym (constructor_itself program locals formed call.method well.named well.overrides (sym (ap (λ (m : Method). m.constructor) well.callee_is) ∙ kinds.1))) in
-        (super_meets program locals formed caller well.named call slots began heap kinds.0 (kinds.3 ∙ ap (λ (m : Method). Some m.class) same) on
-        (subst (λ m. Since world caller m Super slots began heap) same (subst (λ k. Since world caller callee k slots began heap) is since)) this.0 this.1 this.2
-        (λ field has. this.3 field (subst (λ (m : Method). HasField world (ObjectOf m.class) field) (sym same) has)) before behind (stored s) (stored t) gives meets_before,
-        made_stage stage)
+        = well.callee_is ∙ ap (method_at program) (sym (constructor_itself program locals formed call.method well.named well.overrides (sym (ap (λ (m : Method). m.constructor) well.callee_is) ∙ kinds.1))) in (
+          super_meets program locals formed caller well.named call slots began heap kinds.0 (kinds.3 ∙ ap (λ (m : Method). Some m.class) same) on
+              (subst (λ m. Since world caller m Super slots began heap) same (subst (λ k. Since world caller callee k slots began heap) is since)) this.0 this.1 this.2
+              (λ field has. this.3 field (subst (λ (m : Method). HasField world (ObjectOf m.class) field) (sym same) has)) before behind (stored s) (stored t) gives meets_before,
+          made_stage stage,
+        )
       where
         made_stage : (at : Stage) → StageHolds world (stage_behind Super at types) (numbers_of world.place slots heap behind)
         made_stage Plain = tt

@@ -2,6 +2,7 @@
 use Rattle.std.specs.Prelude.{◌≡◌, ℕ, zero, suc, ◌<◌, true, false, List, [], ◌∷◌, length, map, slice_get, option_map, Option, None, Some, unwrap_or, refl}
 use Rattle.std.proofs.Common.{arith, sym, ap, ◌∙◌}
 use Rattle.std.proofs.lemmas.Bool.{false≢true}
+use Rattle.std.proofs.lemmas.Option.{slice_get_within}
 use Rattle.ix_core.specs.declared.claim.Name.{Name}
 use Rattle.ix_core.specs.declared.claim.Name.TheVariants.{Param, Local, FieldNamed}
 use Rattle.ix_core.specs.declared.claim.Type_.{Type_}
@@ -126,4 +127,4 @@ module _ (program : Program) (locals : List (List Type_)) (formed : is_formed pr
         (λ error rank failed. none error rank (record { number = k; param = param; declared = declared; arg = arg.0; given = arg.1; of = failed })) j c is) meets)
       where
         within : slice_get named.params k ≡ Some param → k < length named.params
-        within is = Rattle.std.proofs.lemmas.Option.slice_get_within named.params k param is
+        within is = slice_get_within named.params k param is

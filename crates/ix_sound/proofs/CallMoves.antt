@@ -41,6 +41,7 @@ use Rattle.ix_sound.specs.Making.{Stage, Plain, Making, with_types, MakingFits, 
 use Rattle.ix_sound.proofs.ArgumentsMet.{params_met}
 use Rattle.ix_sound.proofs.FormedCalls.{CallHas, call_has, static_fits_call, instance_fits_call, new_fits_call, super_fits_call, receiver_has, instance_named}
 use Rattle.ix_sound.proofs.StageMoves.{operation_stays, super_made}
+use Rattle.ix_sign.specs.SignErrors.{ArgumentClaim}
 
 module _ (program : Program) (locals : List (List Type_)) (formed : is_formed program locals ≡ true) (profile : Profile) (entries : (number : ℕ) → nat_lt number (length program.methods) ≡ true → Store)
     (building : ℕ → Type 0) (number : ℕ) (lt : number < length program.methods) (slots : List Held) (heap : Heap) (keeps : HeapKeeps (direct program) building heap)
@@ -126,7 +127,7 @@ module _ (program : Program) (locals : List (List Type_)) (formed : is_formed pr
 
     -- ---- what the laws ask
 
-    module _ (kind : CallKind) (call : CallOp) (parts : CallParts kind call) (no_claim : (error : Error) (rank : ℕ) → Rattle.ix_sign.specs.SignErrors.ArgumentClaim program call (stored s) error rank → ⊥) (behind : BehindGives program method kind call (stored s) (stored t)) where
+    module _ (kind : CallKind) (call : CallOp) (parts : CallParts kind call) (no_claim : (error : Error) (rank : ℕ) → ArgumentClaim program call (stored s) error rank → ⊥) (behind : BehindGives program method kind call (stored s) (stored t)) where
       makes : (class : ℕ) (new : Bool) (types : Types) → stage ≡ Making class new types → (method.constructor ≡ true) × (class ≡ method.class)
       makes class new types is = let making = subst (StageFits program (types_in program locals formed) number (Run (Do done rest) below)) is stage_fits in (making.constructor, making.of)
 
@@ -166,7 +167,7 @@ module _ (program : Program) (locals : List (List Type_)) (formed : is_formed pr
         let zero = holds field (subst (λ c. HasField world (ObjectOf c) field) (sym of) has) in
         field_is world slots heap before 0 object field at ∙ (λ i. record { int = zero.0 i; size = zero.1 i })
 
-    plain_calls : (kind : CallKind) (call : CallOp) → is_super kind ≡ false → is_super_call done.kind ≡ false → CallParts kind call → ((error : Error) (rank : ℕ) → Rattle.ix_sign.specs.SignErrors.ArgumentClaim program call (stored s) error rank → ⊥)
+    plain_calls : (kind : CallKind) (call : CallOp) → is_super kind ≡ false → is_super_call done.kind ≡ false → CallParts kind call → ((error : Error) (rank : ℕ) → ArgumentClaim program call (stored s) error rank → ⊥)
         → BehindGives program method kind call (stored s) (stored t) → ((types : Types) → StageFits program (types_in program locals formed) number (code_then rest below) (with_types stage types) → StageFits program (types_in program locals formed) number (code_then rest below) (stage_behind kind stage types))
         → Calls profile world know number kind call (code_then rest below) slots heap
     plain_calls kind call plain no_super parts no_claim behind same =
@@ -177,6 +178,7 @@ module _ (program : Program) (locals : List (List Type_)) (formed : is_formed pr
     static_shown call is =
         plain_calls Static call refl (ap is_super_call is) (static_parts call (subst (λ k. op_fits program method (locals_of program locals formed number) (Some fits.types) done k ≡ true) is fits.fits) (subst (IsClean program method) is clean)) (subst (λ k. NoKindErrors program method number done k (stored s)) is none)
         (subst (λ k. KindGives program method profile k done.span.from (stored s) (stored t)) is gives) (λ types f. f)
+
     pub instance_shown : (call : CallOp) → done.kind ≡ op.InstanceCall call → Calls profile world know number Instance call (code_then rest below) slots heap
     instance_shown call is =
         plain_calls Instance call refl (ap is_super_call is) (instance_parts call (subst (λ k. op_fits program method (locals_of program locals formed number) (Some fits.types) done k ≡ true) is fits.fits) (subst (IsClean program method) is clean))
@@ -193,7 +195,7 @@ module _ (program : Program) (locals : List (List Type_)) (formed : is_formed pr
         parts : CallParts Super call
         parts = super_parts call (subst (λ k. op_fits program method (locals_of program locals formed number) (Some fits.types) done k ≡ true) is fits.fits) (subst (IsClean program method) is clean)
 
-        no_claim : (error : Error) (rank : ℕ) → Rattle.ix_sign.specs.SignErrors.ArgumentClaim program call (stored s) error rank → ⊥
+        no_claim : (error : Error) (rank : ℕ) → ArgumentClaim program call (stored s) error rank → ⊥
         no_claim = subst (λ k. NoKindErrors program method number done k (stored s)) is none
 
         behind : BehindGives program method Super call (stored s) (stored t)

@@ -17,12 +17,12 @@ use Rattle.ix_core.specs.Analysis.{IsIntIf, FillsTarget, Results}
 use Rattle.ix_core.specs.Claims.{AreTrue}
 use Rattle.ix_core.specs.Formed.{is_formed, is_argument}
 use Rattle.ix_core.specs.Heap.{Held, Num, At, Heap, value_at, reading_of}
-use Rattle.ix_core.specs.Machine.{CallKind, Static, Instance, New, Super, call_values, set_target, target_of, receiver_slot}
+use Rattle.ix_core.specs.Machine.{CallKind, Static, Instance, New, Super, call_values, set_target, target_of, receiver_slot, call_heap}
 use Rattle.ix_core.specs.Numbers.{Numbers, HasInts, numbers_of, field_of}
 use Rattle.ix_core.specs.Objects.{IsOn, AllOn, IsIntHeld, KeepsInts}
 use Rattle.ix_core.specs.Tables.{method_at, default_result}
 use Rattle.ix_core.specs.Types.{is_void, is_empty}
-use Rattle.ix_core.specs.Waits.{FitsCall, Since, Stays, NoEffect, Final, Hidden, is_super, param_readings, reading_through}
+use Rattle.ix_core.specs.Waits.{FitsCall, Since, NoEffect, Final, Hidden, is_super, param_readings, reading_through, MeetParams, Reason}
 use Rattle.ix_core.specs.World.{World, tables_in}
 use Rattle.ix_core.proofs.Cases.{by_test}
 use Rattle.ix_core.proofs.Entered.{args_each, first_and}
@@ -46,6 +46,7 @@ use Rattle.ix_sound.proofs.ClaimTruths.{claims_hold}
 use Rattle.ix_sound.proofs.NamedClaims.{MayName, result_names}
 use Rattle.ix_sound.proofs.OperationsMeet.{KeepsThis}
 use Rattle.ix_sound.proofs.Overriding.{received_holds}
+use Rattle.ix_sound.proofs.FormedCalls.{target_is}
 
 -- an argument is in another slot than the result
 pub argument_apart : (args : List Arg) (target k : ℕ) (arg : Arg) → is_argument args target ≡ false → slice_get args k ≡ Some arg → (arg.slot == target) ≡ false
@@ -105,7 +106,7 @@ module _ (program : Program) (locals : List (List Type_)) (formed : is_formed pr
       (results : Results world callee (call_values kind call (length began) slots) heap value)
       (n : ℕ) (lt : n < length program.methods) (stands : StandsFor world (method_at program n) callee) (kinds : KindFits kind call (method_at program n)) (count : length call.args ≡ length (method_at program n).params)
       (apart : is_argument call.args call.target ≡ false) (receiver : (slot : ℕ) → kind ≡ Instance → call.receiver ≡ Some slot → (slot == call.target) ≡ false)
-      (met : Rattle.ix_core.specs.Waits.MeetParams world (method_at program n) (call_values kind call (length began) slots) (Rattle.ix_core.specs.Machine.call_heap (tables_in world) kind began))
+      (met : MeetParams world (method_at program n) (call_values kind call (length began) slots) (call_heap (tables_in world) kind began))
       (same_result : callee.result ≡ (method_at program call.method).result) (before : HasInts world.place slots began)
       (behind : HasInts world.place (set_target (target_of (tables_in world) kind call) value slots) heap) where
     abbrev named : Method
@@ -131,7 +132,7 @@ module _ (program : Program) (locals : List (List Type_)) (formed : is_formed pr
       same = λ slot field object at stays. since.same slot field object at (record { not_super = λ s own has. false≢true (sym plain ∙ s); reason = weaker stays.reason });
     }
       where
-        weaker : {slot field : ℕ} → Rattle.ix_core.specs.Waits.Reason world caller named slot field → Rattle.ix_core.specs.Waits.Reason world caller callee slot field
+        weaker : {slot field : ℕ} → Reason world caller named slot field → Reason world caller callee slot field
         weaker (NoEffect q) = NoEffect (stands.effect q)
         weaker (Final e) = Final e
         weaker (Hidden own) = Hidden own
@@ -149,7 +150,7 @@ module _ (program : Program) (locals : List (List Type_)) (formed : is_formed pr
     target = target_of (tables_in world) kind call
 
     slot_same : (slot : ℕ) → (slot == call.target) ≡ false → value_at later slot ≡ value_at slots slot
-    slot_same slot apart = set_other target value slots slot (λ at e. subst (λ t. (slot == t) ≡ false) (sym (Rattle.ix_sound.proofs.FormedCalls.target_is (tables_in world) kind call at e)) apart)
+    slot_same slot apart = set_other target value slots slot (λ at e. subst (λ t. (slot == t) ≡ false) (sym (target_is (tables_in world) kind call at e)) apart)
 
     name_read : (name : Name) → MayName named name → param_readings world named values heap name ≡ reading_at w (call_path (call_of call n) name)
     name_read (Param j) may =
@@ -183,7 +184,7 @@ module _ (program : Program) (locals : List (List Type_)) (formed : is_formed pr
         (first_and (λ j held. P held) (value_at slots (receiver_slot call.receiver)) _ (each (receiver_slot call.receiver)) (args_each caller P slots call.args fits.hidden none (λ slot other. each slot)) k))
         which
 
-    promised : (x : Held) → IsIntHeld x → (kind ≡ Static) ⊎ (kind ≡ Instance) → Rattle.ix_core.specs.Machine.call_heap (tables_in world) kind began ≡ began → AreTrue callee.result_claims (reading_of heap x) (param_readings world callee values heap)
+    promised : (x : Held) → IsIntHeld x → (kind ≡ Static) ⊎ (kind ≡ Instance) → call_heap (tables_in world) kind began ≡ began → AreTrue callee.result_claims (reading_of heap x) (param_readings world callee values heap)
         → AreTrue named.result_claims (reading_of heap x) (param_readings world named values heap)
     promised x is_int which same_heap is =
         stands.promises values began heap x
@@ -193,7 +194,7 @@ module _ (program : Program) (locals : List (List Type_)) (formed : is_formed pr
         is_int since.later
         (λ k field object at why. let found = value_slot k object which at in
         since.same found.0 field object found.1 (record { not_super = λ s own has. false≢true (sym plain ∙ s); reason = ⊎_elim (λ q. NoEffect q) (λ f. Final f) why }))
-        (subst (λ h. Rattle.ix_core.specs.Waits.MeetParams world named values h) same_heap met) is
+        (subst (λ h. MeetParams world named values h) same_heap met) is
       where
         zero_held : IsIntHeld (Num (pos 0))
         zero_held = record { from = omega (arith, ints); to = omega (arith, ints) }
@@ -213,7 +214,7 @@ module _ (program : Program) (locals : List (List Type_)) (formed : is_formed pr
         ap (λ t. value_at (set_target t value slots) call.target) to ∙ (ap (λ o. value_at (set_target (Some call.target) o slots) call.target) is
         ∙ value_set slots call.target x (let h = fits.within call.target to in omega (arith, h, size)))
 
-    value_holds : (kind ≡ Static) ⊎ (kind ≡ Instance) → Rattle.ix_core.specs.Machine.call_heap (tables_in world) kind began ≡ began → target ≡ Some call.target → AllHold (claims_facts (call_path (call_of call n)) (Slot call.target) named.result_claims) w
+    value_holds : (kind ≡ Static) ⊎ (kind ≡ Instance) → call_heap (tables_in world) kind began ≡ began → target ≡ Some call.target → AllHold (claims_facts (call_path (call_of call n)) (Slot call.target) named.result_claims) w
     value_holds which same_heap to =
         let x = filled target value to given in
         claims_hold (call_path (call_of call n)) (Slot call.target) named.result_claims w (reading_of heap x.0) (param_readings world named values heap) (ap (reading_of heap) (sym (value_set_at x.0 x.1 to)))
@@ -235,10 +236,10 @@ module _ (program : Program) (locals : List (List Type_)) (formed : is_formed pr
         by_kind : (k : CallKind) → kind ≡ k → AllHold (claims_facts (call_path (call_of call n)) (Slot call.target) named.result_claims) w
         by_kind Static e = by_test (is_void named.result)
             (λ t. no_claims_hold (void_claims n lt t))
-            (λ t. value_holds (inl e) (ap (λ k. Rattle.ix_core.specs.Machine.call_heap (tables_in world) k began) e) (ap (λ k. target_of (tables_in world) k call) e ∙ to_target t))
+            (λ t. value_holds (inl e) (ap (λ k. call_heap (tables_in world) k began) e) (ap (λ k. target_of (tables_in world) k call) e ∙ to_target t))
         by_kind Instance e = by_test (is_void named.result)
             (λ t. no_claims_hold (void_claims n lt t))
-            (λ t. value_holds (inr e) (ap (λ k. Rattle.ix_core.specs.Machine.call_heap (tables_in world) k began) e) (ap (λ k. target_of (tables_in world) k call) e ∙ to_target t))
+            (λ t. value_holds (inr e) (ap (λ k. call_heap (tables_in world) k began) e) (ap (λ k. target_of (tables_in world) k call) e ∙ to_target t))
         by_kind (New class) e = no_claims_hold (made_claims n lt (subst (λ k. KindFits k call named) e kinds).1)
         by_kind Super e = absurd (false≢true (sym plain ∙ ap is_super e))
 

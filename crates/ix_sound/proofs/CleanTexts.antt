@@ -47,9 +47,10 @@ append_none (x ∷ front) back e = absurd cc
 module _ (program : Program) (method : Method) where
   args_hidden : (args : List Arg) → (method.constructor ≡ true → this_args args ≡ []) → AreNotOwn method args
   args_hidden [] none = tt
-  args_hidden (arg ∷ args) none =
-      ((λ own. (more_if (arg.slot == 0) arg.span (this_args args) (none own.0)).0 (same_true arg.slot own.1)),
-      args_hidden args (λ made. (more_if (arg.slot == 0) arg.span (this_args args) (none made)).1))
+  args_hidden (arg ∷ args) none = (
+    (λ own. (more_if (arg.slot == 0) arg.span (this_args args) (none own.0)).0 (same_true arg.slot own.1)),
+    args_hidden args (λ made. (more_if (arg.slot == 0) arg.span (this_args args) (none made)).1),
+  )
 
   entries_hidden : (done : Op) (number : ℕ) (entries : List ℕ) → (method.constructor ≡ true → this_entries done number entries ≡ []) → (at entry : ℕ) → slice_get entries at ≡ Some entry → IsOwn method entry → ⊥
   entries_hidden done number [] none at entry is own = absurd cc
@@ -72,9 +73,10 @@ module _ (program : Program) (method : Method) where
   hides_of done (op.WriteField o f v) none = λ own. one_if (v == 0) (part done 1) (none own.0) (same_true v own.1)
   hides_of done (op.NewObject call) none = args_hidden call.args none
   hides_of done (op.StaticCall call) none = args_hidden call.args none
-  hides_of done (op.InstanceCall call) none =
-      (args_hidden call.args (λ made. (append_none (if is_this call.receiver then done.span ∷ [] else []) (this_args call.args) (none made)).1),
-      receiver_hidden call.receiver done.span (λ made. (append_none (if is_this call.receiver then done.span ∷ [] else []) (this_args call.args) (none made)).0))
+  hides_of done (op.InstanceCall call) none = (
+    args_hidden call.args (λ made. (append_none (if is_this call.receiver then done.span ∷ [] else []) (this_args call.args) (none made)).1),
+    receiver_hidden call.receiver done.span (λ made. (append_none (if is_this call.receiver then done.span ∷ [] else []) (this_args call.args) (none made)).0),
+  )
   hides_of done (op.SuperCall call) none = args_hidden call.args none
   hides_of done (op.Const t value) none = tt
   hides_of done (op.Num t arith_ y z) none = tt
@@ -136,16 +138,22 @@ module _ (program : Program) (method : Method) where
     pub each_clean : (code : Code) → NoText code → Each Clean code
     each_clean End none = tt
     each_clean (Do done rest) none = (op_clean done (λ error rank x. none error rank (inl x)), each_clean rest (λ error rank x. none error rank (inr x)))
-    each_clean (If asked first second rest) none =
-        (asked_clean asked (λ error rank x. none error rank (inl x)), each_clean first (λ error rank x. none error rank (inr (inl x))), each_clean second (λ error rank x. none error rank (inr (inr (inl x)))),
-        each_clean rest (λ error rank x. none error rank (inr (inr (inr x)))))
+    each_clean (If asked first second rest) none = (
+      asked_clean asked (λ error rank x. none error rank (inl x)),
+      each_clean first (λ error rank x. none error rank (inr (inl x))),
+      each_clean second (λ error rank x. none error rank (inr (inr (inl x)))),
+      each_clean rest (λ error rank x. none error rank (inr (inr (inr x)))),
+    )
     each_clean (Break rest) none = each_clean rest none
     each_clean (Continue rest) none = each_clean rest none
     each_clean (Return value span rest) none = each_clean rest none
     each_clean (Throw thrown span rest) none = each_clean rest none
-    each_clean (Loop test_first asked body next number scope rest) none =
-        (asked_clean asked (λ error rank x. none error rank (inl x)), each_clean body (λ error rank x. none error rank (inr (inl x))), each_clean next (λ error rank x. none error rank (inr (inr (inl x)))),
-        each_clean rest (λ error rank x. none error rank (inr (inr (inr x)))))
+    each_clean (Loop test_first asked body next number scope rest) none = (
+      asked_clean asked (λ error rank x. none error rank (inl x)),
+      each_clean body (λ error rank x. none error rank (inr (inl x))),
+      each_clean next (λ error rank x. none error rank (inr (inr (inl x)))),
+      each_clean rest (λ error rank x. none error rank (inr (inr (inr x)))),
+    )
 
     asked_clean : (asked : Condition) → NoTextAsked asked → EachAsked Clean asked
     asked_clean (Known answer) none = tt

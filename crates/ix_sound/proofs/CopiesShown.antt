@@ -30,6 +30,7 @@ use Rattle.ix_facts.specs.Stores.{Stored, Meets}
 use Rattle.ix_steps.specs.MachineSteps.{on_paths, own_path, reading_at, local_slot}
 use Rattle.ix_sign.specs.Names.{variable_at, param_in, local_in, or_else}
 use Rattle.ix_sign.specs.SignErrors.{Refuses}
+use Rattle.ix_sign.specs.Signs.{claims_facts}
 use Rattle.ix_method.specs.MethodRules.{variable_claims, copied_claims}
 use Rattle.ix_method.specs.RuleErrors.{AssignClaim, subject_of}
 use Rattle.ix_sound.specs.Sound.{LocalsApart}
@@ -109,10 +110,12 @@ module _ (program : Program) (locals : List (List Type_)) (formed : is_formed pr
       let b = and_parts (is_type program ty) _ a.1 in
       let c = and_parts (list_all (claim_fits ty (others (Local first) (local_named_type program method all one.1))) one.0.claims) _ b.1 in
       let same : one ≡ local = ap (λ (o : Option (Variable × Span)). unwrap_or o one) is in
-      let e : first ≡ first + 0 = omega arith in
-      (subst (λ (l : Variable × Span). is_target program method l.0.slot ≡ true) same a.0, ty,
-      subst (λ n. list_all (claim_fits ty (others (Local n) (local_named_type program method all local.1))) local.0.claims ≡ true) e
-      (subst (λ (l : Variable × Span). list_all (claim_fits ty (others (Local first) (local_named_type program method all l.1))) l.0.claims ≡ true) same c.0))
+      let e : first ≡ first + 0 = omega arith in (
+        subst (λ (l : Variable × Span). is_target program method l.0.slot ≡ true) same a.0,
+        ty,
+        subst (λ n. list_all (claim_fits ty (others (Local n) (local_named_type program method all local.1))) local.0.claims ≡ true) e
+            (subst (λ (l : Variable × Span). list_all (claim_fits ty (others (Local first) (local_named_type program method all l.1))) l.0.claims ≡ true) same c.0),
+      )
   local_fits all (ty ∷ types) first (one ∷ items) (suc k) local fits is =
       let a = and_parts (is_target program method one.0.slot) _ fits in
       let b = and_parts (is_type program ty) _ a.1 in
@@ -177,7 +180,7 @@ module _ (program : Program) (locals : List (List Type_)) (formed : is_formed pr
     copied_hold none = by_variable (variable_at method t place) (variable_is method t place) none
       where
         by_variable : (o : Option (Name × List Claim)) → ((x : Name × List Claim) → o ≡ Some x → IsVariable method t x.1) → ((error : Error) (rank : ℕ) → AssignClaim method number s span o store error rank → ⊥)
-            → AllHold (Rattle.ix_sign.specs.Signs.claims_facts (own_path method) (Slot t) (variable_claims o)) w
+            → AllHold (claims_facts (own_path method) (Slot t) (variable_claims o)) w
         by_variable None each none = tt
         by_variable (Some x) each none =
             claims_hold (own_path method) (Slot t) x.1 w (reading_at v (Slot s)) (λ name. reading_at v (own_path method name)) reads_same

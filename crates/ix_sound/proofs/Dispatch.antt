@@ -12,7 +12,7 @@ use Rattle.ix_core.specs.declared.program.Program.{Program}
 use Rattle.ix_core.specs.Analysis.{Laws, Shows, Calls}
 use Rattle.ix_core.specs.Code.{Code, End, Do, If, Break, Continue, Return, Throw, Loop}
 use Rattle.ix_core.specs.Heap.{Held, Num, Boolean, Null, At, Heap, Kind, ObjectOf, ArrayOf, value_at, object_at}
-use Rattle.ix_core.specs.Machine.{CallKind, Static, Instance, New, Super, Limits, State, Ending, NullUsed, HeapFull, FrameFull, Move, Go, Wrap, Tell, Enter, Leave, Stop, frame, is_past, operate, step_code, step_tasks, next_move, step, step_from, moved, called, entered, stopped, resumed, result_of, lacks_cells, callee_of, found_at, found_for, receiver_slot, target_of, call_values, call_heap, slots_with, run, Waiting}
+use Rattle.ix_core.specs.Machine.{CallKind, Static, Instance, New, Super, Limits, State, Ending, NullUsed, HeapFull, FrameFull, Move, Go, Wrap, Tell, Enter, Leave, Stop, frame, is_past, operate, step_code, step_tasks, next_move, step, step_from, moved, called, entered, stopped, resumed, result_of, lacks_cells, callee_of, found_at, found_for, receiver_slot, target_of, call_values, slots_with, run, Waiting, effect_then}
 use Rattle.ix_core.specs.Objects.{HeapKeeps, FrameKeeps, KeepsInts}
 use Rattle.ix_core.specs.Safe.{Begins, Counts, IsBad, Safe, start, state_after}
 use Rattle.ix_core.specs.Tables.{Tables, tables_of, method_at, found_method, default_result, body_of}
@@ -85,7 +85,7 @@ module _ (program : Program) where
 
   same_code : (limits : Limits) (slots : List Held) (heap : Heap) (code : Code) (tasks : Tasks) → step_code limits (tables_of program) slots heap code tasks ≡ step_code limits (tables_in world) slots heap code tasks
   same_code limits slots heap End tasks = refl
-  same_code limits slots heap (Do done rest) tasks = ap (λ effect. Rattle.ix_core.specs.Machine.effect_then effect done.span.from (code_then rest tasks)) (same_operation limits done.span.from slots heap done.kind)
+  same_code limits slots heap (Do done rest) tasks = ap (λ effect. effect_then effect done.span.from (code_then rest tasks)) (same_operation limits done.span.from slots heap done.kind)
   same_code limits slots heap (If asked first second rest) tasks = refl
   same_code limits slots heap (Break rest) tasks = refl
   same_code limits slots heap (Continue rest) tasks = refl

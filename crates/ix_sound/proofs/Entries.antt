@@ -28,6 +28,7 @@ use Rattle.ix_core.proofs.Entered.{slots_are, slots_length}
 use Rattle.ix_core.proofs.FormedParts.{locals_of, method_is}
 use Rattle.ix_core.proofs.LawsAreSafe.{types_in}
 use Rattle.ix_core.proofs.TypedCalls.{method_has, not_static, default_of_type, entry_typed, body_lead}
+use Rattle.ix_core.specs.declared.claim.Name.TheVariants.{Param}
 use Rattle.ix_facts.specs.Exact.{if_so}
 use Rattle.ix_facts.specs.Facts.{AllHold}
 use Rattle.ix_facts.proofs.FactLists.{all_hold_app}
@@ -97,9 +98,10 @@ module _ (program : Program) (locals : List (List Type_)) (formed : is_formed pr
       → (t : Bool) (e : nat_lt number (length program.methods) ≡ t) → HoldsFor program profile (types_in program locals formed) (known_at program profile (types_in program locals formed) entries number t e) slots heap
   entry_met entries gives number slots heap met new false e = tt
   entry_met entries gives number slots heap met new true e = λ ints.
-      let lt : number < length program.methods = grind (Rattle.std.proofs.Common.arith, nat_tests) in
-      (above_met (entry_facts program (method_at program number)) (stored (entries number e)) (numbers_of world.place slots heap ints) (entry_holds number lt slots heap met new ints) (gives number e),
-      stage_holds number lt slots heap met new ints (method_at program number).constructor refl)
+      let lt : number < length program.methods = grind (arith, nat_tests) in (
+        above_met (entry_facts program (method_at program number)) (stored (entries number e)) (numbers_of world.place slots heap ints) (entry_holds number lt slots heap met new ints) (gives number e),
+        stage_holds number lt slots heap met new ints (method_at program number).constructor refl,
+      )
 
   -- ---- the stage
 
@@ -114,7 +116,7 @@ module _ (program : Program) (locals : List (List Type_)) (formed : is_formed pr
     params_typed first (param ∷ params) (ty ∷ types) e =
         let a = and_parts (param.slot == param_slot at first) _ e in
         let b = and_parts (is_type program ty) _ a.1 in
-        let c = and_parts (list_all (claim_fits ty (others (Rattle.ix_core.specs.declared.claim.Name.TheVariants.Param first) (named_type program at))) param.claims) _ b.1 in
+        let c = and_parts (list_all (claim_fits ty (others (Param first) (named_type program at))) param.claims) _ b.1 in
         both b.0 (params_typed (first + 1) params types c.1)
       where
         both : {x y : Bool} → x ≡ true → y ≡ true → (x && y) ≡ true

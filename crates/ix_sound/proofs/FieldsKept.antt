@@ -17,7 +17,7 @@ use Rattle.ix_core.specs.Claims.{True, AreTrue}
 use Rattle.ix_core.specs.Formed.{is_formed}
 use Rattle.ix_core.specs.Heap.{Held, At, Heap, Reading, value_at, object_at, place_in, field_value, reading_of, write_at}
 use Rattle.ix_core.specs.Numbers.{Numbers, HasInts, numbers_of}
-use Rattle.ix_core.specs.Objects.{IsOn, HasField, MeetsField, MeetsFields, field_readings, HeapKeeps, FrameKeeps, IsOwn, Names, claim_names, Later, IsSame}
+use Rattle.ix_core.specs.Objects.{HasField, MeetsField, MeetsFields, field_readings, HeapKeeps, FrameKeeps, IsOwn, Names, claim_names, Later, IsFree}
 use Rattle.ix_core.specs.Tables.{method_at, field_at}
 use Rattle.ix_core.specs.World.{World}
 use Rattle.ix_core.proofs.Cases.{by_test, equal}
@@ -28,6 +28,7 @@ use Rattle.ix_facts.specs.Assume.{ClaimHolds}
 use Rattle.ix_facts.specs.Stores.{Stored, Meets}
 use Rattle.ix_steps.specs.MachineSteps.{on_paths, reading_at}
 use Rattle.ix_steps.proofs.MachineTests.{claim_true, field_is}
+use Rattle.ix_steps.proofs.KeptNumbers.{same_true}
 use Rattle.ix_sign.specs.Names.{written_path, is_built, names_field}
 use Rattle.ix_sign.specs.Signs.{Adds, write_facts}
 use Rattle.ix_sign.specs.SignErrors.{AllRefuse, FieldClaim, FieldDependent}
@@ -79,7 +80,7 @@ module _ (program : Program) (locals : List (List Type_)) (formed : is_formed pr
       (write_same world tables building method slots heap keeps frame o f k cell x holds placed k g)
     where
       same_number : (n : ℕ) → (n == n) ≡ true
-      same_number n = Rattle.ix_steps.proofs.KeptNumbers.same_true n n refl
+      same_number n = same_true n n refl
 
   path_reads : (g : ℕ) → reading_of after (field_value world.place after k g) ≡ reading_at v (written_path o f x (FieldNamed g))
   path_reads g = by_test (g == f)
@@ -147,4 +148,4 @@ module _ (program : Program) (locals : List (List Type_)) (formed : is_formed pr
   pub written_meets : MeetsFields world after k
   written_meets g has = by_test (g == f)
       (λ t. subst (MeetsField world after k) (sym (equal g f t)) own_true)
-      (λ t. other_true g t (keeps.built k (subst (Rattle.ix_core.specs.Objects.IsFree building heap) holds (frame.free o other)).1 g (subst (λ kind. HasField world kind g) (sym (later k (subst (Rattle.ix_core.specs.Objects.IsFree building heap) holds (frame.free o other)).0).kind) has)))
+      (λ t. other_true g t (keeps.built k (subst (IsFree building heap) holds (frame.free o other)).1 g (subst (λ kind. HasField world kind g) (sym (later k (subst (IsFree building heap) holds (frame.free o other)).0).kind) has)))

@@ -30,7 +30,7 @@ use Rattle.ix_facts.proofs.FactLists.{all_hold_app}
 use Rattle.ix_facts.proofs.StepLaws.{gives_meets}
 use Rattle.ix_steps.specs.MachineSteps.{reading_at, own_slot}
 use Rattle.ix_steps.proofs.MachineTests.{field_is}
-use Rattle.ix_sign.specs.Names.{object_path, written_path, is_built, names_field}
+use Rattle.ix_sign.specs.Names.{object_path, is_built, names_field, is_field, some_field}
 use Rattle.ix_sign.specs.Signs.{Adds, claims_facts, read_facts, write_facts, dependent_facts}
 use Rattle.ix_sound.specs.Direct.{direct}
 use Rattle.ix_sound.proofs.ClaimTruths.{claims_hold}
@@ -52,12 +52,12 @@ are_each (d ∷ claims) r names are zero c is = let same : d ≡ c = ap (λ (o :
 are_each (d ∷ claims) r names are (suc k) c is = are_each claims r names are.1 k c is
 
 -- what is named is named by the claim
-pub named_field : (field : ℕ) (names : List Name) (at : ℕ) → slice_get names at ≡ Some (FieldNamed field) → Rattle.ix_sign.specs.Names.some_field field names ≡ true
+pub named_field : (field : ℕ) (names : List Name) (at : ℕ) → slice_get names at ≡ Some (FieldNamed field) → some_field field names ≡ true
 named_field field [] at is = absurd cc
 named_field field (name ∷ names) zero is =
     let same : name ≡ FieldNamed field = ap (λ (o : Option Name). unwrap_or o name) is in
-    subst (λ n. (Rattle.ix_sign.specs.Names.is_field field n || Rattle.ix_sign.specs.Names.some_field field names) ≡ true) (sym same) (let h : (field == field) ≡ true = grind (arith, nat_tests) in rw h refl)
-named_field field (name ∷ names) (suc at) is = or_later (Rattle.ix_sign.specs.Names.is_field field name) (named_field field names at is)
+    subst (λ n. (is_field field n || some_field field names) ≡ true) (sym same) (let h : (field == field) ≡ true = grind (arith, nat_tests) in rw h refl)
+named_field field (name ∷ names) (suc at) is = or_later (is_field field name) (named_field field names at is)
   where
     or_later : (b : Bool) {c : Bool} → c ≡ true → (b || c) ≡ true
     or_later true e = refl
@@ -103,13 +103,13 @@ module _ (program : Program) (locals : List (List Type_)) (formed : is_formed pr
       named_class : (g : ℕ) (c : Claim) (at : ℕ) → slice_get (field_at program g).claims at ≡ Some c → names_field f c ≡ true → (field_at program f).class ≡ (field_at program g).class
       named_class g c at is names = by_names (claim_names c) (λ n name e. (at, n, c, is, e)) names
         where
-          by_names : (names : List Name) → ((n : ℕ) (name : Name) → slice_get names n ≡ Some name → Names (field_at program g).claims name) → Rattle.ix_sign.specs.Names.some_field f names ≡ true → (field_at program f).class ≡ (field_at program g).class
+          by_names : (names : List Name) → ((n : ℕ) (name : Name) → slice_get names n ≡ Some name → Names (field_at program g).claims name) → some_field f names ≡ true → (field_at program f).class ≡ (field_at program g).class
           by_names [] each e = absurd (false≢true e)
-          by_names (name ∷ names) each e = by_test (Rattle.ix_sign.specs.Names.is_field f name)
+          by_names (name ∷ names) each e = by_test (is_field f name)
               (λ t. let found = field_names program locals formed g name (each 0 name refl) in
-              let same : found.other ≡ f = is_it found.other (subst (λ n. Rattle.ix_sign.specs.Names.is_field f n ≡ true) found.is t) in
+              let same : found.other ≡ f = is_it found.other (subst (λ n. is_field f n ≡ true) found.is t) in
               subst (λ h. (field_at program h).class ≡ (field_at program g).class) same (found.same (subst (λ h. (field_at program h).is_final ≡ false) (sym same) plain)))
-              (λ t. by_names names (λ n other_name x. each (suc n) other_name x) (subst (λ b. (b || Rattle.ix_sign.specs.Names.some_field f names) ≡ true) t e))
+              (λ t. by_names names (λ n other_name x. each (suc n) other_name x) (subst (λ b. (b || some_field f names) ≡ true) t e))
             where
               is_it : (h : ℕ) → (h == f) ≡ true → h ≡ f
               is_it h t = equal h f t
@@ -151,5 +151,5 @@ module _ (program : Program) (locals : List (List Type_)) (formed : is_formed pr
           if_holds false facts h = tt
 
       pub write_holds : AllHold (write_facts program o f) v
-      write_holds = all_hold_app v (read_facts program o f) (dependent_facts o f 0 program.fields) (read_holds f has) 
+      write_holds = all_hold_app v (read_facts program o f) (dependent_facts o f 0 program.fields) (read_holds f has)
           (dependents_hold 0 program.fields (λ n lt. let e : n ≡ 0 + n = omega arith in (subst (λ m. field_at program m ≡ unwrap_or (slice_get program.fields n) no_field) e refl, subst (λ m. m < length program.fields) e lt)))

@@ -23,6 +23,7 @@ use Rattle.ix_sound.specs.Direct.{direct}
 use Rattle.ix_core.proofs.Cases.{by_test, equal}
 use Rattle.ix_core.proofs.Entered.{none_some}
 use Rattle.ix_core.proofs.TypedCalls.{method_has, not_static, args_count}
+use Rattle.ix_core.specs.declared.op.OpKind.{OpKind}
 use Rattle.ix_sound.specs.Clean.{IsClean}
 use Rattle.ix_sound.specs.Shown.{MayTake}
 use Rattle.ix_sound.proofs.FormedOperations.{may_take}
@@ -40,7 +41,7 @@ target_is tables (New class) call at e = sym (ap (λ (o : Option ℕ). unwrap_or
 target_is tables Super call at e = none_some at e
 
 -- the operation that makes a call of this kind
-abbrev pub kind_of : CallKind → CallOp → Rattle.ix_core.specs.declared.op.OpKind.OpKind
+abbrev pub kind_of : CallKind → CallOp → OpKind
 kind_of Static call = op.StaticCall call
 kind_of Instance call = op.InstanceCall call
 kind_of (New class) call = op.NewObject call

@@ -15,10 +15,10 @@ use Rattle.ix_core.specs.declared.program.Program.{Program}
 use Rattle.ix_core.specs.Formed.{is_formed, at_most, is_slot, is_target, reads, field_fits, is_array_at, are_entries, literal_fits, op_fits, variable_type, copy_fits}
 use Rattle.ix_core.specs.Heap.{Held, Heap}
 use Rattle.ix_core.specs.Machine.{is_int}
-use Rattle.ix_core.specs.Objects.{IsOwn, IsInput, This, Named, IntsOnly, kind_claims}
+use Rattle.ix_core.specs.Objects.{IsOwn, IsInput, This, Named, IntsOnly, Names}
 use Rattle.ix_core.specs.Tables.{method_at, param_slot, param_slots}
 use Rattle.ix_core.specs.Typed.{SlotsTyped}
-use Rattle.ix_core.specs.Types.{Types, int_type, cell_type, is_array, class_type}
+use Rattle.ix_core.specs.Types.{Types, int_type, cell_type, is_array, is_of}
 use Rattle.ix_sound.specs.Direct.{direct}
 use Rattle.ix_core.proofs.FormedParts.{locals_of, ways_end}
 use Rattle.ix_core.proofs.Kept.{int_is}
@@ -69,14 +69,14 @@ module _ (program : Program) (locals : List (List Type_)) (formed : is_formed pr
       record { within = slot_there program (ways_end program locals formed) method types slots heap size typed t parts.0; input = not_input t le; own = not_own (length method.params) t le }
 
   -- a variable, which no claim of the result names
-  copy_takes : (variable : Option Type_) (t s : ℕ) (ty : Type_) (parts : List Span) → ((n : ℕ) → Rattle.ix_core.specs.Objects.Names method.result_claims (Param n) → t ≡ param_slot method n → ⊥)
+  copy_takes : (variable : Option Type_) (t s : ℕ) (ty : Type_) (parts : List Span) → ((n : ℕ) → Names method.result_claims (Param n) → t ≡ param_slot method n → ⊥)
       → copy_fits program method local_types variable t s ty parts ≡ true → MayTake method slots t
   copy_takes None t s ty parts named e =
       let one = and_parts (length parts == 0) _ e in
       may_take t (and_parts (is_target program method t) _ one.1).0
   copy_takes (Some variable) t s ty parts named e =
       let one = and_parts (length parts == 2) _ e in
-      let two = and_parts (Rattle.ix_core.specs.Types.is_of program ty variable) _ one.1 in
+      let two = and_parts (is_of program ty variable) _ one.1 in
       let three = and_parts (is_slot program method t) (at_most (param_slot method 0) t) two.1 in
       let le = past_params 0 t method.is_static refl three.1 in record {
         within = slot_there program (ways_end program locals formed) method types slots heap size typed t three.0;
@@ -84,7 +84,7 @@ module _ (program : Program) (locals : List (List Type_)) (formed : is_formed pr
         own = not_own 0 t le;
       }
     where
-      no_input : (t : ℕ) → 0 + (if method.is_static then 0 else 1) ≤ t → ((n : ℕ) → Rattle.ix_core.specs.Objects.Names method.result_claims (Param n) → t ≡ param_slot method n → ⊥) → IsInput method t → ⊥
+      no_input : (t : ℕ) → 0 + (if method.is_static then 0 else 1) ≤ t → ((n : ℕ) → Names method.result_claims (Param n) → t ≡ param_slot method n → ⊥) → IsInput method t → ⊥
       no_input t le named (This s) = (let h = first_at 0 0 le s in omega (arith, h))
       no_input t le named (Named n names) = named n names refl
 

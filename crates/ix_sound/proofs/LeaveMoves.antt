@@ -16,7 +16,7 @@ use Rattle.ix_core.specs.declared.program.Program.{Program}
 use Rattle.ix_core.specs.Analysis.{Leaves, IsFreeIf, Results}
 use Rattle.ix_core.specs.Formed.{is_formed, return_fits}
 use Rattle.ix_core.specs.Heap.{Held, At, Heap, ObjectOf, value_at, reading_of}
-use Rattle.ix_core.specs.Machine.{result_of}
+use Rattle.ix_core.specs.Machine.{result_of, returned_or}
 use Rattle.ix_core.specs.Numbers.{Numbers, HasInts, numbers_of}
 use Rattle.ix_core.specs.Objects.{HasField, MeetsField, field_readings, FrameKeeps}
 use Rattle.ix_core.specs.Tables.{method_at, field_at, routine_of, default_result, all_fields}
@@ -72,7 +72,7 @@ module _ (program : Program) (locals : List (List Type_)) (formed : is_formed pr
   no_default (type.Array of depth element) e = absurd (false≢true e)
 
   no_result : (returned : Option ℕ) → method.constructor ≡ false → is_void method.result ≡ true → result_of (routine_of method) slots returned ≡ None
-  no_result returned not_made void = rw not_made (ap (option_map (λ default. Rattle.ix_core.specs.Machine.returned_or default slots returned)) (no_default method.result void))
+  no_result returned not_made void = rw not_made (ap (option_map (λ default. returned_or default slots returned)) (no_default method.result void))
 
   nothing_left : (returned : Option ℕ) → ((error : Error) (rank : ℕ) → ConstructorClaim program method s error rank → ⊥) → is_void method.result ≡ true → Leaves profile world know building method slots heap (result_of (routine_of method) slots returned)
   nothing_left returned none void = record {

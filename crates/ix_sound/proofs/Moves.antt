@@ -13,7 +13,7 @@ use Rattle.ix_core.specs.declared.program.Method.{Method}
 use Rattle.ix_core.specs.declared.program.Program.{Program}
 use Rattle.ix_core.specs.Analysis.{IsWorld, Shows}
 use Rattle.ix_core.specs.Code.{Code, End, Do, If, Break, Continue, Return, Throw, Loop}
-use Rattle.ix_core.specs.Formed.{is_formed, code_ways, return_fits}
+use Rattle.ix_core.specs.Formed.{is_formed, code_ways, return_fits, is_super_call}
 use Rattle.ix_core.specs.Heap.{Held, Heap, value_at}
 use Rattle.ix_core.specs.Machine.{Limits, Move, Go, effect_then, operate, step_code, step_tasks, test_of, is_true, frame}
 use Rattle.ix_core.specs.Numbers.{Numbers, HasInts, numbers_of}
@@ -30,19 +30,19 @@ use Rattle.ix_core.proofs.Kept.{has_ints}
 use Rattle.ix_core.proofs.LawsAreSafe.{types_in}
 use Rattle.ix_core.proofs.TypedStarts.{OperationFits, next_fits}
 use Rattle.ix_facts.specs.Round.{rounded}
-use Rattle.ix_facts.specs.Stores.{Meets, operated, outcomes_of}
+use Rattle.ix_facts.specs.Stores.{Meets, operated, outcomes_of, OutcomesGive}
 use Rattle.ix_facts.proofs.AfterLaws.{after_hold}
 use Rattle.ix_facts.proofs.FactLists.{stronger_hold}
 use Rattle.ix_facts.proofs.RoundLaws.{rounded_weaker}
 use Rattle.ix_facts.proofs.StepLaws.{gives_meets, outcomes_meet}
 use Rattle.ix_facts.proofs.StoreLaws.{below_meets}
-use Rattle.ix_flow.specs.Flow.{Point, Rules}
+use Rattle.ix_flow.specs.Flow.{Rules, Doing, Flows}
 use Rattle.ix_steps.proofs.MachineSteps.{printed_stays}
 use Rattle.ix_steps.proofs.MachineTests.{told_true, told_false}
 use Rattle.ix_store.specs.declared.store.Store.{Store}
 use Rattle.ix_store.specs.StoredFacts.{stored}
 use Rattle.ix_method.specs.MethodRules.{method_rules, KindGives}
-use Rattle.ix_sound.specs.Chain.{Passes, Same, Weaker, Rounding, Flowing, Finishing, Running, Asking, Comparing, Telling, Turning, Returning, Leaving, Passing}
+use Rattle.ix_sound.specs.Chain.{Passes, Same, Weaker, Rounding, Flowing, Finishing, Running, Asking, Comparing, Telling, Turning, Returning, Leaving, Passing, Each}
 use Rattle.ix_sound.specs.Clean.{IsClean}
 use Rattle.ix_sound.specs.Direct.{direct}
 use Rattle.ix_sound.specs.Errors.{NoErrors}
@@ -55,6 +55,7 @@ use Rattle.ix_sound.proofs.LeaveMoves.{ends_shown, returns_shown}
 use Rattle.ix_sound.proofs.OperationMoves.{idle, operation_shown}
 use Rattle.ix_sound.proofs.OperationsMeet.{stage_kept}
 use Rattle.ix_sound.proofs.StageMoves.{stage_stays, operation_stays}
+use Rattle.ix_sound.proofs.OperationsKeep.{IsNoCall}
 
 module _ (program : Program) (locals : List (List Type_)) (formed : is_formed program locals ≡ true) (tables : IsWorld (direct program)) (apart : LocalsApart program) (profile : Profile) (entries : (number : ℕ) → nat_lt number (length program.methods) ≡ true → Store)
     (limits : Limits) (building : ℕ → Type 0) (number : ℕ) (lt : number < length program.methods) (slots : List Held) (heap : Heap) (keeps : HeapKeeps (direct program) building heap)
@@ -92,13 +93,15 @@ module _ (program : Program) (locals : List (List Type_)) (formed : is_formed pr
   -- ---- moves that change nothing but the tasks
 
   goes : (stage : Stage) (s : Store) (tasks : Tasks) → Met stage s → StageStays program (types_in program locals formed) number stage (Go tasks slots heap) → Chain tasks s → Show (Go tasks slots heap)
-  goes stage s tasks here stays flowing =
-      (idle program locals formed tables apart profile entries limits building number lt slots heap keeps frame_keeps kept_ints, kept_ints,
-      record {
-        store = Here (with_types stage stays.0) s;
-        holds = λ ints. ((here ints).0, stage_kept world stage stays.0 (numbers_of world.place slots heap ints) (numbers_of world.place slots heap ints) (λ field. (refl, refl)) (here ints).1);
-        fine = λ there. record { labels = labels; flowing = flowing; stage_fits = stays.1 };
-      })
+  goes stage s tasks here stays flowing = (
+    idle program locals formed tables apart profile entries limits building number lt slots heap keeps frame_keeps kept_ints,
+    kept_ints,
+    record {
+      store = Here (with_types stage stays.0) s;
+      holds = λ ints. ((here ints).0, stage_kept world stage stays.0 (numbers_of world.place slots heap ints) (numbers_of world.place slots heap ints) (λ field. (refl, refl)) (here ints).1);
+      fine = λ there. record { labels = labels; flowing = flowing; stage_fits = stays.1 };
+    },
+  )
 
   -- another store that is met
   met_by : (stage : Stage) (s t : Store) → ((v : Numbers) → Meets (stored s) v → Meets (stored t) v) → Met stage s → Met stage t
@@ -115,20 +118,20 @@ module _ (program : Program) (locals : List (List Type_)) (formed : is_formed pr
   -- ---- operations
 
   module _ (done : Op) (rest : Code) (below : Tasks) (stage : Stage) (s t : Store) (typed : NowTyped program (types_in program locals formed) number (Run (Do done rest) below) slots heap) (stage_fits : Fits (Run (Do done rest) below) stage) (here : Met stage s)
-      (none : NoErrors program method number (Rattle.ix_flow.specs.Flow.Doing done) s) (clean : IsClean program method done.kind) (gives : KindGives program method profile done.kind done.span.from (stored s) (stored t)) (flowing : Chain (code_then rest below) t) where
+      (none : NoErrors program method number (Doing done) s) (clean : IsClean program method done.kind) (gives : KindGives program method profile done.kind done.span.from (stored s) (stored t)) (flowing : Chain (code_then rest below) t) where
     fits : OperationFits program locals formed (record { now = frame number (Run (Do done rest) below) slots; below = []; heap = heap; wrapped = false; ended = None }) done
     fits = next_fits program locals formed (record { now = frame number (Run (Do done rest) below) slots; below = []; heap = heap; wrapped = false; ended = None }) done rest below (record { heap = typed.heap_typed; now = typed.frame_typed; below = tt }) refl
 
     abbrev Shown : OpKind → Type 0
     Shown kind = Show (effect_then (operate limits (tables_in world) done.span.from slots heap kind) done.span.from (code_then rest below))
 
-    plain_shown : (kind : OpKind) → done.kind ≡ kind → Rattle.ix_sound.proofs.OperationsKeep.IsNoCall kind → Shown done.kind
+    plain_shown : (kind : OpKind) → done.kind ≡ kind → IsNoCall kind → Shown done.kind
     plain_shown kind is plain =
-        operation_shown program locals formed tables apart profile entries limits building number lt slots heap keeps frame_keeps kept_ints done rest below (subst Rattle.ix_sound.proofs.OperationsKeep.IsNoCall (sym is) plain) fits stage stage_fits s t here none clean gives labels flowing
+        operation_shown program locals formed tables apart profile entries limits building number lt slots heap keeps frame_keeps kept_ints done rest below (subst IsNoCall (sym is) plain) fits stage stage_fits s t here none clean gives labels flowing
 
     print_shown : (value : ℕ) → done.kind ≡ op.Print value → Shown (op.Print value)
     print_shown value is =
-        let after = operation_stays program locals formed number lt done rest below stage (ap Rattle.ix_core.specs.Formed.is_super_call is) stage_fits in
+        let after = operation_stays program locals formed number lt done rest below stage (ap is_super_call is) stage_fits in
         let told = subst (λ k. KindGives program method profile k done.span.from (stored s) (stored t)) is gives in record {
           store = Here (with_types stage after.0) t;
           holds = λ ints. (
@@ -165,7 +168,7 @@ module _ (program : Program) (locals : List (List Type_)) (formed : is_formed pr
 
   -- ---- statements
 
-  code_shown : (code : Code) (tasks : Tasks) (s end breaks continues : Store) → Rattle.ix_flow.specs.Flow.Flows rules (NoErrors program method number) labels code s end breaks continues → Rattle.ix_sound.specs.Chain.Each Okay code
+  code_shown : (code : Code) (tasks : Tasks) (s end breaks continues : Store) → Flows rules (NoErrors program method number) labels code s end breaks continues → Each Okay code
       → Chain tasks end → Chain (behind_loop tasks) breaks → Chain (next_turn tasks) continues → (stage : Stage) → Fits (Run code tasks) stage → Met stage s → NowTyped program (types_in program locals formed) number (Run code tasks) slots heap
       → Show (step_code limits (tables_in world) slots heap code tasks)
   code_shown End tasks s end breaks continues flows okay ends jumps turns stage stage_fits here typed =
@@ -197,7 +200,7 @@ module _ (program : Program) (locals : List (List Type_)) (formed : is_formed pr
   decided true first second tasks stage holds fails one two yes_chain no_chain stays = goes stage holds (followed_by first tasks) (one refl) stays yes_chain
   decided false first second tasks stage holds fails one two yes_chain no_chain stays = goes stage fails (followed_by second tasks) (two refl) stays no_chain
 
-  tested : (answer : Bool) (test : Test) (stage : Stage) (s t : Store) → Rattle.ix_facts.specs.Stores.OutcomesGive (outcomes_of answer test) (stored s) (stored t) → test_of test.ty test.rel (value_at slots test.left) (value_at slots test.right) ≡ answer → Met stage s → Met stage t
+  tested : (answer : Bool) (test : Test) (stage : Stage) (s t : Store) → OutcomesGive (outcomes_of answer test) (stored s) (stored t) → test_of test.ty test.rel (value_at slots test.left) (value_at slots test.right) ≡ answer → Met stage s → Met stage t
   tested true test stage s t gives is here = λ ints. (
     outcomes_meet (outcomes_of true test) (stored s) (stored t) (numbers_of world.place slots heap ints) gives (told_true world.place slots heap ints test.left test.right test.ty test.rel is) (here ints).0,
     (here ints).1,

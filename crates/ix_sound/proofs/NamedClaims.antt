@@ -178,9 +178,13 @@ module _ (program : Program) (locals : List (List Type_)) (formed : is_formed pr
   field_named : (field : Field) (name : Name) → HasType (field_type_of_name program field) name → (other : ℕ) × (name ≡ FieldNamed other) × (((field_at program other).is_final ≡ false) → (field_at program other).class ≡ field.class)
   field_named field (Param number) (ty, is) = no_type ty is
   field_named field (Local number) (ty, is) = no_type ty is
-  field_named field (FieldNamed other) (ty, is) = (other, refl, λ plain. by_test (is_among (all_fields program field.class) other && (((field_at program other).class == field.class) || (field_at program other).is_final))
-      (λ t. same_class (and_parts (is_among (all_fields program field.class) other) _ t).1 plain)
-      (λ t. no_type ty (sym (rw t refl) ∙ is)))
+  field_named field (FieldNamed other) (ty, is) = (
+    other,
+    refl,
+    λ plain. by_test (is_among (all_fields program field.class) other && (((field_at program other).class == field.class) || (field_at program other).is_final))
+        (λ t. same_class (and_parts (is_among (all_fields program field.class) other) _ t).1 plain)
+        (λ t. no_type ty (sym (rw t refl) ∙ is)),
+  )
     where
       same_class : (((field_at program other).class == field.class) || (field_at program other).is_final) ≡ true → (field_at program other).is_final ≡ false → (field_at program other).class ≡ field.class
       same_class e plain = by_test ((field_at program other).class == field.class)

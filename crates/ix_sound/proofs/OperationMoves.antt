@@ -31,7 +31,7 @@ use Rattle.ix_store.specs.declared.store.Store.{Store}
 use Rattle.ix_store.specs.StoredFacts.{stored}
 use Rattle.ix_method.specs.MethodRules.{method_rules, KindGives}
 use Rattle.ix_sound.specs.Chain.{Flowing}
-use Rattle.ix_sound.specs.Clean.{IsClean}
+use Rattle.ix_sound.specs.Clean.{IsClean, Hides}
 use Rattle.ix_sound.specs.Direct.{direct}
 use Rattle.ix_sound.specs.Errors.{NoErrors, NoKindErrors}
 use Rattle.ix_sound.specs.Known.{Here, MeetsHere, FineHere, knowledge}
@@ -121,7 +121,7 @@ module _ (program : Program) (locals : List (List Type_)) (formed : is_formed pr
     kept = operation_keeps world tables limits done.span.from building method slots heap keeps frame_keeps done.kind plain may (hides done.kind plain clean)
         (shown_of program locals formed tables number lt slots heap fits.types fits.size fits.typed fits.heap_typed building keeps frame_keeps before (stored s) (here before).0 done done.kind fits.fits clean none own)
       where
-        hides : (kind : OpKind) → IsNoCall kind → IsClean program method kind → Rattle.ix_sound.specs.Clean.Hides method kind
+        hides : (kind : OpKind) → IsNoCall kind → IsClean program method kind → Hides method kind
         hides kind plain clean = clean.hides
 
     after_stage : (types : Types) × StageFits program (types_in program locals formed) number (code_then rest below) (with_types stage types)
@@ -141,30 +141,32 @@ module _ (program : Program) (locals : List (List Type_)) (formed : is_formed pr
 
     effect_shown : (effect : Effect) → operate limits (tables_in world) done.span.from slots heap done.kind ≡ effect → Keeps world tables limits done.span.from building method slots heap keeps frame_keeps (MayWrap done.kind) effect
         → Shows profile world know building number slots heap (effect_then effect done.span.from (code_then rest below))
-    effect_shown (Done later after) is keep =
-        (keep,
-        done_keeps limits (tables_in world) done.span.from slots heap kept_ints done.kind later after (ints_only program locals formed number lt slots heap fits.types fits.size fits.typed done done.kind fits.fits) is,
-        record {
-          store = Here (with_types stage after_stage.0) t;
-          holds = λ behind. (
-            done_meets program locals formed tables apart profile number lt slots heap fits.types fits.size fits.typed fits.heap_typed building keeps frame_keeps before (stored s) (here before).0 limits done.span.from later after behind done done.kind plain fits.fits may none is (stored t) gives,
-            stage_on (numbers_of world.place later after behind)
-                (λ made other. this_kept program locals formed tables apart profile number lt slots heap fits.types fits.size fits.typed fits.heap_typed building keeps frame_keeps before (stored s) (here before).0 limits done.span.from later after behind made done done.kind plain fits.fits may other is),
-          );
-          fine = λ there. fine;
-        })
-    effect_shown (Wrapped later after) is keep = λ int32.
-        (keep.1,
-        wrapped_keeps limits (tables_in world) done.span.from slots heap kept_ints done.kind later after (ints_only program locals formed number lt slots heap fits.types fits.size fits.typed done done.kind fits.fits) is,
-        record {
-          store = Here (with_types stage after_stage.0) t;
-          holds = λ behind. (
-            wrapped_meets program locals formed tables apart profile number lt slots heap fits.types fits.size fits.typed fits.heap_typed building keeps frame_keeps before (stored s) (here before).0 limits done.span.from later after behind done done.kind keep.0 fits.fits may int32 is (stored t) gives,
-            stage_on (numbers_of world.place later after behind)
-                (λ made other. wrapped_this program locals formed tables apart profile number lt slots heap fits.types fits.size fits.typed fits.heap_typed building keeps frame_keeps before (stored s) (here before).0 limits done.span.from later after behind made done.kind keep.0 may int32 is),
-          );
-          fine = λ there. fine;
-        })
+    effect_shown (Done later after) is keep = (
+      keep,
+      done_keeps limits (tables_in world) done.span.from slots heap kept_ints done.kind later after (ints_only program locals formed number lt slots heap fits.types fits.size fits.typed done done.kind fits.fits) is,
+      record {
+        store = Here (with_types stage after_stage.0) t;
+        holds = λ behind. (
+          done_meets program locals formed tables apart profile number lt slots heap fits.types fits.size fits.typed fits.heap_typed building keeps frame_keeps before (stored s) (here before).0 limits done.span.from later after behind done done.kind plain fits.fits may none is (stored t) gives,
+          stage_on (numbers_of world.place later after behind)
+              (λ made other. this_kept program locals formed tables apart profile number lt slots heap fits.types fits.size fits.typed fits.heap_typed building keeps frame_keeps before (stored s) (here before).0 limits done.span.from later after behind made done done.kind plain fits.fits may other is),
+        );
+        fine = λ there. fine;
+      },
+    )
+    effect_shown (Wrapped later after) is keep = λ int32. (
+      keep.1,
+      wrapped_keeps limits (tables_in world) done.span.from slots heap kept_ints done.kind later after (ints_only program locals formed number lt slots heap fits.types fits.size fits.typed done done.kind fits.fits) is,
+      record {
+        store = Here (with_types stage after_stage.0) t;
+        holds = λ behind. (
+          wrapped_meets program locals formed tables apart profile number lt slots heap fits.types fits.size fits.typed fits.heap_typed building keeps frame_keeps before (stored s) (here before).0 limits done.span.from later after behind done done.kind keep.0 fits.fits may int32 is (stored t) gives,
+          stage_on (numbers_of world.place later after behind)
+              (λ made other. wrapped_this program locals formed tables apart profile number lt slots heap fits.types fits.size fits.typed fits.heap_typed building keeps frame_keeps before (stored s) (here before).0 limits done.span.from later after behind made done.kind keep.0 may int32 is),
+        );
+        fine = λ there. fine;
+      },
+    )
     effect_shown (Printed value) is keep = absurd keep
     effect_shown (Called kind call) is keep = absurd keep
     effect_shown (Stopped ending) is keep = keep

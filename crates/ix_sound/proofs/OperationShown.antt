@@ -29,6 +29,7 @@ use Rattle.ix_sound.specs.Shown.{Shown}
 use Rattle.ix_sound.proofs.AccessesShown.{inside_shown, length_shown, element_shown, fresh_shown}
 use Rattle.ix_sound.proofs.FieldsKept.{written_meets}
 use Rattle.ix_sound.proofs.OperationsMeet.{stores}
+use Rattle.ix_sign.specs.SignErrors.{part}
 
 module _ (program : Program) (locals : List (List Type_)) (formed : is_formed program locals ≡ true) (tables : IsWorld (direct program)) (number : ℕ) (lt : number < length program.methods) (slots : List Held) (heap : Heap) (types : Types)
     (size : length slots ≡ (method_at program number).slots) (typed : SlotsTyped program types slots heap) (heap_typed : HeapTyped program heap)
@@ -75,30 +76,33 @@ module _ (program : Program) (locals : List (List Type_)) (formed : is_formed pr
       → Shown world method slots heap kind
   shown_of done (op.NewArray t ty n) e clean none own =
       let one = and_parts (reads program method (Some types) n int_type) _ e in
-      let two = and_parts (is_array program ty) _ one.1 in
-      (length_shown program world.place slots heap ints_ s meets n done.span (λ error rank x. none error rank (inl x)),
-      fresh_shown program world.place slots heap ints_ s meets ty n done.span two.0 (default_typed program heap ty two.0) (λ error rank x. none error rank (inr x)))
+      let two = and_parts (is_array program ty) _ one.1 in (
+        length_shown program world.place slots heap ints_ s meets n done.span (λ error rank x. none error rank (inl x)),
+        fresh_shown program world.place slots heap ints_ s meets ty n done.span two.0 (default_typed program heap ty two.0) (λ error rank x. none error rank (inr x)),
+      )
   shown_of done (op.Fill t ty entries) e clean none own = λ at entry is.
       let one = and_parts (is_array program ty) _ e in
       let two = and_parts (are_entries program method (Some types) t entries (cell_type ty)) _ one.1 in
-      element_shown program world.place slots heap ints_ s meets ty entry (Rattle.ix_sign.specs.SignErrors.part done at) one.0 (read entry (cell_type ty) (entry_read t entries (cell_type ty) two.0 at entry is))
+      element_shown program world.place slots heap ints_ s meets ty entry (part done at) one.0 (read entry (cell_type ty) (entry_read t entries (cell_type ty) two.0 at entry is))
       (λ error rank x. none error rank (record { at = at; value = entry; entry = is; of = x }))
   shown_of done (op.Load t a i ty) e clean none own = inside_shown program world.place slots heap ints_ s meets a i done.span (λ error rank x. none error rank (inl x)) (λ error rank x. none error rank (inr x))
   shown_of done (op.Store a i v ty) e clean none own =
       let one = and_parts (is_array program ty) _ e in
       let two = and_parts (reads program method (Some types) a ty) _ one.1 in
       let three = and_parts (reads program method (Some types) i int_type) _ two.1 in
-      let four = and_parts (reads program method (Some types) v (cell_type ty)) _ three.1 in
-      (inside_shown program world.place slots heap ints_ s meets a i done.span (λ error rank x. none error rank (inl x)) (λ error rank x. none error rank (inr (inl x))),
-      element_shown program world.place slots heap ints_ s meets ty v (Rattle.ix_sign.specs.SignErrors.part done 0) one.0 (read v (cell_type ty) four.0) (λ error rank x. none error rank (inr (inr x))),
-      stores program locals formed number lt slots heap types size typed heap_typed building keeps frame done a i v ty e)
+      let four = and_parts (reads program method (Some types) v (cell_type ty)) _ three.1 in (
+        inside_shown program world.place slots heap ints_ s meets a i done.span (λ error rank x. none error rank (inl x)) (λ error rank x. none error rank (inr (inl x))),
+        element_shown program world.place slots heap ints_ s meets ty v (part done 0) one.0 (read v (cell_type ty) four.0) (λ error rank x. none error rank (inr (inr x))),
+        stores program locals formed number lt slots heap types size typed heap_typed building keeps frame done a i v ty e,
+      )
   shown_of done (op.WriteField o f x) e clean none own =
       let one = and_parts (field_fits program method (Some types) o f) _ e in
       let two = and_parts (reads program method (Some types) x (field_at program f).ty) _ one.1 in
-      let three = and_parts (may_be_written program method o f) _ two.1 in
-      (may_write o f x three.0 clean (own o f x refl),
-      λ k cell holds placed other. written_meets program locals formed tables number slots heap building keeps frame ints_ s meets o f x (Rattle.ix_sign.specs.SignErrors.part done 1)
-      (λ error rank y. none error rank (inl y)) (λ error rank y. none error rank (inr y)) k cell holds placed other (not_final o f three.0 other))
+      let three = and_parts (may_be_written program method o f) _ two.1 in (
+        may_write o f x three.0 clean (own o f x refl),
+        λ k cell holds placed other. written_meets program locals formed tables number slots heap building keeps frame ints_ s meets o f x (part done 1)
+            (λ error rank y. none error rank (inl y)) (λ error rank y. none error rank (inr y)) k cell holds placed other (not_final o f three.0 other),
+      )
   shown_of done (op.Const t value) e clean none own = tt
   shown_of done (op.Copy t s_ ty) e clean none own = tt
   shown_of done (op.Num t op_ y z) e clean none own = tt

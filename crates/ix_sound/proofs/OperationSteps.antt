@@ -14,7 +14,7 @@ use Rattle.ix_core.specs.declared.program.Program.{Program}
 use Rattle.ix_core.specs.Analysis.{IsWorld}
 use Rattle.ix_core.specs.Formed.{is_formed, is_target, reads, field_fits, may_be_written, op_fits}
 use Rattle.ix_core.specs.Heap.{Held, At, Heap, value_at, object_at, place_in}
-use Rattle.ix_core.specs.Machine.{Limits, Effect, Done, Wrapped, operate, at_place, assign}
+use Rattle.ix_core.specs.Machine.{Limits, Effect, Done, Wrapped, operate, at_place, at_field}
 use Rattle.ix_core.specs.Numbers.{Numbers, HasInts, numbers_of}
 use Rattle.ix_core.specs.Objects.{HasField, HeapKeeps, FrameKeeps}
 use Rattle.ix_core.specs.Tables.{method_at, field_at}
@@ -27,6 +27,7 @@ use Rattle.ix_facts.specs.Stores.{Stored, Meets, Gives, operated}
 use Rattle.ix_steps.proofs.FieldReads.{of_place}
 use Rattle.ix_steps.proofs.MachineSteps.{of_through}
 use Rattle.ix_sign.proofs.SignTruth.{signs_hold}
+use Rattle.ix_sign.specs.SignErrors.{part}
 use Rattle.ix_method.specs.MethodRules.{KindGives, copied_claims}
 use Rattle.ix_sound.specs.Direct.{direct}
 use Rattle.ix_sound.specs.Errors.{NoKindErrors}
@@ -62,7 +63,7 @@ module _ (program : Program) (locals : List (List Type_)) (formed : is_formed pr
     w = numbers_of world.place later after behind
 
     -- the object whose field is read or written
-    field_there : (o f : ℕ) (next : ℕ → ℕ → Effect) → Rattle.ix_core.specs.Machine.at_field limits (tables_in world) place slots heap o f next ≡ Done later after → (k : ℕ) × (value_at slots o ≡ At k) × HasField world (object_at heap k).kind f
+    field_there : (o f : ℕ) (next : ℕ → ℕ → Effect) → at_field limits (tables_in world) place slots heap o f next ≡ Done later after → (k : ℕ) × (value_at slots o ≡ At k) × HasField world (object_at heap k).kind f
     field_there o f next e =
         let x = of_through later after limits (tables_in world) place slots heap (value_at slots o) (λ k. at_place limits (tables_in world) place slots heap (place_in world.place (object_at heap k).kind f) (next k)) e in
         let y = of_place later after limits (tables_in world) place slots heap (place_in world.place (object_at heap x.0).kind f) (next x.0) x.2 in
@@ -79,7 +80,7 @@ module _ (program : Program) (locals : List (List Type_)) (formed : is_formed pr
     copy_meets done t_ s_ ty fits step none t gives =
         let one = plain_meets done (op.Copy t_ s_ ty) fits step gives.0 gives.1 in
         adds_hold (copied_claims method t_ done.span.from) gives.0 t w
-        (copied_hold program locals formed number lt apart t_ s_ done.span.from (Rattle.ix_sign.specs.SignErrors.part done 1) v w s meets step.others step.results.0 step.results.1 none) gives.2 one
+        (copied_hold program locals formed number lt apart t_ s_ done.span.from (part done 1) v w s meets step.others step.results.0 step.results.1 none) gives.2 one
 
     pub done_meets : (done : Op) (kind : OpKind) → IsNoCall kind → Fits done kind → Takes world method slots heap kind → NoKindErrors program method number done kind s → operate limits (tables_in world) place slots heap kind ≡ Done later after
         → (t : Stored) → KindGives program method profile kind done.span.from s t → Meets t w

@@ -3,7 +3,7 @@ use Rattle.std.specs.Prelude.{◌≡◌, ℕ, zero, suc, ◌+◌, ◌<◌, nat_l
 use Rattle.std.proofs.Common.{arith, sym, subst}
 use Rattle.std.proofs.lemmas.Bool.Decides.{nat_tests}
 use Rattle.std.proofs.lemmas.Int.{ints}
-use Rattle.ix_num.specs.Arithmetic.{exact_of}
+use Rattle.ix_num.specs.Arithmetic.{exact_of, wrap_of}
 use Rattle.ix_core.specs.declared.claim.Base.{Base}
 use Rattle.ix_core.specs.declared.claim.Base.TheVariants as base
 use Rattle.ix_core.specs.declared.claim.Type_.{Type_}
@@ -119,9 +119,9 @@ module _ (world : World) (tables : IsWorld world) (limits : Limits) (place : ℕ
     int_kept : Wraps → (t : ℕ) (exact : ℤ) → MayTake method slots t → Keeps Wraps (assign_int limits (tables_in world) place slots heap t exact)
     int_kept wraps t exact may = by_int (is_int exact)
       where
-        by_int : (b : Bool) → Keeps Wraps (if b then Done (slice_set slots t (Num exact)) heap else Wrapped (slice_set slots t (Num (Rattle.ix_num.specs.Arithmetic.wrap_of exact))) heap)
+        by_int : (b : Bool) → Keeps Wraps (if b then Done (slice_set slots t (Num exact)) heap else Wrapped (slice_set slots t (Num (wrap_of exact))) heap)
         by_int true = assigned t (Num exact) may tt
-        by_int false = (wraps, assigned t (Num (Rattle.ix_num.specs.Arithmetic.wrap_of exact)) may tt)
+        by_int false = (wraps, assigned t (Num (wrap_of exact)) may tt)
 
     result_kept : Wraps → (t : ℕ) (exact : Option ℤ) → MayTake method slots t → Keeps Wraps (assign_result limits (tables_in world) place slots heap t exact)
     result_kept wraps t None may = λ bad. bad

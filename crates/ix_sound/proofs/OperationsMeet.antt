@@ -20,7 +20,7 @@ use Rattle.ix_core.specs.Formed.{is_formed, reads, op_fits}
 use Rattle.ix_core.specs.Heap.{Held, Num, Boolean, Null, At, Heap, ArrayOf, value_at, object_at, array_at, array_cells}
 use Rattle.ix_core.specs.Machine.{Limits, Done, Wrapped, operate}
 use Rattle.ix_core.specs.Numbers.{Numbers, HasInts, numbers_of}
-use Rattle.ix_core.specs.Objects.{AllOn, HeapKeeps, FrameKeeps, IsOwn}
+use Rattle.ix_core.specs.Objects.{AllOn, HeapKeeps, FrameKeeps, kind_claims}
 use Rattle.ix_core.specs.Tables.{method_at}
 use Rattle.ix_core.specs.Typed.{IsOfType, HeapTyped, SlotsTyped}
 use Rattle.ix_core.specs.Types.{Types, is_array}
@@ -104,12 +104,14 @@ module _ (program : Program) (locals : List (List Type_)) (formed : is_formed pr
   elements_held : (ty : Type_) (of : ℕ) → (object_at heap of).kind ≡ ArrayOf ty → HoldsElements ty heap of
   elements_held (type.Array base.Int (suc zero) element) of is =
       let ty = type.Array base.Int (suc zero) element in
-      inr (ap Rattle.ix_core.specs.Objects.kind_claims is,
-      λ place. by_test (nat_lt place (length (object_at heap of).cells))
-      (λ t.
-      let within : place < length (object_at heap of).cells = grind (arith, nat_tests) in
-      subst (λ cells. IsNumber (value_at cells place)) (sym (cells_of of ty is)) (int_number (value_at (object_at heap of).cells place) (heap_typed.cells of place ty is within)))
-      (λ t. subst (λ cells. IsNumber (value_at cells place)) (sym (cells_of of ty is)) (past_end (object_at heap of).cells place t)))
+      inr (
+        ap kind_claims is,
+        λ place. by_test (nat_lt place (length (object_at heap of).cells))
+            (λ t.
+            let within : place < length (object_at heap of).cells = grind (arith, nat_tests) in
+            subst (λ cells. IsNumber (value_at cells place)) (sym (cells_of of ty is)) (int_number (value_at (object_at heap of).cells place) (heap_typed.cells of place ty is within)))
+            (λ t. subst (λ cells. IsNumber (value_at cells place)) (sym (cells_of of ty is)) (past_end (object_at heap of).cells place t)),
+      )
   elements_held (type.Array base.Int zero element) of is = inl refl
   elements_held (type.Array base.Int (suc (suc depth)) element) of is = inl refl
   elements_held (type.Array base.Bool depth element) of is = inl refl

@@ -1,6 +1,6 @@
 -- The method that runs where a named one is called is that one or overrides it, and stands for it.
 use Rattle.std.specs.Prelude.{◌≡◌, ◌⊎◌, ℕ, zero, suc, ◌<◌, Bool, true, false, not, List, length, flat_map, Option, None, Some, unwrap_or, refl}
-use Rattle.std.proofs.Common.{sym, ap, ◌∙◌, subst, inl, inr, ⊎_elim}
+use Rattle.std.proofs.Common.{sym, ◌∙◌, subst, inl, inr, ⊎_elim, arith}
 use Rattle.std.proofs.lemmas.Bool.{and_parts, false≢true}
 use Rattle.std.proofs.lemmas.Bool.Decides.{nat_tests}
 use Rattle.ix_core.specs.declared.claim.Type_.{Type_}
@@ -39,7 +39,7 @@ module _ (program : Program) (locals : List (List Type_)) (formed : is_formed pr
       let a = and_parts (is_there program.methods over) _ e in
       let b = and_parts (not (method_at program number).is_static) _ a.1 in
       let c = and_parts (not (method_at program number).constructor) _ b.1 in
-      (is_false (method_at program number).constructor c.0, (let t = a.0 in grind (Rattle.std.proofs.Common.arith, nat_tests)))
+      (is_false (method_at program number).constructor c.0, (let t = a.0 in grind (arith, nat_tests)))
     where
       is_false : (t : Bool) → not t ≡ true → t ≡ false
       is_false true e = absurd (false≢true e)

@@ -29,6 +29,7 @@ use Rattle.ix_core.proofs.Entered.{reading_later, cell_each}
 use Rattle.ix_core.proofs.Kept.{has_ints}
 use Rattle.ix_core.proofs.TypeLaws.{type_is}
 use Rattle.ix_core.proofs.TypedCalls.{method_has}
+use Rattle.ix_core.specs.declared.fact.Fact.TheVariants.{Same}
 use Rattle.ix_facts.specs.AfterOperation.{is_array}
 use Rattle.ix_facts.specs.Facts.{AllHold}
 use Rattle.ix_facts.specs.Forget.{SameBut, without}
@@ -57,7 +58,7 @@ above_met facts t v h above = gives_meets (λ (f : List Fact). facts) v v (λ f 
 pub received_holds : (ty : Type_) (p : Path) (v : Numbers) → AllHold (received ty p) v
 received_holds ty p v = by_array (is_array ty)
   where
-    by_array : (b : Bool) → AllHold (if_so b (Rattle.ix_core.specs.declared.fact.Fact.TheVariants.Same p p ∷ [])) v
+    by_array : (b : Bool) → AllHold (if_so b (Same p p ∷ [])) v
     by_array true = (refl, tt)
     by_array false = tt
 

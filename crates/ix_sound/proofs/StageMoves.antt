@@ -9,8 +9,8 @@ use Rattle.ix_core.specs.declared.op.OpKind.TheVariants as op
 use Rattle.ix_core.specs.declared.program.Program.{Program}
 use Rattle.ix_core.specs.Code.{Code, End, Do, If, Break, Continue, Return, Throw, Loop, Condition}
 use Rattle.ix_core.specs.Formed.{is_formed, code_ways, op_fits, op_types, is_super_call}
-use Rattle.ix_core.specs.Heap.{Held, Heap}
-use Rattle.ix_core.specs.Machine.{Move, Go, Limits, step_tasks, step_code}
+use Rattle.ix_core.specs.Heap.{Held, Heap, value_at}
+use Rattle.ix_core.specs.Machine.{Move, Go, Limits, step_tasks, step_code, Enter, Leave, Stop, Tell, Wrap, is_true, test_of}
 use Rattle.ix_core.specs.Tables.{Tables, method_at}
 use Rattle.ix_core.specs.Tasks.{Tasks, Empty, Run, Ask, Decide, DecideTruth, Head, Again, Out, code_then, followed_by, behind_loop, next_turn}
 use Rattle.ix_core.specs.TypedStates.{Fit, Running, Asking, Comparing, Reading, Turning, Returning, Leaving, Nothing, Lead, Giving, Leads}
@@ -80,9 +80,9 @@ module _ (program : Program) (locals : List (List Type_)) (formed : is_formed pr
     fit_stays (Ask asked first second tasks) none (Asking _ _ _ _ _ fits holds fails) supers =
         goes _ (condition_step program (method_at program number) local_types asked first second tasks (Some types) fits holds fails types refl) (condition_supers new asked first second tasks supers)
     fit_stays (Decide test first second tasks) none (Comparing _ _ _ _ _ left right holds fails) supers =
-        chosen (Rattle.ix_core.specs.Machine.test_of test.ty test.rel (Rattle.ix_core.specs.Heap.value_at slots test.left) (Rattle.ix_core.specs.Heap.value_at slots test.right)) first second tasks holds fails supers.0 supers.1 supers.2
+        chosen (test_of test.ty test.rel (value_at slots test.left) (value_at slots test.right)) first second tasks holds fails supers.0 supers.1 supers.2
     fit_stays (DecideTruth slot first second tasks) none (Reading _ _ _ _ _ read holds fails) supers =
-        chosen (Rattle.ix_core.specs.Machine.is_true (Rattle.ix_core.specs.Heap.value_at slots slot)) first second tasks holds fails supers.0 supers.1 supers.2
+        chosen (is_true (value_at slots slot)) first second tasks holds fails supers.0 supers.1 supers.2
     fit_stays (Head asked body next tasks) none (Turning _ _ _ _ _ turn fails breaks) supers = goes _ (head_step program (method_at program number) local_types asked body next tasks types turn fails breaks) (head_supers new asked body next tasks supers)
     fit_stays (Again asked body next tasks) none (Returning _ _ _ _ _ turn fails breaks) supers = goes _ (again_step program (method_at program number) local_types asked body next tasks types turn fails breaks) (again_supers new asked body next tasks supers)
     fit_stays (Out tasks) none (Leaving _ _ fit) supers = goes tasks (itself program (method_at program number) local_types tasks types fit) supers
@@ -91,19 +91,19 @@ module _ (program : Program) (locals : List (List Type_)) (formed : is_formed pr
 
   stays_of : (move : Move) (class : ℕ) (new : Bool) (types needed : Types) → StageStays program types_in number (Making class new needed) move → StageStays program types_in number (Making class new types) move
   stays_of (Go tasks later after) class new types needed stays = stays
-  stays_of (Rattle.ix_core.specs.Machine.Wrap tasks later after) class new types needed stays = tt
-  stays_of (Rattle.ix_core.specs.Machine.Tell value tasks) class new types needed stays = tt
-  stays_of (Rattle.ix_core.specs.Machine.Enter kind call place tasks) class new types needed stays = tt
-  stays_of (Rattle.ix_core.specs.Machine.Leave returned) class new types needed stays = tt
-  stays_of (Rattle.ix_core.specs.Machine.Stop ending) class new types needed stays = tt
+  stays_of (Wrap tasks later after) class new types needed stays = tt
+  stays_of (Tell value tasks) class new types needed stays = tt
+  stays_of (Enter kind call place tasks) class new types needed stays = tt
+  stays_of (Leave returned) class new types needed stays = tt
+  stays_of (Stop ending) class new types needed stays = tt
 
   plain_stays : (move : Move) → (method_at program number).constructor ≡ false → StageStays program types_in number Plain move
   plain_stays (Go tasks later after) plain = ((λ slot. None), plain)
-  plain_stays (Rattle.ix_core.specs.Machine.Wrap tasks later after) plain = tt
-  plain_stays (Rattle.ix_core.specs.Machine.Tell value tasks) plain = tt
-  plain_stays (Rattle.ix_core.specs.Machine.Enter kind call place tasks) plain = tt
-  plain_stays (Rattle.ix_core.specs.Machine.Leave returned) plain = tt
-  plain_stays (Rattle.ix_core.specs.Machine.Stop ending) plain = tt
+  plain_stays (Wrap tasks later after) plain = tt
+  plain_stays (Tell value tasks) plain = tt
+  plain_stays (Enter kind call place tasks) plain = tt
+  plain_stays (Leave returned) plain = tt
+  plain_stays (Stop ending) plain = tt
 
   pub stage_stays : (stage : Stage) (tasks : Tasks) (limits : Limits) (tables : Tables) (slots : List Held) (heap : Heap) → DoesNone tasks → StageFits program types_in number tasks stage
       → StageStays program types_in number stage (step_tasks limits tables slots heap tasks)

@@ -14,7 +14,7 @@ use Rattle.ix_core.specs.declared.program.Program.{Program}
 use Rattle.ix_core.specs.Formed.{is_formed}
 use Rattle.ix_core.specs.Analysis.{Laws}
 use Rattle.ix_core.specs.Claims.{AreTrue}
-use Rattle.ix_core.specs.Heap.{Held, Num, Boolean, Null, At, Heap, Kind, ObjectOf, ArrayOf, Reading, no_reading, reading_of, value_at, object_at, place_in, field_value}
+use Rattle.ix_core.specs.Heap.{Held, Num, Boolean, Null, At, Heap, Kind, ObjectOf, ArrayOf, Reading, no_reading, reading_of, value_at, object_at, place_in, field_value, cell_of}
 use Rattle.ix_core.specs.Machine.{slots_with}
 use Rattle.ix_core.specs.Objects.{HeapKeeps, FrameKeeps, IsFree, HasField}
 use Rattle.ix_core.specs.Safe.{Input, HaveTypes, Begins, Meets, MeetEach, input_values, input_heap, input_reading, reading_in, input_names, start}
@@ -44,7 +44,7 @@ module _ (program : Program) where
     where
       of_kind : (kind : Kind) → (object_at heap number).kind ≡ kind → reading_of heap (field_value world.place heap number field) ≡ no_reading
       of_kind (ObjectOf class) is = absurd (arrays number (subst IsInstance (sym is) tt))
-      of_kind (ArrayOf ty) is = ap (λ kind. reading_of heap (Rattle.ix_core.specs.Heap.cell_of (object_at heap number).cells (place_in world.place kind field))) is
+      of_kind (ArrayOf ty) is = ap (λ kind. reading_of heap (cell_of (object_at heap number).cells (place_in world.place kind field))) is
 
   module _ (method : ℕ) (inputs : List Input) (found : Method) (is : method_at program method ≡ found) (static : found.is_static ≡ true) (have : HaveTypes inputs found.param_types) (meets : Meets found inputs)
       (params : length found.params ≡ length found.param_types) (room : length found.params ≤ found.slots) where

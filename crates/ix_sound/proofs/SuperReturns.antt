@@ -1,9 +1,9 @@
 -- Behind a call of the parent's constructor each store that its rule gives is met: the class's own fields are as in a new object, and the claims of inherited
 -- fields hold.
 use Rattle.std.specs.Prelude.{◌≡◌, ℕ, suc, ◌==◌, Bool, true, false, not, ◌&&◌, ◌||◌, pos, List, [], ◌∷◌, slice_get, Some, refl}
-use Rattle.std.proofs.Common.{sym, ap, ◌∙◌, subst}
+use Rattle.std.proofs.Common.{sym, ap, ◌∙◌, subst, arith}
 use Rattle.std.proofs.lemmas.Bool.{false≢true}
-use Rattle.ix_core.specs.declared.claim.Name.{Name}
+use Rattle.std.proofs.lemmas.Int.{ints}
 use Rattle.ix_core.specs.declared.claim.Type_.{Type_}
 use Rattle.ix_core.specs.declared.fact.Fact.TheVariants.{Rng, LenRng}
 use Rattle.ix_core.specs.declared.fact.Path.{Path}
@@ -16,10 +16,11 @@ use Rattle.ix_core.specs.Heap.{Held, At, Heap, ObjectOf, Reading, object_at, pla
 use Rattle.ix_core.specs.Machine.{Super}
 use Rattle.ix_core.specs.Numbers.{Numbers, HasInts, numbers_of}
 use Rattle.ix_core.specs.Objects.{IsOn, AllOn, HasField, MeetsField, field_readings}
-use Rattle.ix_core.specs.Tables.{method_at, class_at, field_at, all_fields, is_among}
+use Rattle.ix_core.specs.Tables.{method_at, class_at, field_at, all_fields, is_among, place_among}
 use Rattle.ix_core.specs.Waits.{Since, Hidden, AreFresh}
 use Rattle.ix_core.specs.World.{World}
 use Rattle.ix_core.proofs.Entered.{reading_later, cell_each}
+use Rattle.ix_core.specs.declared.claim.Name.TheVariants.{FieldNamed}
 use Rattle.ix_facts.specs.AfterOperation.{is_int, is_array}
 use Rattle.ix_facts.specs.Exact.{if_so}
 use Rattle.ix_facts.specs.Facts.{AllHold}
@@ -36,7 +37,7 @@ use Rattle.ix_sign.proofs.SignTruth.{signs_hold}
 use Rattle.ix_sound.specs.Direct.{direct}
 use Rattle.ix_sound.specs.Known.{call_of}
 use Rattle.ix_sound.proofs.ClaimTruths.{claims_hold}
-use Rattle.ix_sound.proofs.FieldPlaces.{at_among, own_has, own_not_above}
+use Rattle.ix_sound.proofs.FieldPlaces.{at_among, own_has, own_not_above, among_placed}
 use Rattle.ix_sound.proofs.NamedClaims.{field_names}
 
 -- ---- facts of a new object
@@ -47,11 +48,11 @@ zero_holds ty field w is =
     all_hold_app w (if_so (is_int ty) (Rng (FieldOf 0 field) (pos 0) (pos 0) ∷ [])) (if_so (is_array ty) (LenRng (FieldOf 0 field) (pos 0) (pos 0) ∷ [])) (by_int (is_int ty)) (by_array (is_array ty))
   where
     by_int : (b : Bool) → AllHold (if_so b (Rng (FieldOf 0 field) (pos 0) (pos 0) ∷ [])) w
-    by_int true = let e = is.0 in ((omega (Rattle.std.proofs.Common.arith, Rattle.std.proofs.lemmas.Int.ints, e), omega (Rattle.std.proofs.Common.arith, Rattle.std.proofs.lemmas.Int.ints, e)), tt)
+    by_int true = let e = is.0 in ((omega (arith, ints, e), omega (arith, ints, e)), tt)
     by_int false = tt
 
     by_array : (b : Bool) → AllHold (if_so b (LenRng (FieldOf 0 field) (pos 0) (pos 0) ∷ [])) w
-    by_array true = let e = is.1 in ((omega (Rattle.std.proofs.Common.arith, Rattle.std.proofs.lemmas.Int.ints, e), omega (Rattle.std.proofs.Common.arith, Rattle.std.proofs.lemmas.Int.ints, e)), tt)
+    by_array true = let e = is.1 in ((omega (arith, ints, e), omega (arith, ints, e)), tt)
     by_array false = tt
 
 pub zeros_hold : (program : Program) (fields : List ℕ) (w : Numbers) → ((k field : ℕ) → slice_get fields k ≡ Some field → (w.int (FieldOf 0 field) ≡ pos 0) × (w.size (FieldOf 0 field) ≡ pos 0)) → AllHold (zero_fields program fields) w
@@ -115,7 +116,7 @@ module _ (program : Program) (locals : List (List Type_)) (formed : is_formed pr
     inherited_hold [] each = tt
     inherited_hold (field ∷ fields) each =
         all_hold_app w _ (fields_facts program fields)
-        (claims_hold (object_path 0) (FieldOf 0 field) (field_at program field).claims w (field_readings world heap object (Rattle.ix_core.specs.declared.claim.Name.TheVariants.FieldNamed field)) (field_readings world heap object) (field_is world slots heap behind 0 object field at)
+        (claims_hold (object_path 0) (FieldOf 0 field) (field_at program field).claims w (field_readings world heap object (FieldNamed field)) (field_readings world heap object) (field_is world slots heap behind 0 object field at)
         (λ name named. let found = field_names program locals formed field name named in
         subst (λ m. field_readings world heap object m ≡ reading_at w (object_path 0 m)) (sym found.is) (field_is world slots heap behind 0 object found.other at))
         (claims field (each 0 field refl)))
@@ -126,8 +127,8 @@ module _ (program : Program) (locals : List (List Type_)) (formed : is_formed pr
         let there : slice_get (all_fields program (method_at program n).class) k ≡ Some field = subst (λ o. slice_get (fields_above program o) k ≡ Some field) parent is in
         placed (all_fields program (method_at program n).class) field (at_among (all_fields program (method_at program n).class) field k there)
       where
-        placed : (numbers : List ℕ) (field : ℕ) → is_among numbers field ≡ true → (place : ℕ) × (Rattle.ix_core.specs.Tables.place_among numbers field ≡ Some place)
-        placed numbers field e = Rattle.ix_sound.proofs.FieldPlaces.among_placed numbers field e
+        placed : (numbers : List ℕ) (field : ℕ) → is_among numbers field ≡ true → (place : ℕ) × (place_among numbers field ≡ Some place)
+        placed numbers field e = among_placed numbers field e
 
     pub super_meets : (s t : Stored) → SuperGives program caller (call_of call n) s t → Meets s v → Meets t w
     super_meets s t gives meets =

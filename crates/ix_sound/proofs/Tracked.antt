@@ -5,6 +5,7 @@ use Rattle.std.proofs.Common.{arith, sym, ap, subst, ◌∙◌}
 use Rattle.std.proofs.lemmas.Bool.{and_parts, false≢true}
 use Rattle.std.proofs.lemmas.Bool.Decides.{nat_tests}
 use Rattle.std.proofs.lemmas.List.{length-set}
+use Rattle.std.specs.List.{list_all}
 use Rattle.ix_core.specs.declared.claim.Base.TheVariants as base
 use Rattle.ix_core.specs.declared.claim.Type_.{Type_}
 use Rattle.ix_core.specs.declared.claim.Type_.TheVariants as type
@@ -16,12 +17,12 @@ use Rattle.ix_core.specs.declared.op.OpKind.{OpKind}
 use Rattle.ix_core.specs.declared.op.OpKind.TheVariants as op
 use Rattle.ix_core.specs.declared.program.Method.{Method}
 use Rattle.ix_core.specs.declared.program.Program.{Program}
-use Rattle.ix_core.specs.Formed.{is_formed, at_most, is_slot, is_target, reads, is_there, field_fits, is_array_at, are_entries, literal_fits, literal_type, op_fits, op_types, variable_type, copy_fits, call_fits, with_result}
+use Rattle.ix_core.specs.Formed.{is_formed, at_most, is_slot, is_target, reads, is_there, field_fits, is_array_at, are_entries, literal_fits, literal_type, op_fits, op_types, variable_type, copy_fits, call_fits, with_result, args_fit, claim_fits, instance_fits, is_super_call, named_type, new_fits, static_fits, type_fits}
 use Rattle.ix_core.specs.Heap.{Held, Num, Boolean, Null, At, Heap, ObjectOf, value_at, cell_default, default_of}
-use Rattle.ix_core.specs.Tables.{method_at, field_at, param_slot, param_slots}
+use Rattle.ix_core.specs.Tables.{method_at, field_at, param_slot, all_fields, place_among}
 use Rattle.ix_core.specs.Typed.{IsOfType, SlotsTyped}
 use Rattle.ix_core.specs.TypedStates.{Gives}
-use Rattle.ix_core.specs.Types.{Types, int_type, cell_type, class_type, is_array, is_type, is_void, is_reference_type, is_of, is_below, with_type}
+use Rattle.ix_core.specs.Types.{Types, int_type, cell_type, class_type, is_array, is_type, is_void, is_reference_type, is_of, is_below, with_type, is_class, is_empty}
 use Rattle.ix_core.proofs.Ancestors.{first_among}
 use Rattle.ix_core.proofs.Cases.{by_test, equal}
 use Rattle.ix_core.proofs.FormedParts.{locals_of, ways_end, field_type_is}
@@ -31,6 +32,7 @@ use Rattle.ix_core.proofs.TypedCalls.{method_has, not_static, default_of_type}
 use Rattle.ix_core.proofs.TypedFields.{has_field}
 use Rattle.ix_core.proofs.TypedSteps.{default_typed}
 use Rattle.ix_core.proofs.TypedValues.{read_typed, assign_typed, slot_there}
+use Rattle.ix_core.specs.Machine.{literal_value}
 use Rattle.ix_sound.specs.Making.{Tracks}
 
 null_typed : (program : Program) (heap : Heap) (ty : Type_) → is_array program ty ≡ true → IsOfType program heap ty Null
@@ -100,7 +102,7 @@ module _ (program : Program) (locals : List (List Type_)) (formed : is_formed pr
   read_first types tracks ty e = subst (IsOfType program tracks.heap ty) tracks.this (read_typed program (ways_end program locals formed) method types tracks.slots tracks.heap tracks.size tracks.typed 0 ty e).1
 
   -- a field that is written through it is one of the class
-  pub own_field : (types : Types) → Tracks program method types → (field : ℕ) → field_fits program method (Some types) 0 field ≡ true → (place : ℕ) × (Rattle.ix_core.specs.Tables.place_among (Rattle.ix_core.specs.Tables.all_fields program method.class) field ≡ Some place)
+  pub own_field : (types : Types) → Tracks program method types → (field : ℕ) → field_fits program method (Some types) 0 field ≡ true → (place : ℕ) × (place_among (all_fields program method.class) field ≡ Some place)
   own_field types tracks field e =
       let parts = and_parts (is_there program.fields field) _ e in
       let below = read_first types tracks (class_type (field_at program field).class) parts.1 in
@@ -114,8 +116,8 @@ module _ (program : Program) (locals : List (List Type_)) (formed : is_formed pr
   pub none_written : (types : Types) → types 0 ≡ None → (field : ℕ) → field_fits program method (Some types) 0 field ≡ true → ⊥
   none_written types none field e =
       let parts = and_parts (is_there program.fields field) _ e in
-      let more = and_parts (is_slot program method 0) (Rattle.ix_core.specs.Formed.type_fits program method (types 0) (class_type (field_at program field).class)) parts.1 in
-      false≢true (subst (λ t. Rattle.ix_core.specs.Formed.type_fits program method t (class_type (field_at program field).class) ≡ true) none more.1)
+      let more = and_parts (is_slot program method 0) (type_fits program method (types 0) (class_type (field_at program field).class)) parts.1 in
+      false≢true (subst (λ t. type_fits program method t (class_type (field_at program field).class) ≡ true) none more.1)
 
   -- ---- behind an operation
 
@@ -161,7 +163,7 @@ module _ (program : Program) (locals : List (List Type_)) (formed : is_formed pr
   as_it_is : (types : Types) → Tracks program method types → Behind types types
   as_it_is types tracks = record { tracks = tracks; hidden = λ none. none }
 
-  literal_typed : (heap : Heap) (value : Literal) → literal_fits program method value ≡ true → IsOfType program heap (literal_type value) (Rattle.ix_core.specs.Machine.literal_value value)
+  literal_typed : (heap : Heap) (value : Literal) → literal_fits program method value ≡ true → IsOfType program heap (literal_type value) (literal_value value)
   literal_typed heap (literal.Int n) e = tt
   literal_typed heap (literal.Bool answer) e = tt
   literal_typed heap (literal.NullOf ty) e = reference_typed program heap ty (and_parts (is_reference_type ty) (is_type program ty) e).0
@@ -189,8 +191,8 @@ module _ (program : Program) (locals : List (List Type_)) (formed : is_formed pr
   called : (types : Types) → Tracks program method types → (call : CallOp) → call_fits program method (Some types) call ≡ true → (after : Types) × (with_result program method call (Some types) ≡ Some after) × Behind types after
   called types tracks call e =
       let one = and_parts (is_there program.methods call.method) _ e in
-      let two = and_parts (Rattle.ix_core.specs.Types.is_class program call.class) _ one.1 in
-      let three = and_parts (Rattle.ix_core.specs.Formed.args_fit program method (Some types) call.args (method_at program call.method).param_types) _ two.1 in
+      let two = and_parts (is_class program call.class) _ one.1 in
+      let three = and_parts (args_fit program method (Some types) call.args (method_at program call.method).param_types) _ two.1 in
       let target = (and_parts (is_target program method call.target) _ three.1).0 in
       let there : call.method < length program.methods = (let h = one.0 in grind (arith, nat_tests)) in
       let result : Type_ = (method_at program call.method).result in
@@ -201,7 +203,7 @@ module _ (program : Program) (locals : List (List Type_)) (formed : is_formed pr
       result_type : (callee : ℕ) → callee < length program.methods → is_void (method_at program callee).result ≡ false → is_type program (method_at program callee).result ≡ true
       result_type callee there void = by_void (is_void (method_at program callee).result) void (method_has program locals formed callee there).result
         where
-          by_void : (t : Bool) → t ≡ false → (if t then Rattle.ix_core.specs.Types.is_empty (method_at program callee).result_claims else is_type program (method_at program callee).result && Rattle.std.specs.List.list_all (Rattle.ix_core.specs.Formed.claim_fits (method_at program callee).result (Rattle.ix_core.specs.Formed.named_type program (method_at program callee))) (method_at program callee).result_claims) ≡ true
+          by_void : (t : Bool) → t ≡ false → (if t then is_empty (method_at program callee).result_claims else is_type program (method_at program callee).result && list_all (claim_fits (method_at program callee).result (named_type program (method_at program callee))) (method_at program callee).result_claims) ≡ true
               → is_type program (method_at program callee).result ≡ true
           by_void true no_ h = absurd (false≢true (sym no_))
           by_void false no_ h = (and_parts (is_type program (method_at program callee).result) _ h).0
@@ -223,10 +225,10 @@ module _ (program : Program) (locals : List (List Type_)) (formed : is_formed pr
           same : (n : ℕ) → (n == n) ≡ true
           same n = grind (arith, nat_tests)
 
-  pub operation_tracks : (done : Op) (kind : OpKind) (types : Types) → Rattle.ix_core.specs.Formed.is_super_call kind ≡ false → op_fits program method (locals_of program locals formed number) (Some types) done kind ≡ true → Tracks program method types → After done kind types
+  pub operation_tracks : (done : Op) (kind : OpKind) (types : Types) → is_super_call kind ≡ false → op_fits program method (locals_of program locals formed number) (Some types) done kind ≡ true → Tracks program method types → After done kind types
   operation_tracks done (op.Const t value) types plain e tracks =
       let one = and_parts (literal_fits program method value) _ e in
-      (_, refl, take types tracks t (literal_type value) (Rattle.ix_core.specs.Machine.literal_value value) (and_parts (is_target program method t) _ one.1).0 (literal_typed tracks.heap value one.0))
+      (_, refl, take types tracks t (literal_type value) (literal_value value) (and_parts (is_target program method t) _ one.1).0 (literal_typed tracks.heap value one.0))
   operation_tracks done (op.Copy t s ty) types plain e tracks =
       let one = and_parts (reads program method (Some types) s ty) _ e in
       let two = and_parts (not (t == s)) _ one.1 in
@@ -261,12 +263,12 @@ module _ (program : Program) (locals : List (List Type_)) (formed : is_formed pr
       (_, refl, take types tracks t (field_at program f).ty (default_of (field_at program f).ty) (and_parts (is_target program method t) _ one.1).0 (default_of_type program locals formed tracks.heap (field_at program f).ty (field_type_is program locals formed f there)))
   operation_tracks done (op.WriteField o f v) types plain e tracks = (types, refl, as_it_is types tracks)
   operation_tracks done (op.NewObject call) types plain e tracks =
-      let one = and_parts (call_fits program method (Some types) call) _ (and_parts (Rattle.ix_core.specs.Formed.new_fits program method (Some types) call) _ e).0 in
+      let one = and_parts (call_fits program method (Some types) call) _ (and_parts (new_fits program method (Some types) call) _ e).0 in
       let two = and_parts (is_there program.methods call.method) _ one.0 in
-      let three = and_parts (Rattle.ix_core.specs.Types.is_class program call.class) _ two.1 in
-      let four = and_parts (Rattle.ix_core.specs.Formed.args_fit program method (Some types) call.args (method_at program call.method).param_types) _ three.1 in
+      let three = and_parts (is_class program call.class) _ two.1 in
+      let four = and_parts (args_fit program method (Some types) call.args (method_at program call.method).param_types) _ three.1 in
       (_, refl, take types tracks call.target (class_type call.class) Null (and_parts (is_target program method call.target) _ four.1).0 tt)
-  operation_tracks done (op.StaticCall call) types plain e tracks = called types tracks call (and_parts (call_fits program method (Some types) call) _ (and_parts (Rattle.ix_core.specs.Formed.static_fits program method (Some types) call) _ e).0).0
-  operation_tracks done (op.InstanceCall call) types plain e tracks = called types tracks call (and_parts (call_fits program method (Some types) call) _ (and_parts (Rattle.ix_core.specs.Formed.instance_fits program method (Some types) call) _ e).0).0
+  operation_tracks done (op.StaticCall call) types plain e tracks = called types tracks call (and_parts (call_fits program method (Some types) call) _ (and_parts (static_fits program method (Some types) call) _ e).0).0
+  operation_tracks done (op.InstanceCall call) types plain e tracks = called types tracks call (and_parts (call_fits program method (Some types) call) _ (and_parts (instance_fits program method (Some types) call) _ e).0).0
   operation_tracks done (op.SuperCall call) types plain e tracks = absurd (false≢true (sym plain))
   operation_tracks done (op.Print value) types plain e tracks = (types, refl, as_it_is types tracks)
