@@ -1,3 +1,4 @@
+mod LocalsListed
 mod ChainMoves
 mod Stable
 mod NamedClaims

@@ -14,3 +14,5 @@ pub mod Known
 -- The promise.
 pub mod Sound
 pub mod Stands
+-- The claims of locals.
+pub mod Apart
