@@ -1,0 +1,2 @@
+mod NamedParameters
+mod EscapeErrors

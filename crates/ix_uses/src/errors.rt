@@ -1,0 +1,35 @@
+//! Errors that have a rule and a place alone.
+
+ghost use Rattle.std.specs.Prelude.{◌≡◌, ◌∷◌, [], ◌++◌, OnOk};
+ghost use Rattle.ix_sign.specs.SignErrors as signs;
+
+use ix_core::{Detail, Error, Op};
+use ix_sign::Ranked;
+use ix_text::Span;
+use std::alloc::AllocError;
+
+/// Adds an error that has a rule and a place alone.
+pub(crate) fn push_plain(out: &mut Vec<Ranked>, rule: u8, span: Span) -> Result<(), AllocError>
+    ensures { OnOk result (out.new.items ≡ out.old.items ++ (record { error = signs.plain rule span; rank = 0 } ∷ [])) }
+{
+    out.push(Ranked {
+        error: Error {
+            rule,
+            span,
+            detail: Detail::Plain,
+        },
+        rank: 0,
+    })?;
+    Ok(())
+}
+
+/// The place of a part of an operation.
+pub(crate) fn part(done: &Op, number: usize) -> Span
+    ensures { result ≡ signs.part done.now number }
+{
+    done.parts
+        .as_slice()
+        .get(number)
+        .copied()
+        .unwrap_or(done.span)
+}
