@@ -1,5 +1,5 @@
--- A formed program that is not safe, of which the rules derive no error: a claim on a local names another local of its slot, so that a copy into the slot changes what
--- its claim was shown of. It is why the promise asks that locals stand apart.
+-- Why the promise asks that locals stand apart: a formed program that is not safe, in which a claim on a local names another local of its slot. A copy into the slot
+-- changes what its claim was shown of. The rules say no error of it: that was run, and isn't proved here.
 use Rattle.std.proofs.Common.{arith, ◌≡◌, sym, pos, true, [], ◌∷◌, Some, None, refl}
 use Rattle.std.proofs.lemmas.Bool.{false≢true}
 use Rattle.std.specs.Int.{int_wrap}
