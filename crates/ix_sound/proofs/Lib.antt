@@ -34,3 +34,4 @@ mod CallMoves
 mod Moves
 mod Dispatched
 pub mod NoErrorsAreSafe
+mod SharedSlots
