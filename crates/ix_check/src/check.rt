@@ -3,7 +3,7 @@ ghost use Rattle.std.specs.Prelude.{◌≡◌, ◌≢◌, ◌≤◌, Some, None,
 ghost use Rattle.ix_core.specs.Formed.{Formed};
 ghost use Rattle.ix_core.specs.Safe.{Safe};
 ghost use Rattle.ix_core.specs.declared.fact.Profile.{Profile};
-ghost use Rattle.ix_core.specs.declared.program.Program.{Program as Any};
+ghost use Rattle.ix_core.specs.declared.program.Program.{Program as AnyProgram};
 ghost use Rattle.ix_check.specs.Counts as counts;
 ghost use Rattle.ix_check.specs.Rules.{errors_of};
 ghost use Rattle.ix_check.specs.declared.error.CheckError.TheVariants.{Memory};
@@ -63,5 +63,5 @@ pub fn count_program(program: &Program) -> Counts
 
 /// A law, which runs nothing: a program whose errors are none is safe.
 pub fn accepted_is_safe()
-    ensures { (program : Any) → errors_of program ≡ Some [] → (profile : Profile) → Safe program profile }
+    ensures { (program : AnyProgram) → errors_of program ≡ Some [] → (profile : Profile) → Safe program profile }
 {}

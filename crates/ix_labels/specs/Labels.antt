@@ -1,5 +1,5 @@
 -- The least labels of a method, at the nodes of its graph.
-use Rattle.std.specs.Prelude.{◌≡◌, List}
+use Rattle.std.specs.Prelude.{◌≡◌, length}
 use Rattle.ix_core.specs.declared.fact.Profile.{Profile}
 use Rattle.ix_core.specs.declared.program.Method.{Method}
 use Rattle.ix_core.specs.declared.program.Program.{Program}
@@ -15,6 +15,7 @@ use Rattle.ix_labels.specs.declared.labels.Labels.{Labels}
 
 -- The nodes are those of the method's graph, and the stores are its least solution by the rules of the method.
 pub record AreLabels (program : Program) (method : Method) (profile : Profile) (labels : Labels) : Type 0 where
+  pub size : length labels.graph.nodes.items ≡ behind_code (block_code method.body) 2
   pub kinds : kinds_in labels.graph.nodes.items ≡ kinds_of (method_parts (block_code method.body))
   pub solution : IsSolution StoreBelow (behind_code (block_code method.body) 2) (NodeAsks (method_rules program method profile) (method_parts (block_code method.body))) labels.stores.items
   pub least : IsLeast StoreBelow (behind_code (block_code method.body) 2) (NodeAsks (method_rules program method profile) (method_parts (block_code method.body))) labels.stores.items

@@ -19,6 +19,7 @@ returns-clause-labels c e =
     let many = sym (ap length kinds) ∙ length-map nodes (λ (node : Node). kind_of node.kind) ∙ e.in_ok-graph.ensures.size in
     let marks = e.in_ok-marks.marks.ints in
     record {
+      size = e.in_ok-graph.ensures.size;
       kinds = kinds;
       solution = solved e.args.program.now method e.args.profile marks e.in_ok-marks.ensures.landmarks body (kind_in nodes) are (length (readers_in nodes)) (behind_code body 2) e.in_ok-stores.stores.items same many e.in_ok-stores.ensures.solution;
       least = least e.args.program.now method e.args.profile marks e.in_ok-marks.ensures.landmarks body (kind_in nodes) are (length (readers_in nodes)) (behind_code body 2) e.in_ok-stores.stores.items same many e.in_ok-stores.ensures.least;

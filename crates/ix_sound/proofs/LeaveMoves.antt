@@ -1,0 +1,121 @@
+-- The end of a method without errors, and a `return`, show what the laws ask of a frame's end.
+use Rattle.std.specs.Prelude.{◌≡◌, ℕ, ◌<◌, true, false, List, length, option_map, Option, None, Some, refl}
+use Rattle.std.proofs.Common.{sym, ap, ◌∙◌, subst}
+use Rattle.std.proofs.lemmas.Bool.{false≢true}
+use Rattle.ix_text.specs.declared.span.Span.{Span}
+use Rattle.ix_core.specs.declared.claim.Name.{Name}
+use Rattle.ix_core.specs.declared.claim.Name.TheVariants.{Param, Local, FieldNamed}
+use Rattle.ix_core.specs.declared.claim.Type_.{Type_}
+use Rattle.ix_core.specs.declared.claim.Type_.TheVariants as type
+use Rattle.ix_core.specs.declared.error.Error.{Error}
+use Rattle.ix_core.specs.declared.error.Subject.TheVariants as subject
+use Rattle.ix_core.specs.declared.fact.Path.TheVariants.{Slot, FieldOf}
+use Rattle.ix_core.specs.declared.fact.Profile.{Profile}
+use Rattle.ix_core.specs.declared.program.Method.{Method}
+use Rattle.ix_core.specs.declared.program.Program.{Program}
+use Rattle.ix_core.specs.Analysis.{Leaves, IsFreeIf, Results}
+use Rattle.ix_core.specs.Formed.{is_formed, return_fits}
+use Rattle.ix_core.specs.Heap.{Held, At, Heap, ObjectOf, value_at, reading_of}
+use Rattle.ix_core.specs.Machine.{result_of, returned_or}
+use Rattle.ix_core.specs.Numbers.{Numbers, HasInts, numbers_of}
+use Rattle.ix_core.specs.Objects.{HasField, MeetsField, field_readings, FrameKeeps}
+use Rattle.ix_core.specs.Tables.{method_at, field_at, routine_of, default_result, all_fields}
+use Rattle.ix_core.specs.Types.{Types, is_void}
+use Rattle.ix_core.specs.Waits.{Knowledge, param_readings}
+use Rattle.ix_core.specs.World.{World}
+use Rattle.ix_core.proofs.Cases.{by_test}
+use Rattle.ix_facts.specs.Stores.{Stored, Unreachable, Reached, Meets}
+use Rattle.ix_steps.specs.MachineSteps.{on_paths, own_path, reading_at, IsDeclared}
+use Rattle.ix_steps.proofs.MachineTests.{parameter_is, field_is}
+use Rattle.ix_sign.specs.Names.{object_path}
+use Rattle.ix_sign.specs.SignErrors.{Refuses, IsReached, ReturnClaim, ConstructorClaim, MissingReturn, plain}
+use Rattle.ix_sound.specs.Direct.{direct}
+use Rattle.ix_sound.proofs.ClaimTruths.{claims_true, none_fails}
+use Rattle.ix_sound.proofs.FieldPlaces.{placed_among, among_at}
+use Rattle.ix_sound.proofs.NamedClaims.{MayName, result_names, field_names}
+use Rattle.ix_sound.proofs.Stable.{unrefused}
+
+-- a store that is met is reached
+met_reached : (s : Stored) (v : Numbers) → Meets s v → IsReached s
+met_reached Unreachable v meets = absurd meets
+met_reached (Reached facts) v meets = tt
+
+module _ (program : Program) (locals : List (List Type_)) (formed : is_formed program locals ≡ true) (profile : Profile) (know : Knowledge) (number : ℕ) (lt : number < length program.methods) (slots : List Held) (heap : Heap) (building : ℕ → Type 0)
+    (frame : FrameKeeps building (method_at program number) slots heap) (ints_ : HasInts (direct program).place slots heap) (s : Stored) (meets : Meets s (numbers_of (direct program).place slots heap ints_)) where
+  abbrev world : World
+  world = direct program
+
+  abbrev method : Method
+  method = method_at program number
+
+  abbrev v : Numbers
+  v = numbers_of world.place slots heap ints_
+
+  -- ---- constructors
+
+  pub built_shown : ((error : Error) (rank : ℕ) → ConstructorClaim program method s error rank → ⊥) → method.constructor ≡ true → (object field : ℕ) → value_at slots 0 ≡ At object → HasField world (ObjectOf method.class) field → MeetsField world heap object field
+  built_shown none made object field at has =
+      let there = among_at (all_fields program method.class) field (placed_among (all_fields program method.class) field has.0 has.1) in
+      claims_true (object_path 0) (FieldOf 0 field) (field_at program field).claims v (field_readings world heap object (FieldNamed field)) (field_readings world heap object) (field_is world slots heap ints_ 0 object field at)
+      (λ name named. let found = field_names program locals formed field name named in
+      subst (λ n. field_readings world heap object n ≡ reading_at v (object_path 0 n)) (sym found.is) (field_is world slots heap ints_ 0 object found.other at))
+      (λ k c is. unrefused s v (on_paths (object_path 0) c) (FieldOf 0 field)
+      (none_fails (λ claim. Refuses s (on_paths (object_path 0) claim) (FieldOf 0 field)) (field_at program field).claims 9 method.span (subject.FieldNamed field)
+      (λ error rank failed. none error rank (record { constructor = made; at = there.0; field = field; has = there.1; of = failed })) k c is) meets)
+
+  -- ---- methods
+
+  -- a method without a result ends with nothing
+  no_default : (ty : Type_) → is_void ty ≡ true → default_result ty ≡ None
+  no_default type.Void e = refl
+  no_default (type.Plain of) e = absurd (false≢true e)
+  no_default (type.Array of depth element) e = absurd (false≢true e)
+
+  no_result : (returned : Option ℕ) → method.constructor ≡ false → is_void method.result ≡ true → result_of (routine_of method) slots returned ≡ None
+  no_result returned not_made void = rw not_made (ap (option_map (λ default. returned_or default slots returned)) (no_default method.result void))
+
+  nothing_left : (returned : Option ℕ) → ((error : Error) (rank : ℕ) → ConstructorClaim program method s error rank → ⊥) → is_void method.result ≡ true → Leaves profile world know building method slots heap (result_of (routine_of method) slots returned)
+  nothing_left returned none void = record {
+    free = λ c. subst (IsFreeIf building heap) (sym (no_result returned c void)) tt;
+    results = λ c. subst (Results world method slots heap) (sym (no_result returned c void)) tt;
+    built = built_shown none;
+  }
+
+  pub ends_shown : ((error : Error) (rank : ℕ) → ConstructorClaim program method s error rank → ⊥) → ((error : Error) (rank : ℕ) → MissingReturn method s error rank → ⊥) → Leaves profile world know building method slots heap (result_of (routine_of method) slots None)
+  ends_shown none missing =
+      nothing_left None none
+      (by_test (is_void method.result) (λ t. t) (λ t. absurd (missing (plain 17 method.span) 0 (record { result = t; reached = met_reached s v meets; is = refl; first = refl }))))
+
+  declared : (name : Name) → MayName method name → IsDeclared name
+  declared (Param n) may = tt
+  declared (Local n) may = absurd may
+  declared (FieldNamed f) may = tt
+
+  -- the claims of the result are true of what a slot holds
+  result_true : (slot : ℕ) (span : Span) → ((error : Error) (rank : ℕ) → ReturnClaim method number (Some slot) span s error rank → ⊥) → Results world method slots heap (Some (value_at slots slot))
+  result_true slot span none =
+      claims_true (own_path method) (Slot slot) method.result_claims v (reading_of heap (value_at slots slot)) (param_readings world method slots heap) refl
+      (λ name named. parameter_is world method slots heap ints_ name (declared name (result_names program locals formed number lt name named)))
+      (λ k c is. unrefused s v (on_paths (own_path method) c) (Slot slot)
+      (none_fails (λ claim. Refuses s (on_paths (own_path method) claim) (Slot slot)) method.result_claims 6 span (subject.Result number)
+      (λ error rank failed. none error rank (record { slot = slot; returned = refl; of = failed })) k c is) meets)
+
+  given_free : (slot : ℕ) (default : Option Held) → method.constructor ≡ false → IsFreeIf building heap (option_map (λ of. value_at slots slot) default)
+  given_free slot None not_made = tt
+  given_free slot (Some of) not_made = frame.free slot (λ own. false≢true (sym not_made ∙ own.0))
+
+  given_true : (slot : ℕ) (default : Option Held) → Results world method slots heap (Some (value_at slots slot)) → Results world method slots heap (option_map (λ of. value_at slots slot) default)
+  given_true slot None is = tt
+  given_true slot (Some of) is = is
+
+  the_result : (slot : ℕ) → method.constructor ≡ false → result_of (routine_of method) slots (Some slot) ≡ option_map (λ of. value_at slots slot) (default_result method.result)
+  the_result slot not_made = rw not_made refl
+
+  pub returns_shown : (types : Types) (value : Option ℕ) (span : Span) → return_fits program method (Some types) value ≡ true → ((error : Error) (rank : ℕ) → ReturnClaim method number value span s error rank → ⊥)
+      → ((error : Error) (rank : ℕ) → ConstructorClaim program method s error rank → ⊥) → Leaves profile world know building method slots heap (result_of (routine_of method) slots value)
+  returns_shown types None span fits none none_built = nothing_left None none_built fits
+  returns_shown types (Some slot) span fits none none_built = record {
+    free = λ c. subst (IsFreeIf building heap) (sym (the_result slot c)) (given_free slot (default_result method.result) c);
+    results = λ c. subst (Results world method slots heap) (sym (the_result slot c)) (given_true slot (default_result method.result) (result_true slot span none));
+    built = built_shown none_built;
+  }
