@@ -1,0 +1,3 @@
+mod LoopsInOrder
+mod NamesInRange
+pub mod Ready

@@ -1,0 +1,6 @@
+use Rattle.ix_ready.proofs.Ready.{loops_in_order}
+use Rattle.ix_ready.proofs.laws.loops_are_in_order.Goals as goal
+
+-- src/laws.rt
+pub returns : goal.returns
+returns c = record { in_order = λ program formed number within. loops_in_order program formed number within }

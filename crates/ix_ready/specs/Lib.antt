@@ -1,0 +1,2 @@
+-- What a formed program lacks.
+pub mod Few

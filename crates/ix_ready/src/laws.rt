@@ -1,0 +1,27 @@
+//! The laws, as contracts of functions that do nothing.
+
+ghost use Rattle.std.specs.Prelude.{ℕ, ◌<◌, length};
+ghost use Rattle.std.specs.Option.{ForSome};
+ghost use Rattle.ix_core.specs.declared.program.Program.{Program};
+ghost use Rattle.ix_core.specs.Code.{block_code};
+ghost use Rattle.ix_core.specs.Formed.{Formed};
+ghost use Rattle.ix_core.specs.Tables.{method_at};
+ghost use Rattle.ix_graph.specs.Graph.{method_parts};
+ghost use Rattle.ix_graph.specs.Heads.{AreInOrder};
+ghost use Rattle.ix_ready.specs.Few.{HasFew};
+ghost use Rattle.ix_sign.specs.Naming.{HaveSmallNames};
+
+/// The claims of a formed program name parameters that are there, and parameters can be counted with 32 bits; so can locals and fields, where this is told.
+pub fn names_are_small()
+    ensures small { (program : Program) → Formed program → HasFew program → HaveSmallNames program }
+{}
+
+/// A method of a formed program overrides one that is there.
+pub fn overridden_is_there()
+    ensures there { (program : Program) → Formed program → (number : ℕ) → number < length program.methods → ForSome (method_at program number).overrides (λ over. over < length program.methods) }
+{}
+
+/// The loops of each method of a formed program are numbered in the order of their heads.
+pub fn loops_are_in_order()
+    ensures in_order { (program : Program) → Formed program → (number : ℕ) → number < length program.methods → AreInOrder 0 (method_parts (block_code (method_at program number).body)) }
+{}
