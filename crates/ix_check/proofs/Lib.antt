@@ -1,9 +1,3 @@
-mod ParamsInOrder
-mod CopiesInOrder
-mod ErrorsInOrder
-mod ClaimsMet
-mod PlainRuns
-mod AcceptedIsSafe
-mod RuleRows
 mod FewMethods
-mod UnknownSlots
+mod FewNumbers
+mod Listed

@@ -2,7 +2,7 @@
 use Rattle.std.specs.Prelude.{ℕ, List, count_by}
 use Rattle.ix_core.specs.declared.program.Method.{Method}
 use Rattle.ix_core.specs.declared.program.Program.{Program}
-use Rattle.ix_check.specs.declared.check.Counts.{Counts}
+use Rattle.ix_check.specs.declared.counts.Counts.{Counts}
 
 abbrev pub written_in : List Method → ℕ
 written_in methods = count_by (λ method. method.written) methods

@@ -1,4 +1,4 @@
-pub mod Form
-pub mod Origins
-pub mod Rules
+-- What an accepted program is counted by.
 pub mod Counts
+-- What is asked of a program that is checked.
+pub mod Judged

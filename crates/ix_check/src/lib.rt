@@ -1,16 +1,16 @@
-//! Which errors the rules derive of a program.
+//! The check of a program: which errors the rules derive, as they are listed.
 //!
-//! What goes in: a program. What comes out: the errors, by place and rule, or that the program is of a form that isn't judged yet.
-//! The contract: `errors_of` of `specs/Rules.antt`, over the form of `specs/Form.antt`; a program without errors is `Safe`.
-//! It stands on the programs and the machine of `ix_core`.
+//! What goes in: a formed program, and a profile. What comes out: its errors, and what it is counted by.
+//! The contract: exactly the list of the errors that the rules derive at the least labels; a program without errors is `Safe`.
+//! It stands on `ix_errors` for the errors, on `ix_listing` for their list, on `ix_sound` for the promise.
 //! It never looks at a source: neither at its tree, nor at its text.
 #![tactic(auto)]
 
-mod check;
+mod counts;
 mod error;
-mod form;
-mod origins;
-mod rules;
+mod judged;
+mod whole;
 
-pub use check::{Counts, accepted_is_safe, check_program, count_program};
+pub use counts::{Counts, count_program};
 pub use error::CheckError;
+pub use whole::{check, check_program};

@@ -14,7 +14,7 @@ use Rattle.ix_name_report.specs.Texts.{limit_name}
 use Rattle.ix_name_report.proofs.OneList.{one_list, none_listed}
 use Rattle.ix_finding.specs.Findings.{IsPlaced, HasFormed}
 use Rattle.ix_meaning.specs.declared.note.NameErrors.{NameErrors}
-use Rattle.ix_finding.specs.Found.{Finding, Past, Misnamed, Whole, judgement, FoundIn, passes_limit, misnames, inherits, too_big, named, of_limit, of_name_errors, of_lower_error}
+use Rattle.ix_finding.specs.Found.{Finding, Past, Misnamed, Whole, FoundIn, passes_limit, misnames, inherits, too_big, named, of_limit, of_name_errors, of_lower_error}
 
 not_none : (o : Option Passed) (p : Passed) → o ≡ None → o ≡ Some p → ⊥
 not_none o p none some = cc
@@ -40,12 +40,12 @@ same_limit o p q a b = cc
 same_program : (o : Result Program Passed) (one other : Program) → o ≡ Ok one → o ≡ Ok other → one ≡ other
 same_program o one other is also = let e : Ok one ≡ Ok other = sym is ∙ also in cc
 
-pub accepted_only : (end : ℕ) (source : Source) (made : Program) (other : Finding) → Accepts source → program (names source) source.classes ≡ Ok made → FoundIn end source other → Whole (judgement made) made ≡ other
+pub accepted_only : (end : ℕ) (source : Source) (made : Program) (other : Finding) → Accepts source → program (names source) source.classes ≡ Ok made → FoundIn end source other → Whole made ≡ other
 accepted_only end source made _ accepts good (passes_limit p is) = absurd (not_none (limit source.classes) p accepts.within is)
 accepted_only end source made _ accepts good (misnames errors refused) = absurd (no_list source errors refused accepts.no_errors)
 accepted_only end source made _ accepts good (inherits p none no_errors is) = absurd (not_none (inheritance_limit source.classes) p accepts.few_inherited is)
 accepted_only end source made _ accepts good (too_big p also is) = absurd (not_both (program (names source) source.classes) made p good is)
-accepted_only end source made _ accepts good (named other also is) = ap (λ p. Whole (judgement p) p) (same_program (program (names source) source.classes) made other good is)
+accepted_only end source made _ accepts good (named other also is) = ap (λ p. Whole p) (same_program (program (names source) source.classes) made other good is)
 
 -- a limit of a method
 big_only : (end : ℕ) (source : Source) (q : Passed) (other : Finding) → Accepts source → program (names source) source.classes ≡ Err q → FoundIn end source other → of_limit end q ≡ other

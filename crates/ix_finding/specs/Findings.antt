@@ -3,20 +3,14 @@ use Rattle.std.specs.Prelude.{ℕ, ◌≤◌}
 use Rattle.ix_core.specs.Formed.{Formed}
 use Rattle.ix_finding.specs.declared.finding.Finding.{Finding as Seen}
 use Rattle.ix_finding.specs.declared.finding.Finding.TheVariants as code
-use Rattle.ix_finding.specs.declared.finding.Judgement.{Judgement as SeenJudgement}
-use Rattle.ix_finding.specs.declared.finding.Judgement.TheVariants as seen_judgement
-use Rattle.ix_finding.specs.Found.{Finding, TooLong, Broken, Past, Misnamed, Whole, Judgement, NotBuilt, Judged}
-
-abbrev pub judged : SeenJudgement → Judgement
-judged seen_judgement.NotBuilt = NotBuilt
-judged (seen_judgement.Judged counts errors) = Judged counts errors.items
+use Rattle.ix_finding.specs.Found.{Finding, TooLong, Broken, Past, Misnamed, Whole}
 
 abbrev pub seen : Seen → Finding
 seen code.TooLong = TooLong
 seen (code.Broken at key) = Broken at key.now
 seen (code.Past at name) = Past at name.now
 seen (code.Misnamed errors) = Misnamed errors
-seen (code.Whole judgement program) = Whole (judged judgement) program
+seen (code.Whole program) = Whole program
 
 -- The place of an error or a limit is not behind the end of the text.
 abbrev pub IsPlaced : ℕ → Finding → Type 0
@@ -26,5 +20,5 @@ IsPlaced end _ = Unit {0}
 
 -- The plain form of a source is formed.
 abbrev pub HasFormed : Finding → Type 0
-HasFormed (Whole judgement program) = Formed program
+HasFormed (Whole program) = Formed program
 HasFormed _ = Unit {0}

@@ -15,21 +15,10 @@ use Rattle.ix_meaning.specs.Limits.{Passed, limit, inheritance_limit}
 use Rattle.ix_meaning.specs.Resolved.{name_errors, Accepts, IsRefused, names}
 use Rattle.ix_name_report.specs.Texts.{limit_name}
 use Rattle.ix_core.specs.declared.program.Program.{Program}
-use Rattle.ix_core.specs.declared.error.Error.{Error}
 use Rattle.ix_lower.specs.declared.source.LowerError.{LowerError}
 use Rattle.ix_lower.specs.declared.source.LowerError.TheVariants as lowering
 use Rattle.ix_plain.specs.Program.{program}
-use Rattle.ix_check.specs.declared.check.Counts.{Counts}
-use Rattle.ix_check.specs.Rules.{errors_of}
-use Rattle.ix_check.specs.Counts.{counts_of}
 use Rattle.ix_outside.specs.Reading.{most_bytes}
-
--- what the rules say of a program
-pub data Judgement : Type 0 where
-  -- it is of a form that isn't judged yet
-  NotBuilt : Judgement
-  -- its counts and its errors
-  Judged : Counts → List Error → Judgement
 
 pub data Finding : Type 0 where
   -- more bytes than a source may have
@@ -40,8 +29,8 @@ pub data Finding : Type 0 where
   Past : ℕ → List ℕ → Finding
   -- errors on names, types and annotations, as they are listed
   Misnamed : List NameError → Finding
-  -- a source without these: what the rules say of its program, and the program
-  Whole : Judgement → Program → Finding
+  -- a source without these: its program
+  Whole : Program → Finding
 
 -- a text without tokens; want of memory is no finding
 abbrev pub of_lex_error : LexError → Option Finding
@@ -63,14 +52,6 @@ abbrev pub of_parse_error : List Token → ℕ → ParseError → Option Finding
 of_parse_error tokens end (syntax.Syntax number) = Some (Broken (start_of (drop number tokens) end) (codes "syntax"))
 of_parse_error tokens end (syntax.TooDeep from) = Some (Past from (codes "height"))
 of_parse_error tokens end syntax.Memory = None
-
-abbrev pub judged_by : Counts → Option (List Error) → Judgement
-judged_by counts None = NotBuilt
-judged_by counts (Some errors) = Judged counts errors
-
--- What the rules say of the program of a source without errors on names. The form that is judged so far has no sums, so how sums count decides nothing.
-abbrev pub judgement : Program → Judgement
-judgement program = judged_by (counts_of program) (errors_of program)
 
 -- a limit that is passed, in a text of that length
 abbrev pub of_limit : ℕ → Passed → Finding
@@ -94,7 +75,7 @@ pub data FoundIn (end : ℕ) (source : Source) : Finding → Type 0 where
   misnames : (errors : List NameError) → IsRefused source errors → FoundIn end source (Misnamed errors)
   inherits : (p : Passed) → limit source.classes ≡ None → name_errors source ≡ [] → inheritance_limit source.classes ≡ Some p → FoundIn end source (of_limit end p)
   too_big : (p : Passed) → Accepts source → program (names source) source.classes ≡ Err p → FoundIn end source (of_limit end p)
-  named : (made : Program) → Accepts source → program (names source) source.classes ≡ Ok made → FoundIn end source (Whole (judgement made) made)
+  named : (made : Program) → Accepts source → program (names source) source.classes ≡ Ok made → FoundIn end source (Whole made)
 
 -- This is found of the tokens of a text of that length.
 pub data FoundOf (tokens : List Token) (end : ℕ) : Finding → Type 0 where

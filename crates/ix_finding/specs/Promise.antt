@@ -7,8 +7,8 @@ use Rattle.ix_meaning.specs.Resolved.{names}
 use Rattle.ix_plain.specs.Program.{program as program_of}
 use Rattle.ix_tree.specs.declared.decl.Unit.{Unit as Source}
 
--- The source has a program, the one that `run` runs. However sums count, no run of it indexes outside an array or makes one of negative length.
-pub record IsSafe (source : Source) : Type 0 where
+-- The source has a program, the one that `run` runs. Where sums count as the profile says, no run of it indexes outside an array or makes one of negative length.
+pub record IsSafe (profile : Profile) (source : Source) : Type 0 where
   pub program : Program
   pub plain : program_of (names source) source.classes ≡ Ok program
-  pub safe : (profile : Profile) → Safe program profile
+  pub safe : Safe program profile

@@ -8,10 +8,9 @@ ghost use Rattle.ix_grammar.specs.Refusals.{IsWithin as TokenWithin};
 ghost use Rattle.ix_formed.specs.Parsed.{IsParsed};
 ghost use Rattle.ix_parsed.specs.IntTokens.{HaveInts};
 ghost use Rattle.ix_finding.specs.Found as spec;
-ghost use Rattle.ix_finding.specs.Findings.{seen, judged, IsPlaced, HasFormed};
+ghost use Rattle.ix_finding.specs.Findings.{seen, IsPlaced, HasFormed};
 
-use ix_check::{CheckError, Counts, check_program, count_program};
-use ix_core::{Error, Program};
+use ix_core::Program;
 use ix_lexer::{LexError, Token, lex};
 use ix_lower::{LowerError, lower};
 use ix_meaning::{NameError, NameErrors};
@@ -22,15 +21,6 @@ use ix_parser::{ParseError, parse};
 use ix_text::List;
 use ix_tree::Unit;
 use std::alloc::{AllocError, Global};
-
-/// What the rules say of the program of a source without errors on names.
-#[derive(Drop)]
-pub enum Judgement {
-    /// It is of a form that isn't judged yet.
-    NotBuilt,
-    /// Its counts and its errors.
-    Judged(Counts, Vec<Error>),
-}
 
 /// What the bytes of a file turn out to be.
 #[derive(Drop)]
@@ -43,8 +33,8 @@ pub enum Finding {
     Past(u32, &'static str),
     /// Errors on names, types and annotations, as they are listed.
     Misnamed(List<NameError>),
-    /// A source without these: what the rules say of its program, and the program.
-    Whole(Judgement, Program),
+    /// A source without these: its program.
+    Whole(Program),
 }
 
 /// What a text without tokens is; nothing where memory is wanting.
@@ -89,18 +79,6 @@ fn of_parse_error(tokens: &[Token], end: u32, why: ParseError) -> Option<Finding
     }
 }
 
-/// What the rules say of the program of a source without errors on names.
-fn judge(alloc: Global, program: &Program) -> Result<Judgement, AllocError>
-    requires formed { Formed program.now }
-    ensures { IfOk result (λ said. judged said ≡ spec.judgement program.now) }
-{
-    match check_program(alloc, program) {
-        Ok(errors) => Ok(Judgement::Judged(count_program(program), errors)),
-        Err(CheckError::Unbuilt) => Ok(Judgement::NotBuilt),
-        Err(CheckError::Memory) => Err(AllocError),
-    }
-}
-
 /// What a source is whose names have errors; nothing where memory is wanting.
 fn of_name_errors(end: u32, why: NameErrors) -> Option<Finding>
     ensures { option_map seen result ≡ spec.of_name_errors end why }
@@ -122,18 +100,6 @@ fn of_lower_error(end: u32, why: LowerError) -> Option<Finding>
     }
 }
 
-/// What a source with that program is.
-fn of_program(alloc: Global, program: Program) -> Result<Finding, AllocError>
-    requires formed { Formed program }
-    ensures found { IfOk result (λ finding. seen finding ≡ spec.Whole (spec.judgement program) program) }
-    ensures placed { IfOk result (λ finding. IsPlaced 0 (seen finding)) }
-{
-    match judge(alloc, &program) {
-        Ok(judgement) => Ok(Finding::Whole(judgement, program)),
-        Err(_) => Err(AllocError),
-    }
-}
-
 /// What a source is whose names mean what the table says, in a text of `end` bytes.
 #[tactic(auto, using(ix_counts::proofs::FewDeclarations::few_classes, ix_counts::proofs::FewDeclarations::few_members))]
 fn of_lowered(alloc: Global, unit: &Unit, table: &Table, end: u32) -> Result<Finding, AllocError>
@@ -146,7 +112,7 @@ fn of_lowered(alloc: Global, unit: &Unit, table: &Table, end: u32) -> Result<Fin
     ensures formed { IfOk result (λ finding. HasFormed (seen finding)) }
 {
     match lower(alloc, unit, table) {
-        Ok(program) => of_program(alloc, program),
+        Ok(program) => Ok(Finding::Whole(program)),
         Err(why) => match of_lower_error(end, why) {
             Some(finding) => Ok(finding),
             None => Err(AllocError),

@@ -5,10 +5,8 @@ use Rattle.ix_core.specs.declared.error.Error.{Error}
 use Rattle.ix_core.specs.declared.program.Program.{Program}
 use Rattle.ix_core.specs.Machine.{State, Ending}
 use Rattle.ix_core.specs.Machine as ending
-use Rattle.ix_check.specs.declared.check.Counts.{Counts}
-use Rattle.ix_check.specs.Rules.{errors_of}
-use Rattle.ix_check.specs.Counts.{counts_of}
 use Rattle.ix_core.specs.declared.fact.Profile.{Profile}
+use Rattle.ix_core.specs.declared.fact.Profile.TheVariants.{Int32}
 use Rattle.ix_core.specs.Safe.{Safe}
 use Rattle.ix_lexer.specs.declared.token.LexError.{LexError}
 use Rattle.ix_lexer.specs.declared.token.LexError.TheVariants as lexical
@@ -19,7 +17,7 @@ use Rattle.ix_machine.specs.declared.start.StartError.{StartError}
 use Rattle.ix_machine.proofs.OneStart.{starts_one}
 use Rattle.ix_outside.specs.Outside.{Files, bytes_under}
 use Rattle.ix_outside.specs.Reading.{IsAllOrPast, most_bytes}
-use Rattle.ix_report.specs.Texts.{rejected}
+use Rattle.ix_report.specs.Reports.{report}
 use Rattle.ix_report.specs.Runs.{bench_rejected}
 use Rattle.ix_words.specs.declared.values.Limits.{Limits}
 use Rattle.ix_words.specs.declared.values.Sums.{Sums}
@@ -29,25 +27,30 @@ use Rattle.ix_answer.specs.declared.status.Status.{Status}
 use Rattle.ix_answer.specs.declared.status.Status.TheVariants.{Done, Rejected, Limit}
 use Rattle.ix_answer.specs.Statuses.{is_answer}
 use Rattle.ix_answer.specs.Answer.{Answer, out_answer}
-use Rattle.ix_finding.specs.Found.{Finding, TooLong, Broken, Past, Misnamed, Whole, Judgement, NotBuilt, Judged, judged_by, judgement, Found, too_long, no_tokens, lexed, no_tree, tree, passes_limit, misnames, inherits, too_big, named, of_lex_error, of_parse_error}
+use Rattle.ix_finding.specs.Found.{Finding, TooLong, Broken, Past, Misnamed, Whole, Found, too_long, no_tokens, lexed, no_tree, tree, passes_limit, misnames, inherits, too_big, named, of_lex_error, of_parse_error}
+use Rattle.ix_check.specs.Judged.{CanCheck}
+use Rattle.ix_errors.specs.MethodErrors.{IsError}
+use Rattle.ix_listing.specs.ErrorList.{IsErrorList}
+use Rattle.ix_listing.proofs.Lists.{one_list}
+use Rattle.ix_tool.specs.Judgements.{Judgement, NotBuilt, Judged, Judges, unchecked, checked, profile_of}
 use Rattle.ix_tool.specs.Runs.{RunAnswers, start_answer, status_of}
 use Rattle.ix_tool.specs.Answers.{IsVerdict, AnswersOn, AnswersWhole, verdict, check_answer, bench_verdict, bench_answer, source_bytes, file_in}
-use Rattle.ix_tool.specs.Ends.{bytes_of, SafeBytes}
+use Rattle.ix_tool.specs.Ends.{bytes_of, SafeBytes, PromisesOn, Promises}
 use Rattle.ix_answer.specs.Delivery.{IsOnly}
 use Rattle.ix_run.specs.Ends.{end_of}
 use Rattle.ix_finding.proofs.BytesFound.{past-only, some_is}
 
 -- ---- the verdict
 
-pub verdict_rejected : (file bytes : List ℕ) (counts : Counts) (errors : List Error) → length errors ≢ 0
-    → verdict file bytes counts errors ≡ out_answer Rejected (rejected file bytes errors)
-verdict_rejected file bytes counts [] some = absurd (some refl)
-verdict_rejected file bytes counts (error ∷ errors) some = refl
+pub verdict_rejected : (file bytes : List ℕ) (program : Program) (errors : List Error) → length errors ≢ 0
+    → verdict file bytes program errors ≡ out_answer Rejected (report program file bytes errors)
+verdict_rejected file bytes program [] some = absurd (some refl)
+verdict_rejected file bytes program (error ∷ errors) some = refl
 
-pub bench_rejected_is : (count : ℕ) (counts : Counts) (errors : List Error) → length errors ≢ 0
-    → bench_verdict count counts errors ≡ out_answer Rejected (bench_rejected count (length errors))
-bench_rejected_is count counts [] some = absurd (some refl)
-bench_rejected_is count counts (error ∷ errors) some = refl
+pub bench_rejected_is : (count : ℕ) (program : Program) (errors : List Error) → length errors ≢ 0
+    → bench_verdict count program errors ≡ out_answer Rejected (bench_rejected count (length errors))
+bench_rejected_is count program [] some = absurd (some refl)
+bench_rejected_is count program (error ∷ errors) some = refl
 
 -- ---- one answer
 
@@ -56,18 +59,25 @@ runs_one : (program : Program) (bytes : List ℕ) (limits : Limits) (entry : Tex
 runs_one program bytes limits entry words one other a b =
     b.2 ∙ ap (start_answer program bytes limits) (starts_one program entry words limits.cells b.0 a.0 b.1 a.1) ∙ sym a.2
 
-whole_one : (command : Command) (bytes : List ℕ) (judged : Judgement) (program : Program) (one other : Answer)
-    → AnswersWhole command bytes judged program one → AnswersWhole command bytes judged program other → other ≡ one
-whole_one (Check sums file) bytes judged program one other a b = b ∙ sym a
-whole_one (Run limits file entry inputs) bytes judged program one other a b = runs_one program bytes limits entry inputs one other a b
-whole_one (Bench count) bytes judged program one other a b = b ∙ sym a
+-- the rules say one thing of a program
+judges_one : (program : Program) (profile : Profile) (one other : Judgement) → Judges program profile one → Judges program profile other → other ≡ one
+judges_one program profile _ _ (unchecked a) (unchecked b) = refl
+judges_one program profile _ _ (unchecked a) (checked errors can list) = absurd (a can)
+judges_one program profile _ _ (checked errors can list) (unchecked b) = absurd (b can)
+judges_one program profile _ _ (checked errors can list) (checked others could others_list) = ap (λ (es : List Error). Judged es) (one_list (IsError program profile) others errors others_list list)
+
+whole_one : (command : Command) (bytes : List ℕ) (program : Program) (one other : Answer)
+    → AnswersWhole command bytes program one → AnswersWhole command bytes program other → other ≡ one
+whole_one (Check sums file) bytes program one other a b = b.2 ∙ ap (check_answer file bytes program) (judges_one program (profile_of sums) a.0 b.0 a.1 b.1) ∙ sym a.2
+whole_one (Run limits file entry inputs) bytes program one other a b = runs_one program bytes limits entry inputs one other a b
+whole_one (Bench count) bytes program one other a b = b.2 ∙ ap (bench_answer count program) (judges_one program Int32 a.0 b.0 a.1 b.1) ∙ sym a.2
 
 answers_one : (command : Command) (bytes : List ℕ) (finding : Finding) (one other : Answer) → AnswersOn command bytes finding one → AnswersOn command bytes finding other → other ≡ one
 answers_one command bytes TooLong one other a b = b ∙ sym a
 answers_one command bytes (Broken at key) one other a b = b ∙ sym a
 answers_one command bytes (Past at name) one other a b = b ∙ sym a
 answers_one command bytes (Misnamed errors) one other a b = b ∙ sym a
-answers_one command bytes (Whole judged program) one other a b = whole_one command bytes judged program one other a b
+answers_one command bytes (Whole program) one other a b = whole_one command bytes program one other a b
 
 -- an answer on what is found is the only right one
 pub only_verdict : (command : Command) (bytes : List ℕ) (finding : Finding) → Found bytes finding → ((other : Finding) → Found bytes other → finding ≡ other)
@@ -114,27 +124,27 @@ start_answers : (program : Program) (bytes : List ℕ) (limits : Limits) (begun 
 start_answers program bytes limits (Ok state) = end_answers _
 start_answers program bytes limits (Err why) = refl
 
-check_answers : (name bytes : List ℕ) (judged : Judgement) → is_answer (check_answer name bytes judged).status ≡ true
-check_answers name bytes NotBuilt = refl
-check_answers name bytes (Judged counts []) = refl
-check_answers name bytes (Judged counts (error ∷ errors)) = refl
+check_answers : (name bytes : List ℕ) (program : Program) (judged : Judgement) → is_answer (check_answer name bytes program judged).status ≡ true
+check_answers name bytes program NotBuilt = refl
+check_answers name bytes program (Judged []) = refl
+check_answers name bytes program (Judged (error ∷ errors)) = refl
 
-bench_answers : (count : ℕ) (judged : Judgement) → is_answer (bench_answer count judged).status ≡ true
-bench_answers count NotBuilt = refl
-bench_answers count (Judged counts []) = refl
-bench_answers count (Judged counts (error ∷ errors)) = refl
+bench_answers : (count : ℕ) (program : Program) (judged : Judgement) → is_answer (bench_answer count program judged).status ≡ true
+bench_answers count program NotBuilt = refl
+bench_answers count program (Judged []) = refl
+bench_answers count program (Judged (error ∷ errors)) = refl
 
-whole_answers : (command : Command) (bytes : List ℕ) (judged : Judgement) (program : Program) (answer : Answer) → AnswersWhole command bytes judged program answer → is_answer answer.status ≡ true
-whole_answers (Check sums file) bytes judged program answer right = rw right (check_answers file bytes judged)
-whole_answers (Run limits file entry inputs) bytes judged program answer right = rw right.2 (start_answers program bytes limits right.0)
-whole_answers (Bench count) bytes judged program answer right = rw right (bench_answers count judged)
+whole_answers : (command : Command) (bytes : List ℕ) (program : Program) (answer : Answer) → AnswersWhole command bytes program answer → is_answer answer.status ≡ true
+whole_answers (Check sums file) bytes program answer right = rw right.2 (check_answers file bytes program right.0)
+whole_answers (Run limits file entry inputs) bytes program answer right = rw right.2 (start_answers program bytes limits right.0)
+whole_answers (Bench count) bytes program answer right = rw right.2 (bench_answers count program right.0)
 
 on_answers : (command : Command) (bytes : List ℕ) (finding : Finding) (answer : Answer) → AnswersOn command bytes finding answer → is_answer answer.status ≡ true
 on_answers command bytes TooLong answer right = rw right refl
 on_answers command bytes (Broken at key) answer right = rw right refl
 on_answers command bytes (Past at name) answer right = rw right refl
 on_answers command bytes (Misnamed errors) answer right = rw right refl
-on_answers command bytes (Whole judged program) answer right = whole_answers command bytes judged program answer right
+on_answers command bytes (Whole program) answer right = whole_answers command bytes program answer right
 
 pub verdict_answers : (command : Command) (bytes : List ℕ) (answer : Answer) → IsVerdict command bytes answer → is_answer answer.status ≡ true
 verdict_answers command bytes answer right = on_answers command bytes right.0 answer right.2
@@ -145,19 +155,11 @@ other_status result other so not_so same = cc (ap is_answer same)
 
 -- ---- what is accepted
 
-abbrev pub Law : Type 0
-Law = (program : Program) → errors_of program ≡ Some [] → (profile : Profile) → Safe program profile
+pub verdict_done : (file bytes : List ℕ) (program : Program) (errors : List Error) → (verdict file bytes program errors).status ≡ Done → errors ≡ []
+verdict_done file bytes program [] done = refl
+verdict_done file bytes program (error ∷ errors) done = absurd (cc)
 
-verdict_done : (file bytes : List ℕ) (counts : Counts) (errors : List Error) → (verdict file bytes counts errors).status ≡ Done → errors ≡ []
-verdict_done file bytes counts [] done = refl
-verdict_done file bytes counts (error ∷ errors) done = absurd (cc)
-
--- what is accepted has no errors
-judged_done : (file bytes : List ℕ) (counts : Counts) (errors : Option (List Error)) → (check_answer file bytes (judged_by counts errors)).status ≡ Done → errors ≡ Some []
-judged_done file bytes counts (Some errors) done = ap (λ (e : List Error). Some e) (verdict_done file bytes counts errors done)
-judged_done file bytes counts None done = absurd (cc)
-
-status_is : (one other : Answer) → one ≡ other → one.status ≡ other.status
+pub status_is : (one other : Answer) → one ≡ other → one.status ≡ other.status
 status_is one other is = ap (λ (a : Answer). a.status) is
 
 undone_broken : (command : Command) (bytes : List ℕ) (at : ℕ) (key : List ℕ) (finding : Finding) (answer : Answer) → Some (Broken at key) ≡ Some finding → AnswersOn command bytes finding answer → answer.status ≡ Done → ⊥
@@ -184,26 +186,25 @@ parse_undone command bytes tokens end (syntax.Syntax number) finding answer is o
 parse_undone command bytes tokens end (syntax.TooDeep from) finding answer is on done = undone_past command bytes _ _ finding answer is on done
 parse_undone command bytes tokens end syntax.Memory finding answer is on done = cc
 
-found_safe : Law → (sums : Sums) (file bytes : List ℕ) (finding : Finding) (answer : Answer) → Found bytes finding → AnswersOn (Check sums file) bytes finding answer → answer.status ≡ Done → SafeBytes bytes
-found_safe law sums file bytes _ answer (too_long past) on done = let status = status_is answer _ on in absurd (cc)
-found_safe law sums file bytes _ answer (no_tokens {finding} why short fails is) on done = absurd (lex_undone (Check sums file) bytes why finding answer is on done)
-found_safe law sums file bytes _ answer (lexed {finding} tokens short lexing few (no_tree why refused is)) on done = absurd (parse_undone (Check sums file) bytes tokens (length bytes) why finding answer is on done)
-found_safe law sums file bytes _ answer (lexed tokens short lexing few (tree source has (passes_limit p is))) on done = let status = status_is answer _ on in absurd (cc)
-found_safe law sums file bytes _ answer (lexed tokens short lexing few (tree source has (misnames errors refused))) on done = let status = status_is answer _ on in absurd (cc)
-found_safe law sums file bytes _ answer (lexed tokens short lexing few (tree source has (inherits p none no_errors is))) on done = let status = status_is answer _ on in absurd (cc)
-found_safe law sums file bytes _ answer (lexed tokens short lexing few (tree source has (too_big p accepts is))) on done = let status = status_is answer _ on in absurd (cc)
-found_safe law sums file bytes _ answer (lexed tokens short lexing few (tree source has (named made accepts is))) on done = record {
+found_safe : (sums : Sums) (file bytes : List ℕ) (finding : Finding) (answer : Answer) → Found bytes finding → AnswersOn (Check sums file) bytes finding answer
+    → PromisesOn (Check sums file) finding answer → answer.status ≡ Done → SafeBytes (profile_of sums) bytes
+found_safe sums file bytes _ answer (too_long past) on safe done = let status = status_is answer _ on in absurd (cc)
+found_safe sums file bytes _ answer (no_tokens {finding} why short fails is) on safe done = absurd (lex_undone (Check sums file) bytes why finding answer is on done)
+found_safe sums file bytes _ answer (lexed {finding} tokens short lexing few (no_tree why refused is)) on safe done = absurd (parse_undone (Check sums file) bytes tokens (length bytes) why finding answer is on done)
+found_safe sums file bytes _ answer (lexed tokens short lexing few (tree source has (passes_limit p is))) on safe done = let status = status_is answer _ on in absurd (cc)
+found_safe sums file bytes _ answer (lexed tokens short lexing few (tree source has (misnames errors refused))) on safe done = let status = status_is answer _ on in absurd (cc)
+found_safe sums file bytes _ answer (lexed tokens short lexing few (tree source has (inherits p none no_errors is))) on safe done = let status = status_is answer _ on in absurd (cc)
+found_safe sums file bytes _ answer (lexed tokens short lexing few (tree source has (too_big p accepts is))) on safe done = let status = status_is answer _ on in absurd (cc)
+found_safe sums file bytes _ answer (lexed tokens short lexing few (tree source has (named made accepts is))) on safe done = record {
   tokens = tokens;
   lexed = lexing;
   source = source;
   parsed = has;
-  safe = record {
-    program = made;
-    plain = is;
-    safe = law made (judged_done file bytes (counts_of made) (errors_of made) (sym (status_is answer (check_answer file bytes (judgement made)) on) ∙ done));
-  };
+  safe = record { program = made; plain = is; safe = safe done };
 }
 
--- an answer of `check` that accepts is of bytes that are safe
-pub accepted_safe : Law → (sums : Sums) (file bytes : List ℕ) (answer : Answer) → IsVerdict (Check sums file) bytes answer → answer.status ≡ Done → SafeBytes bytes
-accepted_safe law sums file bytes answer right done = found_safe law sums file bytes right.0 answer right.1 right.2 done
+-- what is promised of an answer on what is found is promised of one on these bytes
+pub promised : (command : Command) (bytes : List ℕ) (finding : Finding) (answer : Answer) → Found bytes finding → AnswersOn command bytes finding answer → PromisesOn command finding answer → Promises command bytes answer
+promised (Check sums file) bytes finding answer found on safe = λ done. found_safe sums file bytes finding answer found on safe done
+promised (Run limits file entry inputs) bytes finding answer found on safe = tt
+promised (Bench count) bytes finding answer found on safe = tt

@@ -12,8 +12,9 @@ use Rattle.ix_outside.proofs.PrefixesTaken.{TookPrefix-none}
 use Rattle.ix_words.specs.declared.values.Sums.{Sums}
 use Rattle.ix_words.specs.Commands.{Command, Check, Run, Bench}
 use Rattle.ix_tool.specs.Answers.{Answers, IsVerdict, read_failed, file_in, file_of, source_name, source_bytes}
-use Rattle.ix_tool.specs.Ends.{WasUnread, EndsUnread, TookUnread, SafeBytes, bytes_of}
-use Rattle.ix_tool.proofs.Answered.{Law, read_right, verdict_answers, other_status, accepted_safe}
+use Rattle.ix_tool.specs.Ends.{WasUnread, EndsUnread, TookUnread, SafeBytes, Promises, bytes_of}
+use Rattle.ix_tool.specs.Judgements.{profile_of}
+use Rattle.ix_tool.proofs.Answered.{read_right, verdict_answers, other_status}
 
 -- the answer where the file was not read
 abbrev pub unread_answer : Command → Answer
@@ -21,7 +22,7 @@ unread_answer command = err_answer ReadFault (read_failed (source_name command))
 
 -- the only right answer on what was handed out, or that on a file that was not read
 abbrev pub Obeys : (List ℕ → Type 0) → ℕ → ℕ → Command → List ℕ → Answer → Type 0
-Obeys IsSure before after command given a = IsOnly (IsVerdict command (source_bytes command given)) a ⊎ (WasUnread IsSure before after (file_in command) × (a ≡ unread_answer command))
+Obeys IsSure before after command given a = (IsOnly (IsVerdict command (source_bytes command given)) a × Promises command (source_bytes command given) a) ⊎ (WasUnread IsSure before after (file_in command) × (a ≡ unread_answer command))
 
 answers_some : (asked : Option Command) (command : Command) (given : List ℕ) (a : Answer) → Some command ≡ asked → IsVerdict command (source_bytes command given) a → Answers asked given a
 answers_some asked command given a is v = subst (λ (o : Option Command). Answers o given a) is v
@@ -51,15 +52,26 @@ obeyed_answer IsSure before after asked command given result old new is d so =
     let w = d.whole (other_status result WriteFault so refl) (other_status result Memory so refl) in
     let e = w.0 in
     elim e.right [
-      | inl only ↦ record { answer = e.answer; right = answers_some asked command given e.answer is only.0; status = e.status; out = e.out; err = e.err }
+      | inl only ↦ record { answer = e.answer; right = answers_some asked command given e.answer is only.0.0; status = e.status; out = e.out; err = e.err }
       | inr u ↦ absurd (other_status result ReadFault so refl (e.status ∙ ap (λ (b : Answer). b.status) u.1))
     ]
 
-pub obeyed_safe : Law → (IsSure : List ℕ → Type 0) (before after : ℕ) (asked : Option Command) (command : Command) (given : List ℕ) (result : Status) (old new : Sinks) (sums : Sums) (file : List ℕ)
-    → Some command ≡ asked → Delivers (Obeys IsSure before after command given) result old new → asked ≡ Some (Check sums file) → result ≡ Done → SafeBytes given
-obeyed_safe law IsSure before after asked command given result old new sums file is d checks done =
-    let e = obeyed_answer IsSure before after asked command given result old new is d (ap is_answer done) in
-    accepted_safe law sums file given e.answer (subst (λ (o : Option Command). Answers o given e.answer) checks e.right) (sym e.status ∙ done)
+promise_kept : (command : Command) (given : List ℕ) (answer : Answer) (sums : Sums) (file : List ℕ) → command ≡ Check sums file → Promises command (source_bytes command given) answer → answer.status ≡ Done → SafeBytes (profile_of sums) given
+promise_kept command given answer sums file is promises done = (subst (λ (c : Command). Promises c (source_bytes c given) answer) is promises) done
+
+asked_is : (asked : Option Command) (command other : Command) → Some command ≡ asked → asked ≡ Some other → command ≡ other
+asked_is asked command other is checks = let e : Some command ≡ Some other = is ∙ checks in cc
+
+pub obeyed_safe : (IsSure : List ℕ → Type 0) (before after : ℕ) (asked : Option Command) (command : Command) (given : List ℕ) (result : Status) (old new : Sinks) (sums : Sums) (file : List ℕ)
+    → Some command ≡ asked → Delivers (Obeys IsSure before after command given) result old new → asked ≡ Some (Check sums file) → result ≡ Done → SafeBytes (profile_of sums) given
+obeyed_safe IsSure before after asked command given result old new sums file is d checks done =
+    let so : is_answer result ≡ true = ap is_answer done in
+    let w = d.whole (other_status result WriteFault so refl) (other_status result Memory so refl) in
+    let e = w.0 in
+    elim e.right [
+      | inl only ↦ promise_kept command given e.answer sums file (asked_is asked command (Check sums file) is checks) only.1 (sym e.status ∙ done)
+      | inr u ↦ absurd (other_status result ReadFault so refl (e.status ∙ ap (λ (b : Answer). b.status) u.1))
+    ]
 
 -- ---- faults
 
@@ -69,7 +81,7 @@ obeyed_read_fault IsSure before after asked command given result old new is d fa
     let w = d.whole (λ other. cc (fault, other)) (λ other. cc (fault, other)) in
     let e = w.0 in
     elim e.right [
-      | inl only ↦ absurd (cc (sym (ap is_answer (sym e.status ∙ fault)) ∙ verdict_answers command (source_bytes command given) e.answer only.0))
+      | inl only ↦ absurd (cc (sym (ap is_answer (sym e.status ∙ fault)) ∙ verdict_answers command (source_bytes command given) e.answer only.0.0))
       | inr u ↦ record {
         unread = unread_named IsSure before after asked command is u.0;
         out = took_none e.answer.out old.taken.out new.taken.out (unread_out command e.answer u.1) e.out;
@@ -89,7 +101,7 @@ took_part : (IsSure : List ℕ → Type 0) (before after : ℕ) (asked : Option 
     → TookPart (Obeys IsSure before after command given) old new → TookPart (Answers asked given) old new ⊎ TookUnread IsSure before after (file_of asked) old new
 took_part IsSure before after asked command given old new is part =
     elim part.right [
-      | inl only ↦ inl record { answer = part.answer; right = answers_some asked command given part.answer is only.0; out = part.out; err = part.err }
+      | inl only ↦ inl record { answer = part.answer; right = answers_some asked command given part.answer is only.0.0; out = part.out; err = part.err }
       | inr u ↦ inr (took_unread IsSure before after asked command part.answer old new is u.0 u.1 part.out part.err)
     ]
 
@@ -110,7 +122,7 @@ obeyed_memory IsSure before after asked command given result old new is d wanted
       | inl part ↦ elim (took_part IsSure before after asked command given old.taken new.taken is part) [ inl p ↦ inl p | inr u ↦ inr (inl u) ]
       | inr rest ↦ elim rest [
         | inl w ↦ elim w.right [
-          | inl only ↦ inr (inr (inl record { answer = w.answer; right = answers_some asked command given w.answer is only.0; out = w.out; err = w.err }))
+          | inl only ↦ inr (inr (inl record { answer = w.answer; right = answers_some asked command given w.answer is only.0.0; out = w.out; err = w.err }))
           | inr u ↦ inr (inr (inr record { out = TookPrefix-none w.answer.out old.taken.out new.taken.out (unread_out command w.answer u.1) w.out; err = w.err }))
         ]
         | inr none ↦ inr (inr (inr none))
@@ -134,9 +146,9 @@ obeyed_exact IsSure before after asked command given result old new held is d wh
     let e = w.0 in
     elim e.right [
       | inl only ↦
-          let so : is_answer result ≡ true = ap is_answer e.status ∙ verdict_answers command (source_bytes command given) e.answer only.0 in
+          let so : is_answer result ≡ true = ap is_answer e.status ∙ verdict_answers command (source_bytes command given) e.answer only.0.0 in
           let also : IsVerdict command (source_bytes command (bytes_of (file_in command) held)) answer = subst (λ (o : Option Command). Answers o (bytes_of (file_of o) held) answer) (sym is) right in
-          let same = only.1 answer (read_right command held given answer (whole so) also) in
+          let same = only.0.1 answer (read_right command held given answer (whole so) also) in
           record {
             status = e.status ∙ ap (λ (b : Answer). b.status) (sym same);
             out = subst (λ (b : Answer). Took b.out old.taken.out new.taken.out) (sym same) e.out;

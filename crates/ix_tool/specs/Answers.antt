@@ -2,15 +2,18 @@
 use Rattle.std.specs.Prelude.{◌≡◌, ℕ, List, [], ◌∷◌, ◌++◌, Option, Some, None, length, codes, decimal, option_and_then}
 use Rattle.ix_core.specs.declared.error.Error.{Error}
 use Rattle.ix_core.specs.declared.program.Program.{Program}
-use Rattle.ix_check.specs.declared.check.Counts.{Counts}
+use Rattle.ix_core.specs.declared.fact.Profile.TheVariants.{Int32}
+use Rattle.ix_check.specs.Counts.{counts_of}
 use Rattle.ix_gen.specs.Workload.{workload}
 use Rattle.ix_name_report.specs.Texts.{misnamed}
-use Rattle.ix_report.specs.Texts.{line, accepted, rejected, broken, past_limit, past_bytes}
+use Rattle.ix_report.specs.Reports.{report}
+use Rattle.ix_report.specs.Texts.{line, accepted, broken, past_limit, past_bytes}
 use Rattle.ix_report.specs.Runs.{bench_accepted, bench_rejected}
 use Rattle.ix_words.specs.Words.{Text}
 use Rattle.ix_words.specs.Commands.{Command, Check, Run, Bench}
 use Rattle.ix_answer.specs.Answer.{Answer, out_answer, err_answer}
-use Rattle.ix_finding.specs.Found.{Finding, TooLong, Broken, Past, Misnamed, Whole, Judgement, NotBuilt, Judged, Found}
+use Rattle.ix_finding.specs.Found.{Finding, TooLong, Broken, Past, Misnamed, Whole, Found}
+use Rattle.ix_tool.specs.Judgements.{Judgement, NotBuilt, Judged, Judges, profile_of}
 use Rattle.ix_tool.specs.Runs.{RunAnswers}
 use Rattle.ix_answer.specs.declared.status.Status.TheVariants.{Done, Rejected, Usage, Limit, Unbuilt}
 
@@ -52,29 +55,29 @@ read_failed file = file ++ line (codes ": read failed")
 abbrev pub unbuilt : List ℕ → Answer
 unbuilt name = err_answer Unbuilt (name ++ line (codes ": not built yet"))
 
--- the answer of `check` on a source with these counts and errors
-abbrev pub verdict : List ℕ → List ℕ → Counts → List Error → Answer
-verdict name bytes counts [] = out_answer Done (accepted counts.methods counts.accesses)
-verdict name bytes counts (error ∷ errors) = out_answer Rejected (rejected name bytes (error ∷ errors))
+-- the answer of `check` on a source with this program and these errors
+abbrev pub verdict : List ℕ → List ℕ → Program → List Error → Answer
+verdict name bytes program [] = out_answer Done (accepted (counts_of program).methods (counts_of program).accesses)
+verdict name bytes program (error ∷ errors) = out_answer Rejected (report program name bytes (error ∷ errors))
 
-abbrev pub check_answer : List ℕ → List ℕ → Judgement → Answer
-check_answer name bytes NotBuilt = unbuilt name
-check_answer name bytes (Judged counts errors) = verdict name bytes counts errors
+abbrev pub check_answer : List ℕ → List ℕ → Program → Judgement → Answer
+check_answer name bytes program NotBuilt = unbuilt name
+check_answer name bytes program (Judged errors) = verdict name bytes program errors
 
 -- the answer of `bench`
-abbrev pub bench_verdict : ℕ → Counts → List Error → Answer
-bench_verdict count counts [] = out_answer Done (bench_accepted count counts.methods counts.accesses)
-bench_verdict count counts (error ∷ errors) = out_answer Rejected (bench_rejected count (length (error ∷ errors)))
+abbrev pub bench_verdict : ℕ → Program → List Error → Answer
+bench_verdict count program [] = out_answer Done (bench_accepted count (counts_of program).methods (counts_of program).accesses)
+bench_verdict count program (error ∷ errors) = out_answer Rejected (bench_rejected count (length (error ∷ errors)))
 
-abbrev pub bench_answer : ℕ → Judgement → Answer
-bench_answer count NotBuilt = unbuilt (bench_name count)
-bench_answer count (Judged counts errors) = bench_verdict count counts errors
+abbrev pub bench_answer : ℕ → Program → Judgement → Answer
+bench_answer count program NotBuilt = unbuilt (bench_name count)
+bench_answer count program (Judged errors) = bench_verdict count program errors
 
--- This is the answer to a command on a source without errors on names and within the limits.
-abbrev pub AnswersWhole : Command → List ℕ → Judgement → Program → Answer → Type 0
-AnswersWhole (Check sums file) bytes judged program answer = answer ≡ check_answer file bytes judged
-AnswersWhole (Run limits file entry inputs) bytes judged program answer = RunAnswers program bytes limits entry inputs answer
-AnswersWhole (Bench count) bytes judged program answer = answer ≡ bench_answer count judged
+-- This is the answer to a command on a source without errors on names and within the limits, by its program. A run isn't judged.
+abbrev pub AnswersWhole : Command → List ℕ → Program → Answer → Type 0
+AnswersWhole (Check sums file) bytes program answer = (judgement : Judgement) × Judges program (profile_of sums) judgement × (answer ≡ check_answer file bytes program judgement)
+AnswersWhole (Run limits file entry inputs) bytes program answer = RunAnswers program bytes limits entry inputs answer
+AnswersWhole (Bench count) bytes program answer = (judgement : Judgement) × Judges program Int32 judgement × (answer ≡ bench_answer count program judgement)
 
 -- This is the answer to a command on a source with these bytes, of which this is found.
 abbrev pub AnswersOn : Command → List ℕ → Finding → Answer → Type 0
@@ -82,7 +85,7 @@ AnswersOn command bytes TooLong answer = answer ≡ err_answer Limit (past_bytes
 AnswersOn command bytes (Broken at key) answer = answer ≡ out_answer Rejected (broken (source_name command) bytes at key)
 AnswersOn command bytes (Past at name) answer = answer ≡ err_answer Limit (past_limit (source_name command) bytes at name)
 AnswersOn command bytes (Misnamed errors) answer = answer ≡ out_answer Rejected (misnamed (source_name command) bytes errors)
-AnswersOn command bytes (Whole judged program) answer = AnswersWhole command bytes judged program answer
+AnswersOn command bytes (Whole program) answer = AnswersWhole command bytes program answer
 
 -- This is the answer to a command on a source with these bytes.
 abbrev pub IsVerdict : Command → List ℕ → Answer → Type 0

@@ -4,7 +4,15 @@ use Rattle.ix_lexer.specs.declared.token.Token.{Token}
 use Rattle.ix_lexer.specs.Tokens.{Tokens}
 use Rattle.ix_tree.specs.declared.decl.Unit.{Unit as Source}
 use Rattle.ix_grammar.specs.Refusals.{HasTree}
+use Rattle.ix_core.specs.declared.fact.Profile.{Profile}
+use Rattle.ix_core.specs.declared.program.Program.{Program}
+use Rattle.ix_core.specs.Safe.{Safe}
+use Rattle.ix_finding.specs.Found.{Finding, Whole}
 use Rattle.ix_finding.specs.Promise.{IsSafe}
+use Rattle.ix_answer.specs.Answer.{Answer}
+use Rattle.ix_answer.specs.declared.status.Status.TheVariants.{Done}
+use Rattle.ix_words.specs.Commands.{Command, Check, Run, Bench}
+use Rattle.ix_tool.specs.Judgements.{profile_of}
 use Rattle.ix_answer.specs.Ends.{Texts}
 use Rattle.ix_outside.specs.Outside.{Files, bytes_under, Rose, Took, TookPrefix}
 use Rattle.ix_tool.specs.Answers.{read_failed}
@@ -39,9 +47,23 @@ pub record TookUnread (IsSure : List ℕ → Type 0) (before after : ℕ) (named
   pub err : TookPrefix (read_failed unread.file) old.err new.err
 
 -- The bytes are a source whose program is safe: no run of it indexes outside an array or makes one of negative length.
-pub record SafeBytes (bytes : List ℕ) : Type 0 where
+pub record SafeBytes (profile : Profile) (bytes : List ℕ) : Type 0 where
   pub tokens : List Token
   pub lexed : Tokens bytes tokens
   pub source : Source
   pub parsed : HasTree tokens source
-  pub safe : IsSafe source
+  pub safe : IsSafe profile source
+
+-- ---- what is promised of an answer: what `check` accepts is safe
+
+abbrev pub PromisesWhole : Command → Program → Answer → Type 0
+PromisesWhole (Check sums file) program answer = answer.status ≡ Done → Safe program (profile_of sums)
+PromisesWhole _ program answer = Unit {0}
+
+abbrev pub PromisesOn : Command → Finding → Answer → Type 0
+PromisesOn command (Whole program) answer = PromisesWhole command program answer
+PromisesOn command _ answer = Unit {0}
+
+abbrev pub Promises : Command → List ℕ → Answer → Type 0
+Promises (Check sums file) bytes answer = answer.status ≡ Done → SafeBytes (profile_of sums) bytes
+Promises _ bytes answer = Unit {0}

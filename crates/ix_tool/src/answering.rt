@@ -3,9 +3,12 @@ ghost use Rattle.std.specs.Prelude.{◌≡◌, ◌≢◌, ◌≤◌, length, IfO
 ghost use Rattle.ix_answer.specs.Replies.{shown};
 ghost use Rattle.ix_tool.specs.Answers as spec;
 ghost use Rattle.ix_finding.specs.Found.{TooLong};
-ghost use Rattle.ix_finding.specs.Findings.{seen, judged, IsPlaced};
+ghost use Rattle.ix_finding.specs.Findings.{seen, IsPlaced, HasFormed};
+ghost use Rattle.ix_core.specs.Formed.{Formed};
+ghost use Rattle.ix_tool.specs.Judgements as judgements;
+ghost use Rattle.ix_tool.specs.Ends.{PromisesWhole, PromisesOn, Promises};
 ghost use Rattle.ix_answer.specs.Delivery.{Delivers, IsOnly, sinks};
-ghost use Rattle.ix_words.specs.Commands.{HasLimits};
+ghost use Rattle.ix_words.specs.Commands.{HasLimits, Check, Bench};
 ghost use Rattle.ix_words.specs.Shown.{shown as command_of};
 
 use crate::playing::play;
@@ -15,41 +18,59 @@ use crate::reply::{
 };
 use crate::source::source_name;
 use ix_answer::{Reply, Status, say, wanting};
-use ix_core::Program;
-use ix_finding::{Finding, Judgement, of_bytes};
+use ix_check::{CheckError, check_program};
+use ix_core::{Profile, Program};
+use ix_finding::{Finding, of_bytes};
 use ix_outside::Sink;
-use ix_words::Command;
+use ix_words::{Command, Sums};
 use std::alloc::{AllocError, Global};
 
-/// The reply of `check` on a source of which the rules say this.
-fn check_reply(
-    alloc: Global,
-    name: &str,
-    bytes: &[u8],
-    judgement: &Judgement,
-) -> Result<Reply, AllocError>
-    requires { length bytes.now ≤ 1048576 }
-    ensures { IfOk result (λ reply. shown reply ≡ spec.check_answer name.now bytes.now (judged judgement.now)) }
+/// How sums count.
+fn profile_of(sums: Sums) -> Profile
+    ensures { result ≡ judgements.profile_of sums }
 {
-    match judgement {
-        Judgement::NotBuilt => unbuilt_reply(alloc, name),
-        Judgement::Judged(counts, errors) => judged_reply(alloc, name, bytes, *counts, errors),
+    match sums {
+        Sums::Ideal => Profile::Ideal,
+        Sums::Int32 => Profile::Int32,
     }
 }
 
-/// The reply of `bench` on a workload of which the rules say this.
+/// The reply of `check` on a source with this program.
+fn check_reply(
+    alloc: Global,
+    sums: Sums,
+    name: &str,
+    bytes: &[u8],
+    program: &Program,
+) -> Result<Reply, AllocError>
+    requires short { length bytes.now ≤ 1048576 }
+    requires formed { Formed program.now }
+    ensures answers { IfOk result (λ reply. spec.AnswersWhole (Check sums name.now) bytes.now program.now (shown reply)) }
+    ensures safe { IfOk result (λ reply. PromisesWhole (Check sums name.now) program.now (shown reply)) }
+{
+    match check_program(alloc, program, profile_of(sums)) {
+        Ok(errors) => judged_reply(alloc, name, bytes, program, &errors),
+        Err(CheckError::Unbuilt) => unbuilt_reply(alloc, name),
+        Err(CheckError::Memory) => Err(AllocError),
+    }
+}
+
+/// The reply of `bench` on a workload with this program.
 fn workload_reply(
     alloc: Global,
     name: &str,
     count: u32,
-    judgement: &Judgement,
+    bytes: &[u8],
+    program: &Program,
 ) -> Result<Reply, AllocError>
-    requires { name.now ≡ spec.bench_name count }
-    ensures { IfOk result (λ reply. shown reply ≡ spec.bench_answer count (judged judgement.now)) }
+    requires name { name.now ≡ spec.bench_name count }
+    requires formed { Formed program.now }
+    ensures { IfOk result (λ reply. spec.AnswersWhole (Bench count) bytes.now program.now (shown reply)) }
 {
-    match judgement {
-        Judgement::NotBuilt => unbuilt_reply(alloc, name),
-        Judgement::Judged(counts, errors) => bench_reply(alloc, count, *counts, errors),
+    match check_program(alloc, program, Profile::Int32) {
+        Ok(errors) => bench_reply(alloc, count, program, &errors),
+        Err(CheckError::Unbuilt) => unbuilt_reply(alloc, name),
+        Err(CheckError::Memory) => Err(AllocError),
     }
 }
 
@@ -59,7 +80,6 @@ fn answer_whole<K: Sink, E: Sink>(
     command: &Command<'_>,
     name: &str,
     bytes: &[u8],
-    judgement: &Judgement,
     program: &Program,
     out: &mut K,
     err: &mut E,
@@ -67,12 +87,19 @@ fn answer_whole<K: Sink, E: Sink>(
     requires limits { HasLimits (command_of command.now) }
     requires name { name.now ≡ spec.source_name (command_of command.now) }
     requires short { length bytes.now ≤ 1048576 }
-    ensures { Delivers (spec.AnswersWhole (command_of command.now) bytes.now (judged judgement.now) program.now) result (sinks (K.taken out.old) (K.faults out.old) (E.taken err.old) (E.faults err.old) (E.refused err.old))
+    requires formed { Formed program.now }
+    ensures { Delivers (λ a. spec.AnswersWhole (command_of command.now) bytes.now program.now a × PromisesWhole (command_of command.now) program.now a) result (sinks (K.taken out.old) (K.faults out.old) (E.taken err.old) (E.faults err.old) (E.refused err.old))
         (sinks (K.taken out.new) (K.faults out.new) (E.taken err.new) (E.faults err.new) (E.refused err.new)) }
 {
     match command {
-        Command::Check { .. } => say(check_reply(alloc, name, bytes, judgement), out, err),
-        Command::Bench(count) => say(workload_reply(alloc, name, *count, judgement), out, err),
+        Command::Check { sums, .. } => {
+            say(check_reply(alloc, *sums, name, bytes, program), out, err)
+        }
+        Command::Bench(count) => say(
+            workload_reply(alloc, name, *count, bytes, program),
+            out,
+            err,
+        ),
         Command::Run {
             limits,
             entry,
@@ -105,7 +132,8 @@ fn answer_found<K: Sink, E: Sink>(
     requires name { name.now ≡ spec.source_name (command_of command.now) }
     requires short { seen finding.now ≢ TooLong → length bytes.now ≤ 1048576 }
     requires placed { IsPlaced (length bytes.now) (seen finding.now) }
-    ensures { Delivers (spec.AnswersOn (command_of command.now) bytes.now (seen finding.now)) result (sinks (K.taken out.old) (K.faults out.old) (E.taken err.old) (E.faults err.old) (E.refused err.old))
+    requires formed { HasFormed (seen finding.now) }
+    ensures { Delivers (λ a. spec.AnswersOn (command_of command.now) bytes.now (seen finding.now) a × PromisesOn (command_of command.now) (seen finding.now) a) result (sinks (K.taken out.old) (K.faults out.old) (E.taken err.old) (E.faults err.old) (E.refused err.old))
         (sinks (K.taken out.new) (K.faults out.new) (E.taken err.new) (E.faults err.new) (E.refused err.new)) }
 {
     match finding {
@@ -119,9 +147,7 @@ fn answer_found<K: Sink, E: Sink>(
                 err,
             )
         }
-        Finding::Whole(judgement, program) => {
-            answer_whole(alloc, command, name, bytes, judgement, program, out, err)
-        }
+        Finding::Whole(program) => answer_whole(alloc, command, name, bytes, program, out, err),
     }
 }
 
@@ -134,7 +160,7 @@ pub(crate) fn answer<K: Sink, E: Sink>(
     err: &mut E,
 ) -> Status
     requires limits { HasLimits (command_of command.now) }
-    ensures { Delivers (IsOnly (spec.IsVerdict (command_of command.now) bytes.now)) result (sinks (K.taken out.old) (K.faults out.old) (E.taken err.old) (E.faults err.old) (E.refused err.old))
+    ensures { Delivers (λ a. IsOnly (spec.IsVerdict (command_of command.now) bytes.now) a × Promises (command_of command.now) bytes.now a) result (sinks (K.taken out.old) (K.faults out.old) (E.taken err.old) (E.faults err.old) (E.refused err.old))
         (sinks (K.taken out.new) (K.faults out.new) (E.taken err.new) (E.faults err.new) (E.refused err.new)) }
 {
     let Ok(name) = source_name(alloc, command) else {

@@ -1,5 +1,6 @@
 //! The replies to commands, before they are written.
 ghost use Rattle.std.specs.Prelude.{◌≡◌, ◌≤◌, length, IfOk, string_bytes};
+ghost use Rattle.ix_core.specs.Formed.{Formed};
 ghost use Rattle.ix_answer.specs.Answer.{out_answer, err_answer};
 ghost use Rattle.ix_answer.specs.Replies.{shown};
 ghost use Rattle.ix_tool.specs.Answers.{unbuilt as unbuilt_answer, verdict, bench_verdict, usage, read_failed};
@@ -7,13 +8,11 @@ ghost use Rattle.ix_report.specs.Texts as text;
 ghost use Rattle.ix_name_report.specs.Texts as names_text;
 
 use ix_answer::{Reply, Status, on_err, on_out};
-use ix_check::Counts;
-use ix_core::Error;
+use ix_check::count_program;
+use ix_core::{Error, Program};
 use ix_meaning::NameError;
 use ix_name_report::misnamed;
-use ix_report::{
-    accepted, bench_accepted, bench_rejected, broken, past_bytes, past_limit, rejected,
-};
+use ix_report::{accepted, bench_accepted, bench_rejected, broken, past_bytes, past_limit, report};
 use ix_text::LineMap;
 use std::alloc::{AllocError, Global};
 
@@ -22,19 +21,21 @@ pub(crate) fn judged_reply(
     alloc: Global,
     name: &str,
     bytes: &[u8],
-    counts: Counts,
+    program: &Program,
     errors: &[Error],
 ) -> Result<Reply, AllocError>
-    requires { length bytes.now ≤ 1048576 }
-    ensures { IfOk result (λ reply. shown reply ≡ verdict name.now bytes.now counts errors.now) }
+    requires short { length bytes.now ≤ 1048576 }
+    requires formed { Formed program.now }
+    ensures { IfOk result (λ reply. shown reply ≡ verdict name.now bytes.now program.now errors.now) }
 {
     if errors.is_empty() {
+        let counts = count_program(program);
         let out = accepted(alloc, counts.methods, counts.accesses)?;
         return Ok(on_out(alloc, Status::Done, out));
     }
     let lines = LineMap::new(alloc, bytes)?;
     let end = bytes.len() as u32;
-    let out = rejected(alloc, &lines, end, name, errors)?;
+    let out = report(alloc, program, &lines, end, name, errors)?;
     Ok(on_out(alloc, Status::Rejected, out))
 }
 
@@ -108,12 +109,14 @@ pub(crate) fn unbuilt_reply(alloc: Global, name: &str) -> Result<Reply, AllocErr
 pub(crate) fn bench_reply(
     alloc: Global,
     count: u32,
-    counts: Counts,
+    program: &Program,
     errors: &[Error],
 ) -> Result<Reply, AllocError>
-    ensures { IfOk result (λ reply. shown reply ≡ bench_verdict count counts errors.now) }
+    requires formed { Formed program.now }
+    ensures { IfOk result (λ reply. shown reply ≡ bench_verdict count program.now errors.now) }
 {
     if errors.is_empty() {
+        let counts = count_program(program);
         let out = bench_accepted(alloc, count, counts.methods, counts.accesses)?;
         return Ok(on_out(alloc, Status::Done, out));
     }

@@ -11,13 +11,13 @@ ghost use Rattle.ix_answer.specs.Ends.{texts, EndsWell, TookPart, TookWanted, To
 ghost use Rattle.ix_answer.specs.Replies.{shown};
 ghost use Rattle.ix_tool.specs.Answers.{Answers, IsVerdict, read_failed, file_in, file_of, source_bytes, source_name as source_name_of};
 ghost use Rattle.ix_answer.specs.Delivery.{Delivers, IsOnly, sinks};
-ghost use Rattle.ix_tool.specs.Ends.{bytes_of, names_of, WasUnread, SafeBytes, EndsUnread, TookUnread};
+ghost use Rattle.ix_tool.specs.Ends.{bytes_of, names_of, WasUnread, SafeBytes, Promises, EndsUnread, TookUnread};
+ghost use Rattle.ix_tool.specs.Judgements.{profile_of};
 
 use crate::answering::answer;
 use crate::reply::{unread_reply, usage_reply};
 use crate::source::{source_name, source_of};
 use ix_answer::{Reply, Status, say, wanting};
-use ix_check::accepted_is_safe;
 use ix_outside::{ReadError, Sink, Source};
 use ix_words::{Command, read_words};
 use std::alloc::{AllocError, Global};
@@ -39,7 +39,7 @@ fn obey<S: Source, K: Sink, E: Sink>(
     err: &mut E,
 ) -> Status
     requires limits { HasLimits (shown_command command.now) }
-    ensures delivers { Delivers (λ a. IsOnly (IsVerdict (shown_command command.now) (source_bytes (shown_command command.now) (S.given files.new))) a
+    ensures delivers { Delivers (λ a. (IsOnly (IsVerdict (shown_command command.now) (source_bytes (shown_command command.now) (S.given files.new))) a × Promises (shown_command command.now) (source_bytes (shown_command command.now) (S.given files.new)) a)
         ⊎ (WasUnread (S.IsSure files.old) (S.faults files.old) (S.faults files.new) (file_in (shown_command command.now))
         × (a ≡ err_answer Status.ReadFault (read_failed (source_name_of (shown_command command.now)))))) result (sinks (K.taken out.old) (K.faults out.old) (E.taken err.old) (E.faults err.old) (E.refused err.old))
         (sinks (K.taken out.new) (K.faults out.new) (E.taken err.new) (E.faults err.new) (E.refused err.new)) }
@@ -73,8 +73,7 @@ fn obey<S: Source, K: Sink, E: Sink>(
 /// nothing else is opened. `Done`, `Rejected`, `Limit`, `Stopped`, `StepsSpent`, `InputsRefused` and `Unbuilt` come exactly where the answer to
 /// the command on the bytes that were handed out has that status: the first of too many bytes (`Limit`), a lexical error (`Rejected`) or too
 /// many tokens (`Limit`), a syntax error (`Rejected`) or too great a height (`Limit`), limits of its classes (`Limit`), errors on names
-/// (`Rejected`), limits of its methods (`Limit`); then for `check` and `bench` a form that isn't built yet (`Unbuilt`) or rule errors
-/// (`Rejected`), and for `run` inputs that aren't right (`InputsRefused`), or how the run ends within its steps. `Done` of `check` promises
+/// (`Rejected`), limits of its methods (`Limit`); then for `check` and `bench` rule errors (`Rejected`), and for `run` inputs that aren't right (`InputsRefused`), or how the run ends within its steps. `Done` of `check` promises
 /// besides that no run of the program of these bytes, for any inputs that meet the entry's annotations and any number of steps, indexes outside
 /// an array or makes one of negative length. A run writes each value as soon as it is printed.
 ///
@@ -106,7 +105,7 @@ pub fn run_tool<S: Source, K: Sink, E: Sink>(
     // a source no run of which indexes outside an array.
     ensures answer { is_answer result ≡ true
         → EndsWell (Answers (command_of (words_of words.now)) (S.given files.new)) result (texts (K.taken out.old) (E.taken err.old)) (texts (K.taken out.new) (E.taken err.new)) }
-    ensures safe { (sums : Sums) (file : List ℕ) → command_of (words_of words.now) ≡ Some (Check sums file) → result ≡ Status.Done → SafeBytes (S.given files.new) }
+    ensures safe { (sums : Sums) (file : List ℕ) → command_of (words_of words.now) ≡ Some (Check sums file) → result ≡ Status.Done → SafeBytes (profile_of sums) (S.given files.new) }
 
     // A command opens its file, once, and nothing else is opened; nothing is where memory was wanting for the words. Where the source tells its
     // files, what it handed out is a front of that file: the whole of it where the answer is one on it, or more of it than a source may have.
@@ -152,7 +151,6 @@ pub fn run_tool<S: Source, K: Sink, E: Sink>(
     ensures files { S.files files.new ≡ S.files files.old }
     ensures keeps_sure { (other : List ℕ) → S.IsSure files.old other → S.IsSure files.new other }
 {
-    accepted_is_safe();
     match read_words(alloc, words) {
         Ok(Some(command)) => obey(alloc, &command, files, out, err),
         Ok(None) => say(usage_reply(alloc), out, err),

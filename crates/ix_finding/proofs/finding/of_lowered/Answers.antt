@@ -10,12 +10,12 @@ use Rattle.ix_finding.proofs.finding.of_lowered.Goals as goal
 pub returns-in-Ok-clause-right : goal.returns-in-Ok-clause-right
 returns-in-Ok-clause-right c =
     let made : program (names c.args.unit.now) c.args.unit.now.classes ≡ Ok _ = ap (λ n. program n c.args.unit.now.classes) (sym c.requires.table) ∙ c.in-Ok.ensures.program in
-    IfOk-weaker c.of_program.result _ _ (λ finding is. subst (λ f. spec.FoundIn c.args.end c.args.unit.now f) (sym is) (spec.named _ c.requires.accepts made)) c.of_program.ensures.found
+    spec.named _ c.requires.accepts made
 
 pub returns-in-Ok-clause-only : goal.returns-in-Ok-clause-only
 returns-in-Ok-clause-only c = λ other found.
     let made : program (names c.args.unit.now) c.args.unit.now.classes ≡ Ok _ = ap (λ n. program n c.args.unit.now.classes) (sym c.requires.table) ∙ c.in-Ok.ensures.program in
-    IfOk-weaker c.of_program.result _ _ (λ finding is. is ∙ accepted_only c.args.end c.args.unit.now _ other c.requires.accepts made found) c.of_program.ensures.found
+    accepted_only c.args.end c.args.unit.now _ other c.requires.accepts made found
 
 pub returns-in-Some-clause-right : goal.returns-in-Some-clause-right
 returns-in-Some-clause-right c =
@@ -31,8 +31,7 @@ pub returns-in-Some-clause-placed : goal.returns-in-Some-clause-placed
 returns-in-Some-clause-placed c = unlowered_placed _ _ _ c.in-Some.ensures
 
 pub returns-in-Ok-clause-formed : goal.returns-in-Ok-clause-formed
-returns-in-Ok-clause-formed c =
-    IfOk-weaker c.of_program.result _ _ (λ finding is. subst HasFormed (sym is) (c.in-Ok.ensures.formed c.requires.parsed c.requires.accepts c.requires.table)) c.of_program.ensures.found
+returns-in-Ok-clause-formed c = c.in-Ok.ensures.formed c.requires.parsed c.requires.accepts c.requires.table
 
 pub returns-in-Some-clause-formed : goal.returns-in-Some-clause-formed
 returns-in-Some-clause-formed c = unlowered_formed _ _ _ c.in-Some.ensures

@@ -40,7 +40,7 @@ returns-in-Ok-Some-clause-memory g c = λ is.
 pub returns-in-Ok-Some-clause-safe : goal.returns-in-Ok-Some-clause-safe
 returns-in-Ok-Some-clause-safe g c = λ sums file checks done.
     let known : Some (shown c.in-Ok-Some.command) ≡ command_of (words_of c.args.words.now) = search rules in
-    obeyed_safe c.accepted_is_safe.ensures (g.S.Source.IsSure c.args.files.now) (g.S.Source.faults c.args.files.now) (g.S.Source.faults c.obey.new.files)
+    obeyed_safe (g.S.Source.IsSure c.args.files.now) (g.S.Source.faults c.args.files.now) (g.S.Source.faults c.obey.new.files)
     (command_of (words_of c.args.words.now)) (shown c.in-Ok-Some.command) (g.S.Source.given c.obey.new.files) c.obey.result _ _ sums file known c.obey.ensures.delivers checks done
 
 pub returns-in-Ok-Some-clause-names : goal.returns-in-Ok-Some-clause-names

@@ -1,0 +1,82 @@
+//! The check of a whole program.
+ghost use Rattle.std.specs.Prelude.{◌≡◌, ◌≢◌, ◌+◌, ◌≤◌, [], length, IfOk, MatchResult};
+ghost use Rattle.ix_core.specs.Formed.{Formed};
+ghost use Rattle.ix_core.specs.Safe.{Safe};
+ghost use Rattle.ix_check.specs.Judged.{CanCheck};
+ghost use Rattle.ix_check.specs.declared.error.CheckError.TheVariants.{Memory};
+ghost use Rattle.ix_errors.specs.MethodErrors.{IsError, nodes_below};
+ghost use Rattle.ix_listing.specs.ErrorList.{IsErrorList};
+
+use crate::error::CheckError;
+use crate::judged::can_check;
+use ix_core::{Error, Profile, Program};
+use ix_errors::program_errors;
+use ix_listing::list_errors;
+use ix_ready::{loops_are_in_order, names_are_small, overridden_is_there};
+use ix_solve::Steps;
+use ix_sound::soundness;
+use std::alloc::{AllocError, Global};
+use std::marker::Brand;
+use std::sync::ledger::{Blank, Ledger};
+
+/// The errors of the program in a profile: all that the rules derive at the least labels of each method, and those of its text, nothing else, as they are
+/// listed. Where there are none, no run of the program indexes outside an array or makes one of negative length, whatever the inputs that meet the entry's
+/// annotations, and for any number of steps. The one error is want of memory. Visits of the nodes of each method's graph are counted, at least one each.
+pub fn check<L: Ledger>(
+    alloc: Global,
+    program: &Program,
+    profile: Profile,
+    steps: &mut Steps<L>,
+) -> Result<Vec<Error>, AllocError>
+    requires formed { Formed program.now }
+    requires can { CanCheck program.now }
+    ensures errors { IfOk result (λ errors. IsErrorList (IsError program.now profile) errors.items) }
+    ensures safe { IfOk result (λ errors. errors.items ≡ [] → Safe program.now profile) }
+    ensures at_least { IfOk result (λ errors. steps.old + nodes_below program.now (length program.now.methods) ≤ steps.new) }
+{
+    soundness();
+    names_are_small();
+    overridden_is_there();
+    loops_are_in_order();
+    let found = program_errors(alloc, program, profile, steps)?;
+    list_errors(alloc, found)
+}
+
+/// The same with a counter of its own.
+fn check_with<L: Ledger>(
+    alloc: Global,
+    program: &Program,
+    profile: Profile,
+    blank: Blank,
+) -> Result<Vec<Error>, AllocError>
+    requires formed { Formed program.now }
+    requires can { CanCheck program.now }
+    requires name { blank.name ≡ L.name }
+    requires parts { blank.parts ≡ L.parts }
+    requires one { blank.parts ≡ 1 }
+    ensures errors { IfOk result (λ errors. IsErrorList (IsError program.now profile) errors.items) }
+    ensures safe { IfOk result (λ errors. errors.items ≡ [] → Safe program.now profile) }
+{
+    let mut steps = Steps::<L>::new(blank);
+    check(alloc, program, profile, &mut steps)
+}
+
+/// The errors of the program in a profile, as they are listed. `Unbuilt` comes exactly where the program isn't one that is checked, which no source has.
+/// Where there are none, no run of the program indexes outside an array or makes one of negative length, whatever the inputs that meet the entry's annotations.
+pub fn check_program(
+    alloc: Global,
+    program: &Program,
+    profile: Profile,
+) -> Result<Vec<Error>, CheckError>
+    requires formed { Formed program.now }
+    ensures errors { MatchResult result (λ errors. CanCheck program.now × IsErrorList (IsError program.now profile) errors.items) (λ error. error ≢ Memory → CanCheck program.now → ⊥) }
+    ensures safe { IfOk result (λ errors. errors.items ≡ [] → Safe program.now profile) }
+{
+    if !can_check(program) {
+        return Err(CheckError::Unbuilt);
+    }
+    match check_with::<Brand>(alloc, program, profile, Blank::new(1)) {
+        Ok(errors) => Ok(errors),
+        Err(_) => Err(CheckError::Memory),
+    }
+}
