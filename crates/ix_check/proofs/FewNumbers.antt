@@ -1,10 +1,9 @@
 -- The locals of each method, by the methods and by their numbers.
-use Rattle.std.proofs.Common.{◌≡◌, ◌↔◌, ℕ, zero, suc, ◌<◌, ◌≤◌, ◌^◌, List, [], ◌∷◌, length, slice_get, unwrap_or, arith, refl}
+use Rattle.std.proofs.Common.{◌↔◌, ℕ, zero, suc, ◌<◌, ◌^◌, List, [], ◌∷◌, length, slice_get, unwrap_or, arith}
 use Rattle.ix_core.specs.declared.program.Method.{Method}
 use Rattle.ix_core.specs.declared.program.Program.{Program}
-use Rattle.ix_core.specs.Tables.{method_at, no_method}
+use Rattle.ix_core.specs.Tables.{no_method}
 use Rattle.ix_check.specs.Judged.{CanCheck, HaveFewLocals}
-use Rattle.ix_ready.specs.Few.{HasFew}
 use Rattle.ix_sound.specs.Sound.{LocalsApart}
 
 by_numbers : (methods : List Method) → HaveFewLocals methods → (number : ℕ) → length (unwrap_or (slice_get methods number) no_method).locals < 2 ^ 32

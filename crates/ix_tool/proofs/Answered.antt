@@ -7,7 +7,6 @@ use Rattle.ix_core.specs.Machine.{State, Ending}
 use Rattle.ix_core.specs.Machine as ending
 use Rattle.ix_core.specs.declared.fact.Profile.{Profile}
 use Rattle.ix_core.specs.declared.fact.Profile.TheVariants.{Int32}
-use Rattle.ix_core.specs.Safe.{Safe}
 use Rattle.ix_lexer.specs.declared.token.LexError.{LexError}
 use Rattle.ix_lexer.specs.declared.token.LexError.TheVariants as lexical
 use Rattle.ix_lexer.specs.declared.token.Token.{Token}
@@ -28,15 +27,17 @@ use Rattle.ix_answer.specs.declared.status.Status.TheVariants.{Done, Rejected, L
 use Rattle.ix_answer.specs.Statuses.{is_answer}
 use Rattle.ix_answer.specs.Answer.{Answer, out_answer}
 use Rattle.ix_finding.specs.Found.{Finding, TooLong, Broken, Past, Misnamed, Whole, Found, too_long, no_tokens, lexed, no_tree, tree, passes_limit, misnames, inherits, too_big, named, of_lex_error, of_parse_error}
-use Rattle.ix_check.specs.Judged.{CanCheck}
 use Rattle.ix_errors.specs.MethodErrors.{IsError}
-use Rattle.ix_listing.specs.ErrorList.{IsErrorList}
 use Rattle.ix_listing.proofs.Lists.{one_list}
 use Rattle.ix_tool.specs.Judgements.{Judgement, NotBuilt, Judged, Judges, unchecked, checked, profile_of}
 use Rattle.ix_tool.specs.Runs.{RunAnswers, start_answer, status_of}
 use Rattle.ix_tool.specs.Answers.{IsVerdict, AnswersOn, AnswersWhole, verdict, check_answer, bench_verdict, bench_answer, source_bytes, file_in}
 use Rattle.ix_tool.specs.Ends.{bytes_of, SafeBytes, PromisesOn, Promises}
 use Rattle.ix_answer.specs.Delivery.{IsOnly}
+use Rattle.ix_answer.specs.declared.reply.Reply.{Reply}
+use Rattle.ix_answer.specs.Replies.{Says, shown}
+use Rattle.std.specs.declared.alloc.AllocError.{AllocError}
+use Rattle.std.specs.Prelude.{IfOk}
 use Rattle.ix_run.specs.Ends.{end_of}
 use Rattle.ix_finding.proofs.BytesFound.{past-only, some_is}
 
@@ -208,3 +209,8 @@ pub promised : (command : Command) (bytes : List ℕ) (finding : Finding) (answe
 promised (Check sums file) bytes finding answer found on safe = λ done. found_safe sums file bytes finding answer found on safe done
 promised (Run limits file entry inputs) bytes finding answer found on safe = tt
 promised (Bench count) bytes finding answer found on safe = tt
+
+-- what is right of a reply is right of the answer that it says
+pub said_right : (IsRight : Answer → Type 0) (reply : Result Reply AllocError) (a : Answer) → IfOk reply (λ r. IsRight (shown r)) → Says reply a → IsRight a
+said_right IsRight (Ok reply) a right says = subst IsRight (sym says) right
+said_right IsRight (Err why) a right says = absurd says

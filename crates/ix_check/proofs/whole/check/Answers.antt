@@ -5,10 +5,10 @@ use Rattle.ix_check.proofs.whole.check.Goals as goal
 
 pub returns-clause-errors : goal.returns-clause-errors
 returns-clause-errors g c =
-    IfOk-weaker c.list_errors.result _ _ (λ errors list. derived_list (IsError c.args.program.now c.args.profile) c.in_ok-found.found.items c.in_ok-found.ensures.errors errors.items list) c.list_errors.ensures.errors
+    IfOk-weaker c.list_errors.result _ _ (λ errors list. derived_list (IsError c.args.program.now c.args.profile) c.in_ok-found.found.items errors.items c.in_ok-found.ensures.errors list) c.list_errors.ensures
 
 pub returns-clause-safe : goal.returns-clause-safe
 returns-clause-safe g c =
     IfOk-weaker c.list_errors.result _ _
     (λ errors list empty. none_safe c.soundness.ensures.sound c.args.program.now c.args.profile c.in_ok-found.found.items errors.items c.requires.formed c.requires.can c.in_ok-found.ensures.none list empty)
-    c.list_errors.ensures.errors
+    c.list_errors.ensures

@@ -1,9 +1,7 @@
-use Rattle.std.proofs.Common.{sym, ◌≡◌, ◌∙◌, ap, subst, Ok, Err}
-use Rattle.std.proofs.lemmas.Result.{IfOk-weaker}
+use Rattle.std.proofs.Common.{sym, ◌≡◌, ◌∙◌, ap, Ok, Err}
 use Rattle.ix_plain.specs.Program.{program}
 use Rattle.ix_meaning.specs.Resolved.{names}
 use Rattle.ix_finding.specs.Found as spec
-use Rattle.ix_finding.specs.Findings.{HasFormed}
 use Rattle.ix_finding.proofs.NamesFound.{accepted_only, unlowered_found, unlowered_only, unlowered_placed, unlowered_formed}
 use Rattle.ix_finding.proofs.finding.of_lowered.Goals as goal
 
