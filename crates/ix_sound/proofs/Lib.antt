@@ -1,7 +1,7 @@
 mod LocalsListed
 mod ChainMoves
 mod Stable
-mod NamedClaims
+pub mod NamedClaims
 mod OperationsKeep
 mod FormedOperations
 mod SuperMoves

@@ -1,0 +1,2 @@
+mod ApartLocals
+pub mod LoweredPrograms

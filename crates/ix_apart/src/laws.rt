@@ -1,0 +1,14 @@
+//! The laws, as contracts of functions that do nothing.
+
+ghost use Rattle.std.specs.Prelude.{◌≡◌, Ok};
+ghost use Rattle.ix_core.specs.declared.program.Program.{Program};
+ghost use Rattle.ix_tree.specs.declared.decl.Unit.{Unit as Source};
+ghost use Rattle.ix_meaning.specs.Resolved.{Accepts, names};
+ghost use Rattle.ix_plain.specs.Program.{program};
+ghost use Rattle.ix_formed.specs.Parsed.{IsParsed};
+ghost use Rattle.ix_sound.specs.Sound.{LocalsApart};
+
+/// A claim on a local names locals in scope, and each of these has a slot of its own.
+pub fn lowered_locals_are_apart()
+    ensures apart { (source : Source) (made : Program) → Accepts source → IsParsed source → program (names source) source.classes ≡ Ok made → LocalsApart made }
+{}
