@@ -1,2 +1,4 @@
 mod ApartLocals
+mod LocalsCounted
+mod FewDeclared
 pub mod LoweredPrograms

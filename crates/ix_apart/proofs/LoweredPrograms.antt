@@ -1,16 +1,30 @@
 -- What comes of an accepted source besides being formed.
 use Rattle.std.specs.Prelude.{◌≡◌, Ok}
 use Rattle.ix_core.specs.declared.program.Program.{Program}
+use Rattle.ix_core.specs.Formed.{Formed}
 use Rattle.ix_tree.specs.declared.decl.Unit.{Unit as Source}
 use Rattle.ix_meaning.specs.Resolved.{Accepts, names}
 use Rattle.ix_plain.specs.Program.{program}
 use Rattle.ix_counts.proofs.FewDeclarations.{few_members}
 use Rattle.ix_formed.specs.Parsed.{IsParsed}
+use Rattle.ix_formed.proofs.FieldsFit.{IsAccepted}
 use Rattle.ix_formed.proofs.FormedSources.{formed_source, source_apart}
+use Rattle.ix_ready.proofs.Ready.{ready}
+use Rattle.ix_sign.specs.Naming.{HaveSmallNames}
 use Rattle.ix_sound.specs.Sound.{LocalsApart}
 use Rattle.ix_apart.proofs.ApartLocals.{own_slots_apart}
+use Rattle.ix_apart.proofs.FewDeclared.{accepted_few}
 
-pub lowered_apart : (source : Source) (made : Program) → Accepts source → IsParsed source → program (names source) source.classes ≡ Ok made → LocalsApart made
-lowered_apart source made accepts parsed is =
-    let few = few_members source parsed.can in
-    own_slots_apart made (formed_source source made parsed accepts few is) (source_apart source made parsed accepts few is)
+module _ (source : Source) (made : Program) (accepts : Accepts source) (parsed : IsParsed source) (is : program (names source) source.classes ≡ Ok made) where
+  lowered_formed : Formed made
+  lowered_formed = formed_source source made parsed accepts (few_members source parsed.can) is
+
+  -- No claim on a local names another local of the same slot.
+  pub lowered_apart : LocalsApart made
+  lowered_apart = own_slots_apart made lowered_formed (source_apart source made parsed accepts (few_members source parsed.can) is)
+
+  -- Its names are small.
+  pub lowered_small : HaveSmallNames made
+  lowered_small =
+      let accepted : IsAccepted source made = record { can = parsed.can; accepts = accepts; written = parsed.written; few = few_members source parsed.can; made = is } in
+      ready made lowered_formed (accepted_few source made accepted)
