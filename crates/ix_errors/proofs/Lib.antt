@@ -1,0 +1,6 @@
+mod Listing
+mod Texts
+mod Labels
+mod Whole
+mod Added
+mod Methods

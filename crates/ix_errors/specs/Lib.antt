@@ -1,0 +1,4 @@
+-- The errors at the nodes of a method's graph.
+pub mod NodeErrors
+-- All errors of a method.
+pub mod MethodErrors

@@ -1,0 +1,113 @@
+//! The errors at the nodes of a method's graph.
+
+ghost use Rattle.std.specs.Prelude.{◌≡◌, OnOk, length};
+ghost use Rattle.ix_graph.specs.Built.{kind_of};
+ghost use Rattle.ix_store.specs.StoredFacts.{stored};
+ghost use Rattle.ix_sign.specs.Exactly.{AddsExactly};
+ghost use Rattle.ix_sign.specs.Naming.{HasSmallNames, HaveSmallNames};
+ghost use Rattle.ix_errors.specs.NodeErrors.{LabelGives, TextGives, NodeGives, AtNode};
+
+use ix_core::{Method, Program};
+use ix_graph::{Node, NodeKind};
+use ix_method::push_op_errors;
+use ix_sign::{
+    Ranked, push_constructor_errors, push_effect_error, push_missing_return, push_return_errors,
+};
+use ix_store::Store;
+use ix_uses::{push_assigned_parameter, push_escapes_in, push_escapes_of};
+use std::alloc::{AllocError, Global};
+
+/// Those that a node's label gives.
+fn push_of_label(
+    alloc: Global,
+    out: &mut Vec<Ranked>,
+    program: &Program,
+    within: &Method,
+    number: u32,
+    kind: &NodeKind<'_>,
+    label: &Store,
+) -> Result<(), AllocError>
+    requires program { HaveSmallNames program.now }
+    requires method { HasSmallNames within.now }
+    ensures { OnOk result (AddsExactly (LabelGives program.now within.now number (kind_of kind.now) (stored label.now)) out.old.items out.new.items) }
+{
+    match kind {
+        NodeKind::Do(done) => push_op_errors(alloc, out, label, program, within, number, done),
+        NodeKind::Return(value, span) => {
+            push_return_errors(out, label, within, number, *value, *span)?;
+            push_constructor_errors(alloc, out, label, program, within)
+        }
+        NodeKind::End => {
+            push_constructor_errors(alloc, out, label, program, within)?;
+            push_missing_return(out, label, within)
+        }
+        _ => Ok(()),
+    }
+}
+
+/// Those of a node's text.
+fn push_of_text(
+    out: &mut Vec<Ranked>,
+    program: &Program,
+    within: &Method,
+    kind: &NodeKind<'_>,
+) -> Result<(), AllocError>
+    ensures { OnOk result (AddsExactly (TextGives program.now within.now (kind_of kind.now)) out.old.items out.new.items) }
+{
+    match kind {
+        NodeKind::Do(done) => {
+            push_effect_error(out, program, within, done)?;
+            push_assigned_parameter(out, within, done)?;
+            push_escapes_of(out, within, done)
+        }
+        NodeKind::Compare(test) => push_escapes_in(out, within, test),
+        _ => Ok(()),
+    }
+}
+
+/// Those of a node.
+fn push_of_node(
+    alloc: Global,
+    out: &mut Vec<Ranked>,
+    program: &Program,
+    within: &Method,
+    number: u32,
+    kind: &NodeKind<'_>,
+    label: &Store,
+) -> Result<(), AllocError>
+    requires program { HaveSmallNames program.now }
+    requires method { HasSmallNames within.now }
+    ensures { OnOk result (AddsExactly (NodeGives program.now within.now number (kind_of kind.now) (stored label.now)) out.old.items out.new.items) }
+{
+    push_of_label(alloc, out, program, within, number, kind, label)?;
+    push_of_text(out, program, within, kind)
+}
+
+/// Those of all nodes, each by its label.
+pub(crate) fn push_of_nodes(
+    alloc: Global,
+    out: &mut Vec<Ranked>,
+    program: &Program,
+    within: &Method,
+    number: u32,
+    nodes: &[Node<'_>],
+    labels: &[Store],
+) -> Result<(), AllocError>
+    requires program { HaveSmallNames program.now }
+    requires method { HasSmallNames within.now }
+    requires labels { length labels.now ≡ length nodes.now }
+    ensures { OnOk result (AddsExactly (AtNode (NodeGives program.now within.now number) nodes.now labels.now (length nodes.now)) out.old.items out.new.items) }
+{
+    for at in 0..nodes.len() {
+        push_of_node(
+            alloc,
+            out,
+            program,
+            within,
+            number,
+            &nodes[at].kind,
+            &labels[at],
+        )?;
+    }
+    Ok(())
+}

@@ -1,0 +1,32 @@
+//! All errors of a program.
+
+ghost use Rattle.std.specs.Prelude.{◌≡◌, ◌+◌, ◌≤◌, [], IfOk, length};
+ghost use Rattle.ix_sign.specs.Exactly.{AreExactly};
+ghost use Rattle.ix_errors.specs.MethodErrors.{IsReady, IsError, HaveNone, nodes_below};
+
+use crate::method::push_method_errors;
+use ix_core::{Profile, Program};
+use ix_sign::Ranked;
+use ix_solve::Steps;
+use std::alloc::{AllocError, Global};
+use std::sync::ledger::Ledger;
+
+/// All errors of a program in a profile, each with the place of its claim in its declaration, in any order; none of them is what a sound program needs. The one
+/// error is want of memory. Visits of the nodes of each method's graph are counted, at least one each.
+pub fn program_errors<L: Ledger>(
+    alloc: Global,
+    program: &Program,
+    profile: Profile,
+    steps: &mut Steps<L>,
+) -> Result<Vec<Ranked>, AllocError>
+    requires ready { IsReady program.now }
+    ensures errors { IfOk result (λ errors. AreExactly (IsError program.now profile) errors.items) }
+    ensures none { IfOk result (λ errors. errors.items ≡ [] → HaveNone program.now profile (length program.now.methods)) }
+    ensures at_least { IfOk result (λ errors. steps.old + nodes_below program.now (length program.now.methods) ≤ steps.new) }
+{
+    let mut out = Vec::new(alloc);
+    for number in 0..program.methods.len() as u32 {
+        push_method_errors(alloc, &mut out, program, number, profile, steps)?;
+    }
+    Ok(out)
+}

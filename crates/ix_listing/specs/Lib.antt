@@ -1,0 +1,8 @@
+-- The order in which errors are listed.
+pub mod Order
+-- The list of errors.
+pub mod ErrorList
+-- Keys of one length, for sorting.
+pub mod FullKey
+-- What the two sorts leave.
+pub mod Least
