@@ -1,4 +1,4 @@
--- The locals and the fields of an accepted source's program can be counted with 32 bits.
+-- The methods, their locals and the fields of an accepted source's program can be counted with 32 bits.
 use Rattle.std.proofs.Common.{◌≡◌, ◌≤◌, ◌<◌, ◌^◌, ℕ, zero, suc, ◌+◌, Bool, true, false, List, [], ◌∷◌, map, length, refl, sym, ap, subst, ◌∙◌, arith, length-append}
 use Rattle.std.specs.Prelude.{slice_get, unwrap_or}
 use Rattle.std.specs.List.{All}
@@ -24,12 +24,13 @@ use Rattle.ix_plain.specs.declared.numbers.Next.{Next}
 use Rattle.ix_plain.specs.Members.{next_behind, first_numbers, is_static, slot_behind}
 use Rattle.ix_plain.specs.Program.{Tables, Home, site, home, start, tables, written_head, first_param, written_body, constructor_start}
 use Rattle.ix_formed.specs.Additions.{AllOf}
-use Rattle.ix_formed.specs.Shape.{IsMethod, IsDefault, AreMethods, AreAllMethods, AreDefaults, IfElse, IsOneDefault, fields_of, fields_of_class, all_field_count}
+use Rattle.ix_formed.specs.Shape.{IsMethod, IsDefault, AreMethods, AreAllMethods, AreDefaults, IfElse, IsOneDefault, HasMethods, fields_of, fields_of_class, all_field_count}
 use Rattle.ix_formed.proofs.AllMethods.{program_has}
-use Rattle.ix_formed.proofs.FieldsFit.{IsAccepted, fields_are_all}
+use Rattle.ix_formed.proofs.FieldsFit.{IsAccepted, is_small, fields_are_all}
 use Rattle.ix_formed.proofs.NumberLists.{all_joined}
 use Rattle.ix_formed.proofs.Numbering.{fields_counted}
 use Rattle.ix_formed.proofs.PlainItems.{made_is}
+use Rattle.ix_formed.proofs.ProgramsHaveShape.{written_length}
 use Rattle.ix_formed.proofs.SmallSources.{few_fields}
 use Rattle.ix_ready.specs.Few.{HasFew}
 use Rattle.ix_apart.proofs.LocalsCounted.{Keeps, written_body_counted, constructor_keeps}
@@ -85,6 +86,20 @@ few_at [] all number = omega arith
 few_at (method ∷ methods) all zero = all.0
 few_at (method ∷ methods) all (suc number) = few_at methods all.1 number
 
+-- ---- methods
+
+defaults_counted : (t : Tables) (next : Next) (ks : List ClassDecl) (methods : List Method) → AreDefaults t next ks methods → length methods ≤ length ks
+defaults_counted t next [] methods are = let e = ap (λ (ms : List Method). length ms) are in omega (arith, e)
+defaults_counted t next (k ∷ ks) methods are = one_or_none (has_constructor k.members) are (λ others rest. defaults_counted t (next_behind next k) ks others rest)
+  where
+    one_or_none : (b : Bool) → IfElse b (AreDefaults t (next_behind next k) ks methods) (IsOneDefault (AreDefaults t (next_behind next k) ks) t (home t next k) k.name.span methods)
+        → ((others : List Method) → AreDefaults t (next_behind next k) ks others → length others ≤ length ks) → length methods ≤ length (k ∷ ks)
+    one_or_none true are rest = let le = rest methods are in omega (arith, le)
+    one_or_none false are rest =
+        let le = rest are.1 are.4 in
+        let e = ap (λ (ms : List Method). length ms) are.2 in
+        omega (arith, le, e)
+
 -- ---- fields
 
 all_counted : (names : Names) (class : ℕ) (decls : List ClassDecl) → length (fields_of names class decls) ≡ all_field_count decls
@@ -97,19 +112,37 @@ all_counted names class (decl ∷ decls) =
 
 -- ---- the program
 
-pub accepted_few : (unit : Source) (p : Program) → IsAccepted unit p → HasFew p
-accepted_few unit p is =
-    let t = tables (names unit) unit.classes in
-    let has = (program_has (names unit) unit.classes p is.made).0 in
-    let few = each_member_few unit is.can in
-    let all = subst (AllOf HasFewLocals) (sym has.same)
-    (all_joined HasFewLocals has.written has.default (all_few t (first_numbers unit.classes) unit.classes has.written few has.are_written) (defaults_few t (first_numbers unit.classes) unit.classes has.default has.are_default)) in
-    record {
-      locals = few_at p.methods all;
-      fields =
-          let fields = ap (λ (fs : List Field). length fs) (fields_are_all unit p is) in
-          let counted = all_counted (names unit) 0 unit.classes in
-          let a = few_fields unit.classes in
-          let b = few_members unit is.can in
-          omega (arith, fields, counted, a, b);
-    }
+module _ (unit : Source) (p : Program) (is : IsAccepted unit p) where
+  abbrev t : Tables
+  t = tables (names unit) unit.classes
+
+  has : HasMethods t (first_numbers unit.classes) unit.classes p.methods
+  has = (program_has (names unit) unit.classes p is.made).0
+
+  pub few_methods : length p.methods < 2 ^ 32
+  few_methods =
+      let small = is_small unit p is in
+      let own = written_length t (first_numbers unit.classes) unit.classes has.written has.are_written in
+      let defaults = defaults_counted t (first_numbers unit.classes) unit.classes has.default has.are_default in
+      let both = ap (λ (ms : List Method). length ms) has.same in
+      let joined = length-append has.written has.default in
+      let a = small.methods in
+      let b = small.classes in
+      omega (arith, own, defaults, both, joined, a, b)
+
+  all_methods_few : AllOf HasFewLocals p.methods
+  all_methods_few =
+      subst (AllOf HasFewLocals) (sym has.same)
+      (all_joined HasFewLocals has.written has.default (all_few t (first_numbers unit.classes) unit.classes has.written (each_member_few unit is.can) has.are_written)
+      (defaults_few t (first_numbers unit.classes) unit.classes has.default has.are_default))
+
+  few_fields_there : length p.fields < 2 ^ 32
+  few_fields_there =
+      let fields = ap (λ (fs : List Field). length fs) (fields_are_all unit p is) in
+      let counted = all_counted (names unit) 0 unit.classes in
+      let a = few_fields unit.classes in
+      let b = few_members unit is.can in
+      omega (arith, fields, counted, a, b)
+
+  pub few_locals_and_fields : HasFew p
+  few_locals_and_fields = record { locals = few_at p.methods all_methods_few; fields = few_fields_there }
