@@ -18,8 +18,8 @@ use Rattle.ix_core.proofs.Cases.{by_test, equal}
 use Rattle.ix_core.proofs.FormedParts.{locals_of, method_is}
 use Rattle.ix_steps.specs.MachineSteps.{local_slot}
 use Rattle.ix_sound.specs.Sound.{LocalsApart}
-use Rattle.ix_sound.proofs.NamedClaims.{HasType, claims_named}
 use Rattle.ix_formed.specs.OwnSlots.{HaveOwnSlots, AllOwnSlots}
+use Rattle.ix_apart.proofs.TypedNames.{HasType, names_typed}
 
 module _ (program : Program) (method : Method) (held : List Type_) where
   -- the claims of a local fit its type
@@ -98,5 +98,5 @@ module _ (program : Program) (formed : Formed program) (own : AllOwnSlots progra
       let fits = local_fits program method types 0 method.locals types (locals_all number lt) k local is in
       let h : 0 + k ≡ k = omega arith in
       let fit = subst (λ n. list_all (claim_fits fits.0 (others (Local n) (local_named_type program method types local.1))) local.0.claims ≡ true) h fits.1 in
-      named_apart program method types (own number) k local is other (claims_named fits.0 (others (Local k) (local_named_type program method types local.1)) local.0.claims (Local other) fit names))
+      named_apart program method types (own number) k local is other (names_typed (others (Local k) (local_named_type program method types local.1)) fits.0 local.0.claims (Local other) fit names))
       (λ t. let le : length program.methods ≤ number = grind (arith, nat_tests) in absurd (no_local number k local le is))

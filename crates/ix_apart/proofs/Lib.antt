@@ -1,3 +1,4 @@
+mod TypedNames
 mod ApartLocals
 mod LocalsCounted
 mod FewDeclared

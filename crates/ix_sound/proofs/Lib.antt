@@ -1,7 +1,7 @@
 mod LocalsListed
 mod ChainMoves
 mod Stable
-pub mod NamedClaims
+mod NamedClaims
 mod OperationsKeep
 mod FormedOperations
 mod SuperMoves
