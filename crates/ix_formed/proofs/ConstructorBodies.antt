@@ -39,7 +39,7 @@ use Rattle.ix_formed.proofs.PlainItems.{made_is, makes_more, makes_then, items_b
 use Rattle.ix_formed.proofs.PlainMethods.{own_types, g, free, s, grounded, each_written, each_readable, body_written, body_readable, known_is}
 use Rattle.ix_formed.proofs.ClassFields.{IsMember}
 use Rattle.ix_formed.proofs.SourceMethods.{IsAmong}
-use Rattle.ix_formed.proofs.TypedMethods.{whole_locals_fit, body_tells}
+use Rattle.ix_formed.proofs.TypedMethods.{whole_locals_fit, whole_locals_own, body_tells}
 
 -- ---- what a constructor begins with
 
@@ -141,4 +141,5 @@ module _ (unit : Source) (p : Program) (is : IsAccepted unit p) (method : Method
         types,
         whole_locals_fit own (grounded unit p is method w) scope w.fine.sound.from d.span.to d.span.to begun b.behind body a b.locals locals (sym whole.tells.typed) targets,
         ap (λ (m : Method). (code_ways p method types false (items_code m.body.items) entry).fits) w.same.same ∙ fits,
+        whole_locals_own own (grounded unit p is method w) scope w.fine.sound.from d.span.to d.span.to begun b.behind body a b.locals locals (sym whole.tells.typed),
       )

@@ -32,6 +32,7 @@ use Rattle.ix_plain.specs.Program.{Tables, Home, start, tables, home, super_call
 use Rattle.ix_plain.specs.Scope.{Site}
 use Rattle.ix_formed.specs.Additions.{Makes, AllOf, code_before}
 use Rattle.ix_formed.specs.NoErrors.{Agrees, Say, ClassesSay}
+use Rattle.ix_formed.specs.OwnSlots.{HaveOwnSlots}
 use Rattle.ix_formed.specs.Shape.{IsDefault, IsNext, IsOneDefault, IfElse, AreDefaults}
 use Rattle.ix_formed.specs.TypedStatements.{Ground, IsGround, Says, Scoped, Stands}
 use Rattle.ix_formed.proofs.AcceptedBodies.{ground, is_ground}
@@ -163,6 +164,7 @@ module _ (unit : Source) (p : Program) (is : IsAccepted unit p) where
           [],
           ap (λ (ls : List (Local × Span)). locals_fit p method [] 0 ls []) no_locals,
           ap (λ (m : Method). (code_ways p method [] false (items_code m.body.items) entry).fits) default.same ∙ ap (λ x. (code_ways p method [] false x entry).fits) code ∙ ap (λ (x : Ways). x.fits) (b.leads declared most false End),
+          subst HaveOwnSlots (sym no_locals) (λ number local there. absurd cc),
         )
 
   -- all of them

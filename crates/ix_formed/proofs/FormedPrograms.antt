@@ -1,6 +1,6 @@
 -- The program of an accepted source is formed, where the bodies and the locals of its constructors fit.
-use Rattle.std.proofs.Common.{◌≡◌, ◌≤◌, ℕ, Bool, true, false, List, [], ◌∷◌, length, refl, sym, ap, subst, ◌∙◌, arith}
-use Rattle.std.specs.Prelude.{if◌then◌else◌, ◌||◌, not, nat_lt, count_by}
+use Rattle.std.proofs.Common.{◌≡◌, ◌≤◌, ℕ, zero, suc, Bool, true, false, List, [], ◌∷◌, length, refl, sym, ap, subst, ◌∙◌, arith}
+use Rattle.std.specs.Prelude.{if◌then◌else◌, ◌||◌, not, nat_lt, count_by, slice_get, unwrap_or}
 use Rattle.std.proofs.lemmas.Bool.{and_parts}
 use Rattle.ix_text.specs.declared.span.Span.{Span}
 use Rattle.ix_core.specs.declared.claim.Type_.{Type_}
@@ -8,7 +8,7 @@ use Rattle.ix_core.specs.declared.program.Local.{Local}
 use Rattle.ix_core.specs.declared.program.Method.{Method}
 use Rattle.ix_core.specs.declared.program.Program.{Program}
 use Rattle.ix_core.specs.Formed.{at_most, classes_fit, fields_fit, params_fit, locals_fit, body_fits, result_fits, constructor_fits, overrides_fit, super_calls_fit, method_fits, methods_fit, Formed, same_numbers, loop_numbers, numbers_from, code_size}
-use Rattle.ix_core.specs.Tables.{param_slots, body_of}
+use Rattle.ix_core.specs.Tables.{param_slots, body_of, no_method}
 use Rattle.ix_core.specs.Types.{is_class}
 use Rattle.ix_core.proofs.Cases.{by_test}
 use Rattle.ix_tree.specs.declared.decl.ClassDecl.{ClassDecl}
@@ -22,6 +22,7 @@ use Rattle.ix_plain.specs.declared.numbers.Next.{Next}
 use Rattle.ix_plain.specs.Members.{next_behind, is_static, first_numbers}
 use Rattle.ix_plain.specs.Program.{Tables, Home, home, tables, first_param, overrides}
 use Rattle.ix_formed.specs.Additions.{AllOf}
+use Rattle.ix_formed.specs.OwnSlots.{HaveOwnSlots, AllOwnSlots}
 use Rattle.ix_formed.specs.Readable.{is_readable}
 use Rattle.ix_formed.specs.Shape.{AreInSlots, IsDefault, IsOneDefault, IfElse, AreDefaults, MethodHasShape, params_of}
 use Rattle.ix_formed.specs.Written.{is_written_type, is_written_decl, has_no_result, each_true, maybe_true}
@@ -31,7 +32,7 @@ use Rattle.ix_formed.proofs.HeadsAre.{IsWritten, head_matches}
 use Rattle.ix_formed.proofs.HeadsFit.{all_params_say, params_do_fit, result_does_fit, constructor_does_fit}
 use Rattle.ix_formed.proofs.NumberLists.{both_true, all_joined, all_split}
 use Rattle.ix_formed.proofs.Overrides.{overrides_do_fit}
-use Rattle.ix_formed.proofs.PlainMethods.{own_types, plain_body_fits, plain_locals_fit}
+use Rattle.ix_formed.proofs.PlainMethods.{own_types, plain_body_fits, plain_locals_fit, plain_locals_own}
 use Rattle.ix_formed.proofs.ProgramsHaveShape.{params_behind}
 use Rattle.ix_formed.proofs.SizesFit.{IsSmallBody, sizes_do_fit}
 use Rattle.ix_formed.proofs.ClassFields.{IsMember, members_are}
@@ -41,9 +42,9 @@ few_first true = omega arith
 few_first false = omega arith
 
 module _ (p : Program) where
-  -- the locals and the body of a method fit, where the locals have some types
+  -- the locals and the body of a method fit, where the locals have some types; and each local has a slot of its own
   abbrev pub FitsInside : Method → Type 0
-  FitsInside method = (types : List Type_) × (locals_fit p method types 0 method.locals types ≡ true) × (body_fits p method types ≡ true)
+  FitsInside method = (types : List Type_) × (locals_fit p method types 0 method.locals types ≡ true) × (body_fits p method types ≡ true) × HaveOwnSlots method.locals
 
   abbrev Fits : Method → Type 0
   Fits method = (types : List Type_) × (method_fits p method types ≡ true)
@@ -143,7 +144,7 @@ module _ (unit : Source) (p : Program) (is : IsAccepted unit p) where
   inside_written : (method : Method) → IsWritten unit p is (IsMember unit p) t method → MethodHasShape p method → WhereConstructor method → FitsInside p method
   inside_written method w has constructor =
       by_test w.decl.constructor (λ c. constructor (w.head.constructor ∙ c))
-      (λ plain. (own_types unit p is method w, plain_locals_fit unit p is method w plain has.locals, plain_body_fits unit p is method w plain))
+      (λ plain. (own_types unit p is method w, plain_locals_fit unit p is method w plain has.locals, plain_body_fits unit p is method w plain, plain_locals_own unit p is method w plain))
 
   written_heads_fit : (methods : List Method) → AllOf (IsWritten unit p is (IsMember unit p) t) methods → AllOf (MethodHasShape p) methods → AllOf (HasGoodHead p) methods
   written_heads_fit [] ws has = tt
@@ -157,20 +158,36 @@ module _ (unit : Source) (p : Program) (is : IsAccepted unit p) where
   all_inside_default [] are constructors = tt
   all_inside_default (method ∷ methods) are constructors = (constructors.0 are.0, all_inside_default methods are.1 constructors.1)
 
+  -- all methods fit inside, where constructors do
+  all_inside : (end : ℕ) → Placed end unit → is_readable unit.classes ≡ true → AllOf WhereConstructor p.methods → AllOf (FitsInside p) p.methods
+  all_inside end placed readable constructors =
+      let have = methods_have unit p is in
+      let c = all_split WhereConstructor have.written have.default (subst (AllOf WhereConstructor) have.same constructors) in
+      let s = all_split (MethodHasShape p) have.written have.default (subst (AllOf (MethodHasShape p)) have.same (shape unit p is).each) in
+      let ws = (matched_with unit p is (IsMember unit p) (members_are unit p is end placed readable)).1 in
+      subst (AllOf (FitsInside p)) (sym have.same)
+      (all_joined (FitsInside p) have.written have.default (all_inside_written have.written ws s.0 c.0)
+      (all_inside_default have.default (defaults_construct (first_numbers unit.classes) unit.classes have.default have.are_default) c.1))
+
+  own_slots_in : (methods : List Method) → AllOf (FitsInside p) methods → (number : ℕ) → HaveOwnSlots (unwrap_or (slice_get methods number) no_method).locals
+  own_slots_in [] all number = λ k local is. absurd cc
+  own_slots_in (method ∷ methods) all zero = all.0.3
+  own_slots_in (method ∷ methods) all (suc number) = own_slots_in methods all.1 number
+
+  -- Its locals have slots of their own.
+  pub own_slots_of : (end : ℕ) → Placed end unit → is_readable unit.classes ≡ true → AllOf WhereConstructor p.methods → AllOwnSlots p
+  own_slots_of end placed readable constructors = own_slots_in p.methods (all_inside end placed readable constructors)
+
   -- The program is formed, where its constructors fit inside.
   pub formed_of : (end : ℕ) → Placed end unit → is_readable unit.classes ≡ true → AllOf WhereConstructor p.methods → Formed p
   formed_of end placed readable constructors =
       let have = methods_have unit p is in
       let each = shape unit p is in
-      let split = subst (AllOf WhereConstructor) have.same constructors in
-      let c = all_split WhereConstructor have.written have.default split in
       let s = all_split (MethodHasShape p) have.written have.default (subst (AllOf (MethodHasShape p)) have.same each.each) in
       let ws = (matched_with unit p is (IsMember unit p) (members_are unit p is end placed readable)).1 in
       let heads = subst (AllOf (HasGoodHead p)) (sym have.same)
       (all_joined (HasGoodHead p) have.written have.default (written_heads_fit have.written ws s.0) (default_heads_fit (first_numbers unit.classes) unit.classes have.default have.are_default)) in
-      let inside = subst (AllOf (FitsInside p)) (sym have.same)
-      (all_joined (FitsInside p) have.written have.default (all_inside_written have.written ws s.0 c.0)
-      (all_inside_default have.default (defaults_construct (first_numbers unit.classes) unit.classes have.default have.are_default) c.1)) in
+      let inside = all_inside end placed readable constructors in
       let small = sizes_do_fit unit is.can t (first_numbers unit.classes) p.methods have in
       let all = all_fit p p.methods heads each.each small inside in (
         types_of_all p p.methods all,

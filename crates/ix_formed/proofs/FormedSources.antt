@@ -12,6 +12,7 @@ use Rattle.ix_meaning.specs.Source.{members_in}
 use Rattle.ix_plain.specs.Members.{first_numbers}
 use Rattle.ix_plain.specs.Program.{program, tables}
 use Rattle.ix_formed.specs.Additions.{AllOf}
+use Rattle.ix_formed.specs.OwnSlots.{AllOwnSlots}
 use Rattle.ix_formed.specs.Parsed.{IsParsed}
 use Rattle.ix_formed.specs.Readable.{is_readable}
 use Rattle.ix_formed.specs.Shape.{MethodHasShape}
@@ -20,7 +21,7 @@ use Rattle.ix_formed.proofs.ClassFields.{IsMember, members_are, all_have_fields}
 use Rattle.ix_formed.proofs.DefaultConstructors.{defaults_inside}
 use Rattle.ix_formed.proofs.FieldsFit.{IsAccepted, shape, said}
 use Rattle.ix_formed.proofs.FieldsInitialised.{constructor_fits_inside}
-use Rattle.ix_formed.proofs.FormedPrograms.{FitsInside, WhereConstructor, formed_of}
+use Rattle.ix_formed.proofs.FormedPrograms.{FitsInside, WhereConstructor, formed_of, own_slots_of}
 use Rattle.ix_formed.proofs.HeadsAre.{IsWritten}
 use Rattle.ix_formed.proofs.NumberLists.{all_so, all_joined, all_split}
 
@@ -45,3 +46,9 @@ pub formed_source : (unit : Source) (p : Program) → IsParsed unit → Accepts 
 formed_source unit p parsed accepts few made =
     let is : IsAccepted unit p = record { can = parsed.can; accepts = accepts; written = parsed.written; few = few; made = made } in
     formed_of unit p is parsed.placed.0 parsed.placed.1 parsed.readable (constructors_inside unit p is parsed.placed.0 parsed.placed.1 parsed.readable)
+
+-- Its locals have slots of their own.
+pub source_apart : (unit : Source) (p : Program) → IsParsed unit → Accepts unit → members_in unit.classes + 1 < 2 ^ 32 → program (names unit) unit.classes ≡ Ok p → AllOwnSlots p
+source_apart unit p parsed accepts few made =
+    let is : IsAccepted unit p = record { can = parsed.can; accepts = accepts; written = parsed.written; few = few; made = made } in
+    own_slots_of unit p is parsed.placed.0 parsed.placed.1 parsed.readable (constructors_inside unit p is parsed.placed.0 parsed.placed.1 parsed.readable)

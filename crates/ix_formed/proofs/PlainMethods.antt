@@ -24,6 +24,7 @@ use Rattle.ix_plain.specs.Program.{Tables, Home, start, tables, args_or_none}
 use Rattle.ix_plain.specs.Statements.{each, statement}
 use Rattle.ix_formed.specs.Additions.{AllOf}
 use Rattle.ix_formed.specs.LocalTypes.{local_types}
+use Rattle.ix_formed.specs.OwnSlots.{HaveOwnSlots}
 use Rattle.ix_formed.specs.Readable.{stmt_shape, is_readable_stmt, is_readable_expr, each_fine}
 use Rattle.ix_formed.specs.TypedStatements.{Ground, IsGround, IsKnown, Tells}
 use Rattle.ix_formed.specs.Written.{is_written_stmt, is_written_type, is_written_decl, is_written_expr, has_no_result, all_true, each_true, maybe_true}
@@ -35,7 +36,7 @@ use Rattle.ix_formed.proofs.NumberLists.{all_so}
 use Rattle.ix_formed.proofs.PlainItems.{made_is}
 use Rattle.ix_formed.proofs.ClassFields.{IsMember}
 use Rattle.ix_formed.proofs.SourceMethods.{IsAmong}
-use Rattle.ix_formed.proofs.TypedMethods.{whole_fits, whole_locals_fit, body_tells}
+use Rattle.ix_formed.proofs.TypedMethods.{whole_fits, whole_locals_fit, whole_locals_own, body_tells}
 
 pub each_written : (xs : List Stmt) → each_true is_written_stmt xs ≡ true → all_true (map is_written_stmt xs) ≡ true
 each_written [] e = refl
@@ -130,3 +131,8 @@ module _ (unit : Source) (p : Program) (is : IsAccepted unit p) where
     plain_locals_fit plain targets =
         let told = tells plain in
         whole_locals_fit g grounded s w.fine.sound.from d.span.to d.span.to (start free) (Some (entry_type p method)) body told.adds refl locals_same (sym told.typed) targets
+
+    pub plain_locals_own : d.constructor ≡ false → HaveOwnSlots method.locals
+    plain_locals_own plain =
+        let told = tells plain in
+        whole_locals_own g grounded s w.fine.sound.from d.span.to d.span.to (start free) (Some (entry_type p method)) body told.adds refl locals_same (sym told.typed)

@@ -1,6 +1,7 @@
 -- Which variable a slot is at a place, where locals are added behind.
 use Rattle.std.proofs.Common.{◌≡◌, ◌≤◌, ◌<◌, ℕ, zero, suc, Bool, true, false, List, [], ◌∷◌, ◌++◌, length, Option, Some, None, refl, sym, ap, subst, ◌∙◌, arith, length-append, append_assoc}
 use Rattle.std.specs.Prelude.{if◌then◌else◌, nat_lt, ◌&&◌, ◌==◌, slice_get}
+use Rattle.std.proofs.lemmas.Bool.{false≢true}
 use Rattle.std.proofs.lemmas.Bool.Decides.{nat_tests}
 use Rattle.ix_text.specs.declared.span.Span.{Span}
 use Rattle.ix_core.specs.declared.claim.Type_.{Type_}
@@ -77,6 +78,45 @@ later_outside lo hi l le span within = ap (λ b. b && nat_lt span.from l.1.to) (
   where
     later : (from at : ℕ) → at < from → at_most from at ≡ false
     later from at lt = grind (arith, nat_tests)
+
+-- ---- slots of their own
+
+both_hold : (a b : Bool) → a ≡ true → b ≡ true → (a && b) ≡ true
+both_hold true true a b = refl
+both_hold true false a b = b
+both_hold false b a c = a
+
+same_is : (s t : ℕ) → s ≡ t → (s == t) ≡ true
+same_is s t e = grind (arith, nat_tests, e)
+
+-- a local of which none in scope has the slot, before locals that are declared later
+pub slot_is_own : (xs later : List (Local × Span)) (ts : List Type_) (local : Local × Span) (mid : ℕ) → length ts ≡ length xs → local_type_from xs ts local.0.slot local.1 ≡ None → local.1.from < mid
+    → AllOf (λ (l : Local × Span). mid ≤ l.1.from) later → (other : ℕ) (held : Local × Span) → slice_get ((xs ++ local ∷ []) ++ later) other ≡ Some held → starts_within local.1 held.1 ≡ true → held.0.slot ≡ local.0.slot
+    → other ≡ length xs
+slot_is_own [] later ts local mid e none lt behind zero held is within same = refl
+slot_is_own [] later ts local mid e none lt behind (suc other) held is within same = absurd (not_later later other behind is)
+  where
+    not_later : (ls : List (Local × Span)) (n : ℕ) → AllOf (λ (l : Local × Span). mid ≤ l.1.from) ls → slice_get ls n ≡ Some held → ⊥
+    not_later [] n all is = absurd cc
+    not_later (l ∷ ls) zero all is =
+        let at : l ≡ held = cc in
+        let le : mid ≤ held.1.from = subst (λ (h : Local × Span). mid ≤ h.1.from) at all.0 in
+        false≢true (sym (later_outside local.1.from mid held le local.1 (omega arith, lt)) ∙ within)
+    not_later (l ∷ ls) (suc n) all is = not_later ls n all.1 is
+slot_is_own (x ∷ xs) later [] local mid e none lt behind other held is within same = absurd (omega (arith, e))
+slot_is_own (x ∷ xs) later (t ∷ ts) local mid e none lt behind zero held is within same =
+    let at : x ≡ held = cc in
+    let found : ((x.0.slot == local.0.slot) && starts_within local.1 x.1) ≡ true =
+    subst (λ (h : Local × Span). ((h.0.slot == local.0.slot) && starts_within local.1 h.1) ≡ true) (sym at) (both_hold (held.0.slot == local.0.slot) (starts_within local.1 held.1) (same_is held.0.slot local.0.slot same) within) in
+    let some : ◌≡◌ {A = Option Type_} (Some t) None = sym (ap (λ b. if b then Some t else local_type_from xs ts local.0.slot local.1) found) ∙ none in
+    absurd cc
+slot_is_own (x ∷ xs) later (t ∷ ts) local mid e none lt behind (suc other) held is within same =
+    let rest = slot_is_own xs later ts local mid (omega (arith, e)) (not_first ((x.0.slot == local.0.slot) && starts_within local.1 x.1) none) lt behind other held is within same in
+    omega (arith, rest)
+  where
+    not_first : (b : Bool) → (if b then Some t else local_type_from xs ts local.0.slot local.1) ≡ None → local_type_from xs ts local.0.slot local.1 ≡ None
+    not_first true e = absurd cc
+    not_first false e = e
 
 module _ (g : Ground) where
   pub type_more : (xs ys : List (Local × Span)) (ts us : List Type_) → length ts ≡ length xs → (lo hi : ℕ) → AllOf (Outside lo hi) ys → (slot : ℕ) (span : Span) → Within lo hi span → type_in g (xs ++ ys) (ts ++ us) slot span ≡ type_in g xs ts slot span

@@ -61,7 +61,7 @@ module _ (g : Ground) where
   fit_both number other [] ys [] us a e b = let z : other ≡ number = omega (arith, e) in subst (λ n. DoFit g n ys us) z b
   fit_both number other [] ys (t ∷ ts) us a e b = absurd a
   fit_both number other (x ∷ xs) ys [] us a e b = absurd a
-  fit_both number other (x ∷ xs) ys (t ∷ ts) us a e b = (a.0, a.1, fit_both (number + 1) other xs ys ts us a.2 (omega (arith, e)) b)
+  fit_both number other (x ∷ xs) ys (t ∷ ts) us a e b = (a.0, a.1, a.2, fit_both (number + 1) other xs ys ts us a.3 (omega (arith, e)) b)
 
   pub begins_as : (xs ys : List (Local × Span)) (ts us : List Type_) (at : ℕ) → xs ≡ ys → ts ≡ us → Begins g xs ts at → Begins g ys us at
   begins_as xs ys ts us at e f b = subst (λ l. Begins g l us at) e (subst (λ t. Begins g xs t at) f b)

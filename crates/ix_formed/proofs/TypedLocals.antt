@@ -1,6 +1,6 @@
 -- A declaration of locals tells what it says.
 use Rattle.std.proofs.Common.{◌≡◌, ◌≤◌, ◌<◌, ℕ, ◌+◌, max, Bool, true, false, List, [], ◌∷◌, ◌++◌, length, Option, Some, None, Ok, Err, refl, sym, ap, subst, ◌∙◌, arith, append_assoc, length-append}
-use Rattle.std.specs.Prelude.{if◌then◌else◌, not, nat_lt, ◌==◌}
+use Rattle.std.specs.Prelude.{if◌then◌else◌, not, nat_lt, ◌==◌, slice_get}
 use Rattle.std.specs.List.{list_all}
 use Rattle.ix_text.specs.declared.span.Span.{Span}
 use Rattle.ix_core.specs.declared.claim.Name.TheVariants as name
@@ -9,7 +9,7 @@ use Rattle.ix_core.specs.declared.code.Item.TheVariants as item
 use Rattle.ix_core.specs.declared.op.Op.{Op}
 use Rattle.ix_core.specs.declared.op.OpKind.TheVariants as op
 use Rattle.ix_core.specs.declared.program.Local.{Local}
-use Rattle.ix_core.specs.Formed.{assigned, is_target, literal_fits, claim_fits, others, local_named_type}
+use Rattle.ix_core.specs.Formed.{assigned, is_target, literal_fits, claim_fits, others, local_named_type, local_type_from}
 use Rattle.ix_core.specs.Types.{Point, is_type, is_of}
 use Rattle.ix_tree.specs.declared.decl.LocalDecl.{LocalDecl}
 use Rattle.ix_tree.specs.declared.expr.Init.{Init}
@@ -36,6 +36,7 @@ use Rattle.ix_plain.specs.Statements.{Evaluated, behind_value, init_evaluated, w
 use Rattle.ix_plain.specs.Values.{filling}
 use Rattle.ix_formed.specs.Additions.{Makes, AllOf}
 use Rattle.ix_formed.specs.NoErrors.{Agrees}
+use Rattle.ix_formed.specs.OwnSlots.{HasOwnSlot}
 use Rattle.ix_formed.specs.Points.{Keeps}
 use Rattle.ix_formed.specs.Readable.{is_readable_init}
 use Rattle.ix_formed.specs.Typed.{Gives}
@@ -45,7 +46,7 @@ use Rattle.ix_formed.proofs.EachMember.{said_parts, not_broken, type_known}
 use Rattle.ix_formed.proofs.LayoutSpans.{laid_parts, init_spans, init_single}
 use Rattle.ix_formed.proofs.NumberLists.{both_true, is_itself, is_less}
 use Rattle.ix_formed.proofs.PlainItems.{makes_then}
-use Rattle.ix_formed.proofs.ScopedLocals.{scoped_within, scoped_for, stands_for, stands_more, has_first}
+use Rattle.ix_formed.proofs.ScopedLocals.{first_none, slot_is_own, scoped_within, scoped_for, stands_for, stands_more, has_first}
 use Rattle.ix_formed.proofs.TypedDeclarations.{scoped_pending, scoped_declared, stands_declared, copy_leads, default_is}
 use Rattle.ix_formed.proofs.TypedEvaluations.{init_filled}
 use Rattle.ix_formed.proofs.TypedItems.{leads_leave, none_passes, begins_as, Evaluates, value_evaluates}
@@ -134,7 +135,7 @@ module _ (g : Ground) (ground : IsGround g) where
               grown = e.locals;
               typed = refl;
               places = ((from, omega arith), tt);
-              do_fit = λ begins. (is.real, fit begins, tt);
+              do_fit = λ begins. (is.real, fit begins, own begins, tt);
               most = (let m = e.most in omega (arith, m));
               up = (let m = e.free in omega (arith, m));
               items = e.items ++ item.Do o ∷ [];
@@ -165,6 +166,12 @@ module _ (g : Ground) (ground : IsGround g) where
             counted = (let a = ap (λ (l : List (Local × Span)). length l) e.locals in let b = length-append body.locals (local ∷ []) in omega (arith, a, b, counted));
           }
         where
+          own : Begins g ev.body.locals now mid → HasOwnSlot g.method.locals (length body.locals) local
+          own begins other held is inside same =
+              let b = begins_as g ev.body.locals (body.locals ++ local ∷ []) now now mid e.locals refl begins in
+              let none = (first_none _ (local_type_from body.locals types body.made.free local.1) (scoped.unused body.made.free (omega arith) local.1 (from, omega (arith, some, to, up)))).1 in
+              slot_is_own body.locals b.later types local mid scoped.typed none (omega (arith, some, to)) b.behind other held (subst (λ ls. slice_get ls other ≡ Some held) b.locals is) inside same
+
           fit : Begins g ev.body.locals now mid → list_all (claim_fits ty (others (name.Local (length body.locals)) (local_named_type g.program g.method g.locals local.1))) local.0.claims ≡ true
           fit begins =
               let b = begins_as g ev.body.locals (body.locals ++ local ∷ []) now now mid e.locals refl begins in

@@ -1,5 +1,5 @@
 -- The body of a method without errors on names fits, and so do its locals.
-use Rattle.std.proofs.Common.{◌≡◌, ◌≤◌, ℕ, ◌+◌, true, false, List, [], ◌∷◌, ◌++◌, length, map, refl, sym, ap, subst, ◌∙◌}
+use Rattle.std.proofs.Common.{◌≡◌, ◌≤◌, ℕ, zero, suc, ◌+◌, true, false, List, [], ◌∷◌, ◌++◌, length, map, Some, slice_get, arith, refl, sym, ap, subst, ◌∙◌}
 use Rattle.std.specs.List.{list_all}
 use Rattle.std.proofs.lemmas.Bool.{false≢true}
 use Rattle.std.proofs.lemmas.List.{append-nil}
@@ -20,6 +20,7 @@ use Rattle.ix_plain.specs.Statements as statements
 use Rattle.ix_plain.specs.Statements.{statement}
 use Rattle.ix_formed.specs.Additions.{Makes, AllOf}
 use Rattle.ix_formed.specs.LocalTypes.{stmt_types, local_types}
+use Rattle.ix_formed.specs.OwnSlots.{HasOwnSlot, HaveOwnSlots}
 use Rattle.ix_formed.specs.Readable.{stmt_shape, each_fine}
 use Rattle.ix_formed.specs.TypedStatements.{Ground, IsGround, Says, IsKnown, Scoped, Stands, Begins, DoFit, Adds, Tells}
 use Rattle.ix_formed.specs.Written.{is_written_stmt, all_true}
@@ -48,7 +49,7 @@ module _ (g : Ground) (ground : IsGround g) where
   fit_locals number (local ∷ locals) [] fit targets = absurd fit
   fit_locals number (local ∷ locals) (ty ∷ types) fit targets =
       both_true (is_target g.program g.method local.0.slot) _ targets.0 (both_true (is_type g.program ty) _ fit.0
-      (both_true (list_all (claim_fits ty (others (name.Local number) (local_named_type g.program g.method g.locals local.1))) local.0.claims) _ fit.1 (fit_locals (number + 1) locals types fit.2 targets.1)))
+      (both_true (list_all (claim_fits ty (others (name.Local number) (local_named_type g.program g.method g.locals local.1))) local.0.claims) _ fit.1 (fit_locals (number + 1) locals types fit.3 targets.1)))
 
   pub whole_locals_fit : (s : Names) (from to until : ℕ) (start : Body) (point : Point) (after_body : Body) (a : Adds g s from to until start [] point after_body) → start.locals ≡ [] → g.method.locals ≡ after_body.locals → g.locals ≡ a.added_types
       → AllOf (λ (local : Local × Span). is_target g.program g.method local.0.slot ≡ true) g.method.locals → locals_fit g.program g.method g.locals 0 g.method.locals g.locals ≡ true
@@ -58,6 +59,27 @@ module _ (g : Ground) (ground : IsGround g) where
       let fit = subst (λ n. DoFit g n a.added a.added_types) (ap (λ (l : List (Local × Span)). length l) none) (a.do_fit begins) in
       let targets_own = subst (AllOf (λ (local : Local × Span). is_target g.program g.method local.0.slot ≡ true)) own targets in
       ap (λ l. locals_fit g.program g.method g.locals 0 l g.locals) own ∙ ap (locals_fit g.program g.method g.locals 0 a.added) types ∙ fit_locals 0 a.added a.added_types fit targets_own
+
+  own_slots : (number : ℕ) (locals : List (Local × Span)) (types : List Type_) → DoFit g number locals types → (k : ℕ) (local : Local × Span) → slice_get locals k ≡ Some local → HasOwnSlot g.method.locals (number + k) local
+  own_slots number [] types fit k local is = absurd cc
+  own_slots number (first ∷ locals) [] fit k local is = absurd fit
+  own_slots number (first ∷ locals) (ty ∷ types) fit zero local is =
+      let at : first ≡ local = cc in
+      let h : number ≡ number + 0 = omega arith in
+      subst (HasOwnSlot g.method.locals (number + 0)) at (subst (λ n. HasOwnSlot g.method.locals n first) h fit.2)
+  own_slots number (first ∷ locals) (ty ∷ types) fit (suc k) local is =
+      let h : (number + 1) + k ≡ number + suc k = omega arith in
+      subst (λ n. HasOwnSlot g.method.locals n local) h (own_slots (number + 1) locals types fit.3 k local is)
+
+  -- and each of them has a slot of its own
+  pub whole_locals_own : (s : Names) (from to until : ℕ) (start : Body) (point : Point) (after_body : Body) (a : Adds g s from to until start [] point after_body) → start.locals ≡ [] → g.method.locals ≡ after_body.locals → g.locals ≡ a.added_types
+      → HaveOwnSlots g.method.locals
+  whole_locals_own s from to until start point after_body a none locals types number local is =
+      let begins : Begins g after_body.locals a.added_types to = record { later = []; later_types = []; locals = locals ∙ sym (append-nil after_body.locals); types = types ∙ sym (append-nil a.added_types); behind = tt } in
+      let own : g.method.locals ≡ a.added = locals ∙ a.grown ∙ ap (λ l. l ++ a.added) none in
+      let fit = subst (λ n. DoFit g n a.added a.added_types) (ap (λ (l : List (Local × Span)). length l) none) (a.do_fit begins) in
+      let h : 0 + number ≡ number = omega arith in
+      subst (λ n. HasOwnSlot g.method.locals n local) h (own_slots 0 a.added a.added_types fit number local (subst (λ ls. slice_get ls number ≡ Some local) own is))
 
   -- all statements of a body
   pub body_tells : (xs : List Stmt) (s : Names) (start lo hi end : ℕ) (body : Body) (types : List Type_) (point : Point) → Scoped g s body.locals types body.made.free lo end → Stands g s body.locals point → s.next ≡ length body.locals

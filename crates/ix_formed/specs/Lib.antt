@@ -8,6 +8,7 @@ pub mod NoErrors
 pub mod Written
 pub mod Sizes
 pub mod Points
+pub mod OwnSlots
 pub mod Typed
 pub mod TypedStatements
 pub mod Readable

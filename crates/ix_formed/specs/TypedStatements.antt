@@ -28,6 +28,7 @@ use Rattle.ix_plain.specs.declared.body.Body.{Body}
 use Rattle.ix_plain.specs.Scope.{Site, Scope, slot_of}
 use Rattle.ix_formed.specs.Additions.{AllOf, code_before}
 use Rattle.ix_formed.specs.NoErrors.{Agrees, named_at}
+use Rattle.ix_formed.specs.OwnSlots.{HasOwnSlot}
 use Rattle.ix_formed.specs.Points.{Known, Keeps}
 use Rattle.ix_formed.specs.Typed.{HasMembers}
 use Rattle.ix_formed.specs.Weights.{total}
@@ -123,11 +124,12 @@ pub record Begins (g : Ground) (own : List (Local × Span)) (own_types : List Ty
   pub types : g.locals ≡ own_types ++ later_types
   pub behind : AllOf (λ (local : Local × Span). at ≤ local.1.from) later
 
--- The types and the claims of locals fit, from that number on.
+-- The types and the claims of locals fit, from that number on, and each has a slot of its own.
 abbrev pub DoFit : Ground → ℕ → List (Local × Span) → List Type_ → Type 0
 DoFit g number [] [] = Unit {0}
 DoFit g number (local ∷ locals) (ty ∷ types) = (is_type g.program ty ≡ true)
-    × (list_all (claim_fits ty (others (name.Local number) (local_named_type g.program g.method g.locals local.1))) local.0.claims ≡ true) × DoFit g (number + 1) locals types
+    × (list_all (claim_fits ty (others (name.Local number) (local_named_type g.program g.method g.locals local.1))) local.0.claims ≡ true)
+    × HasOwnSlot g.method.locals number local × DoFit g (number + 1) locals types
 DoFit g number _ _ = ⊥
 
 -- What is so of a body wherever one stands in it.

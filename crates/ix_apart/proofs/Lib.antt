@@ -1,0 +1,5 @@
+mod TypedNames
+mod ApartLocals
+mod LocalsCounted
+mod FewDeclared
+pub mod LoweredPrograms
