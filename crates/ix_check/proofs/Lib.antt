@@ -1,3 +1,2 @@
 mod FewMethods
-mod FewNumbers
 mod Listed

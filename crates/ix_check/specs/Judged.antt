@@ -1,6 +1,5 @@
 -- What is asked of a program that is checked, beside that it is formed. Every program that comes of a source has it.
-use Rattle.std.specs.Prelude.{◌<◌, ◌^◌, List, [], ◌∷◌, length}
-use Rattle.ix_core.specs.declared.program.Method.{Method}
+use Rattle.std.specs.Prelude.{◌<◌, ◌^◌, length}
 use Rattle.ix_core.specs.declared.program.Program.{Program}
 use Rattle.ix_ready.specs.Few.{HasFew}
 use Rattle.ix_sound.specs.Sound.{LocalsApart}
@@ -10,8 +9,3 @@ pub record CanCheck (program : Program) : Type 0 where
   pub methods : length program.methods < 2 ^ 32
   pub few : HasFew program
   pub apart : LocalsApart program
-
--- the locals of each method, method by method
-abbrev pub HaveFewLocals : List Method → Type 0
-HaveFewLocals [] = Unit {0}
-HaveFewLocals (method ∷ methods) = (length method.locals < 2 ^ 32) × HaveFewLocals methods

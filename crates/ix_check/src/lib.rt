@@ -7,10 +7,7 @@
 #![tactic(auto)]
 
 mod counts;
-mod error;
-mod judged;
 mod whole;
 
 pub use counts::{Counts, count_program};
-pub use error::CheckError;
 pub use whole::{check, check_program};

@@ -1,14 +1,11 @@
 //! The check of a whole program.
-ghost use Rattle.std.specs.Prelude.{◌≡◌, ◌≢◌, ◌+◌, ◌≤◌, [], length, IfOk, MatchResult};
+ghost use Rattle.std.specs.Prelude.{◌≡◌, ◌+◌, ◌≤◌, [], length, IfOk};
 ghost use Rattle.ix_core.specs.Formed.{Formed};
 ghost use Rattle.ix_core.specs.Safe.{Safe};
 ghost use Rattle.ix_check.specs.Judged.{CanCheck};
-ghost use Rattle.ix_check.specs.declared.error.CheckError.TheVariants.{Memory};
 ghost use Rattle.ix_errors.specs.MethodErrors.{IsError, nodes_below};
 ghost use Rattle.ix_listing.specs.ErrorList.{IsErrorList};
 
-use crate::error::CheckError;
-use crate::judged::can_check;
 use ix_core::{Error, Profile, Program};
 use ix_errors::program_errors;
 use ix_listing::list_errors;
@@ -61,22 +58,16 @@ fn check_with<L: Ledger>(
     check(alloc, program, profile, &mut steps)
 }
 
-/// The errors of the program in a profile, as they are listed. `Unbuilt` comes exactly where the program isn't one that is checked, which no source has.
-/// Where there are none, no run of the program indexes outside an array or makes one of negative length, whatever the inputs that meet the entry's annotations.
+/// The errors of the program in a profile, as they are listed, with a counter of its own: see `check`.
 pub fn check_program(
     alloc: Global,
     program: &Program,
     profile: Profile,
-) -> Result<Vec<Error>, CheckError>
+) -> Result<Vec<Error>, AllocError>
     requires formed { Formed program.now }
-    ensures errors { MatchResult result (λ errors. CanCheck program.now × IsErrorList (IsError program.now profile) errors.items) (λ error. error ≢ Memory → CanCheck program.now → ⊥) }
+    requires can { CanCheck program.now }
+    ensures errors { IfOk result (λ errors. IsErrorList (IsError program.now profile) errors.items) }
     ensures safe { IfOk result (λ errors. errors.items ≡ [] → Safe program.now profile) }
 {
-    if !can_check(program) {
-        return Err(CheckError::Unbuilt);
-    }
-    match check_with::<Brand>(alloc, program, profile, Blank::new(1)) {
-        Ok(errors) => Ok(errors),
-        Err(_) => Err(CheckError::Memory),
-    }
+    check_with::<Brand>(alloc, program, profile, Blank::new(1))
 }

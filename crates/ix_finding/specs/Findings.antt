@@ -1,6 +1,7 @@
 -- What a finding of the code says, and where it stands.
 use Rattle.std.specs.Prelude.{ℕ, ◌≤◌}
 use Rattle.ix_core.specs.Formed.{Formed}
+use Rattle.ix_check.specs.Judged.{CanCheck}
 use Rattle.ix_finding.specs.declared.finding.Finding.{Finding as Seen}
 use Rattle.ix_finding.specs.declared.finding.Finding.TheVariants as code
 use Rattle.ix_finding.specs.Found.{Finding, TooLong, Broken, Past, Misnamed, Whole}
@@ -18,7 +19,7 @@ IsPlaced end (Broken at key) = at ≤ end
 IsPlaced end (Past at name) = at ≤ end
 IsPlaced end _ = Unit {0}
 
--- The plain form of a source is formed.
+-- The plain form of a source is formed, and one that can be checked.
 abbrev pub HasFormed : Finding → Type 0
-HasFormed (Whole program) = Formed program
+HasFormed (Whole program) = Formed program × CanCheck program
 HasFormed _ = Unit {0}

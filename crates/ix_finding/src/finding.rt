@@ -10,6 +10,7 @@ ghost use Rattle.ix_parsed.specs.IntTokens.{HaveInts};
 ghost use Rattle.ix_finding.specs.Found as spec;
 ghost use Rattle.ix_finding.specs.Findings.{seen, IsPlaced, HasFormed};
 
+use ix_apart::{lowered_is_few, lowered_locals_are_apart};
 use ix_core::Program;
 use ix_lexer::{LexError, Token, lex};
 use ix_lower::{LowerError, lower};
@@ -111,6 +112,8 @@ fn of_lowered(alloc: Global, unit: &Unit, table: &Table, end: u32) -> Result<Fin
     ensures placed { IfOk result (λ finding. IsPlaced end (seen finding)) }
     ensures formed { IfOk result (λ finding. HasFormed (seen finding)) }
 {
+    lowered_is_few();
+    lowered_locals_are_apart();
     match lower(alloc, unit, table) {
         Ok(program) => Ok(Finding::Whole(program)),
         Err(why) => match of_lower_error(end, why) {

@@ -29,9 +29,9 @@ use Rattle.ix_answer.specs.Answer.{Answer, out_answer}
 use Rattle.ix_finding.specs.Found.{Finding, TooLong, Broken, Past, Misnamed, Whole, Found, too_long, no_tokens, lexed, no_tree, tree, passes_limit, misnames, inherits, too_big, named, of_lex_error, of_parse_error}
 use Rattle.ix_errors.specs.MethodErrors.{IsError}
 use Rattle.ix_listing.proofs.Lists.{one_list}
-use Rattle.ix_tool.specs.Judgements.{Judgement, NotBuilt, Judged, Judges, unchecked, checked, profile_of}
+use Rattle.ix_tool.specs.Judgements.{profile_of}
 use Rattle.ix_tool.specs.Runs.{RunAnswers, start_answer, status_of}
-use Rattle.ix_tool.specs.Answers.{IsVerdict, AnswersOn, AnswersWhole, verdict, check_answer, bench_verdict, bench_answer, source_bytes, file_in}
+use Rattle.ix_tool.specs.Answers.{IsVerdict, AnswersOn, AnswersWhole, verdict, bench_verdict, source_bytes, file_in}
 use Rattle.ix_tool.specs.Ends.{bytes_of, SafeBytes, PromisesOn, Promises}
 use Rattle.ix_answer.specs.Delivery.{IsOnly}
 use Rattle.ix_answer.specs.declared.reply.Reply.{Reply}
@@ -60,18 +60,11 @@ runs_one : (program : Program) (bytes : List ℕ) (limits : Limits) (entry : Tex
 runs_one program bytes limits entry words one other a b =
     b.2 ∙ ap (start_answer program bytes limits) (starts_one program entry words limits.cells b.0 a.0 b.1 a.1) ∙ sym a.2
 
--- the rules say one thing of a program
-judges_one : (program : Program) (profile : Profile) (one other : Judgement) → Judges program profile one → Judges program profile other → other ≡ one
-judges_one program profile _ _ (unchecked a) (unchecked b) = refl
-judges_one program profile _ _ (unchecked a) (checked errors can list) = absurd (a can)
-judges_one program profile _ _ (checked errors can list) (unchecked b) = absurd (b can)
-judges_one program profile _ _ (checked errors can list) (checked others could others_list) = ap (λ (es : List Error). Judged es) (one_list (IsError program profile) others errors others_list list)
-
 whole_one : (command : Command) (bytes : List ℕ) (program : Program) (one other : Answer)
     → AnswersWhole command bytes program one → AnswersWhole command bytes program other → other ≡ one
-whole_one (Check sums file) bytes program one other a b = b.2 ∙ ap (check_answer file bytes program) (judges_one program (profile_of sums) a.0 b.0 a.1 b.1) ∙ sym a.2
+whole_one (Check sums file) bytes program one other a b = b.2 ∙ ap (verdict file bytes program) (one_list (IsError program (profile_of sums)) b.0 a.0 b.1 a.1) ∙ sym a.2
 whole_one (Run limits file entry inputs) bytes program one other a b = runs_one program bytes limits entry inputs one other a b
-whole_one (Bench count) bytes program one other a b = b.2 ∙ ap (bench_answer count program) (judges_one program Int32 a.0 b.0 a.1 b.1) ∙ sym a.2
+whole_one (Bench count) bytes program one other a b = b.2 ∙ ap (bench_verdict count program) (one_list (IsError program Int32) b.0 a.0 b.1 a.1) ∙ sym a.2
 
 answers_one : (command : Command) (bytes : List ℕ) (finding : Finding) (one other : Answer) → AnswersOn command bytes finding one → AnswersOn command bytes finding other → other ≡ one
 answers_one command bytes TooLong one other a b = b ∙ sym a
@@ -125,18 +118,16 @@ start_answers : (program : Program) (bytes : List ℕ) (limits : Limits) (begun 
 start_answers program bytes limits (Ok state) = end_answers _
 start_answers program bytes limits (Err why) = refl
 
-check_answers : (name bytes : List ℕ) (program : Program) (judged : Judgement) → is_answer (check_answer name bytes program judged).status ≡ true
-check_answers name bytes program NotBuilt = refl
-check_answers name bytes program (Judged []) = refl
-check_answers name bytes program (Judged (error ∷ errors)) = refl
+verdict_answers_is : (name bytes : List ℕ) (program : Program) (errors : List Error) → is_answer (verdict name bytes program errors).status ≡ true
+verdict_answers_is name bytes program [] = refl
+verdict_answers_is name bytes program (error ∷ errors) = refl
 
-bench_answers : (count : ℕ) (program : Program) (judged : Judgement) → is_answer (bench_answer count program judged).status ≡ true
-bench_answers count program NotBuilt = refl
-bench_answers count program (Judged []) = refl
-bench_answers count program (Judged (error ∷ errors)) = refl
+bench_answers : (count : ℕ) (program : Program) (errors : List Error) → is_answer (bench_verdict count program errors).status ≡ true
+bench_answers count program [] = refl
+bench_answers count program (error ∷ errors) = refl
 
 whole_answers : (command : Command) (bytes : List ℕ) (program : Program) (answer : Answer) → AnswersWhole command bytes program answer → is_answer answer.status ≡ true
-whole_answers (Check sums file) bytes program answer right = rw right.2 (check_answers file bytes program right.0)
+whole_answers (Check sums file) bytes program answer right = rw right.2 (verdict_answers_is file bytes program right.0)
 whole_answers (Run limits file entry inputs) bytes program answer right = rw right.2 (start_answers program bytes limits right.0)
 whole_answers (Bench count) bytes program answer right = rw right.2 (bench_answers count program right.0)
 

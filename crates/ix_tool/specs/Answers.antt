@@ -13,9 +13,11 @@ use Rattle.ix_words.specs.Words.{Text}
 use Rattle.ix_words.specs.Commands.{Command, Check, Run, Bench}
 use Rattle.ix_answer.specs.Answer.{Answer, out_answer, err_answer}
 use Rattle.ix_finding.specs.Found.{Finding, TooLong, Broken, Past, Misnamed, Whole, Found}
-use Rattle.ix_tool.specs.Judgements.{Judgement, NotBuilt, Judged, Judges, profile_of}
+use Rattle.ix_errors.specs.MethodErrors.{IsError}
+use Rattle.ix_listing.specs.ErrorList.{IsErrorList}
+use Rattle.ix_tool.specs.Judgements.{profile_of}
 use Rattle.ix_tool.specs.Runs.{RunAnswers}
-use Rattle.ix_answer.specs.declared.status.Status.TheVariants.{Done, Rejected, Usage, Limit, Unbuilt}
+use Rattle.ix_answer.specs.declared.status.Status.TheVariants.{Done, Rejected, Usage, Limit}
 
 -- ---- commands and files
 
@@ -52,32 +54,22 @@ usage = err_answer Usage (line (codes "usage: indexcheck check FILE | run FILE C
 abbrev pub read_failed : List ℕ → List ℕ
 read_failed file = file ++ line (codes ": read failed")
 
-abbrev pub unbuilt : List ℕ → Answer
-unbuilt name = err_answer Unbuilt (name ++ line (codes ": not built yet"))
-
 -- the answer of `check` on a source with this program and these errors
 abbrev pub verdict : List ℕ → List ℕ → Program → List Error → Answer
 verdict name bytes program [] = out_answer Done (accepted (counts_of program).methods (counts_of program).accesses)
 verdict name bytes program (error ∷ errors) = out_answer Rejected (report program name bytes (error ∷ errors))
-
-abbrev pub check_answer : List ℕ → List ℕ → Program → Judgement → Answer
-check_answer name bytes program NotBuilt = unbuilt name
-check_answer name bytes program (Judged errors) = verdict name bytes program errors
 
 -- the answer of `bench`
 abbrev pub bench_verdict : ℕ → Program → List Error → Answer
 bench_verdict count program [] = out_answer Done (bench_accepted count (counts_of program).methods (counts_of program).accesses)
 bench_verdict count program (error ∷ errors) = out_answer Rejected (bench_rejected count (length (error ∷ errors)))
 
-abbrev pub bench_answer : ℕ → Program → Judgement → Answer
-bench_answer count program NotBuilt = unbuilt (bench_name count)
-bench_answer count program (Judged errors) = bench_verdict count program errors
-
--- This is the answer to a command on a source without errors on names and within the limits, by its program. A run isn't judged.
+-- This is the answer to a command on a source without errors on names and within the limits, by its program: `check` and `bench` tell all errors that the rules derive
+-- at the least labels, and those of the text, as they are listed. A run isn't judged.
 abbrev pub AnswersWhole : Command → List ℕ → Program → Answer → Type 0
-AnswersWhole (Check sums file) bytes program answer = (judgement : Judgement) × Judges program (profile_of sums) judgement × (answer ≡ check_answer file bytes program judgement)
+AnswersWhole (Check sums file) bytes program answer = (errors : List Error) × IsErrorList (IsError program (profile_of sums)) errors × (answer ≡ verdict file bytes program errors)
 AnswersWhole (Run limits file entry inputs) bytes program answer = RunAnswers program bytes limits entry inputs answer
-AnswersWhole (Bench count) bytes program answer = (judgement : Judgement) × Judges program Int32 judgement × (answer ≡ bench_answer count program judgement)
+AnswersWhole (Bench count) bytes program answer = (errors : List Error) × IsErrorList (IsError program Int32) errors × (answer ≡ bench_verdict count program errors)
 
 -- This is the answer to a command on a source with these bytes, of which this is found.
 abbrev pub AnswersOn : Command → List ℕ → Finding → Answer → Type 0

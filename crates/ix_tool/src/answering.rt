@@ -4,6 +4,7 @@ ghost use Rattle.ix_answer.specs.Replies.{shown};
 ghost use Rattle.ix_tool.specs.Answers as spec;
 ghost use Rattle.ix_finding.specs.Found.{TooLong};
 ghost use Rattle.ix_finding.specs.Findings.{seen, IsPlaced, HasFormed};
+ghost use Rattle.ix_check.specs.Judged.{CanCheck};
 ghost use Rattle.ix_core.specs.Formed.{Formed};
 ghost use Rattle.ix_tool.specs.Judgements as judgements;
 ghost use Rattle.ix_tool.specs.Ends.{PromisesWhole, PromisesOn, Promises};
@@ -14,11 +15,10 @@ ghost use Rattle.ix_words.specs.Shown.{shown as command_of};
 use crate::playing::play;
 use crate::reply::{
     bench_reply, broken_reply, judged_reply, misnamed_reply, past_reply, too_long_reply,
-    unbuilt_reply,
 };
 use crate::source::source_name;
 use ix_answer::{Reply, Status, say, wanting};
-use ix_check::{CheckError, check_program};
+use ix_check::check_program;
 use ix_core::{Profile, Program};
 use ix_finding::{Finding, of_bytes};
 use ix_outside::Sink;
@@ -45,33 +45,27 @@ fn check_reply(
 ) -> Result<Reply, AllocError>
     requires short { length bytes.now ≤ 1048576 }
     requires formed { Formed program.now }
+    requires can { CanCheck program.now }
     ensures answers { IfOk result (λ reply. spec.AnswersWhole (Check sums name.now) bytes.now program.now (shown reply)) }
     ensures safe { IfOk result (λ reply. PromisesWhole (Check sums name.now) program.now (shown reply)) }
 {
-    match check_program(alloc, program, profile_of(sums)) {
-        Ok(errors) => judged_reply(alloc, name, bytes, program, &errors),
-        Err(CheckError::Unbuilt) => unbuilt_reply(alloc, name),
-        Err(CheckError::Memory) => Err(AllocError),
-    }
+    let errors = check_program(alloc, program, profile_of(sums))?;
+    judged_reply(alloc, name, bytes, program, &errors)
 }
 
 /// The reply of `bench` on a workload with this program.
 fn workload_reply(
     alloc: Global,
-    name: &str,
     count: u32,
     bytes: &[u8],
     program: &Program,
 ) -> Result<Reply, AllocError>
-    requires name { name.now ≡ spec.bench_name count }
     requires formed { Formed program.now }
+    requires can { CanCheck program.now }
     ensures { IfOk result (λ reply. spec.AnswersWhole (Bench count) bytes.now program.now (shown reply)) }
 {
-    match check_program(alloc, program, Profile::Int32) {
-        Ok(errors) => bench_reply(alloc, count, program, &errors),
-        Err(CheckError::Unbuilt) => unbuilt_reply(alloc, name),
-        Err(CheckError::Memory) => Err(AllocError),
-    }
+    let errors = check_program(alloc, program, Profile::Int32)?;
+    bench_reply(alloc, count, program, &errors)
 }
 
 /// Answers a command on a source without errors on names and within the limits.
@@ -88,6 +82,7 @@ fn answer_whole<K: Sink, E: Sink>(
     requires name { name.now ≡ spec.source_name (command_of command.now) }
     requires short { length bytes.now ≤ 1048576 }
     requires formed { Formed program.now }
+    requires can { CanCheck program.now }
     ensures { Delivers (λ a. spec.AnswersWhole (command_of command.now) bytes.now program.now a × PromisesWhole (command_of command.now) program.now a) result (sinks (K.taken out.old) (K.faults out.old) (E.taken err.old) (E.faults err.old) (E.refused err.old))
         (sinks (K.taken out.new) (K.faults out.new) (E.taken err.new) (E.faults err.new) (E.refused err.new)) }
 {
@@ -95,11 +90,7 @@ fn answer_whole<K: Sink, E: Sink>(
         Command::Check { sums, .. } => {
             say(check_reply(alloc, *sums, name, bytes, program), out, err)
         }
-        Command::Bench(count) => say(
-            workload_reply(alloc, name, *count, bytes, program),
-            out,
-            err,
-        ),
+        Command::Bench(count) => say(workload_reply(alloc, *count, bytes, program), out, err),
         Command::Run {
             limits,
             entry,

@@ -3,7 +3,7 @@ ghost use Rattle.std.specs.Prelude.{◌≡◌, ◌≤◌, length, IfOk, string_b
 ghost use Rattle.ix_core.specs.Formed.{Formed};
 ghost use Rattle.ix_answer.specs.Answer.{out_answer, err_answer};
 ghost use Rattle.ix_answer.specs.Replies.{shown};
-ghost use Rattle.ix_tool.specs.Answers.{unbuilt as unbuilt_answer, verdict, bench_verdict, usage, read_failed};
+ghost use Rattle.ix_tool.specs.Answers.{verdict, bench_verdict, usage, read_failed};
 ghost use Rattle.ix_report.specs.Texts as text;
 ghost use Rattle.ix_name_report.specs.Texts as names_text;
 
@@ -95,14 +95,6 @@ pub(crate) fn too_long_reply(alloc: Global, name: &str) -> Result<Reply, AllocEr
 {
     let err = past_bytes(alloc, name)?;
     Ok(on_err(alloc, Status::Limit, err))
-}
-
-/// The reply on a source of a form that isn't judged yet.
-pub(crate) fn unbuilt_reply(alloc: Global, name: &str) -> Result<Reply, AllocError>
-    ensures { IfOk result (λ reply. shown reply ≡ unbuilt_answer name.now) }
-{
-    let err = format!(in alloc; "{name}: not built yet\n")?;
-    Ok(on_err(alloc, Status::Unbuilt, err))
 }
 
 /// The reply on a workload that is judged.

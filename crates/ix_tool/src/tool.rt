@@ -70,7 +70,7 @@ fn obey<S: Source, K: Sink, E: Sink>(
 /// Obeys the command that the words are: reads the file that it names through `files`, and answers through `out` and `err`.
 ///
 /// What `files` handed out in this call stands in its log (`given`), and what it was asked to open (`names`): a command opens its file, once, and
-/// nothing else is opened. `Done`, `Rejected`, `Limit`, `Stopped`, `StepsSpent`, `InputsRefused` and `Unbuilt` come exactly where the answer to
+/// nothing else is opened. `Done`, `Rejected`, `Limit`, `Stopped`, `StepsSpent` and `InputsRefused` come exactly where the answer to
 /// the command on the bytes that were handed out has that status: the first of too many bytes (`Limit`), a lexical error (`Rejected`) or too
 /// many tokens (`Limit`), a syntax error (`Rejected`) or too great a height (`Limit`), limits of its classes (`Limit`), errors on names
 /// (`Rejected`), limits of its methods (`Limit`); then for `check` and `bench` rule errors (`Rejected`), and for `run` inputs that aren't right (`InputsRefused`), or how the run ends within its steps. `Done` of `check` promises
