@@ -7,8 +7,6 @@ const ACCEPTED: &str = "accepted: 1 methods, 1 accesses\n";
 
 const USAGE: &str = "usage: indexcheck check FILE | run FILE CLASS.METHOD -- INPUTS | bench N\n";
 
-const UNBUILT: &str = "A.java: not built yet\n";
-
 const CHECK: &[&str] = &["check", "A.java"];
 
 #[test]
@@ -23,9 +21,9 @@ fn sources(rt: HostRuntime) -> Result<(), Fail> {
         ),
         (
             "class A { static int first(int[] a) { return a[0]; } }",
-            Status::Unbuilt,
+            Status::Rejected,
+            "A.java:1:48: access.high\nrejected: 1 errors\n",
             "",
-            UNBUILT,
         ),
         ("", Status::Done, "accepted: 0 methods, 0 accesses\n", ""),
         (
@@ -36,9 +34,9 @@ fn sources(rt: HostRuntime) -> Result<(), Fail> {
         ),
         (
             "class A { static int f(int[] a, @Positive @LTLengthOf(\"a\") int i) { return a[i]; } }",
-            Status::Unbuilt,
+            Status::Done,
+            ACCEPTED,
             "",
-            UNBUILT,
         ),
         (
             "class A { static int low() { return 2147483648; } }",

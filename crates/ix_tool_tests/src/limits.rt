@@ -69,7 +69,7 @@ fn greatest_height(rt: HostRuntime) -> Result<(), Fail> {
     let alloc = rt.alloc();
     assert_eq!(rt;
         check(alloc, nested(alloc, 197)?.as_bytes())?.status,
-        Status::Unbuilt
+        Status::Done
     );
     let past = check(alloc, nested(alloc, 198)?.as_bytes())?;
     assert!(rt;

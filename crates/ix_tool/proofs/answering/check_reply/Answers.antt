@@ -1,4 +1,4 @@
-use Rattle.std.proofs.Common.{◌≡◌, ◌∙◌, ap, sym, subst}
+use Rattle.std.proofs.Common.{◌∙◌, ap, sym, subst}
 use Rattle.std.proofs.lemmas.Result.{IfOk-weaker}
 use Rattle.ix_core.specs.Safe.{Safe}
 use Rattle.ix_errors.specs.MethodErrors.{IsError}
@@ -22,6 +22,6 @@ returns-clause-safe c =
     let errors = c.in_ok-errors.errors.items in
     IfOk-weaker c.judged_reply.result _ _
     (λ reply is done.
-      let all = is ∙ ap (verdict c.args.name.now c.args.bytes.now c.args.program.now) c.deref.ensures.value in
-      subst (Safe c.args.program.now) c.profile_of.ensures
-      (c.in_ok-errors.ensures.safe (verdict_done c.args.name.now c.args.bytes.now c.args.program.now errors (sym (status_is _ _ all) ∙ done)))) c.judged_reply.ensures
+    let all = is ∙ ap (verdict c.args.name.now c.args.bytes.now c.args.program.now) c.deref.ensures.value in
+    subst (Safe c.args.program.now) c.profile_of.ensures
+    (c.in_ok-errors.ensures.safe (verdict_done c.args.name.now c.args.bytes.now c.args.program.now errors (sym (status_is _ _ all) ∙ done)))) c.judged_reply.ensures
