@@ -18,7 +18,8 @@ use std::sync::ledger::{Blank, Ledger};
 
 /// The errors of the program in a profile: all that the rules derive at the least labels of each method, and those of its text, nothing else, as they are
 /// listed. Where there are none, no run of the program indexes outside an array or makes one of negative length, whatever the inputs that meet the entry's
-/// annotations, and for any number of steps. The one error is want of memory. Visits of the nodes of each method's graph are counted, at least one each.
+/// annotations, and for any number of steps; in the profile `Ideal` this is said of a run up to the first sum that wraps. The one error is want of memory.
+/// Visits of the nodes of each method's graph are counted, at least one each.
 pub fn check<L: Ledger>(
     alloc: Global,
     program: &Program,

@@ -73,9 +73,10 @@ fn obey<S: Source, K: Sink, E: Sink>(
 /// nothing else is opened. `Done`, `Rejected`, `Limit`, `Stopped`, `StepsSpent` and `InputsRefused` come exactly where the answer to
 /// the command on the bytes that were handed out has that status: the first of too many bytes (`Limit`), a lexical error (`Rejected`) or too
 /// many tokens (`Limit`), a syntax error (`Rejected`) or too great a height (`Limit`), limits of its classes (`Limit`), errors on names
-/// (`Rejected`), limits of its methods (`Limit`); then for `check` and `bench` rule errors (`Rejected`), and for `run` inputs that aren't right (`InputsRefused`), or how the run ends within its steps. `Done` of `check` promises
-/// besides that no run of the program of these bytes, for any inputs that meet the entry's annotations and any number of steps, indexes outside
-/// an array or makes one of negative length. A run writes each value as soon as it is printed.
+/// (`Rejected`), limits of its methods (`Limit`); then for `check` and `bench` rule errors (`Rejected`), and for `run` inputs that aren't right
+/// (`InputsRefused`), or how the run ends within its steps. `Done` of `check` promises besides that no run of the program of these bytes, for any
+/// inputs that meet the entry's annotations and any number of steps, indexes outside an array or makes one of negative length; with
+/// `--sums ideal` this is said of a run up to the first sum that wraps. A run writes each value as soon as it is printed.
 ///
 /// `Usage` comes exactly where the words are no command; they open and read nothing. `ReadFault` comes only where the count of faults of `files`
 /// rose in this call and the named file wasn't sure when it began, `WriteFault` only where that of `out` or `err` rose in this call, and `Memory`
