@@ -31,13 +31,14 @@ returns-in-Some-clause-placed c = unlowered_placed _ _ _ c.in-Some.ensures
 pub returns-in-Ok-clause-formed : goal.returns-in-Ok-clause-formed
 returns-in-Ok-clause-formed c =
     let source = c.args.unit.now in
-    let made : program (names source) source.classes ≡ Ok c.in-Ok.program = ap (λ n. program n source.classes) (sym c.requires.table) ∙ c.in-Ok.ensures.program in
-    (c.in-Ok.ensures.formed c.requires.parsed c.requires.accepts c.requires.table,
-    record {
-      methods = c.lowered_is_few.ensures.methods source c.in-Ok.program c.requires.accepts c.requires.parsed made;
-      few = c.lowered_is_few.ensures.few source c.in-Ok.program c.requires.accepts c.requires.parsed made;
-      apart = c.lowered_locals_are_apart.ensures.apart source c.in-Ok.program c.requires.accepts c.requires.parsed made;
-    })
+    let made : program (names source) source.classes ≡ Ok c.in-Ok.program = ap (λ n. program n source.classes) (sym c.requires.table) ∙ c.in-Ok.ensures.program in (
+      c.in-Ok.ensures.formed c.requires.parsed c.requires.accepts c.requires.table,
+      record {
+        methods = c.lowered_is_few.ensures.methods source c.in-Ok.program c.requires.accepts c.requires.parsed made;
+        few = c.lowered_is_few.ensures.few source c.in-Ok.program c.requires.accepts c.requires.parsed made;
+        apart = c.lowered_locals_are_apart.ensures.apart source c.in-Ok.program c.requires.accepts c.requires.parsed made;
+      },
+    )
 
 pub returns-in-Some-clause-formed : goal.returns-in-Some-clause-formed
 returns-in-Some-clause-formed c = unlowered_formed _ _ _ c.in-Some.ensures
