@@ -1,0 +1,2 @@
+-- The least labels of a method's loops.
+pub mod LoopLabels
