@@ -48,7 +48,7 @@ fn both_sides(rt: HostRuntime) -> Result<(), Fail> {
     let rows = [
         (with_params(alloc, 30)?, Status::Done),
         (with_params(alloc, 31)?, Status::Limit),
-        (with_locals(alloc, 509)?, Status::Done),
+        (with_locals(alloc, 60)?, Status::Done),
         (with_locals(alloc, 510)?, Status::Limit),
         (with_claims(alloc, 16)?, Status::Done),
         (with_claims(alloc, 17)?, Status::Limit),
