@@ -6,7 +6,7 @@ use Rattle.std.proofs.Math.Seq.{drop-cons}
 use Rattle.std.proofs.lemmas.Int.{ints, clamps}
 use Rattle.ix_core.specs.declared.fact.Fact.{Fact}
 use Rattle.ix_facts.specs.Facts.{IsIn}
-use Rattle.ix_facts.specs.Bounds.{best, best_of, at_least, at_most, greatest, least}
+use Rattle.ix_facts.specs.Bounds.{best, at_least, at_most, greatest}
 use Rattle.ix_facts.specs.Exact.{each}
 
 max_joined : (x y z : ℤ) → int_max (int_max x y) z ≡ int_max x (int_max y z)

@@ -1,5 +1,5 @@
 -- Each bound by the facts on a path is the bound by all facts.
-use Rattle.std.specs.Prelude.{◌≡◌, ℤ, pos, Option, List, refl}
+use Rattle.std.specs.Prelude.{◌≡◌, pos, List}
 use Rattle.std.specs.Int.{int_min, int_max}
 use Rattle.std.proofs.Common.{ap}
 use Rattle.ix_num.specs.Ints.{least_int, greatest_int}

@@ -117,7 +117,7 @@ pub fn length_low<G: Groups>(facts: &G, p: &Path) -> i64
     ensures bound { result ≡ spec.length_low (G.all facts.now) p.now }
     ensures small { IsEnd result }
 {
-    length_low_on(facts.on_path(p), p)
+    length_low_on(facts.ends_on(p), p)
 }
 
 /// The least number that the length is stored to be at most.
@@ -125,7 +125,7 @@ pub fn length_high<G: Groups>(facts: &G, p: &Path) -> i64
     ensures bound { result ≡ spec.length_high (G.all facts.now) p.now }
     ensures small { IsEnd result }
 {
-    length_high_on(facts.on_path(p), p)
+    length_high_on(facts.ends_on(p), p)
 }
 
 /// The greatest number that the int is stored to be at least.
@@ -133,7 +133,7 @@ pub(crate) fn range_low<G: Groups>(facts: &G, p: &Path) -> i64
     ensures bound { result ≡ spec.range_low (G.all facts.now) p.now }
     ensures small { IsEnd result }
 {
-    range_low_on(facts.on_path(p), p)
+    range_low_on(facts.ends_on(p), p)
 }
 
 /// The least number that the int is stored to be at most.
@@ -141,5 +141,5 @@ pub(crate) fn range_high<G: Groups>(facts: &G, p: &Path) -> i64
     ensures bound { result ≡ spec.range_high (G.all facts.now) p.now }
     ensures small { IsEnd result }
 {
-    range_high_on(facts.on_path(p), p)
+    range_high_on(facts.ends_on(p), p)
 }

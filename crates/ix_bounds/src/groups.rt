@@ -7,6 +7,7 @@ ghost use Rattle.ix_facts.specs.Bounds.{is_path};
 ghost use Rattle.ix_facts.specs.Facts.{IsIn};
 ghost use Rattle.ix_facts.specs.Forget.{names};
 ghost use Rattle.ix_facts.specs.Small.{HasSmallNumbers};
+ghost use Rattle.ix_bounds.specs.Ends.{ends_in};
 
 use ix_core::{Fact, Path};
 
@@ -23,9 +24,20 @@ pub trait Groups {
         ensures facts { result.now ≡ group self.now p.now }
         ensures small { All HasSmallNumbers result.now };
 
-    /// All facts that name the path are among them, in order.
+    /// The ranges on a path, and the class of the int there: all of them, and maybe others.
+    ghost ends: { Self → Path → List Fact };
+
+    /// The ranges on the path, and the class of the int there: few, where many facts name the path.
+    fn ends_on(&self, p: &Path) -> &[Fact]
+        ensures facts { result.now ≡ ends self.now p.now }
+        ensures small { All HasSmallNumbers result.now };
+
+    /// All facts that name the path are among those on it, in order.
     ghost named: { (facts : Self) (p : Path) → filter (names (is_path p)) (group facts p) ≡ filter (names (is_path p)) (all facts) };
 
-    /// There are no others than facts.
+    /// All ranges and classes that name the path are among those on it, in order.
+    ghost named_ends: { (facts : Self) (p : Path) → filter (names (is_path p)) (ends facts p) ≡ filter (names (is_path p)) (ends_in (all facts)) };
+
+    /// There are no others than facts on it.
     ghost only: { (facts : Self) (p : Path) (f : Fact) → IsIn f (group facts p) → IsIn f (all facts) };
 }

@@ -1,8 +1,8 @@
 -- The facts of the entries at a path are the facts that name it.
-use Rattle.std.specs.Prelude.{◌≡◌, ℕ, zero, suc, ◌<◌, ◌+◌, Bool, true, false, cond, ◌||◌, pos, List, [], ◌∷◌, ◌++◌, length, get_or, slice_index_or, filter, refl}
+use Rattle.std.specs.Prelude.{◌≡◌, ℕ, zero, suc, ◌<◌, ◌+◌, Bool, true, false, cond, ◌||◌, pos, List, [], ◌∷◌, ◌++◌, length, get_or, refl}
 use Rattle.std.specs.List.Sorted.{IsSortedByKey}
 use Rattle.std.specs.Ordering.{is_lt}
-use Rattle.std.proofs.Common.{arith, sym, ap, ◌∙◌, subst}
+use Rattle.std.proofs.Common.{sym, ap, ◌∙◌, subst}
 use Rattle.std.proofs.lemmas.Bool.{false≢true}
 use Rattle.ix_core.specs.declared.fact.Path.{Path}
 use Rattle.ix_core.specs.declared.fact.PathOff.{PathOff}
@@ -12,19 +12,19 @@ use Rattle.ix_core.specs.declared.fact.Fact.TheVariants.{Rng, LenRng, Low, Same,
 use Rattle.ix_facts.specs.Bounds.{is_path}
 use Rattle.ix_facts.specs.Forget.{names, offset_names}
 use Rattle.ix_facts.specs.PathOrder.{path_cmp, path_same}
-use Rattle.ix_fact_list.specs.ByPath.{Entries, at_two, at_three, at_bound, at_paths, entries_of, paths_in, facts_in, at_path, about, beside, on_it, IsSorted}
+use Rattle.ix_fact_list.specs.ByPath.{Entries, at_two, at_three, at_bound, at_paths, entries_of, paths_in, facts_in, about, beside, on_it, IsSorted}
 
 by_test : {G : Type 0} (t : Bool) → (t ≡ true → G) → (t ≡ false → G) → G
 by_test true first second = first refl
 by_test false first second = second refl
 
-about_app : (p : Path) (a b : Entries) → facts_in (about p (a ++ b)) ≡ facts_in (about p a) ++ facts_in (about p b)
+pub about_app : (p : Path) (a b : Entries) → facts_in (about p (a ++ b)) ≡ facts_in (about p a) ++ facts_in (about p b)
 about_app p [] b = refl
 about_app p (e ∷ a) b = by_test (is_path p e.0) (λ t. rw t (ap (λ l. e.1 ∷ l) (about_app p a b))) (λ t. rw t (about_app p a b))
 
 -- ---- one fact
 
-abbrev if_named : Bool → Fact → List Fact
+abbrev pub if_named : Bool → Fact → List Fact
 if_named t f = cond t (f ∷ []) []
 
 one_at : (x p : Path) (f : Fact) → facts_in (about x ((p, f) ∷ [])) ≡ if_named (is_path x p) f
@@ -76,7 +76,7 @@ bound_at x p a Nothing f = two_at x p a f ∙ ap (λ b. if_named (is_path x p ||
 bound_at x p a (Plus q) f = three_at x p a q f
 bound_at x p a (Minus q) f = three_at x p a q f
 
-fact_at : (x : Path) (f : Fact) → facts_in (about x (at_paths f)) ≡ if_named (names (is_path x) f) f
+pub fact_at : (x : Path) (f : Fact) → facts_in (about x (at_paths f)) ≡ if_named (names (is_path x) f) f
 fact_at x (Rng p l h) = one_at x p (Rng p l h)
 fact_at x (LenRng a l h) = one_at x a (LenRng a l h)
 fact_at x (Low p c) = one_at x p (Low p c)

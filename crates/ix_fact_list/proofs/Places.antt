@@ -1,12 +1,11 @@
 -- Where a path stands in a set, or where it would stand.
-use Rattle.std.specs.Prelude.{◌≡◌, ℕ, zero, suc, ◌+◌, ◌<◌, ◌≤◌, Bool, true, false, cond, List, [], ◌∷◌, ◌++◌, Ok, Err, length, take, drop, get_or, refl}
+use Rattle.std.specs.Prelude.{◌≡◌, ℕ, zero, suc, ◌+◌, ◌<◌, ◌≤◌, Bool, true, false, cond, List, [], ◌∷◌, Err, length, get_or, refl}
 use Rattle.std.specs.List.{insert}
 use Rattle.std.specs.List.Sorted.{IsBinarySearchResult, IsSortedBy}
 use Rattle.std.specs.BTreeSet.{insert_key}
-use Rattle.std.specs.declared.cmp.Ordering.{Ordering}
 use Rattle.std.specs.declared.cmp.Ordering.TheVariants.{Less, Equal, Greater}
 use Rattle.std.specs.Ordering.{is_lt, ordering_reverse}
-use Rattle.std.proofs.Common.{arith, inl, inr, ap, sym, ◌∙◌, subst}
+use Rattle.std.proofs.Common.{arith, inl, inr, ap, ◌∙◌, subst}
 use Rattle.std.proofs.lemmas.List.Sorted.{searchable_from_sorted}
 use Rattle.ix_core.specs.declared.fact.Path.{Path}
 use Rattle.ix_facts.specs.Named.{IsAmongPaths}

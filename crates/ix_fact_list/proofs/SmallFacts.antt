@@ -1,7 +1,5 @@
--- The numbers of a fact are small in each of its orders, and of the facts that name a path as well.
-use Rattle.std.specs.Prelude.{◌≡◌, true, ℤ, pos, ◌+ℤ◌, ◌-ℤ◌, All, List, [], ◌∷◌, Option, Some}
-use Rattle.std.specs.Option.{option_map}
-use Rattle.std.proofs.Common.{sym, ap, subst, ◌∙◌}
+-- The numbers of a fact are small in each of its orders; so are those of a part of facts whose numbers are small.
+use Rattle.std.specs.Prelude.{All, List, [], ◌∷◌}
 use Rattle.std.proofs.lemmas.List.Elements.{All-nil, All-cons, All-head, All-tail, All-append}
 use Rattle.ix_core.specs.declared.fact.Path.{Path}
 use Rattle.ix_core.specs.declared.fact.PathOff.TheVariants.{Nothing, Plus, Minus}
@@ -12,6 +10,7 @@ use Rattle.ix_facts.specs.Facts.{orders, is_default, in_orders}
 use Rattle.ix_facts.specs.Small.{HasSmallNumbers}
 use Rattle.ix_facts.specs.Bounds.{is_path}
 use Rattle.ix_facts.specs.Forget.{names}
+use Rattle.ix_bounds.specs.Ends.{is_end, ends_in}
 use Rattle.ix_fact_list.specs.ByPath.{on_it}
 
 -- the ends of ranges are small in each order of a fact
@@ -46,3 +45,9 @@ on_it_small p [] s = All-nil HasSmallNumbers
 on_it_small p (f ∷ facts) s =
     let rest = on_it_small p facts (All-tail HasSmallNumbers f facts s) in
     by_test (names (is_path p) f) (λ t. rw t (All-cons HasSmallNumbers f (on_it p facts) (All-head HasSmallNumbers f facts s) rest)) (λ t. rw t rest)
+
+pub ends_small : (facts : List Fact) → All HasSmallNumbers facts → All HasSmallNumbers (ends_in facts)
+ends_small [] s = All-nil HasSmallNumbers
+ends_small (f ∷ facts) s =
+    let rest = ends_small facts (All-tail HasSmallNumbers f facts s) in
+    by_test (is_end f) (λ t. rw t (All-cons HasSmallNumbers f (ends_in facts) (All-head HasSmallNumbers f facts s) rest)) (λ t. rw t rest)

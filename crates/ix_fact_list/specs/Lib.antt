@@ -1,3 +1,4 @@
 pub mod ByPath
 pub mod OnPathLaws
 pub mod PutLaws
+pub mod Spared

@@ -1,6 +1,6 @@
 //! A list of facts as what is known.
 
-ghost use Rattle.std.specs.Prelude.{◌≡◌, ◌++◌, ◌∷◌, [], length, All, List, IfOk, OnOk};
+ghost use Rattle.std.specs.Prelude.{◌≡◌, ◌++◌, ◌∷◌, [], All, List, IfOk, OnOk};
 ghost use Rattle.ix_core.specs.declared.fact.Path.{Path};
 ghost use Rattle.ix_core.specs.declared.fact.Fact.{Fact};
 ghost use Rattle.ix_facts.specs.Facts.{in_orders};
@@ -8,11 +8,15 @@ ghost use Rattle.ix_facts.specs.Forget.{of_path, without};
 ghost use Rattle.ix_facts.specs.After.{of_target};
 ghost use Rattle.ix_facts.specs.Exact.{named_ints, named_arrays};
 ghost use Rattle.ix_facts.specs.Small.{HasSmallNumbers};
-ghost use Rattle.ix_fact_list.specs.ByPath.{IsSorted, beside, on_it, put_all};
+ghost use Rattle.ix_bounds.specs.Ends.{ends_in};
+ghost use Rattle.ix_fact_list.specs.ByPath.{on_index, on_it, put_all};
+ghost use Rattle.ix_fact_list.specs.Spared.{some_named};
 
-use crate::by_path::{by_path, facts_beside, facts_of, paths_of};
+use crate::ends::all_ends;
 use crate::named::{all_arrays, all_ints};
 use crate::orders::in_all_orders;
+use crate::path_index::PathIndex;
+use crate::spared::{some_name_path, some_name_target};
 use ix_bounds::{self, Groups};
 use ix_core::{Fact, OpKind, Path, PathOff};
 use ix_facts::{Know, names_path, names_target};
@@ -24,10 +28,10 @@ use std::marker::Model;
 #[derive(Drop)]
 pub struct FactList {
     facts: Vec<Fact>,
-    /// The paths that they name, in order, each as often as facts name it.
-    paths: Vec<Path>,
-    /// Beside each path a fact that names it, in one of its orders.
-    beside_paths: Vec<Fact>,
+    /// The facts in all their orders, by the paths that they name.
+    by_path: PathIndex,
+    /// The same of ranges and classes alone.
+    ends: PathIndex,
     /// The ints and arrays that the facts name, each once.
     ints: Vec<Path>,
     arrays: Vec<Path>,
@@ -38,9 +42,9 @@ impl Model for FactList {
 
     ghost view = { λ list. list.facts.items };
 
-    ghost invariant = { λ list. (All HasSmallNumbers list.facts.items × (IsSorted list.paths.items × (length list.beside_paths.items ≡ length list.paths.items)))
-        × (((p : Path) → beside p list.paths.items list.beside_paths.items ≡ on_it p (in_orders list.facts.items))
-        × ((list.ints.items ≡ put_all [] (named_ints (in_orders list.facts.items))) × (list.arrays.items ≡ put_all [] (named_arrays (in_orders list.facts.items))))) };
+    ghost invariant = { λ list. (All HasSmallNumbers list.facts.items
+        × (((p : Path) → on_index list.by_path p ≡ on_it p (in_orders list.facts.items)) × ((p : Path) → on_index list.ends p ≡ on_it p (ends_in (in_orders list.facts.items)))))
+        × ((list.ints.items ≡ put_all [] (named_ints (in_orders list.facts.items))) × (list.arrays.items ≡ put_all [] (named_arrays (in_orders list.facts.items)))) };
 }
 
 fn push_beside_target(facts: &mut Vec<Fact>, kind: &OpKind, fact: &Fact) -> Result<(), AllocError>
@@ -95,15 +99,14 @@ impl FactList {
         ensures facts { IfOk result (λ list. list ≡ facts.items) }
     {
         let ordered = in_all_orders(alloc, &facts)?;
-        let entries = by_path(alloc, &ordered)?;
-        let paths = paths_of(alloc, &entries)?;
-        let beside_paths = facts_of(alloc, &entries)?;
+        let by_path = PathIndex::of(alloc, &ordered)?;
+        let ends = PathIndex::of(alloc, &all_ends(alloc, &ordered)?)?;
         let ints = all_ints(alloc, &ordered)?;
         let arrays = all_arrays(alloc, &ordered)?;
         Ok(FactList {
             facts,
-            paths,
-            beside_paths,
+            by_path,
+            ends,
             ints,
             arrays,
         })
@@ -114,6 +117,20 @@ impl FactList {
         ensures facts { result.now ≡ self.now }
     {
         &self.facts
+    }
+
+    /// Whether a fact names a path that the operation may change. It takes no memory.
+    pub fn names_target(&self, kind: &OpKind) -> bool
+        ensures named { result ≡ some_named (of_target kind.now) self.now }
+    {
+        some_name_target(&self.facts, kind)
+    }
+
+    /// Whether a fact names the path, or a field of the object in it. It takes no memory.
+    pub fn names_path(&self, path: &Path) -> bool
+        ensures named { result ≡ some_named (of_path path.now) self.now }
+    {
+        some_name_path(&self.facts, path)
     }
 
     /// What is known beside the target of an operation: what the rules read.
@@ -137,6 +154,7 @@ impl FactList {
 
 impl Groups for FactList {
     ghost use Rattle.ix_facts.specs.Facts.{in_orders};
+    ghost use Rattle.ix_bounds.specs.Ends.{ends_in};
     ghost use Rattle.ix_fact_list.specs.ByPath.{on_it};
     ghost use Rattle.ix_fact_list.specs.OnPathLaws.{on_it_named, on_it_only};
 
@@ -145,10 +163,18 @@ impl Groups for FactList {
     ghost group = { λ list p. on_it p (in_orders list) };
 
     fn on_path(&self, p: &Path) -> &[Fact] {
-        facts_beside(&self.paths, &self.beside_paths, p)
+        self.by_path.on(p)
+    }
+
+    ghost ends = { λ list p. on_it p (ends_in (in_orders list)) };
+
+    fn ends_on(&self, p: &Path) -> &[Fact] {
+        self.ends.on(p)
     }
 
     ghost named = { λ list p. on_it_named p (in_orders list) };
+
+    ghost named_ends = { λ list p. on_it_named p (ends_in (in_orders list)) };
 
     ghost only = { λ list p. on_it_only p (in_orders list) };
 }

@@ -7,10 +7,14 @@
 #![tactic(auto)]
 
 mod by_path;
+mod by_slot;
+mod ends;
 mod fact_list;
 mod named;
 mod orders;
+mod path_index;
 mod path_set;
+mod spared;
 
 pub use fact_list::FactList;
 pub use path_set::PathSet;

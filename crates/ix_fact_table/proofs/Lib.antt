@@ -1,4 +1,6 @@
 pub mod WalksAlongBoth
 pub mod MergedTables
 pub mod TableForms
+pub mod RisingSteps
+pub mod OneKind
 pub mod Searches

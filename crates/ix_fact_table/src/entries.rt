@@ -11,7 +11,7 @@ use ix_facts::compare_paths;
 use std::cmp::Ordering;
 
 /// Whether the first path comes after the second in the order of paths.
-fn is_after(p: &Path, q: &Path) -> bool
+pub(crate) fn is_after(p: &Path, q: &Path) -> bool
     ensures { result ≡ is_gt (path_cmp p.now q.now) }
 {
     match compare_paths(p, q) {

@@ -9,9 +9,11 @@
 mod entries;
 mod fact_table;
 mod filters;
+mod kinds;
 mod look_ups;
 mod meets;
 mod order;
+mod rising;
 mod sorted;
 mod tables;
 mod walks;

@@ -18,6 +18,7 @@ ghost use Rattle.ix_fact_table.specs.FactTables.{facts_of, table_kind};
 use crate::entries::in_first_order as first_order;
 use crate::fact_table::FactTable;
 use crate::filters::{beside_path, beside_target};
+use crate::kinds::of_one_kind;
 use crate::look_ups::{facts_on, place_of};
 use crate::sorted::{int_of, sorted};
 use crate::walks::{covers_all, merged, shared};
@@ -44,7 +45,8 @@ impl FactTable {
         ensures table { IfOk result (λ table. IsTable (of_kind kind facts.now) (facts_of table)) }
         ensures kind { IfOk result (λ table. table_kind table ≡ kind) }
     {
-        let facts = sorted(alloc, kind, facts)?;
+        let own = of_one_kind(alloc, kind, facts)?;
+        let facts = sorted(alloc, kind, &own)?;
         Ok(FactTable { kind, facts })
     }
 

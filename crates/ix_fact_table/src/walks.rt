@@ -13,7 +13,7 @@ use ix_text::List;
 use std::alloc::{AllocError, Global};
 use std::cmp::Ordering;
 
-fn push_all(facts: &mut List<Fact>, more: &[Fact]) -> Result<(), AllocError>
+pub(crate) fn push_all(facts: &mut List<Fact>, more: &[Fact]) -> Result<(), AllocError>
     ensures { OnOk result (facts.new ≡ facts.old ++ more.now) }
 {
     for fact in more {

@@ -10,9 +10,10 @@ use Rattle.ix_facts.specs.declared.kind.Kind.TheVariants as kind
 use Rattle.ix_facts.specs.Facts.{IsIn, Covers, rng, len_rng, low, same, is_len, less, sum, search, neg, upper}
 use Rattle.ix_facts.specs.Closure.{Said, AllTell}
 use Rattle.ix_facts.specs.Kinds.{kind_of, is_kind, is_of, of_kind}
-use Rattle.ix_facts.specs.Systems.{Merges, IsTable, HaveClasses}
+use Rattle.ix_facts.specs.Systems.{Merges, IsTable}
 use Rattle.ix_facts.specs.Systems as merges
 use Rattle.ix_facts.proofs.FactLists.{in_either}
+use Rattle.ix_fact_table.proofs.OneKind.{from_kind}
 use Rattle.ix_facts.proofs.SaidLaws.{in_orders_left, in_orders_right}
 
 by_test : {G : Type 0} (t : Bool) → (t ≡ true → G) → (t ≡ false → G) → G
@@ -27,18 +28,6 @@ in_kind own f (g ∷ facts) i t =
     by_test (is_of own g)
     (λ u. rw u (⊎_elim (λ e. inl e) (λ j. inr (in_kind own f facts j t)) i))
     (λ u. rw u (⊎_elim (λ e. absurd (false≢true (sym u ∙ subst (λ h. is_of own h ≡ true) e t))) (λ j. in_kind own f facts j t) i))
-
-from_kind : (own : Kind) (f : Fact) (facts : List Fact) → IsIn f (of_kind own facts) → IsIn f facts
-from_kind own f [] i = absurd i
-from_kind own f (g ∷ facts) i =
-    by_test (is_of own g) (λ t. ⊎_elim (λ e. inl e) (λ j. inr (from_kind own f facts j)) (rw t at i)) (λ t. inr (from_kind own f facts (rw t at i)))
-
-pub kind_twice : (own : Kind) (facts : List Fact) → of_kind own (of_kind own facts) ≡ of_kind own facts
-kind_twice own [] = refl
-kind_twice own (f ∷ facts) = by_test (is_of own f) (λ t. rw t (rw t (ap (λ l. f ∷ l) (kind_twice own facts)))) (λ t. rw t (kind_twice own facts))
-
-pub kind_have : (own : Kind) (facts : List Fact) → HaveClasses facts → HaveClasses (of_kind own facts)
-kind_have own facts have f i = have f (from_kind own f facts i)
 
 -- a weaker fact is of the same kind
 covers_kind : (own : Kind) (g f : Fact) → Covers g f → is_of own f ≡ true → is_of own g ≡ true

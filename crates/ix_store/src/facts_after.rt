@@ -68,7 +68,13 @@ impl Known {
         ensures facts { IfOk result (λ facts. AreSame facts.items (operated profile kind.now (facts_in self.now))) }
         ensures classes { IfOk result (λ facts. HaveClasses facts.items) }
     {
-        let beside = FactList::beside_target(alloc, self.list(), kind)?;
+        let list = self.list();
+        if !list.names_target(kind) {
+            let new = facts_after(alloc, list, profile, kind)?;
+            let facts = both(alloc, list.as_slice(), &new)?;
+            return Ok(facts);
+        }
+        let beside = FactList::beside_target(alloc, list, kind)?;
         let new = facts_after(alloc, &beside, profile, kind)?;
         let facts = both(alloc, beside.as_slice(), &new)?;
         Ok(facts)
@@ -84,7 +90,13 @@ impl Known {
         ensures facts { IfOk result (λ facts. AreSame facts.items (with_copy ty.now target.now source.now (facts_in self.now))) }
         ensures classes { IfOk result (λ facts. HaveClasses facts.items) }
     {
-        let beside = FactList::beside_path(alloc, self.list(), target)?;
+        let list = self.list();
+        if !list.names_path(target) {
+            let new = facts_of_copy(alloc, list, ty, target, source)?;
+            let facts = both(alloc, list.as_slice(), &new)?;
+            return Ok(facts);
+        }
+        let beside = FactList::beside_path(alloc, list, target)?;
         let new = facts_of_copy(alloc, &beside, ty, target, source)?;
         let facts = both(alloc, beside.as_slice(), &new)?;
         Ok(facts)

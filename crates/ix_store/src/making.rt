@@ -1,8 +1,6 @@
 //! Tables of facts, and their facts as a list.
 
 ghost use Rattle.std.specs.Prelude.{◌≡◌, ◌++◌, IfOk, OnOk};
-ghost use Rattle.ix_fact_table.specs.FactTables.{facts_of, table_kind};
-ghost use Rattle.ix_facts.specs.Kinds.{of_kind};
 ghost use Rattle.ix_facts.specs.Systems.{HaveClasses, IsTable};
 ghost use Rattle.ix_store.specs.AllTables.{all_facts, AreOfKinds};
 ghost use Rattle.ix_store.specs.EmptyRanges.{is_empty, some_empty};
@@ -10,31 +8,8 @@ ghost use Rattle.ix_store.specs.EmptyRanges.{is_empty, some_empty};
 use crate::tables::Tables;
 use ix_core::Fact;
 use ix_fact_table::FactTable;
-use ix_facts::{Kind, is_of_kind};
+use ix_facts::Kind;
 use std::alloc::{AllocError, Global};
-
-/// The facts of one kind.
-fn of_one_kind(alloc: Global, kind: Kind, facts: &[Fact]) -> Result<Vec<Fact>, AllocError>
-    ensures { IfOk result (λ own. own.items ≡ of_kind kind facts.now) }
-{
-    let mut own = Vec::new(alloc);
-    for fact in facts {
-        if is_of_kind(kind, fact) {
-            own.push(*fact)?;
-        }
-    }
-    Ok(own)
-}
-
-fn table_of(alloc: Global, kind: Kind, facts: &[Fact]) -> Result<FactTable, AllocError>
-    requires classes { HaveClasses facts.now }
-    ensures table { IfOk result (λ table. IsTable (of_kind kind facts.now) (facts_of table)) }
-    ensures kind { IfOk result (λ table. table_kind table ≡ kind) }
-{
-    let own = of_one_kind(alloc, kind, facts)?;
-    let table = FactTable::of_facts(alloc, kind, &own)?;
-    Ok(table)
-}
 
 /// The tables of facts.
 pub(crate) fn tables_of(alloc: Global, facts: &[Fact]) -> Result<Tables, AllocError>
@@ -43,12 +18,12 @@ pub(crate) fn tables_of(alloc: Global, facts: &[Fact]) -> Result<Tables, AllocEr
     ensures kinds { IfOk result AreOfKinds }
 {
     Ok(Tables {
-        ranges: table_of(alloc, Kind::Range, facts)?,
-        lows: table_of(alloc, Kind::Low, facts)?,
-        lengths: table_of(alloc, Kind::Length, facts)?,
-        differences: table_of(alloc, Kind::Difference, facts)?,
-        searches: table_of(alloc, Kind::Search, facts)?,
-        uppers: table_of(alloc, Kind::Upper, facts)?,
+        ranges: FactTable::of_facts(alloc, Kind::Range, facts)?,
+        lows: FactTable::of_facts(alloc, Kind::Low, facts)?,
+        lengths: FactTable::of_facts(alloc, Kind::Length, facts)?,
+        differences: FactTable::of_facts(alloc, Kind::Difference, facts)?,
+        searches: FactTable::of_facts(alloc, Kind::Search, facts)?,
+        uppers: FactTable::of_facts(alloc, Kind::Upper, facts)?,
     })
 }
 

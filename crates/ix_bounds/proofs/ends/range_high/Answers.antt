@@ -1,11 +1,11 @@
 use Rattle.std.proofs.Common.{rules, w64, ap, ◌∙◌}
 use Rattle.std.proofs.lemmas.Int.{to_z-of_z}
 use Rattle.ix_facts.specs.Bounds as spec
-use Rattle.ix_bounds.proofs.OnPath.{range_high_is}
+use Rattle.ix_bounds.proofs.EndsAlone.{range_high_of}
 use Rattle.ix_bounds.proofs.ends.range_high.Goals as goal
 
 pub returns-clause-bound : goal.returns-clause-bound
 returns-clause-bound g c =
     let f = c.args.facts.now in
     let p = c.args.p.now in
-    to_z-of_z w64 c.range_high_on.result (search rules) ∙ (c.range_high_on.ensures.bound ∙ (ap (λ l. spec.range_high l p) c.on_path.ensures.facts ∙ range_high_is (g.G.Groups.group f p) (g.G.Groups.all f) p (g.met.G.Groups.named f p)))
+    to_z-of_z w64 c.range_high_on.result (search rules) ∙ (c.range_high_on.ensures.bound ∙ (ap (λ l. spec.range_high l p) c.ends_on.ensures.facts ∙ range_high_of (g.G.Groups.ends f p) (g.G.Groups.all f) p (g.met.G.Groups.named_ends f p)))

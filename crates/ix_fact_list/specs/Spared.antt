@@ -1,0 +1,20 @@
+-- Whether facts name one of some paths; where none does, nothing is dropped with them.
+use Rattle.std.specs.Prelude.{◌≡◌, Bool, true, false, ◌||◌, List, [], ◌∷◌, refl}
+use Rattle.std.proofs.Common.{ap, sym, ◌∙◌}
+use Rattle.std.proofs.lemmas.Bool.{false≢true}
+use Rattle.ix_core.specs.declared.fact.Path.{Path}
+use Rattle.ix_core.specs.declared.fact.Fact.{Fact}
+use Rattle.ix_facts.specs.Forget.{names, without}
+
+abbrev pub some_named : (Path → Bool) → List Fact → Bool
+some_named is [] = false
+some_named is (fact ∷ facts) = names is fact || some_named is facts
+
+by_test : {G : Type 0} (t : Bool) → (t ≡ true → G) → (t ≡ false → G) → G
+by_test true first second = first refl
+by_test false first second = second refl
+
+pub spared : (is : Path → Bool) (facts : List Fact) → some_named is facts ≡ false → without is facts ≡ facts
+spared is [] n = refl
+spared is (fact ∷ facts) n =
+    by_test (names is fact) (λ t. absurd (false≢true (sym (ap (λ b. b || some_named is facts) (sym t) ∙ n)))) (λ t. rw t (ap (λ l. fact ∷ l) (spared is facts (rw t at n))))

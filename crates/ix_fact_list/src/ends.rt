@@ -1,0 +1,31 @@
+//! Ranges and classes among facts.
+
+ghost use Rattle.std.specs.Prelude.{◌≡◌, IfOk};
+ghost use Rattle.ix_bounds.specs.Ends.{is_end, ends_in};
+
+use ix_core::Fact;
+use std::alloc::{AllocError, Global};
+
+fn is_end(fact: &Fact) -> bool
+    ensures { result ≡ is_end fact.now }
+{
+    match *fact {
+        Fact::Rng(_, _, _) => true,
+        Fact::LenRng(_, _, _) => true,
+        Fact::Low(_, _) => true,
+        _ => false,
+    }
+}
+
+/// The ranges and classes among the facts.
+pub(crate) fn all_ends(alloc: Global, facts: &[Fact]) -> Result<Vec<Fact>, AllocError>
+    ensures { IfOk result (λ ends. ends.items ≡ ends_in facts.now) }
+{
+    let mut ends = Vec::new(alloc);
+    for fact in facts {
+        if is_end(fact) {
+            ends.push(*fact)?;
+        }
+    }
+    Ok(ends)
+}
