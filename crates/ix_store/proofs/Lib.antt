@@ -7,3 +7,4 @@ mod RoundedClasses
 mod BehindRules
 mod FullCommon
 mod JoinedStores
+mod NoFacts

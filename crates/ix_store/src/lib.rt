@@ -14,6 +14,7 @@ mod known;
 mod lattice;
 mod making;
 mod rules;
+mod seen;
 mod store;
 mod tables;
 

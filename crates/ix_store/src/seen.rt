@@ -1,0 +1,31 @@
+//! The facts of a store, and the store without facts.
+
+ghost use Rattle.std.specs.Prelude.{◌≡◌, ◌↔◌, [], IsNone, IfOk, IfSome};
+ghost use Rattle.ix_facts.specs.Stores.{Unreachable, Reached};
+ghost use Rattle.ix_store.specs.StoredFacts.{stored};
+
+use crate::store::Store;
+use ix_core::Fact;
+use std::alloc::{AllocError, Global};
+
+impl Store {
+    /// The store of a place of which nothing is known but that a state may be there. The only error is want of memory.
+    pub fn empty(alloc: Global) -> Result<Store, AllocError>
+        ensures store { IfOk result (λ store. stored store ≡ Reached []) }
+    {
+        let store = Store::of_facts(alloc, &[])?;
+        Ok(store)
+    }
+
+    /// The closed facts that are known at the place, none where no state is there. A fact that may be turned round stands in one of its orders. It takes no
+    /// memory.
+    pub fn facts(&self) -> Option<&[Fact]>
+        ensures unreachable { IsNone result ↔ (stored self.now ≡ Unreachable) }
+        ensures reached { IfSome result (λ facts. stored self.now ≡ Reached facts.now) }
+    {
+        match &self.known {
+            None => None,
+            Some(known) => Some(known.get().list().as_slice()),
+        }
+    }
+}
