@@ -1,6 +1,7 @@
 pub mod EmptyRanges
 pub mod AllTables
 pub mod StoredFacts
+pub mod SeenFacts
 pub mod ChangedPaths
 pub mod CommonParts
 pub mod SixCommon

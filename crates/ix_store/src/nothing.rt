@@ -1,0 +1,25 @@
+//! Facts of which there are none.
+
+ghost use Rattle.std.specs.Prelude.{◌≡◌};
+
+use ix_bounds::Groups;
+use ix_core::{Fact, Path};
+
+/// No facts.
+pub(crate) struct NoFacts;
+
+impl Groups for NoFacts {
+    ghost use Rattle.std.specs.Prelude.{[], refl};
+
+    ghost all = { λ none. [] };
+
+    ghost group = { λ none p. [] };
+
+    fn on_path(&self, _p: &Path) -> &[Fact] {
+        &[]
+    }
+
+    ghost named = { λ none p. refl };
+
+    ghost only = { λ none p f i. i };
+}
