@@ -9,6 +9,8 @@ mod dump;
 #[cfg(test)]
 mod expressions;
 #[cfg(test)]
+mod heights;
+#[cfg(test)]
 mod reading;
 #[cfg(test)]
 mod refused;

@@ -63,6 +63,22 @@ const SOURCES: &[(&str, &str)] = &[
         "class A { int a; int b; void f() { } int c; }",
         "(class A@6-7 (decl [] (type int 0 10-13) a@14-15) (decl [] (type int 0 17-20) b@21-22) (method [] void f@29-30 [] [] 24-36) (decl [] (type int 0 37-40) c@41-42) 0-45) ",
     ),
+    (
+        "class A { B[] a; B @X [] b; }",
+        "(class A@6-7 (decl [] (type B@10-11 1 10-13) a@14-15) (decl [] (type B@17-18 1 (@ X@20-21 19-21) 17-24) b@25-26) 0-29) ",
+    ),
+    (
+        "class A { boolean a; boolean f() { } boolean[] b; }",
+        "(class A@6-7 (decl [] (type boolean 0 10-17) a@18-19) (method [] (type boolean 0 21-28) f@29-30 [] [] 21-36) (decl [] (type boolean 1 37-46) b@47-48) 0-51) ",
+    ),
+    (
+        "class A { B[] f() { } B @X [] g() { } }",
+        "(class A@6-7 (method [] (type B@10-11 1 10-13) f@14-15 [] [] 10-21) (method [] (type B@22-23 1 (@ X@25-26 24-26) 22-29) g@30-31 [] [] 22-37) 0-39) ",
+    ),
+    (
+        "public class A { } class B { } final class C { }",
+        "(class A@13-14 0-18) (class B@25-26 19-30) (class C@43-44 31-48) ",
+    ),
 ];
 
 fn is_tree(alloc: Global, text: &str, tree: &str) -> bool {

@@ -128,6 +128,88 @@ const STATEMENTS: &[(&str, &str)] = &[
         "a(); int b;",
         "(run (call a@0-1 [] 0-3) 0-4) (local (decl [] (type int 0 5-8) b@9-10) 5-11)",
     ),
+    (
+        "B b; B[] c, d; B @X [] e;",
+        "(local (decl [] (type B@0-1 0 0-1) b@2-3) 0-4) (local (decl [] (type B@5-6 1 5-8) c@9-10) (decl [] (type B@5-6 1 5-8) d@12-13) 5-14) (local (decl [] (type B@15-16 1 (@ X@18-19 17-19) 15-22) e@23-24) 15-25)",
+    ),
+    (
+        "; B b;",
+        "(empty 0-1) (local (decl [] (type B@2-3 0 2-3) b@4-5) 2-6)",
+    ),
+    (
+        "boolean b;",
+        "(local (decl [] (type boolean 0 0-7) b@8-9) 0-10)",
+    ),
+    ("a--;", "(run (--behind (name a@0-1 0-1) 0-3) 0-4)"),
+    (
+        "{ int a; }",
+        "(block (local (decl [] (type int 0 2-5) a@6-7) 2-8) 0-10)",
+    ),
+    (
+        "{ @X B b; }",
+        "(block (local (decl [(@ X@3-4 2-4) ] (type B@5-6 0 5-6) b@7-8) 2-9) 0-11)",
+    ),
+    (
+        "a.b--;",
+        "(run (--behind (. (name a@0-1 0-1) b@2-3 0-3) 0-5) 0-6)",
+    ),
+    (
+        "a[b][c].d = 1;",
+        "(run (set (. (index (index (name a@0-1 0-1) (name b@2-3 2-3) 0-4) (name c@5-6 5-6) 0-7) d@8-9 0-9) (int 1 12-13) 0-13) 0-14)",
+    ),
+    (
+        "System.out.println = 1;",
+        "(run (set (. (. (name System@0-6 0-6) out@7-10 0-10) println@11-18 0-18) (int 1 21-22) 0-22) 0-23)",
+    ),
+    (
+        "System.out.println[0] = 1;",
+        "(run (set (index (. (. (name System@0-6 0-6) out@7-10 0-10) println@11-18 0-18) (int 0 19-20) 0-21) (int 1 24-25) 0-25) 0-26)",
+    ),
+    (
+        "System.out.println++;",
+        "(run (++behind (. (. (name System@0-6 0-6) out@7-10 0-10) println@11-18 0-18) 0-20) 0-21)",
+    ),
+    (
+        "System.out = 1;",
+        "(run (set (. (name System@0-6 0-6) out@7-10 0-10) (int 1 13-14) 0-14) 0-15)",
+    ),
+    (
+        "System.b();",
+        "(run (call (name System@0-6 0-6) b@7-8 [] 0-10) 0-11)",
+    ),
+    (
+        "System a;",
+        "(local (decl [] (type System@0-6 0 0-6) a@7-8) 0-9)",
+    ),
+    (
+        "System[] a;",
+        "(local (decl [] (type System@0-6 1 0-8) a@9-10) 0-11)",
+    ),
+    (
+        "for (System a; ;) ;",
+        "(for [(local (decl [] (type System@5-11 0 5-11) a@12-13) 5-13)] - [] (empty 18-19) 0-19)",
+    ),
+    (
+        "for (B[] a, b; ;) ;",
+        "(for [(local (decl [] (type B@5-6 1 5-8) a@9-10) (decl [] (type B@5-6 1 5-8) b@12-13) 5-13)] - [] (empty 18-19) 0-19)",
+    ),
+    (
+        "for (B @X [] a = {}; ;) ;",
+        "(for [(local (decl [] (type B@5-6 1 (@ X@8-9 7-9) 5-12) a@13-14 (items 17-19)) 5-19)] - [] (empty 24-25) 0-25)",
+    ),
+    (
+        "for (a[b] = 1; ;) ;",
+        "(for [(run (set (index (name a@5-6 5-6) (name b@7-8 7-8) 5-9) (int 1 12-13) 5-13) 5-13)] - [] (empty 18-19) 0-19)",
+    ),
+    (
+        "for (@X B b; ;) break;",
+        "(for [(local (decl [(@ X@6-7 5-7) ] (type B@8-9 0 8-9) b@10-11) 5-11)] - [] (break 16-22) 0-22)",
+    ),
+    (
+        "out.println(a);",
+        "(run (call (name out@0-3 0-3) println@4-11 [(name a@12-13 12-13)] 0-14) 0-15)",
+    ),
+    ("throw new B(\"a b\");", "(throw B@10-11 0-19)"),
 ];
 
 /// The statements of the one method of the one class.
