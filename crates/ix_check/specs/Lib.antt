@@ -2,3 +2,5 @@
 pub mod Counts
 -- What is asked of a program that is checked.
 pub mod Judged
+-- What is passed on of the errors.
+pub use Rattle.ix_errors.specs.MethodErrors

@@ -12,9 +12,9 @@ use Rattle.ix_graph.specs.GraphSolutions.{AllPoints, label_at}
 use Rattle.ix_graph.specs.Linked.{kinds_in}
 use Rattle.ix_method.specs.MethodRules.{method_rules}
 use Rattle.ix_method.specs.RuleErrors.{OpText, TestEscapes}
-use Rattle.ix_sign.specs.declared.ranked.Ranked.{Ranked}
-use Rattle.ix_store.specs.declared.store.Store.{Store}
-use Rattle.ix_store.specs.StoredFacts.{stored}
+use Rattle.ix_method.specs.Ranked.{Ranked}
+use Rattle.ix_method.specs.Store.{Store}
+use Rattle.ix_method.specs.StoredFacts.{stored}
 use Rattle.ix_sound.specs.Errors.{NoErrors}
 use Rattle.ix_errors.specs.NodeErrors.{LabelGives, TextGives}
 use Rattle.ix_errors.specs.MethodErrors.{Derives}

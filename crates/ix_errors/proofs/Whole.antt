@@ -23,11 +23,11 @@ use Rattle.ix_method.specs.MethodRules.{method_rules}
 use Rattle.ix_method.specs.RuleErrors.{OverridesBy, OpText, TestEscapes}
 use Rattle.ix_method.proofs.MethodLaws.{method_laws}
 use Rattle.ix_method.proofs.ErrorsWeaker.{errors_weaker}
-use Rattle.ix_sign.specs.declared.ranked.Ranked.{Ranked}
-use Rattle.ix_sign.specs.Exactly.{IsListed, AreExactly, AddsExactly}
-use Rattle.ix_sign.proofs.Refused.{adds_both}
-use Rattle.ix_store.specs.declared.store.Store.{Store}
-use Rattle.ix_store.specs.StoredFacts.{stored}
+use Rattle.ix_method.specs.Ranked.{Ranked}
+use Rattle.ix_method.specs.Exactly.{IsListed, AreExactly, AddsExactly}
+use Rattle.ix_method.proofs.Refused.{adds_both}
+use Rattle.ix_method.specs.Store.{Store}
+use Rattle.ix_method.specs.StoredFacts.{stored}
 use Rattle.ix_sound.specs.Errors.{NoErrors}
 use Rattle.ix_sound.specs.Sound.{HasNoErrors}
 use Rattle.ix_errors.specs.NodeErrors.{LabelGives, TextGives, NodeGives, AtNode}

@@ -12,11 +12,11 @@ use Rattle.ix_graph.specs.Graph.{behind_code, method_parts}
 use Rattle.ix_graph.specs.Heads.{AreInOrder}
 use Rattle.ix_method.specs.MethodRules.{method_rules}
 use Rattle.ix_method.specs.RuleErrors.{PointErrors, TextErrors}
-use Rattle.ix_sign.specs.declared.ranked.Ranked.{Ranked}
-use Rattle.ix_sign.specs.Naming.{HaveSmallNames}
+use Rattle.ix_method.specs.Ranked.{Ranked}
+use Rattle.ix_method.specs.Naming.{HaveSmallNames}
 use Rattle.ix_sound.specs.Sound.{HasNoErrors}
-use Rattle.ix_store.specs.declared.store.Store.{Store}
-use Rattle.ix_store.specs.StoredFacts.{stored}
+use Rattle.ix_method.specs.Store.{Store}
+use Rattle.ix_method.specs.StoredFacts.{stored}
 
 -- what a store gives at a point
 abbrev pub Derives : Program → Method → ℕ → Point → Store → Ranked → Type 0

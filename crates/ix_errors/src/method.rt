@@ -7,15 +7,15 @@ ghost use Rattle.ix_core.specs.Tables.{method_at};
 ghost use Rattle.ix_graph.specs.Graph.{behind_code, method_parts};
 ghost use Rattle.ix_graph.specs.Heads.{AreInOrder};
 ghost use Rattle.ix_method.specs.RuleErrors.{OverridesBy};
-ghost use Rattle.ix_sign.specs.Exactly.{AddsExactly};
-ghost use Rattle.ix_sign.specs.Naming.{HasSmallNames, HaveSmallNames};
+ghost use Rattle.ix_method.specs.Exactly.{AddsExactly};
+ghost use Rattle.ix_method.specs.Naming.{HasSmallNames, HaveSmallNames};
 ghost use Rattle.ix_sound.specs.Sound.{HasNoErrors};
 ghost use Rattle.ix_errors.specs.MethodErrors.{IsErrorOf};
 
 use crate::nodes::push_of_nodes;
 use ix_core::{Method, Profile, Program};
 use ix_labels::label_nodes;
-use ix_sign::{Ranked, push_override_errors};
+use ix_method::signs::{Ranked, push_override_errors};
 use ix_solve::Steps;
 use std::alloc::{AllocError, Global};
 use std::sync::ledger::Ledger;

@@ -19,9 +19,9 @@ use Rattle.ix_graph.proofs.NodesAsk.{asks, asked}
 use Rattle.ix_method.specs.MethodRules.{method_rules}
 use Rattle.ix_method.proofs.MethodLaws.{method_laws}
 use Rattle.ix_solve.specs.Solutions.{IsSolution, IsLeast}
-use Rattle.ix_store.specs.declared.store.Store.{Store}
-use Rattle.ix_store.specs.StoredFacts.{stored}
-use Rattle.ix_store.specs.StoreOrder.{StoreBelow}
+use Rattle.ix_method.specs.Store.{Store}
+use Rattle.ix_method.specs.StoredFacts.{stored}
+use Rattle.ix_method.specs.StoreOrder.{StoreBelow}
 use Rattle.ix_labels.specs.Problem.{rules_with}
 use Rattle.ix_labels.proofs.SameLandmarks.{one_landmarks}
 

@@ -23,11 +23,11 @@ use Rattle.ix_graph.proofs.NodesAsk.{carries_as, one_more}
 use Rattle.ix_graph.proofs.Numbers.{method_below}
 use Rattle.ix_graph.specs.Brought.{pass_of, Brings, AllBring, IsSettled}
 use Rattle.ix_graph.specs.Built.{kind_of, edges_of, targets_from}
-use Rattle.ix_sign.specs.Signs.{entry_facts}
+use Rattle.ix_method.specs.Signs.{entry_facts}
 use Rattle.ix_solve.specs.Solutions.{IsLeastOf}
-use Rattle.ix_store.specs.declared.store.Store.{Store}
-use Rattle.ix_store.specs.StoredFacts.{stored}
-use Rattle.ix_store.specs.StoreOrder.{StoreBelow}
+use Rattle.ix_method.specs.Store.{Store}
+use Rattle.ix_method.specs.StoredFacts.{stored}
+use Rattle.ix_method.specs.StoreOrder.{StoreBelow}
 use Rattle.ix_labels.specs.declared.problem.Problem.{Problem}
 use Rattle.ix_labels.specs.Problem.{rules_of, kind_in, kinds_at, parts_of, edges_at, readers_in, readers_of}
 use Rattle.ix_labels.specs.ProblemLaws.{laws_with, readers_count}

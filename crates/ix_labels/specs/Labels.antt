@@ -10,7 +10,7 @@ use Rattle.ix_graph.specs.Built.{kinds_of}
 use Rattle.ix_graph.specs.Linked.{kinds_in}
 use Rattle.ix_method.specs.MethodRules.{method_rules}
 use Rattle.ix_solve.specs.Solutions.{IsSolution, IsLeast}
-use Rattle.ix_store.specs.StoreOrder.{StoreBelow}
+use Rattle.ix_method.specs.StoreOrder.{StoreBelow}
 use Rattle.ix_labels.specs.declared.labels.Labels.{Labels}
 
 -- The nodes are those of the method's graph, and the stores are its least solution by the rules of the method.

@@ -14,8 +14,8 @@ use Rattle.ix_graph.specs.Brought.{Gathers}
 use Rattle.ix_graph.specs.Built.{edges_of, edges_to}
 use Rattle.ix_graph.specs.Linked.{kinds_in}
 use Rattle.ix_method.specs.MethodRules.{method_rules}
-use Rattle.ix_store.specs.declared.store.Store.{Store}
-use Rattle.ix_store.specs.StoredFacts.{stored}
+use Rattle.ix_method.specs.Store.{Store}
+use Rattle.ix_method.specs.StoredFacts.{stored}
 use Rattle.ix_labels.specs.declared.problem.Problem.{Problem}
 
 -- the nodes that read each node's label

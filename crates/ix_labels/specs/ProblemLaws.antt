@@ -16,12 +16,12 @@ use Rattle.ix_graph.specs.Graph.{behind_code, AreBelow}
 use Rattle.ix_graph.proofs.AsProblem.{gathers_monotone, gathers_depends}
 use Rattle.ix_graph.proofs.Numbers.{method_below}
 use Rattle.ix_method.proofs.MethodLaws.{method_laws}
-use Rattle.ix_sign.specs.Signs.{entry_facts}
+use Rattle.ix_method.specs.Signs.{entry_facts}
 use Rattle.ix_solve.specs.Solutions.{IsMonotone}
 use Rattle.ix_solve.specs.Readers.{DependsOnRead}
-use Rattle.ix_store.specs.declared.store.Store.{Store}
-use Rattle.ix_store.specs.StoredFacts.{stored}
-use Rattle.ix_store.specs.StoreOrder.{StoreBelow}
+use Rattle.ix_method.specs.Store.{Store}
+use Rattle.ix_method.specs.StoredFacts.{stored}
+use Rattle.ix_method.specs.StoreOrder.{StoreBelow}
 use Rattle.ix_labels.specs.declared.problem.Problem.{Problem}
 use Rattle.ix_labels.specs.Problem.{readers_in, readers_of, rules_with, rules_of, kinds_at, edges_at, parts_of, Asks}
 

@@ -4,8 +4,8 @@ ghost use Rattle.std.specs.Prelude.{◌+◌, ◌≤◌, IfOk};
 ghost use Rattle.ix_core.specs.Code.{block_code};
 ghost use Rattle.ix_graph.specs.Graph.{behind_code};
 ghost use Rattle.ix_solve.specs.Readers.{VisitsAtMost};
-ghost use Rattle.ix_store.specs.StoreOrder.{StoreBelow, store_rank};
-ghost use Rattle.ix_sign.specs.Naming.{HasSmallNames, HaveSmallNames};
+ghost use Rattle.ix_method.specs.StoreOrder.{StoreBelow, store_rank};
+ghost use Rattle.ix_method.specs.Naming.{HasSmallNames, HaveSmallNames};
 ghost use Rattle.ix_labels.specs.Labels.{AreLabels};
 ghost use Rattle.ix_labels.specs.Problem.{readers_in};
 
@@ -13,8 +13,8 @@ use crate::problem::Problem;
 use ix_core::{Method, Profile, Program};
 use ix_graph::{Graph, graph};
 use ix_landmarks::landmarks;
+use ix_method::Store;
 use ix_solve::{Steps, solve_graph};
-use ix_store::Store;
 use std::alloc::{AllocError, Global};
 use std::sync::ledger::Ledger;
 

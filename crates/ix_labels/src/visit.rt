@@ -5,17 +5,16 @@ ghost use Rattle.ix_solve.specs.Solutions.{IsLeastOf};
 ghost use Rattle.ix_flow.specs.Flow.{Anything};
 ghost use Rattle.ix_graph.specs.GraphSolutions.{Carries};
 ghost use Rattle.ix_graph.specs.Brought.{pass_of, AllBring, IsSettled};
-ghost use Rattle.ix_store.specs.StoreOrder.{StoreBelow};
+ghost use Rattle.ix_method.specs.StoreOrder.{StoreBelow};
 ghost use Rattle.ix_labels.specs.Problem.{rules_of, kinds_at, edges_at};
 
 use crate::problem::Problem;
 use ix_graph::{Edge, NodeKind};
 use ix_lattice::Lattice;
-use ix_method::after;
+use ix_method::signs::enter;
+use ix_method::{Store, after};
 use ix_refine::branch;
-use ix_sign::enter;
 use ix_solve::{FlowProblem, Steps};
-use ix_store::Store;
 use std::alloc::{AllocError, Global};
 use std::sync::ledger::Ledger;
 

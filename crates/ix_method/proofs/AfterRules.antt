@@ -15,8 +15,8 @@ use Rattle.ix_core.specs.Tables.{param_slot}
 use Rattle.ix_facts.specs.Stores.{Stored, IsAfter, IsAdded, Gives, operated, with_facts}
 use Rattle.ix_facts.specs.Systems.{HaveClasses}
 use Rattle.ix_steps.specs.MachineSteps.{own_path}
-use Rattle.ix_store.specs.declared.store.Store.{Store}
-use Rattle.ix_store.specs.StoredFacts.{stored}
+use Rattle.ix_sign.specs.Store.{Store}
+use Rattle.ix_sign.specs.StoredFacts.{stored}
 use Rattle.ix_sign.specs.Names.{param_in, variable_at}
 use Rattle.ix_sign.specs.Signs.{Adds, IsLeastOf}
 use Rattle.ix_sign.proofs.LeastSteps.{least_given, least_then}

@@ -15,9 +15,9 @@ use Rattle.ix_facts.specs.Round.{rounded}
 use Rattle.ix_facts.specs.Stores.{Stored, IsBelow, Gives, Then, OutcomesGive, operated, outcomes_of}
 use Rattle.ix_flow.specs.Flow.{Rules}
 use Rattle.ix_steps.specs.MachineSteps.{own_path}
-use Rattle.ix_store.specs.declared.store.Store.{Store}
-use Rattle.ix_store.specs.StoredFacts.{stored}
-use Rattle.ix_store.specs.StoreOrder.{StoreBelow, nowhere}
+use Rattle.ix_sign.specs.Store.{Store}
+use Rattle.ix_sign.specs.StoredFacts.{stored}
+use Rattle.ix_sign.specs.StoreOrder.{StoreBelow, nowhere}
 use Rattle.ix_sign.specs.Names.{variable_at}
 use Rattle.ix_sign.specs.Signs.{Adds, claims_facts, EntryGives, ReadGives, WriteGives, CallGives, SuperGives}
 

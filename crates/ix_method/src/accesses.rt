@@ -7,7 +7,7 @@ ghost use Rattle.ix_core.specs.declared.fact.Path.TheVariants.{Slot};
 ghost use Rattle.ix_core.specs.declared.fact.PathClaim.TheVariants as path_claim;
 ghost use Rattle.ix_core.specs.declared.fact.PathOff.TheVariants as off;
 ghost use Rattle.ix_facts.specs.AfterOperation as after;
-ghost use Rattle.ix_store.specs.StoredFacts.{stored};
+ghost use Rattle.ix_sign.specs.StoredFacts.{stored};
 ghost use Rattle.ix_sign.specs.Exactly.{AddsExactly};
 ghost use Rattle.ix_sign.specs.Refusals.{refusals, not_proved};
 ghost use Rattle.ix_sign.specs.SignErrors as signs;
@@ -16,8 +16,7 @@ ghost use Rattle.ix_method.specs.RuleErrors.{AccessLow, AccessHigh, LengthNegati
 
 use crate::elements::{element_claim, loaded_claims, zero_meets};
 use ix_core::{Claim, Detail, Error, Op, Path, PathClaim, PathOff, Subject, Type_};
-use ix_sign::{Ranked, refuses};
-use ix_store::Store;
+use ix_sign::{Ranked, Store, refuses};
 use ix_text::Span;
 use std::alloc::AllocError;
 

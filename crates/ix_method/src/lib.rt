@@ -13,5 +13,7 @@ mod operations;
 mod variable;
 mod variables;
 
+pub use ix_sign as signs;
+pub use ix_sign::Store;
 pub use op_errors::push_op_errors;
 pub use operations::after;

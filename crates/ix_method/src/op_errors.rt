@@ -1,7 +1,7 @@
 //! The errors of an operation, by the store before it.
 
 ghost use Rattle.std.specs.Prelude.{◌≡◌, ◌⊎◌, OnOk};
-ghost use Rattle.ix_store.specs.StoredFacts.{stored};
+ghost use Rattle.ix_sign.specs.StoredFacts.{stored};
 ghost use Rattle.ix_sign.specs.Exactly.{AddsExactly};
 ghost use Rattle.ix_sign.specs.Names as names;
 ghost use Rattle.ix_sign.specs.Naming.{HasSmallNames, HaveSmallNames};
@@ -15,9 +15,8 @@ use crate::accesses::{
 use crate::variables::variable_at;
 use ix_core::{Method, Name, Op, OpKind, Path, Program, Subject, Type_};
 use ix_sign::{
-    Naming, Ranked, Report, Write, push_argument_errors, push_field_errors, push_unproved,
+    Naming, Ranked, Report, Store, Write, push_argument_errors, push_field_errors, push_unproved,
 };
-use ix_store::Store;
 use std::alloc::{AllocError, Global};
 
 /// A variable of the method as the subject of an error.

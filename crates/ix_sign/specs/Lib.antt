@@ -10,3 +10,7 @@ pub mod Exactly
 pub mod Refusals
 -- What the rules owe.
 pub mod SignLaws
+-- What is passed on of the store that the rules answer.
+pub use Rattle.ix_store.specs.StoredFacts
+pub use Rattle.ix_store.specs.StoreOrder
+pub use Rattle.ix_store.specs.declared.store.Store

@@ -28,6 +28,7 @@ pub use entry::enter;
 pub use facts::push_claims;
 pub use field_errors::push_field_errors;
 pub use fields::{after_read, after_write};
+pub use ix_store::Store;
 pub use leave::{push_constructor_errors, push_missing_return, push_return_errors};
 pub use naming::Naming;
 pub use overriding::push_override_errors;

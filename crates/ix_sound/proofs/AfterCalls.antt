@@ -19,9 +19,9 @@ use Rattle.ix_core.specs.World.{World, tables_in}
 use Rattle.ix_core.proofs.Kept.{has_ints}
 use Rattle.ix_core.proofs.LawsAreSafe.{types_in}
 use Rattle.ix_facts.specs.Stores.{Meets}
-use Rattle.ix_store.specs.declared.store.Store.{Store}
-use Rattle.ix_store.specs.StoredFacts.{stored}
-use Rattle.ix_sign.specs.Signs.{CallGives}
+use Rattle.ix_method.specs.Store.{Store}
+use Rattle.ix_method.specs.StoredFacts.{stored}
+use Rattle.ix_method.specs.Signs.{CallGives}
 use Rattle.ix_sound.specs.Direct.{direct}
 use Rattle.ix_sound.specs.Known.{Known, Anything, Here, Behind, CallsWell, BehindGives, stage_behind, call_of, MeetsHere, HoldsFor}
 use Rattle.ix_sound.specs.Making.{Stage, Plain, Making, with_types, StageHolds}

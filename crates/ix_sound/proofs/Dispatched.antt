@@ -20,7 +20,7 @@ use Rattle.ix_core.specs.World.{World, tables_in}
 use Rattle.ix_core.proofs.Entered.{args_each, first_and}
 use Rattle.ix_core.proofs.LawsAreSafe.{types_in}
 use Rattle.ix_core.proofs.TypedCalls.{method_has}
-use Rattle.ix_store.specs.declared.store.Store.{Store}
+use Rattle.ix_method.specs.Store.{Store}
 use Rattle.ix_sound.specs.Direct.{direct}
 use Rattle.ix_sound.specs.Known.{Known, Anything, Here, Behind, Overrides, BehindFine, call_of, knowledge}
 use Rattle.ix_sound.specs.Stands.{StandsFor}

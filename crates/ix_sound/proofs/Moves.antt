@@ -39,8 +39,8 @@ use Rattle.ix_facts.proofs.StoreLaws.{below_meets}
 use Rattle.ix_flow.specs.Flow.{Rules, Doing, Flows}
 use Rattle.ix_steps.proofs.MachineSteps.{printed_stays}
 use Rattle.ix_steps.proofs.MachineTests.{told_true, told_false}
-use Rattle.ix_store.specs.declared.store.Store.{Store}
-use Rattle.ix_store.specs.StoredFacts.{stored}
+use Rattle.ix_method.specs.Store.{Store}
+use Rattle.ix_method.specs.StoredFacts.{stored}
 use Rattle.ix_method.specs.MethodRules.{method_rules, KindGives}
 use Rattle.ix_sound.specs.Chain.{Passes, Same, Weaker, Rounding, Flowing, Finishing, Running, Asking, Comparing, Telling, Turning, Returning, Leaving, Passing, Each}
 use Rattle.ix_sound.specs.Clean.{IsClean}

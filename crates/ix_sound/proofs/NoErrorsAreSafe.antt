@@ -25,7 +25,7 @@ use Rattle.ix_core.proofs.LawsAreSafe.{types_in}
 use Rattle.ix_core.proofs.TypedCalls.{method_has}
 use Rattle.ix_core.proofs.TypedRuns.{step_typed}
 use Rattle.ix_core.proofs.TypedStarts.{start_typed}
-use Rattle.ix_store.specs.declared.store.Store.{Store}
+use Rattle.ix_method.specs.Store.{Store}
 use Rattle.ix_method.specs.MethodRules.{method_rules}
 use Rattle.ix_sound.specs.Chain.{Finishing}
 use Rattle.ix_sound.specs.Clean.{IsClean}

@@ -27,8 +27,8 @@ use Rattle.ix_core.proofs.Kept.{has_ints, done_keeps, wrapped_keeps}
 use Rattle.ix_core.proofs.LawsAreSafe.{types_in}
 use Rattle.ix_core.proofs.TypedStarts.{OperationFits}
 use Rattle.ix_core.proofs.Waiting.{later_refl}
-use Rattle.ix_store.specs.declared.store.Store.{Store}
-use Rattle.ix_store.specs.StoredFacts.{stored}
+use Rattle.ix_method.specs.Store.{Store}
+use Rattle.ix_method.specs.StoredFacts.{stored}
 use Rattle.ix_method.specs.MethodRules.{method_rules, KindGives}
 use Rattle.ix_sound.specs.Chain.{Flowing}
 use Rattle.ix_sound.specs.Clean.{IsClean, Hides}

@@ -7,8 +7,8 @@ use Rattle.ix_core.specs.declared.program.Method.{Method}
 use Rattle.ix_core.specs.declared.program.Program.{Program}
 use Rattle.ix_facts.specs.Stores.{Stored}
 use Rattle.ix_flow.specs.Flow.{Point}
-use Rattle.ix_store.specs.declared.store.Store.{Store}
-use Rattle.ix_store.specs.StoredFacts.{stored}
+use Rattle.ix_method.specs.Store.{Store}
+use Rattle.ix_method.specs.StoredFacts.{stored}
 use Rattle.ix_method.specs.RuleErrors.{KindErrors, PointErrors}
 
 abbrev pub NoErrors : Program → Method → ℕ → Point → Store → Type 0

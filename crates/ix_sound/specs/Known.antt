@@ -17,10 +17,10 @@ use Rattle.ix_core.specs.Tasks.{Tasks}
 use Rattle.ix_core.specs.Types.{Types}
 use Rattle.ix_core.specs.Waits.{Knowledge}
 use Rattle.ix_facts.specs.Stores.{Stored, Meets}
-use Rattle.ix_store.specs.declared.store.Store.{Store}
-use Rattle.ix_store.specs.StoredFacts.{stored}
-use Rattle.ix_sign.specs.Signs.{CallGives, SuperGives}
-use Rattle.ix_sign.specs.SignErrors.{ArgumentClaim}
+use Rattle.ix_method.specs.Store.{Store}
+use Rattle.ix_method.specs.StoredFacts.{stored}
+use Rattle.ix_method.specs.Signs.{CallGives, SuperGives}
+use Rattle.ix_method.specs.SignErrors.{ArgumentClaim}
 use Rattle.ix_method.specs.MethodRules.{method_rules}
 use Rattle.ix_sound.specs.Chain.{Flowing}
 use Rattle.ix_sound.specs.Clean.{IsClean}

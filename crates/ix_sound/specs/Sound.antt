@@ -9,7 +9,7 @@ use Rattle.ix_core.specs.declared.program.Program.{Program}
 use Rattle.ix_core.specs.Objects.{Names}
 use Rattle.ix_core.specs.Tables.{method_at, body_of}
 use Rattle.ix_flow.specs.Flow.{IsFlow}
-use Rattle.ix_store.specs.declared.store.Store.{Store}
+use Rattle.ix_method.specs.Store.{Store}
 use Rattle.ix_steps.specs.MachineSteps.{local_slot}
 use Rattle.ix_method.specs.MethodRules.{method_rules}
 use Rattle.ix_method.specs.RuleErrors.{TextErrors}

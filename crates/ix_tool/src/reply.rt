@@ -8,8 +8,8 @@ ghost use Rattle.ix_report.specs.Texts as text;
 ghost use Rattle.ix_name_report.specs.Texts as names_text;
 
 use ix_answer::{Reply, Status, on_err, on_out};
-use ix_check::count_program;
 use ix_core::{Error, Program};
+use ix_finding::count_program;
 use ix_meaning::NameError;
 use ix_name_report::misnamed;
 use ix_report::{accepted, bench_accepted, bench_rejected, broken, past_bytes, past_limit, report};

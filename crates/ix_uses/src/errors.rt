@@ -1,10 +1,10 @@
 //! Errors that have a rule and a place alone.
 
 ghost use Rattle.std.specs.Prelude.{◌≡◌, ◌∷◌, [], ◌++◌, OnOk};
-ghost use Rattle.ix_sign.specs.SignErrors as signs;
+ghost use Rattle.ix_method.specs.SignErrors as signs;
 
 use ix_core::{Detail, Error, Op};
-use ix_sign::Ranked;
+use ix_method::signs::Ranked;
 use ix_text::Span;
 use std::alloc::AllocError;
 

@@ -1,4 +1,4 @@
-use Rattle.ix_store.specs.StoredFacts.{stored}
+use Rattle.ix_sign.specs.StoredFacts.{stored}
 use Rattle.ix_method.specs.RuleErrors.{LengthNegative, FreshElement}
 use Rattle.ix_sign.proofs.Refused.{ok_adds_both}
 use Rattle.ix_method.proofs.accesses.push_new_array_errors.Goals as goal

@@ -2,7 +2,7 @@ use Rattle.std.specs.Prelude.{◌≡◌, ◌++◌, OnOk, Some, option_map}
 use Rattle.std.proofs.Common.{ap, sym, ◌∙◌, subst}
 use Rattle.ix_core.specs.declared.fact.Path.TheVariants.{Slot}
 use Rattle.ix_steps.specs.MachineSteps.{own_path}
-use Rattle.ix_store.specs.StoredFacts.{stored}
+use Rattle.ix_sign.specs.StoredFacts.{stored}
 use Rattle.ix_sign.specs.Exactly.{AddsExactly}
 use Rattle.ix_sign.specs.Names.{variable_at}
 use Rattle.ix_sign.specs.Refusals.{refusals, not_proved}

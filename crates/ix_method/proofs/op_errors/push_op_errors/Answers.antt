@@ -1,6 +1,6 @@
 use Rattle.std.specs.Prelude.{◌⊎◌, OnOk}
 use Rattle.std.proofs.Common.{sym, subst}
-use Rattle.ix_store.specs.StoredFacts.{stored}
+use Rattle.ix_sign.specs.StoredFacts.{stored}
 use Rattle.ix_sign.specs.Exactly.{AddsExactly}
 use Rattle.ix_sign.specs.SignErrors.{part, FieldClaim, FieldDependent}
 use Rattle.ix_method.specs.RuleErrors.{EntryClaim, KindErrors}

@@ -1,6 +1,6 @@
 use Rattle.std.specs.Prelude.{◌⊎◌, OnOk}
 use Rattle.std.proofs.Common.{subst}
-use Rattle.ix_store.specs.StoredFacts.{stored}
+use Rattle.ix_sign.specs.StoredFacts.{stored}
 use Rattle.ix_sign.specs.Exactly.{AddsExactly}
 use Rattle.ix_sign.specs.SignErrors.{part}
 use Rattle.ix_sign.proofs.Refused.{ok_adds_both}

@@ -1,7 +1,7 @@
 use Rattle.std.proofs.Common.{◌∙◌, ap, sym, subst}
 use Rattle.std.proofs.lemmas.Result.{IfOk-weaker}
 use Rattle.ix_core.specs.Safe.{Safe}
-use Rattle.ix_errors.specs.MethodErrors.{IsError}
+use Rattle.ix_finding.specs.MethodErrors.{IsError}
 use Rattle.ix_listing.specs.ErrorList.{IsErrorList}
 use Rattle.ix_tool.specs.Answers.{verdict}
 use Rattle.ix_tool.proofs.Answered.{verdict_done, status_is}

@@ -4,7 +4,7 @@ use Rattle.ix_graph.specs.Brought.{AllBring}
 use Rattle.ix_solve.specs.Solutions.{IsLeastOf}
 use Rattle.ix_labels.specs.Problem.{rules_of, kinds_at}
 use Rattle.ix_labels.proofs.Visited.{edges_are, from_within, one_more_edge}
-use Rattle.ix_store.specs.StoreOrder.{StoreBelow}
+use Rattle.ix_method.specs.StoreOrder.{StoreBelow}
 use Rattle.ix_labels.proofs.problem.Problem.gathered.Goals as goal
 
 pub loop-from-init : goal.loop-from-init

@@ -1,7 +1,7 @@
 use Rattle.std.proofs.Common.{take}
 use Rattle.ix_graph.specs.Brought.{AllBring}
 use Rattle.ix_solve.specs.Solutions.{IsLeastOf}
-use Rattle.ix_store.specs.StoreOrder.{StoreBelow}
+use Rattle.ix_method.specs.StoreOrder.{StoreBelow}
 use Rattle.ix_labels.specs.Problem.{rules_of, kinds_at}
 use Rattle.ix_labels.proofs.problem.Problem.gathered.Given as goal
 
