@@ -19,7 +19,15 @@ impl Groups for NoFacts {
         &[]
     }
 
+    ghost ends = { λ none p. [] };
+
+    fn ends_on(&self, _p: &Path) -> &[Fact] {
+        &[]
+    }
+
     ghost named = { λ none p. refl };
+
+    ghost named_ends = { λ none p. refl };
 
     ghost only = { λ none p f i. i };
 }
