@@ -1,4 +1,4 @@
-//! The limits of the form that is built, on both sides.
+//! Limits of parameters, locals and claims, on both sides.
 use crate::calls::run;
 use ix_tool::Status;
 use std::alloc::{AllocError, Global};
@@ -38,23 +38,26 @@ fn with_claims(alloc: Global, count: u32) -> Result<String, AllocError> {
     Ok(text)
 }
 
-fn status_of(alloc: Global, text: &str) -> Result<Status, AllocError> {
-    Ok(run(alloc, &["check", "A.java"], text.as_bytes())?.status)
-}
+const CHECK: &[&str] = &["check", "A.java"];
+
+/// A check of 509 locals, each beside each, takes some ten seconds; a run asks for the same limits.
+const RUN: &[&str] = &["run", "A.java", "A.f", "[5]", "0"];
 
 #[test]
 fn both_sides(rt: HostRuntime) -> Result<(), Fail> {
     let alloc = rt.alloc();
     let rows = [
-        (with_params(alloc, 30)?, Status::Done),
-        (with_params(alloc, 31)?, Status::Limit),
-        (with_locals(alloc, 60)?, Status::Done),
-        (with_locals(alloc, 510)?, Status::Limit),
-        (with_claims(alloc, 16)?, Status::Done),
-        (with_claims(alloc, 17)?, Status::Limit),
+        (CHECK, with_params(alloc, 30)?, Status::Done),
+        (CHECK, with_params(alloc, 31)?, Status::Limit),
+        (CHECK, with_locals(alloc, 200)?, Status::Done),
+        (RUN, with_locals(alloc, 509)?, Status::Done),
+        (RUN, with_locals(alloc, 510)?, Status::Limit),
+        (CHECK, with_locals(alloc, 510)?, Status::Limit),
+        (CHECK, with_claims(alloc, 16)?, Status::Done),
+        (CHECK, with_claims(alloc, 17)?, Status::Limit),
     ];
     for row in &rows {
-        assert!(rt; status_of(alloc, row.0.as_str())? == row.1);
+        assert!(rt; run(alloc, row.0, row.1.as_bytes())?.status == row.2);
     }
     Ok(())
 }
