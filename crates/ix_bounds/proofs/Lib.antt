@@ -1,6 +1,6 @@
 pub mod Looks
 pub mod OnPath
-pub mod EndsAlone
+pub mod PartsAlone
 pub mod BestOfParts
 pub mod ArraysAlike
 pub mod BoundSteps

@@ -9,7 +9,7 @@ use Rattle.ix_core.specs.declared.fact.Fact.{Fact}
 use Rattle.ix_facts.specs.Bounds
 use Rattle.ix_facts.specs.Bounds.{at_least, at_most, greatest, least, best, length_low_by, length_high_by, range_low_by, range_high_by, fact_less_by}
 use Rattle.ix_index.specs.OnPaths.{HasNamed, best_on}
-use Rattle.ix_bounds.proofs.Looks.{looks_length_low, looks_length_high, looks_range_low, looks_range_high, looks_fact_less, looks_lower, looks_limit, looks_stored_upper, looks_stored_less, looks_upper}
+use Rattle.ix_bounds.proofs.Looks.{looks_length_low, looks_length_high, looks_range_low, looks_range_high, looks_limit, looks_stored_upper, looks_upper}
 
 module _ (part all : List Fact) where
   pub length_low_is : (a : Path) → HasNamed a part all → Bounds.length_low part a ≡ Bounds.length_low all a
@@ -24,20 +24,11 @@ module _ (part all : List Fact) where
   pub range_high_is : (p : Path) → HasNamed p part all → Bounds.range_high part p ≡ Bounds.range_high all p
   range_high_is p n = ap (at_most greatest_int) (best_on int_min p (range_high_by p) part all (looks_range_high p) n)
 
-  pub lower_is : (p : Path) → HasNamed p part all → at_least (Bounds.range_low all p) (greatest (Bounds.lower_by all p) part) ≡ Bounds.lower_bound all p
-  lower_is p n = ap (at_least (Bounds.range_low all p)) (best_on int_max p (Bounds.lower_by all p) part all (looks_lower all p) n)
-
   pub limit_is : (p : Path) → HasNamed p part all → at_most (Bounds.range_high all p) (least (Bounds.limit_by all p) part) ≡ Bounds.upper_limit all p
   limit_is p n = ap (at_most (Bounds.range_high all p)) (best_on int_min p (Bounds.limit_by all p) part all (looks_limit all p) n)
 
   pub stored_upper_is : (p a : Path) (o : PathOff) → HasNamed p part all → greatest (Bounds.stored_upper_by all p a o) part ≡ Bounds.stored_upper all p a o
   stored_upper_is p a o n = best_on int_max p (Bounds.stored_upper_by all p a o) part all (looks_stored_upper all p a o) n
-
-  pub stored_less_is : (p q : Path) → HasNamed q part all → least (Bounds.stored_less_by all p q) part ≡ Bounds.stored_less all p q
-  stored_less_is p q n = best_on int_min q (Bounds.stored_less_by all p q) part all (looks_stored_less all p q) n
-
-  pub fact_less_is : (p q : Path) → HasNamed p part all → least (fact_less_by p q) part ≡ Bounds.fact_less all p q
-  fact_less_is p q n = best_on int_min p (fact_less_by p q) part all (looks_fact_less p q) n
 
   pub upper_is : (p a : Path) (o : PathOff) → HasNamed p part all → greatest (Bounds.upper_by all p a o) part ≡ greatest (Bounds.upper_by all p a o) all
   upper_is p a o n = best_on int_max p (Bounds.upper_by all p a o) part all (looks_upper all p a o) n

@@ -1,3 +1,4 @@
 pub mod Ends
+pub mod Links
 pub mod OnArrays
 pub mod HasOrders

@@ -8,6 +8,7 @@ ghost use Rattle.ix_facts.specs.Facts.{IsIn};
 ghost use Rattle.ix_facts.specs.Forget.{names};
 ghost use Rattle.ix_facts.specs.Small.{HasSmallNumbers};
 ghost use Rattle.ix_bounds.specs.Ends.{ends_in};
+ghost use Rattle.ix_bounds.specs.Links.{links_in};
 
 use ix_core::{Fact, Path};
 
@@ -32,11 +33,21 @@ pub trait Groups {
         ensures facts { result.now ≡ ends self.now p.now }
         ensures small { All HasSmallNumbers result.now };
 
+    /// The differences and lengths on a path: all of them, and maybe others.
+    ghost links: { Self → Path → List Fact };
+
+    /// The differences on the path, and which lengths are the int there.
+    fn links_on(&self, p: &Path) -> &[Fact]
+        ensures facts { result.now ≡ links self.now p.now };
+
     /// All facts that name the path are among those on it, in order.
     ghost named: { (facts : Self) (p : Path) → filter (names (is_path p)) (group facts p) ≡ filter (names (is_path p)) (all facts) };
 
     /// All ranges and classes that name the path are among those on it, in order.
     ghost named_ends: { (facts : Self) (p : Path) → filter (names (is_path p)) (ends facts p) ≡ filter (names (is_path p)) (ends_in (all facts)) };
+
+    /// All differences and lengths that name the path are among those on it, in order.
+    ghost named_links: { (facts : Self) (p : Path) → filter (names (is_path p)) (links facts p) ≡ filter (names (is_path p)) (links_in (all facts)) };
 
     /// There are no others than facts on it.
     ghost only: { (facts : Self) (p : Path) (f : Fact) → IsIn f (group facts p) → IsIn f (all facts) };

@@ -45,7 +45,7 @@ pub fn lower_bound<G: Groups>(facts: &G, p: &Path) -> i64
     ensures bound { result ≡ spec.lower_bound (G.all facts.now) p.now }
     ensures small { IsLimit result }
 {
-    lower_among(facts, p, facts.on_path(p))
+    lower_among(facts, p, facts.links_on(p))
 }
 
 /// What a bound of r from the array's end gives of the int from above.

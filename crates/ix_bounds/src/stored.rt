@@ -119,7 +119,7 @@ pub(crate) fn stored_less<G: Groups>(facts: &G, p: &Path, q: &Path) -> Option<i6
     ensures bound { result ≡ spec.stored_less (G.all facts.now) p.now q.now }
     ensures small { IfSome result IsEnd }
 {
-    stored_less_on(facts, p, q, facts.on_path(q))
+    stored_less_on(facts, p, q, facts.links_on(q))
 }
 
 fn fact_less_by(p: &Path, q: &Path, fact: &Fact) -> Option<i64>
@@ -154,5 +154,5 @@ pub fn fact_less<G: Groups>(facts: &G, p: &Path, q: &Path) -> Option<i64>
     ensures bound { result ≡ spec.fact_less (G.all facts.now) p.now q.now }
     ensures small { IfSome result IsEnd }
 {
-    fact_less_on(facts.on_path(p), p, q)
+    fact_less_on(facts.links_on(p), p, q)
 }

@@ -6,3 +6,4 @@ pub mod Found
 mod Places
 mod SlotLists
 mod Added
+mod Marked

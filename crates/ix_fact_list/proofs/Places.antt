@@ -1,5 +1,5 @@
 -- Where a path stands in a set, or where it would stand.
-use Rattle.std.specs.Prelude.{◌≡◌, ℕ, zero, suc, ◌+◌, ◌<◌, ◌≤◌, Bool, true, false, cond, List, [], ◌∷◌, Err, length, get_or, refl}
+use Rattle.std.specs.Prelude.{◌≡◌, ℕ, zero, suc, ◌+◌, ◌<◌, ◌≤◌, false, List, [], ◌∷◌, Err, length, get_or, refl}
 use Rattle.std.specs.List.{insert}
 use Rattle.std.specs.List.Sorted.{IsBinarySearchResult, IsSortedBy}
 use Rattle.std.specs.BTreeSet.{insert_key}
@@ -10,7 +10,7 @@ use Rattle.std.proofs.lemmas.List.Sorted.{searchable_from_sorted}
 use Rattle.ix_core.specs.declared.fact.Path.{Path}
 use Rattle.ix_facts.specs.Named.{IsAmongPaths}
 use Rattle.ix_facts.specs.PathOrder.{path_cmp, path_total}
-use Rattle.ix_fact_list.specs.PutLaws.{IsRising, equal_paths, put_rises}
+use Rattle.ix_fact_list.specs.PutLaws.{IsRising, equal_paths}
 
 among : (paths : List Path) (k : ℕ) (d : Path) → k < length paths → IsAmongPaths (get_or paths k d) paths
 among [] k d lt = absurd (omega (arith, lt))
@@ -56,10 +56,3 @@ pub placed : (paths : List Path) (k : ℕ) (p : Path) → IsRising paths → k �
 placed paths k p r within parted =
     let point = parted (searchable_from_sorted path_total (λ q. q) paths p (sorted paths r)) in
     place paths k p within (λ i d a. point.0 i d (omega arith) a) (λ i d a b. point.1 i d a b)
-
-pub rises_either : (b : Bool) (x y : List Path) → IsRising x → IsRising y → IsRising (cond b x y)
-rises_either true x y r s = r
-rises_either false x y r s = s
-
-pub insert_rises : (paths : List Path) (k : ℕ) (p : Path) → IsRising paths → k ≤ length paths → IsBinarySearchResult (λ q. path_cmp q p) paths (Err k) → IsRising (insert paths k p)
-insert_rises paths k p r within parted = subst IsRising (placed paths k p r within parted) (put_rises paths p r)

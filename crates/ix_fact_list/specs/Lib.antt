@@ -1,4 +1,5 @@
 pub mod ByPath
+pub mod Marks
 pub mod OnPathLaws
 pub mod PutLaws
 pub mod Spared

@@ -48,12 +48,12 @@ IsRising (p ∷ paths) = ((q : Path) → IsAmongPaths q paths → path_cmp p q �
 
 -- ---- members
 
-put_here : (paths : List Path) (p : Path) → IsAmongPaths p (insert_key path_cmp paths p)
+pub put_here : (paths : List Path) (p : Path) → IsAmongPaths p (insert_key path_cmp paths p)
 put_here [] p = inl refl
 put_here (q ∷ paths) p =
     by_order (path_cmp p q) (λ o. rw o (inl refl)) (λ o. rw o (inl (equal_paths p q o))) (λ o. rw o (inr (put_here paths p)))
 
-put_stays : (paths : List Path) (p r : Path) → IsAmongPaths r paths → IsAmongPaths r (insert_key path_cmp paths p)
+pub put_stays : (paths : List Path) (p r : Path) → IsAmongPaths r paths → IsAmongPaths r (insert_key path_cmp paths p)
 put_stays [] p r i = absurd i
 put_stays (q ∷ paths) p r i =
     by_order (path_cmp p q) (λ o. rw o (inr i)) (λ o. rw o i) (λ o. rw o (⊎_elim (λ e. inl e) (λ j. inr (put_stays paths p r j)) i))
@@ -81,6 +81,18 @@ put_rises (q ∷ paths) p r =
 
 less_apart : (p : Path) → path_cmp p p ≡ Less → ⊥
 less_apart p o = let e : path_cmp p p ≡ Greater = path_total.antisymm p p ∙ ap ordering_reverse o in let no : Less ≡ Greater = sym o ∙ e in cc
+
+greater_apart : (p : Path) → path_cmp p p ≡ Greater → ⊥
+greater_apart p o = less_apart p (turned p p o)
+
+-- a path that is there is not put again
+pub put_again : (paths : List Path) (p : Path) → IsRising paths → IsAmongPaths p paths → insert_key path_cmp paths p ≡ paths
+put_again [] p r i = absurd i
+put_again (q ∷ paths) p r i =
+    by_order (path_cmp p q)
+    (λ o. absurd (⊎_elim (λ e. less_apart q (subst (λ x. path_cmp x q ≡ Less) e o)) (λ j. less_apart p (path_total.trans p q p o (r.0 p j))) i))
+    (λ o. rw o refl)
+    (λ o. rw o (⊎_elim (λ e. absurd (greater_apart q (subst (λ x. path_cmp x q ≡ Greater) e o))) (λ j. ap (λ l. q ∷ l) (put_again paths p r.1 j)) i))
 
 rising_distinct : (paths : List Path) → IsRising paths → AreDistinct paths
 rising_distinct [] r = tt

@@ -1,7 +1,8 @@
-//! Ranges and classes among facts.
+//! Ranges and classes among facts, and differences and lengths.
 
 ghost use Rattle.std.specs.Prelude.{◌≡◌, IfOk};
 ghost use Rattle.ix_bounds.specs.Ends.{is_end, ends_in};
+ghost use Rattle.ix_bounds.specs.Links.{is_link, links_in};
 
 use ix_core::Fact;
 use std::alloc::{AllocError, Global};
@@ -28,4 +29,27 @@ pub(crate) fn all_ends(alloc: Global, facts: &[Fact]) -> Result<Vec<Fact>, Alloc
         }
     }
     Ok(ends)
+}
+
+fn is_link(fact: &Fact) -> bool
+    ensures { result ≡ is_link fact.now }
+{
+    match *fact {
+        Fact::IsLen(_, _) => true,
+        Fact::Less(_, _, _) => true,
+        _ => false,
+    }
+}
+
+/// The differences and lengths among the facts.
+pub(crate) fn all_links(alloc: Global, facts: &[Fact]) -> Result<Vec<Fact>, AllocError>
+    ensures { IfOk result (λ links. links.items ≡ links_in facts.now) }
+{
+    let mut links = Vec::new(alloc);
+    for fact in facts {
+        if is_link(fact) {
+            links.push(*fact)?;
+        }
+    }
+    Ok(links)
 }

@@ -9,10 +9,11 @@ ghost use Rattle.ix_facts.specs.After.{of_target};
 ghost use Rattle.ix_facts.specs.Exact.{named_ints, named_arrays};
 ghost use Rattle.ix_facts.specs.Small.{HasSmallNumbers};
 ghost use Rattle.ix_bounds.specs.Ends.{ends_in};
+ghost use Rattle.ix_bounds.specs.Links.{links_in};
 ghost use Rattle.ix_fact_list.specs.ByPath.{on_index, on_it, put_all};
 ghost use Rattle.ix_fact_list.specs.Spared.{some_named};
 
-use crate::ends::all_ends;
+use crate::ends::{all_ends, all_links};
 use crate::named::{all_arrays, all_ints};
 use crate::orders::in_all_orders;
 use crate::path_index::PathIndex;
@@ -32,6 +33,8 @@ pub struct FactList {
     by_path: PathIndex,
     /// The same of ranges and classes alone.
     ends: PathIndex,
+    /// The same of differences and lengths alone.
+    links: PathIndex,
     /// The ints and arrays that the facts name, each once.
     ints: Vec<Path>,
     arrays: Vec<Path>,
@@ -43,7 +46,8 @@ impl Model for FactList {
     ghost view = { λ list. list.facts.items };
 
     ghost invariant = { λ list. (All HasSmallNumbers list.facts.items
-        × (((p : Path) → on_index list.by_path p ≡ on_it p (in_orders list.facts.items)) × ((p : Path) → on_index list.ends p ≡ on_it p (ends_in (in_orders list.facts.items)))))
+        × (((p : Path) → on_index list.by_path p ≡ on_it p (in_orders list.facts.items))
+        × (((p : Path) → on_index list.ends p ≡ on_it p (ends_in (in_orders list.facts.items))) × ((p : Path) → on_index list.links p ≡ on_it p (links_in (in_orders list.facts.items))))))
         × ((list.ints.items ≡ put_all [] (named_ints (in_orders list.facts.items))) × (list.arrays.items ≡ put_all [] (named_arrays (in_orders list.facts.items)))) };
 }
 
@@ -101,12 +105,14 @@ impl FactList {
         let ordered = in_all_orders(alloc, &facts)?;
         let by_path = PathIndex::of(alloc, &ordered)?;
         let ends = PathIndex::of(alloc, &all_ends(alloc, &ordered)?)?;
+        let links = PathIndex::of(alloc, &all_links(alloc, &ordered)?)?;
         let ints = all_ints(alloc, &ordered)?;
         let arrays = all_arrays(alloc, &ordered)?;
         Ok(FactList {
             facts,
             by_path,
             ends,
+            links,
             ints,
             arrays,
         })
@@ -155,6 +161,7 @@ impl FactList {
 impl Groups for FactList {
     ghost use Rattle.ix_facts.specs.Facts.{in_orders};
     ghost use Rattle.ix_bounds.specs.Ends.{ends_in};
+    ghost use Rattle.ix_bounds.specs.Links.{links_in};
     ghost use Rattle.ix_fact_list.specs.ByPath.{on_it};
     ghost use Rattle.ix_fact_list.specs.OnPathLaws.{on_it_named, on_it_only};
 
@@ -172,9 +179,17 @@ impl Groups for FactList {
         self.ends.on(p)
     }
 
+    ghost links = { λ list p. on_it p (links_in (in_orders list)) };
+
+    fn links_on(&self, p: &Path) -> &[Fact] {
+        self.links.on(p)
+    }
+
     ghost named = { λ list p. on_it_named p (in_orders list) };
 
     ghost named_ends = { λ list p. on_it_named p (ends_in (in_orders list)) };
+
+    ghost named_links = { λ list p. on_it_named p (links_in (in_orders list)) };
 
     ghost only = { λ list p. on_it_only p (in_orders list) };
 }

@@ -1,11 +1,13 @@
 //! A set of paths in order.
 
-ghost use Rattle.std.specs.Prelude.{◌≡◌, [], List, OnOk};
+ghost use Rattle.std.specs.Prelude.{◌≡◌, ◌⊎◌, ◌<◌, ℕ, true, false, get_or, length, [], List, IsTrue, OnOk, OnErr};
 ghost use Rattle.std.specs.BTreeSet.{insert_key};
 ghost use Rattle.ix_core.specs.declared.fact.Path.{Path};
 ghost use Rattle.ix_facts.specs.PathOrder.{path_cmp};
+ghost use Rattle.ix_fact_list.specs.Marks.{IsMarked, AreMarked};
 ghost use Rattle.ix_fact_list.specs.PutLaws.{IsRising};
 
+use crate::by_slot::NEAR;
 use ix_core::Path;
 use ix_facts::compare_paths;
 use std::alloc::{AllocError, Global};
@@ -15,6 +17,8 @@ use std::marker::Model;
 #[derive(Drop)]
 pub struct PathSet {
     paths: Vec<Path>,
+    /// Of a near slot, by its number, that it is among them: so that no place is sought for it again.
+    marks: Vec<bool>,
 }
 
 impl Model for PathSet {
@@ -22,7 +26,64 @@ impl Model for PathSet {
 
     ghost view = { λ set. set.paths.items };
 
-    ghost invariant = { λ set. IsRising set.paths.items };
+    ghost invariant = { λ set. IsRising set.paths.items × AreMarked set.marks.items set.paths.items };
+}
+
+fn is_marked(marks: &[bool], p: &Path) -> bool
+    ensures { IsTrue result → IsMarked marks.now p.now }
+{
+    match *p {
+        Path::Slot(slot) if slot < NEAR => match marks.get(slot as usize) {
+            Some(mark) => *mark,
+            None => false,
+        },
+        _ => false,
+    }
+}
+
+/// Marks the path, where it is a near slot.
+fn mark(marks: &mut Vec<bool>, p: &Path) -> Result<(), AllocError>
+    ensures { (q : Path) → IsMarked marks.new.items q → IsMarked marks.old.items q ⊎ (q ≡ p.now) }
+{
+    match *p {
+        Path::Slot(slot) if slot < NEAR => mark_slot(marks, slot as usize),
+        _ => Ok(()),
+    }
+}
+
+/// Makes room for the slot.
+fn reach(marks: &mut Vec<bool>, slot: usize) -> Result<(), AllocError>
+    requires near { slot < 1024 }
+    ensures reached { OnOk result (slot < length marks.new.items) }
+    ensures same { (s : ℕ) → get_or marks.new.items s false ≡ get_or marks.old.items s false }
+{
+    for _ in marks.len()..slot + 1 {
+        marks.push(false)?;
+    }
+    Ok(())
+}
+
+fn mark_slot(marks: &mut Vec<bool>, slot: usize) -> Result<(), AllocError>
+    requires near { slot < 1024 }
+    ensures { (s : ℕ) → get_or marks.new.items s false ≡ true → (get_or marks.old.items s false ≡ true) ⊎ (s ≡ slot) }
+{
+    reach(marks, slot)?;
+    marks[slot] = true;
+    Ok(())
+}
+
+fn put_path(paths: &mut Vec<Path>, p: Path) -> Result<(), AllocError>
+    requires rising { IsRising paths.old.items }
+    ensures put { OnOk result (paths.new.items ≡ insert_key path_cmp paths.old.items p) }
+    ensures unchanged { OnErr result (paths.new.items ≡ paths.old.items) }
+{
+    match paths.binary_search_by(|path| compare_paths(path, &p)) {
+        Ok(_) => Ok(()),
+        Err(place) => {
+            paths.insert(place, p)?;
+            Ok(())
+        }
+    }
 }
 
 impl PathSet {
@@ -32,6 +93,7 @@ impl PathSet {
     {
         PathSet {
             paths: Vec::new(alloc),
+            marks: Vec::new(alloc),
         }
     }
 
@@ -39,13 +101,12 @@ impl PathSet {
     pub fn put(&mut self, p: Path) -> Result<(), AllocError>
         ensures { OnOk result (self.new ≡ insert_key path_cmp self.old p) }
     {
-        match self.paths.binary_search_by(|path| compare_paths(path, &p)) {
-            Ok(_) => Ok(()),
-            Err(place) => {
-                self.paths.insert(place, p)?;
-                Ok(())
-            }
+        if is_marked(&self.marks, &p) {
+            return Ok(());
         }
+        put_path(&mut self.paths, p)?;
+        mark(&mut self.marks, &p)?;
+        Ok(())
     }
 
     /// The paths, in order.

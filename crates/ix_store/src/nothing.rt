@@ -25,9 +25,17 @@ impl Groups for NoFacts {
         &[]
     }
 
+    ghost links = { λ none p. [] };
+
+    fn links_on(&self, _p: &Path) -> &[Fact] {
+        &[]
+    }
+
     ghost named = { λ none p. refl };
 
     ghost named_ends = { λ none p. refl };
+
+    ghost named_links = { λ none p. refl };
 
     ghost only = { λ none p f i. i };
 }

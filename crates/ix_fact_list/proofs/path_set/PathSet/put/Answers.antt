@@ -1,43 +1,22 @@
-use Rattle.std.proofs.Common.{rules, ◌≡◌, length, ◌≤◌, sym, subst, ap, ◌∙◌}
-use Rattle.std.specs.Prelude.{List, Err}
-use Rattle.std.specs.List.{insert}
-use Rattle.std.specs.List.Sorted.{IsBinarySearchResult}
+use Rattle.std.proofs.Common.{◌≡◌, sym, subst}
 use Rattle.std.specs.BTreeSet.{insert_key}
-use Rattle.std.proofs.lemmas.Fn.{always_returns_same}
-use Rattle.ix_core.specs.declared.fact.Path.{Path}
 use Rattle.ix_facts.specs.PathOrder.{path_cmp}
-use Rattle.ix_fact_list.specs.PutLaws.{IsRising}
-use Rattle.ix_fact_list.proofs.Places.{found, placed, rises_either, insert_rises}
+use Rattle.ix_fact_list.specs.Marks.{IsMarked}
+use Rattle.ix_fact_list.specs.PutLaws.{put_again}
+use Rattle.ix_fact_list.proofs.Marked.{put_marked}
 use Rattle.ix_fact_list.proofs.path_set.PathSet.put.Goals as goal
 
-pub returns-in-Ok : goal.returns-in-Ok
-returns-in-Ok c =
+pub returns-then-is_marked : goal.returns-then-is_marked
+returns-then-is_marked c =
     let p = c.args.p in
-    let e = c.deref.ensures.value in
-    let v = c.self.view_is in
-    let same : c.deref.result.now ≡ c.args.self.now = cc in
-    let rising : IsRising c.deref.result.now = subst IsRising (sym e) c.self.invariant in
-    let here = c.in-Ok.ensures.position (λ q. path_cmp q p) (always_returns_same _ _ _ (λ a r next called. search rules)) in
-    subst (λ l. l ≡ insert_key path_cmp l p) same (sym (found c.deref.result.now c.in-Ok.field-0 p rising c.in-Ok.ensures.bound here))
+    let paths = c.self.inside.paths.items in
+    let marked : IsMarked c.self.inside.marks.items p = subst (λ l. IsMarked l p) c.deref.ensures.value (c.is_marked.ensures c.if-is_marked.true) in
+    subst (λ l. l ≡ insert_key path_cmp l p) c.self.view_is (sym (put_again paths p c.self.invariant.0 (c.self.invariant.1 p marked)))
 
-pub invariant_of-self-in-Err : goal.invariant_of-self-in-Err
-invariant_of-self-in-Err c =
-    let p = c.args.p in
-    let e = c.deref.ensures.value in
-    let items = c.self.inside.paths.items in
-    let here = c.in-Err.ensures.position (λ q. path_cmp q p) (always_returns_same _ _ _ (λ a r next called. search rules)) in
-    let parted : IsBinarySearchResult (λ q. path_cmp q p) items (Err c.in-Err.place) = subst (λ (l : List Path). IsBinarySearchResult (λ q. path_cmp q p) l (Err c.in-Err.place)) e here in
-    let within : c.in-Err.place ≤ length items = subst (λ (l : List Path). c.in-Err.place ≤ length l) e c.in-Err.ensures.bound in
-    subst IsRising (sym c.insert.ensures.items) (rises_either _ (insert items c.in-Err.place p) items (insert_rises items c.in-Err.place p c.self.invariant within parted) c.self.invariant)
+pub invariant_of-self-in_err-mark : goal.invariant_of-self-in_err-mark
+invariant_of-self-in_err-mark c =
+    put_marked c.self.inside.paths.items c.put_path.new.paths.items c.self.inside.marks.items c.mark.new.marks.items c.args.p c.self.invariant c.in_ok-put_path.ensures.put c.mark.ensures
 
-pub returns-in_ok-insert-in-Err : goal.returns-in_ok-insert-in-Err
-returns-in_ok-insert-in-Err c =
-    let p = c.args.p in
-    let e = c.deref.ensures.value in
-    let v = c.self.view_is in
-    let items = c.self.inside.paths.items in
-    let same : items ≡ c.args.self.now = cc in
-    let here = c.in-Err.ensures.position (λ q. path_cmp q p) (always_returns_same _ _ _ (λ a r next called. search rules)) in
-    let parted : IsBinarySearchResult (λ q. path_cmp q p) items (Err c.in-Err.place) = subst (λ (l : List Path). IsBinarySearchResult (λ q. path_cmp q p) l (Err c.in-Err.place)) e here in
-    let within : c.in-Err.place ≤ length items = subst (λ (l : List Path). c.in-Err.place ≤ length l) e c.in-Err.ensures.bound in
-    c.in_ok-insert-in-Err.ensures.items ∙ (sym (placed items c.in-Err.place p c.self.invariant within parted) ∙ ap (λ l. insert_key path_cmp l p) same)
+pub invariant_of-self-2 : goal.invariant_of-self-2
+invariant_of-self-2 c =
+    put_marked c.self.inside.paths.items c.put_path.new.paths.items c.self.inside.marks.items c.mark.new.marks.items c.args.p c.self.invariant c.in_ok-put_path.ensures.put c.mark.ensures
