@@ -4,3 +4,5 @@ pub mod Counts
 pub mod Judged
 -- What is passed on of the errors.
 pub use Rattle.ix_errors.specs.MethodErrors
+-- What is passed on of the labels.
+pub use Rattle.ix_loop_labels.specs.LoopLabels

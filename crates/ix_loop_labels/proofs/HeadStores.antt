@@ -18,7 +18,7 @@ use Rattle.ix_labels.specs.declared.labels.Labels.{Labels}
 use Rattle.ix_labels.specs.Labels.{AreLabels}
 use Rattle.ix_method.specs.MethodRules.{method_rules}
 use Rattle.ix_method.proofs.MethodLaws.{method_laws}
-use Rattle.ix_store.specs.declared.store.Store.{Store}
+use Rattle.ix_method.specs.Store.{Store}
 use Rattle.ix_loop_labels.specs.LoopLabels.{AreLoopLabels, is_head, one_if, head_stores}
 
 -- ---- one node more

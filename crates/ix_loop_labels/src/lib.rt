@@ -8,4 +8,5 @@
 
 mod loops;
 
+pub use ix_method::Store;
 pub use loops::loop_labels;
