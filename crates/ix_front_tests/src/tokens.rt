@@ -38,6 +38,8 @@ const READ: &[(&[u8], &[(Expected, u32, u32)])] = &[
     (b"1__0", &[(Expected::Int(10), 0, 4)]),
     (b"_1", &[(Expected::Ident("_1"), 0, 2)]),
     (b"0", &[(Expected::Int(0), 0, 1)]),
+    (b"9", &[(Expected::Int(9), 0, 1)]),
+    (b"0x0", &[(Expected::Int(0), 0, 3)]),
     (b"2147483647", &[(Expected::Int(2147483647), 0, 10)]),
     (
         b"-2147483648",
@@ -109,6 +111,7 @@ const REFUSED: &[(&[u8], LexError)] = &[
     (b"/* a\n", LexError::OpenComment(0)),
     (b"\"\\\"", LexError::OpenString(0)),
     (b"\"a\rb\"", LexError::OpenString(0)),
+    (b"\"a\nb\"", LexError::OpenString(0)),
     (b"\"a\\", LexError::OpenString(0)),
     (b"x /* */ \"y", LexError::OpenString(8)),
     (b"0x", LexError::BadNumber(0)),

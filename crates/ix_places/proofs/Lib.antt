@@ -15,3 +15,4 @@ pub mod StmtLaid
 pub mod ClassLaid
 pub mod HeightLaws
 pub mod SourceHeights
+pub mod LowerParts
