@@ -32,6 +32,20 @@ field_small (field ∷ fields) (suc number) small = field_small fields number sm
 pub small_names : (program : Program) → AreSmallMethods program.methods → AreSmallFields program.fields → length program.fields < 2 ^ 32 → HaveSmallNames program
 small_names program methods fields few = record { methods = λ number. method_small program.methods number methods; few_fields = few; fields = λ number. field_small program.fields number fields }
 
+each_method : (methods : List Method) → ((number : ℕ) → HasSmallNames (unwrap_or (slice_get methods number) no_method)) → AreSmallMethods methods
+each_method [] small = tt
+each_method (method ∷ methods) small = (small zero, each_method methods (λ number. small (suc number)))
+
+each_field : (fields : List Field) → ((number : ℕ) → AreSmallClaims (unwrap_or (slice_get fields number) no_field).claims) → AreSmallFields fields
+each_field [] small = tt
+each_field (field ∷ fields) small = (small zero, each_field fields (λ number. small (suc number)))
+
+pub small_methods : (program : Program) → HaveSmallNames program → AreSmallMethods program.methods
+small_methods program small = each_method program.methods small.methods
+
+pub small_fields : (program : Program) → HaveSmallNames program → AreSmallFields program.fields
+small_fields program small = each_field program.fields small.fields
+
 -- ---- lists
 
 module _ {X : Type 0} (Small : X → Type 0) where

@@ -76,7 +76,7 @@ fn locals_small(locals: &[(Local, Span)]) -> bool
 }
 
 fn is_small_method(method: &Method) -> bool
-    ensures { IsTrue result → HasSmallNames method.now }
+    ensures { IsTrue result ↔ HasSmallNames method.now }
 {
     method.params.len() < u32::MAX as usize
         && method.param_types.len() < u32::MAX as usize
@@ -87,7 +87,7 @@ fn is_small_method(method: &Method) -> bool
 }
 
 fn methods_small(methods: &[Method]) -> bool
-    ensures { IsTrue result → AreSmallMethods methods.now }
+    ensures { IsTrue result ↔ AreSmallMethods methods.now }
 {
     for method in methods {
         if !is_small_method(method) {
@@ -98,7 +98,7 @@ fn methods_small(methods: &[Method]) -> bool
 }
 
 fn fields_small(fields: &[Field]) -> bool
-    ensures { IsTrue result → AreSmallFields fields.now }
+    ensures { IsTrue result ↔ AreSmallFields fields.now }
 {
     for field in fields {
         if !are_small(field.claims.as_slice()) {
@@ -110,7 +110,7 @@ fn fields_small(fields: &[Field]) -> bool
 
 /// Whether no more parameters, locals and fields are named than can be counted with 32 bits, as in every program that lowering gives. It takes no memory.
 pub fn have_small_names(program: &Program) -> bool
-    ensures small { IsTrue result → HaveSmallNames program.now }
+    ensures small { IsTrue result ↔ HaveSmallNames program.now }
 {
     if !methods_small(program.methods.as_slice()) {
         return false;
