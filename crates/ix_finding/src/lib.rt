@@ -9,4 +9,4 @@
 mod finding;
 
 pub use finding::{Finding, of_bytes};
-pub use ix_check::{check_program, count_program};
+pub use ix_check::{Store, check_program, count_program, method_labels};
