@@ -1,7 +1,7 @@
 //! Tables of facts, and tables with one fact more, without what names a path, or moved to landmarks.
 
-use crate::answers::{Added, Forgotten, Of, Rounded, answers};
 use ix_core::{Fact, Path, PathOff};
+use ix_system_answers::{Added, Forgotten, Of, Rounded, answers};
 use std::test::Fail;
 
 /// Facts, and the six tables of them.

@@ -1,7 +1,7 @@
 //! Joins of tables, and their order.
 
-use crate::answers::{Below, Joined, answers};
 use ix_core::{Fact, Path, PathOff};
+use ix_system_answers::{Below, Joined, answers};
 use std::test::Fail;
 
 /// Two lists of facts, and the joins of their six tables.

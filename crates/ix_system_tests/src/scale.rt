@@ -1,10 +1,8 @@
 //! What operations give of many facts, and joins of many.
 
-use crate::answers::{AfterDrawn, JoinedDrawn, answers};
-use crate::does::Does;
-use crate::drawn::checksum;
 use ix_core::{Profile, UnaryNum};
 use ix_num::Arith;
+use ix_system_answers::{AfterDrawn, Does, JoinedDrawn, answers, checksum};
 use std::test::Fail;
 
 /// Where the drawing of facts starts, how many are drawn, the profile, the target and the operation; the checksum of what the six tables say after it.

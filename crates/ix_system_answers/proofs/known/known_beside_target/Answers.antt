@@ -1,6 +1,6 @@
 use Rattle.ix_facts.specs.After.{of_target}
-use Rattle.ix_system_tests.proofs.KnownBeside.{says_own, names_none}
-use Rattle.ix_system_tests.proofs.known.known_beside_target.Goals as goal
+use Rattle.ix_system_answers.proofs.KnownBeside.{says_own, names_none}
+use Rattle.ix_system_answers.proofs.known.known_beside_target.Goals as goal
 
 pub returns : goal.returns
 returns g c =

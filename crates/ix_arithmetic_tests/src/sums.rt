@@ -1,9 +1,8 @@
 //! What sums and differences give.
 
-use crate::answers::{After, answers};
-use crate::does::Does;
 use ix_core::{Fact, Path, PathOff, Profile};
 use ix_num::Arith;
+use ix_system_answers::{After, Does, answers};
 use std::test::Fail;
 
 /// What is known, the profile, the target and the operation; what the six tables say after it.

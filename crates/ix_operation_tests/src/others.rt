@@ -1,8 +1,7 @@
 //! What the other operations give.
 
-use crate::answers::{After, answers};
-use crate::does::Does;
 use ix_core::{Claim, Fact, Path, PathOff, Profile, UnaryNum};
+use ix_system_answers::{After, Does, answers};
 use std::test::Fail;
 
 /// What is known, the profile, the target and the operation; what the six tables say after it.

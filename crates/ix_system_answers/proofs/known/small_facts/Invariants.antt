@@ -1,6 +1,6 @@
 use Rattle.std.proofs.Common.{◌≡◌, All, take}
 use Rattle.ix_facts.specs.Small.{HasSmallNumbers}
-use Rattle.ix_system_tests.proofs.known.small_facts.Given as goal
+use Rattle.ix_system_answers.proofs.known.small_facts.Given as goal
 
 abbrev pub invariant-loop-fact : goal.invariant-loop-fact
 invariant-loop-fact l = record {

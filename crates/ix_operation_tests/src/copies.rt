@@ -1,8 +1,7 @@
 //! What copies give: of slots, and of fields that are read or written.
 
-use crate::answers::{After, Copied, Copies, answers};
-use crate::does::Does;
 use ix_core::{Fact, Path, PathOff, Profile};
+use ix_system_answers::{After, Copied, Copies, Does, answers};
 use std::test::Fail;
 
 /// What is known, the profile, the target and the operation; what the six tables say after it.
