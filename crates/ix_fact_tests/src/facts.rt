@@ -6,6 +6,7 @@ ghost use Rattle.ix_facts.specs.Small.{HasSmallNumbers};
 use ix_core::{Fact, Path, PathOff};
 use ix_fact_list::FactList;
 use ix_facts::{Know, compare_offsets, compare_paths};
+use ix_path_numbers::{path_number, path_of};
 use std::alloc::{AllocError, Global};
 use std::cmp::Ordering;
 use std::test::Fail;
@@ -57,6 +58,22 @@ fn slots_come_before_fields(rt: HostRuntime) -> Result<(), Fail> {
         compare_paths(&LIMIT, &ARRAY) == Ordering::Less
             && compare_paths(&LIMIT, &INDEX) == Ordering::Greater
             && compare_offsets(&PathOff::Minus(INDEX), &plus) == Ordering::Greater
+    );
+    Ok(())
+}
+
+#[test]
+fn paths_come_back_from_their_numbers(rt: HostRuntime) -> Result<(), Fail> {
+    assert!(rt; path_number(&INDEX) == 1 && path_number(&Path::FieldOf(2, 7)) == 12884901895);
+    assert!(rt;
+        path_of(511) == Some(Path::Slot(511))
+            && path_of(512).is_none()
+            && path_of(4294967295).is_none()
+            && path_of(4294967296) == Some(Path::FieldOf(0, 0))
+    );
+    assert!(rt;
+        path_of(2203318222847) == Some(Path::FieldOf(511, 4294967295))
+            && path_of(2203318222848).is_none()
     );
     Ok(())
 }
