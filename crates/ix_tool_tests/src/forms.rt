@@ -40,7 +40,7 @@ fn with_claims(alloc: Global, count: u32) -> Result<String, AllocError> {
 
 const CHECK: &[&str] = &["check", "A.java"];
 
-/// A check of 509 locals, each beside each, takes some ten seconds; a run asks for the same limits.
+/// A check of 509 locals, each with differences to each, wants much memory; a run asks for the same limits.
 const RUN: &[&str] = &["run", "A.java", "A.f", "[5]", "0"];
 
 #[test]
@@ -49,7 +49,7 @@ fn both_sides(rt: HostRuntime) -> Result<(), Fail> {
     let rows = [
         (CHECK, with_params(alloc, 30)?, Status::Done),
         (CHECK, with_params(alloc, 31)?, Status::Limit),
-        (CHECK, with_locals(alloc, 200)?, Status::Done),
+        (CHECK, with_locals(alloc, 120)?, Status::Done),
         (RUN, with_locals(alloc, 509)?, Status::Done),
         (RUN, with_locals(alloc, 510)?, Status::Limit),
         (CHECK, with_locals(alloc, 510)?, Status::Limit),
