@@ -1,11 +1,11 @@
 -- What a rule gives of some facts and of others that stand behind them is what it gives of both.
 use Rattle.std.specs.Prelude.{◌≡◌, List, [], ◌∷◌, ◌++◌, refl}
-use Rattle.std.proofs.Common.{ap, sym, ◌∙◌, ⊎_elim}
+use Rattle.std.proofs.Common.{ap, sym, ◌∙◌}
 use Rattle.std.proofs.lemmas.List.{append_assoc}
 use Rattle.ix_core.specs.declared.fact.Fact.{Fact}
 use Rattle.ix_facts.specs.Exact.{each}
 use Rattle.ix_facts.specs.Systems.{HaveClasses}
-use Rattle.ix_facts.proofs.FactLists.{in_either, in_right}
+use Rattle.ix_facts.proofs.FactLists.{in_right}
 use Rattle.ix_closure.proofs.OverLabels.{three}
 
 each_both : (rule : Fact → List Fact) (facts own : List Fact) → each rule facts ++ each rule own ≡ each rule (facts ++ own)
@@ -28,6 +28,3 @@ over_both_and rule facts own whole n1 n2 n3 n4 more w a b c d =
 
 pub classes_behind : (facts more : List Fact) → HaveClasses (facts ++ more) → HaveClasses more
 classes_behind facts more have = λ f i. have f (in_right f facts more i)
-
-pub classes_of_both : (facts more : List Fact) → HaveClasses facts → HaveClasses more → HaveClasses (facts ++ more)
-classes_of_both facts more have_facts have_more = λ f i. ⊎_elim (λ j. have_facts f j) (λ j. have_more f j) (in_either f facts more i)

@@ -85,15 +85,3 @@ pub fn more_that_follows(alloc: Global, facts: &[Fact]) -> Result<Vec<Fact>, All
     let more = all_more(alloc, facts, &classes, &arrays, ranges.as_slice())?;
     Ok(more)
 }
-
-/// The facts with all that follows from them, but for what tables say by themselves. The only error is want of memory.
-pub fn saturated(alloc: Global, facts: &[Fact]) -> Result<Vec<Fact>, AllocError>
-    requires classes { HaveClasses facts.now }
-    ensures saturated { IfOk result (λ more. IsSaturated facts.now more.items) }
-    ensures classes { IfOk result (λ more. HaveClasses more.items) }
-{
-    let more = more_that_follows(alloc, facts)?;
-    let mut all = copied(alloc, facts)?;
-    all.extend_from_slice(&more)?;
-    Ok(all)
-}

@@ -13,4 +13,4 @@ mod links;
 mod listed;
 mod searches;
 
-pub use closing::{more_that_follows, saturated};
+pub use closing::more_that_follows;
