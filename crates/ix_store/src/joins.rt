@@ -2,11 +2,32 @@
 
 ghost use Rattle.std.specs.Prelude.{◌≡◌, ◌↔◌, ◌&&◌, IsTrue, IfOk};
 ghost use Rattle.ix_facts.specs.Closure.{SaysAll, IsCommon};
-ghost use Rattle.ix_fact_table.specs.FactTables.{facts_of};
+ghost use Rattle.ix_fact_table.specs.FactTables.{facts_of, table_kind};
 ghost use Rattle.ix_store.specs.AllTables.{all_facts, AreOfKinds};
 
 use crate::tables::Tables;
+use ix_fact_table::FactTable;
+use ix_text::Joint;
 use std::alloc::{AllocError, Global};
+
+/// The table of what both say; held jointly where one says all that the other says.
+fn common_table(
+    alloc: Global,
+    first: &Joint<FactTable>,
+    second: &Joint<FactTable>,
+) -> Result<Joint<FactTable>, AllocError>
+    ensures common { IfOk result (λ table. IsCommon (facts_of first.now) (facts_of second.now) (facts_of table)) }
+    ensures kind { table_kind second.now ≡ table_kind first.now → IfOk result (λ table. table_kind table ≡ table_kind first.now) }
+{
+    if first.get().says_all(second.get()) {
+        return second.join();
+    }
+    if second.get().says_all(first.get()) {
+        return first.join();
+    }
+    let table = first.get().common(alloc, second.get())?;
+    Joint::new(alloc, table)
+}
 
 /// The tables of what both say.
 pub(crate) fn common(alloc: Global, first: &Tables, second: &Tables) -> Result<Tables, AllocError>
@@ -17,12 +38,12 @@ pub(crate) fn common(alloc: Global, first: &Tables, second: &Tables) -> Result<T
     ensures kinds { IfOk result AreOfKinds }
 {
     Ok(Tables {
-        ranges: first.ranges.common(alloc, &second.ranges)?,
-        lows: first.lows.common(alloc, &second.lows)?,
-        lengths: first.lengths.common(alloc, &second.lengths)?,
-        differences: first.differences.common(alloc, &second.differences)?,
-        searches: first.searches.common(alloc, &second.searches)?,
-        uppers: first.uppers.common(alloc, &second.uppers)?,
+        ranges: common_table(alloc, &first.ranges, &second.ranges)?,
+        lows: common_table(alloc, &first.lows, &second.lows)?,
+        lengths: common_table(alloc, &first.lengths, &second.lengths)?,
+        differences: common_table(alloc, &first.differences, &second.differences)?,
+        searches: common_table(alloc, &first.searches, &second.searches)?,
+        uppers: common_table(alloc, &first.uppers, &second.uppers)?,
     })
 }
 
@@ -38,11 +59,11 @@ pub(crate) fn says_all(first: &Tables, second: &Tables) -> bool
     requires second { AreOfKinds second.now }
     ensures below { IsTrue result ↔ SaysAll (all_facts first.now) (all_facts second.now) }
 {
-    let ranges = first.ranges.says_all(&second.ranges);
-    let lows = first.lows.says_all(&second.lows);
-    let lengths = first.lengths.says_all(&second.lengths);
-    let differences = first.differences.says_all(&second.differences);
-    let searches = first.searches.says_all(&second.searches);
-    let uppers = first.uppers.says_all(&second.uppers);
+    let ranges = first.ranges.get().says_all(second.ranges.get());
+    let lows = first.lows.get().says_all(second.lows.get());
+    let lengths = first.lengths.get().says_all(second.lengths.get());
+    let differences = first.differences.get().says_all(second.differences.get());
+    let searches = first.searches.get().says_all(second.searches.get());
+    let uppers = first.uppers.get().says_all(second.uppers.get());
     all_six(ranges, lows, lengths, differences, searches, uppers)
 }

@@ -30,7 +30,7 @@ impl Lattice for Store {
         }
     }
 
-    /// The store of what both say; of an unreachable one and another what the other says. The only error is want of memory.
+    /// The store of what both say: held jointly with one of them where that says no more than the other. The only error is want of memory.
     fn join(&self, alloc: Global, other: &Self) -> Result<Self, AllocError>
         ensures least_above { IfOk result (IsJoin StoreBelow self.now other.now) }
         ensures joined { IfOk result (λ store. IsJoined (stored self.now) (stored other.now) (stored store)) }
@@ -39,6 +39,12 @@ impl Lattice for Store {
             (_, None) => self.share(),
             (None, Some(_)) => other.share(),
             (Some(known), Some(others)) => {
+                if known.get().says_all(others.get()) {
+                    return other.share();
+                }
+                if others.get().says_all(known.get()) {
+                    return self.share();
+                }
                 let known = known.get().common(alloc, others.get())?;
                 reached(alloc, known)
             }
