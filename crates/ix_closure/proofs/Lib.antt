@@ -5,5 +5,6 @@ mod HighEnds
 mod Shown
 mod ListedArrays
 mod OverLabels
+mod OverBoth
 mod ClassesOfInts
 pub mod Only

@@ -1,4 +1,4 @@
-//! All that follows from facts, as a list.
+//! What follows from facts beside themselves, as a list.
 
 ghost use Rattle.std.specs.Prelude.{◌≡◌, ◌++◌, IfOk, OnOk};
 ghost use Rattle.ix_facts.specs.Systems.{HaveClasses};
@@ -23,63 +23,77 @@ fn copied(alloc: Global, facts: &[Fact]) -> Result<Vec<Fact>, AllocError>
     Ok(more)
 }
 
-/// The facts with what they say along arrays of one length.
+/// What the facts say along arrays of one length.
 fn alike(
     alloc: Global,
     facts: &[Fact],
     classes: &Classes,
     arrays: &[Path],
 ) -> Result<Vec<Fact>, AllocError>
-    ensures { IfOk result (λ more. more.items ≡ spec.alike facts.now classes.now arrays.now) }
+    ensures { IfOk result (λ more. facts.now ++ more.items ≡ spec.alike facts.now classes.now arrays.now) }
 {
     let labels = labelled(alloc, classes, arrays)?;
-    let mut more = copied(alloc, facts)?;
+    let mut more = Vec::new(alloc);
     push_pairs(&mut more, classes, arrays, &labels, arrays)?;
     push_along(&mut more, classes, arrays, &labels, facts)?;
     Ok(more)
 }
 
-/// The same with the answers of searches.
+/// The same with the answers of searches, which the facts tell too.
 fn searched(
     alloc: Global,
     facts: &[Fact],
     classes: &Classes,
     arrays: &[Path],
 ) -> Result<Vec<Fact>, AllocError>
-    ensures { IfOk result (λ more. more.items ≡ spec.searched facts.now classes.now arrays.now) }
+    ensures { IfOk result (λ more. facts.now ++ more.items ≡ spec.searched facts.now classes.now arrays.now) }
 {
     let alike = alike(alloc, facts, classes, arrays)?;
     let mut more = copied(alloc, &alike)?;
+    push_searches(&mut more, facts)?;
     push_searches(&mut more, &alike)?;
     Ok(more)
 }
 
-fn all_that_follows(
+fn all_more(
     alloc: Global,
     facts: &[Fact],
     classes: &Classes,
     arrays: &[Path],
     ranges: &[Fact],
 ) -> Result<Vec<Fact>, AllocError>
-    ensures { IfOk result (λ more. more.items ≡ spec.saturated facts.now classes.now arrays.now ranges.now) }
+    ensures { IfOk result (λ more. facts.now ++ more.items ≡ spec.saturated facts.now classes.now arrays.now ranges.now) }
 {
     let searched = searched(alloc, facts, classes, arrays)?;
     let mut more = copied(alloc, &searched)?;
+    push_negatives(&mut more, ranges, facts)?;
     push_negatives(&mut more, ranges, &searched)?;
     push_classes(&mut more, ranges)?;
     Ok(more)
 }
 
-/// The facts with all that follows from them, but for what tables say by themselves: weaker facts, ranges met and other orders. The only error is want of
-/// memory.
-pub fn saturated(alloc: Global, facts: &[Fact]) -> Result<Vec<Fact>, AllocError>
+/// What follows from the facts beside themselves, but for what tables say by themselves: weaker facts, ranges met and other orders. The only error is want
+/// of memory.
+pub fn more_that_follows(alloc: Global, facts: &[Fact]) -> Result<Vec<Fact>, AllocError>
     requires classes { HaveClasses facts.now }
-    ensures saturated { IfOk result (λ more. IsSaturated facts.now more.items) }
+    ensures saturated { IfOk result (λ more. IsSaturated facts.now (facts.now ++ more.items)) }
     ensures classes { IfOk result (λ more. HaveClasses more.items) }
 {
     let classes = same_classes(alloc, facts)?;
     let arrays = listed_arrays(alloc, facts)?;
     let ranges = FactTable::of_facts(alloc, Kind::Range, facts)?;
-    let more = all_that_follows(alloc, facts, &classes, &arrays, ranges.as_slice())?;
+    let more = all_more(alloc, facts, &classes, &arrays, ranges.as_slice())?;
     Ok(more)
+}
+
+/// The facts with all that follows from them, but for what tables say by themselves. The only error is want of memory.
+pub fn saturated(alloc: Global, facts: &[Fact]) -> Result<Vec<Fact>, AllocError>
+    requires classes { HaveClasses facts.now }
+    ensures saturated { IfOk result (λ more. IsSaturated facts.now more.items) }
+    ensures classes { IfOk result (λ more. HaveClasses more.items) }
+{
+    let more = more_that_follows(alloc, facts)?;
+    let mut all = copied(alloc, facts)?;
+    all.extend_from_slice(&more)?;
+    Ok(all)
 }

@@ -1,7 +1,7 @@
-//! What follows from facts, as a list: the facts, what holds along arrays of one length, searches, negative answers and classes of ints.
+//! What follows from facts, as a list: what holds along arrays of one length, searches, negative answers and classes of ints.
 //!
-//! What goes in: facts. What comes out: a list of which tables say all that follows from the facts, and nothing else.
-//! The contract: `saturated`, over `Follows` of `ix_facts`.
+//! What goes in: facts. What comes out: more facts, so that tables of both say all that follows from the facts, and nothing else.
+//! The contract: `more_that_follows`, over `Follows` of `ix_facts`.
 //! It stands on `ix_fact_table` for the ranges among the facts, on `ix_fact_list` for sets of paths.
 //! It never looks at how the list is kept, nor at the program.
 #![tactic(auto)]
@@ -13,4 +13,4 @@ mod links;
 mod listed;
 mod searches;
 
-pub use closing::saturated;
+pub use closing::{more_that_follows, saturated};

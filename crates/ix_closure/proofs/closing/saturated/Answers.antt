@@ -1,23 +1,22 @@
-use Rattle.std.proofs.Common.{◌≡◌, sym, ap, subst, ◌∙◌}
-use Rattle.ix_facts.specs.declared.kind.Kind.TheVariants as kind
-use Rattle.ix_facts.specs.Kinds.{of_kind}
-use Rattle.ix_facts.specs.Systems.{HaveClasses, IsTable}
-use Rattle.ix_closure.specs.Saturated as spec
-use Rattle.ix_closure.specs.Saturated.{IsSaturated, AreListed}
-use Rattle.ix_closure.proofs.Only.{is_saturated}
-use Rattle.ix_closure.proofs.ClassesOfInts.{have_classes}
+use Rattle.std.proofs.Common.{◌≡◌, ◌++◌, sym, ap, subst, ◌∙◌}
+use Rattle.ix_facts.specs.Systems.{HaveClasses}
+use Rattle.ix_closure.specs.Saturated.{IsSaturated}
+use Rattle.ix_closure.proofs.OverBoth.{classes_of_both}
+use Rattle.ix_closure.proofs.OverLabels.{two}
 use Rattle.ix_closure.proofs.closing.saturated.Goals as goal
 
 pub returns-clause-saturated : goal.returns-clause-saturated
 returns-clause-saturated c =
     let facts = c.args.facts.now in
-    let roots = c.in_ok-classes.classes in
-    let arrays = c.deref.result.now in
-    let ranges = c.as_slice.result.now in
-    let lists : AreListed facts arrays = subst (AreListed facts) (sym c.deref.ensures.value) c.in_ok-arrays.ensures in
-    let table : IsTable (of_kind kind.Range facts) ranges = subst (IsTable (of_kind kind.Range facts)) (sym c.as_slice.ensures.facts) c.in_ok-ranges.ensures.table in
-    subst (IsSaturated facts) (sym c.in_ok-more.ensures) (is_saturated facts roots arrays ranges c.in_ok-classes.ensures.classes lists table)
+    let more = c.in_ok-more.more.items in
+    let all : c.extend_from_slice.new.self.items ≡ facts ++ more =
+        two c.in_ok-all.all.items c.extend_from_slice.new.self.items facts more c.in_ok-all.ensures (c.in_ok-extend_from_slice.ensures.items ∙ ap (λ l. c.in_ok-all.all.items ++ l) c.deref.ensures.value) in
+    subst (IsSaturated facts) (sym all) c.in_ok-more.ensures.saturated
 
 pub returns-clause-classes : goal.returns-clause-classes
 returns-clause-classes c =
-    subst HaveClasses (sym c.in_ok-more.ensures) (have_classes c.args.facts.now c.in_ok-classes.classes c.deref.result.now c.as_slice.result.now c.requires.classes)
+    let facts = c.args.facts.now in
+    let more = c.in_ok-more.more.items in
+    let all : c.extend_from_slice.new.self.items ≡ facts ++ more =
+        two c.in_ok-all.all.items c.extend_from_slice.new.self.items facts more c.in_ok-all.ensures (c.in_ok-extend_from_slice.ensures.items ∙ ap (λ l. c.in_ok-all.all.items ++ l) c.deref.ensures.value) in
+    subst HaveClasses (sym all) (classes_of_both facts more c.requires.classes c.in_ok-more.ensures.classes)
