@@ -10,23 +10,32 @@ use ix_fact_table::FactTable;
 use ix_text::Joint;
 use std::alloc::{AllocError, Global};
 
+fn table_says_all(first: &Joint<FactTable>, second: &Joint<FactTable>) -> bool
+    ensures below { IsTrue result ↔ SaysAll (facts_of first.now) (facts_of second.now) }
+{
+    first.get().says_all(second.get())
+}
+
 /// The table of what both say; held jointly where one says all that the other says.
 fn common_table(
     alloc: Global,
     first: &Joint<FactTable>,
     second: &Joint<FactTable>,
 ) -> Result<Joint<FactTable>, AllocError>
+    requires kind { table_kind second.now ≡ table_kind first.now }
     ensures common { IfOk result (λ table. IsCommon (facts_of first.now) (facts_of second.now) (facts_of table)) }
-    ensures kind { table_kind second.now ≡ table_kind first.now → IfOk result (λ table. table_kind table ≡ table_kind first.now) }
+    ensures kind { IfOk result (λ table. table_kind table ≡ table_kind first.now) }
 {
-    if first.get().says_all(second.get()) {
-        return second.join();
+    if table_says_all(first, second) {
+        let table = second.join()?;
+        return Ok(table);
     }
-    if second.get().says_all(first.get()) {
-        return first.join();
+    if table_says_all(second, first) {
+        let table = first.join()?;
+        return Ok(table);
     }
-    let table = first.get().common(alloc, second.get())?;
-    Joint::new(alloc, table)
+    let table = Joint::new(alloc, first.get().common(alloc, second.get())?)?;
+    Ok(table)
 }
 
 /// The tables of what both say.
@@ -59,11 +68,11 @@ pub(crate) fn says_all(first: &Tables, second: &Tables) -> bool
     requires second { AreOfKinds second.now }
     ensures below { IsTrue result ↔ SaysAll (all_facts first.now) (all_facts second.now) }
 {
-    let ranges = first.ranges.get().says_all(second.ranges.get());
-    let lows = first.lows.get().says_all(second.lows.get());
-    let lengths = first.lengths.get().says_all(second.lengths.get());
-    let differences = first.differences.get().says_all(second.differences.get());
-    let searches = first.searches.get().says_all(second.searches.get());
-    let uppers = first.uppers.get().says_all(second.uppers.get());
+    let ranges = table_says_all(&first.ranges, &second.ranges);
+    let lows = table_says_all(&first.lows, &second.lows);
+    let lengths = table_says_all(&first.lengths, &second.lengths);
+    let differences = table_says_all(&first.differences, &second.differences);
+    let searches = table_says_all(&first.searches, &second.searches);
+    let uppers = table_says_all(&first.uppers, &second.uppers);
     all_six(ranges, lows, lengths, differences, searches, uppers)
 }

@@ -87,10 +87,12 @@ fn table_beside(
 {
     let facts = table.get().as_slice();
     if !some_name_changed(facts, changed) {
-        return table.join();
+        let rest = table.join()?;
+        return Ok(rest);
     }
-    let rest = unchanged(alloc, facts, changed)?;
-    Joint::new(alloc, table.get().of_part(rest))
+    let facts = unchanged(alloc, facts, changed)?;
+    let rest = Joint::new(alloc, table.get().of_part(facts))?;
+    Ok(rest)
 }
 
 /// The tables without the facts that name a changed path.

@@ -22,7 +22,7 @@ use ix_outcomes::Outcome;
 use ix_text::Joint;
 use std::alloc::{AllocError, Global};
 
-pub(crate) fn reached(alloc: Global, known: Known) -> Result<Store, AllocError>
+fn reached(alloc: Global, known: Known) -> Result<Store, AllocError>
     ensures { IfOk result (λ store. stored store ≡ Reached (facts_in known)) }
 {
     let known = Joint::new(alloc, known)?;
@@ -41,6 +41,12 @@ fn closed(alloc: Global, tables: &Tables, new: Vec<Fact>) -> Result<Store, Alloc
     }
 }
 
+fn is_none(facts: &[Fact]) -> bool
+    ensures { IsTrue result ↔ (facts.now ≡ []) }
+{
+    facts.is_empty()
+}
+
 /// The closed store of new facts and of those that name no changed path; held jointly where nothing is new and nothing goes.
 fn behind(
     alloc: Global,
@@ -51,7 +57,7 @@ fn behind(
     requires classes { HaveClasses new.items }
     ensures store { IfOk result (λ store. IsStoreOf (without (is_changed changed.now) (facts_in known.now) ++ new.items) (stored store)) }
 {
-    if new.is_empty() && !some_name_changed(known.get().list().as_slice(), changed) {
+    if is_none(&new) && !some_name_changed(known.get().list().as_slice(), changed) {
         let known = known.join()?;
         return Ok(Store { known: Some(known) });
     }
