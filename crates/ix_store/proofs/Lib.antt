@@ -13,4 +13,3 @@ mod OwnFacts
 mod KnownStores
 mod WeakerCommon
 mod PartsWithout
-mod ClosedTests

@@ -1,5 +1,4 @@
 use Rattle.std.proofs.Common.{◌≡◌, false, All, sym, subst}
-use Rattle.ix_facts.specs.Closure.{IsCommon}
 use Rattle.ix_facts.specs.Small.{HasSmallNumbers}
 use Rattle.ix_facts.proofs.ClosureLaws.{common_closed}
 use Rattle.ix_fact_table.specs.FactTables.{facts_of}

@@ -1,4 +1,4 @@
-use Rattle.std.proofs.Common.{◌≡◌, ◌++◌, ap, sym, ◌∙◌}
+use Rattle.std.proofs.Common.{◌++◌, ap, sym}
 use Rattle.ix_outcomes.specs.OverGroups.{outcome_of}
 use Rattle.ix_store.proofs.BehindRules.{told_is, told_have}
 use Rattle.ix_store.proofs.ClassesAfter.{right_have}
