@@ -1,16 +1,16 @@
 -- Where a path stands in a set, or where it would stand.
-use Rattle.std.specs.Prelude.{◌≡◌, ℕ, zero, suc, ◌+◌, ◌<◌, ◌≤◌, false, List, [], ◌∷◌, Err, length, get_or, refl}
+use Rattle.std.specs.Prelude.{◌≡◌, ℕ, zero, suc, ◌+◌, ◌-◌, ◌<◌, ◌≤◌, false, Some, List, [], ◌∷◌, ◌++◌, Err, length, get_or, slice_get, refl}
 use Rattle.std.specs.List.{insert}
 use Rattle.std.specs.List.Sorted.{IsBinarySearchResult, IsSortedBy}
 use Rattle.std.specs.BTreeSet.{insert_key}
 use Rattle.std.specs.declared.cmp.Ordering.TheVariants.{Less, Equal, Greater}
 use Rattle.std.specs.Ordering.{is_lt, ordering_reverse}
-use Rattle.std.proofs.Common.{arith, inl, inr, ap, ◌∙◌, subst}
+use Rattle.std.proofs.Common.{arith, inl, inr, ap, sym, ◌∙◌, subst, ⊎_elim}
 use Rattle.std.proofs.lemmas.List.Sorted.{searchable_from_sorted}
 use Rattle.ix_core.specs.declared.fact.Path.{Path}
 use Rattle.ix_facts.specs.Named.{IsAmongPaths}
 use Rattle.ix_facts.specs.PathOrder.{path_cmp, path_total}
-use Rattle.ix_fact_list.specs.PutLaws.{IsRising, equal_paths}
+use Rattle.ix_fact_list.specs.PutLaws.{IsRising, AreBefore, equal_paths}
 
 among : (paths : List Path) (k : ℕ) (d : Path) → k < length paths → IsAmongPaths (get_or paths k d) paths
 among [] k d lt = absurd (omega (arith, lt))
@@ -56,3 +56,25 @@ pub placed : (paths : List Path) (k : ℕ) (p : Path) → IsRising paths → k �
 placed paths k p r within parted =
     let point = parted (searchable_from_sorted path_total (λ q. q) paths p (sorted paths r)) in
     place paths k p within (λ i d a. point.0 i d (omega arith) a) (λ i d a b. point.1 i d a b)
+
+-- ---- behind all
+
+-- what the last path is before, all are before
+all_before : (paths : List Path) (n : ℕ) (p last : Path) → IsRising paths → length paths ≡ suc n → slice_get paths n ≡ Some last → path_cmp last p ≡ Less → AreBefore paths p
+all_before [] n p last r long e o = λ q i. absurd i
+all_before (x ∷ []) zero p last r long e o = λ q i. ⊎_elim (λ s. let is : x ≡ last = cc in subst (λ y. path_cmp y p ≡ Less) (sym (s ∙ is)) o) (λ n. absurd n) i
+all_before (x ∷ []) (suc n) p last r long e o = absurd (omega (arith, long))
+all_before (x ∷ y ∷ paths) zero p last r long e o = absurd (omega (arith, long))
+all_before (x ∷ y ∷ paths) (suc n) p last r long e o =
+    let rest = all_before (y ∷ paths) n p last r.1 (omega (arith, long)) e o in
+    λ q i. ⊎_elim (λ s. subst (λ z. path_cmp z p ≡ Less) (sym s) (path_total.trans x y p (r.0 y (inl refl)) (rest y (inl refl)))) (λ j. rest q j) i
+
+pub last_before : (paths : List Path) (p last : Path) → IsRising paths → slice_get paths (length paths - 1) ≡ Some last → path_cmp last p ≡ Less → AreBefore paths p
+last_before [] p last r e o = λ q i. absurd i
+last_before (x ∷ paths) p last r e o =
+    let n : suc (length paths) - 1 ≡ length paths = omega arith in
+    all_before (x ∷ paths) (length paths) p last r refl (subst (λ k. slice_get (x ∷ paths) k ≡ Some last) n e) o
+
+pub put_behind : (paths : List Path) (p : Path) → AreBefore paths p → insert_key path_cmp paths p ≡ paths ++ p ∷ []
+put_behind [] p before = refl
+put_behind (q ∷ paths) p before = rw (reverse_less q p (before q (inl refl))) (ap (λ l. q ∷ l) (put_behind paths p (λ x i. before x (inr i))))

@@ -8,7 +8,7 @@ use Rattle.ix_facts.specs.Facts.{IsIn}
 use Rattle.ix_facts.specs.Forget.{names}
 use Rattle.ix_fact_list.specs.ByPath.{on_it}
 
-by_test : {G : Type 0} (t : Bool) → (t ≡ true → G) → (t ≡ false → G) → G
+pub by_test : {G : Type 0} (t : Bool) → (t ≡ true → G) → (t ≡ false → G) → G
 by_test true first second = first refl
 by_test false first second = second refl
 

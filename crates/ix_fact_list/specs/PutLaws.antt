@@ -46,6 +46,10 @@ abbrev pub IsRising : List Path → Type 0
 IsRising [] = Unit {0}
 IsRising (p ∷ paths) = ((q : Path) → IsAmongPaths q paths → path_cmp p q ≡ Less) × IsRising paths
 
+-- each path is before this one
+abbrev pub AreBefore : List Path → Path → Type 0
+AreBefore paths p = (q : Path) → IsAmongPaths q paths → path_cmp q p ≡ Less
+
 -- ---- members
 
 pub put_here : (paths : List Path) (p : Path) → IsAmongPaths p (insert_key path_cmp paths p)

@@ -10,13 +10,14 @@ ghost use Rattle.ix_facts.specs.Exact.{named_ints, named_arrays};
 ghost use Rattle.ix_facts.specs.Small.{HasSmallNumbers};
 ghost use Rattle.ix_bounds.specs.Ends.{ends_in};
 ghost use Rattle.ix_bounds.specs.Links.{links_in};
-ghost use Rattle.ix_fact_list.specs.ByPath.{on_index, on_it, put_all};
+ghost use Rattle.ix_fact_list.specs.ByPath.{put_all};
+ghost use Rattle.ix_fact_list.specs.Grouped.{on_grouped, on_list};
 ghost use Rattle.ix_fact_list.specs.Spared.{some_named};
 
 use crate::ends::{all_ends, all_links};
+use crate::grouped::Grouped;
 use crate::named::{all_arrays, all_ints};
 use crate::orders::in_all_orders;
-use crate::path_index::PathIndex;
 use crate::spared::{some_name_path, some_name_target};
 use ix_bounds::{self, Groups};
 use ix_core::{Fact, OpKind, Path, PathOff};
@@ -25,16 +26,16 @@ use ix_index::Indexed;
 use std::alloc::{AllocError, Global};
 use std::marker::Model;
 
-/// Facts in the order in which they are given, with those that name a path at hand by binary search: a bound looks at the facts that name its paths alone.
+/// Facts in the order in which they are given, with those that name a path at hand: of many facts a bound looks at those alone that name its paths.
 #[derive(Drop)]
 pub struct FactList {
     facts: Vec<Fact>,
-    /// The facts in all their orders, by the paths that they name.
-    by_path: PathIndex,
+    /// The facts in all their orders, with those on each path.
+    by_path: Grouped,
     /// The same of ranges and classes alone.
-    ends: PathIndex,
+    ends: Grouped,
     /// The same of differences and lengths alone.
-    links: PathIndex,
+    links: Grouped,
     /// The ints and arrays that the facts name, each once.
     ints: Vec<Path>,
     arrays: Vec<Path>,
@@ -46,8 +47,8 @@ impl Model for FactList {
     ghost view = { λ list. list.facts.items };
 
     ghost invariant = { λ list. (All HasSmallNumbers list.facts.items
-        × (((p : Path) → on_index list.by_path p ≡ on_it p (in_orders list.facts.items))
-        × (((p : Path) → on_index list.ends p ≡ on_it p (ends_in (in_orders list.facts.items))) × ((p : Path) → on_index list.links p ≡ on_it p (links_in (in_orders list.facts.items))))))
+        × (((p : Path) → on_grouped list.by_path p ≡ on_list (in_orders list.facts.items) p)
+        × (((p : Path) → on_grouped list.ends p ≡ on_list (ends_in (in_orders list.facts.items)) p) × ((p : Path) → on_grouped list.links p ≡ on_list (links_in (in_orders list.facts.items)) p))))
         × ((list.ints.items ≡ put_all [] (named_ints (in_orders list.facts.items))) × (list.arrays.items ≡ put_all [] (named_arrays (in_orders list.facts.items)))) };
 }
 
@@ -103,11 +104,11 @@ impl FactList {
         ensures facts { IfOk result (λ list. list ≡ facts.items) }
     {
         let ordered = in_all_orders(alloc, &facts)?;
-        let by_path = PathIndex::of(alloc, &ordered)?;
-        let ends = PathIndex::of(alloc, &all_ends(alloc, &ordered)?)?;
-        let links = PathIndex::of(alloc, &all_links(alloc, &ordered)?)?;
+        let ends = Grouped::of(alloc, all_ends(alloc, &ordered)?)?;
+        let links = Grouped::of(alloc, all_links(alloc, &ordered)?)?;
         let ints = all_ints(alloc, &ordered)?;
         let arrays = all_arrays(alloc, &ordered)?;
+        let by_path = Grouped::of(alloc, ordered)?;
         Ok(FactList {
             facts,
             by_path,
@@ -162,36 +163,36 @@ impl Groups for FactList {
     ghost use Rattle.ix_facts.specs.Facts.{in_orders};
     ghost use Rattle.ix_bounds.specs.Ends.{ends_in};
     ghost use Rattle.ix_bounds.specs.Links.{links_in};
-    ghost use Rattle.ix_fact_list.specs.ByPath.{on_it};
-    ghost use Rattle.ix_fact_list.specs.OnPathLaws.{on_it_named, on_it_only};
+    ghost use Rattle.ix_fact_list.specs.Grouped.{on_list};
+    ghost use Rattle.ix_fact_list.specs.OnListLaws.{on_list_named, on_list_only};
 
     ghost all = { λ list. in_orders list };
 
-    ghost group = { λ list p. on_it p (in_orders list) };
+    ghost group = { λ list p. on_list (in_orders list) p };
 
     fn on_path(&self, p: &Path) -> &[Fact] {
         self.by_path.on(p)
     }
 
-    ghost ends = { λ list p. on_it p (ends_in (in_orders list)) };
+    ghost ends = { λ list p. on_list (ends_in (in_orders list)) p };
 
     fn ends_on(&self, p: &Path) -> &[Fact] {
         self.ends.on(p)
     }
 
-    ghost links = { λ list p. on_it p (links_in (in_orders list)) };
+    ghost links = { λ list p. on_list (links_in (in_orders list)) p };
 
     fn links_on(&self, p: &Path) -> &[Fact] {
         self.links.on(p)
     }
 
-    ghost named = { λ list p. on_it_named p (in_orders list) };
+    ghost named = { λ list p. on_list_named p (in_orders list) };
 
-    ghost named_ends = { λ list p. on_it_named p (ends_in (in_orders list)) };
+    ghost named_ends = { λ list p. on_list_named p (ends_in (in_orders list)) };
 
-    ghost named_links = { λ list p. on_it_named p (links_in (in_orders list)) };
+    ghost named_links = { λ list p. on_list_named p (links_in (in_orders list)) };
 
-    ghost only = { λ list p. on_it_only p (in_orders list) };
+    ghost only = { λ list p. on_list_only p (in_orders list) };
 }
 
 impl Know for FactList {
@@ -281,10 +282,10 @@ impl Know for FactList {
 
 impl Indexed for FactList {
     ghost use Rattle.ix_facts.specs.Facts.{in_orders};
-    ghost use Rattle.ix_fact_list.specs.ByPath.{on_it};
-    ghost use Rattle.ix_fact_list.specs.OnPathLaws.{on_it_named};
+    ghost use Rattle.ix_fact_list.specs.Grouped.{on_list};
+    ghost use Rattle.ix_fact_list.specs.OnListLaws.{on_list_named};
 
-    ghost on_path = { λ list p. on_it p (in_orders list) };
+    ghost on_path = { λ list p. on_list (in_orders list) p };
 
     fn on(&self, p: &Path) -> &[Fact] {
         self.on_path(p)
@@ -298,5 +299,5 @@ impl Indexed for FactList {
         &self.arrays
     }
 
-    ghost each_named = { λ list p. on_it_named p (in_orders list) };
+    ghost each_named = { λ list p. on_list_named p (in_orders list) };
 }

@@ -10,6 +10,7 @@ mod by_path;
 mod by_slot;
 mod ends;
 mod fact_list;
+mod grouped;
 mod named;
 mod orders;
 mod path_index;

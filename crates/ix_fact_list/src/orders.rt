@@ -42,7 +42,7 @@ fn push_orders(ordered: &mut Vec<Fact>, fact: &Fact) -> Result<(), AllocError>
 pub(crate) fn in_all_orders(alloc: Global, facts: &[Fact]) -> Result<Vec<Fact>, AllocError>
     ensures { IfOk result (λ ordered. ordered.items ≡ in_orders facts.now) }
 {
-    let mut ordered = Vec::new(alloc);
+    let mut ordered = Vec::with_capacity(alloc, facts.len())?;
     for fact in facts {
         if !is_said_of_all(fact) {
             push_orders(&mut ordered, fact)?;

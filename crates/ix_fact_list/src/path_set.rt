@@ -5,12 +5,13 @@ ghost use Rattle.std.specs.BTreeSet.{insert_key};
 ghost use Rattle.ix_core.specs.declared.fact.Path.{Path};
 ghost use Rattle.ix_facts.specs.PathOrder.{path_cmp};
 ghost use Rattle.ix_fact_list.specs.Marks.{IsMarked, AreMarked};
-ghost use Rattle.ix_fact_list.specs.PutLaws.{IsRising};
+ghost use Rattle.ix_fact_list.specs.PutLaws.{IsRising, AreBefore};
 
 use crate::by_slot::NEAR;
 use ix_core::Path;
 use ix_facts::compare_paths;
 use std::alloc::{AllocError, Global};
+use std::cmp::Ordering;
 use std::marker::Model;
 
 /// Paths in order, each once.
@@ -51,14 +52,14 @@ fn mark(marks: &mut Vec<bool>, p: &Path) -> Result<(), AllocError>
     }
 }
 
-/// Makes room for the slot.
+/// Makes room for the slot and some behind it.
 fn reach(marks: &mut Vec<bool>, slot: usize) -> Result<(), AllocError>
     requires near { slot < 1024 }
     ensures reached { OnOk result (slot < length marks.new.items) }
     ensures same { (s : ℕ) → get_or marks.new.items s false ≡ get_or marks.old.items s false }
 {
-    for _ in marks.len()..slot + 1 {
-        marks.push(false)?;
+    if slot >= marks.len() {
+        marks.resize(slot + 64, false)?;
     }
     Ok(())
 }
@@ -72,11 +73,29 @@ fn mark_slot(marks: &mut Vec<bool>, slot: usize) -> Result<(), AllocError>
     Ok(())
 }
 
+/// Whether the path comes behind all paths.
+fn is_behind(paths: &[Path], p: &Path) -> bool
+    requires rising { IsRising paths.now }
+    ensures { IsTrue result → AreBefore paths.now p.now }
+{
+    match paths.last() {
+        Some(last) => match compare_paths(last, p) {
+            Ordering::Less => true,
+            _ => false,
+        },
+        None => true,
+    }
+}
+
 fn put_path(paths: &mut Vec<Path>, p: Path) -> Result<(), AllocError>
     requires rising { IsRising paths.old.items }
     ensures put { OnOk result (paths.new.items ≡ insert_key path_cmp paths.old.items p) }
     ensures unchanged { OnErr result (paths.new.items ≡ paths.old.items) }
 {
+    if is_behind(paths, &p) {
+        paths.push(p)?;
+        return Ok(());
+    }
     match paths.binary_search_by(|path| compare_paths(path, &p)) {
         Ok(_) => Ok(()),
         Err(place) => {

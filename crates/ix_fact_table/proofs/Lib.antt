@@ -3,5 +3,6 @@ pub mod MergedTables
 pub mod TableForms
 pub mod SaidAlready
 pub mod RisingSteps
+mod KeptFronts
 pub mod OneKind
 pub mod Searches

@@ -1,6 +1,6 @@
-//! Whether facts stand already as a table keeps them.
+//! Facts that stand already as a table keeps them.
 
-ghost use Rattle.std.specs.Prelude.{◌≡◌, ◌&&◌, true, IsTrue};
+ghost use Rattle.std.specs.Prelude.{◌≡◌, ◌≤◌, ◌&&◌, true, length, take};
 ghost use Rattle.std.specs.Ordering.{is_gt, is_lt};
 ghost use Rattle.ix_facts.specs.Kinds.{is_of};
 ghost use Rattle.ix_fact_table.specs.Entries as spec;
@@ -60,22 +60,25 @@ fn is_before(fact: &Fact, other: &Fact) -> bool
     }
 }
 
-/// Whether the facts are those of a table of the kind: each in the form in which a table keeps it, in the order of keys. It takes no memory.
-pub(crate) fn is_table(kind: Kind, facts: &[Fact]) -> bool
-    ensures { IsTrue result → is_table_of kind facts.now ≡ true }
+/// How many facts at the front stand as a table of the kind keeps them: each in the form in which a table keeps it, in the order of keys. It takes no memory.
+pub(crate) fn kept_front(kind: Kind, facts: &[Fact]) -> usize
+    ensures within { result ≤ length facts.now }
+    ensures form { is_table_of kind (take result facts.now) ≡ true }
 {
     let Some((first, more)) = facts.split_first() else {
-        return true;
+        return 0;
     };
     if !is_kept(kind, first) {
-        return false;
+        return 0;
     }
-    let mut last = *first;
+    let mut last = first;
+    let mut count = 1;
     for fact in more {
-        if !is_before(&last, fact) || !is_kept(kind, fact) {
-            return false;
+        if !is_before(last, fact) || !is_kept(kind, fact) {
+            return count;
         }
-        last = *fact;
+        last = fact;
+        count += 1;
     }
-    true
+    count
 }

@@ -7,7 +7,7 @@ ghost use Rattle.ix_fact_table.specs.Entries.{HasInt};
 ghost use Rattle.ix_fact_table.specs.Rising.{is_table_of};
 
 use crate::entries::{entry_of, is_said_of_all};
-use crate::rising::is_table;
+use crate::rising::kept_front;
 use crate::walks::{merged, push_all};
 use ix_core::Fact;
 use ix_facts::{Kind, is_of_kind};
@@ -71,24 +71,30 @@ fn copied(alloc: Global, facts: &[Fact]) -> Result<List<Fact>, AllocError>
     Ok(table)
 }
 
-/// The facts of the kind as a table keeps them: at each key what they say together, in the order of keys. A list that stands so already is copied; of another
-/// the halves are made into tables, and these are merged: where most facts stand in order, the time is near linear.
+/// The facts of the kind as a table keeps them: at each key what they say together, in the order of keys. What stands so at the front is kept, where it is at
+/// least half of the list, and the others are merged into it; of another list the halves are made into tables, and these are merged. So where most facts stand
+/// in order the time is near linear.
 pub(crate) fn sorted(alloc: Global, kind: Kind, facts: &[Fact]) -> Result<List<Fact>, AllocError>
     requires classes { HaveClasses facts.now }
     ensures form { IfOk result (λ table. is_table_of kind table ≡ true) }
     ensures table { IfOk result (λ table. IsTable (of_kind kind facts.now) table) }
 {
-    if is_table(kind, facts) {
+    let kept = kept_front(kind, facts);
+    if kept == facts.len() {
         let table = copied(alloc, facts)?;
         return Ok(table);
     }
-    let Some((fact, more)) = facts.split_first() else {
-        return Ok(List::new(alloc));
-    };
-    if more.is_empty() {
-        return sorted_one(alloc, kind, fact);
+    if facts.len() == 1 {
+        return sorted_one(alloc, kind, &facts[0]);
     }
-    let (front, back) = facts.split_at(facts.len() / 2);
+    let half = facts.len() / 2;
+    if kept >= half {
+        let (front, back) = facts.split_at(kept);
+        let second = sorted(alloc, kind, back)?;
+        let all = merged(alloc, front, second.as_slice())?;
+        return Ok(all);
+    }
+    let (front, back) = facts.split_at(half);
     let first = sorted(alloc, kind, front)?;
     let second = sorted(alloc, kind, back)?;
     let all = merged(alloc, first.as_slice(), second.as_slice())?;

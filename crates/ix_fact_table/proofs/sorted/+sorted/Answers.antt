@@ -1,34 +1,49 @@
-use Rattle.std.proofs.Common.{rules, refl, [], subst, sym}
+use Rattle.std.proofs.Common.{rules, arith, ◌≡◌, ◌≤◌, true, length, subst, sym}
+use Rattle.std.proofs.lemmas.Bool.Decides.{nat_tests}
+use Rattle.std.proofs.lemmas.List.{take_all}
 use Rattle.ix_facts.specs.Kinds.{of_kind}
 use Rattle.ix_facts.specs.Systems.{IsTable}
+use Rattle.ix_fact_table.specs.Rising.{is_table_of}
 use Rattle.ix_fact_table.proofs.RisingSteps.{kept_table}
-use Rattle.ix_fact_table.proofs.WalksAlongBoth.{none_left}
-use Rattle.ix_fact_table.proofs.MergedTables.{self_table, front_classes, back_classes, halves_form, halves_table}
+use Rattle.ix_fact_table.proofs.MergedTables.{front_classes, back_classes, halves_form, halves_table}
 use Rattle.ix_fact_table.proofs.sorted.+sorted.Goals as goal
 
-pub returns-in_default-clause-table : goal.returns-in_default-clause-table
-returns-in_default-clause-table t c =
-    let none = none_left c.args.facts.now c.in_default.ensures.cases in
-    rw (none, c.new.ensures) (self_table c.args.kind [] refl)
+pub returns-then-kept-facts-clause-table : goal.returns-then-kept-facts-clause-table
+returns-then-kept-facts-clause-table t c =
+    let facts = c.args.facts.now in
+    let kept = c.kept_front-kept.result in
+    let all : length facts ≤ kept = grind (arith, nat_tests, c.if-kept-facts.true) in
+    let form : is_table_of c.args.kind facts ≡ true = subst (λ l. is_table_of c.args.kind l ≡ true) (take_all kept facts all) c.kept_front-kept.ensures.form in
+    subst (λ l. IsTable (of_kind c.args.kind c.args.facts.now) l) (sym c.in_ok-table.ensures) (kept_table c.args.kind c.args.facts.now form)
 
 pub sorted-requires : goal.sorted-requires
-sorted-requires t c = (search rules, front_classes _ c.args.facts.now c.split_at.result.0.now c.split_at.ensures.front c.requires.classes)
+sorted-requires t c = (search rules, back_classes _ c.args.facts.now c.split_at.result.1.now c.split_at.ensures.back c.requires.classes)
+
+pub returns-then-kept-half : goal.returns-then-kept-half
+returns-then-kept-half t c =
+    let own = c.args.kind in
+    let front = c.split_at.result.0.now in
+    let has = rw c.as_slice.ensures at c.in_ok-all.ensures.both in
+    let form : is_table_of own front ≡ true = subst (λ l. is_table_of own l ≡ true) (sym c.split_at.ensures.front) c.kept_front-kept.ensures.form in
+    record {
+      form = halves_form own front c.in_ok-second.second form c.in_ok-second.ensures.form c.in_ok-all.all has c.in_ok-all.ensures.rises;
+      table = halves_table own c.args.facts.now front c.split_at.result.1.now front c.in_ok-second.second c.split_at.ensures.by_index.0
+          form c.in_ok-second.ensures.form (kept_table own front form) c.in_ok-second.ensures.table c.in_ok-all.all has c.in_ok-all.ensures.rises;
+    }
 
 pub sorted-requires-2 : goal.sorted-requires-2
-sorted-requires-2 t c = (search rules, back_classes _ c.args.facts.now c.split_at.result.1.now c.split_at.ensures.back c.requires.classes)
+sorted-requires-2 t c = (search rules, front_classes _ c.args.facts.now c.split_at-2.result.0.now c.split_at-2.ensures.front c.requires.classes)
+
+pub sorted-requires-3 : goal.sorted-requires-3
+sorted-requires-3 t c = (search rules, back_classes _ c.args.facts.now c.split_at-2.result.1.now c.split_at-2.ensures.back c.requires.classes)
 
 pub returns : goal.returns
 returns t c =
-    let first = c.as_slice.ensures in
-    let second = c.as_slice-2.ensures in
-    let has = rw (first, second) at c.in_ok-all.ensures.both in
+    let first = c.as_slice-2.ensures in
+    let second = c.as_slice-3.ensures in
+    let has = rw (first, second) at c.in_ok-all-2.ensures.both in
     record {
-      form = halves_form c.args.kind c.in_ok-first.first c.in_ok-second.second c.in_ok-first.ensures.form c.in_ok-second.ensures.form c.in_ok-all.all has c.in_ok-all.ensures.rises;
-      table = halves_table c.args.kind c.args.facts.now c.split_at.result.0.now c.split_at.result.1.now c.in_ok-first.first c.in_ok-second.second c.split_at.ensures.by_index.0
-          c.in_ok-first.ensures.form c.in_ok-second.ensures.form c.in_ok-first.ensures.table c.in_ok-second.ensures.table c.in_ok-all.all has c.in_ok-all.ensures.rises;
+      form = halves_form c.args.kind c.in_ok-first.first c.in_ok-second-2.second c.in_ok-first.ensures.form c.in_ok-second-2.ensures.form c.in_ok-all-2.all has c.in_ok-all-2.ensures.rises;
+      table = halves_table c.args.kind c.args.facts.now c.split_at-2.result.0.now c.split_at-2.result.1.now c.in_ok-first.first c.in_ok-second-2.second c.split_at-2.ensures.by_index.0
+          c.in_ok-first.ensures.form c.in_ok-second-2.ensures.form c.in_ok-first.ensures.table c.in_ok-second-2.ensures.table c.in_ok-all-2.all has c.in_ok-all-2.ensures.rises;
     }
-
-pub returns-then-is_table-clause-table : goal.returns-then-is_table-clause-table
-returns-then-is_table-clause-table t c =
-    let form = c.is_table.ensures (c.if-is_table.true) in
-    subst (λ l. IsTable (of_kind c.args.kind c.args.facts.now) l) (sym c.in_ok-table.ensures) (kept_table c.args.kind c.args.facts.now form)

@@ -1,11 +1,11 @@
 use Rattle.std.proofs.Common.{All, sym, subst, ◌∙◌}
 use Rattle.ix_facts.specs.Facts.{in_orders}
 use Rattle.ix_facts.specs.Small.{HasSmallNumbers}
-use Rattle.ix_fact_list.proofs.SmallFacts.{in_orders_small, on_it_small}
+use Rattle.ix_fact_list.proofs.SmallFacts.{in_orders_small, on_list_small}
 use Rattle.ix_fact_list.proofs.fact_list.FactListGroups.on_path.Goals as goal
 
 pub returns-clause-small : goal.returns-clause-small
 returns-clause-small c =
     let p = c.args.p.now in
     let facts = c.self.inside.facts.items in
-    subst (λ l. All HasSmallNumbers l) (sym (c.on.ensures ∙ c.self.invariant.0.1.0 p)) (on_it_small p (in_orders facts) (in_orders_small facts c.self.invariant.0.0))
+    subst (λ l. All HasSmallNumbers l) (sym (c.on.ensures ∙ c.self.invariant.0.1.0 p)) (on_list_small p (in_orders facts) (in_orders_small facts c.self.invariant.0.0))
