@@ -1,6 +1,7 @@
 pub mod WalksAlongBoth
 pub mod MergedTables
 pub mod TableForms
+pub mod SaidAlready
 pub mod RisingSteps
 mod KeptFronts
 pub mod OneKind

@@ -1,8 +1,9 @@
 //! Tables of facts: how one is made, changed and compared.
 
-ghost use Rattle.std.specs.Prelude.{◌≡◌, true, ◌↔◌, ◌++◌, [], filter, IsTrue, IfOk, IfSome, IfNone};
+ghost use Rattle.std.specs.Prelude.{◌≡◌, Bool, true, ◌↔◌, ◌++◌, [], filter, IsTrue, IfOk, IfSome, IfNone, IsNone};
 ghost use Rattle.std.specs.Ordering.{is_eq};
 ghost use Rattle.ix_core.specs.declared.fact.Fact.{Fact};
+ghost use Rattle.ix_core.specs.declared.fact.Path.{Path};
 ghost use Rattle.ix_facts.specs.Facts.{IsIn};
 ghost use Rattle.ix_facts.specs.PathOrder.{path_cmp};
 ghost use Rattle.ix_facts.specs.Forget.{of_path, without};
@@ -112,6 +113,42 @@ impl FactTable {
             kind: self.kind,
             facts,
         })
+    }
+
+    /// The table with more facts, of which those of its kind count; none where it says all of these already, so that no copy of it is needed. What an int is at
+    /// least has to be -1, 0 or 1.
+    pub fn with_more(
+        &self,
+        alloc: Global,
+        new: &[Fact],
+    ) -> Result<Option<FactTable>, AllocError>
+        requires classes { HaveClasses new.now }
+        ensures none { IfOk result (λ more. IsNone more ↔ SaysAll (facts_of self.now) (of_kind (table_kind self.now) new.now)) }
+        ensures same { IfOk result (λ more. IfNone more (IsTable (facts_of self.now ++ of_kind (table_kind self.now) new.now) (facts_of self.now))) }
+        ensures table { IfOk result (λ more. IfSome more (λ table. IsTable (facts_of self.now ++ of_kind (table_kind self.now) new.now) (facts_of table))) }
+        ensures kind { IfOk result (λ more. IfSome more (λ table. table_kind table ≡ table_kind self.now)) }
+    {
+        let more = FactTable::of_facts(alloc, self.kind, new)?;
+        if self.says_all(&more) {
+            return Ok(None);
+        }
+        let facts = merged(alloc, self.facts.as_slice(), more.facts.as_slice())?;
+        Ok(Some(FactTable {
+            kind: self.kind,
+            facts,
+        }))
+    }
+
+    /// The table of some of its facts: of all that name none of certain paths. It takes no memory.
+    pub fn of_part(&self, facts: List<Fact>) -> FactTable
+        requires part { (is : Path → Bool) × (facts ≡ without is (facts_of self.now)) }
+        ensures facts { facts_of result ≡ facts }
+        ensures kind { table_kind result ≡ table_kind self.now }
+    {
+        FactTable {
+            kind: self.kind,
+            facts,
+        }
     }
 
     /// The table with a fact, where it is of the table's kind. What an int is at least has to be -1, 0 or 1.

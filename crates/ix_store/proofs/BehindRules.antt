@@ -1,6 +1,6 @@
 -- The facts that code puts together behind a rule are those of the rule.
 use Rattle.std.specs.Prelude.{◌≡◌, List, ◌++◌}
-use Rattle.std.proofs.Common.{subst}
+use Rattle.std.proofs.Common.{sym, subst}
 use Rattle.ix_core.specs.declared.claim.Type_.{Type_}
 use Rattle.ix_core.specs.declared.fact.Path.{Path}
 use Rattle.ix_core.specs.declared.fact.Profile.{Profile}
@@ -12,14 +12,18 @@ use Rattle.ix_facts.specs.After.{of_target, beside_target, kept_new, finished, f
 use Rattle.ix_facts.specs.Closure.{kept}
 use Rattle.ix_facts.specs.Facts.{in_orders}
 use Rattle.ix_facts.specs.Forget.{of_path, without}
-use Rattle.ix_facts.specs.Stores.{operated, with_copy, with_outcome}
+use Rattle.ix_facts.specs.Stores.{Stored, Reached, IsStoreOf, IsGiven, operated, with_copy, with_outcome}
 use Rattle.ix_facts.specs.Systems.{HaveClasses}
 use Rattle.ix_facts.proofs.ClassesStay.{after_classes, copy_classes}
 use Rattle.ix_facts.proofs.Frame.{in_without}
 use Rattle.ix_after.specs.SameFacts.{AreSame}
 use Rattle.ix_after.proofs.Members.{same_itself, same_equal, same_trans, same_app}
-use Rattle.ix_store.proofs.SameStores.{same_classes}
+use Rattle.ix_store.proofs.SameStores.{same_store, same_classes}
 use Rattle.ix_store.proofs.ClassesAfter.{told_classes}
+
+-- The store behind a rule is the closed store of any list that has the facts that the rule gives.
+pub given_by : (rule : List Fact → List Fact) (before after : Stored) (known all : List Fact) → before ≡ Reached known → AreSame all (rule known) → IsStoreOf all after → IsGiven rule before after
+given_by rule before after known all is same made = subst (λ s. IsGiven rule s after) (sym is) (same_store all (rule known) after same made)
 
 -- ---- an operation
 

@@ -15,19 +15,22 @@ use Rattle.ix_facts.specs.Bounds.{is_path}
 use Rattle.ix_facts.specs.Closure.{kept, kept_fact}
 use Rattle.ix_facts.specs.Exact.{if_so, each}
 use Rattle.ix_facts.specs.Facts.{in_orders}
-use Rattle.ix_facts.specs.Stores.{with_outcome, with_facts}
+use Rattle.ix_facts.specs.Stores.{with_outcome}
 use Rattle.ix_facts.specs.Systems.{HasClass, HaveClasses}
 use Rattle.ix_facts.proofs.ClassesStay.{claim_classes}
 use Rattle.ix_facts.proofs.ClosureLaws.{from_kept}
-use Rattle.ix_facts.proofs.FactLists.{in_either}
+use Rattle.ix_facts.proofs.FactLists.{in_right, in_either}
 use Rattle.ix_facts.proofs.SaidLaws.{from_each}
 
 by_test : {G : Type 0} (t : Bool) → (t ≡ true → G) → (t ≡ false → G) → G
 by_test true first second = first refl
 by_test false first second = second refl
 
-app_have : (a b : List Fact) → HaveClasses a → HaveClasses b → HaveClasses (a ++ b)
+pub app_have : (a b : List Fact) → HaveClasses a → HaveClasses b → HaveClasses (a ++ b)
 app_have a b x y f i = ⊎_elim (λ j. x f j) (λ j. y f j) (in_either f a b i)
+
+pub right_have : (a b : List Fact) → HaveClasses (a ++ b) → HaveClasses b
+right_have a b have f i = have f (in_right f a b i)
 
 if_have : (t : Bool) (a : List Fact) → HaveClasses a → HaveClasses (if_so t a)
 if_have true a x f i = x f i
@@ -53,7 +56,7 @@ kept_one (Sum t y z) h = one_has (Sum t y z) tt
 kept_one (Search p a) h = one_has (Search p a) tt
 kept_one (Neg p a) h = one_has (Neg p a) tt
 
-kept_have : (facts : List Fact) → HaveClasses facts → HaveClasses (kept facts)
+pub kept_have : (facts : List Fact) → HaveClasses facts → HaveClasses (kept facts)
 kept_have facts h f i = let x = from_kept f facts i in kept_one x.0 (h x.0 x.1) f x.2
 
 -- ---- what a test tells
@@ -171,8 +174,5 @@ outcome_have facts (OneArray a b) = one_has (Same a b) tt
 pub told_classes : (facts : List Fact) (outcome : Outcome) → HaveClasses facts → HaveClasses (with_outcome outcome facts)
 told_classes facts outcome have = app_have facts (kept (outcome_facts (in_orders facts) outcome)) have (kept_have (outcome_facts (in_orders facts) outcome) (outcome_have (in_orders facts) outcome))
 
-pub assumed_classes : (facts : List Fact) (claim : PathClaim) (p : Path) → HaveClasses facts → HaveClasses (with_facts (claim_facts claim p) facts)
-assumed_classes facts claim p have = app_have facts (kept (claim_facts claim p)) have (kept_have (claim_facts claim p) (claim_classes claim p))
-
-pub added_classes : (facts more : List Fact) → HaveClasses facts → HaveClasses more → HaveClasses (with_facts more facts)
-added_classes facts more have are = app_have facts (kept more) have (kept_have more are)
+pub assumed_classes : (claim : PathClaim) (p : Path) → HaveClasses (kept (claim_facts claim p))
+assumed_classes claim p = kept_have (claim_facts claim p) (claim_classes claim p)

@@ -23,10 +23,9 @@ pub second_joined : (s t : Store) (made : Result Store AllocError) → s.known �
 second_joined s t (Ok j) none same = rw (same, none) (right (stored t) (stored t) (same_itself (stored t)))
 second_joined s t (Err e) none same = tt
 
-pub both_joined : (s t : Store) (first second common : Known) (made : Result Store AllocError) → s.known ≡ Some first → t.known ≡ Some second → IsCommon (facts_in first) (facts_in second) (facts_in common)
-    → IfOk made (λ j. stored j ≡ Reached (facts_in common)) → IfOk made (λ j. IsJoined (stored s) (stored t) (stored j))
-both_joined s t first second common (Ok j) a b is same = rw (same, a, b) (both (facts_in first) (facts_in second) (facts_in common) is)
-both_joined s t first second common (Err e) a b is same = tt
+pub both_joined : (s t j : Store) (first second common : Known) → s.known ≡ Some first → t.known ≡ Some second → IsCommon (facts_in first) (facts_in second) (facts_in common) → j.known ≡ Some common
+    → IsJoined (stored s) (stored t) (stored j)
+both_joined s t j first second common a b is made = rw (made, a, b) (both (facts_in first) (facts_in second) (facts_in common) is)
 
 -- and it is the least store above both
 pub least_joined : (s t : Store) (made : Result Store AllocError) → IfOk made (λ j. IsJoined (stored s) (stored t) (stored j)) → IfOk made (IsJoin StoreBelow s t)

@@ -8,3 +8,8 @@ mod BehindRules
 mod FullCommon
 mod JoinedStores
 mod NoFacts
+mod ClosedTests
+mod OwnFacts
+mod KnownStores
+mod WeakerCommon
+mod PartsWithout

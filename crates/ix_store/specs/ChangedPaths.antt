@@ -4,9 +4,10 @@ use Rattle.ix_core.specs.declared.fact.Path.{Path}
 use Rattle.ix_core.specs.declared.program.Program.{Program}
 use Rattle.ix_core.specs.Tables.{field_at}
 use Rattle.ix_facts.specs.Forget.{of_slot, of_path, of_field, of_call, of_this}
+use Rattle.ix_facts.specs.After.{of_target}
 use Rattle.ix_facts.specs.Round.{is_beyond}
 use Rattle.ix_store.specs.declared.changed.Changed.{Changed}
-use Rattle.ix_store.specs.declared.changed.Changed.TheVariants.{At, Field, Call, Called, Parent, From}
+use Rattle.ix_store.specs.declared.changed.Changed.TheVariants.{Nothing, Target, At, Field, Call, Called, Parent, From}
 
 -- The spared slot, where there is one.
 abbrev pub is_spared : Option ℕ → ℕ → Bool
@@ -26,6 +27,8 @@ abbrev pub of_parent : Program → ℕ → Bool → Option ℕ → Path → Bool
 of_parent program target free spared p = of_called program target free spared p || of_this p
 
 abbrev pub is_changed : Changed → Path → Bool
+is_changed Nothing = λ p. false
+is_changed (Target kind) = of_target kind.now
 is_changed (At q) = of_path q
 is_changed (Field f spared) = of_field f (is_spared spared)
 is_changed (Call program spared) = of_call (is_final program.now) (is_spared spared)

@@ -1,4 +1,5 @@
 pub mod EmptyRanges
+pub mod ClosedFacts
 pub mod AllTables
 pub mod StoredFacts
 pub mod SeenFacts

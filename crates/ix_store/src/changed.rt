@@ -3,15 +3,21 @@
 ghost use Rattle.std.specs.Prelude.{◌≡◌, IfOk};
 ghost use Rattle.ix_core.specs.declared.fact.Path.TheVariants.{Slot, FieldOf};
 ghost use Rattle.ix_facts.specs.Forget.{offset_names, names, without, of_call};
+ghost use Rattle.ix_fact_list.specs.Spared.{some_named};
 ghost use Rattle.ix_store.specs.ChangedPaths.{is_spared, is_final, is_changed};
 
-use ix_core::{Fact, Path, PathOff, Program};
-use ix_facts::is_of_path;
+use ix_core::{Fact, OpKind, Path, PathOff, Program};
+use ix_facts::{is_of_path, is_of_target};
+use ix_text::List;
 use std::alloc::{AllocError, Global};
 
 /// The paths that a step may change.
 #[derive(Clone, Copy)]
 pub(crate) enum Changed<'a> {
+    /// none
+    Nothing,
+    /// what an operation that is no call and touches no field assigns
+    Target(&'a OpKind),
     /// a path; of a slot also each field of the object in it
     At(Path),
     /// a field, of the object in each slot but the spared one
@@ -56,6 +62,8 @@ fn changes_field(changed: &Changed, slot: u32, field: u32) -> bool
     ensures { result ≡ is_changed changed.now (FieldOf slot field) }
 {
     match *changed {
+        Changed::Nothing => false,
+        Changed::Target(kind) => is_of_target(kind, &Path::FieldOf(slot, field)),
         Changed::At(path) => is_of_path(&path, &Path::FieldOf(slot, field)),
         Changed::Field(own, spared) => !is_in_spared(spared, slot) && field == own,
         Changed::Call(program, spared) => call_changes(program, spared, slot, field),
@@ -73,6 +81,8 @@ fn changes_slot(changed: &Changed, slot: u32) -> bool
     ensures { result ≡ is_changed changed.now (Slot slot) }
 {
     match *changed {
+        Changed::Nothing => false,
+        Changed::Target(kind) => is_of_target(kind, &Path::Slot(slot)),
         Changed::At(path) => is_of_path(&path, &Path::Slot(slot)),
         Changed::Called(_, target, _, _) => slot == target,
         Changed::Parent(_, target, _, _) => slot == target,
@@ -122,15 +132,27 @@ fn names_changed(changed: &Changed, fact: &Fact) -> bool
     }
 }
 
+/// Whether a fact names a path that the step may change. It takes no memory.
+pub(crate) fn some_name_changed(facts: &[Fact], changed: &Changed) -> bool
+    ensures { result ≡ some_named (is_changed changed.now) facts.now }
+{
+    for fact in facts {
+        if names_changed(changed, fact) {
+            return true;
+        }
+    }
+    false
+}
+
 /// The facts that name no path that the step may change.
 pub(crate) fn unchanged(
     alloc: Global,
     facts: &[Fact],
     changed: &Changed,
-) -> Result<Vec<Fact>, AllocError>
-    ensures { IfOk result (λ kept. kept.items ≡ without (is_changed changed.now) facts.now) }
+) -> Result<List<Fact>, AllocError>
+    ensures { IfOk result (λ kept. kept ≡ without (is_changed changed.now) facts.now) }
 {
-    let mut kept = Vec::new(alloc);
+    let mut kept = List::new(alloc);
     for fact in facts {
         if !names_changed(changed, fact) {
             kept.push(*fact)?;

@@ -1,28 +1,59 @@
 //! Closed facts that don't contradict each other, their order and what two of them have in common.
 
-ghost use Rattle.std.specs.Prelude.{◌≡◌, ◌↔◌, IsTrue, IfOk};
+ghost use Rattle.std.specs.Prelude.{◌≡◌, ◌↔◌, ◌++◌, IsTrue, IfOk};
 ghost use Rattle.ix_facts.specs.Systems.{HaveClasses};
 ghost use Rattle.ix_facts.specs.Stores.{IsStoreOf};
 ghost use Rattle.ix_facts.specs.Closure.{SaysAll, IsCommon};
+ghost use Rattle.ix_closure.specs.Saturated.{IsSaturated};
+ghost use Rattle.ix_store.specs.AllTables as spec;
+ghost use Rattle.ix_store.specs.AllTables.{AreOfKinds};
 ghost use Rattle.ix_store.specs.StoredFacts.{facts_in, stored_in};
 
 use crate::joins;
 use crate::known::Known;
-use crate::making::{all_facts, has_empty, tables_of};
-use ix_closure::saturated;
+use crate::making::{all_facts, has_empty, tables_with};
+use crate::tables::Tables;
+use ix_closure::more_that_follows;
 use ix_core::Fact;
 use ix_fact_list::FactList;
 use std::alloc::{AllocError, Global};
 
+/// The facts of the tables, and new ones behind them.
+fn facts_with(alloc: Global, tables: &Tables, new: &[Fact]) -> Result<Vec<Fact>, AllocError>
+    ensures { IfOk result (λ facts. facts.items ≡ spec.all_facts tables.now ++ new.now) }
+{
+    let mut facts = all_facts(alloc, tables)?;
+    facts.extend_from_slice(new)?;
+    Ok(facts)
+}
+
+/// New facts, and behind them what follows from them and those of the tables.
+fn added(alloc: Global, tables: &Tables, new: Vec<Fact>) -> Result<Vec<Fact>, AllocError>
+    requires classes { HaveClasses new.items }
+    ensures saturated { IfOk result (λ added. IsSaturated (spec.all_facts tables.now ++ new.items) (spec.all_facts tables.now ++ added.items)) }
+    ensures classes { IfOk result (λ added. HaveClasses added.items) }
+{
+    let facts = facts_with(alloc, tables, &new)?;
+    let more = more_that_follows(alloc, &facts)?;
+    let mut added = new;
+    added.extend_from_slice(&more)?;
+    Ok(added)
+}
+
 impl Known {
-    /// The closed facts, or none where an empty range follows. The only error is want of memory.
-    pub(crate) fn closed(alloc: Global, facts: &[Fact]) -> Result<Option<Known>, AllocError>
-        requires classes { HaveClasses facts.now }
-        ensures store { IfOk result (λ known. IsStoreOf facts.now (stored_in known)) }
+    /// The closed facts of tables and of new facts, or none where an empty range follows. The only error is want of memory.
+    pub(crate) fn closed(
+        alloc: Global,
+        tables: &Tables,
+        new: Vec<Fact>,
+    ) -> Result<Option<Known>, AllocError>
+        requires kinds { AreOfKinds tables.now }
+        requires classes { HaveClasses new.items }
+        ensures store { IfOk result (λ known. IsStoreOf (spec.all_facts tables.now ++ new.items) (stored_in known)) }
     {
-        let more = saturated(alloc, facts)?;
-        let tables = tables_of(alloc, &more)?;
-        if has_empty(tables.ranges.as_slice()) {
+        let added = added(alloc, tables, new)?;
+        let tables = tables_with(alloc, tables, &added)?;
+        if has_empty(tables.ranges.get().as_slice()) {
             return Ok(None);
         }
         let all = all_facts(alloc, &tables)?;

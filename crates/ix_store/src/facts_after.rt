@@ -1,15 +1,15 @@
-//! The facts behind each rule, before they are closed.
+//! The new facts behind each rule, before they are closed.
 
 ghost use Rattle.std.specs.Prelude.{◌≡◌, ◌++◌, ◌∷◌, [], IfOk, OnOk};
 ghost use Rattle.ix_facts.specs.Assume as claims;
 ghost use Rattle.ix_facts.specs.Closure.{kept};
 ghost use Rattle.ix_facts.specs.Facts.{in_orders};
-ghost use Rattle.ix_facts.specs.Forget.{without};
+ghost use Rattle.ix_facts.specs.After.{of_target};
+ghost use Rattle.ix_facts.specs.Forget.{of_path, without};
 ghost use Rattle.ix_facts.specs.Round.{rounded};
-ghost use Rattle.ix_facts.specs.Stores.{operated, with_copy, with_outcome, with_facts};
+ghost use Rattle.ix_facts.specs.Stores.{operated, with_copy, with_outcome};
 ghost use Rattle.ix_facts.specs.Systems.{HaveClasses};
 ghost use Rattle.ix_after.specs.SameFacts.{AreSame};
-ghost use Rattle.ix_store.specs.ChangedPaths.{is_changed};
 ghost use Rattle.ix_store.specs.StoredFacts.{facts_in};
 ghost use Rattle.ix_outcomes.specs.OverGroups.{outcome_of};
 
@@ -25,15 +25,6 @@ use ix_outcomes::{Outcome, facts_of_outcome};
 use ix_rules::push_claim;
 use std::alloc::{AllocError, Global};
 
-fn both(alloc: Global, facts: &[Fact], new: &[Fact]) -> Result<Vec<Fact>, AllocError>
-    ensures { IfOk result (λ all. all.items ≡ facts.now ++ new.now) }
-{
-    let mut all = Vec::new(alloc);
-    all.extend_from_slice(facts)?;
-    all.extend_from_slice(new)?;
-    Ok(all)
-}
-
 fn push_kept(out: &mut Vec<Fact>, fact: &Fact) -> Result<(), AllocError>
     ensures { OnOk result (out.new.items ≡ out.old.items ++ kept (fact.now ∷ [])) }
 {
@@ -48,8 +39,8 @@ fn push_kept(out: &mut Vec<Fact>, fact: &Fact) -> Result<(), AllocError>
 }
 
 /// The facts, of which the constants are kept.
-fn kept_facts(alloc: Global, facts: &[Fact]) -> Result<Vec<Fact>, AllocError>
-    ensures { IfOk result (λ new. new.items ≡ kept facts.now) }
+pub(crate) fn kept_facts(alloc: Global, facts: &[Fact]) -> Result<Vec<Fact>, AllocError>
+    ensures facts { IfOk result (λ new. new.items ≡ kept facts.now) }
 {
     let mut new = Vec::new(alloc);
     for fact in facts {
@@ -59,27 +50,27 @@ fn kept_facts(alloc: Global, facts: &[Fact]) -> Result<Vec<Fact>, AllocError>
 }
 
 impl Known {
+    /// The new facts behind an operation.
     pub(crate) fn after(
         &self,
         alloc: Global,
         profile: Profile,
         kind: &OpKind,
     ) -> Result<Vec<Fact>, AllocError>
-        ensures facts { IfOk result (λ facts. AreSame facts.items (operated profile kind.now (facts_in self.now))) }
-        ensures classes { IfOk result (λ facts. HaveClasses facts.items) }
+        ensures facts { IfOk result (λ new. AreSame (without (of_target kind.now) (facts_in self.now) ++ new.items) (operated profile kind.now (facts_in self.now))) }
+        ensures classes { IfOk result (λ new. HaveClasses new.items) }
     {
         let list = self.list();
         if !list.names_target(kind) {
             let new = facts_after(alloc, list, profile, kind)?;
-            let facts = both(alloc, list.as_slice(), &new)?;
-            return Ok(facts);
+            return Ok(new);
         }
         let beside = FactList::beside_target(alloc, list, kind)?;
         let new = facts_after(alloc, &beside, profile, kind)?;
-        let facts = both(alloc, beside.as_slice(), &new)?;
-        Ok(facts)
+        Ok(new)
     }
 
+    /// The new facts behind a copy from one path to another.
     pub(crate) fn copy(
         &self,
         alloc: Global,
@@ -87,44 +78,26 @@ impl Known {
         target: &Path,
         source: &Path,
     ) -> Result<Vec<Fact>, AllocError>
-        ensures facts { IfOk result (λ facts. AreSame facts.items (with_copy ty.now target.now source.now (facts_in self.now))) }
-        ensures classes { IfOk result (λ facts. HaveClasses facts.items) }
+        ensures facts { IfOk result (λ new. AreSame (without (of_path target.now) (facts_in self.now) ++ new.items) (with_copy ty.now target.now source.now (facts_in self.now))) }
+        ensures classes { IfOk result (λ new. HaveClasses new.items) }
     {
         let list = self.list();
         if !list.names_path(target) {
             let new = facts_of_copy(alloc, list, ty, target, source)?;
-            let facts = both(alloc, list.as_slice(), &new)?;
-            return Ok(facts);
+            return Ok(new);
         }
         let beside = FactList::beside_path(alloc, list, target)?;
         let new = facts_of_copy(alloc, &beside, ty, target, source)?;
-        let facts = both(alloc, beside.as_slice(), &new)?;
-        Ok(facts)
+        Ok(new)
     }
 
+    /// The new facts where an outcome is told.
     pub(crate) fn told(&self, alloc: Global, outcome: &Outcome) -> Result<Vec<Fact>, AllocError>
-        ensures facts { IfOk result (λ facts. AreSame facts.items (with_outcome (outcome_of outcome.now) (facts_in self.now))) }
-        ensures classes { IfOk result (λ facts. HaveClasses facts.items) }
+        ensures facts { IfOk result (λ new. AreSame (facts_in self.now ++ new.items) (with_outcome (outcome_of outcome.now) (facts_in self.now))) }
+        ensures classes { IfOk result (λ new. HaveClasses new.items) }
     {
         let new = facts_of_outcome(alloc, self.list(), outcome)?;
-        let facts = both(alloc, self.list().as_slice(), &new)?;
-        Ok(facts)
-    }
-
-    pub(crate) fn assume(
-        &self,
-        alloc: Global,
-        claim: &PathClaim,
-        at: &Path,
-    ) -> Result<Vec<Fact>, AllocError>
-        ensures facts { IfOk result (λ facts. facts.items ≡ with_facts (claims.claim_facts claim.now at.now) (facts_in self.now)) }
-        ensures classes { IfOk result (λ facts. HaveClasses facts.items) }
-    {
-        let mut told = Vec::new(alloc);
-        push_claim(&mut told, claim, at)?;
-        let new = kept_facts(alloc, &told)?;
-        let facts = both(alloc, self.list().as_slice(), &new)?;
-        Ok(facts)
+        Ok(new)
     }
 
     pub(crate) fn proves(&self, claim: &PathClaim, at: &Path) -> bool
@@ -133,18 +106,7 @@ impl Known {
         is_proved(self.list(), claim, at)
     }
 
-    pub(crate) fn unchanged(
-        &self,
-        alloc: Global,
-        changed: &Changed,
-    ) -> Result<Vec<Fact>, AllocError>
-        ensures facts { IfOk result (λ facts. facts.items ≡ without (is_changed changed.now) (facts_in self.now)) }
-        ensures classes { IfOk result (λ facts. HaveClasses facts.items) }
-    {
-        let facts = unchanged(alloc, self.list().as_slice(), changed)?;
-        Ok(facts)
-    }
-
+    /// The facts of a loop's label, before they are closed.
     pub(crate) fn rounded(
         &self,
         alloc: Global,
@@ -155,17 +117,22 @@ impl Known {
         ensures classes { IfOk result (λ facts. HaveClasses facts.items) }
     {
         let within = unchanged(alloc, self.list().as_slice(), &Changed::From(scope))?;
-        let facts = rounded_facts(alloc, &within, marks)?;
+        let facts = rounded_facts(alloc, within.as_slice(), marks)?;
         Ok(facts)
     }
+}
 
-    pub(crate) fn with_more(&self, alloc: Global, more: &[Fact]) -> Result<Vec<Fact>, AllocError>
-        requires classes { HaveClasses more.now }
-        ensures facts { IfOk result (λ facts. facts.items ≡ with_facts more.now (facts_in self.now)) }
-        ensures classes { IfOk result (λ facts. HaveClasses facts.items) }
-    {
-        let new = kept_facts(alloc, more)?;
-        let facts = both(alloc, self.list().as_slice(), &new)?;
-        Ok(facts)
-    }
+/// The new facts where a claim of the path is assumed.
+pub(crate) fn assumed(
+    alloc: Global,
+    claim: &PathClaim,
+    at: &Path,
+) -> Result<Vec<Fact>, AllocError>
+    ensures facts { IfOk result (λ new. new.items ≡ kept (claims.claim_facts claim.now at.now)) }
+    ensures classes { IfOk result (λ new. HaveClasses new.items) }
+{
+    let mut told = Vec::new(alloc);
+    push_claim(&mut told, claim, at)?;
+    let new = kept_facts(alloc, &told)?;
+    Ok(new)
 }

@@ -1,6 +1,7 @@
 //! Closed facts.
 
 ghost use Rattle.std.specs.Prelude.{◌≡◌, ◌<◌, ◌^◌, false, length};
+ghost use Rattle.ix_store.specs.ClosedFacts.{AreClosed};
 ghost use Rattle.ix_fact_table.specs.FactTables.{facts_of};
 ghost use Rattle.ix_store.specs.AllTables.{all_facts, AreOfKinds};
 ghost use Rattle.ix_store.specs.EmptyRanges.{some_empty};
@@ -16,5 +17,6 @@ pub(crate) struct Known {
     ghost same: { list ≡ all_facts tables },
     ghost kinds: { AreOfKinds tables },
     ghost full: { some_empty (facts_of tables.ranges) ≡ false },
+    ghost closed: { AreClosed (all_facts tables) },
     ghost few: { length (all_facts tables) < 2 ^ 64 },
 }

@@ -1,15 +1,43 @@
 //! The order of stores.
 
-ghost use Rattle.std.specs.Prelude.{IfOk};
+ghost use Rattle.std.specs.Prelude.{◌↔◌, IsTrue, IfOk};
 ghost use Rattle.ix_lattice.specs.Lattice.{IsJoin};
+ghost use Rattle.ix_facts.specs.Closure.{SaysAll, IsCommon};
 ghost use Rattle.ix_facts.specs.Stores.{IsJoined};
-ghost use Rattle.ix_store.specs.StoredFacts.{stored};
+ghost use Rattle.ix_store.specs.StoredFacts.{facts_in, stored};
 ghost use Rattle.ix_store.specs.StoreOrder.{StoreBelow};
 
-use crate::rules::reached;
+use crate::known::Known;
 use crate::store::Store;
 use ix_lattice::Lattice;
+use ix_text::Joint;
 use std::alloc::{AllocError, Global};
+
+fn says_all(first: &Joint<Known>, second: &Joint<Known>) -> bool
+    ensures below { IsTrue result ↔ SaysAll (facts_in first.now) (facts_in second.now) }
+{
+    first.get().says_all(second.get())
+}
+
+/// What both say; held jointly with one of them where it says no more than the other.
+fn common(
+    alloc: Global,
+    first: &Joint<Known>,
+    second: &Joint<Known>,
+) -> Result<Joint<Known>, AllocError>
+    ensures common { IfOk result (λ known. IsCommon (facts_in first.now) (facts_in second.now) (facts_in known)) }
+{
+    if says_all(first, second) {
+        let known = second.join()?;
+        return Ok(known);
+    }
+    if says_all(second, first) {
+        let known = first.join()?;
+        return Ok(known);
+    }
+    let known = Joint::new(alloc, first.get().common(alloc, second.get())?)?;
+    Ok(known)
+}
 
 impl Lattice for Store {
     ghost use Rattle.ix_store.specs.StoreOrder.{store_rank};
@@ -26,11 +54,11 @@ impl Lattice for Store {
         match (&self.known, &other.known) {
             (None, _) => true,
             (Some(_), None) => false,
-            (Some(known), Some(others)) => known.get().says_all(others.get()),
+            (Some(known), Some(others)) => says_all(known, others),
         }
     }
 
-    /// The store of what both say; of an unreachable one and another what the other says. The only error is want of memory.
+    /// The store of what both say: held jointly with one of them where that says no more than the other. The only error is want of memory.
     fn join(&self, alloc: Global, other: &Self) -> Result<Self, AllocError>
         ensures least_above { IfOk result (IsJoin StoreBelow self.now other.now) }
         ensures joined { IfOk result (λ store. IsJoined (stored self.now) (stored other.now) (stored store)) }
@@ -39,8 +67,10 @@ impl Lattice for Store {
             (_, None) => self.share(),
             (None, Some(_)) => other.share(),
             (Some(known), Some(others)) => {
-                let known = known.get().common(alloc, others.get())?;
-                reached(alloc, known)
+                let common = common(alloc, known, others)?;
+                Ok(Store {
+                    known: Some(common),
+                })
             }
         }
     }

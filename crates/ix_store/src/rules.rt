@@ -1,28 +1,69 @@
 //! The store behind each rule.
 
-ghost use Rattle.std.specs.Prelude.{◌≡◌, ◌∷◌, [], ◌↔◌, IsTrue, IfOk};
+ghost use Rattle.std.specs.Prelude.{◌≡◌, ◌∷◌, ◌++◌, [], ◌↔◌, IsTrue, IfOk};
 ghost use Rattle.ix_facts.specs.Stores.{Unreachable, Reached, IsStoreOf, IsAfter, IsCopied, IsTold, IsAssumed, IsAdded, IsForgotten, IsRounded, IsProved};
 ghost use Rattle.ix_facts.specs.Systems.{HaveClasses};
-ghost use Rattle.ix_facts.specs.Forget.{of_path, of_field, of_call};
+ghost use Rattle.ix_facts.specs.Forget.{of_path, of_field, of_call, without};
+ghost use Rattle.ix_store.specs.AllTables.{all_facts, AreOfKinds};
 ghost use Rattle.ix_store.specs.ChangedPaths.{is_spared, is_final, of_called, of_parent, is_changed};
 ghost use Rattle.ix_store.specs.StoredFacts.{facts_in, stored};
 ghost use Rattle.ix_store.specs.StoreOrder.{nowhere};
 ghost use Rattle.ix_outcomes.specs.OverGroups.{outcome_of};
 
-use crate::changed::Changed;
+use crate::changed::{Changed, some_name_changed};
+use crate::facts_after::{assumed, kept_facts};
 use crate::known::Known;
+use crate::making::{no_tables, tables_beside};
 use crate::store::Store;
+use crate::tables::Tables;
 use ix_core::{Fact, OpKind, Path, PathClaim, Profile, Program, Type_};
 use ix_facts::Landmarks;
 use ix_outcomes::Outcome;
 use ix_text::Joint;
 use std::alloc::{AllocError, Global};
 
-pub(crate) fn reached(alloc: Global, known: Known) -> Result<Store, AllocError>
+fn reached(alloc: Global, known: Known) -> Result<Store, AllocError>
     ensures { IfOk result (λ store. stored store ≡ Reached (facts_in known)) }
 {
     let known = Joint::new(alloc, known)?;
     Ok(Store { known: Some(known) })
+}
+
+/// The closed store of tables and of new facts.
+fn closed(alloc: Global, tables: &Tables, new: Vec<Fact>) -> Result<Store, AllocError>
+    requires kinds { AreOfKinds tables.now }
+    requires classes { HaveClasses new.items }
+    ensures store { IfOk result (λ store. IsStoreOf (all_facts tables.now ++ new.items) (stored store)) }
+{
+    match Known::closed(alloc, tables, new)? {
+        None => Ok(Store::unreachable()),
+        Some(known) => reached(alloc, known),
+    }
+}
+
+fn is_none(facts: &[Fact]) -> bool
+    ensures { IsTrue result ↔ (facts.now ≡ []) }
+{
+    facts.is_empty()
+}
+
+/// The closed store of new facts and of those that name no changed path; held jointly where nothing is new and nothing goes.
+fn behind(
+    alloc: Global,
+    known: &Joint<Known>,
+    changed: &Changed,
+    new: Vec<Fact>,
+) -> Result<Store, AllocError>
+    requires classes { HaveClasses new.items }
+    ensures store { IfOk result (λ store. IsStoreOf (without (is_changed changed.now) (facts_in known.now) ++ new.items) (stored store)) }
+{
+    if is_none(&new) && !some_name_changed(known.get().list().as_slice(), changed) {
+        let known = known.join()?;
+        return Ok(Store { known: Some(known) });
+    }
+    let tables = tables_beside(alloc, &known.get().tables, changed)?;
+    let store = closed(alloc, &tables, new)?;
+    Ok(store)
 }
 
 impl Store {
@@ -46,10 +87,11 @@ impl Store {
         requires classes { HaveClasses facts.now }
         ensures store { IfOk result (λ store. IsStoreOf facts.now (stored store)) }
     {
-        match Known::closed(alloc, facts)? {
-            None => Ok(Store::unreachable()),
-            Some(known) => reached(alloc, known),
-        }
+        let mut new = Vec::new(alloc);
+        new.extend_from_slice(facts)?;
+        let tables = no_tables(alloc)?;
+        let store = closed(alloc, &tables, new)?;
+        Ok(store)
     }
 
     /// The store behind an operation that is no call and touches no field. The only error is want of memory.
@@ -59,8 +101,8 @@ impl Store {
         let Some(known) = &self.known else {
             return Ok(Store::unreachable());
         };
-        let facts = known.get().after(alloc, profile, kind)?;
-        let store = Store::of_facts(alloc, &facts)?;
+        let new = known.get().after(alloc, profile, kind)?;
+        let store = behind(alloc, known, &Changed::Target(kind), new)?;
         Ok(store)
     }
 
@@ -77,8 +119,8 @@ impl Store {
         let Some(known) = &self.known else {
             return Ok(Store::unreachable());
         };
-        let facts = known.get().copy(alloc, ty, target, source)?;
-        let store = Store::of_facts(alloc, &facts)?;
+        let new = known.get().copy(alloc, ty, target, source)?;
+        let store = behind(alloc, known, &Changed::At(*target), new)?;
         Ok(store)
     }
 
@@ -89,8 +131,8 @@ impl Store {
         let Some(known) = &self.known else {
             return Ok(Store::unreachable());
         };
-        let facts = known.get().told(alloc, outcome)?;
-        let store = Store::of_facts(alloc, &facts)?;
+        let new = known.get().told(alloc, outcome)?;
+        let store = behind(alloc, known, &Changed::Nothing, new)?;
         Ok(store)
     }
 
@@ -101,8 +143,8 @@ impl Store {
         let Some(known) = &self.known else {
             return Ok(Store::unreachable());
         };
-        let facts = known.get().assume(alloc, claim, at)?;
-        let store = Store::of_facts(alloc, &facts)?;
+        let new = assumed(alloc, claim, at)?;
+        let store = behind(alloc, known, &Changed::Nothing, new)?;
         Ok(store)
     }
 
@@ -171,8 +213,7 @@ impl Store {
         let Some(known) = &self.known else {
             return Ok(Store::unreachable());
         };
-        let facts = known.get().unchanged(alloc, changed)?;
-        let store = Store::of_facts(alloc, &facts)?;
+        let store = behind(alloc, known, changed, Vec::new(alloc))?;
         Ok(store)
     }
 
@@ -196,8 +237,8 @@ impl Store {
         let Some(known) = &self.known else {
             return Ok(Store::unreachable());
         };
-        let facts = known.get().with_more(alloc, more)?;
-        let store = Store::of_facts(alloc, &facts)?;
+        let new = kept_facts(alloc, more)?;
+        let store = behind(alloc, known, &Changed::Nothing, new)?;
         Ok(store)
     }
 

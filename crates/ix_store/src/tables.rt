@@ -1,14 +1,15 @@
 //! Six tables of facts, one of each kind.
 
 use ix_fact_table::FactTable;
+use ix_text::Joint;
 
-/// The tables of the six kinds of facts.
+/// The tables of the six kinds of facts. Several stores may hold one of them jointly: a step makes those anew that it changes, and no others.
 #[derive(Drop)]
 pub(crate) struct Tables {
-    pub(crate) ranges: FactTable,
-    pub(crate) lows: FactTable,
-    pub(crate) lengths: FactTable,
-    pub(crate) differences: FactTable,
-    pub(crate) searches: FactTable,
-    pub(crate) uppers: FactTable,
+    pub(crate) ranges: Joint<FactTable>,
+    pub(crate) lows: Joint<FactTable>,
+    pub(crate) lengths: Joint<FactTable>,
+    pub(crate) differences: Joint<FactTable>,
+    pub(crate) searches: Joint<FactTable>,
+    pub(crate) uppers: Joint<FactTable>,
 }

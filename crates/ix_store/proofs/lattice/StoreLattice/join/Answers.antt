@@ -1,6 +1,6 @@
-use Rattle.std.proofs.Common.{subst}
-use Rattle.ix_facts.specs.Closure.{IsCommon}
-use Rattle.ix_store.specs.StoredFacts.{facts_in}
+use Rattle.std.specs.Prelude.{Some, refl}
+use Rattle.ix_store.specs.declared.store.Store.{Store}
+use Rattle.ix_store.specs.StoreLaws.{is_join}
 use Rattle.ix_store.proofs.JoinedStores.{first_joined, second_joined, both_joined, least_joined}
 use Rattle.ix_store.proofs.lattice.StoreLattice.join.Goals as goal
 
@@ -14,10 +14,11 @@ returns-in-None-Some c =
     let is = second_joined c.args.self.now c.args.other.now c.share-in-None-Some.result c.in-None-Some.is-0 c.share-in-None-Some.ensures.shared in
     record { least_above = least_joined c.args.self.now c.args.other.now c.share-in-None-Some.result is; joined = is }
 
-pub returns-in_ok-known-in-Some-Some : goal.returns-in_ok-known-in-Some-Some
-returns-in_ok-known-in-Some-Some c =
-    let common : IsCommon (facts_in c.in-Some-Some.known) (facts_in c.in-Some-Some.others) (facts_in c.in_ok-known-in-Some-Some.known) =
-    subst (λ k. IsCommon (facts_in k) (facts_in c.in-Some-Some.others) (facts_in c.in_ok-known-in-Some-Some.known)) c.get.ensures
-    (subst (λ k. IsCommon (facts_in c.get.result.now) (facts_in k) (facts_in c.in_ok-known-in-Some-Some.known)) c.get-in-Some-Some.ensures c.in_ok-known-in-Some-Some.ensures.common) in
-    let is = both_joined c.args.self.now c.args.other.now c.in-Some-Some.known c.in-Some-Some.others c.in_ok-known-in-Some-Some.known c.reached.result c.in-Some-Some.is-0 c.in-Some-Some.is-1 common c.reached.ensures in
-    record { least_above = least_joined c.args.self.now c.args.other.now c.reached.result is; joined = is }
+pub returns-in_ok-common-in-Some-Some : goal.returns-in_ok-common-in-Some-Some
+returns-in_ok-common-in-Some-Some c =
+    let first = c.in-Some-Some.known in
+    let second = c.in-Some-Some.others in
+    let common = c.in_ok-common-in-Some-Some.common in
+    let joined : Store = record { known = Some common } in
+    let is = both_joined c.args.self.now c.args.other.now joined first second common c.in-Some-Some.is-0 c.in-Some-Some.is-1 c.in_ok-common-in-Some-Some.ensures.common refl in
+    record { least_above = is_join c.args.self.now c.args.other.now joined is; joined = is }

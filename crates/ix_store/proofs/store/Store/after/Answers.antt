@@ -1,14 +1,19 @@
-use Rattle.std.proofs.Common.{◌≡◌, sym, subst}
-use Rattle.ix_facts.specs.Stores.{Reached, IsStoreOf, IsAfter, operated}
+use Rattle.std.proofs.Common.{◌≡◌, ◌++◌, subst}
+use Rattle.ix_facts.specs.After.{of_target}
+use Rattle.ix_facts.specs.Forget.{without}
+use Rattle.ix_facts.specs.Stores.{Reached, operated}
 use Rattle.ix_after.specs.SameFacts.{AreSame}
 use Rattle.ix_store.specs.StoredFacts.{facts_in, stored}
-use Rattle.ix_store.proofs.SameStores.{same_store}
+use Rattle.ix_store.proofs.BehindRules.{given_by}
 use Rattle.ix_store.proofs.store.Store.after.Goals as goal
 
 pub returns : goal.returns
 returns c =
     let i = c.in-Some.is in
-    let is : stored c.args.self.now ≡ Reached (facts_in c.in-Some.known) = cc in
-    let same : AreSame c.in_ok-facts.facts.items (operated c.args.profile c.args.kind.now (facts_in c.in-Some.known)) = subst (λ l. AreSame c.in_ok-facts.facts.items (operated c.args.profile c.args.kind.now (facts_in l))) c.get.ensures c.in_ok-facts.ensures.facts in
-    let made : IsStoreOf c.in_ok-facts.facts.items (stored c.in_ok-store.store) = subst (λ l. IsStoreOf l (stored c.in_ok-store.store)) c.deref.ensures.value c.in_ok-store.ensures.store in
-    record { after = subst (λ s. IsAfter c.args.profile c.args.kind.now s (stored c.in_ok-store.store)) (sym is) (same_store c.in_ok-facts.facts.items (operated c.args.profile c.args.kind.now (facts_in c.in-Some.known)) (stored c.in_ok-store.store) same made) }
+    let kind = c.args.kind.now in
+    let rule = operated c.args.profile kind in
+    let known = c.in-Some.known in
+    let new = c.in_ok-new.new.items in
+    let is : stored c.args.self.now ≡ Reached (facts_in known) = cc in
+    let same : AreSame (without (of_target kind) (facts_in known) ++ new) (rule (facts_in known)) = subst (λ k. AreSame (without (of_target kind) (facts_in k) ++ new) (rule (facts_in k))) c.get.ensures c.in_ok-new.ensures.facts in
+    record { after = given_by rule (stored c.args.self.now) (stored c.in_ok-store.store) (facts_in known) (without (of_target kind) (facts_in known) ++ new) is same c.in_ok-store.ensures.store }

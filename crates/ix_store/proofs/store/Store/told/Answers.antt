@@ -1,15 +1,18 @@
-use Rattle.std.proofs.Common.{◌≡◌, sym, subst}
-use Rattle.ix_facts.specs.Stores.{Reached, IsStoreOf, IsTold, with_outcome}
+use Rattle.std.proofs.Common.{◌≡◌, ◌++◌, sym, subst}
+use Rattle.ix_facts.specs.Stores.{Reached, with_outcome}
 use Rattle.ix_after.specs.SameFacts.{AreSame}
 use Rattle.ix_outcomes.specs.OverGroups.{outcome_of}
 use Rattle.ix_store.specs.StoredFacts.{facts_in, stored}
-use Rattle.ix_store.proofs.SameStores.{same_store}
+use Rattle.ix_store.proofs.BehindRules.{given_by}
+use Rattle.ix_store.proofs.PartsWithout.{none_dropped}
 use Rattle.ix_store.proofs.store.Store.told.Goals as goal
 
 pub returns : goal.returns
 returns c =
     let i = c.in-Some.is in
-    let is : stored c.args.self.now ≡ Reached (facts_in c.in-Some.known) = cc in
-    let same : AreSame c.in_ok-facts.facts.items (with_outcome (outcome_of c.args.outcome.now) (facts_in c.in-Some.known)) = subst (λ l. AreSame c.in_ok-facts.facts.items (with_outcome (outcome_of c.args.outcome.now) (facts_in l))) c.get.ensures c.in_ok-facts.ensures.facts in
-    let made : IsStoreOf c.in_ok-facts.facts.items (stored c.in_ok-store.store) = subst (λ l. IsStoreOf l (stored c.in_ok-store.store)) c.deref.ensures.value c.in_ok-store.ensures.store in
-    record { after = subst (λ s. IsTold (outcome_of c.args.outcome.now) s (stored c.in_ok-store.store)) (sym is) (same_store c.in_ok-facts.facts.items (with_outcome (outcome_of c.args.outcome.now) (facts_in c.in-Some.known)) (stored c.in_ok-store.store) same made) }
+    let rule = with_outcome (outcome_of c.args.outcome.now) in
+    let known = c.in-Some.known in
+    let new = c.in_ok-new.new.items in
+    let is : stored c.args.self.now ≡ Reached (facts_in known) = cc in
+    let same : AreSame (facts_in known ++ new) (rule (facts_in known)) = subst (λ k. AreSame (facts_in k ++ new) (rule (facts_in k))) c.get.ensures c.in_ok-new.ensures.facts in
+    record { after = given_by rule (stored c.args.self.now) (stored c.in_ok-store.store) (facts_in known) _ is (subst (λ l. AreSame (l ++ new) (rule (facts_in known))) (sym (none_dropped (facts_in known))) same) c.in_ok-store.ensures.store }

@@ -1,0 +1,27 @@
+use Rattle.std.proofs.Common.{◌≡◌, ◌++◌, sym, subst, ap, ◌∙◌}
+use Rattle.std.proofs.lemmas.List.{append_assoc}
+use Rattle.ix_facts.specs.Systems.{HaveClasses}
+use Rattle.ix_closure.specs.Saturated.{IsSaturated}
+use Rattle.ix_store.specs.AllTables.{all_facts}
+use Rattle.ix_store.proofs.ClassesAfter.{app_have}
+use Rattle.ix_store.proofs.SmallNumbers.{all_classes}
+use Rattle.ix_store.proofs.closed.added.Goals as goal
+
+pub more_that_follows-requires : goal.more_that_follows-requires
+more_that_follows-requires c =
+    let tables = c.args.tables.now in
+    record { classes = subst HaveClasses (sym (c.deref-2.ensures.value ∙ (c.in_ok-facts.ensures ∙ ap (λ l. all_facts tables ++ l) c.deref.ensures.value))) (app_have (all_facts tables) c.args.new.items (all_classes tables) c.requires.classes) }
+
+pub returns-clause-saturated : goal.returns-clause-saturated
+returns-clause-saturated c =
+    let known = all_facts c.args.tables.now in
+    let new = c.args.new.items in
+    let more = c.in_ok-more.more.items in
+    let facts : c.deref-2.result.now ≡ known ++ new = c.deref-2.ensures.value ∙ (c.in_ok-facts.ensures ∙ ap (λ l. known ++ l) c.deref.ensures.value) in
+    let added : (known ++ new) ++ more ≡ known ++ c.extend_from_slice.new.self.items =
+    append_assoc known new more ∙ ap (λ l. known ++ l) (sym (c.in_ok-extend_from_slice.ensures.items ∙ ap (λ l. new ++ l) c.deref-3.ensures.value)) in
+    subst (IsSaturated (known ++ new)) added (subst (λ l. IsSaturated l (l ++ more)) facts c.in_ok-more.ensures.saturated)
+
+pub returns-clause-classes : goal.returns-clause-classes
+returns-clause-classes c =
+    subst HaveClasses (sym (c.in_ok-extend_from_slice.ensures.items ∙ ap (λ l. c.args.new.items ++ l) c.deref-3.ensures.value)) (app_have c.args.new.items c.in_ok-more.more.items c.requires.classes c.in_ok-more.ensures.classes)

@@ -1,0 +1,21 @@
+use Rattle.std.proofs.Common.{◌≡◌, ◌++◌, sym, subst, ap, ◌∙◌}
+use Rattle.ix_facts.specs.Closure.{kept}
+use Rattle.ix_facts.specs.Stores.{Reached, with_facts}
+use Rattle.ix_facts.specs.Systems.{HaveClasses}
+use Rattle.ix_after.proofs.Members.{same_equal}
+use Rattle.ix_store.specs.StoredFacts.{facts_in, stored}
+use Rattle.ix_store.proofs.BehindRules.{given_by}
+use Rattle.ix_store.proofs.ClassesAfter.{kept_have}
+use Rattle.ix_store.proofs.PartsWithout.{none_dropped}
+use Rattle.ix_store.proofs.store.Store.add.Goals as goal
+
+pub behind-requires : goal.behind-requires
+behind-requires c = record { classes = subst HaveClasses (sym c.in_ok-new.ensures.facts) (kept_have c.args.more.now c.requires.classes) }
+
+pub returns : goal.returns
+returns c =
+    let i = c.in-Some.is in
+    let known = facts_in c.in-Some.known in
+    let is : stored c.args.self.now ≡ Reached known = cc in
+    record { after = given_by (with_facts c.args.more.now) (stored c.args.self.now) (stored c.in_ok-store.store) known _ is
+        (same_equal _ (known ++ kept c.args.more.now) (ap (λ l. l ++ c.in_ok-new.new.items) (none_dropped known) ∙ ap (λ l. known ++ l) c.in_ok-new.ensures.facts)) c.in_ok-store.ensures.store }

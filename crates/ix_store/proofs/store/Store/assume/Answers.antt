@@ -1,0 +1,18 @@
+use Rattle.std.proofs.Common.{◌≡◌, ◌++◌, ap, ◌∙◌}
+use Rattle.ix_facts.specs.Assume.{claim_facts}
+use Rattle.ix_facts.specs.Closure.{kept}
+use Rattle.ix_facts.specs.Stores.{Reached, with_facts}
+use Rattle.ix_after.proofs.Members.{same_equal}
+use Rattle.ix_store.specs.StoredFacts.{facts_in, stored}
+use Rattle.ix_store.proofs.BehindRules.{given_by}
+use Rattle.ix_store.proofs.PartsWithout.{none_dropped}
+use Rattle.ix_store.proofs.store.Store.assume.Goals as goal
+
+pub returns : goal.returns
+returns c =
+    let i = c.in-Some.is in
+    let known = facts_in c.in-Some.known in
+    let told = claim_facts c.args.claim.now c.args.at.now in
+    let is : stored c.args.self.now ≡ Reached known = cc in
+    record { after = given_by (with_facts told) (stored c.args.self.now) (stored c.in_ok-store.store) known _ is
+        (same_equal _ (known ++ kept told) (ap (λ l. l ++ c.in_ok-new.new.items) (none_dropped known) ∙ ap (λ l. known ++ l) c.in_ok-new.ensures.facts)) c.in_ok-store.ensures.store }
