@@ -1,5 +1,5 @@
 -- What an int is at least in the closing list is -1, 0 or 1.
-use Rattle.std.specs.Prelude.{◌≡◌, ℤ, pos, negsuc, ◌≤ℤ◌, int_le, List, [], ◌∷◌, ◌++◌}
+use Rattle.std.specs.Prelude.{pos, negsuc, ◌≤ℤ◌, int_le, List, ◌++◌}
 use Rattle.std.specs.Int.{int_min}
 use Rattle.std.proofs.Common.{arith, sym, subst, ⊎_elim}
 use Rattle.std.proofs.lemmas.Int.{ints, clamps}

@@ -1,5 +1,5 @@
 -- The arrays that are listed are those of which the facts say that they have a length, each of which has its own.
-use Rattle.std.specs.Prelude.{◌≡◌, ◌⊎◌, List, [], ◌∷◌, ◌++◌, refl}
+use Rattle.std.specs.Prelude.{◌⊎◌, List, [], ◌∷◌, ◌++◌, refl}
 use Rattle.std.proofs.Common.{inl, inr, sym, subst, ⊎_elim}
 use Rattle.ix_core.specs.declared.fact.Path.{Path}
 use Rattle.ix_core.specs.declared.fact.Fact.{Fact}

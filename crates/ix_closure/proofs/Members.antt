@@ -1,5 +1,5 @@
 -- Members of the lists of which the closing list is made.
-use Rattle.std.specs.Prelude.{◌≡◌, Bool, true, false, List, [], ◌∷◌, ◌++◌, refl}
+use Rattle.std.specs.Prelude.{◌≡◌, Bool, true, false, List, [], ◌∷◌, refl}
 use Rattle.std.proofs.Common.{inl, inr, sym, ◌∙◌, subst, ⊎_elim}
 use Rattle.std.proofs.lemmas.Bool.{false≢true}
 use Rattle.ix_core.specs.declared.fact.Path.{Path}

@@ -1,7 +1,7 @@
 -- Each fact of the list that closing makes follows from the facts.
-use Rattle.std.specs.Prelude.{◌≡◌, ◌⊎◌, Bool, true, false, ℤ, pos, negsuc, ◌≤ℤ◌, int_le, List, [], ◌∷◌, ◌++◌, refl}
+use Rattle.std.specs.Prelude.{◌≡◌, ◌⊎◌, Bool, true, false, ℤ, pos, negsuc, ◌≤ℤ◌, int_le, List, ◌++◌, refl}
 use Rattle.std.specs.Int.{int_min}
-use Rattle.std.proofs.Common.{arith, inl, inr, ap, sym, ◌∙◌, subst, ⊎_elim}
+use Rattle.std.proofs.Common.{arith, inl, inr, sym, ◌∙◌, subst, ⊎_elim}
 use Rattle.std.proofs.lemmas.Int.{ints, clamps}
 use Rattle.ix_core.specs.declared.fact.Path.{Path}
 use Rattle.ix_core.specs.declared.fact.PathOff.TheVariants.{Plus}
@@ -12,7 +12,7 @@ use Rattle.ix_facts.specs.Bounds.{range_high}
 use Rattle.ix_facts.specs.Facts.{IsIn}
 use Rattle.ix_facts.specs.Closure.{Follows}
 use Rattle.ix_facts.specs.Closure as closure
-use Rattle.ix_facts.specs.Exact.{if_so, each}
+use Rattle.ix_facts.specs.Exact.{each}
 use Rattle.ix_facts.specs.Kinds.{of_kind}
 use Rattle.ix_facts.specs.Systems.{Merges, IsTable}
 use Rattle.ix_facts.specs.Systems as merges

@@ -1,6 +1,6 @@
 -- What the list that closing makes of facts shows of each fact that follows from them.
-use Rattle.std.specs.Prelude.{◌≡◌, ◌⊎◌, Bool, true, false, ◌||◌, ℤ, pos, negsuc, ◌≤ℤ◌, int_le, List, [], ◌∷◌, ◌++◌, refl}
-use Rattle.std.specs.Int.{int_min, int_max}
+use Rattle.std.specs.Prelude.{◌≡◌, ◌⊎◌, true, ℤ, pos, negsuc, ◌≤ℤ◌, int_le, List, refl}
+use Rattle.std.specs.Int.{int_min}
 use Rattle.std.proofs.Common.{arith, inl, inr, ap, sym, ◌∙◌, subst, ⊎_elim}
 use Rattle.std.proofs.lemmas.Int.{ints, clamps}
 use Rattle.ix_core.specs.declared.fact.Path.{Path}

@@ -1,5 +1,5 @@
 -- All that follows from facts, as a list: the facts, what holds along arrays of one length, searches and negative answers, and classes of ints.
-use Rattle.std.specs.Prelude.{ℤ, pos, negsuc, int_le, List, [], ◌∷◌, ◌++◌}
+use Rattle.std.specs.Prelude.{pos, negsuc, int_le, List, [], ◌∷◌, ◌++◌}
 use Rattle.std.specs.Int.{int_min}
 use Rattle.ix_core.specs.declared.fact.Path.{Path}
 use Rattle.ix_core.specs.declared.fact.Fact.{Fact}

@@ -1,4 +1,4 @@
-use Rattle.std.proofs.Common.{◌≡◌, ◌++◌, sym, subst}
+use Rattle.std.proofs.Common.{sym, subst}
 use Rattle.ix_facts.specs.declared.kind.Kind.TheVariants as kind
 use Rattle.ix_facts.specs.Kinds.{of_kind}
 use Rattle.ix_facts.specs.Systems.{HaveClasses, IsTable}

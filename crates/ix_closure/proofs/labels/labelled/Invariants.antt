@@ -1,4 +1,4 @@
-use Rattle.std.proofs.Common.{◌≡◌, ◌++◌, [], drop}
+use Rattle.std.proofs.Common.{◌≡◌, ◌++◌, drop}
 use Rattle.ix_closure.specs.Listed.{labels_of}
 use Rattle.ix_closure.proofs.labels.labelled.Given as goal
 

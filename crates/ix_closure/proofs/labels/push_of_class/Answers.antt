@@ -1,9 +1,7 @@
-use Rattle.std.proofs.Common.{◌≡◌, ◌++◌, ap, ◌∙◌, sym, subst}
+use Rattle.std.proofs.Common.{◌≡◌, ◌++◌, ap, ◌∙◌, subst}
 use Rattle.std.specs.Prelude.{OnOk}
-use Rattle.ix_core.specs.declared.fact.Path.{Path}
 use Rattle.ix_closure.specs.Classes.{root_of}
-use Rattle.ix_closure.specs.Listed.{said_of, over_class, labels_of}
-use Rattle.ix_closure.specs.Saturated.{of_class}
+use Rattle.ix_closure.specs.Listed.{over_class}
 use Rattle.ix_closure.proofs.OverLabels.{over_labels}
 use Rattle.ix_closure.proofs.labels.push_of_class.Goals as goal
 

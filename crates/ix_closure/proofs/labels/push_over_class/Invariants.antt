@@ -1,4 +1,4 @@
-use Rattle.std.proofs.Common.{◌≡◌, ◌++◌, [], drop}
+use Rattle.std.proofs.Common.{◌≡◌, ◌++◌, drop}
 use Rattle.ix_closure.specs.Listed.{over_class}
 use Rattle.ix_closure.proofs.labels.push_over_class.Given as goal
 

@@ -1,4 +1,4 @@
-use Rattle.std.proofs.Common.{◌≡◌, ◌++◌, [], drop}
+use Rattle.std.proofs.Common.{◌≡◌, ◌++◌, drop}
 use Rattle.ix_facts.specs.Exact.{each_path}
 use Rattle.ix_core.specs.declared.fact.Fact.TheVariants.{Same}
 use Rattle.ix_closure.specs.Saturated.{of_class}

@@ -1,4 +1,4 @@
-use Rattle.std.proofs.Common.{◌≡◌, ◌++◌, [], drop}
+use Rattle.std.proofs.Common.{◌≡◌, ◌++◌, drop}
 use Rattle.ix_facts.specs.Exact.{each}
 use Rattle.ix_closure.specs.Saturated.{class_of}
 use Rattle.ix_closure.proofs.searches.push_classes.Given as goal
