@@ -22,7 +22,7 @@ fn is_end(fact: &Fact) -> bool
 pub(crate) fn all_ends(alloc: Global, facts: &[Fact]) -> Result<Vec<Fact>, AllocError>
     ensures { IfOk result (λ ends. ends.items ≡ ends_in facts.now) }
 {
-    let mut ends = Vec::new(alloc);
+    let mut ends = Vec::with_capacity(alloc, facts.len())?;
     for fact in facts {
         if is_end(fact) {
             ends.push(*fact)?;
