@@ -117,11 +117,7 @@ impl FactTable {
 
     /// The table with more facts, of which those of its kind count; none where it says all of these already, so that no copy of it is needed. What an int is at
     /// least has to be -1, 0 or 1.
-    pub fn with_more(
-        &self,
-        alloc: Global,
-        new: &[Fact],
-    ) -> Result<Option<FactTable>, AllocError>
+    pub fn with_more(&self, alloc: Global, new: &[Fact]) -> Result<Option<FactTable>, AllocError>
         requires classes { HaveClasses new.now }
         ensures none { IfOk result (λ more. IsNone more ↔ SaysAll (facts_of self.now) (of_kind (table_kind self.now) new.now)) }
         ensures same { IfOk result (λ more. IfNone more (IsTable (facts_of self.now ++ of_kind (table_kind self.now) new.now) (facts_of self.now))) }

@@ -1,15 +1,13 @@
 -- The test whether facts say a fact is right: so facts that are closed by the test are closed.
 use Rattle.std.specs.Prelude.{◌≡◌, ◌⊎◌, Bool, true, false, ◌||◌, ◌&&◌, List, [], ◌∷◌, refl}
-use Rattle.std.proofs.Common.{inl, inr, ap, sym, ◌∙◌, subst, ⊎_elim}
+use Rattle.std.proofs.Common.{inl, inr, subst, ⊎_elim}
 use Rattle.std.proofs.lemmas.Bool.{false≢true}
 use Rattle.ix_core.specs.declared.fact.Fact.{Fact}
 use Rattle.ix_facts.specs.Facts.{IsIn, Covers, is_default, in_orders}
 use Rattle.ix_facts.specs.Closure.{Said, Closed}
 use Rattle.ix_facts.proofs.SaidLaws.{default_is, is_a_default}
-use Rattle.ix_facts.proofs.Tests.{by_test}
-use Rattle.ix_fact_table.specs.FactOrder.{fact_cmp, at_key, key_equal}
+use Rattle.ix_fact_table.specs.FactOrder.{at_key, key_equal}
 use Rattle.ix_fact_table.specs.MeetLaws.{covers_key, strong_covers, covers_strong}
-use Rattle.ix_fact_table.specs.Walks.{is_as_strong}
 use Rattle.ix_store.specs.ClosedFacts.{covers, some_covers, is_said, AreClosed}
 
 both_true : (a b : Bool) → (a && b) ≡ true → (a ≡ true) × (b ≡ true)

@@ -3,7 +3,7 @@ use Rattle.std.specs.Prelude.{◌≡◌, Some, None, Result, Ok, Err, IfOk}
 use Rattle.std.specs.declared.alloc.AllocError.{AllocError}
 use Rattle.ix_lattice.specs.Lattice.{IsJoin}
 use Rattle.ix_facts.specs.Closure.{IsCommon}
-use Rattle.ix_facts.specs.Stores.{Stored, Reached, SayTheSame, IsJoined, left, right, both}
+use Rattle.ix_facts.specs.Stores.{Stored, SayTheSame, IsJoined, left, right, both}
 use Rattle.ix_facts.proofs.StoreLaws.{below_itself}
 use Rattle.ix_store.specs.declared.known.Known.{Known}
 use Rattle.ix_store.specs.declared.store.Store.{Store}

@@ -1,6 +1,4 @@
 -- Closed facts of which no range is empty are the store of themselves.
-use Rattle.std.specs.Prelude.{List}
-use Rattle.ix_core.specs.declared.fact.Fact.{Fact}
 use Rattle.ix_facts.specs.Closure.{IsClosedOf, given}
 use Rattle.ix_facts.specs.Stores.{IsStoreOf, Reached, reached}
 use Rattle.ix_fact_table.specs.FactTables.{facts_of}

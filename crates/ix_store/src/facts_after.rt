@@ -123,11 +123,7 @@ impl Known {
 }
 
 /// The new facts where a claim of the path is assumed.
-pub(crate) fn assumed(
-    alloc: Global,
-    claim: &PathClaim,
-    at: &Path,
-) -> Result<Vec<Fact>, AllocError>
+pub(crate) fn assumed(alloc: Global, claim: &PathClaim, at: &Path) -> Result<Vec<Fact>, AllocError>
     ensures facts { IfOk result (λ new. new.items ≡ kept (claims.claim_facts claim.now at.now)) }
     ensures classes { IfOk result (λ new. HaveClasses new.items) }
 {

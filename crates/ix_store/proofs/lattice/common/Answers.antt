@@ -10,13 +10,17 @@ returns-then-says_all c =
     let first = c.args.first.now in
     let second = c.args.second.now in
     let is : c.in_ok-known.known ≡ second = c.in_ok-known.ensures in
-    record { common = subst (λ k. IsCommon (facts_in first) (facts_in second) (facts_in k)) (sym is)
-        (second_common (facts_in first) (facts_in second) (c.says_all.ensures.below.0 c.if-says_all.true) (λ f i. (may second.tables f i).tells)) }
+    record {
+      common = subst (λ k. IsCommon (facts_in first) (facts_in second) (facts_in k)) (sym is)
+          (second_common (facts_in first) (facts_in second) (c.says_all.ensures.below.0 c.if-says_all.true) (λ f i. (may second.tables f i).tells));
+    }
 
 pub returns-then-says_all-2 : goal.returns-then-says_all-2
 returns-then-says_all-2 c =
     let first = c.args.first.now in
     let second = c.args.second.now in
     let is : c.in_ok-known-2.known ≡ first = c.in_ok-known-2.ensures in
-    record { common = subst (λ k. IsCommon (facts_in first) (facts_in second) (facts_in k)) (sym is)
-        (first_common (facts_in first) (facts_in second) (c.says_all-2.ensures.below.0 c.if-says_all-2.true) (λ f i. (may first.tables f i).tells)) }
+    record {
+      common = subst (λ k. IsCommon (facts_in first) (facts_in second) (facts_in k)) (sym is)
+          (first_common (facts_in first) (facts_in second) (c.says_all-2.ensures.below.0 c.if-says_all-2.true) (λ f i. (may first.tables f i).tells));
+    }

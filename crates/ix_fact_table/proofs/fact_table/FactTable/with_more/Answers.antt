@@ -1,4 +1,4 @@
-use Rattle.std.specs.Prelude.{◌≡◌, true, false, refl}
+use Rattle.std.specs.Prelude.{◌≡◌, true, refl}
 use Rattle.std.proofs.Common.{sym, subst, ◌∙◌}
 use Rattle.std.proofs.lemmas.Bool.{false≢true}
 use Rattle.ix_facts.specs.Kinds.{of_kind}

@@ -17,5 +17,7 @@ returns c =
     let i = c.in-Some.is in
     let known = facts_in c.in-Some.known in
     let is : stored c.args.self.now ≡ Reached known = cc in
-    record { after = given_by (with_facts c.args.more.now) (stored c.args.self.now) (stored c.in_ok-store.store) known _ is
-        (same_equal _ (known ++ kept c.args.more.now) (ap (λ l. l ++ c.in_ok-new.new.items) (none_dropped known) ∙ ap (λ l. known ++ l) c.in_ok-new.ensures.facts)) c.in_ok-store.ensures.store }
+    record {
+      after = given_by (with_facts c.args.more.now) (stored c.args.self.now) (stored c.in_ok-store.store) known _ is
+          (same_equal _ (known ++ kept c.args.more.now) (ap (λ l. l ++ c.in_ok-new.new.items) (none_dropped known) ∙ ap (λ l. known ++ l) c.in_ok-new.ensures.facts)) c.in_ok-store.ensures.store;
+    }

@@ -14,5 +14,7 @@ returns c =
     let known = facts_in c.in-Some.known in
     let told = claim_facts c.args.claim.now c.args.at.now in
     let is : stored c.args.self.now ≡ Reached known = cc in
-    record { after = given_by (with_facts told) (stored c.args.self.now) (stored c.in_ok-store.store) known _ is
-        (same_equal _ (known ++ kept told) (ap (λ l. l ++ c.in_ok-new.new.items) (none_dropped known) ∙ ap (λ l. known ++ l) c.in_ok-new.ensures.facts)) c.in_ok-store.ensures.store }
+    record {
+      after = given_by (with_facts told) (stored c.args.self.now) (stored c.in_ok-store.store) known _ is
+          (same_equal _ (known ++ kept told) (ap (λ l. l ++ c.in_ok-new.new.items) (none_dropped known) ∙ ap (λ l. known ++ l) c.in_ok-new.ensures.facts)) c.in_ok-store.ensures.store;
+    }
