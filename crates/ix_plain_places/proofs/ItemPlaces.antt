@@ -1,5 +1,5 @@
 -- What holds of the places of items, one behind the other.
-use Rattle.std.proofs.Common.{◌≡◌, ℕ, List, [], ◌∷◌, ◌++◌, Ok, Err, Result, sym, subst}
+use Rattle.std.proofs.Common.{ℕ, List, [], ◌∷◌, ◌++◌, sym, subst}
 use Rattle.std.specs.List.{AllByRecursion}
 use Rattle.ix_text.specs.declared.span.Span.{Span}
 use Rattle.ix_core.specs.declared.code.Block.{Block}
@@ -10,7 +10,7 @@ use Rattle.ix_core.specs.declared.code.Item.{Item}
 use Rattle.ix_core.specs.declared.code.Item.TheVariants as item
 use Rattle.ix_core.specs.declared.op.OpKind.{OpKind}
 use Rattle.ix_core.specs.declared.op.Test.{Test}
-use Rattle.ix_core.specs.Code.{Code, End, item_code, cond_code, items_code, block_code}
+use Rattle.ix_core.specs.Code.{Code, End, item_code, cond_code, items_code}
 use Rattle.ix_core.proofs.Translated.{item_code-If, item_code-Loop, cond_code-Compare, cond_code-Truth, cond_code-Both, cond_code-Either, cond_code-Opposite}
 use Rattle.ix_plain.specs.Parts.{done}
 use Rattle.ix_code_places.specs.CodePlaces.{CodePlaces, AskedPlaces, KindPlaces, TestPlaces}

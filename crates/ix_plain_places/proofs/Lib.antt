@@ -1,2 +1,4 @@
 pub mod ItemPlaces
 pub mod ExpressionPlaces
+pub mod StatementPlaces
+pub mod ProgramPlaces
