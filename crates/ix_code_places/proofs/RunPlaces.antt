@@ -19,7 +19,7 @@ use Rattle.ix_core.specs.Safe.{Input, start, state_after}
 use Rattle.ix_core.specs.Tables.{Tables, tables_of, method_at, no_method, body_of}
 use Rattle.ix_core.specs.Tasks.{Tasks, Empty, Run, Ask, Decide, DecideTruth, Head, Again, Out, code_then}
 use Rattle.ix_code_places.specs.CodePlaces.{CodePlaces, AskedPlaces, MethodPlaces, ProgramPlaces}
-use Rattle.ix_code_places.specs.EndingPlaces.{EndingPlace}
+use Rattle.ix_code_places.specs.EndingPlaces.{EndingPlace, EndPlace}
 use Rattle.ix_code_places.proofs.TaskPlaces.{TaskPlaces, then_places, followed_places, behind_places, turn_places}
 
 -- What holds of a place also holds of where it starts.
@@ -153,14 +153,10 @@ module _ (P : Span → Type 0) (Q : ℕ → Type 0) (starts : (span : Span) → 
   BelowPlaces [] = Unit {0}
   BelowPlaces (waiting ∷ below) = TaskPlaces P waiting.frame.tasks × BelowPlaces below
 
-  abbrev pub EndPlace : Option Ending → Type 0
-  EndPlace None = Unit {0}
-  EndPlace (Some ending) = EndingPlace Q ending
-
   pub record StatePlaces (state : State) : Type 0 where
     pub now : TaskPlaces P state.now.tasks
     pub below : BelowPlaces state.below
-    pub ended : EndPlace state.ended
+    pub ended : EndPlace Q state.ended
 
   stopped_places : (ending : Ending) (state : State) → StatePlaces state → EndingPlace Q ending → StatePlaces (machine.stopped ending state)
   stopped_places ending state s e = record { now = s.now; below = s.below; ended = e }
@@ -215,6 +211,6 @@ module _ (P : Span → Type 0) (Q : ℕ → Type 0) (starts : (span : Span) → 
   start_places program method inputs all = record { now = then_places P (body_of (method_at program method)) Empty (body_places program.methods method all) tt; below = tt; ended = tt }
 
   -- a run that has stopped stopped at a place of the program
-  pub run_stops_at : (limits : Limits) (program : Program) (method : ℕ) (inputs : List Input) (steps : ℕ) → ProgramPlaces P program → EndPlace (state_after program limits method inputs steps).ended
+  pub run_stops_at : (limits : Limits) (program : Program) (method : ℕ) (inputs : List Input) (steps : ℕ) → ProgramPlaces P program → EndPlace Q (state_after program limits method inputs steps).ended
   run_stops_at limits program method inputs steps all =
       (run_places limits (tables_of program) (λ number. body_places program.methods number all) steps (start program method inputs) (start_places program method inputs all)).ended

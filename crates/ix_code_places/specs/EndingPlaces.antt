@@ -1,5 +1,5 @@
 -- What holds of the place where a run stops.
-use Rattle.std.specs.Prelude.{ℕ}
+use Rattle.std.specs.Prelude.{ℕ, Option, Some, None}
 use Rattle.ix_core.specs.Machine.{Ending}
 use Rattle.ix_core.specs.Machine as ending
 
@@ -13,3 +13,8 @@ EndingPlace P (ending.ZeroDivisor at) = P at
 EndingPlace P (ending.Thrown name at) = P at
 EndingPlace P (ending.HeapFull at) = P at
 EndingPlace P (ending.FrameFull at) = P at
+
+-- It is so where a run has stopped, if it has.
+abbrev pub EndPlace : (ℕ → Type 0) → Option Ending → Type 0
+EndPlace P None = Unit {0}
+EndPlace P (Some how) = EndingPlace P how
