@@ -1,0 +1,4 @@
+mod FlowPlaces
+mod PointPlaces
+mod TextPlaces
+pub mod ListedErrors
