@@ -1,4 +1,5 @@
 -- What holds of each place that a program names: of its operations, of their parts and arguments, of tests, of statements that end a method, and of methods.
+use Rattle.std.specs.Prelude.{ℕ, ◌≤◌}
 use Rattle.std.specs.List.{AllByRecursion}
 use Rattle.ix_text.specs.declared.span.Span.{Span}
 use Rattle.ix_core.specs.declared.op.Arg.{Arg}
@@ -57,3 +58,11 @@ module _ (P : Span → Type 0) where
 
   abbrev pub ProgramPlaces : Program → Type 0
   ProgramPlaces program = AllByRecursion MethodPlaces program.methods
+
+-- It stands in a text of so many bytes, or at its end.
+abbrev pub IsIn : ℕ → Span → Type 0
+IsIn end span = (span.from ≤ end) × (span.to ≤ end)
+
+-- So does each place that the program names.
+abbrev pub PlacesWithin : ℕ → Program → Type 0
+PlacesWithin end program = ProgramPlaces (IsIn end) program

@@ -1,5 +1,5 @@
 -- An error that the text alone gives has a place that the method names.
-use Rattle.std.proofs.Common.{◌≡◌, ◌⊎◌, inl, inr, ℕ, suc, Bool, true, false, List, [], ◌∷◌, ◌++◌, Option, Some, None}
+use Rattle.std.proofs.Common.{inl, inr, ℕ, suc, Bool, true, false, List, [], ◌∷◌, ◌++◌, Option, Some, None}
 use Rattle.std.specs.Prelude.{if◌then◌else◌, ◌==◌}
 use Rattle.std.specs.List.{AllByRecursion}
 use Rattle.ix_text.specs.declared.span.Span.{Span}
@@ -12,9 +12,10 @@ use Rattle.ix_core.specs.declared.op.Test.{Test}
 use Rattle.ix_core.specs.declared.program.Method.{Method}
 use Rattle.ix_core.specs.declared.program.Program.{Program}
 use Rattle.ix_core.specs.Code.{Code, End, Do, If, Break, Continue, Return, Throw, Loop, Condition, Known, Compare, Truth, Both, Either, Opposite}
+use Rattle.ix_core.specs.Tables.{body_of}
 use Rattle.ix_method.specs.RuleErrors.{Somewhere, SomewhereAsked, OpText, TestEscapes, TextErrors, OverridesBy, EscapesAt, this_args, this_entries, is_this, escapes_by, escapes_in}
 use Rattle.ix_code_places.specs.CodePlaces.{ArgPlaces, OpPlaces, KindPlaces, TestPlaces, CodePlaces, AskedPlaces, MethodPlaces}
-use Rattle.ix_error_places.proofs.PointPlaces.{all_got, plain_place, unproved_place, part_place}
+use Rattle.ix_errors.proofs.PointPlaces.{all_got, plain_place, unproved_place, part_place}
 
 module _ (P : Span → Type 0) where
   joined : (xs ys : List Span) → AllByRecursion P xs → AllByRecursion P ys → AllByRecursion P (xs ++ ys)
@@ -111,5 +112,5 @@ module _ (P : Span → Type 0) where
   text_place program method number error rank m either = elim either [
     | inl over ↦ overrides_place program method number method.overrides error rank m.0 over
     | inr text ↦ somewhere (λ done. OpText program method done error rank) (λ test. TestEscapes method test error rank) (P error.span)
-        (λ done o t. op_place program method done error rank o t) (λ test c t. test_place method test error rank c t) _ m.1 text
+        (λ done o t. op_place program method done error rank o t) (λ test c t. test_place method test error rank c t) (body_of method) m.1 text
   ]

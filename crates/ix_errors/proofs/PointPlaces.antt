@@ -1,12 +1,11 @@
 -- An error that a store gives at a point has a place that the point names, or that of the method.
-use Rattle.std.proofs.Common.{◌≡◌, ◌⊎◌, inl, inr, ℕ, zero, suc, List, [], ◌∷◌, Option, Some, None, slice_get, unwrap_or, sym, subst}
+use Rattle.std.proofs.Common.{◌≡◌, inl, inr, ℕ, zero, suc, List, [], ◌∷◌, Option, Some, None, slice_get, unwrap_or, sym, subst}
 use Rattle.std.specs.List.{AllByRecursion}
 use Rattle.ix_text.specs.declared.span.Span.{Span}
 use Rattle.ix_core.specs.declared.claim.Claim.{Claim}
 use Rattle.ix_core.specs.declared.claim.Name.{Name}
 use Rattle.ix_core.specs.declared.error.Error.{Error}
 use Rattle.ix_core.specs.declared.error.Subject.{Subject}
-use Rattle.ix_core.specs.declared.op.Arg.{Arg}
 use Rattle.ix_core.specs.declared.op.CallOp.{CallOp}
 use Rattle.ix_core.specs.declared.op.Op.{Op}
 use Rattle.ix_core.specs.declared.op.OpKind.{OpKind}
@@ -18,7 +17,7 @@ use Rattle.ix_flow.specs.Flow.{Point, Doing, Returning, Ending}
 use Rattle.ix_method.specs.RuleErrors.{AssignClaim, KindErrors, PointErrors}
 use Rattle.ix_method.specs.SignErrors.{Unproved, plain, part, ArgumentClaim}
 use Rattle.ix_code_places.specs.CodePlaces.{ArgPlaces, CallPlaces, OpPlaces, KindPlaces}
-use Rattle.ix_error_places.proofs.FlowPlaces.{PointPlaces}
+use Rattle.ix_errors.proofs.FlowPlaces.{PointPlaces}
 
 pub all_got : {A : Type 0} (P : A → Type 0) (xs : List A) (k : ℕ) (x : A) → AllByRecursion P xs → slice_get xs k ≡ Some x → P x
 all_got P [] k x all got = cc

@@ -1,4 +1,0 @@
-mod FlowPlaces
-mod PointPlaces
-mod TextPlaces
-pub mod ListedErrors
