@@ -1,0 +1,5 @@
+pub mod PiecesLie
+pub mod ErrorsStand
+pub mod TypesStand
+pub mod ExpressionsStand
+pub mod StatementsStand
