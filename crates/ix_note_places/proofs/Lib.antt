@@ -3,3 +3,4 @@ pub mod ErrorsStand
 pub mod TypesStand
 pub mod ExpressionsStand
 pub mod StatementsStand
+pub mod SourcesStand

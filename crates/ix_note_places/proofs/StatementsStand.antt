@@ -152,6 +152,6 @@ module _ (end : ℕ) where
       (λ x y e. subst (λ layer. KindIs (roll-StmtKind layer)) e (kind_rolled (λ k. k.0) (λ s. s.0) (λ s. s.1) y))
       (λ x y e. subst (λ layer. StmtIs (roll-Stmt layer)) e (stmt_rolled (λ k. k.0) (λ s. s.0) (λ s. s.1) (λ k. k.1) y))
 
-  pub body_stands : (ss : List Stmt) → AllLie end (map stmt_piece ss) → (s : Scope) → Stand end ((all_told (map telling ss)).notes s)
+  pub body_stands : (ss : List Stmt) → AllByRecursion (StmtNodes (InText end)) ss → (s : Scope) → Stand end ((all_told (map telling ss)).notes s)
   body_stands [] h s = none
   body_stands (x ∷ ss) h s = then_stand (telling x) (all_told (map telling ss)) (statement_stands x h.0) (body_stands ss h.1) s
