@@ -1,6 +1,6 @@
 -- Notes whose errors stand in a text of so many bytes: lists of them, and each rule at its place.
 use Rattle.std.proofs.Common.{ℕ, Bool, true, false, List, [], ◌∷◌, ◌++◌, Option, Some, None}
-use Rattle.std.specs.Prelude.{not, ◌&&◌, ◌==◌, is_some}
+use Rattle.std.specs.Prelude.{not, is_some}
 use Rattle.ix_text.specs.declared.span.Span.{Span}
 use Rattle.ix_core.specs.declared.claim.Type_.{Type_}
 use Rattle.ix_meaning.specs.declared.note.Meaning.{Meaning}

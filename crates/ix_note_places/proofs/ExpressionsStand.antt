@@ -1,5 +1,5 @@
 -- Errors on expressions stand where these are laid out.
-use Rattle.std.proofs.Common.{ℕ, Bool, true, false, List, [], ◌∷◌, ◌++◌, map, length, drop, Option, Some, None, sym, subst}
+use Rattle.std.proofs.Common.{ℕ, Bool, true, false, List, [], ◌∷◌, ◌++◌, map, drop, Option, Some, None, sym, subst}
 use Rattle.std.specs.Prelude.{if◌then◌else◌, codes, bytes_eq, not, ◌&&◌, is_some}
 use Rattle.ix_text.specs.declared.span.Span.{Span}
 use Rattle.ix_core.specs.declared.claim.Base.TheVariants as base
@@ -20,11 +20,11 @@ use Rattle.ix_meaning.specs.declared.members.Field.{Field}
 use Rattle.ix_meaning.specs.declared.note.Meaning.TheVariants.{MethodNamed, ClassNamed, LengthOf}
 use Rattle.ix_meaning.specs.declared.note.Note.TheVariants.{Use}
 use Rattle.ix_meaning.specs.declared.note.Rule.TheVariants as rule
-use Rattle.ix_meaning.specs.Annotated.{given, names_nothing, written}
-use Rattle.ix_meaning.specs.Members.{World, Callee, field_named, method_named, constructor_params}
+use Rattle.ix_meaning.specs.Annotated.{names_nothing}
+use Rattle.ix_meaning.specs.Members.{Callee, field_named, method_named, constructor_params}
 use Rattle.ix_meaning.specs.Rules as rules
 use Rattle.ix_meaning.specs.Scope.{Scope, Known, meant, is_pending}
-use Rattle.ix_meaning.specs.Types.{int, boolean, Need, of, need_like, is_reference, element, element_in, Judged, judged, type_note, typed, wrong}
+use Rattle.ix_meaning.specs.Types.{int, boolean, Need, of, need_like, is_reference, element, element_in, Judged, judged, wrong}
 use Rattle.ix_meaning.specs.Values as values
 use Rattle.ix_meaning.specs.Values.{Reading, KindReading, Filling, Object, no_object, of_class, value, reading, kind_reading, filling, check, null_at, fitted, as_object, valued, valued_and_assigned}
 use Rattle.ix_node_places.specs.EachNode.{InText}

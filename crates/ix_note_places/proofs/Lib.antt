@@ -4,3 +4,5 @@ pub mod TypesStand
 pub mod ExpressionsStand
 pub mod StatementsStand
 pub mod SourcesStand
+pub mod LimitsStand
+pub mod RefusalsStand

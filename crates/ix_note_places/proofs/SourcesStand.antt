@@ -19,15 +19,15 @@ use Rattle.ix_meaning.specs.declared.members.Field.{Field}
 use Rattle.ix_meaning.specs.declared.members.Signature.{Signature}
 use Rattle.ix_meaning.specs.declared.note.Meaning.TheVariants.{ClassNamed}
 use Rattle.ix_meaning.specs.declared.note.Rule.TheVariants as rule
-use Rattle.ix_meaning.specs.Annotated.{given, aimed, variable, static_field, names_nothing, target_before, of_method, of_result}
-use Rattle.ix_meaning.specs.Classes.{parents, is_cyclic}
+use Rattle.ix_meaning.specs.Annotated.{aimed, variable, static_field, names_nothing, target_before, of_method, of_result}
+use Rattle.ix_meaning.specs.Classes.{parents}
 use Rattle.ix_meaning.specs.Members.{World, world, methods, field_of, signature, constructor_params}
 use Rattle.ix_meaning.specs.Scope.{Scope, annot_names}
 use Rattle.ix_meaning.specs.Source as source
 use Rattle.ix_meaning.specs.Source.{Place}
 use Rattle.ix_meaning.specs.Types.{wrong_if}
 use Rattle.ix_meaning.specs.Values.{reading, arguments, given_to}
-use Rattle.ix_node_places.specs.EachNode.{InText, IfSome, AnnotNodes, TypeNodes, DeclNodes, ArgsNodes, MethodNodes, MemberNodes, ClassNodes, SourceNodes}
+use Rattle.ix_node_places.specs.EachNode.{InText, IfSome, TypeNodes, DeclNodes, ArgsNodes, MethodNodes, MemberNodes, ClassNodes, SourceNodes}
 use Rattle.ix_note_places.proofs.ErrorsStand.{Stand, none, both, used, is_wrong, if_wrong}
 use Rattle.ix_note_places.proofs.TypesStand.{AnnotsStand, some_stand, given_stand, declaration_stands}
 use Rattle.ix_note_places.proofs.ExpressionsStand.{ReadingsStand, arguments_stand, given_to_stand, expression_stands}

@@ -21,12 +21,12 @@ use Rattle.ix_meaning.specs.Bodies.{Telling, telling, kind_telling, all_told, al
 use Rattle.ix_meaning.specs.Scope.{Scope}
 use Rattle.ix_meaning.specs.Types.{Need, boolean, of, printed}
 use Rattle.ix_meaning.specs.Values.{reading}
-use Rattle.ix_node_places.specs.EachNode.{InText, IfSome, InitNodes, ExprNodes, StmtNodes, DeclNodes}
+use Rattle.ix_node_places.specs.EachNode.{InText, IfSome, InitNodes, StmtNodes, DeclNodes}
 use Rattle.ix_node_places.proofs.PlacedNodes.{locals_nodes}
 use Rattle.ix_note_places.proofs.PiecesLie.{Lies, AllLie, row_lies, all_parted}
 use Rattle.ix_note_places.proofs.ErrorsStand.{Stand, none, both, if_wrong, without_value}
-use Rattle.ix_note_places.proofs.TypesStand.{AnnotsStand, TypeStands, annots_stand, type_stands, declaration_stands}
-use Rattle.ix_note_places.proofs.ExpressionsStand.{FillingStands, check_stands, expression_stands, initialiser_stands}
+use Rattle.ix_note_places.proofs.TypesStand.{declaration_stands}
+use Rattle.ix_note_places.proofs.ExpressionsStand.{check_stands, expression_stands, initialiser_stands}
 
 -- ---- declarations of variables
 

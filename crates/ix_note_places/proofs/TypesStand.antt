@@ -4,12 +4,11 @@ use Rattle.std.specs.List.{AllByRecursion}
 use Rattle.std.specs.Prelude.{Result, Ok, Err, filter, if◌then◌else◌}
 use Rattle.ix_text.specs.declared.span.Span.{Span}
 use Rattle.ix_core.specs.declared.claim.Claim.{Claim}
-use Rattle.ix_core.specs.declared.claim.Type_.{Type_}
 use Rattle.ix_tree.specs.declared.annot.Annot.{Annot}
 use Rattle.ix_tree.specs.declared.annot.BaseTree.{BaseTree}
 use Rattle.ix_tree.specs.declared.annot.BaseTree.TheVariants as tree
 use Rattle.ix_tree.specs.declared.annot.TypeTree.{TypeTree}
-use Rattle.ix_tree.specs.Placed.{annot_piece, base_pieces, type_piece}
+use Rattle.ix_tree.specs.Placed.{annot_piece, base_pieces}
 use Rattle.ix_annot.specs.Named.{Names}
 use Rattle.ix_annot.specs.declared.scope.AnnotError.{AnnotError}
 use Rattle.ix_annot.specs.declared.scope.Claims.{Claims}
@@ -17,7 +16,7 @@ use Rattle.ix_annot.specs.declared.scope.Target.{Target}
 use Rattle.ix_annot.specs.Expansion.{expanded}
 use Rattle.ix_meaning.specs.declared.note.Meaning.TheVariants.{ClassNamed}
 use Rattle.ix_meaning.specs.declared.note.Rule.TheVariants as rule
-use Rattle.ix_meaning.specs.Annotated.{given, errors_from, aimed, names_nothing, written, based, class_use, declaration}
+use Rattle.ix_meaning.specs.Annotated.{given, errors_from, aimed, written, based, class_use, declaration}
 use Rattle.ix_node_places.specs.EachNode.{InText, AnnotNodes, TypeNodes}
 use Rattle.ix_note_places.proofs.PiecesLie.{AllLie, row_lies, all_parted}
 use Rattle.ix_note_places.proofs.ErrorsStand.{Stand, none, both, used, is_wrong}
