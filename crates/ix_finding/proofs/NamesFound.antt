@@ -1,6 +1,7 @@
 -- What is found of a source's names, and that nothing else is.
 use Rattle.std.proofs.Common.{◌≡◌, inl, inr, ℕ, min, List, [], Option, Some, None, Result, Ok, Err, refl, sym, ap, subst, ◌∙◌, arith}
 use Rattle.ix_tree.specs.declared.decl.Unit.{Unit as Source}
+use Rattle.ix_tree.specs.Placed.{Placed}
 use Rattle.ix_meaning.specs.declared.note.NameError.{NameError}
 use Rattle.ix_meaning.specs.declared.note.NameErrors.TheVariants as refusal
 use Rattle.ix_meaning.specs.declared.note.Which.{Which}
@@ -11,10 +12,11 @@ use Rattle.ix_lower.specs.declared.source.LowerError.{LowerError}
 use Rattle.ix_lower.specs.declared.source.LowerError.TheVariants as lowering
 use Rattle.ix_plain.specs.Program.{program}
 use Rattle.ix_name_report.specs.Texts.{limit_name}
+use Rattle.ix_note_places.proofs.RefusalsStand.{refusal_within}
 use Rattle.ix_name_report.proofs.OneList.{one_list, none_listed}
 use Rattle.ix_finding.specs.Findings.{IsPlaced, HasFormed}
 use Rattle.ix_meaning.specs.declared.note.NameErrors.{NameErrors}
-use Rattle.ix_finding.specs.Found.{Finding, Past, Misnamed, Whole, FoundIn, passes_limit, misnames, inherits, too_big, named, of_limit, of_name_errors, of_lower_error}
+use Rattle.ix_finding.specs.Found.{Finding, Past, Misnamed, Whole, FoundIn, passes_limit, misnames, inherits, too_big, named, of_limit, of_name_errors, of_method_limit, of_lower_error}
 
 not_none : (o : Option Passed) (p : Passed) → o ≡ None → o ≡ Some p → ⊥
 not_none o p none some = cc
@@ -48,11 +50,11 @@ accepted_only end source made _ accepts good (too_big p also is) = absurd (not_b
 accepted_only end source made _ accepts good (named other also is) = ap (λ p. Whole p) (same_program (program (names source) source.classes) made other good is)
 
 -- a limit of a method
-big_only : (end : ℕ) (source : Source) (q : Passed) (other : Finding) → Accepts source → program (names source) source.classes ≡ Err q → FoundIn end source other → of_limit end q ≡ other
+big_only : (end : ℕ) (source : Source) (q : Passed) (other : Finding) → Accepts source → program (names source) source.classes ≡ Err q → FoundIn end source other → of_method_limit end q ≡ other
 big_only end source q _ accepts bad (passes_limit p is) = absurd (not_none (limit source.classes) p accepts.within is)
 big_only end source q _ accepts bad (misnames errors refused) = absurd (no_list source errors refused accepts.no_errors)
 big_only end source q _ accepts bad (inherits p none no_errors is) = absurd (not_none (inheritance_limit source.classes) p accepts.few_inherited is)
-big_only end source q _ accepts bad (too_big p also is) = ap (of_limit end) (same_limit (program (names source) source.classes) q p bad is)
+big_only end source q _ accepts bad (too_big p also is) = ap (of_method_limit end) (same_limit (program (names source) source.classes) q p bad is)
 big_only end source q _ accepts bad (named made also is) = absurd (not_both (program (names source) source.classes) made q is bad)
 
 pub unlowered_found : (end : ℕ) (source : Source) (why : LowerError) (finding : Finding) → Accepts source
@@ -98,22 +100,22 @@ passes : (o : Option Passed) (which : Which) (place : ℕ) → IsPassed o (refus
 passes None which place h = absurd h
 passes (Some p) which place h = record { p = p; is = refl; which_is = cc; place_is = cc }
 
-shown : (end : ℕ) (o : Option Passed) (which : Which) (place : ℕ) (h : Passes o which place) → of_limit end h.p ≡ Past (min place end) (limit_name which)
-shown end o which place h = ap (λ n. Past (min n end) (limit_name h.p.which)) h.place_is ∙ ap (λ w. Past (min place end) (limit_name w)) h.which_is
+shown : (o : Option Passed) (which : Which) (place : ℕ) (h : Passes o which place) → of_limit h.p ≡ Past place (limit_name which)
+shown o which place h = ap (λ n. Past n (limit_name h.p.which)) h.place_is ∙ ap (λ w. Past place (limit_name w)) h.which_is
 
-pub limit_found : (end : ℕ) (source : Source) (which : Which) (place : ℕ) → Refuses source (refusal.Limit which place) → FoundIn end source (Past (min place end) (limit_name which))
+pub limit_found : (end : ℕ) (source : Source) (which : Which) (place : ℕ) → Refuses source (refusal.Limit which place) → FoundIn end source (Past place (limit_name which))
 limit_found end source which place (inl h) =
     let q = passes (limit source.classes) which place h in
-    subst (λ f. FoundIn end source f) (shown end (limit source.classes) which place q) (passes_limit q.p q.is)
+    subst (λ f. FoundIn end source f) (shown (limit source.classes) which place q) (passes_limit q.p q.is)
 limit_found end source which place (inr (none, no_errors, h)) =
     let q = passes (inheritance_limit source.classes) which place h in
-    subst (λ f. FoundIn end source f) (shown end (inheritance_limit source.classes) which place q) (inherits q.p none no_errors q.is)
+    subst (λ f. FoundIn end source f) (shown (inheritance_limit source.classes) which place q) (inherits q.p none no_errors q.is)
 
 pub limit_only : (end : ℕ) (source : Source) (which : Which) (place : ℕ) (other : Finding) → Refuses source (refusal.Limit which place) → FoundIn end source other
-    → Past (min place end) (limit_name which) ≡ other
+    → Past place (limit_name which) ≡ other
 limit_only end source which place _ (inl h) (passes_limit p is) =
     let q = passes (limit source.classes) which place h in
-    sym (shown end (limit source.classes) which place q) ∙ ap (of_limit end) (same_passed (limit source.classes) q.p p q.is is)
+    sym (shown (limit source.classes) which place q) ∙ ap of_limit (same_passed (limit source.classes) q.p p q.is is)
 limit_only end source which place _ (inl h) (misnames errors refused) =
     let q = passes (limit source.classes) which place h in absurd (not_none (limit source.classes) q.p refused.within q.is)
 limit_only end source which place _ (inl h) (inherits p none no_errors is) =
@@ -126,7 +128,7 @@ limit_only end source which place _ (inr (none, no_errors, h)) (passes_limit p i
 limit_only end source which place _ (inr (none, no_errors, h)) (misnames errors refused) = absurd (no_list source errors refused no_errors)
 limit_only end source which place _ (inr (none, no_errors, h)) (inherits p also none_too is) =
     let q = passes (inheritance_limit source.classes) which place h in
-    sym (shown end (inheritance_limit source.classes) which place q) ∙ ap (of_limit end) (same_passed (inheritance_limit source.classes) q.p p q.is is)
+    sym (shown (inheritance_limit source.classes) which place q) ∙ ap of_limit (same_passed (inheritance_limit source.classes) q.p p q.is is)
 limit_only end source which place _ (inr (none, no_errors, h)) (too_big p accepts is) =
     let q = passes (inheritance_limit source.classes) which place h in absurd (not_none (inheritance_limit source.classes) q.p accepts.few_inherited q.is)
 limit_only end source which place _ (inr (none, no_errors, h)) (named made accepts is) =
@@ -134,24 +136,26 @@ limit_only end source which place _ (inr (none, no_errors, h)) (named made accep
 
 -- ---- names that are not resolved
 
-pub refused_found : (end : ℕ) (source : Source) (why : NameErrors) (finding : Finding) → Refuses source why → Some finding ≡ of_name_errors end why → FoundIn end source finding
+pub refused_found : (end : ℕ) (source : Source) (why : NameErrors) (finding : Finding) → Refuses source why → Some finding ≡ of_name_errors why → FoundIn end source finding
 refused_found end source (refusal.Errors errors) finding refused is = subst (λ f. FoundIn end source f) (sym (some_is finding (Misnamed errors) is)) (misnames errors refused)
 refused_found end source (refusal.Limit which place) finding refused is =
-    subst (λ f. FoundIn end source f) (sym (some_is finding (Past (min place end) (limit_name which)) is)) (limit_found end source which place refused)
+    subst (λ f. FoundIn end source f) (sym (some_is finding (Past place (limit_name which)) is)) (limit_found end source which place refused)
 refused_found end source refusal.Memory finding refused is = cc
 
-pub refused_only : (end : ℕ) (source : Source) (why : NameErrors) (finding other : Finding) → Refuses source why → Some finding ≡ of_name_errors end why → FoundIn end source other → finding ≡ other
+pub refused_only : (end : ℕ) (source : Source) (why : NameErrors) (finding other : Finding) → Refuses source why → Some finding ≡ of_name_errors why → FoundIn end source other → finding ≡ other
 refused_only end source (refusal.Errors errors) finding other refused is found = some_is finding (Misnamed errors) is ∙ errors_only end source errors other refused found
 refused_only end source (refusal.Limit which place) finding other refused is found =
-    some_is finding (Past (min place end) (limit_name which)) is ∙ limit_only end source which place other refused found
+    some_is finding (Past place (limit_name which)) is ∙ limit_only end source which place other refused found
 refused_only end source refusal.Memory finding other refused is found = cc
 
-pub refused_placed : (end : ℕ) (why : NameErrors) (finding : Finding) → Some finding ≡ of_name_errors end why → IsPlaced end finding
-refused_placed end (refusal.Errors errors) finding is = subst (IsPlaced end) (sym (some_is finding (Misnamed errors) is)) tt
-refused_placed end (refusal.Limit which place) finding is = subst (IsPlaced end) (sym (some_is finding (Past (min place end) (limit_name which)) is)) (omega arith)
-refused_placed end refusal.Memory finding is = cc
+pub refused_placed : (end : ℕ) (source : Source) (why : NameErrors) (finding : Finding) → Placed end source → Refuses source why → Some finding ≡ of_name_errors why → IsPlaced end finding
+refused_placed end source (refusal.Errors errors) finding placed refused is =
+    subst (IsPlaced end) (sym (some_is finding (Misnamed errors) is)) (refusal_within end source (refusal.Errors errors) placed refused)
+refused_placed end source (refusal.Limit which place) finding placed refused is =
+    subst (IsPlaced end) (sym (some_is finding (Past place (limit_name which)) is)) (refusal_within end source (refusal.Limit which place) placed refused)
+refused_placed end source refusal.Memory finding placed refused is = cc
 
-pub refused_formed : (end : ℕ) (why : NameErrors) (finding : Finding) → Some finding ≡ of_name_errors end why → HasFormed finding
-refused_formed end (refusal.Errors errors) finding is = subst HasFormed (sym (some_is finding (Misnamed errors) is)) tt
-refused_formed end (refusal.Limit which place) finding is = subst HasFormed (sym (some_is finding (Past (min place end) (limit_name which)) is)) tt
-refused_formed end refusal.Memory finding is = cc
+pub refused_formed : (why : NameErrors) (finding : Finding) → Some finding ≡ of_name_errors why → HasFormed finding
+refused_formed (refusal.Errors errors) finding is = subst HasFormed (sym (some_is finding (Misnamed errors) is)) tt
+refused_formed (refusal.Limit which place) finding is = subst HasFormed (sym (some_is finding (Past place (limit_name which)) is)) tt
+refused_formed refusal.Memory finding is = cc

@@ -2,6 +2,7 @@
 use Rattle.std.specs.Prelude.{ℕ, ◌≤◌}
 use Rattle.ix_core.specs.Formed.{Formed}
 use Rattle.ix_check.specs.Judged.{CanCheck}
+use Rattle.ix_name_report.specs.Texts.{StartWithin}
 use Rattle.ix_finding.specs.declared.finding.Finding.{Finding as Seen}
 use Rattle.ix_finding.specs.declared.finding.Finding.TheVariants as code
 use Rattle.ix_finding.specs.Found.{Finding, TooLong, Broken, Past, Misnamed, Whole}
@@ -13,10 +14,11 @@ seen (code.Past at name) = Past at name.now
 seen (code.Misnamed errors) = Misnamed errors
 seen (code.Whole program) = Whole program
 
--- The place of an error or a limit is not behind the end of the text.
+-- The place of each error or limit is not behind the end of the text.
 abbrev pub IsPlaced : ℕ → Finding → Type 0
 IsPlaced end (Broken at key) = at ≤ end
 IsPlaced end (Past at name) = at ≤ end
+IsPlaced end (Misnamed errors) = StartWithin end errors
 IsPlaced end _ = Unit {0}
 
 -- The plain form of a source is formed, and one that can be checked.

@@ -53,15 +53,19 @@ of_parse_error tokens end (syntax.Syntax number) = Some (Broken (start_of (drop 
 of_parse_error tokens end (syntax.TooDeep from) = Some (Past from (codes "height"))
 of_parse_error tokens end syntax.Memory = None
 
--- a limit that is passed, in a text of that length
-abbrev pub of_limit : ℕ → Passed → Finding
-of_limit end p = Past (min p.place end) (limit_name p.which)
+-- a limit that names pass
+abbrev pub of_limit : Passed → Finding
+of_limit p = Past p.place (limit_name p.which)
 
 -- a source whose names have errors; want of memory is no finding
-abbrev pub of_name_errors : ℕ → NameErrors → Option Finding
-of_name_errors end (refusal.Errors errors) = Some (Misnamed errors)
-of_name_errors end (refusal.Limit which place) = Some (Past (min place end) (limit_name which))
-of_name_errors end refusal.Memory = None
+abbrev pub of_name_errors : NameErrors → Option Finding
+of_name_errors (refusal.Errors errors) = Some (Misnamed errors)
+of_name_errors (refusal.Limit which place) = Some (Past place (limit_name which))
+of_name_errors refusal.Memory = None
+
+-- a limit that a method passes, in a text of that length
+abbrev pub of_method_limit : ℕ → Passed → Finding
+of_method_limit end p = Past (min p.place end) (limit_name p.which)
 
 -- a source that has no plain form; want of memory is no finding
 abbrev pub of_lower_error : ℕ → LowerError → Option Finding
@@ -71,10 +75,10 @@ of_lower_error end lowering.Memory = None
 -- This is found of a source in a text of that length. The first that holds decides: a limit of the source, errors on names, the limit of inheritance, a limit of its
 -- methods' loops, slots or operations.
 pub data FoundIn (end : ℕ) (source : Source) : Finding → Type 0 where
-  passes_limit : (p : Passed) → limit source.classes ≡ Some p → FoundIn end source (of_limit end p)
+  passes_limit : (p : Passed) → limit source.classes ≡ Some p → FoundIn end source (of_limit p)
   misnames : (errors : List NameError) → IsRefused source errors → FoundIn end source (Misnamed errors)
-  inherits : (p : Passed) → limit source.classes ≡ None → name_errors source ≡ [] → inheritance_limit source.classes ≡ Some p → FoundIn end source (of_limit end p)
-  too_big : (p : Passed) → Accepts source → program (names source) source.classes ≡ Err p → FoundIn end source (of_limit end p)
+  inherits : (p : Passed) → limit source.classes ≡ None → name_errors source ≡ [] → inheritance_limit source.classes ≡ Some p → FoundIn end source (of_limit p)
+  too_big : (p : Passed) → Accepts source → program (names source) source.classes ≡ Err p → FoundIn end source (of_method_limit end p)
   named : (made : Program) → Accepts source → program (names source) source.classes ≡ Ok made → FoundIn end source (Whole made)
 
 -- This is found of the tokens of a text of that length.

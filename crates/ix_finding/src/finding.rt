@@ -5,6 +5,7 @@ ghost use Rattle.ix_lexer.specs.Spans.{InOrder};
 ghost use Rattle.ix_meaning.specs.Resolved.{Accepts, names};
 ghost use Rattle.ix_table.specs.Numbered.{shown};
 ghost use Rattle.ix_grammar.specs.Refusals.{IsWithin as TokenWithin};
+ghost use Rattle.ix_tree.specs.Placed.{Placed};
 ghost use Rattle.ix_formed.specs.Parsed.{IsParsed};
 ghost use Rattle.ix_parsed.specs.IntTokens.{HaveInts};
 ghost use Rattle.ix_finding.specs.Found as spec;
@@ -81,12 +82,12 @@ fn of_parse_error(tokens: &[Token], end: u32, why: ParseError) -> Option<Finding
 }
 
 /// What a source is whose names have errors; nothing where memory is wanting.
-fn of_name_errors(end: u32, why: NameErrors) -> Option<Finding>
-    ensures { option_map seen result ≡ spec.of_name_errors end why }
+fn of_name_errors(why: NameErrors) -> Option<Finding>
+    ensures { option_map seen result ≡ spec.of_name_errors why }
 {
     match why {
         NameErrors::Errors(errors) => Some(Finding::Misnamed(errors)),
-        NameErrors::Limit(which, place) => Some(Finding::Past(place.min(end), limit_name(which))),
+        NameErrors::Limit(which, place) => Some(Finding::Past(place, limit_name(which))),
         NameErrors::Memory => None,
     }
 }
@@ -139,6 +140,7 @@ fn of_resolved(alloc: Global, unit: &Unit, table: Table, end: u32) -> Result<Fin
 /// What a source in a text of `end` bytes is.
 fn of_unit(alloc: Global, unit: &Unit, end: u32) -> Result<Finding, AllocError>
     requires parsed { IsParsed unit.now }
+    requires stands { Placed end unit.now }
     ensures right { IfOk result (λ finding. spec.FoundIn end unit.now (seen finding)) }
     ensures only { (other : spec.Finding) → spec.FoundIn end unit.now other → IfOk result (λ finding. seen finding ≡ other) }
     ensures placed { IfOk result (λ finding. IsPlaced end (seen finding)) }
@@ -146,7 +148,7 @@ fn of_unit(alloc: Global, unit: &Unit, end: u32) -> Result<Finding, AllocError>
 {
     match resolve(alloc, unit) {
         Ok(table) => of_resolved(alloc, unit, table, end),
-        Err(why) => match of_name_errors(end, why) {
+        Err(why) => match of_name_errors(why) {
             Some(finding) => Ok(finding),
             None => Err(AllocError),
         },

@@ -8,7 +8,7 @@ pub returns-in-Some-clause-only : goal.returns-in-Some-clause-only
 returns-in-Some-clause-only c = λ other found. refused_only _ _ _ _ other c.in-Err.ensures.refused c.in-Some.ensures found
 
 pub returns-in-Some-clause-placed : goal.returns-in-Some-clause-placed
-returns-in-Some-clause-placed c = refused_placed _ _ _ c.in-Some.ensures
+returns-in-Some-clause-placed c = refused_placed _ _ _ _ c.requires.stands c.in-Err.ensures.refused c.in-Some.ensures
 
 pub returns-in-Some-clause-formed : goal.returns-in-Some-clause-formed
-returns-in-Some-clause-formed c = refused_formed _ _ _ c.in-Some.ensures
+returns-in-Some-clause-formed c = refused_formed _ _ c.in-Some.ensures
