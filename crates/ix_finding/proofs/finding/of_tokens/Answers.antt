@@ -23,8 +23,7 @@ pub returns-in-Some-clause-formed : goal.returns-in-Some-clause-formed
 returns-in-Some-clause-formed c = refusal_formed _ _ _ _ c.in-Some.ensures
 
 pub of_unit-requires : goal.of_unit-requires
-of_unit-requires c =
-    record {
-      parsed = record { parsed = parsed c.args.tokens.now c.in-Ok.unit c.requires.ints c.in-Ok.ensures.found c.in-Ok.ensures.resolvable c.args.end c.in-Ok.ensures.placed };
-      stands = c.in-Ok.ensures.placed;
-    }
+of_unit-requires c = record {
+  parsed = parsed c.args.tokens.now c.in-Ok.unit c.requires.ints c.in-Ok.ensures.found c.in-Ok.ensures.resolvable c.args.end c.in-Ok.ensures.placed;
+  stands = c.in-Ok.ensures.placed;
+}
