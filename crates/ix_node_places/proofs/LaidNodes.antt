@@ -18,6 +18,13 @@ laid_nodes end start lo hi (copy parts later) le laid =
     let up = laid_ends start (max lo laid.0) hi later laid.2 in
     (laid_nodes end start start laid.0 parts (omega (arith, up, le)) laid.1, laid_nodes end start (max lo laid.0) hi later le laid.2)
 
+-- ---- what follows of it
+
+pub nodes_more : (P Q : Span → Type 0) → ((span : Span) → P span → Q span) → (l : Layout) → EachNode P l → EachNode Q l
+nodes_more P Q more nothing all = tt
+nodes_more P Q more (node span parts later) all = (more span all.0, nodes_more P Q more parts all.1, nodes_more P Q more later all.2)
+nodes_more P Q more (copy parts later) all = (nodes_more P Q more parts all.0, nodes_more P Q more later all.1)
+
 -- ---- parts of layouts
 
 module _ (P : Span → Type 0) where

@@ -63,12 +63,12 @@ pub(crate) fn misnamed_reply(
     bytes: &[u8],
     errors: &[NameError],
 ) -> Result<Reply, AllocError>
-    requires { length bytes.now ≤ 1048576 }
+    requires short { length bytes.now ≤ 1048576 }
+    requires within { names_text.StartWithin (length bytes.now) errors.now }
     ensures { IfOk result (λ reply. shown reply ≡ out_answer Status.Rejected (names_text.misnamed name.now bytes.now errors.now)) }
 {
     let lines = LineMap::new(alloc, bytes)?;
-    let end = bytes.len() as u32;
-    let out = misnamed(alloc, &lines, end, name, errors)?;
+    let out = misnamed(alloc, &lines, name, errors)?;
     Ok(on_out(alloc, Status::Rejected, out))
 }
 
