@@ -1,5 +1,6 @@
 -- Notes whose errors stand in a text of so many bytes: lists of them, and each rule at its place.
 use Rattle.std.proofs.Common.{ℕ, Bool, true, false, List, [], ◌∷◌, ◌++◌, Option, Some, None}
+use Rattle.std.specs.List.{AllByRecursion}
 use Rattle.std.specs.Prelude.{not, is_some}
 use Rattle.ix_text.specs.declared.span.Span.{Span}
 use Rattle.ix_core.specs.declared.claim.Type_.{Type_}
@@ -10,9 +11,11 @@ use Rattle.ix_meaning.specs.declared.note.Rule.{Rule}
 use Rattle.ix_meaning.specs.declared.note.Rule.TheVariants as rule
 use Rattle.ix_meaning.specs.Members.{World}
 use Rattle.ix_meaning.specs.Rules as rules
-use Rattle.ix_node_places.specs.EachNode.{InText}
 use Rattle.ix_meaning.specs.Types.{Need, unknown, never, printed, of, is_reference, element, type_note, wrong, wrong_if}
+use Rattle.ix_node_places.specs.EachNode.{InText}
+use Rattle.ix_note_places.proofs.ListsJoin.{all_joined}
 
+-- where the note is an error, it stands in a text of so many bytes
 abbrev pub NoteStands : ℕ → Note → Type 0
 NoteStands end (Use span meaning) = Unit {0}
 NoteStands end (Typed span ty) = Unit {0}
@@ -21,23 +24,19 @@ NoteStands end (Wrong error) = InText end error.span
 NoteStands end (WrongAnnot error) = InText end error.span
 
 abbrev pub AllStand : ℕ → List Note → Type 0
-AllStand end [] = Unit {0}
-AllStand end (note ∷ notes) = NoteStands end note × AllStand end notes
+AllStand end notes = AllByRecursion (NoteStands end) notes
 
+-- a record, so that a goal says which lists are joined
 pub record Stand (end : ℕ) (notes : List Note) : Type 0 where
   pub all : AllStand end notes
 
 -- ---- lists
 
-all_both : (end : ℕ) (xs ys : List Note) → AllStand end xs → AllStand end ys → AllStand end (xs ++ ys)
-all_both end [] ys a b = b
-all_both end (x ∷ xs) ys a b = (a.0, all_both end xs ys a.1 b)
-
 pub none : {end : ℕ} → Stand end []
 none = record { all = tt }
 
 pub both : {end : ℕ} {xs ys : List Note} → Stand end xs → Stand end ys → Stand end (xs ++ ys)
-both {end} {xs} {ys} a b = record { all = all_both end xs ys a.all b.all }
+both {end} {xs} {ys} a b = record { all = all_joined (NoteStands end) xs ys a.all b.all }
 
 -- a use in front of them is no error
 pub used : {end : ℕ} {ns : List Note} (span : Span) (m : Meaning) → Stand end ns → Stand end (Use span m ∷ ns)

@@ -28,7 +28,7 @@ use Rattle.ix_meaning.specs.Types.{int, boolean, Need, of, need_like, is_referen
 use Rattle.ix_meaning.specs.Values as values
 use Rattle.ix_meaning.specs.Values.{Reading, KindReading, Filling, Object, no_object, of_class, value, reading, kind_reading, filling, check, null_at, fitted, as_object, valued, valued_and_assigned}
 use Rattle.ix_node_places.specs.EachNode.{InText}
-use Rattle.ix_note_places.proofs.PiecesLie.{Lies, AllLie, row_lies, all_parted}
+use Rattle.ix_note_places.proofs.PiecesLie.{Lies, AllLie, row_lies, pieces_parted}
 use Rattle.ix_note_places.proofs.ErrorsStand.{Stand, none, both, used, is_wrong, if_wrong, type_noted, mismatches, null_mismatches, list_mismatches, not_compared, use_noted}
 use Rattle.ix_note_places.proofs.TypesStand.{TypeStands, annots_stand, given_stand, written_stands}
 
@@ -257,8 +257,8 @@ module _ (end : ℕ) where
   -- the type of a new array
   new_type_stands : (ty : TypeTree) (size : List Layout) → Lies end (placed.new_type_piece ty size) → TypeStands end ty × AllLie end size
   new_type_stands ty size h =
-      let q = all_parted end (map annot_piece ty.annots) (base_pieces ty.base ++ size) (row_lies end (map annot_piece ty.annots ++ (base_pieces ty.base ++ size)) h.1) in
-      let r = all_parted end (base_pieces ty.base) size q.1 in
+      let q = pieces_parted end (map annot_piece ty.annots) (base_pieces ty.base ++ size) (row_lies end (map annot_piece ty.annots ++ (base_pieces ty.base ++ size)) h.1) in
+      let r = pieces_parted end (base_pieces ty.base) size q.1 in
       (record { base = r.0; annots = annots_stand end ty.annots q.0 }, r.1)
 
   module _ {K I E : Type 0} (kind : K → ExprKind) (init : I → Init) (expr : E → Expr) (init_is : (i : I) → InitIs (init i)) (expr_is : (e : E) → ExprIs (expr e)) where

@@ -1,3 +1,4 @@
+pub mod ListsJoin
 pub mod PiecesLie
 pub mod ErrorsStand
 pub mod TypesStand

@@ -24,12 +24,9 @@ use Rattle.ix_meaning.specs.Limits as limits
 use Rattle.ix_meaning.specs.Limits.{Passed, passed, past_names, past_params, past_claims_in, past_claims, past_inheritance, limit, inheritance_limit, class_names, methods_of, all_methods, method_names, param_names, declared_annots, each_annots, together, maybe, stmt_annots, body_annots, result_annots, member_annots, all_annots}
 use Rattle.ix_node_places.specs.EachNode.{InText, IfSome, TypeNodes, StmtNodes, DeclNodes, MethodNodes, MemberNodes, ClassNodes, SourceNodes}
 use Rattle.ix_node_places.proofs.PlacedNodes.{locals_nodes}
-use Rattle.ix_note_places.proofs.PiecesLie.{Lies, AllLie, row_lies, all_parted}
+use Rattle.ix_note_places.proofs.ListsJoin.{all_joined}
+use Rattle.ix_note_places.proofs.PiecesLie.{Lies, AllLie, row_lies, pieces_parted}
 use Rattle.ix_note_places.proofs.TypesStand.{AnnotsStand, type_stands}
-
-all_both : {A : Type 0} (P : A → Type 0) (xs ys : List A) → AllByRecursion P xs → AllByRecursion P ys → AllByRecursion P (xs ++ ys)
-all_both P [] ys a b = b
-all_both P (x ∷ xs) ys a b = (a.0, all_both P xs ys a.1 b)
 
 module _ (end : ℕ) where
   -- where a limit is passed, this is in the text
@@ -64,7 +61,7 @@ module _ (end : ℕ) where
 
   all_methods_stand : (ks : List ClassDecl) → AllByRecursion (ClassNodes (InText end)) ks → MethodsStand (all_methods ks)
   all_methods_stand [] h = tt
-  all_methods_stand (k ∷ ks) h = all_both (MethodNodes (InText end)) (methods_of k.members) (all_methods ks) (methods_stand k.members h.0.members) (all_methods_stand ks h.1)
+  all_methods_stand (k ∷ ks) h = all_joined (MethodNodes (InText end)) (methods_of k.members) (all_methods ks) (methods_stand k.members h.0.members) (all_methods_stand ks h.1)
 
   method_names_stand : (ms : List MethodDecl) → MethodsStand ms → NamesStand (method_names ms)
   method_names_stand [] h = tt
@@ -86,7 +83,7 @@ module _ (end : ℕ) where
   ListsStand lists = AllByRecursion (AnnotsStand end) lists
 
   lists_both : (xs ys : List (List Annot)) → ListsStand xs → ListsStand ys → ListsStand (xs ++ ys)
-  lists_both xs ys a b = all_both (AnnotsStand end) xs ys a b
+  lists_both xs ys a b = all_joined (AnnotsStand end) xs ys a b
 
   claims_in_within : (before : ℕ) (annots : List Annot) → AnnotsStand end annots → IsWithin (past_claims_in before annots)
   claims_in_within before [] h = tt
@@ -102,7 +99,7 @@ module _ (end : ℕ) where
   claims_within (annots ∷ more) h = either_within (past_claims_in 0 annots) (past_claims more) (claims_in_within 0 annots h.0) (claims_within more h.1)
 
   declared_stand : (d : LocalDecl) → DeclNodes (InText end) d → AnnotsStand end (declared_annots d)
-  declared_stand d h = all_both _ d.mods.annots d.ty.annots h.annots (type_stands end d.ty h.ty).annots
+  declared_stand d h = all_joined _ d.mods.annots d.ty.annots h.annots (type_stands end d.ty h.ty).annots
 
   each_stand : (ds : List LocalDecl) → AllByRecursion (DeclNodes (InText end)) ds → ListsStand (each_annots ds)
   each_stand [] h = tt
@@ -139,9 +136,9 @@ module _ (end : ℕ) where
     kind_layer (StmtKind-F.While c t) whole h = stmt_is t h.1.0
     kind_layer (StmtKind-F.Do t c) whole h = stmt_is t h.0
     kind_layer (StmtKind-F.For first c update t) whole h =
-        let q = all_parted end (map stmt_piece (map stmt first)) (placed.maybe expr_piece c ++ (map expr_piece update ++ stmt_piece (stmt t) ∷ [])) h in
-        let r = all_parted end (placed.maybe expr_piece c) (map expr_piece update ++ stmt_piece (stmt t) ∷ []) q.1 in
-        let u = all_parted end (map expr_piece update) (stmt_piece (stmt t) ∷ []) r.1 in
+        let q = pieces_parted end (map stmt_piece (map stmt first)) (placed.maybe expr_piece c ++ (map expr_piece update ++ stmt_piece (stmt t) ∷ [])) h in
+        let r = pieces_parted end (placed.maybe expr_piece c) (map expr_piece update ++ stmt_piece (stmt t) ∷ []) q.1 in
+        let u = pieces_parted end (map expr_piece update) (stmt_piece (stmt t) ∷ []) r.1 in
         lists_both (together (map stmt_annots (map stmt first))) (stmt_annots (stmt t)) (all_stand first q.0) (stmt_is t u.1.0)
     kind_layer StmtKind-F.Break whole h = tt
     kind_layer StmtKind-F.Continue whole h = tt
@@ -184,7 +181,7 @@ module _ (end : ℕ) where
   members_stand [] h = tt
   members_stand (member.Field d ∷ ms) h = (declared_stand d h.0, members_stand ms h.1)
   members_stand (member.Method m ∷ ms) h = (
-    all_both _ m.mods.annots (result_annots m.result) h.0.annots (result_stands m.result h.0.result),
+    all_joined _ m.mods.annots (result_annots m.result) h.0.annots (result_stands m.result h.0.result),
     lists_both (each_annots m.params) (body_annots m.body ++ member_annots ms) (each_stand m.params h.0.params)
         (lists_both (body_annots m.body) (member_annots ms) (body_stands m.body h.0.body) (members_stand ms h.1)),
   )

@@ -4,7 +4,9 @@ use Rattle.std.specs.List.{AllByRecursion}
 use Rattle.ix_tree.specs.Placed.{Layout, row}
 use Rattle.ix_node_places.specs.EachNode.{InText, EachNode}
 use Rattle.ix_node_places.proofs.LaidNodes.{nodes_first}
+use Rattle.ix_note_places.proofs.ListsJoin.{all_parted}
 
+-- each node of the layout stands in a text of so many bytes
 abbrev pub Lies : ℕ → Layout → Type 0
 Lies end layout = EachNode (InText end) layout
 
@@ -15,6 +17,5 @@ pub row_lies : (end : ℕ) (xs : List Layout) → Lies end (row xs) → AllLie e
 row_lies end [] h = tt
 row_lies end (x ∷ xs) h = let q = nodes_first (InText end) x xs h in (q.0, row_lies end xs q.1)
 
-pub all_parted : (end : ℕ) (xs ys : List Layout) → AllLie end (xs ++ ys) → AllLie end xs × AllLie end ys
-all_parted end [] ys h = (tt, h)
-all_parted end (x ∷ xs) ys h = let q = all_parted end xs ys h.1 in ((h.0, q.0), q.1)
+pub pieces_parted : (end : ℕ) (xs ys : List Layout) → AllLie end (xs ++ ys) → AllLie end xs × AllLie end ys
+pieces_parted end xs ys h = all_parted (Lies end) xs ys h

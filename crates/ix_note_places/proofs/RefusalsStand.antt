@@ -1,5 +1,5 @@
 -- A source that is refused for its names is refused at places in its text.
-use Rattle.std.proofs.Common.{◌≡◌, ◌≤◌, ℕ, Bool, true, false, List, [], ◌∷◌, ◌++◌, Option, Some, None, inl, inr, arith}
+use Rattle.std.proofs.Common.{◌≡◌, ◌≤◌, ℕ, Bool, true, false, List, [], ◌∷◌, Option, Some, None, inl, inr, arith}
 use Rattle.std.specs.List.{All, AllByRecursion, Contains, list_any}
 use Rattle.std.specs.Prelude.{if◌then◌else◌}
 use Rattle.std.proofs.lemmas.List.Elements.{All-from_recursion, All-weaker, All-contains, All-contains_itself}
@@ -18,6 +18,7 @@ use Rattle.ix_meaning.specs.Source.{notes}
 use Rattle.ix_node_places.specs.EachNode.{InText, SourceNodes}
 use Rattle.ix_node_places.proofs.PlacedNodes.{placed_nodes}
 use Rattle.ix_note_places.specs.Refusals as place
+use Rattle.ix_note_places.proofs.ListsJoin.{all_joined}
 use Rattle.ix_note_places.proofs.ErrorsStand.{AllStand}
 use Rattle.ix_note_places.proofs.LimitsStand as limits
 use Rattle.ix_note_places.proofs.LimitsStand.{limit_within, inheritance_limit_within}
@@ -52,12 +53,8 @@ firsts_stand end all (e ∷ es) h = first_or_not (firsts_stand end all es h.1) (
     first_or_not later true = later
     first_or_not later false = (h.0, later)
 
-both_stand : (end : ℕ) (xs ys : List NameError) → ErrorsStand end xs → ErrorsStand end ys → ErrorsStand end (xs ++ ys)
-both_stand end [] ys a b = b
-both_stand end (x ∷ xs) ys a b = (a.0, both_stand end xs ys a.1 b)
-
 pub derived_stand : (end : ℕ) (ns : List Note) → AllStand end ns → ErrorsStand end (derived ns)
-derived_stand end ns h = both_stand end (wrongs ns) (firsts (wrong_annots ns) (wrong_annots ns)) (wrongs_stand end ns h) (firsts_stand end (wrong_annots ns) (wrong_annots ns) (wrong_annots_stand end ns h))
+derived_stand end ns h = all_joined (λ (error : NameError). InText end error.span) (wrongs ns) (firsts (wrong_annots ns) (wrong_annots ns)) (wrongs_stand end ns h) (firsts_stand end (wrong_annots ns) (wrong_annots ns) (wrong_annots_stand end ns h))
 
 -- each error of a source whose nodes stand in a text stands there
 pub errors_stand : (end : ℕ) (unit : Source) → SourceNodes (InText end) unit → All (λ (error : NameError). InText end error.span) (name_errors unit)

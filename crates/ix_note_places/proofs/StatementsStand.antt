@@ -23,7 +23,7 @@ use Rattle.ix_meaning.specs.Types.{Need, boolean, of, printed}
 use Rattle.ix_meaning.specs.Values.{reading}
 use Rattle.ix_node_places.specs.EachNode.{InText, IfSome, InitNodes, StmtNodes, DeclNodes}
 use Rattle.ix_node_places.proofs.PlacedNodes.{locals_nodes}
-use Rattle.ix_note_places.proofs.PiecesLie.{Lies, AllLie, row_lies, all_parted}
+use Rattle.ix_note_places.proofs.PiecesLie.{Lies, AllLie, row_lies, pieces_parted}
 use Rattle.ix_note_places.proofs.ErrorsStand.{Stand, none, both, if_wrong, without_value}
 use Rattle.ix_note_places.proofs.TypesStand.{declaration_stands}
 use Rattle.ix_note_places.proofs.ExpressionsStand.{check_stands, expression_stands, initialiser_stands}
@@ -104,9 +104,9 @@ module _ (end : ℕ) where
         → AllLie end (map stmt_piece (map stmt first) ++ (placed.maybe expr_piece c ++ (map expr_piece update ++ stmt_piece (stmt turn) ∷ []))) → (s : Scope)
         → Stand end ((bodies.closed (bodies.then_told (all_told (map telling (map stmt first))) (bodies.noted_then (λ s. bodies.condition_or_none c s ++ bodies.all_run update s) (bodies.looped (telling (stmt turn)))))).notes s)
     for_stands first c update turn h s =
-        let q = all_parted end (map stmt_piece (map stmt first)) (placed.maybe expr_piece c ++ (map expr_piece update ++ stmt_piece (stmt turn) ∷ [])) h in
-        let r = all_parted end (placed.maybe expr_piece c) (map expr_piece update ++ stmt_piece (stmt turn) ∷ []) q.1 in
-        let u = all_parted end (map expr_piece update) (stmt_piece (stmt turn) ∷ []) r.1 in
+        let q = pieces_parted end (map stmt_piece (map stmt first)) (placed.maybe expr_piece c ++ (map expr_piece update ++ stmt_piece (stmt turn) ∷ [])) h in
+        let r = pieces_parted end (placed.maybe expr_piece c) (map expr_piece update ++ stmt_piece (stmt turn) ∷ []) q.1 in
+        let u = pieces_parted end (map expr_piece update) (stmt_piece (stmt turn) ∷ []) r.1 in
         let behind = bodies.after (all_told (map telling (map stmt first))) s in
         both (all_stand first q.0 s) (both (both (condition_stands c behind r.0) (all_run_stand update behind u.0)) (stmt_is turn u.1.0 (bodies.inside behind)))
 

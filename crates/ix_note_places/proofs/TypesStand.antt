@@ -18,7 +18,7 @@ use Rattle.ix_meaning.specs.declared.note.Meaning.TheVariants.{ClassNamed}
 use Rattle.ix_meaning.specs.declared.note.Rule.TheVariants as rule
 use Rattle.ix_meaning.specs.Annotated.{given, errors_from, aimed, written, based, class_use, declaration}
 use Rattle.ix_node_places.specs.EachNode.{InText, AnnotNodes, TypeNodes}
-use Rattle.ix_note_places.proofs.PiecesLie.{AllLie, row_lies, all_parted}
+use Rattle.ix_note_places.proofs.PiecesLie.{AllLie, row_lies, pieces_parted}
 use Rattle.ix_note_places.proofs.ErrorsStand.{Stand, none, both, used, is_wrong}
 
 abbrev pub AnnotsStand : ℕ → List Annot → Type 0
@@ -51,7 +51,7 @@ class_stands : {end : ℕ} (class : Option ℕ) (depth : ℕ) (claims : List Cla
 class_stands None depth claims span at = is_wrong rule.UnknownName span at
 class_stands (Some class) depth claims span at = used span (ClassNamed class) none
 
-pub base_stands : {end : ℕ} (class : List ℕ → Option ℕ) (of : BaseTree) (depth : ℕ) (claims : List Claim) → AllLie end (base_pieces of) → Stand end (based class of depth claims).notes
+base_stands : {end : ℕ} (class : List ℕ → Option ℕ) (of : BaseTree) (depth : ℕ) (claims : List Claim) → AllLie end (base_pieces of) → Stand end (based class of depth claims).notes
 base_stands class tree.Int depth claims h = none
 base_stands class tree.Boolean depth claims h = none
 base_stands class (tree.Named name) depth claims h = class_stands (class name.text) depth claims name.span h.0.0
@@ -63,7 +63,7 @@ pub record TypeStands (end : ℕ) (ty : TypeTree) : Type 0 where
 
 pub type_stands : (end : ℕ) (ty : TypeTree) → TypeNodes (InText end) ty → TypeStands end ty
 type_stands end ty h =
-    let q = all_parted end (base_pieces ty.base) (map annot_piece ty.annots) (row_lies end (base_pieces ty.base ++ map annot_piece ty.annots) h.1) in
+    let q = pieces_parted end (base_pieces ty.base) (map annot_piece ty.annots) (row_lies end (base_pieces ty.base ++ map annot_piece ty.annots) h.1) in
     record { base = q.0; annots = annots_stand end ty.annots q.1 }
 
 pub written_stands : {end : ℕ} (class : List ℕ → Option ℕ) (ty : TypeTree) (claims : List Claim) → TypeStands end ty → Stand end (written class ty claims).notes
