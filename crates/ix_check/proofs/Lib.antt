@@ -1,2 +1,3 @@
 mod FewMethods
 mod Listed
+mod ListedErrors

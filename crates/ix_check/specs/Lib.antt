@@ -2,6 +2,8 @@
 pub mod Counts
 -- What is asked of a program that is checked.
 pub mod Judged
+-- What is passed on of the places in a program.
+pub use Rattle.ix_code_places.specs.CodePlaces
 -- What is passed on of the errors.
 pub use Rattle.ix_errors.specs.MethodErrors
 -- What is passed on of the labels.

@@ -1,5 +1,7 @@
 //! The check of a whole program.
-ghost use Rattle.std.specs.Prelude.{◌≡◌, ◌+◌, ◌≤◌, [], length, IfOk};
+ghost use Rattle.std.specs.Prelude.{◌≡◌, ◌+◌, ◌≤◌, ℕ, [], length, IfOk};
+ghost use Rattle.std.specs.List.{All};
+ghost use Rattle.ix_code_places.specs.CodePlaces.{PlacesWithin};
 ghost use Rattle.ix_core.specs.Formed.{Formed};
 ghost use Rattle.ix_core.specs.Safe.{Safe};
 ghost use Rattle.ix_check.specs.Judged.{CanCheck};
@@ -59,7 +61,8 @@ fn check_with<L: Ledger>(
     check(alloc, program, profile, &mut steps)
 }
 
-/// The errors of the program in a profile, as they are listed, with a counter of its own: see `check`.
+/// The errors of the program in a profile, as they are listed, with a counter of its own: see `check`. Each starts in a text in which the places that the
+/// program names stand.
 pub fn check_program(
     alloc: Global,
     program: &Program,
@@ -69,6 +72,7 @@ pub fn check_program(
     requires can { CanCheck program.now }
     ensures errors { IfOk result (λ errors. IsErrorList (IsError program.now profile) errors.items) }
     ensures safe { IfOk result (λ errors. errors.items ≡ [] → Safe program.now profile) }
+    ensures within { (end : ℕ) → PlacesWithin end program.now → IfOk result (λ errors. All (λ error. error.span.from ≤ end) errors.items) }
 {
     check_with::<Brand>(alloc, program, profile, Blank::new(1))
 }

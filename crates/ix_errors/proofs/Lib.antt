@@ -4,3 +4,7 @@ mod Labels
 mod Whole
 mod Added
 mod Methods
+mod FlowPlaces
+mod PointPlaces
+mod TextPlaces
+pub mod ErrorPlaces

@@ -27,9 +27,9 @@ some_is a b h = cc
 
 -- what is found of the tokens of this tree is found in it
 pub tree_found : (tokens : List Token) (end : ℕ) (source : Source) (other : Finding) → ((unit : Source) → HasTree tokens unit → source ≡ unit) → ((why : ParseError) → Refused tokens why → ⊥)
-    → FoundOf tokens end other → FoundIn end source other
+    → FoundOf tokens end other → FoundIn source other
 tree_found tokens end source other one none (no_tree why refused is) = absurd (none why refused)
-tree_found tokens end source other one none (tree unit has found) = subst (λ u. FoundIn end u other) (sym (one unit has)) found
+tree_found tokens end source other one none (tree unit has found) = subst (λ u. FoundIn u other) (sym (one unit has)) found
 
 known_refusal : (tokens : List Token) (end : ℕ) (why : ParseError) (finding : Finding) → Some finding ≡ of_parse_error tokens end why → why ≢ syntax.Memory
 known_refusal tokens end (syntax.Syntax number) finding is = λ same. cc

@@ -1,5 +1,5 @@
 -- What the bytes of a file turn out to be.
-use Rattle.std.specs.Prelude.{◌≡◌, ◌≤◌, ◌<◌, min, ℕ, List, [], ◌∷◌, Option, Some, None, Ok, Err, length, drop, codes}
+use Rattle.std.specs.Prelude.{◌≡◌, ◌≤◌, ◌<◌, ℕ, List, [], ◌∷◌, Option, Some, None, Ok, Err, length, drop, codes}
 use Rattle.ix_lexer.specs.declared.token.LexError.{LexError}
 use Rattle.ix_lexer.specs.declared.token.LexError.TheVariants as lexical
 use Rattle.ix_lexer.specs.declared.token.Token.{Token}
@@ -53,34 +53,34 @@ of_parse_error tokens end (syntax.Syntax number) = Some (Broken (start_of (drop 
 of_parse_error tokens end (syntax.TooDeep from) = Some (Past from (codes "height"))
 of_parse_error tokens end syntax.Memory = None
 
--- a limit that is passed, in a text of that length
-abbrev pub of_limit : ℕ → Passed → Finding
-of_limit end p = Past (min p.place end) (limit_name p.which)
+-- a limit that is passed
+abbrev pub of_limit : Passed → Finding
+of_limit p = Past p.place (limit_name p.which)
 
 -- a source whose names have errors; want of memory is no finding
-abbrev pub of_name_errors : ℕ → NameErrors → Option Finding
-of_name_errors end (refusal.Errors errors) = Some (Misnamed errors)
-of_name_errors end (refusal.Limit which place) = Some (Past (min place end) (limit_name which))
-of_name_errors end refusal.Memory = None
+abbrev pub of_name_errors : NameErrors → Option Finding
+of_name_errors (refusal.Errors errors) = Some (Misnamed errors)
+of_name_errors (refusal.Limit which place) = Some (Past place (limit_name which))
+of_name_errors refusal.Memory = None
 
 -- a source that has no plain form; want of memory is no finding
-abbrev pub of_lower_error : ℕ → LowerError → Option Finding
-of_lower_error end (lowering.Limit which place) = Some (Past (min place end) (limit_name which))
-of_lower_error end lowering.Memory = None
+abbrev pub of_lower_error : LowerError → Option Finding
+of_lower_error (lowering.Limit which place) = Some (Past place (limit_name which))
+of_lower_error lowering.Memory = None
 
--- This is found of a source in a text of that length. The first that holds decides: a limit of the source, errors on names, the limit of inheritance, a limit of its
+-- This is found of a source. The first that holds decides: a limit of the source, errors on names, the limit of inheritance, a limit of its
 -- methods' loops, slots or operations.
-pub data FoundIn (end : ℕ) (source : Source) : Finding → Type 0 where
-  passes_limit : (p : Passed) → limit source.classes ≡ Some p → FoundIn end source (of_limit end p)
-  misnames : (errors : List NameError) → IsRefused source errors → FoundIn end source (Misnamed errors)
-  inherits : (p : Passed) → limit source.classes ≡ None → name_errors source ≡ [] → inheritance_limit source.classes ≡ Some p → FoundIn end source (of_limit end p)
-  too_big : (p : Passed) → Accepts source → program (names source) source.classes ≡ Err p → FoundIn end source (of_limit end p)
-  named : (made : Program) → Accepts source → program (names source) source.classes ≡ Ok made → FoundIn end source (Whole made)
+pub data FoundIn (source : Source) : Finding → Type 0 where
+  passes_limit : (p : Passed) → limit source.classes ≡ Some p → FoundIn source (of_limit p)
+  misnames : (errors : List NameError) → IsRefused source errors → FoundIn source (Misnamed errors)
+  inherits : (p : Passed) → limit source.classes ≡ None → name_errors source ≡ [] → inheritance_limit source.classes ≡ Some p → FoundIn source (of_limit p)
+  too_big : (p : Passed) → Accepts source → program (names source) source.classes ≡ Err p → FoundIn source (of_limit p)
+  named : (made : Program) → Accepts source → program (names source) source.classes ≡ Ok made → FoundIn source (Whole made)
 
 -- This is found of the tokens of a text of that length.
 pub data FoundOf (tokens : List Token) (end : ℕ) : Finding → Type 0 where
   no_tree : {finding : Finding} (why : ParseError) → Refused tokens why → of_parse_error tokens end why ≡ Some finding → FoundOf tokens end finding
-  tree : {finding : Finding} (source : Source) → HasTree tokens source → FoundIn end source finding → FoundOf tokens end finding
+  tree : {finding : Finding} (source : Source) → HasTree tokens source → FoundIn source finding → FoundOf tokens end finding
 
 -- This is found of the bytes of a file. The first that holds decides: too many bytes, no tokens, no tree, what is found of the tree.
 pub data Found (bytes : List ℕ) : Finding → Type 0 where

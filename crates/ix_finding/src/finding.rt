@@ -1,10 +1,11 @@
 //! What the bytes of a file turn out to be.
-ghost use Rattle.std.specs.Prelude.{◌≡◌, ◌≤◌, length, option_map, drop, IfOk};
+ghost use Rattle.std.specs.Prelude.{◌≡◌, ◌≤◌, ℕ, length, option_map, drop, IfOk};
 ghost use Rattle.ix_core.specs.Formed.{Formed};
 ghost use Rattle.ix_lexer.specs.Spans.{InOrder};
 ghost use Rattle.ix_meaning.specs.Resolved.{Accepts, names};
 ghost use Rattle.ix_table.specs.Numbered.{shown};
 ghost use Rattle.ix_grammar.specs.Refusals.{IsWithin as TokenWithin};
+ghost use Rattle.ix_tree.specs.Placed.{Placed};
 ghost use Rattle.ix_formed.specs.Parsed.{IsParsed};
 ghost use Rattle.ix_parsed.specs.IntTokens.{HaveInts};
 ghost use Rattle.ix_finding.specs.Found as spec;
@@ -81,72 +82,72 @@ fn of_parse_error(tokens: &[Token], end: u32, why: ParseError) -> Option<Finding
 }
 
 /// What a source is whose names have errors; nothing where memory is wanting.
-fn of_name_errors(end: u32, why: NameErrors) -> Option<Finding>
-    ensures { option_map seen result ≡ spec.of_name_errors end why }
+fn of_name_errors(why: NameErrors) -> Option<Finding>
+    ensures { option_map seen result ≡ spec.of_name_errors why }
 {
     match why {
         NameErrors::Errors(errors) => Some(Finding::Misnamed(errors)),
-        NameErrors::Limit(which, place) => Some(Finding::Past(place.min(end), limit_name(which))),
+        NameErrors::Limit(which, place) => Some(Finding::Past(place, limit_name(which))),
         NameErrors::Memory => None,
     }
 }
 
 /// What a source without a plain form is; nothing where memory is wanting.
-fn of_lower_error(end: u32, why: LowerError) -> Option<Finding>
-    ensures { option_map seen result ≡ spec.of_lower_error end why }
+fn of_lower_error(why: LowerError) -> Option<Finding>
+    ensures { option_map seen result ≡ spec.of_lower_error why }
 {
     match why {
-        LowerError::Limit(which, place) => Some(Finding::Past(place.min(end), limit_name(which))),
+        LowerError::Limit(which, place) => Some(Finding::Past(place, limit_name(which))),
         LowerError::Memory => None,
     }
 }
 
-/// What a source is whose names mean what the table says, in a text of `end` bytes.
+/// What a source is whose names mean what the table says.
 #[tactic(auto, using(ix_counts::proofs::FewDeclarations::few_classes, ix_counts::proofs::FewDeclarations::few_members))]
-fn of_lowered(alloc: Global, unit: &Unit, table: &Table, end: u32) -> Result<Finding, AllocError>
+fn of_lowered(alloc: Global, unit: &Unit, table: &Table) -> Result<Finding, AllocError>
     requires parsed { IsParsed unit.now }
     requires accepts { Accepts unit.now }
     requires table { shown table.now ≡ names unit.now }
-    ensures right { IfOk result (λ finding. spec.FoundIn end unit.now (seen finding)) }
-    ensures only { (other : spec.Finding) → spec.FoundIn end unit.now other → IfOk result (λ finding. seen finding ≡ other) }
-    ensures placed { IfOk result (λ finding. IsPlaced end (seen finding)) }
+    ensures right { IfOk result (λ finding. spec.FoundIn unit.now (seen finding)) }
+    ensures only { (other : spec.Finding) → spec.FoundIn unit.now other → IfOk result (λ finding. seen finding ≡ other) }
+    ensures placed { (end : ℕ) → Placed end unit.now → IfOk result (λ finding. IsPlaced end (seen finding)) }
     ensures formed { IfOk result (λ finding. HasFormed (seen finding)) }
 {
     lowered_is_few();
     lowered_locals_are_apart();
     match lower(alloc, unit, table) {
         Ok(program) => Ok(Finding::Whole(program)),
-        Err(why) => match of_lower_error(end, why) {
+        Err(why) => match of_lower_error(why) {
             Some(finding) => Ok(finding),
             None => Err(AllocError),
         },
     }
 }
 
-/// What a source without errors on names is, in a text of `end` bytes.
-fn of_resolved(alloc: Global, unit: &Unit, table: Table, end: u32) -> Result<Finding, AllocError>
+/// What a source without errors on names is.
+fn of_resolved(alloc: Global, unit: &Unit, table: Table) -> Result<Finding, AllocError>
     requires parsed { IsParsed unit.now }
     requires accepts { Accepts unit.now }
     requires table { shown table ≡ names unit.now }
-    ensures right { IfOk result (λ finding. spec.FoundIn end unit.now (seen finding)) }
-    ensures only { (other : spec.Finding) → spec.FoundIn end unit.now other → IfOk result (λ finding. seen finding ≡ other) }
-    ensures placed { IfOk result (λ finding. IsPlaced end (seen finding)) }
+    ensures right { IfOk result (λ finding. spec.FoundIn unit.now (seen finding)) }
+    ensures only { (other : spec.Finding) → spec.FoundIn unit.now other → IfOk result (λ finding. seen finding ≡ other) }
+    ensures placed { (end : ℕ) → Placed end unit.now → IfOk result (λ finding. IsPlaced end (seen finding)) }
     ensures formed { IfOk result (λ finding. HasFormed (seen finding)) }
 {
-    of_lowered(alloc, unit, &table, end)
+    of_lowered(alloc, unit, &table)
 }
 
-/// What a source in a text of `end` bytes is.
-fn of_unit(alloc: Global, unit: &Unit, end: u32) -> Result<Finding, AllocError>
+/// What a source is.
+fn of_unit(alloc: Global, unit: &Unit) -> Result<Finding, AllocError>
     requires parsed { IsParsed unit.now }
-    ensures right { IfOk result (λ finding. spec.FoundIn end unit.now (seen finding)) }
-    ensures only { (other : spec.Finding) → spec.FoundIn end unit.now other → IfOk result (λ finding. seen finding ≡ other) }
-    ensures placed { IfOk result (λ finding. IsPlaced end (seen finding)) }
+    ensures right { IfOk result (λ finding. spec.FoundIn unit.now (seen finding)) }
+    ensures only { (other : spec.Finding) → spec.FoundIn unit.now other → IfOk result (λ finding. seen finding ≡ other) }
+    ensures placed { (end : ℕ) → Placed end unit.now → IfOk result (λ finding. IsPlaced end (seen finding)) }
     ensures formed { IfOk result (λ finding. HasFormed (seen finding)) }
 {
     match resolve(alloc, unit) {
-        Ok(table) => of_resolved(alloc, unit, table, end),
-        Err(why) => match of_name_errors(end, why) {
+        Ok(table) => of_resolved(alloc, unit, table),
+        Err(why) => match of_name_errors(why) {
             Some(finding) => Ok(finding),
             None => Err(AllocError),
         },
@@ -164,7 +165,7 @@ fn of_tokens(alloc: Global, tokens: &[Token], end: u32) -> Result<Finding, Alloc
     ensures formed { IfOk result (λ finding. HasFormed (seen finding)) }
 {
     match parse(alloc, tokens, end) {
-        Ok(unit) => of_unit(alloc, &unit, end),
+        Ok(unit) => of_unit(alloc, &unit),
         Err(why) => match of_parse_error(tokens, end, why) {
             Some(finding) => Ok(finding),
             None => Err(AllocError),

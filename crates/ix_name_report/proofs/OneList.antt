@@ -1,9 +1,7 @@
 -- Of the errors on names one list alone is listed.
 use Rattle.std.proofs.Common.{zero, suc, length, slice_index_or, ◌≡◌, ℕ, ◌<◌, ◌≤◌, ◌⊎◌, inl, inr, List, [], ◌∷◌, refl, sym, ◌∙◌, ap, subst, arith, lt_irrefl}
 use Rattle.std.specs.List.{Contains, AllByRecursion}
-use Rattle.ix_text.specs.declared.span.Span.{Span}
 use Rattle.ix_meaning.specs.declared.note.NameError.{NameError}
-use Rattle.ix_meaning.specs.declared.note.Rule.{Rule}
 use Rattle.ix_meaning.specs.Listed.{order, IsBefore, Rises, IsListed}
 
 -- ---- members

@@ -1,5 +1,6 @@
 -- The texts of errors on names, as bytes. A line ends with LF, which is 10.
-use Rattle.std.specs.Prelude.{ℕ, min, List, [], ◌∷◌, ◌++◌, length, codes, decimal}
+use Rattle.std.specs.Prelude.{ℕ, ◌≤◌, List, [], ◌∷◌, ◌++◌, length, codes, decimal}
+use Rattle.std.specs.List.{All}
 use Rattle.ix_text.specs.Lines.{place}
 use Rattle.ix_meaning.specs.declared.note.NameError.{NameError}
 use Rattle.ix_meaning.specs.declared.note.Rule.{Rule}
@@ -35,10 +36,14 @@ limit_name which.Loops = codes "loops"
 limit_name which.Slots = codes "slots"
 limit_name which.Ops = codes "ops"
 
+-- Each of these errors starts in a text of so many bytes, or at its end.
+abbrev pub StartWithin : ℕ → List NameError → Type 0
+StartWithin end errors = All (λ (error : NameError). error.span.from ≤ end) errors
+
 -- `FILE:LINE:COLUMN: KEY`, with the place where the error starts in the text
 abbrev pub error_line : List ℕ → List ℕ → NameError → List ℕ
 error_line file text error =
-    file ++ codes ":" ++ decimal (place text (min error.span.from (length text))).0 ++ codes ":" ++ decimal (place text (min error.span.from (length text))).1 ++ codes ": " ++ key error.rule ++ 10 ∷ []
+    file ++ codes ":" ++ decimal (place text error.span.from).0 ++ codes ":" ++ decimal (place text error.span.from).1 ++ codes ": " ++ key error.rule ++ 10 ∷ []
 
 abbrev pub error_lines : List ℕ → List ℕ → List NameError → List ℕ
 error_lines file text [] = []

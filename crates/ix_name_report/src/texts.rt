@@ -1,6 +1,6 @@
 //! The lines of errors, and the names of limits.
 
-ghost use Rattle.std.specs.Prelude.{◌≡◌, length, IfOk, string_bytes};
+ghost use Rattle.std.specs.Prelude.{◌≡◌, ◌≤◌, length, IfOk, string_bytes};
 ghost use Rattle.ix_name_report.specs.Texts as spec;
 
 use ix_meaning::{NameError, Rule, Which};
@@ -49,33 +49,31 @@ pub fn limit_name(which: Which) -> &'static str
 fn error_line(
     alloc: Global,
     lines: &LineMap,
-    end: u32,
     file: &str,
     error: &NameError,
 ) -> Result<String, AllocError>
-    requires { end ≡ length lines.now }
+    requires { error.now.span.from ≤ length lines.now }
     ensures { IfOk result (λ text. string_bytes text ≡ spec.error_line file.now lines.now error.now) }
 {
-    let (line, column) = lines.place(error.span.from.min(end));
+    let (line, column) = lines.place(error.span.from);
     let key = key(error.rule);
     format!(in alloc; "{file}:{line}:{column}: {key}\n")
 }
 
 /// The lines of a source with errors on names: one for each of them, in their order, and one with their number. `lines` are those of the
-/// source, which has `end` bytes; an error past its end is placed at the end.
+/// source, in which each error starts.
 pub fn misnamed(
     alloc: Global,
     lines: &LineMap,
-    end: u32,
     file: &str,
     errors: &[NameError],
 ) -> Result<String, AllocError>
-    requires { end ≡ length lines.now }
+    requires { spec.StartWithin (length lines.now) errors.now }
     ensures { IfOk result (λ text. string_bytes text ≡ spec.misnamed file.now lines.now errors.now) }
 {
     let mut text = String::new(alloc);
     for error in errors {
-        text.push_str(error_line(alloc, lines, end, file, error)?.as_str())?;
+        text.push_str(error_line(alloc, lines, file, error)?.as_str())?;
     }
     let count = errors.len();
     write!(text, "rejected: {count} errors\n")?;

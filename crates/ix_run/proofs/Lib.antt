@@ -1,3 +1,4 @@
 mod Parts
 mod RunPrefixes
 mod Steps
+pub mod StartedRuns

@@ -1,5 +1,5 @@
 -- A prefix of what a run writes.
-use Rattle.std.proofs.Common.{◌≡◌, ℕ, List, ap, subst, sym, ◌∙◌}
+use Rattle.std.proofs.Common.{◌≡◌, ℕ, List, ap, subst, ◌∙◌}
 use Rattle.ix_core.specs.declared.program.Program.{Program}
 use Rattle.ix_core.specs.Machine.{Limits, State, run}
 use Rattle.ix_core.specs.Tables.{tables_of}

@@ -1,7 +1,7 @@
 -- Many steps, one at a time.
-use Rattle.std.proofs.Common.{◌≡◌, ℕ, zero, suc, ◌-◌, ◌<◌, List, [], ◌∷◌, ◌++◌, append_assoc, append-nil, Option, None, Some, option_map, is_none, false, refl, ap, sym, ◌∙◌, arith}
+use Rattle.std.proofs.Common.{◌≡◌, ℕ, zero, suc, List, [], ◌∷◌, ◌++◌, append_assoc, append-nil, Option, None, Some, option_map, is_none, false, refl, ap, sym, ◌∙◌}
 use Rattle.ix_core.specs.Heap.{Held}
-use Rattle.ix_core.specs.Machine.{Limits, State, Ending, Event, Prints, step, step_event, run, printed, printed_from, event_values}
+use Rattle.ix_core.specs.Machine.{Limits, State, Ending, step, step_event, run, printed, printed_from, event_values}
 use Rattle.ix_core.specs.Tables.{Tables}
 use Rattle.ix_run.specs.Texts.{value_line, value_lines, step_lines, printed_lines}
 

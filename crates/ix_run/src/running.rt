@@ -1,11 +1,12 @@
 //! Runs of at most a stated number of steps.
 ghost use Rattle.std.specs.Prelude.{◌≡◌, ◌≤◌, length, None, IfOk, OnOk, IsErrOf, string_bytes};
+ghost use Rattle.ix_code_places.specs.EndingPlaces.{EndPlace};
 ghost use Rattle.ix_core.specs.Machine as model;
 ghost use Rattle.ix_core.specs.Tables.{tables_of};
 ghost use Rattle.ix_machine.specs.State.{state_of, limits_of};
 ghost use Rattle.ix_outside.specs.Outside.{Rose, Took, TookPrefix};
 ghost use Rattle.ix_report.specs.Outcomes.{last_line};
-ghost use Rattle.ix_run.specs.Ends.{end_of};
+ghost use Rattle.ix_run.specs.Ends.{end_of, RunWithin};
 ghost use Rattle.ix_run.specs.Texts.{step_lines, printed_lines, run_text};
 
 use crate::lines::write_value;
@@ -71,14 +72,13 @@ fn last_line_of(
     machine: &Machine<'_>,
     program: &Program,
     lines: &LineMap,
-    end: u32,
     steps: u32,
 ) -> Result<String, AllocError>
-    requires { end ≡ length lines.now }
+    requires { EndPlace (λ at. at ≤ length lines.now) (state_of machine.now).ended }
     ensures { IfOk result (λ text. string_bytes text ≡ last_line program.now lines.now steps (state_of machine.now).ended (state_of machine.now).wrapped) }
 {
     match machine.outcome() {
-        Some(how) => outcome(alloc, program, lines, end, how, machine.wrapped()),
+        Some(how) => outcome(alloc, program, lines, how, machine.wrapped()),
         None => steps_spent(alloc, steps, machine.wrapped()),
     }
 }
@@ -97,18 +97,17 @@ fn end_in(machine: &Machine<'_>) -> RunEnd
 }
 
 /// Runs the machine for at most so many steps, and writes the values that it prints and then the line of its outcome. `lines` are those of the source of its
-/// program, which has `end` bytes. After an error, which is that of the write that was refused or want of memory for a line, the sink took a prefix of that text.
+/// program, in which the run stops. After an error, which is that of the write that was refused or want of memory for a line, the sink took a prefix of that text.
 pub fn run<K: Sink>(
     alloc: Global,
     machine: &mut Machine<'_>,
     program: &Program,
     lines: &LineMap,
-    end: u32,
     steps: u32,
     out: &mut K,
 ) -> Result<RunEnd, WriteError>
     requires program { machine.old.rows.program.now ≡ program.now }
-    requires end { end ≡ length lines.now }
+    requires within { RunWithin (length lines.now) program.now (limits_of machine.old) steps (state_of machine.old) }
     ensures ended { IfOk result (λ how. how ≡ end_of (model.run (limits_of machine.old) (tables_of program.now) steps (state_of machine.old)).ended) }
     ensures taken { OnOk result (Took (run_text program.now lines.now (limits_of machine.old) steps (state_of machine.old)) (K.taken out.old) (K.taken out.new)) }
     ensures prefix { TookPrefix (run_text program.now lines.now (limits_of machine.old) steps (state_of machine.old)) (K.taken out.old) (K.taken out.new) }
@@ -117,7 +116,7 @@ pub fn run<K: Sink>(
     ensures ok { OnOk result (K.faults out.new ≡ K.faults out.old) }
 {
     write_printed(alloc, machine, steps, out)?;
-    let Ok(line) = last_line_of(alloc, machine, program, lines, end, steps) else {
+    let Ok(line) = last_line_of(alloc, machine, program, lines, steps) else {
         return Err(WriteError::Memory);
     };
     write_all(out, line.as_bytes())?;

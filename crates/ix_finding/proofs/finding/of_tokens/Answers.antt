@@ -22,6 +22,9 @@ returns-in-Some-clause-placed c = refusal_placed _ _ _ _ c.requires.in_order c.i
 pub returns-in-Some-clause-formed : goal.returns-in-Some-clause-formed
 returns-in-Some-clause-formed c = refusal_formed _ _ _ _ c.in-Some.ensures
 
+pub returns-in-Ok-clause-placed : goal.returns-in-Ok-clause-placed
+returns-in-Ok-clause-placed c = c.of_unit.ensures.placed c.args.end c.in-Ok.ensures.placed
+
 pub of_unit-requires : goal.of_unit-requires
 of_unit-requires c =
     record { parsed = parsed c.args.tokens.now c.in-Ok.unit c.requires.ints c.in-Ok.ensures.found c.in-Ok.ensures.resolvable c.args.end c.in-Ok.ensures.placed }

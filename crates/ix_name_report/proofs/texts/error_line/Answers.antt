@@ -6,6 +6,4 @@ pub returns : goal.returns
 returns c =
     let place = c.place-line.ensures in
     let key = c.key-key.ensures in
-    let least = c.min.ensures in
-    let end = c.requires in
-    IfOk-weaker c.format.result _ _ (λ text is. is ∙ simp (append_assoc, place, key, least, end)) c.format.ensures.ok
+    IfOk-weaker c.format.result _ _ (λ text is. is ∙ simp (append_assoc, place, key)) c.format.ensures.ok

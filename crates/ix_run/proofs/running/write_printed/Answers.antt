@@ -1,9 +1,9 @@
-use Rattle.std.proofs.Common.{rules, ◌≡◌, ◌<◌, ◌-◌, refl, sym, ap, ◌∙◌, arith, None}
+use Rattle.std.proofs.Common.{rules, ◌-◌, sym, ap, ◌∙◌}
 use Rattle.ix_core.specs.Machine.{step}
 use Rattle.ix_core.specs.Tables.{tables_of}
 use Rattle.ix_machine.specs.State.{state_of, limits_of}
 use Rattle.ix_run.specs.Texts.{step_lines}
-use Rattle.ix_run.proofs.Parts.{none_written, written_more, written_same, written_all, written_prefix, written_so_far}
+use Rattle.ix_run.proofs.Parts.{written_more, written_all, written_prefix, written_so_far}
 use Rattle.ix_run.proofs.Steps.{final_stays, final_prints, printed_next, run_next, told_final}
 use Rattle.ix_run.proofs.running.write_printed.Goals as goal
 

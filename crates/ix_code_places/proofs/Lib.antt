@@ -1,0 +1,2 @@
+pub mod TaskPlaces
+pub mod RunPlaces

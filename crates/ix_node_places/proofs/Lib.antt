@@ -1,0 +1,2 @@
+pub mod LaidNodes
+pub mod PlacedNodes

@@ -1,0 +1,2 @@
+-- What holds of the place of each node of a tree.
+pub mod EachNode

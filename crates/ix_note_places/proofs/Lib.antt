@@ -1,0 +1,9 @@
+pub mod ListsJoin
+pub mod PiecesLie
+pub mod ErrorsStand
+pub mod TypesStand
+pub mod ExpressionsStand
+pub mod StatementsStand
+pub mod SourcesStand
+pub mod LimitsStand
+pub mod RefusalsStand

@@ -1,0 +1,5 @@
+pub mod ItemPlaces
+pub mod ExpressionPlaces
+pub mod StatementPlaces
+pub mod ProgramPlaces
+pub mod PlacedPrograms
