@@ -16,6 +16,33 @@ use Rattle.ix_closure.specs.Classes.{Roots}
 use Rattle.ix_closure.specs.Saturated.{of_class, pairs, along, search_of, negative_of, class_of, alike, searched, saturated}
 use Rattle.ix_closure.proofs.Members.{from_class, from_path, if_true}
 
+pub negative_class : (ranges : List Fact) (g f : Fact) → IsIn f (negative_of ranges g) → HasClass f
+negative_class ranges (Search p a) f j = subst HasClass (sym (if_true (int_le (range_high ranges p) (negsuc 0)) f (Neg p a) j).1) tt
+negative_class ranges (Rng p l h) f j = absurd j
+negative_class ranges (LenRng p l h) f j = absurd j
+negative_class ranges (Low p c) f j = absurd j
+negative_class ranges (Same a b) f j = absurd j
+negative_class ranges (IsLen p a) f j = absurd j
+negative_class ranges (Less p q c) f j = absurd j
+negative_class ranges (Sum t y z) f j = absurd j
+negative_class ranges (Neg p a) f j = absurd j
+negative_class ranges (Upper p a o c) f j = absurd j
+
+pub class_class : (g f : Fact) → IsIn f (class_of g) → HasClass f
+class_class (Rng p l h) f j =
+    let x = if_true (int_le (negsuc 0) l) f (Low p (int_min l (pos 1))) j in
+    let from : negsuc 0 ≤ℤ l = grind (arith, ints, x.0) in
+    subst HasClass (sym x.1) (record { above = omega (arith, ints, clamps, from); below = omega (arith, ints, clamps) })
+class_class (Search p a) f j = absurd j
+class_class (LenRng p l h) f j = absurd j
+class_class (Low p c) f j = absurd j
+class_class (Same a b) f j = absurd j
+class_class (IsLen p a) f j = absurd j
+class_class (Less p q c) f j = absurd j
+class_class (Sum t y z) f j = absurd j
+class_class (Neg p a) f j = absurd j
+class_class (Upper p a o c) f j = absurd j
+
 module _ (facts : List Fact) (roots : Roots) (listed : List Path) (ranges : List Fact) (have : HaveClasses facts) where
   along_class : (g f : Fact) → IsIn f (along roots listed g) → HasClass f
   along_class (LenRng a l h) f j = subst HasClass (sym (from_class roots listed (λ b. LenRng b l h) a f j).2) tt
@@ -41,33 +68,6 @@ module _ (facts : List Fact) (roots : Roots) (listed : List Path) (ranges : List
   search_class (Search p a) f j = absurd j
   search_class (Upper p a o c) f j = absurd j
 
-  negative_class : (g f : Fact) → IsIn f (negative_of ranges g) → HasClass f
-  negative_class (Search p a) f j = subst HasClass (sym (if_true (int_le (range_high ranges p) (negsuc 0)) f (Neg p a) j).1) tt
-  negative_class (Rng p l h) f j = absurd j
-  negative_class (LenRng p l h) f j = absurd j
-  negative_class (Low p c) f j = absurd j
-  negative_class (Same a b) f j = absurd j
-  negative_class (IsLen p a) f j = absurd j
-  negative_class (Less p q c) f j = absurd j
-  negative_class (Sum t y z) f j = absurd j
-  negative_class (Neg p a) f j = absurd j
-  negative_class (Upper p a o c) f j = absurd j
-
-  class_class : (g f : Fact) → IsIn f (class_of g) → HasClass f
-  class_class (Rng p l h) f j =
-      let x = if_true (int_le (negsuc 0) l) f (Low p (int_min l (pos 1))) j in
-      let from : negsuc 0 ≤ℤ l = grind (arith, ints, x.0) in
-      subst HasClass (sym x.1) (record { above = omega (arith, ints, clamps, from); below = omega (arith, ints, clamps) })
-  class_class (Search p a) f j = absurd j
-  class_class (LenRng p l h) f j = absurd j
-  class_class (Low p c) f j = absurd j
-  class_class (Same a b) f j = absurd j
-  class_class (IsLen p a) f j = absurd j
-  class_class (Less p q c) f j = absurd j
-  class_class (Sum t y z) f j = absurd j
-  class_class (Neg p a) f j = absurd j
-  class_class (Upper p a o c) f j = absurd j
-
   pair_class : (f : Fact) → IsIn f (pairs roots listed) → HasClass f
   pair_class f i = let x = from_path (λ a. of_class roots listed (Same a) a) f listed i in subst HasClass (sym (from_class roots listed (Same x.0) x.0 f x.2).2) tt
 
@@ -88,7 +88,7 @@ module _ (facts : List Fact) (roots : Roots) (listed : List Path) (ranges : List
       (λ j. searched_class f j)
       (λ j.
       ⊎_elim
-      (λ k. let x = from_each (negative_of ranges) f (searched facts roots listed) k in negative_class x.0 f x.2)
+      (λ k. let x = from_each (negative_of ranges) f (searched facts roots listed) k in negative_class ranges x.0 f x.2)
       (λ k. let x = from_each class_of f ranges k in class_class x.0 f x.2)
       (in_either f (each (negative_of ranges) (searched facts roots listed)) (each class_of ranges) j))
       (in_either f (searched facts roots listed) (each (negative_of ranges) (searched facts roots listed) ++ each class_of ranges) i)

@@ -1,44 +1,23 @@
 -- Each fact of the list that closing makes follows from the facts.
-use Rattle.std.specs.Prelude.{◌≡◌, ◌⊎◌, Bool, true, false, ℤ, pos, negsuc, ◌≤ℤ◌, int_le, List, ◌++◌, refl}
-use Rattle.std.specs.Int.{int_min}
-use Rattle.std.proofs.Common.{arith, inl, inr, sym, ◌∙◌, subst, ⊎_elim}
-use Rattle.std.proofs.lemmas.Int.{ints, clamps}
+use Rattle.std.specs.Prelude.{◌≡◌, ◌⊎◌, List, ◌++◌}
+use Rattle.std.proofs.Common.{inl, inr, sym, ◌∙◌, subst, ⊎_elim}
 use Rattle.ix_core.specs.declared.fact.Path.{Path}
-use Rattle.ix_core.specs.declared.fact.PathOff.TheVariants.{Plus}
 use Rattle.ix_core.specs.declared.fact.Fact.{Fact}
 use Rattle.ix_core.specs.declared.fact.Fact.TheVariants.{Rng, LenRng, Low, Same, IsLen, Less, Sum, Search, Neg, Upper}
 use Rattle.ix_facts.specs.declared.kind.Kind.TheVariants as kind
-use Rattle.ix_facts.specs.Bounds.{range_high}
 use Rattle.ix_facts.specs.Facts.{IsIn}
 use Rattle.ix_facts.specs.Closure.{Follows}
 use Rattle.ix_facts.specs.Closure as closure
 use Rattle.ix_facts.specs.Exact.{each}
 use Rattle.ix_facts.specs.Kinds.{of_kind}
-use Rattle.ix_facts.specs.Systems.{Merges, IsTable}
-use Rattle.ix_facts.specs.Systems as merges
+use Rattle.ix_facts.specs.Systems.{IsTable}
 use Rattle.ix_facts.proofs.FactLists.{in_either}
 use Rattle.ix_facts.proofs.SaidLaws.{from_each}
 use Rattle.ix_closure.specs.Classes.{Roots, root_of, Alike, AreClasses}
 use Rattle.ix_closure.specs.Saturated.{IsSaturated, AreListed, of_class, pairs, along, search_of, negative_of, class_of, alike, searched, saturated}
-use Rattle.ix_closure.proofs.Members.{from_class, from_kind, from_path, if_true}
-use Rattle.ix_closure.proofs.HighEnds.{stored_high}
+use Rattle.ix_closure.proofs.Members.{from_class, from_path}
+use Rattle.ix_closure.proofs.RangesMet.{follows_range, follows_negative, follows_class}
 use Rattle.ix_closure.proofs.Shown.{shows, merged}
-
-by_test : {G : Type 0} (t : Bool) → (t ≡ true → G) → (t ≡ false → G) → G
-by_test true first second = first refl
-by_test false first second = second refl
-
--- what is merged of facts that follow follows
-pub merges_follow : (facts some : List Fact) → ((f : Fact) → IsIn f some → Follows facts f) → (f : Fact) → Merges some f → Follows facts f
-merges_follow facts some k _ (merges.given f i) = k f i
-merges_follow facts some k _ (merges.weaker g f c r) = closure.weaker g f c (merges_follow facts some k g r)
-merges_follow facts some k _ (merges.any_int p) = closure.any_int p
-merges_follow facts some k _ (merges.any_size a) = closure.any_size a
-merges_follow facts some k _ (merges.met p l h m n r s) = closure.met p l h m n (merges_follow facts some k (Rng p l h) r) (merges_follow facts some k (Rng p m n) s)
-merges_follow facts some k _ (merges.len_met a l h m n r s) = closure.len_met a l h m n (merges_follow facts some k (LenRng a l h) r) (merges_follow facts some k (LenRng a m n) s)
-merges_follow facts some k _ (merges.turned a b r) = closure.turned a b (merges_follow facts some k (Same a b) r)
-merges_follow facts some k _ (merges.sum_turned t y z r) = closure.sum_turned t y z (merges_follow facts some k (Sum t y z) r)
-merges_follow facts some k _ (merges.upper_turned p a q c r) = closure.upper_turned p a q c (merges_follow facts some k (Upper p a (Plus q) c) r)
 
 -- ---- arrays that are alike to one array
 
@@ -114,60 +93,14 @@ module _ (facts : List Fact) (roots : Roots) (listed : List Path) (ranges : List
       (λ j. let x = from_each search_of f (alike facts roots listed) j in follows_search x.0 f (follows_alike x.0 x.1) x.2)
       (in_either f (alike facts roots listed) (each search_of (alike facts roots listed)) i)
 
-  follows_range : (f : Fact) → IsIn f ranges → Follows facts f
-  follows_range f i = merges_follow facts (of_kind kind.Range facts) (λ g j. closure.given g (from_kind kind.Range g facts j)) f (table.only f i)
-
-  follows_negative : (g f : Fact) → Follows facts g → IsIn f (negative_of ranges g) → Follows facts f
-  follows_negative (Search p a) f r j =
-      let x = if_true (int_le (range_high ranges p) (negsuc 0)) f (Neg p a) j in
-      let small : range_high ranges p ≤ℤ negsuc 0 = grind (arith, ints, x.0) in
-      let y = stored_high ranges p (negsuc 0) small (omega (arith, ints)) in
-      subst (Follows facts) (sym x.1) (closure.search_neg p a y.0 y.1 r (follows_range (Rng p y.0 y.1) y.2) y.3)
-  follows_negative (Rng p l h) f r j = absurd j
-  follows_negative (LenRng p l h) f r j = absurd j
-  follows_negative (Low p c) f r j = absurd j
-  follows_negative (Same a b) f r j = absurd j
-  follows_negative (IsLen p a) f r j = absurd j
-  follows_negative (Less p q c) f r j = absurd j
-  follows_negative (Sum t y z) f r j = absurd j
-  follows_negative (Neg p a) f r j = absurd j
-  follows_negative (Upper p a o c) f r j = absurd j
-
-  class_follows : (p : Path) (l h : ℤ) → Follows facts (Rng p l h) → negsuc 0 ≤ℤ l → Follows facts (Low p (int_min l (pos 1)))
-  class_follows p l h r from =
-      by_test (int_le l (pos 1))
-      (λ t.
-      let small : l ≤ℤ pos 1 = grind (arith, ints, t) in
-      let e : l ≡ int_min l (pos 1) = omega (arith, ints, clamps, small) in
-      subst (λ c. Follows facts (Low p c)) e (closure.class p l h r from small))
-      (λ t.
-      let great : pos 1 ≤ℤ l = grind (arith, ints, t) in
-      let e : pos 1 ≡ int_min l (pos 1) = omega (arith, ints, clamps, great) in
-      subst (λ c. Follows facts (Low p c)) e (closure.class_one p l h r great))
-
-  follows_class : (g f : Fact) → Follows facts g → IsIn f (class_of g) → Follows facts f
-  follows_class (Rng p l h) f r j =
-      let x = if_true (int_le (negsuc 0) l) f (Low p (int_min l (pos 1))) j in
-      let from : negsuc 0 ≤ℤ l = grind (arith, ints, x.0) in
-      subst (Follows facts) (sym x.1) (class_follows p l h r from)
-  follows_class (Search p a) f r j = absurd j
-  follows_class (LenRng p l h) f r j = absurd j
-  follows_class (Low p c) f r j = absurd j
-  follows_class (Same a b) f r j = absurd j
-  follows_class (IsLen p a) f r j = absurd j
-  follows_class (Less p q c) f r j = absurd j
-  follows_class (Sum t y z) f r j = absurd j
-  follows_class (Neg p a) f r j = absurd j
-  follows_class (Upper p a o c) f r j = absurd j
-
   follows_all : (f : Fact) → IsIn f (saturated facts roots listed ranges) → Follows facts f
   follows_all f i =
       ⊎_elim
       (λ j. follows_searched f j)
       (λ j.
       ⊎_elim
-      (λ k. let x = from_each (negative_of ranges) f (searched facts roots listed) k in follows_negative x.0 f (follows_searched x.0 x.1) x.2)
-      (λ k. let x = from_each class_of f ranges k in follows_class x.0 f (follows_range x.0 x.1) x.2)
+      (λ k. let x = from_each (negative_of ranges) f (searched facts roots listed) k in follows_negative facts ranges table x.0 f (follows_searched x.0 x.1) x.2)
+      (λ k. let x = from_each class_of f ranges k in follows_class facts ranges table x.0 f (follows_range facts ranges table x.0 x.1) x.2)
       (in_either f (each (negative_of ranges) (searched facts roots listed)) (each class_of ranges) j))
       (in_either f (searched facts roots listed) (each (negative_of ranges) (searched facts roots listed) ++ each class_of ranges) i)
 

@@ -1,15 +1,15 @@
 -- What the list that closing makes of facts shows of each fact that follows from them.
-use Rattle.std.specs.Prelude.{◌≡◌, ◌⊎◌, true, ℤ, pos, negsuc, ◌≤ℤ◌, int_le, List, refl}
+use Rattle.std.specs.Prelude.{◌≡◌, ◌⊎◌, ℤ, pos, negsuc, ◌≤ℤ◌, int_le, List, refl}
 use Rattle.std.specs.Int.{int_min}
 use Rattle.std.proofs.Common.{arith, inl, inr, ap, sym, ◌∙◌, subst, ⊎_elim}
 use Rattle.std.proofs.lemmas.Int.{ints, clamps}
 use Rattle.ix_core.specs.declared.fact.Path.{Path}
-use Rattle.ix_core.specs.declared.fact.PathOff.TheVariants.{Nothing, Plus, Minus}
+use Rattle.ix_core.specs.declared.fact.PathOff.TheVariants.{Plus}
 use Rattle.ix_core.specs.declared.fact.Fact.{Fact}
 use Rattle.ix_core.specs.declared.fact.Fact.TheVariants.{Rng, LenRng, Low, Same, IsLen, Less, Sum, Search, Neg, Upper}
 use Rattle.ix_facts.specs.declared.kind.Kind.TheVariants as kind
 use Rattle.ix_facts.specs.Bounds.{range_high}
-use Rattle.ix_facts.specs.Facts.{IsIn, Covers, rng, len_rng, low, same, is_len, less, sum, search, neg, upper, orders, in_orders}
+use Rattle.ix_facts.specs.Facts.{IsIn, Covers, rng, len_rng, low, same, is_len, less, sum, search, neg, upper}
 use Rattle.ix_facts.specs.Closure.{Follows}
 use Rattle.ix_facts.specs.Closure as closure
 use Rattle.ix_facts.specs.Exact.{each}
@@ -17,31 +17,12 @@ use Rattle.ix_facts.specs.Kinds.{of_kind}
 use Rattle.ix_facts.specs.Named.{IsAmongPaths}
 use Rattle.ix_facts.specs.Systems.{Merges, IsTable}
 use Rattle.ix_facts.specs.Systems as merges
-use Rattle.ix_facts.proofs.FactLists.{in_left, in_right, from_in_orders}
+use Rattle.ix_facts.proofs.FactLists.{in_left, in_right}
 use Rattle.ix_facts.proofs.SaidLaws.{in_each}
 use Rattle.ix_closure.specs.Classes.{Roots, root_of, AreClasses}
 use Rattle.ix_closure.specs.Saturated.{AreListed, of_class, pairs, along, search_of, negative_of, class_of, alike, searched, saturated}
 use Rattle.ix_closure.proofs.Members.{in_class, in_kind, from_kind, in_path, so_in, merges_more}
-use Rattle.ix_closure.proofs.HighEnds.{high_below}
-
--- a range stands in one order alone
-range_order : (p : Path) (m k : ℤ) (f : Fact) (ranges : List Fact) → IsIn f ranges → IsIn (Rng p m k) (orders f) → IsIn (Rng p m k) ranges
-range_order p m k (Rng q n j) ranges i o = ⊎_elim (λ e. subst (λ g. IsIn g ranges) (sym e) i) (λ n. absurd n) o
-range_order p m k (LenRng q n j) ranges i o = ⊎_elim (λ e. absurd cc) (λ n. absurd n) o
-range_order p m k (Low q c) ranges i o = ⊎_elim (λ e. absurd cc) (λ n. absurd n) o
-range_order p m k (IsLen q a) ranges i o = ⊎_elim (λ e. absurd cc) (λ n. absurd n) o
-range_order p m k (Less q r c) ranges i o = ⊎_elim (λ e. absurd cc) (λ n. absurd n) o
-range_order p m k (Search q a) ranges i o = ⊎_elim (λ e. absurd cc) (λ n. absurd n) o
-range_order p m k (Neg q a) ranges i o = ⊎_elim (λ e. absurd cc) (λ n. absurd n) o
-range_order p m k (Same a b) ranges i o = ⊎_elim (λ e. absurd cc) (λ n. ⊎_elim (λ e. absurd cc) (λ x. absurd x) n) o
-range_order p m k (Sum t y z) ranges i o = ⊎_elim (λ e. absurd cc) (λ n. ⊎_elim (λ e. absurd cc) (λ x. absurd x) n) o
-range_order p m k (Upper q a Nothing c) ranges i o = ⊎_elim (λ e. absurd cc) (λ n. absurd n) o
-range_order p m k (Upper q a (Plus r) c) ranges i o = ⊎_elim (λ e. absurd cc) (λ n. ⊎_elim (λ e. absurd cc) (λ x. absurd x) n) o
-range_order p m k (Upper q a (Minus r) c) ranges i o = ⊎_elim (λ e. absurd cc) (λ n. absurd n) o
-
--- a range that covers another has its ends within the other's
-pub covers_ends : (g : Fact) (p : Path) (l h : ℤ) → Covers g (Rng p l h) → (m : ℤ) × (k : ℤ) × (g ≡ Rng p m k) × (l ≤ℤ m) × (k ≤ℤ h)
-covers_ends _ p l h (rng _ m k _ _ a b) = (m, k, refl, a, b)
+use Rattle.ix_closure.proofs.RangesMet.{IsBelowZero, range_stored, low_stored}
 
 module _ (facts : List Fact) (roots : Roots) (listed : List Path) (ranges : List Fact) (classes : AreClasses facts roots) (lists : AreListed facts listed) (table : IsTable (of_kind kind.Range facts) ranges) where
   -- b is a, or a listed array of its class
@@ -61,9 +42,6 @@ module _ (facts : List Fact) (roots : Roots) (listed : List Path) (ranges : List
   abbrev IsNearSearch : Path → Path → Type 0
   IsNearSearch p a = ((b : Path) × IsIn (Search p b) facts × IsNear b a) ⊎ IsNearNegative p a
 
-  abbrev IsBelowZero : Path → Type 0
-  IsBelowZero p = (l : ℤ) × (h : ℤ) × Merges (of_kind kind.Range facts) (Rng p l h) × (h ≤ℤ negsuc 0)
-
   abbrev Shown : Fact → Type 0
   Shown (Rng p l h) = Merges (of_kind kind.Range facts) (Rng p l h)
   Shown (LenRng a l h) = (b : Path) → IsNear a b → Merges more (LenRng b l h)
@@ -73,7 +51,7 @@ module _ (facts : List Fact) (roots : Roots) (listed : List Path) (ranges : List
   Shown (Less p q c) = Merges more (Less p q c)
   Shown (Sum t y z) = Merges more (Sum t y z)
   Shown (Search p a) = IsNearSearch p a
-  Shown (Neg p a) = IsNearNegative p a ⊎ (IsNearSearch p a × IsBelowZero p)
+  Shown (Neg p a) = IsNearNegative p a ⊎ (IsNearSearch p a × IsBelowZero facts p)
   Shown (Upper p a o c) = Merges more (Upper p a o c)
 
   -- ---- members of the list
@@ -116,29 +94,11 @@ module _ (facts : List Fact) (roots : Roots) (listed : List Path) (ranges : List
       (λ x. in_searches (Search p a) (Neg p a) (near_alike (Neg p) x.0 a refl x.1 x.2) (inl refl))
       near
 
-  -- a range that is merged of the facts is covered by a stored one
-  pub range_stored : (p : Path) (l h : ℤ) → Merges (of_kind kind.Range facts) (Rng p l h) → closure.Default (Rng p l h) ⊎ ((m : ℤ) × (k : ℤ) × IsIn (Rng p m k) ranges × (l ≤ℤ m) × (k ≤ℤ h))
-  range_stored p l h merged =
-      ⊎_elim
-      (λ d. inl d)
-      (λ y.
-      let x = covers_ends y.0 p l h y.2 in
-      let o = from_in_orders (Rng p x.0 x.1) ranges (subst (λ g. IsIn g (in_orders ranges)) x.2 y.1) in
-      inr (x.0, x.1, range_order p x.0 x.1 o.0 ranges o.1 o.2, x.3, x.4))
-      (table.says (Rng p l h) merged)
-
-  low_stored : (p : Path) → IsBelowZero p → int_le (range_high ranges p) (negsuc 0) ≡ true
-  low_stored p x =
-      ⊎_elim
-      (λ d. absurd (omega (arith, ints, d.1, x.3)))
-      (λ y. let b = high_below ranges p y.0 y.1 (negsuc 0) y.2 (omega (arith, ints, y.4, x.3)) in grind (arith, ints, b))
-      (range_stored p x.0 x.1 x.2)
-
-  neg_more : (p a : Path) → IsNearNegative p a ⊎ (IsNearSearch p a × IsBelowZero p) → IsIn (Neg p a) more
+  neg_more : (p a : Path) → IsNearNegative p a ⊎ (IsNearSearch p a × IsBelowZero facts p) → IsIn (Neg p a) more
   neg_more p a s =
       ⊎_elim
       (λ x. alike_more (Neg p a) (near_alike (Neg p) x.0 a refl x.1 x.2))
-      (λ x. in_negatives (Neg p a) (Search p a) (search_told p a x.0) (so_in (int_le (range_high ranges p) (negsuc 0)) (Neg p a) (low_stored p x.1)))
+      (λ x. in_negatives (Neg p a) (Search p a) (search_told p a x.0) (so_in (int_le (range_high ranges p) (negsuc 0)) (Neg p a) (low_stored facts ranges table p x.1)))
       s
 
   searched_more : (f : Fact) → IsIn f (searched facts roots listed) → IsIn f more
@@ -193,7 +153,7 @@ module _ (facts : List Fact) (roots : Roots) (listed : List Path) (ranges : List
       let above : negsuc 0 ≤ℤ y.0 = omega (arith, ints, y.3, from) in
       merges.weaker (Low p (int_min y.0 (pos 1))) (Low p c) (low p (int_min y.0 (pos 1)) c (omega (arith, ints, clamps, y.3, at, one)))
       (merges.given (Low p (int_min y.0 (pos 1))) (in_classes (Low p (int_min y.0 (pos 1))) (Rng p y.0 y.1) y.2 (so_in (int_le (negsuc 0) y.0) (Low p (int_min y.0 (pos 1))) (grind (arith, ints, above))))))
-      (range_stored p l h m)
+      (range_stored facts ranges table p l h m)
 
   weaker_shown : (g f : Fact) → Covers g f → Shown g → Shown f
   weaker_shown _ _ (rng p l h m k x y) s = merges.weaker (Rng p l h) (Rng p m k) (rng p l h m k x y) s

@@ -93,7 +93,7 @@ fn class_from(low: i64) -> i32
     low.min(1) as i32
 }
 
-fn push_class_of(out: &mut Vec<Fact>, fact: &Fact) -> Result<(), AllocError>
+pub(crate) fn push_class_of(out: &mut Vec<Fact>, fact: &Fact) -> Result<(), AllocError>
     ensures { OnOk result (out.new.items ≡ out.old.items ++ class_of fact.now) }
 {
     match fact {

@@ -1,0 +1,31 @@
+use Rattle.std.proofs.Common.{◌++◌, ap, sym, ◌∙◌, subst}
+use Rattle.ix_facts.specs.declared.kind.Kind.TheVariants as kind
+use Rattle.ix_facts.specs.Kinds.{of_kind}
+use Rattle.ix_facts.specs.Systems.{HaveClasses}
+use Rattle.ix_closure.specs.Saturated.{IsSaturated}
+use Rattle.ix_closure.proofs.BesideClosed.{beside_saturated, beside_classes, beside_made, beside_no_range}
+use Rattle.ix_closure.proofs.beside.more_beside.Goals as goal
+
+pub returns-clause-saturated : goal.returns-clause-saturated
+returns-clause-saturated c = λ known are.
+    let new = c.args.new.now in
+    let ranges = c.args.ranges.now in
+    let searches = c.args.searches.now in
+    let made = beside_made new ranges searches c.new-more.result.items c.push_negatives.new.out.items c.push_new_classes.new.out.items c.new-more.ensures.items c.in_ok-push_negatives.ensures c.in_ok-push_new_classes.ensures in
+    subst (λ more. IsSaturated (known ++ new) (known ++ (new ++ more))) (sym made) (beside_saturated known new ranges searches are)
+
+pub returns-clause-classes : goal.returns-clause-classes
+returns-clause-classes c =
+    let new = c.args.new.now in
+    let ranges = c.args.ranges.now in
+    let searches = c.args.searches.now in
+    let made = beside_made new ranges searches c.new-more.result.items c.push_negatives.new.out.items c.push_new_classes.new.out.items c.new-more.ensures.items c.in_ok-push_negatives.ensures c.in_ok-push_new_classes.ensures in
+    subst HaveClasses (sym made) (beside_classes new ranges searches)
+
+pub returns-clause-ranges : goal.returns-clause-ranges
+returns-clause-ranges c =
+    let new = c.args.new.now in
+    let ranges = c.args.ranges.now in
+    let searches = c.args.searches.now in
+    let made = beside_made new ranges searches c.new-more.result.items c.push_negatives.new.out.items c.push_new_classes.new.out.items c.new-more.ensures.items c.in_ok-push_negatives.ensures c.in_ok-push_new_classes.ensures in
+    ap (of_kind kind.Range) made ∙ beside_no_range new ranges searches
