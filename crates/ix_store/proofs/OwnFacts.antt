@@ -6,7 +6,9 @@ use Rattle.std.proofs.lemmas.List.{append-nil}
 use Rattle.ix_core.specs.declared.fact.Fact.{Fact}
 use Rattle.ix_facts.specs.declared.kind.Kind.{Kind}
 use Rattle.ix_facts.specs.declared.kind.Kind.TheVariants as kind
+use Rattle.ix_core.specs.declared.fact.Fact.TheVariants.{Search}
 use Rattle.ix_facts.specs.Facts.{IsIn}
+use Rattle.ix_facts.specs.Closure.{Closed}
 use Rattle.ix_facts.specs.Kinds.{kind_of, is_kind, is_of, of_kind}
 use Rattle.ix_facts.specs.Systems.{IsTable}
 use Rattle.ix_facts.proofs.Tests.{by_test}
@@ -14,13 +16,18 @@ use Rattle.ix_fact_table.specs.declared.fact_table.FactTable.{FactTable}
 use Rattle.ix_fact_table.specs.FactTables.{facts_of, table_kind}
 use Rattle.ix_fact_table.specs.TableLaws.{all_own}
 use Rattle.ix_fact_table.proofs.MergedTables.{kind_all}
+use Rattle.ix_fact_table.proofs.OneKind.{from_kind}
+use Rattle.ix_closure.specs.Beside.{are_plain, AreBeside}
 use Rattle.ix_store.specs.declared.tables.Tables.{Tables}
 use Rattle.ix_store.specs.AllTables.{all_facts, AreOfKinds}
-use Rattle.ix_store.proofs.Together.{six_tables}
+use Rattle.ix_store.proofs.Together.{in_kind, six_tables}
 
 kinds_app : (own : Kind) (a b : List Fact) → of_kind own (a ++ b) ≡ of_kind own a ++ of_kind own b
 kinds_app own [] b = refl
 kinds_app own (f ∷ a) b = by_test (is_of own f) (λ t. rw t (ap (λ l. f ∷ l) (kinds_app own a b))) (λ t. rw t (kinds_app own a b))
+
+pub range_app : (a b : List Fact) → of_kind kind.Range (a ++ b) ≡ of_kind kind.Range a ++ of_kind kind.Range b
+range_app a b = kinds_app kind.Range a b
 
 both_parts : (own : Kind) (a b x y : List Fact) → of_kind own a ≡ x → of_kind own b ≡ y → of_kind own (a ++ b) ≡ x ++ y
 both_parts own a b x y first second = kinds_app own a b ∙ (ap (λ l. l ++ of_kind own b) first ∙ ap (λ l. x ++ l) second)
@@ -96,6 +103,16 @@ module _ (tables : Tables) (kinds : AreOfKinds tables) where
   -- one table with the new facts of its kind is the table of all facts of the kind
   with_own : (own : Kind) (part new more : List Fact) → of_kind own (all_facts tables) ≡ part → IsTable (part ++ of_kind own new) more → IsTable (of_kind own (all_facts tables ++ new)) more
   with_own own part new more e is = subst (λ l. IsTable l more) (sym (kinds_app own (all_facts tables) new ∙ ap (λ l. l ++ of_kind own new) e)) is
+
+  -- beside closed tables stand new plain facts
+  pub are_beside : (new ranges : List Fact) → Closed (all_facts tables) → are_plain new ≡ true → IsTable (facts_of tables.ranges ++ of_kind kind.Range new) ranges → AreBeside (all_facts tables) new ranges (facts_of tables.searches)
+  are_beside new ranges closed plain met = record {
+    closed = closed;
+    plain = plain;
+    met = with_own kind.Range (facts_of tables.ranges) new ranges range_facts met;
+    answers = λ p a i. subst (IsIn (Search p a)) search_facts (in_kind kind.Search (Search p a) (all_facts tables) i refl);
+    only = λ f i. from_kind kind.Search f (all_facts tables) (subst (IsIn f) (sym search_facts) i);
+  }
 
   pub tables_more : (more : Tables) (new : List Fact) → IsTable (facts_of tables.ranges ++ of_kind kind.Range new) (facts_of more.ranges) → IsTable (facts_of tables.lows ++ of_kind kind.Low new) (facts_of more.lows)
       → IsTable (facts_of tables.lengths ++ of_kind kind.Length new) (facts_of more.lengths) → IsTable (facts_of tables.differences ++ of_kind kind.Difference new) (facts_of more.differences)

@@ -13,7 +13,7 @@ use Rattle.ix_facts.specs.Systems.{IsTable}
 use Rattle.ix_facts.specs.Stores.{IsStoreOf, unreachable, reached, Unreachable, Reached}
 use Rattle.ix_facts.proofs.FactLists.{in_left, in_either, from_in_orders}
 use Rattle.ix_closure.specs.Saturated.{IsSaturated}
-use Rattle.ix_closure.proofs.Only.{merges_follow}
+use Rattle.ix_closure.proofs.RangesMet.{merges_follow}
 use Rattle.ix_store.specs.EmptyRanges.{is_empty, some_empty, HasEmpty}
 use Rattle.ix_store.specs.StoreLaws.{each_full}
 
@@ -127,11 +127,8 @@ none_empty ranges rest n others e =
 
 -- ---- the store
 
-pub unreachable_store : (facts more ranges rest : List Fact) → IsSaturated facts more → IsTable more (ranges ++ rest) → some_empty ranges ≡ true → IsStoreOf facts Unreachable
-unreachable_store facts more ranges rest is table t =
-    unreachable (empty_contradicts facts (ranges ++ rest) (table_closed facts more (ranges ++ rest) is table) (front_empty ranges rest t))
+pub closed_unreachable : (facts ranges rest : List Fact) → IsClosedOf facts (ranges ++ rest) → some_empty ranges ≡ true → IsStoreOf facts Unreachable
+closed_unreachable facts ranges rest closed t = unreachable (empty_contradicts facts (ranges ++ rest) closed (front_empty ranges rest t))
 
-pub reached_store : (facts more ranges rest : List Fact) → IsSaturated facts more → IsTable more (ranges ++ rest) → some_empty ranges ≡ false → ((f : Fact) → IsIn f rest → IsNoRange f) → IsStoreOf facts (Reached (ranges ++ rest))
-reached_store facts more ranges rest is table n others =
-    let closed = table_closed facts more (ranges ++ rest) is table in
-    reached (ranges ++ rest) (λ c. none_empty ranges rest n others (contradicts_empty facts (ranges ++ rest) closed c)) closed
+pub closed_reached : (facts ranges rest : List Fact) → IsClosedOf facts (ranges ++ rest) → some_empty ranges ≡ false → ((f : Fact) → IsIn f rest → IsNoRange f) → IsStoreOf facts (Reached (ranges ++ rest))
+closed_reached facts ranges rest closed n others = reached (ranges ++ rest) (λ c. none_empty ranges rest n others (contradicts_empty facts (ranges ++ rest) closed c)) closed

@@ -22,7 +22,7 @@ by_test false first second = second refl
 
 -- ---- a kind's facts
 
-in_kind : (own : Kind) (f : Fact) (facts : List Fact) → IsIn f facts → is_of own f ≡ true → IsIn f (of_kind own facts)
+pub in_kind : (own : Kind) (f : Fact) (facts : List Fact) → IsIn f facts → is_of own f ≡ true → IsIn f (of_kind own facts)
 in_kind own f [] i t = absurd i
 in_kind own f (g ∷ facts) i t =
     by_test (is_of own g)

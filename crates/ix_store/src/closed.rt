@@ -1,19 +1,24 @@
 //! Closed facts that don't contradict each other, their order and what two of them have in common.
 
-ghost use Rattle.std.specs.Prelude.{◌≡◌, ◌↔◌, ◌++◌, IsTrue, IfOk};
-ghost use Rattle.ix_facts.specs.Systems.{HaveClasses};
+ghost use Rattle.std.specs.Prelude.{◌≡◌, ◌↔◌, ◌++◌, List, true, IsTrue, IfOk};
+ghost use Rattle.ix_core.specs.declared.fact.Fact.{Fact};
+ghost use Rattle.ix_facts.specs.declared.kind.Kind.TheVariants as kind;
+ghost use Rattle.ix_facts.specs.Kinds.{of_kind};
+ghost use Rattle.ix_facts.specs.Systems.{HaveClasses, IsTable};
 ghost use Rattle.ix_facts.specs.Stores.{IsStoreOf};
-ghost use Rattle.ix_facts.specs.Closure.{SaysAll, IsCommon};
+ghost use Rattle.ix_facts.specs.Closure.{Closed, SaysAll, IsClosedOf, IsCommon};
+ghost use Rattle.ix_closure.specs.Beside.{are_plain};
 ghost use Rattle.ix_closure.specs.Saturated.{IsSaturated};
+ghost use Rattle.ix_fact_table.specs.FactTables.{facts_of};
 ghost use Rattle.ix_store.specs.AllTables as spec;
 ghost use Rattle.ix_store.specs.AllTables.{AreOfKinds};
 ghost use Rattle.ix_store.specs.StoredFacts.{facts_in, stored_in};
 
 use crate::joins;
 use crate::known::Known;
-use crate::making::{all_facts, has_empty, tables_with};
+use crate::making::{all_facts, has_empty, ranges_with, tables_with};
 use crate::tables::Tables;
-use ix_closure::more_that_follows;
+use ix_closure::{more_beside, more_that_follows};
 use ix_core::Fact;
 use ix_fact_list::FactList;
 use std::alloc::{AllocError, Global};
@@ -40,7 +45,44 @@ fn added(alloc: Global, tables: &Tables, new: Vec<Fact>) -> Result<Vec<Fact>, Al
     Ok(added)
 }
 
+/// New plain facts, and behind them what follows from them and closed tables, of which those are the ranges with the new facts.
+fn added_beside(
+    alloc: Global,
+    tables: &Tables,
+    ranges: &[Fact],
+    new: Vec<Fact>,
+) -> Result<Vec<Fact>, AllocError>
+    requires kinds { AreOfKinds tables.now }
+    requires closed { Closed (spec.all_facts tables.now) }
+    requires classes { HaveClasses new.items }
+    requires plain { are_plain new.items ≡ true }
+    requires ranges { IsTable (facts_of tables.now.ranges ++ of_kind kind.Range new.items) ranges.now }
+    ensures saturated { IfOk result (λ added. IsSaturated (spec.all_facts tables.now ++ new.items) (spec.all_facts tables.now ++ added.items)) }
+    ensures classes { IfOk result (λ added. HaveClasses added.items) }
+    ensures ranges { IfOk result (λ added. of_kind kind.Range added.items ≡ of_kind kind.Range new.items) }
+{
+    let more = more_beside(alloc, &new, ranges, tables.searches.get().as_slice())?;
+    let mut added = new;
+    added.extend_from_slice(&more)?;
+    Ok(added)
+}
+
 impl Known {
+    /// The facts of tables that are closed, or none where a range is empty. The only error is want of memory.
+    fn of_tables(alloc: Global, tables: Tables) -> Result<Option<Known>, AllocError>
+        requires kinds { AreOfKinds tables }
+        requires closed { Closed (spec.all_facts tables) }
+        ensures store { IfOk result (λ known. (facts : List Fact) → IsClosedOf facts (spec.all_facts tables) → IsStoreOf facts (stored_in known)) }
+    {
+        if has_empty(tables.ranges.get().as_slice()) {
+            return Ok(None);
+        }
+        let all = all_facts(alloc, &tables)?;
+        let _count = all.len();
+        let list = FactList::new(alloc, all)?;
+        Ok(Some(Known { tables, list }))
+    }
+
     /// The closed facts of tables and of new facts, or none where an empty range follows. The only error is want of memory.
     pub(crate) fn closed(
         alloc: Global,
@@ -52,14 +94,29 @@ impl Known {
         ensures store { IfOk result (λ known. IsStoreOf (spec.all_facts tables.now ++ new.items) (stored_in known)) }
     {
         let added = added(alloc, tables, new)?;
-        let tables = tables_with(alloc, tables, &added)?;
-        if has_empty(tables.ranges.get().as_slice()) {
-            return Ok(None);
-        }
-        let all = all_facts(alloc, &tables)?;
-        let _count = all.len();
-        let list = FactList::new(alloc, all)?;
-        Ok(Some(Known { tables, list }))
+        let ranges = ranges_with(alloc, tables, &added)?;
+        let more = tables_with(alloc, tables, ranges, &added)?;
+        let known = Known::of_tables(alloc, more)?;
+        Ok(known)
+    }
+
+    /// The same where the tables are closed and the new facts plain: then only what these add is sought.
+    pub(crate) fn closed_beside(
+        alloc: Global,
+        tables: &Tables,
+        new: Vec<Fact>,
+    ) -> Result<Option<Known>, AllocError>
+        requires kinds { AreOfKinds tables.now }
+        requires closed { Closed (spec.all_facts tables.now) }
+        requires classes { HaveClasses new.items }
+        requires plain { are_plain new.items ≡ true }
+        ensures store { IfOk result (λ known. IsStoreOf (spec.all_facts tables.now ++ new.items) (stored_in known)) }
+    {
+        let ranges = ranges_with(alloc, tables, &new)?;
+        let added = added_beside(alloc, tables, ranges.get().as_slice(), new)?;
+        let more = tables_with(alloc, tables, ranges, &added)?;
+        let known = Known::of_tables(alloc, more)?;
+        Ok(known)
     }
 
     /// The facts, by the paths that they name.

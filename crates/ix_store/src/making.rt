@@ -2,6 +2,7 @@
 
 ghost use Rattle.std.specs.Prelude.{◌≡◌, ◌++◌, [], IfOk, OnOk};
 ghost use Rattle.ix_facts.specs.Forget.{without};
+ghost use Rattle.ix_facts.specs.declared.kind.Kind.TheVariants as kind;
 ghost use Rattle.ix_facts.specs.Kinds.{of_kind};
 ghost use Rattle.ix_facts.specs.Systems.{HaveClasses, IsTable};
 ghost use Rattle.ix_fact_table.specs.FactTables.{facts_of, table_kind};
@@ -55,19 +56,36 @@ fn table_with(
     }
 }
 
-/// The tables with more facts.
+/// The ranges with more ones; held jointly where they say these already.
+pub(crate) fn ranges_with(
+    alloc: Global,
+    tables: &Tables,
+    new: &[Fact],
+) -> Result<Joint<FactTable>, AllocError>
+    requires kinds { AreOfKinds tables.now }
+    requires classes { HaveClasses new.now }
+    ensures table { IfOk result (λ ranges. IsTable (facts_of tables.now.ranges ++ of_kind kind.Range new.now) (facts_of ranges)) }
+    ensures kind { IfOk result (λ ranges. table_kind ranges ≡ kind.Range) }
+{
+    table_with(alloc, &tables.ranges, new)
+}
+
+/// The tables with more facts, where those are the ranges with them.
 pub(crate) fn tables_with(
     alloc: Global,
     tables: &Tables,
+    ranges: Joint<FactTable>,
     new: &[Fact],
 ) -> Result<Tables, AllocError>
     requires kinds { AreOfKinds tables.now }
     requires classes { HaveClasses new.now }
+    requires ranges { IsTable (facts_of tables.now.ranges ++ of_kind kind.Range new.now) (facts_of ranges) }
+    requires kind { table_kind ranges ≡ kind.Range }
     ensures table { IfOk result (λ more. IsTable (all_facts tables.now ++ new.now) (all_facts more)) }
     ensures kinds { IfOk result AreOfKinds }
 {
     Ok(Tables {
-        ranges: table_with(alloc, &tables.ranges, new)?,
+        ranges,
         lows: table_with(alloc, &tables.lows, new)?,
         lengths: table_with(alloc, &tables.lengths, new)?,
         differences: table_with(alloc, &tables.differences, new)?,
@@ -121,11 +139,25 @@ fn push_all(facts: &mut Vec<Fact>, more: &[Fact]) -> Result<(), AllocError>
     facts.extend_from_slice(more)
 }
 
+/// How many facts the tables have; where there are more than there are numbers, some number. It is for room alone.
+fn count(tables: &Tables) -> usize {
+    tables
+        .ranges
+        .get()
+        .as_slice()
+        .len()
+        .saturating_add(tables.lows.get().as_slice().len())
+        .saturating_add(tables.lengths.get().as_slice().len())
+        .saturating_add(tables.differences.get().as_slice().len())
+        .saturating_add(tables.searches.get().as_slice().len())
+        .saturating_add(tables.uppers.get().as_slice().len())
+}
+
 /// All facts of the tables.
 pub(crate) fn all_facts(alloc: Global, tables: &Tables) -> Result<Vec<Fact>, AllocError>
     ensures facts { IfOk result (λ facts. facts.items ≡ all_facts tables.now) }
 {
-    let mut facts = Vec::new(alloc);
+    let mut facts = Vec::with_capacity(alloc, count(tables))?;
     push_all(&mut facts, tables.ranges.get().as_slice())?;
     push_all(&mut facts, tables.lows.get().as_slice())?;
     push_all(&mut facts, tables.lengths.get().as_slice())?;

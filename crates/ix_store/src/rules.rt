@@ -1,6 +1,7 @@
 //! The store behind each rule.
 
 ghost use Rattle.std.specs.Prelude.{◌≡◌, ◌∷◌, ◌++◌, [], ◌↔◌, IsTrue, IfOk};
+ghost use Rattle.ix_facts.specs.Closure.{Closed};
 ghost use Rattle.ix_facts.specs.Stores.{Unreachable, Reached, IsStoreOf, IsAfter, IsCopied, IsTold, IsAssumed, IsAdded, IsForgotten, IsRounded, IsProved};
 ghost use Rattle.ix_facts.specs.Systems.{HaveClasses};
 ghost use Rattle.ix_facts.specs.Forget.{of_path, of_field, of_call, without};
@@ -16,6 +17,7 @@ use crate::known::Known;
 use crate::making::{no_tables, tables_beside};
 use crate::store::Store;
 use crate::tables::Tables;
+use ix_closure::are_plain;
 use ix_core::{Fact, OpKind, Path, PathClaim, Profile, Program, Type_};
 use ix_facts::Landmarks;
 use ix_outcomes::Outcome;
@@ -36,6 +38,22 @@ fn closed(alloc: Global, tables: &Tables, new: Vec<Fact>) -> Result<Store, Alloc
     ensures store { IfOk result (λ store. IsStoreOf (all_facts tables.now ++ new.items) (stored store)) }
 {
     match Known::closed(alloc, tables, new)? {
+        None => Ok(Store::unreachable()),
+        Some(known) => reached(alloc, known),
+    }
+}
+
+/// The same of closed tables.
+fn closed_beside(alloc: Global, tables: &Tables, new: Vec<Fact>) -> Result<Store, AllocError>
+    requires kinds { AreOfKinds tables.now }
+    requires closed { Closed (all_facts tables.now) }
+    requires classes { HaveClasses new.items }
+    ensures store { IfOk result (λ store. IsStoreOf (all_facts tables.now ++ new.items) (stored store)) }
+{
+    if !are_plain(&new) {
+        return closed(alloc, tables, new);
+    }
+    match Known::closed_beside(alloc, tables, new)? {
         None => Ok(Store::unreachable()),
         Some(known) => reached(alloc, known),
     }
@@ -62,7 +80,7 @@ fn behind(
         return Ok(Store { known: Some(known) });
     }
     let tables = tables_beside(alloc, &known.get().tables, changed)?;
-    let store = closed(alloc, &tables, new)?;
+    let store = closed_beside(alloc, &tables, new)?;
     Ok(store)
 }
 

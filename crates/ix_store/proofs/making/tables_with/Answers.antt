@@ -11,16 +11,16 @@ returns-clause-table c =
     let kinds = c.requires.kinds in
     let new = c.args.new.now in
     tables_more tables kinds (record {
-      ranges = c.in_ok-table_with.field-0;
-      lows = c.in_ok-table_with-2.field-0;
-      lengths = c.in_ok-table_with-3.field-0;
-      differences = c.in_ok-table_with-4.field-0;
-      searches = c.in_ok-table_with-5.field-0;
-      uppers = c.in_ok-table_with-6.field-0;
+      ranges = c.args.ranges;
+      lows = c.in_ok-table_with.field-0;
+      lengths = c.in_ok-table_with-2.field-0;
+      differences = c.in_ok-table_with-3.field-0;
+      searches = c.in_ok-table_with-4.field-0;
+      uppers = c.in_ok-table_with-5.field-0;
     }) new
-    (subst (λ k. IsTable (facts_of tables.ranges ++ of_kind k new) (facts_of c.in_ok-table_with.field-0)) kinds.ranges c.in_ok-table_with.ensures.table)
-    (subst (λ k. IsTable (facts_of tables.lows ++ of_kind k new) (facts_of c.in_ok-table_with-2.field-0)) kinds.lows c.in_ok-table_with-2.ensures.table)
-    (subst (λ k. IsTable (facts_of tables.lengths ++ of_kind k new) (facts_of c.in_ok-table_with-3.field-0)) kinds.lengths c.in_ok-table_with-3.ensures.table)
-    (subst (λ k. IsTable (facts_of tables.differences ++ of_kind k new) (facts_of c.in_ok-table_with-4.field-0)) kinds.differences c.in_ok-table_with-4.ensures.table)
-    (subst (λ k. IsTable (facts_of tables.searches ++ of_kind k new) (facts_of c.in_ok-table_with-5.field-0)) kinds.searches c.in_ok-table_with-5.ensures.table)
-    (subst (λ k. IsTable (facts_of tables.uppers ++ of_kind k new) (facts_of c.in_ok-table_with-6.field-0)) kinds.uppers c.in_ok-table_with-6.ensures.table)
+    c.requires.ranges
+    (subst (λ k. IsTable (facts_of tables.lows ++ of_kind k new) (facts_of c.in_ok-table_with.field-0)) kinds.lows c.in_ok-table_with.ensures.table)
+    (subst (λ k. IsTable (facts_of tables.lengths ++ of_kind k new) (facts_of c.in_ok-table_with-2.field-0)) kinds.lengths c.in_ok-table_with-2.ensures.table)
+    (subst (λ k. IsTable (facts_of tables.differences ++ of_kind k new) (facts_of c.in_ok-table_with-3.field-0)) kinds.differences c.in_ok-table_with-3.ensures.table)
+    (subst (λ k. IsTable (facts_of tables.searches ++ of_kind k new) (facts_of c.in_ok-table_with-4.field-0)) kinds.searches c.in_ok-table_with-4.ensures.table)
+    (subst (λ k. IsTable (facts_of tables.uppers ++ of_kind k new) (facts_of c.in_ok-table_with-5.field-0)) kinds.uppers c.in_ok-table_with-5.ensures.table)

@@ -1,11 +1,14 @@
 use Rattle.std.specs.Prelude.{◌≡◌, [], ◌++◌}
 use Rattle.std.proofs.Common.{sym, subst, ap, ◌∙◌}
 use Rattle.std.proofs.lemmas.List.{append-nil}
+use Rattle.ix_facts.specs.Closure.{Closed}
 use Rattle.ix_facts.specs.Forget.{without}
 use Rattle.ix_facts.specs.Stores.{IsStoreOf, Reached}
+use Rattle.ix_facts.proofs.ClosedStays.{without_closed}
 use Rattle.ix_fact_list.specs.Spared.{some_named, spared}
 use Rattle.ix_store.specs.ChangedPaths.{is_changed}
 use Rattle.ix_store.specs.StoredFacts.{facts_in}
+use Rattle.ix_store.proofs.ClosedTests.{closed_of_test}
 use Rattle.ix_store.proofs.KnownStores.{known_store}
 use Rattle.ix_store.proofs.rules.behind.Goals as goal
 
@@ -19,3 +22,10 @@ returns-then-not-some_name_changed c =
     let none : c.args.new.items ≡ [] = sym c.deref.ensures.value ∙ c.is_none.ensures.0 c.if-is_none.true in
     let facts : without is (facts_in known) ++ c.args.new.items ≡ facts_in known = ap (λ l. without is (facts_in known) ++ l) none ∙ (append-nil (without is (facts_in known)) ∙ all) in
     record { store = subst (λ k. IsStoreOf (without is (facts_in known) ++ c.args.new.items) (Reached (facts_in k))) (sym same) (subst (λ l. IsStoreOf l (Reached (facts_in known))) (sym facts) (known_store known)) }
+
+pub closed_beside-requires-clause-closed : goal.closed_beside-requires-clause-closed
+closed_beside-requires-clause-closed c =
+    let is = is_changed c.args.changed.now in
+    let known = c.args.known.now in
+    let facts = c.in_ok-tables.ensures.facts ∙ ap (λ k. without is (facts_in k)) c.get-2.ensures in
+    subst Closed (sym facts) (without_closed is (facts_in known) (closed_of_test (facts_in known) known.closed))
