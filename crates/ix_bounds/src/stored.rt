@@ -25,7 +25,7 @@ fn stored_upper_by<G: Groups>(
 {
     match (*fact, *offset) {
         (Fact::Upper(r, b, x, c), _) => {
-            if is_same_path(&r, p) && are_same(facts, &b, a) && is_same_offset(&x, offset) {
+            if is_same_path(&r, p) && is_same_offset(&x, offset) && are_same(facts, &b, a) {
                 Some(c as i64)
             } else {
                 None
