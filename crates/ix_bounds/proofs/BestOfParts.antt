@@ -61,6 +61,13 @@ first_in x rest = sym (joined x x rest) ∙ ap (λ v. best int_max v rest) (twic
 later_in : (x y rest : Option ℤ) → best int_max x rest ≡ rest → best int_max x (best int_max y rest) ≡ best int_max y rest
 later_in x y rest e = sym (joined x y rest) ∙ (ap (λ v. best int_max v rest) (turned x y) ∙ (joined y x rest ∙ ap (best int_max y) e))
 
+-- a best counts both its numbers, and what is better than a number counts what that counts
+pub counts_second : (x y both : Option ℤ) → both ≡ best int_max x y → best int_max both y ≡ both
+counts_second x y both e = rw e (joined x y y ∙ ap (best int_max x) (twice y))
+
+pub counts_still : (x y more new : Option ℤ) → best int_max x y ≡ x → new ≡ best int_max x more → best int_max new y ≡ new
+counts_still x y more new c e = rw e (joined x more y ∙ (ap (best int_max x) (turned more y) ∙ (sym (joined x y more) ∙ ap (λ v. best int_max v more) c)))
+
 fact_in : (by : Fact → Option ℤ) (facts : List Fact) (x : Fact) → IsIn x facts → best int_max (by x) (greatest by facts) ≡ greatest by facts
 fact_in by [] x i = absurd i
 fact_in by (y ∷ facts) x i =

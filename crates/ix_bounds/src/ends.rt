@@ -21,8 +21,8 @@ fn length_low_by(p: &Path, fact: &Fact) -> Option<i64>
     ensures bound { result ≡ spec.length_low_by p.now fact.now }
     ensures small { IfSome result IsEnd }
 {
-    match *fact {
-        Fact::LenRng(b, low, _) if is_same_path(&b, p) => Some(low),
+    match fact {
+        Fact::LenRng(b, low, _) if is_same_path(b, p) => Some(*low),
         _ => None,
     }
 }
@@ -33,8 +33,8 @@ fn length_high_by(p: &Path, fact: &Fact) -> Option<i64>
     ensures bound { result ≡ spec.length_high_by p.now fact.now }
     ensures small { IfSome result IsEnd }
 {
-    match *fact {
-        Fact::LenRng(b, _, high) if is_same_path(&b, p) => Some(high),
+    match fact {
+        Fact::LenRng(b, _, high) if is_same_path(b, p) => Some(*high),
         _ => None,
     }
 }
@@ -45,9 +45,9 @@ fn range_low_by(p: &Path, fact: &Fact) -> Option<i64>
     ensures bound { result ≡ spec.range_low_by p.now fact.now }
     ensures small { IfSome result IsEnd }
 {
-    match *fact {
-        Fact::Rng(q, low, _) if is_same_path(&q, p) => Some(low),
-        Fact::Low(q, low) if is_same_path(&q, p) => Some(low as i64),
+    match fact {
+        Fact::Rng(q, low, _) if is_same_path(q, p) => Some(*low),
+        Fact::Low(q, low) if is_same_path(q, p) => Some(*low as i64),
         _ => None,
     }
 }
@@ -58,8 +58,8 @@ fn range_high_by(p: &Path, fact: &Fact) -> Option<i64>
     ensures bound { result ≡ spec.range_high_by p.now fact.now }
     ensures small { IfSome result IsEnd }
 {
-    match *fact {
-        Fact::Rng(q, _, high) if is_same_path(&q, p) => Some(high),
+    match fact {
+        Fact::Rng(q, _, high) if is_same_path(q, p) => Some(*high),
         _ => None,
     }
 }

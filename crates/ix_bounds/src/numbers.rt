@@ -88,30 +88,6 @@ pub(crate) fn through(c: i64, difference: Option<i64>) -> Option<i64>
     }
 }
 
-pub(crate) fn less_by(number: Option<i64>, limit: i64) -> Option<i64>
-    requires number { IfSome number IsLimit }
-    requires limit { IsLimit limit }
-    ensures value { result ≡ option_map (λ c. c -ℤ limit) number }
-    ensures small { IfSome result IsBound }
-{
-    match number {
-        None => None,
-        Some(c) => Some(c - limit),
-    }
-}
-
-pub(crate) fn more_by(number: Option<i64>, bound: i64) -> Option<i64>
-    requires number { IfSome number IsLimit }
-    requires bound { IsLimit bound }
-    ensures value { result ≡ option_map (λ c. c +ℤ bound) number }
-    ensures small { IfSome result IsBound }
-{
-    match number {
-        None => None,
-        Some(c) => Some(c + bound),
-    }
-}
-
 /// The least c for which `p < q + c` by a limit of p and a lower bound of q.
 pub(crate) fn apart(limit: i64, bound: i64) -> i64
     requires limit { IsLimit limit }

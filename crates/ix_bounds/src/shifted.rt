@@ -65,17 +65,19 @@ fn shifted_by<G: Groups>(
     ensures bound { result ≡ spec.shifted_by (G.all facts.now) p.now a.now offset.now fact.now }
     ensures small { IfSome result IsLimit }
 {
-    match (*fact, *offset) {
+    match (fact, offset) {
         (Fact::Upper(r, b, x, c), _) => {
-            if are_same(facts, &b, a) {
-                shifted_of(facts, p, offset, &r, &x, c as i64)
+            // Few facts fit, and whether the lengths are the same may be a walk over facts.
+            let fits = is_same_offset(x, offset) || is_same_path(r, p);
+            if fits && are_same(facts, b, a) {
+                shifted_of(facts, p, offset, r, x, *c as i64)
             } else {
                 None
             }
         }
         (Fact::IsLen(r, b), PathOff::Nothing) => {
-            if is_same_path(&b, a) {
-                through(-1, stored_less(facts, p, &r))
+            if is_same_path(b, a) {
+                through(-1, stored_less(facts, p, r))
             } else {
                 None
             }
@@ -104,7 +106,7 @@ fn shifted_on<G: Groups>(
     bound
 }
 
-/// The same by the facts on an array of which a fact says that it has the length of a.
+/// The same by the facts on another array of which a fact says that it has the length of a. The bound counts those on a already.
 fn shifted_alike<G: Groups>(
     facts: &G,
     p: &Path,
@@ -113,13 +115,14 @@ fn shifted_alike<G: Groups>(
     fact: &Fact,
     first: Option<i64>,
 ) -> Option<i64>
-    requires { IfSome first IsLimit }
+    requires small { IfSome first IsLimit }
+    requires counted { best int_max first (spec.greatest (spec.shifted_by (G.all facts.now) p.now a.now offset.now) (G.group facts.now a.now)) ≡ first }
     ensures bound { result ≡ best int_max first (spec.greatest (spec.shifted_by (G.all facts.now) p.now a.now offset.now) (alike_on (G.group facts.now) a.now fact.now)) }
     ensures small { IfSome result IsLimit }
 {
     match fact {
         Fact::Same(b, c) => {
-            if is_same_path(c, a) {
+            if is_same_path(c, a) && !is_same_path(b, a) {
                 shifted_on(facts, p, a, offset, facts.on_path(b), first)
             } else {
                 first
@@ -137,7 +140,8 @@ fn shifted_over<G: Groups>(
     on_a: &[Fact],
     first: Option<i64>,
 ) -> Option<i64>
-    requires { IfSome first IsLimit }
+    requires small { IfSome first IsLimit }
+    requires counted { best int_max first (spec.greatest (spec.shifted_by (G.all facts.now) p.now a.now offset.now) (G.group facts.now a.now)) ≡ first }
     ensures bound { result ≡ best int_max first (spec.greatest (spec.shifted_by (G.all facts.now) p.now a.now offset.now) (each (alike_on (G.group facts.now) a.now) on_a.now)) }
     ensures small { IfSome result IsLimit }
 {

@@ -1,13 +1,14 @@
 //! Bounds from an array's end and differences, in all ways.
 
-ghost use Rattle.std.specs.Prelude.{◌≡◌, IfSome};
+ghost use Rattle.std.specs.Prelude.{◌≡◌, IfSome, ◌+ℤ◌, ◌-ℤ◌};
+ghost use Rattle.std.specs.Option.{option_map};
 ghost use Rattle.ix_facts.specs.Bounds as spec;
-ghost use Rattle.ix_facts.specs.Small.{IsBound};
+ghost use Rattle.ix_facts.specs.Small.{IsLimit, IsBound};
 
 use crate::ends::length_low;
 use crate::groups::Groups;
 use crate::limits::{lower_bound, upper_limit};
-use crate::numbers::{apart, at_most, less_by, more_by};
+use crate::numbers::{apart, at_most};
 use crate::said::are_same;
 use crate::shifted::shifted_upper;
 use crate::stored::{stored_less, stored_upper};
@@ -52,6 +53,30 @@ fn upper_by<G: Groups>(facts: &G, p: &Path, a: &Path, offset: &PathOff, fact: &F
     }
 }
 
+/// A bound less an int's upper limit, which is asked only where there is a bound.
+fn less_limit<G: Groups>(facts: &G, bound: Option<i64>, q: &Path) -> Option<i64>
+    requires bound { IfSome bound IsLimit }
+    ensures value { result ≡ option_map (λ c. c -ℤ spec.upper_limit (G.all facts.now) q.now) bound }
+    ensures small { IfSome result IsBound }
+{
+    match bound {
+        None => None,
+        Some(c) => Some(c - upper_limit(facts, q)),
+    }
+}
+
+/// A bound and an int's lower bound, which is asked only where there is a bound.
+fn more_low<G: Groups>(facts: &G, bound: Option<i64>, q: &Path) -> Option<i64>
+    requires bound { IfSome bound IsLimit }
+    ensures value { result ≡ option_map (λ c. c +ℤ spec.lower_bound (G.all facts.now) q.now) bound }
+    ensures small { IfSome result IsBound }
+{
+    match bound {
+        None => None,
+        Some(c) => Some(c + lower_bound(facts, q)),
+    }
+}
+
 /// A bound by the ends of ranges: of the int and the length without an offset, of the offset else.
 fn upper_from_ends<G: Groups>(facts: &G, p: &Path, a: &Path, offset: &PathOff) -> Option<i64>
     ensures bound { result ≡ spec.upper_from_ends (G.all facts.now) p.now a.now offset.now }
@@ -60,22 +85,11 @@ fn upper_from_ends<G: Groups>(facts: &G, p: &Path, a: &Path, offset: &PathOff) -
     match *offset {
         PathOff::Nothing => Some(length_low(facts, a) - 1 - upper_limit(facts, p)),
         PathOff::Plus(q) => {
-            let left = less_by(
-                shifted_upper(facts, p, a, &PathOff::Nothing),
-                upper_limit(facts, &q),
-            );
-            let right = less_by(
-                shifted_upper(facts, &q, a, &PathOff::Nothing),
-                upper_limit(facts, p),
-            );
+            let left = less_limit(facts, shifted_upper(facts, p, a, &PathOff::Nothing), &q);
+            let right = less_limit(facts, shifted_upper(facts, &q, a, &PathOff::Nothing), p);
             greater(left, right)
         }
-        PathOff::Minus(q) => {
-            more_by(
-                shifted_upper(facts, p, a, &PathOff::Nothing),
-                lower_bound(facts, &q),
-            )
-        }
+        PathOff::Minus(q) => more_low(facts, shifted_upper(facts, p, a, &PathOff::Nothing), &q),
     }
 }
 

@@ -24,6 +24,17 @@ module _ {V : Type 0} (Below : V → V → Type 0) where
   zip_at (w ∷ a) (q ∷ b) zero x zip at = let is : w ≡ x = cc in (q, refl, subst (λ t. Below t q) is zip.0)
   zip_at (w ∷ a) (q ∷ b) (suc i) x zip at = zip_at a b i x zip.1 at
 
+  -- a label rises, and the others stay
+  pub zip_raised : ((v : V) → Below v v) → (a : List V) (i : ℕ) (x y : V) → slice_get a i ≡ Some x → Below x y → AllZip Below a (set a i y)
+  zip_raised reflexive [] i x y at below = cc
+  zip_raised reflexive (w ∷ a) zero x y at below = let is : x ≡ w = cc in (subst (λ t. Below t y) is below, zip_same reflexive a)
+  zip_raised reflexive (w ∷ a) (suc i) x y at below = (reflexive w, zip_raised reflexive a i x y at below)
+
+  pub bottom_at : (labels : List V) (i : ℕ) (x : V) → AreBottom Below labels → slice_get labels i ≡ Some x → IsBottom Below x
+  bottom_at [] i x all at = cc
+  bottom_at (w ∷ labels) zero x all at = let is : w ≡ x = cc in subst (IsBottom Below) is all.0
+  bottom_at (w ∷ labels) (suc i) x all at = bottom_at labels i x all.1 at
+
   pub AreBottom-push : (labels : List V) (label : V) → AreBottom Below labels → IsBottom Below label → AreBottom Below (labels ++ label ∷ [])
   AreBottom-push [] label all bottom = (bottom, tt)
   AreBottom-push (x ∷ labels) label all bottom = (all.0, AreBottom-push labels label all.1 bottom)

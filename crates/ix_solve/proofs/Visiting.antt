@@ -3,19 +3,24 @@ use Rattle.std.proofs.Common.{◌≡◌, ℕ, ◌+◌, ◌<◌, ◌≤◌, List,
 use Rattle.std.proofs.lemmas.Bool.{cases_eq}
 use Rattle.std.proofs.lemmas.List.Elements.{Contains-append_left, All-contains}
 use Rattle.std.proofs.lemmas.Option.{slice_get_within}
-use Rattle.ix_lattice.specs.Lattice.{LatticeLaws, IsJoin, falls_strictly}
+use Rattle.ix_lattice.specs.Lattice.{LatticeLaws, falls_strictly}
 use Rattle.ix_solve.specs.Solutions.{IsLeast, IsLeastOf, IsMonotone}
 use Rattle.ix_solve.specs.Readers.{AgreeWhereRead, DependsOnRead}
 use Rattle.ix_solve.specs.Waiting.{AddsEach}
-use Rattle.ix_solve.proofs.LabelLists.{least_set, enough_above}
+use Rattle.ix_solve.proofs.LabelLists.{least_set, enough_above, zip_raised}
 use Rattle.ix_solve.proofs.NodeLists.{contains_cases, contains_or_not, slice_get-set_same, slice_get-set_other}
 use Rattle.ix_solve.proofs.Weights.{weight, weight_falls}
+
+-- Each label is below all that is high enough for its node.
+abbrev pub AreBelowEnough : {V : Type 0} → (V → V → Type 0) → (ℕ → List V → V → Type 0) → List V → Type 0
+AreBelowEnough {V} Below Asks labels = (node : ℕ) (label enough : V) → slice_get labels node ≡ Some label → Asks node labels enough → Below label enough
 
 -- Each node waits, or its label is high enough. What was spent, what waits and what the labels
 -- weigh is at most what it was at the start.
 pub record Working {V : Type 0} (Below : V → V → Type 0) (rank : V → ℕ) (readers : List (List ℕ)) (Asks : ℕ → List V → V → Type 0) (before steps : ℕ) (first now : List V) (waiting : List ℕ) : Type 0 where
   pub len : length now ≡ length readers
   pub least : IsLeast Below (length readers) Asks now
+  pub rising : AreBelowEnough Below Asks now
   pub settled : (node : ℕ) (label : V) → slice_get now node ≡ Some label → Asks node now label ⊎ Contains waiting node
   pub cost : steps + length waiting + weight rank readers now ≤ before + length readers + weight rank readers first
   pub floor : before + length readers ≤ steps + length waiting
@@ -32,10 +37,19 @@ module _ {V : Type 0} where
       (λ differs. sym (slice_get-set_other labels at other join differs))
       (cases_eq other at)
 
-module _ {V : Type 0} {Below : V → V → Type 0} {rank : V → ℕ} (laws : LatticeLaws Below rank) where
-  -- a join with a value that was not below is of lower rank
-  pub strict_join : (label value join : V) → IsJoin Below label value join → ¬ Below value label → rank join < rank label
-  strict_join label value join is apart = falls_strictly laws label join is.left (λ back. apart (laws.transitive _ _ _ is.right back))
+module _ {V : Type 0} {Below : V → V → Type 0} {rank : V → ℕ} (laws : LatticeLaws Below rank) {Asks : ℕ → List V → V → Type 0}
+    (monotone : IsMonotone Below Asks) where
+  -- where a label rises to the least that is high enough for its node, less is high enough than before
+  rising_on : (a : List V) (at : ℕ) (label value : V) → slice_get a at ≡ Some label → IsLeastOf Below (Asks at a) value → Below label value → AreBelowEnough Below Asks a → AreBelowEnough Below Asks (set a at value)
+  rising_on a at label value found says up rising node other enough g asks =
+      let before : Asks node a enough = monotone node a (set a at value) enough enough (zip_raised Below laws.reflexive a at label value found up) asks (laws.reflexive enough) in
+      ⊎_elim
+      (λ e.
+      let both : Some value ≡ Some other = sym (slice_get-set_same a at value label found) ∙ subst (λ t. slice_get (set a at value) t ≡ Some other) e g in
+      let same : value ≡ other = cc in
+      subst (λ t. Below t enough) same (says.1 enough (subst (λ t. Asks t a enough) e before)))
+      (λ differs. rising node other enough (sym (slice_get-set_other a at node value differs) ∙ g) before)
+      (cases_eq node at)
 
 module _ {V : Type 0} {Below : V → V → Type 0} {rank : V → ℕ} (laws : LatticeLaws Below rank) {readers : List (List ℕ)} {Asks : ℕ → List V → V → Type 0}
     (monotone : IsMonotone Below Asks)
@@ -48,6 +62,7 @@ module _ {V : Type 0} {Below : V → V → Type 0} {rank : V → ℕ} (laws : La
       record {
         len = now.len;
         least = now.least;
+        rising = now.rising;
         settled = λ node other g. ⊎_elim inl
             (λ waits. ⊎_elim
             (λ e.
@@ -62,30 +77,32 @@ module _ {V : Type 0} {Below : V → V → Type 0} {rank : V → ℕ} (laws : La
       }
 
   -- the label rises, and its readers wait
-  pub visited_raised : (before steps at : ℕ) (first a : List V) (old waiting new by : List ℕ) (label value join : V) → old ≡ at ∷ waiting → AddsEach waiting new by → slice_get readers at ≡ Some by → slice_get a at ≡ Some label → IsLeastOf Below (Asks at a) value → IsJoin Below label value join → ¬ Below value label
-      → Working Below rank readers Asks before steps first a old → Working Below rank readers Asks before (steps + 1) first (set a at join) new
-  visited_raised before steps at first a old waiting new by label value join is adds read found says joins apart now =
+  pub visited_raised : (before steps at : ℕ) (first a : List V) (old waiting new by : List ℕ) (label value : V) → old ≡ at ∷ waiting → AddsEach waiting new by → slice_get readers at ≡ Some by → slice_get a at ≡ Some label → IsLeastOf Below (Asks at a) value → ¬ Below value label
+      → Working Below rank readers Asks before steps first a old → Working Below rank readers Asks before (steps + 1) first (set a at value) new
+  visited_raised before steps at first a old waiting new by label value is adds read found says apart now =
+      let up = now.rising at label value found says.0 in
       let long : length old ≡ length (at ∷ waiting) = ap length is in
       let more : length new ≡ length waiting + length adds.more = ap length adds.appended ∙ length-append waiting adds.more in
-      let paid = weight_falls rank readers a at by label join read found (strict_join laws label value join joins apart) in
+      let paid = weight_falls rank readers a at by label value read found (falls_strictly laws label value up apart) in
       record {
-        len = length-set a at join ∙ now.len;
-        least = least_set laws monotone a at label value join now.least found says joins;
+        len = length-set a at value ∙ now.len;
+        least = least_set laws monotone a at label value value now.least found says (record { left = up; right = laws.reflexive value; least = λ other _ over. over });
+        rising = rising_on laws monotone a at label value found says up now.rising;
         settled = λ node other g.
-            let within : node < length readers = omega (arith, slice_get_within (set a at join) node other g, length-set a at join, now.len) in
+            let within : node < length readers = omega (arith, slice_get_within (set a at value) node other g, length-set a at value, now.len) in
             ⊎_elim
             (λ reads. inr (All-contains (Contains new) by node adds.all reads))
             (λ lacks.
-            let agree = agree_for_others readers a at node join by read lacks in
+            let agree = agree_for_others readers a at node value by read lacks in
             ⊎_elim
             (λ e.
-            let both : Some join ≡ Some other = sym (slice_get-set_same a at join label found) ∙ subst (λ t. slice_get (set a at join) t ≡ Some other) e g in
-            let same : join ≡ other = cc in
-            inl (subst (Asks node (set a at join)) same (depends node a (set a at join) join within agree (subst (λ t. Asks t a join) (sym e) (enough_above laws monotone a at value join says.0 joins.right)))))
+            let both : Some value ≡ Some other = sym (slice_get-set_same a at value label found) ∙ subst (λ t. slice_get (set a at value) t ≡ Some other) e g in
+            let same : value ≡ other = cc in
+            inl (subst (Asks node (set a at value)) same (depends node a (set a at value) value within agree (subst (λ t. Asks t a value) (sym e) says.0))))
             (λ differs.
-            let was : slice_get a node ≡ Some other = sym (slice_get-set_other a at node join differs) ∙ g in
+            let was : slice_get a node ≡ Some other = sym (slice_get-set_other a at node value differs) ∙ g in
             ⊎_elim
-            (λ met. inl (depends node a (set a at join) other within agree met))
+            (λ met. inl (depends node a (set a at value) other within agree met))
             (λ waits. ⊎_elim
             (λ e. absurd (differs (sym e)))
             (λ later. inr (subst (λ xs. Contains xs node) (sym adds.appended) (Contains-append_left waiting adds.more node later)))

@@ -77,7 +77,9 @@ pub fn solve_graph<G: FlowProblem, L: Ledger>(
         let value = problem.visit(alloc, at, &labels, steps)?;
         if !value.leq(&labels[at]) {
             waiting.add_all(problem.readers(at))?;
-            labels[at] = labels[at].join(alloc, &value)?;
+
+            // It is above the old label, since the labels that it was made of have only risen.
+            labels[at] = value;
         }
     }
     Ok(labels)

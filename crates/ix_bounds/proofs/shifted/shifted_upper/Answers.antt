@@ -5,8 +5,13 @@ use Rattle.ix_core.specs.declared.fact.Fact.{Fact}
 use Rattle.ix_facts.specs.Bounds as spec
 use Rattle.ix_facts.specs.Exact.{each}
 use Rattle.ix_bounds.specs.OnArrays.{alike_on}
+use Rattle.ix_bounds.proofs.BestOfParts.{counts_second}
 use Rattle.ix_bounds.proofs.ArraysAlike.{arrays_are}
 use Rattle.ix_bounds.proofs.shifted.shifted_upper.Goals as goal
+
+-- the bound counts the facts on the array
+pub shifted_over-requires-clause-counted : goal.shifted_over-requires-clause-counted
+shifted_over-requires-clause-counted g c = counts_second c.stored_upper.result _ c.shifted_on-here.result (c.shifted_on-here.ensures.bound ∙ ap (λ l. spec.best int_max c.stored_upper.result (spec.greatest (spec.shifted_by (g.G.Groups.all c.args.facts.now) c.args.p.now c.args.a.now c.args.offset.now) l)) c.on_path-on_a.ensures.facts)
 
 pub returns-clause-bound : goal.returns-clause-bound
 returns-clause-bound g c =
