@@ -16,12 +16,11 @@ ghost use Rattle.ix_fact_table.specs.FactOrder.{AtKey, first_path};
 ghost use Rattle.ix_fact_table.specs.Entries.{in_first_order};
 ghost use Rattle.ix_fact_table.specs.FactTables.{facts_of, table_kind};
 
-use crate::entries::in_first_order as first_order;
+use crate::entries::{in_first_order as first_order, int_of};
 use crate::fact_table::FactTable;
 use crate::filters::{beside_path, beside_target};
-use crate::kinds::of_one_kind;
 use crate::look_ups::{facts_on, place_of};
-use crate::sorted::{int_of, sorted};
+use crate::sorted::sorted;
 use crate::walks::{covers_all, merged, shared};
 use ix_core::{Fact, OpKind, Path};
 use ix_facts::{Kind, Landmarks, rounded_facts};
@@ -46,8 +45,7 @@ impl FactTable {
         ensures table { IfOk result (λ table. IsTable (of_kind kind facts.now) (facts_of table)) }
         ensures kind { IfOk result (λ table. table_kind table ≡ kind) }
     {
-        let own = of_one_kind(alloc, kind, facts)?;
-        let facts = sorted(alloc, kind, &own)?;
+        let facts = sorted(alloc, kind, facts)?;
         Ok(FactTable { kind, facts })
     }
 

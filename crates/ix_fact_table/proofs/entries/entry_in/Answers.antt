@@ -1,6 +1,6 @@
 use Rattle.std.proofs.Common.{sym, ◌∙◌, inl, inr}
 use Rattle.ix_fact_table.proofs.MergedTables.{one_form, one_table, no_table}
-use Rattle.ix_fact_table.proofs.sorted.entry_in.Goals as goal
+use Rattle.ix_fact_table.proofs.entries.entry_in.Goals as goal
 
 pub returns-then-not-is_of_kind-clause-table : goal.returns-then-not-is_of_kind-clause-table
 returns-then-not-is_of_kind-clause-table c = no_table c.args.kind c.args.fact.now (inl (sym c.is_of_kind.ensures ∙ c.if-not-is_of_kind.true))
