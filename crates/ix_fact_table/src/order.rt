@@ -10,6 +10,16 @@ use ix_core::{Fact, Path, PathOff};
 use ix_facts::{compare_offsets, compare_paths};
 use std::cmp::Ordering;
 
+/// The order of paths. Most are slots: these are compared here, without a call.
+fn path_order(p: &Path, q: &Path) -> Ordering
+    ensures { result ≡ path_cmp p.now q.now }
+{
+    if let (Path::Slot(s), Path::Slot(t)) = (p, q) {
+        return s.cmp(t);
+    }
+    compare_paths(p, q)
+}
+
 /// The path that a fact speaks of first.
 pub(crate) fn first_path(fact: &Fact) -> &Path
     ensures { result.now ≡ spec.first_path fact.now }
@@ -80,7 +90,7 @@ fn third(fact: &Fact) -> PathOff
 fn compare_others(fact: &Fact, other: &Fact) -> Ordering
     ensures { result ≡ ordering_then (path_cmp (spec.second_path fact.now) (spec.second_path other.now)) (offset_cmp (spec.third fact.now) (spec.third other.now)) }
 {
-    match compare_paths(second_path(fact), second_path(other)) {
+    match path_order(second_path(fact), second_path(other)) {
         Ordering::Less => Ordering::Less,
         Ordering::Greater => Ordering::Greater,
         Ordering::Equal => compare_offsets(&third(fact), &third(other)),
@@ -108,7 +118,7 @@ fn compare_rest(fact: &Fact, other: &Fact) -> Ordering
 pub fn compare_facts(fact: &Fact, other: &Fact) -> Ordering
     ensures { result ≡ fact_cmp fact.now other.now }
 {
-    match compare_paths(first_path(fact), first_path(other)) {
+    match path_order(first_path(fact), first_path(other)) {
         Ordering::Less => Ordering::Less,
         Ordering::Greater => Ordering::Greater,
         Ordering::Equal => compare_rest(fact, other),
