@@ -1,5 +1,5 @@
 -- A fact put among facts that rise by key, at the place that a binary search tells: both lists in one.
-use Rattle.std.specs.Prelude.{◌≡◌, ℕ, zero, suc, ◌+◌, ◌<◌, ◌≤◌, true, List, [], ◌∷◌, ◌++◌, Ok, Err, length, take, drop, get_or, set, refl}
+use Rattle.std.specs.Prelude.{◌≡◌, ◌⊎◌, ℕ, zero, suc, ◌+◌, ◌<◌, ◌≤◌, true, false, List, [], ◌∷◌, ◌++◌, Ok, Err, length, take, drop, get_or, set, refl}
 use Rattle.std.specs.List.{insert}
 use Rattle.std.specs.List.Sorted.{IsBinarySearchResult}
 use Rattle.std.specs.Ordering.{is_eq}
@@ -8,13 +8,19 @@ use Rattle.std.proofs.Common.{arith, add-one, inl, inr, ap, sym, ◌∙◌, subs
 use Rattle.std.proofs.Math.Seq.{drop-cons}
 use Rattle.std.proofs.lemmas.List.{append-nil, take-append-drop, take-set, drop-set}
 use Rattle.ix_core.specs.declared.fact.Fact.{Fact}
-use Rattle.ix_facts.specs.Facts.{IsIn}
+use Rattle.ix_facts.specs.declared.kind.Kind.{Kind}
+use Rattle.ix_facts.specs.Facts.{IsIn, is_default}
+use Rattle.ix_facts.specs.Kinds.{is_of, of_kind}
+use Rattle.ix_facts.specs.Systems.{HasClass, IsTable}
 use Rattle.ix_fact_table.specs.FactOrder.{fact_cmp, at_key, alike_back}
 use Rattle.ix_fact_table.specs.Meets.{met}
-use Rattle.ix_fact_table.specs.Rising.{rises}
+use Rattle.ix_fact_table.specs.Rising.{rises, is_table_of}
+use Rattle.ix_fact_table.specs.Entries.{HasInt, entry_of}
+use Rattle.ix_fact_table.specs.RisingLaws.{table_rises}
 use Rattle.ix_fact_table.specs.Walks.{HasBoth}
+use Rattle.ix_fact_table.proofs.MergedTables.{halves_form, halves_table, one_form, one_table, no_table}
 use Rattle.ix_fact_table.proofs.Searches.{comparisons_rise, earlier}
-use Rattle.ix_fact_table.proofs.WalksAlongBoth.{Merging, merging_starts, merging_left, merging_right, merging_both, merging_ends}
+use Rattle.ix_fact_table.proofs.WalksAlongBoth.{has_first_alone, Merging, merging_starts, merging_left, merging_right, merging_both, merging_ends}
 
 -- what holds at each place of a part holds of each fact of it
 take_each : (P : Fact → Type 0) (facts : List Fact) (n : ℕ) → ((k : ℕ) (d : Fact) → k < n → k < length facts → P (get_or facts k d)) → (f : Fact) → IsIn f (take n facts) → P f
@@ -71,3 +77,15 @@ module _ (facts : List Fact) (e : Fact) (rise : rises facts ≡ true) where
       let less = take_each (λ f. fact_cmp f e ≡ Before) facts at
       (λ k d a b. sym (alike_back (get_or facts at d) e (get_or facts k d) (at_key (get_or facts at d) e (ap is_eq (same d)))) ∙ earlier facts rise k at d a within) in
       subst Whole (sym here) (put_met (take at facts) g (drop (at + 1) facts) whole less (ap (λ f. fact_cmp f e) is ∙ same g))
+
+-- a fact that is put into a table of its kind makes the table of one fact more
+module _ (own : Kind) (f : Fact) (table : List Fact) (form : is_table_of own table ≡ true) where
+  pub none_put : (is_of own f ≡ false) ⊎ (is_default f ≡ true) → (facts : List Fact) → IsTable (of_kind own facts) table → IsTable (of_kind own (facts ++ f ∷ [])) table
+  none_put none facts is = halves_table own (facts ++ f ∷ []) facts (f ∷ []) table [] refl form refl is (no_table own f none) table (has_first_alone table) (table_rises own table form)
+
+  module _ (kind : is_of own f ≡ true) (tells : is_default f ≡ false) (class : HasClass f) (int : HasInt f) (all : List Fact) (has : HasBoth table (entry_of f ∷ []) all) (rise : rises all ≡ true) where
+    pub put_form : is_table_of own all ≡ true
+    put_form = halves_form own table (entry_of f ∷ []) form (one_form own f kind tells class int) all has rise
+
+    pub put_table : (facts : List Fact) → IsTable (of_kind own facts) table → IsTable (of_kind own (facts ++ f ∷ [])) all
+    put_table facts is = halves_table own (facts ++ f ∷ []) facts (f ∷ []) table (entry_of f ∷ []) refl form (one_form own f kind tells class int) is (one_table own f kind tells class int) all has rise

@@ -1,17 +1,14 @@
 //! The form in which a table keeps a fact.
 
-ghost use Rattle.std.specs.Prelude.{◌≡◌, true, ◌∷◌, [], option_to_list};
+ghost use Rattle.std.specs.Prelude.{◌≡◌};
 ghost use Rattle.std.specs.Ordering.{is_gt};
 ghost use Rattle.ix_facts.specs.PathOrder.{path_cmp};
 ghost use Rattle.ix_facts.specs.Facts.{is_default};
-ghost use Rattle.ix_facts.specs.Kinds.{of_kind};
-ghost use Rattle.ix_facts.specs.Systems.{HasClass, IsTable};
 ghost use Rattle.ix_fact_table.specs.Entries as spec;
 ghost use Rattle.ix_fact_table.specs.Entries.{HasInt};
-ghost use Rattle.ix_fact_table.specs.Rising.{is_table_of};
 
 use ix_core::{Fact, Path, PathOff};
-use ix_facts::{Kind, compare_paths, is_of_kind};
+use ix_facts::compare_paths;
 use std::cmp::Ordering;
 
 /// Whether the first path comes after the second in the order of paths.
@@ -76,20 +73,4 @@ pub(crate) fn int_of(fact: &Fact) -> i32
         Fact::Upper(_, _, _, c) => c,
         _ => 0,
     }
-}
-
-/// The fact as a table of the kind keeps it; none where it is of another kind or said of every path.
-pub(crate) fn entry_in(kind: Kind, fact: &Fact) -> Option<Fact>
-    requires class { HasClass fact.now }
-    ensures form { is_table_of kind (option_to_list result) ≡ true }
-    ensures table { IsTable (of_kind kind (fact.now ∷ [])) (option_to_list result) }
-{
-    let _number = int_of(fact);
-    if !is_of_kind(kind, fact) {
-        return None;
-    }
-    if is_said_of_all(fact) {
-        return None;
-    }
-    Some(entry_of(fact))
 }

@@ -7,11 +7,11 @@ ghost use Rattle.ix_facts.specs.Systems.{HasClass, HaveClasses, IsTable};
 ghost use Rattle.ix_fact_table.specs.Rising.{rises, is_table_of};
 ghost use Rattle.ix_fact_table.specs.Walks.{HasBoth};
 
-use crate::entries::entry_in;
+use crate::entries::{entry_of, int_of, is_said_of_all};
 use crate::meets::met;
 use crate::order::compare_facts;
 use ix_core::Fact;
-use ix_facts::Kind;
+use ix_facts::{Kind, is_of_kind};
 use std::alloc::{AllocError, Global};
 
 /// Puts the fact where its key belongs. Where a fact stands at that key, what both say takes its place.
@@ -34,9 +34,14 @@ fn put_entry(table: &mut Vec<Fact>, kind: Kind, fact: &Fact) -> Result<(), Alloc
     ensures form { OnOk result (is_table_of kind table.new.items ≡ true) }
     ensures table { OnOk result ((facts : List Fact) → IsTable (of_kind kind facts) table.old.items → IsTable (of_kind kind (facts ++ fact.now ∷ [])) table.new.items) }
 {
-    if let Some(entry) = entry_in(kind, fact) {
-        put(table, entry)?;
+    let _number = int_of(fact);
+    if !is_of_kind(kind, fact) {
+        return Ok(());
     }
+    if is_said_of_all(fact) {
+        return Ok(());
+    }
+    put(table, entry_of(fact))?;
     Ok(())
 }
 

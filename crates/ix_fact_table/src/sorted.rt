@@ -1,11 +1,10 @@
 //! The facts of a list as a table keeps them.
 
-ghost use Rattle.std.specs.Prelude.{◌≡◌, true, ◌∷◌, [], IfOk, OnOk, option_to_list};
+ghost use Rattle.std.specs.Prelude.{◌≡◌, true, IfOk};
 ghost use Rattle.ix_facts.specs.Kinds.{of_kind};
-ghost use Rattle.ix_facts.specs.Systems.{HasClass, HaveClasses, IsTable};
+ghost use Rattle.ix_facts.specs.Systems.{HaveClasses, IsTable};
 ghost use Rattle.ix_fact_table.specs.Rising.{is_table_of};
 
-use crate::entries::entry_in;
 use crate::insertion::inserted;
 use crate::kinds::{from_first, of_one_kind};
 use crate::rising::kept_front;
@@ -14,28 +13,6 @@ use ix_core::Fact;
 use ix_facts::Kind;
 use ix_text::List;
 use std::alloc::{AllocError, Global};
-
-fn push_entry(table: &mut List<Fact>, kind: Kind, fact: &Fact) -> Result<(), AllocError>
-    requires class { HasClass fact.now }
-    requires empty { table.old ≡ [] }
-    ensures form { OnOk result (is_table_of kind table.new ≡ true) }
-    ensures table { OnOk result (IsTable (of_kind kind (fact.now ∷ [])) table.new) }
-{
-    if let Some(entry) = entry_in(kind, fact) {
-        table.push(entry)?;
-    }
-    Ok(())
-}
-
-fn sorted_one(alloc: Global, kind: Kind, fact: &Fact) -> Result<List<Fact>, AllocError>
-    requires class { HasClass fact.now }
-    ensures form { IfOk result (λ table. is_table_of kind table ≡ true) }
-    ensures table { IfOk result (λ table. IsTable (of_kind kind (fact.now ∷ [])) table) }
-{
-    let mut table = List::new(alloc);
-    push_entry(&mut table, kind, fact)?;
-    Ok(table)
-}
 
 fn copied(alloc: Global, facts: &[Fact]) -> Result<List<Fact>, AllocError>
     ensures { IfOk result (λ table. table ≡ facts.now) }
@@ -88,22 +65,29 @@ fn sorted_many(alloc: Global, kind: Kind, facts: &[Fact]) -> Result<List<Fact>, 
 }
 
 /// The facts of the kind as a table keeps them: at each key what they say together, in the order of keys. Where no fact is of the kind it takes no memory.
+pub(crate) fn entries(alloc: Global, kind: Kind, facts: &[Fact]) -> Result<Vec<Fact>, AllocError>
+    requires classes { HaveClasses facts.now }
+    ensures form { IfOk result (λ entries. is_table_of kind entries.items ≡ true) }
+    ensures table { IfOk result (λ entries. IsTable (of_kind kind facts.now) entries.items) }
+{
+    let rest = from_first(kind, facts);
+    if rest.len() <= FEW {
+        let few = inserted(alloc, kind, rest)?;
+        return Ok(few);
+    }
+    let own = of_one_kind(alloc, kind, rest)?;
+    let table = sorted_many(alloc, kind, &own)?;
+    let many = Vec::from_slice(alloc, table.as_slice())?;
+    Ok(many)
+}
+
+/// The same as a list.
 pub(crate) fn sorted(alloc: Global, kind: Kind, facts: &[Fact]) -> Result<List<Fact>, AllocError>
     requires classes { HaveClasses facts.now }
     ensures form { IfOk result (λ table. is_table_of kind table ≡ true) }
     ensures table { IfOk result (λ table. IsTable (of_kind kind facts.now) table) }
 {
-    let rest = from_first(kind, facts);
-    let Some((first, more)) = rest.split_first() else {
-        return Ok(List::new(alloc));
-    };
-    if from_first(kind, more).is_empty() {
-        return sorted_one(alloc, kind, first);
-    }
-    if rest.len() <= FEW {
-        return sorted_few(alloc, kind, rest);
-    }
-    let own = of_one_kind(alloc, kind, rest)?;
-    let table = sorted_many(alloc, kind, &own)?;
+    let own = entries(alloc, kind, facts)?;
+    let table = copied(alloc, &own)?;
     Ok(table)
 }

@@ -1,20 +1,19 @@
-use Rattle.std.proofs.Common.{[], ◌∷◌, ◌++◌, refl}
-use Rattle.ix_fact_table.specs.RisingLaws.{table_rises}
-use Rattle.ix_fact_table.proofs.WalksAlongBoth.{has_first_alone}
-use Rattle.ix_fact_table.proofs.MergedTables.{halves_form, halves_table}
+use Rattle.std.proofs.Common.{sym, ◌∙◌, inl, inr}
+use Rattle.ix_fact_table.proofs.PutFacts.{none_put, put_form, put_table}
 use Rattle.ix_fact_table.proofs.insertion.put_entry.Goals as goal
 
-pub returns-in_ok-put-clause-form : goal.returns-in_ok-put-clause-form
-returns-in_ok-put-clause-form c =
-    halves_form c.args.kind c.args.table.now.items (c.in-Some.entry ∷ []) c.requires.form c.in-Some.ensures.form c.put.new.facts.items c.in_ok-put.ensures.both c.in_ok-put.ensures.rises
+pub returns-then-not-is_of_kind-clause-table : goal.returns-then-not-is_of_kind-clause-table
+returns-then-not-is_of_kind-clause-table c = none_put c.args.kind c.args.fact.now c.args.table.now.items c.requires.form (inl (sym c.is_of_kind.ensures ∙ c.if-not-is_of_kind.true))
 
-pub returns-in_ok-put-clause-table : goal.returns-in_ok-put-clause-table
-returns-in_ok-put-clause-table c =
-    λ facts is. halves_table c.args.kind (facts ++ c.args.fact.now ∷ []) facts (c.args.fact.now ∷ []) c.args.table.now.items (c.in-Some.entry ∷ []) refl
-    c.requires.form c.in-Some.ensures.form is c.in-Some.ensures.table c.put.new.facts.items c.in_ok-put.ensures.both c.in_ok-put.ensures.rises
+pub returns-then-is_said_of_all-clause-table : goal.returns-then-is_said_of_all-clause-table
+returns-then-is_said_of_all-clause-table c = none_put c.args.kind c.args.fact.now c.args.table.now.items c.requires.form (inr (sym c.is_said_of_all.ensures ∙ c.if-is_said_of_all.true))
 
-pub returns-in_default-clause-table : goal.returns-in_default-clause-table
-returns-in_default-clause-table c =
-    let table = c.args.table.now.items in
-    λ facts is. halves_table c.args.kind (facts ++ c.args.fact.now ∷ []) facts (c.args.fact.now ∷ []) table [] refl
-    c.requires.form refl is c.in_default.ensures.table table (has_first_alone table) (table_rises c.args.kind table c.requires.form)
+pub returns : goal.returns
+returns c =
+    let kind = sym c.is_of_kind.ensures ∙ c.if-not-is_of_kind.false in
+    let tells = sym c.is_said_of_all.ensures ∙ c.if-is_said_of_all.false in
+    let has = rw c.entry_of.ensures at c.in_ok-put.ensures.both in
+    record {
+      form = put_form c.args.kind c.args.fact.now c.args.table.now.items c.requires.form kind tells c.requires.class c.int_of-number.ensures.int c.put.new.facts.items has c.in_ok-put.ensures.rises;
+      table = put_table c.args.kind c.args.fact.now c.args.table.now.items c.requires.form kind tells c.requires.class c.int_of-number.ensures.int c.put.new.facts.items has c.in_ok-put.ensures.rises;
+    }
