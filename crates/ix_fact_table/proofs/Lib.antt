@@ -6,3 +6,4 @@ pub mod RisingSteps
 mod KeptFronts
 pub mod OneKind
 pub mod Searches
+mod PutFacts

@@ -30,7 +30,7 @@ place [] f i = absurd i
 place (g ∷ facts) f i = ⊎_elim (λ e. (0, omega arith, sym e)) (λ j. let x = place facts f j in (suc x.0, omega (arith, x.1), x.2)) i
 
 -- an earlier key is less than a later one
-earlier : (facts : List Fact) → rises facts ≡ true → (i j : ℕ) (d : Fact) → i < j → j < length facts → fact_cmp (get_or facts i d) (get_or facts j d) ≡ Before
+pub earlier : (facts : List Fact) → rises facts ≡ true → (i j : ℕ) (d : Fact) → i < j → j < length facts → fact_cmp (get_or facts i d) (get_or facts j d) ≡ Before
 earlier [] r i j d less within = absurd (omega arith)
 earlier (f ∷ facts) r i zero d less within = absurd (omega arith)
 earlier (f ∷ facts) r zero (suc j) d less within = below_each f facts (rises_parts f facts r).0 (get_or facts j d) (in_get facts j d (omega arith))
@@ -42,7 +42,7 @@ turned_lt f g h = ap is_lt (fact_total.antisymm g f ∙ ap ordering_reverse h)
 sorted_facts : (facts : List Fact) → rises facts ≡ true → IsSortedBy (λ f g. is_lt (fact_cmp f g)) facts
 sorted_facts facts r k d from within = turned_lt (get_or facts k d) (get_or facts (k + 1) d) (earlier facts r k (k + 1) d (omega arith) within)
 
-comparisons_rise : (facts : List Fact) (key : Fact) → rises facts ≡ true → IsNonDecreasingBy (λ f. ordering_index (fact_cmp f key)) facts
+pub comparisons_rise : (facts : List Fact) (key : Fact) → rises facts ≡ true → IsNonDecreasingBy (λ f. ordering_index (fact_cmp f key)) facts
 comparisons_rise facts key r = searchable_from_sorted fact_total (λ f. f) facts key (sorted_facts facts r)
 
 pub none_at : (facts : List Fact) (key : Fact) (at : ℕ) → rises facts ≡ true → IsBinarySearchResult (λ f. fact_cmp f key) facts (Err at) → (f : Fact) → IsIn f facts → AtKey f key → ⊥

@@ -68,7 +68,7 @@ has_both m ms t ts rest key has = record {
   from = λ f i. ⊎_elim (λ e. both m t (inl refl) (inl refl) key e) (λ j. from_more ms ts (m ∷ ms) (t ∷ ts) (λ g k. inr k) (λ g k. inr k) f (has.from f j)) i;
 }
 
-has_first_alone : (a : List Fact) → HasBoth a [] a
+pub has_first_alone : (a : List Fact) → HasBoth a [] a
 has_first_alone a = record { first_covered = λ f i. (f, i, covers_itself f); second_covered = λ f i. absurd i; from = λ f i. left i }
 
 has_second_alone : (b : List Fact) → HasBoth [] b b

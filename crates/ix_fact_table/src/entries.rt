@@ -5,6 +5,7 @@ ghost use Rattle.std.specs.Ordering.{is_gt};
 ghost use Rattle.ix_facts.specs.PathOrder.{path_cmp};
 ghost use Rattle.ix_facts.specs.Facts.{is_default};
 ghost use Rattle.ix_fact_table.specs.Entries as spec;
+ghost use Rattle.ix_fact_table.specs.Entries.{HasInt};
 
 use ix_core::{Fact, Path, PathOff};
 use ix_facts::compare_paths;
@@ -60,5 +61,16 @@ pub(crate) fn is_said_of_all(fact: &Fact) -> bool
         Fact::Rng(_, low, high) => low <= -2147483648 && high >= 2147483647,
         Fact::LenRng(_, low, high) => low <= 0 && high >= 2147483647,
         _ => false,
+    }
+}
+
+/// The number of a difference or a bound is an int: so its type has it.
+pub(crate) fn int_of(fact: &Fact) -> i32
+    ensures int { HasInt fact.now }
+{
+    match *fact {
+        Fact::Less(_, _, c) => c,
+        Fact::Upper(_, _, _, c) => c,
+        _ => 0,
     }
 }

@@ -9,6 +9,7 @@
 mod entries;
 mod fact_table;
 mod filters;
+mod insertion;
 mod kinds;
 mod look_ups;
 mod meets;

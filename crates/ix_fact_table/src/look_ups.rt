@@ -30,7 +30,7 @@ pub(crate) fn place_of(facts: &[Fact], key: &Fact) -> Option<usize>
 fn is_before(fact: &Fact, path: &Path) -> bool
     ensures { result ≡ is_lt (path_cmp (order.first_path fact.now) path.now) }
 {
-    match compare_paths(&first_path(fact), path) {
+    match compare_paths(first_path(fact), path) {
         Ordering::Less => true,
         _ => false,
     }
@@ -40,7 +40,7 @@ fn is_before(fact: &Fact, path: &Path) -> bool
 fn is_on(fact: &Fact, path: &Path) -> bool
     ensures { result ≡ is_eq (path_cmp (order.first_path fact.now) path.now) }
 {
-    match compare_paths(&first_path(fact), path) {
+    match compare_paths(first_path(fact), path) {
         Ordering::Equal => true,
         _ => false,
     }

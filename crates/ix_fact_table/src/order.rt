@@ -10,11 +10,21 @@ use ix_core::{Fact, Path, PathOff};
 use ix_facts::{compare_offsets, compare_paths};
 use std::cmp::Ordering;
 
-/// The path that a fact speaks of first.
-pub(crate) fn first_path(fact: &Fact) -> Path
-    ensures { result ≡ spec.first_path fact.now }
+/// The order of paths. Most are slots: these are compared here, without a call.
+fn path_order(p: &Path, q: &Path) -> Ordering
+    ensures { result ≡ path_cmp p.now q.now }
 {
-    match *fact {
+    if let (Path::Slot(s), Path::Slot(t)) = (p, q) {
+        return s.cmp(t);
+    }
+    compare_paths(p, q)
+}
+
+/// The path that a fact speaks of first.
+pub(crate) fn first_path(fact: &Fact) -> &Path
+    ensures { result.now ≡ spec.first_path fact.now }
+{
+    match fact {
         Fact::Rng(p, _, _) => p,
         Fact::LenRng(a, _, _) => a,
         Fact::Low(p, _) => p,
@@ -46,11 +56,14 @@ fn form(fact: &Fact) -> u8
     }
 }
 
+/// How many forms speak of one path alone: they come first.
+const FORMS_OF_ONE_PATH: u8 = 3;
+
 /// The path that it speaks of second; where there is none, that of the first slot.
-fn second_path(fact: &Fact) -> Path
-    ensures { result ≡ spec.second_path fact.now }
+fn second_path(fact: &Fact) -> &Path
+    ensures { result.now ≡ spec.second_path fact.now }
 {
-    match *fact {
+    match fact {
         Fact::Same(_, b) => b,
         Fact::IsLen(_, a) => a,
         Fact::Less(_, q, _) => q,
@@ -58,7 +71,7 @@ fn second_path(fact: &Fact) -> Path
         Fact::Search(_, a) => a,
         Fact::Neg(_, a) => a,
         Fact::Upper(_, a, _, _) => a,
-        _ => Path::Slot(0),
+        _ => &Path::Slot(0),
     }
 }
 
@@ -73,18 +86,30 @@ fn third(fact: &Fact) -> PathOff
     }
 }
 
-/// By form, second and third path.
+/// By second and third path.
+fn compare_others(fact: &Fact, other: &Fact) -> Ordering
+    ensures { result ≡ ordering_then (path_cmp (spec.second_path fact.now) (spec.second_path other.now)) (offset_cmp (spec.third fact.now) (spec.third other.now)) }
+{
+    match path_order(second_path(fact), second_path(other)) {
+        Ordering::Less => Ordering::Less,
+        Ordering::Greater => Ordering::Greater,
+        Ordering::Equal => compare_offsets(&third(fact), &third(other)),
+    }
+}
+
+/// By form, second and third path. Facts of one path alone are equal where their forms are.
 fn compare_rest(fact: &Fact, other: &Fact) -> Ordering
     ensures { result ≡ rest_cmp fact.now other.now }
 {
-    match form(fact).cmp(&form(other)) {
+    let place = form(fact);
+    match place.cmp(&form(other)) {
         Ordering::Less => Ordering::Less,
         Ordering::Greater => Ordering::Greater,
         Ordering::Equal => {
-            compare_paths(&second_path(fact), &second_path(other)).then(compare_offsets(
-                &third(fact),
-                &third(other),
-            ))
+            if place < FORMS_OF_ONE_PATH {
+                return Ordering::Equal;
+            }
+            compare_others(fact, other)
         }
     }
 }
@@ -93,7 +118,7 @@ fn compare_rest(fact: &Fact, other: &Fact) -> Ordering
 pub fn compare_facts(fact: &Fact, other: &Fact) -> Ordering
     ensures { result ≡ fact_cmp fact.now other.now }
 {
-    match compare_paths(&first_path(fact), &first_path(other)) {
+    match path_order(first_path(fact), first_path(other)) {
         Ordering::Less => Ordering::Less,
         Ordering::Greater => Ordering::Greater,
         Ordering::Equal => compare_rest(fact, other),

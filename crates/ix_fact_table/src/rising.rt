@@ -7,9 +7,8 @@ ghost use Rattle.ix_fact_table.specs.Entries as spec;
 ghost use Rattle.ix_fact_table.specs.FactOrder.{fact_cmp};
 ghost use Rattle.ix_fact_table.specs.Rising.{is_table_of};
 
-use crate::entries::{is_after, is_said_of_all};
+use crate::entries::{int_of, is_after, is_said_of_all};
 use crate::order::compare_facts;
-use crate::sorted::int_of;
 use ix_core::{Fact, PathOff};
 use ix_facts::{Kind, is_of_kind};
 use std::cmp::Ordering;

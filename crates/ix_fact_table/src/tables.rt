@@ -16,12 +16,11 @@ ghost use Rattle.ix_fact_table.specs.FactOrder.{AtKey, first_path};
 ghost use Rattle.ix_fact_table.specs.Entries.{in_first_order};
 ghost use Rattle.ix_fact_table.specs.FactTables.{facts_of, table_kind};
 
-use crate::entries::in_first_order as first_order;
+use crate::entries::{in_first_order as first_order, int_of};
 use crate::fact_table::FactTable;
 use crate::filters::{beside_path, beside_target};
-use crate::kinds::of_one_kind;
 use crate::look_ups::{facts_on, place_of};
-use crate::sorted::{int_of, sorted};
+use crate::sorted::{entries, sorted};
 use crate::walks::{covers_all, merged, shared};
 use ix_core::{Fact, OpKind, Path};
 use ix_facts::{Kind, Landmarks, rounded_facts};
@@ -46,8 +45,7 @@ impl FactTable {
         ensures table { IfOk result (λ table. IsTable (of_kind kind facts.now) (facts_of table)) }
         ensures kind { IfOk result (λ table. table_kind table ≡ kind) }
     {
-        let own = of_one_kind(alloc, kind, facts)?;
-        let facts = sorted(alloc, kind, &own)?;
+        let facts = sorted(alloc, kind, facts)?;
         Ok(FactTable { kind, facts })
     }
 
@@ -107,8 +105,8 @@ impl FactTable {
         ensures table { IfOk result (λ table. IsTable (facts_of self.now ++ of_kind (table_kind self.now) new.now) (facts_of table)) }
         ensures kind { IfOk result (λ table. table_kind table ≡ table_kind self.now) }
     {
-        let more = sorted(alloc, self.kind, new)?;
-        let facts = merged(alloc, self.facts.as_slice(), more.as_slice())?;
+        let more = entries(alloc, self.kind, new)?;
+        let facts = merged(alloc, self.facts.as_slice(), &more)?;
         Ok(FactTable {
             kind: self.kind,
             facts,
@@ -124,11 +122,11 @@ impl FactTable {
         ensures table { IfOk result (λ more. IfSome more (λ table. IsTable (facts_of self.now ++ of_kind (table_kind self.now) new.now) (facts_of table))) }
         ensures kind { IfOk result (λ more. IfSome more (λ table. table_kind table ≡ table_kind self.now)) }
     {
-        let more = FactTable::of_facts(alloc, self.kind, new)?;
-        if self.says_all(&more) {
+        let more = entries(alloc, self.kind, new)?;
+        if covers_all(self.facts.as_slice(), &more) {
             return Ok(None);
         }
-        let facts = merged(alloc, self.facts.as_slice(), more.facts.as_slice())?;
+        let facts = merged(alloc, self.facts.as_slice(), &more)?;
         Ok(Some(FactTable {
             kind: self.kind,
             facts,

@@ -1,47 +1,42 @@
-use Rattle.std.specs.Prelude.{◌≡◌, true, refl}
-use Rattle.std.proofs.Common.{sym, subst, ◌∙◌}
+use Rattle.std.specs.Prelude.{refl}
+use Rattle.std.proofs.Common.{sym, ◌∙◌}
 use Rattle.std.proofs.lemmas.Bool.{false≢true}
 use Rattle.ix_facts.specs.Kinds.{of_kind}
-use Rattle.ix_fact_table.specs.declared.fact_table.FactTable.{FactTable}
-use Rattle.ix_fact_table.specs.Rising.{is_table_of}
-use Rattle.ix_fact_table.specs.FactTables.{facts_of, table_kind}
-use Rattle.ix_fact_table.proofs.SaidAlready.{said_of_table, already_table}
+use Rattle.ix_fact_table.specs.FactTables.{facts_of}
+use Rattle.ix_fact_table.proofs.SaidAlready.{covers_new, already_table}
 use Rattle.ix_fact_table.proofs.TableForms.{with_form, with_table}
 use Rattle.ix_fact_table.proofs.fact_table.FactTable.with_more.Goals as goal
 
-own_form : (table more : FactTable) → table_kind more ≡ table_kind table → is_table_of table.kind (facts_of more) ≡ true
-own_form table more same = subst (λ own. is_table_of own (facts_of more) ≡ true) same more.form
+pub returns-then-covers_all-clause-none : goal.returns-then-covers_all-clause-none
+returns-then-covers_all-clause-none c =
+    let table = c.args.self.now in
+    let covered = rw (c.as_slice.ensures, c.deref.ensures.value) at c.covers_all.ensures.covered in
+    let says = covers_new table.kind (facts_of table) table.form (of_kind table.kind c.args.new.now) c.in_ok-more.more.items c.in_ok-more.ensures.form c.in_ok-more.ensures.table in
+    (λ _. says.0 (covered.0 c.if-covers_all.true), λ _. refl)
 
-pub returns-then-says_all-clause-none : goal.returns-then-says_all-clause-none
-returns-then-says_all-clause-none c =
+pub returns-then-covers_all-clause-same : goal.returns-then-covers_all-clause-same
+returns-then-covers_all-clause-same c =
     let table = c.args.self.now in
     let new = of_kind table.kind c.args.new.now in
-    let says = c.says_all.ensures.below.0 c.if-says_all.true in
-    (λ _. (said_of_table table.kind (facts_of table) table.form new (facts_of c.in_ok-more.more) c.in_ok-more.ensures.table).0 says, λ _. refl)
-
-pub returns-then-says_all-clause-same : goal.returns-then-says_all-clause-same
-returns-then-says_all-clause-same c =
-    let table = c.args.self.now in
-    let new = of_kind table.kind c.args.new.now in
-    let says = c.says_all.ensures.below.0 c.if-says_all.true in
-    already_table table.kind (facts_of table) table.form new ((said_of_table table.kind (facts_of table) table.form new (facts_of c.in_ok-more.more) c.in_ok-more.ensures.table).0 says)
+    let covered = rw (c.as_slice.ensures, c.deref.ensures.value) at c.covers_all.ensures.covered in
+    let says = covers_new table.kind (facts_of table) table.form new c.in_ok-more.more.items c.in_ok-more.ensures.form c.in_ok-more.ensures.table in
+    already_table table.kind (facts_of table) table.form new (says.0 (covered.0 c.if-covers_all.true))
 
 pub invariant_of-result : goal.invariant_of-result
 invariant_of-result c =
     let table = c.args.self.now in
-    let more = c.in_ok-more.more in
-    let has = rw (c.as_slice.ensures, c.as_slice-2.ensures) at c.in_ok-facts.ensures.both in
-    record { form = with_form table.kind (facts_of table) (facts_of more) c.in_ok-facts.facts table.form (own_form table more c.in_ok-more.ensures.kind) has c.in_ok-facts.ensures.rises }
+    let has = rw (c.as_slice-2.ensures, c.deref-2.ensures.value) at c.in_ok-facts.ensures.both in
+    record { form = with_form table.kind (facts_of table) c.in_ok-more.more.items c.in_ok-facts.facts table.form c.in_ok-more.ensures.form has c.in_ok-facts.ensures.rises }
 
 pub returns-clause-none : goal.returns-clause-none
 returns-clause-none c =
     let table = c.args.self.now in
-    let new = of_kind table.kind c.args.new.now in
-    (λ t. absurd (false≢true (sym t)), λ says. absurd (false≢true (sym c.if-says_all.false ∙ c.says_all.ensures.below.1 ((said_of_table table.kind (facts_of table) table.form new (facts_of c.in_ok-more.more) c.in_ok-more.ensures.table).1 says))))
+    let covered = rw (c.as_slice.ensures, c.deref.ensures.value) at c.covers_all.ensures.covered in
+    let says = covers_new table.kind (facts_of table) table.form (of_kind table.kind c.args.new.now) c.in_ok-more.more.items c.in_ok-more.ensures.form c.in_ok-more.ensures.table in
+    (λ t. absurd (false≢true (sym t)), λ all. absurd (false≢true (sym c.if-covers_all.false ∙ covered.1 (says.1 all))))
 
 pub returns-clause-table : goal.returns-clause-table
 returns-clause-table c =
     let table = c.args.self.now in
-    let more = c.in_ok-more.more in
-    let has = rw (c.as_slice.ensures, c.as_slice-2.ensures) at c.in_ok-facts.ensures.both in
-    with_table table.kind (facts_of table) c.args.new.now (facts_of more) c.in_ok-facts.facts table.form (own_form table more c.in_ok-more.ensures.kind) c.in_ok-more.ensures.table has c.in_ok-facts.ensures.rises
+    let has = rw (c.as_slice-2.ensures, c.deref-2.ensures.value) at c.in_ok-facts.ensures.both in
+    with_table table.kind (facts_of table) c.args.new.now c.in_ok-more.more.items c.in_ok-facts.facts table.form c.in_ok-more.ensures.form c.in_ok-more.ensures.table has c.in_ok-facts.ensures.rises

@@ -6,7 +6,7 @@ use Rattle.ix_facts.specs.Systems.{IsTable}
 use Rattle.ix_fact_table.specs.Rising.{is_table_of}
 use Rattle.ix_fact_table.proofs.RisingSteps.{kept_table}
 use Rattle.ix_fact_table.proofs.MergedTables.{front_classes, back_classes, halves_form, halves_table}
-use Rattle.ix_fact_table.proofs.sorted.+sorted.Goals as goal
+use Rattle.ix_fact_table.proofs.sorted.+sorted_many.Goals as goal
 
 pub returns-then-kept-facts-clause-table : goal.returns-then-kept-facts-clause-table
 returns-then-kept-facts-clause-table t c =
@@ -16,8 +16,8 @@ returns-then-kept-facts-clause-table t c =
     let form : is_table_of c.args.kind facts ≡ true = subst (λ l. is_table_of c.args.kind l ≡ true) (take_all kept facts all) c.kept_front-kept.ensures.form in
     subst (λ l. IsTable (of_kind c.args.kind c.args.facts.now) l) (sym c.in_ok-table.ensures) (kept_table c.args.kind c.args.facts.now form)
 
-pub sorted-requires : goal.sorted-requires
-sorted-requires t c = (search rules, back_classes _ c.args.facts.now c.split_at.result.1.now c.split_at.ensures.back c.requires.classes)
+pub sorted_many-requires : goal.sorted_many-requires
+sorted_many-requires t c = (search rules, back_classes _ c.args.facts.now c.split_at.result.1.now c.split_at.ensures.back c.requires.classes)
 
 pub returns-then-kept-half : goal.returns-then-kept-half
 returns-then-kept-half t c =
@@ -31,11 +31,11 @@ returns-then-kept-half t c =
           form c.in_ok-second.ensures.form (kept_table own front form) c.in_ok-second.ensures.table c.in_ok-all.all has c.in_ok-all.ensures.rises;
     }
 
-pub sorted-requires-2 : goal.sorted-requires-2
-sorted-requires-2 t c = (search rules, front_classes _ c.args.facts.now c.split_at-2.result.0.now c.split_at-2.ensures.front c.requires.classes)
+pub sorted_many-requires-2 : goal.sorted_many-requires-2
+sorted_many-requires-2 t c = (search rules, front_classes _ c.args.facts.now c.split_at-2.result.0.now c.split_at-2.ensures.front c.requires.classes)
 
-pub sorted-requires-3 : goal.sorted-requires-3
-sorted-requires-3 t c = (search rules, back_classes _ c.args.facts.now c.split_at-2.result.1.now c.split_at-2.ensures.back c.requires.classes)
+pub sorted_many-requires-3 : goal.sorted_many-requires-3
+sorted_many-requires-3 t c = (search rules, back_classes _ c.args.facts.now c.split_at-2.result.1.now c.split_at-2.ensures.back c.requires.classes)
 
 pub returns : goal.returns
 returns t c =

@@ -1,0 +1,22 @@
+use Rattle.std.proofs.Common.{ap, sym, subst, ◌∙◌}
+use Rattle.ix_facts.specs.Kinds.{of_kind}
+use Rattle.ix_facts.specs.Systems.{HaveClasses, IsTable}
+use Rattle.ix_fact_table.proofs.OneKind.{kind_twice, kind_have}
+use Rattle.ix_fact_table.proofs.sorted.entries.Goals as goal
+
+pub inserted-requires : goal.inserted-requires
+inserted-requires c = record { classes = λ f i. c.requires.classes f (c.from_first-rest.ensures.part f i) }
+
+pub sorted_many-requires : goal.sorted_many-requires
+sorted_many-requires c =
+    let is = c.deref.ensures.value ∙ c.in_ok-own.ensures in
+    record { classes = subst HaveClasses (sym is) (kind_have c.args.kind c.from_first-rest.result.now (λ f i. c.requires.classes f (c.from_first-rest.ensures.part f i))) }
+
+pub returns : goal.returns
+returns c =
+    let own = c.args.kind in
+    let is = c.deref.ensures.value ∙ c.in_ok-own.ensures in
+    rw (c.in_ok-many.ensures.items, c.as_slice.ensures) (record {
+      form = c.in_ok-table.ensures.form;
+      table = subst (λ l. IsTable l c.in_ok-table.table) (ap (of_kind own) is ∙ (kind_twice own c.from_first-rest.result.now ∙ c.from_first-rest.ensures.same)) c.in_ok-table.ensures.table;
+    })
