@@ -57,10 +57,10 @@ fn reach(marks: &mut Vec<bool>, slot: usize) -> Result<(), AllocError>
     ensures reached { OnOk result (slot < length marks.new.items) }
     ensures same { (s : ℕ) → get_or marks.new.items s false ≡ get_or marks.old.items s false }
 {
-    for _ in marks.len()..slot + 1 {
-        marks.push(false)?;
+    if slot < marks.len() {
+        return Ok(());
     }
-    Ok(())
+    marks.resize(slot + 1, false)
 }
 
 fn mark_slot(marks: &mut Vec<bool>, slot: usize) -> Result<(), AllocError>
@@ -98,12 +98,21 @@ impl PathSet {
     }
 
     /// Puts the path at its place, unless it is there. The only error is want of memory.
+    // Most paths that are put are marked: at the caller that is a look and no call.
+    #[inline]
     pub fn put(&mut self, p: Path) -> Result<(), AllocError>
         ensures { OnOk result (self.new ≡ insert_key path_cmp self.old p) }
     {
         if is_marked(&self.marks, &p) {
             return Ok(());
         }
+        self.put_unmarked(p)
+    }
+
+    #[inline(never)]
+    fn put_unmarked(&mut self, p: Path) -> Result<(), AllocError>
+        ensures { OnOk result (self.new ≡ insert_key path_cmp self.old p) }
+    {
         put_path(&mut self.paths, p)?;
         mark(&mut self.marks, &p)?;
         Ok(())
