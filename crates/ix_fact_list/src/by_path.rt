@@ -43,7 +43,8 @@ pub(crate) fn facts_of(alloc: Global, entries: &[(Path, Fact)]) -> Result<Vec<Fa
     Ok(facts)
 }
 
-fn is_before(path: &Path, p: &Path) -> bool
+/// Whether the first path comes before the second in the order of paths.
+pub(crate) fn is_before(path: &Path, p: &Path) -> bool
     ensures { result ≡ is_lt (path_cmp path.now p.now) }
 {
     match compare_paths(path, p) {
