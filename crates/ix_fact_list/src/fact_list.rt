@@ -70,6 +70,14 @@ fn push_beside_path(facts: &mut Vec<Fact>, path: &Path, fact: &Fact) -> Result<(
     Ok(())
 }
 
+/// An empty list with room for as many facts, or for 1,024 if they are more.
+fn with_room(alloc: Global, count: u128) -> Result<Vec<Fact>, AllocError>
+    ensures { IfOk result (λ facts. facts.items ≡ []) }
+{
+    let room = if count < 1024 { count } else { 1024 };
+    Vec::with_capacity(alloc, room as usize)
+}
+
 fn facts_beside_target<K: Know>(
     alloc: Global,
     know: &K,
@@ -78,7 +86,7 @@ fn facts_beside_target<K: Know>(
     ensures facts { IfOk result (λ facts. facts.items ≡ without (of_target kind.now) (K.known know.now)) }
     ensures small { IfOk result (λ facts. All HasSmallNumbers facts.items) }
 {
-    let mut facts = Vec::new(alloc);
+    let mut facts = with_room(alloc, know.facts())?;
     for k in 0..know.facts() {
         push_beside_target(&mut facts, kind, &know.fact(k))?;
     }
@@ -89,7 +97,7 @@ fn facts_beside_path<K: Know>(alloc: Global, know: &K, path: &Path) -> Result<Ve
     ensures facts { IfOk result (λ facts. facts.items ≡ without (of_path path.now) (K.known know.now)) }
     ensures small { IfOk result (λ facts. All HasSmallNumbers facts.items) }
 {
-    let mut facts = Vec::new(alloc);
+    let mut facts = with_room(alloc, know.facts())?;
     for k in 0..know.facts() {
         push_beside_path(&mut facts, path, &know.fact(k))?;
     }
