@@ -1,11 +1,13 @@
 -- Where a path stands in a set, or where it would stand.
-use Rattle.std.specs.Prelude.{◌≡◌, ℕ, zero, suc, ◌+◌, ◌<◌, ◌≤◌, false, List, [], ◌∷◌, Err, length, get_or, refl}
+use Rattle.std.specs.Prelude.{◌≡◌, ℕ, zero, suc, ◌+◌, ◌<◌, ◌≤◌, ◌-◌, ◌++◌, true, false, List, [], ◌∷◌, Some, Err, length, get_or, slice_get, refl}
 use Rattle.std.specs.List.{insert}
 use Rattle.std.specs.List.Sorted.{IsBinarySearchResult, IsSortedBy}
 use Rattle.std.specs.BTreeSet.{insert_key}
+use Rattle.std.specs.declared.cmp.Ordering.{Ordering}
 use Rattle.std.specs.declared.cmp.Ordering.TheVariants.{Less, Equal, Greater}
 use Rattle.std.specs.Ordering.{is_lt, ordering_reverse}
-use Rattle.std.proofs.Common.{arith, inl, inr, ap, ◌∙◌, subst}
+use Rattle.std.proofs.Common.{arith, inl, inr, ap, sym, ◌∙◌, subst}
+use Rattle.std.proofs.lemmas.Bool.{false≢true}
 use Rattle.std.proofs.lemmas.List.Sorted.{searchable_from_sorted}
 use Rattle.ix_core.specs.declared.fact.Path.{Path}
 use Rattle.ix_facts.specs.Named.{IsAmongPaths}
@@ -56,3 +58,29 @@ pub placed : (paths : List Path) (k : ℕ) (p : Path) → IsRising paths → k �
 placed paths k p r within parted =
     let point = parted (searchable_from_sorted path_total (λ q. q) paths p (sorted paths r)) in
     place paths k p within (λ i d a. point.0 i d (omega arith) a) (λ i d a b. point.1 i d a b)
+
+-- ---- behind all
+
+less_is : (o : Ordering) → is_lt o ≡ true → o ≡ Less
+less_is Less t = refl
+less_is Equal t = absurd (false≢true t)
+less_is Greater t = absurd (false≢true t)
+
+one_of : (paths : List Path) (k : ℕ) (p : Path) → slice_get paths k ≡ Some p → IsAmongPaths p paths
+one_of [] k p at = cc
+one_of (q ∷ paths) zero p at = let e : p ≡ q = cc in inl e
+one_of (q ∷ paths) (suc k) p at = inr (one_of paths k p at)
+
+behind : (paths : List Path) (p last : Path) → IsRising paths → slice_get paths (length paths - 1) ≡ Some last → path_cmp last p ≡ Less → insert_key path_cmp paths p ≡ paths ++ p ∷ []
+behind [] p last r at less = refl
+behind (q ∷ []) p last r at less =
+    let e : q ≡ last = cc in
+    rw (reverse_less q p (subst (λ x. path_cmp x p ≡ Less) (sym e) less)) refl
+behind (q ∷ s ∷ paths) p last r at less =
+    let next : length (q ∷ s ∷ paths) - 1 ≡ suc (length (s ∷ paths) - 1) = omega arith in
+    let here : slice_get (s ∷ paths) (length (s ∷ paths) - 1) ≡ Some last = sym (ap (slice_get (q ∷ s ∷ paths)) next) ∙ at in
+    let first : path_cmp q p ≡ Less = path_total.trans q last p (r.0 last (one_of (s ∷ paths) (length (s ∷ paths) - 1) last here)) less in
+    rw (reverse_less q p first) (ap (λ l. q ∷ l) (behind (s ∷ paths) p last r.1 here less))
+
+pub behind_last : (paths : List Path) (p last : Path) → IsRising paths → slice_get paths (length paths - 1) ≡ Some last → is_lt (path_cmp last p) ≡ true → insert_key path_cmp paths p ≡ paths ++ p ∷ []
+behind_last paths p last r at t = behind paths p last r at (less_is (path_cmp last p) t)

@@ -26,7 +26,7 @@ pub(crate) fn in_order(entries: Vec<(Path, Fact)>) -> Result<Vec<(Path, Fact)>, 
 pub(crate) fn paths_of(alloc: Global, entries: &[(Path, Fact)]) -> Result<Vec<Path>, AllocError>
     ensures { IfOk result (λ paths. paths.items ≡ paths_in entries.now) }
 {
-    let mut paths = Vec::new(alloc);
+    let mut paths = Vec::with_capacity(alloc, entries.len())?;
     for entry in entries {
         paths.push(entry.0)?;
     }
@@ -36,14 +36,15 @@ pub(crate) fn paths_of(alloc: Global, entries: &[(Path, Fact)]) -> Result<Vec<Pa
 pub(crate) fn facts_of(alloc: Global, entries: &[(Path, Fact)]) -> Result<Vec<Fact>, AllocError>
     ensures { IfOk result (λ facts. facts.items ≡ facts_in entries.now) }
 {
-    let mut facts = Vec::new(alloc);
+    let mut facts = Vec::with_capacity(alloc, entries.len())?;
     for entry in entries {
         facts.push(entry.1)?;
     }
     Ok(facts)
 }
 
-fn is_before(path: &Path, p: &Path) -> bool
+/// Whether the first path comes before the second in the order of paths.
+pub(crate) fn is_before(path: &Path, p: &Path) -> bool
     ensures { result ≡ is_lt (path_cmp path.now p.now) }
 {
     match compare_paths(path, p) {

@@ -25,7 +25,7 @@ pub(crate) fn all_ends(alloc: Global, facts: &[Fact]) -> Result<Vec<Fact>, Alloc
     let mut ends = Vec::with_capacity(alloc, facts.len())?;
     for fact in facts {
         if is_end(fact) {
-            ends.push(*fact)?;
+            ends.push_reserved(*fact);
         }
     }
     Ok(ends)
@@ -45,10 +45,10 @@ fn is_link(fact: &Fact) -> bool
 pub(crate) fn all_links(alloc: Global, facts: &[Fact]) -> Result<Vec<Fact>, AllocError>
     ensures { IfOk result (λ links. links.items ≡ links_in facts.now) }
 {
-    let mut links = Vec::new(alloc);
+    let mut links = Vec::with_capacity(alloc, facts.len())?;
     for fact in facts {
         if is_link(fact) {
-            links.push(*fact)?;
+            links.push_reserved(*fact);
         }
     }
     Ok(links)

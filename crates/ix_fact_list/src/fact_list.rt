@@ -18,7 +18,7 @@ use crate::ends::{all_ends, all_links};
 use crate::grouped::Grouped;
 use crate::named::{all_arrays, all_ints};
 use crate::orders::in_all_orders;
-use crate::spared::{some_name_path, some_name_target};
+use crate::spared::{assigned_path, some_name_path, some_name_target};
 use ix_bounds::{self, Groups};
 use ix_core::{Fact, OpKind, Path, PathOff};
 use ix_facts::{Know, names_path, names_target};
@@ -52,7 +52,7 @@ impl Model for FactList {
         × ((list.ints.items ≡ put_all [] (named_ints (in_orders list.facts.items))) × (list.arrays.items ≡ put_all [] (named_arrays (in_orders list.facts.items)))) };
 }
 
-fn push_beside_target(facts: &mut Vec<Fact>, kind: &OpKind, fact: &Fact) -> Result<(), AllocError>
+fn push_beside_changed(facts: &mut Vec<Fact>, kind: &OpKind, fact: &Fact) -> Result<(), AllocError>
     ensures { OnOk result (facts.new.items ≡ facts.old.items ++ without (of_target kind.now) (fact.now ∷ [])) }
 {
     if !names_target(kind, fact) {
@@ -70,7 +70,15 @@ fn push_beside_path(facts: &mut Vec<Fact>, path: &Path, fact: &Fact) -> Result<(
     Ok(())
 }
 
-fn facts_beside_target<K: Know>(
+/// An empty list with room for as many facts, or for 1,024 if they are more.
+fn with_room(alloc: Global, count: u128) -> Result<Vec<Fact>, AllocError>
+    ensures { IfOk result (λ facts. facts.items ≡ []) }
+{
+    let room = if count < 1024 { count } else { 1024 };
+    Vec::with_capacity(alloc, room as usize)
+}
+
+fn facts_beside_changed<K: Know>(
     alloc: Global,
     know: &K,
     kind: &OpKind,
@@ -78,9 +86,9 @@ fn facts_beside_target<K: Know>(
     ensures facts { IfOk result (λ facts. facts.items ≡ without (of_target kind.now) (K.known know.now)) }
     ensures small { IfOk result (λ facts. All HasSmallNumbers facts.items) }
 {
-    let mut facts = Vec::new(alloc);
+    let mut facts = with_room(alloc, know.facts())?;
     for k in 0..know.facts() {
-        push_beside_target(&mut facts, kind, &know.fact(k))?;
+        push_beside_changed(&mut facts, kind, &know.fact(k))?;
     }
     Ok(facts)
 }
@@ -89,11 +97,26 @@ fn facts_beside_path<K: Know>(alloc: Global, know: &K, path: &Path) -> Result<Ve
     ensures facts { IfOk result (λ facts. facts.items ≡ without (of_path path.now) (K.known know.now)) }
     ensures small { IfOk result (λ facts. All HasSmallNumbers facts.items) }
 {
-    let mut facts = Vec::new(alloc);
+    let mut facts = with_room(alloc, know.facts())?;
     for k in 0..know.facts() {
         push_beside_path(&mut facts, path, &know.fact(k))?;
     }
     Ok(facts)
+}
+
+// To look for one path takes less than to ask the operation for each.
+fn facts_beside_target<K: Know>(
+    alloc: Global,
+    know: &K,
+    kind: &OpKind,
+) -> Result<Vec<Fact>, AllocError>
+    ensures facts { IfOk result (λ facts. facts.items ≡ without (of_target kind.now) (K.known know.now)) }
+    ensures small { IfOk result (λ facts. All HasSmallNumbers facts.items) }
+{
+    match assigned_path(kind) {
+        Some(path) => facts_beside_path(alloc, know, &path),
+        None => facts_beside_changed(alloc, know, kind),
+    }
 }
 
 impl FactList {

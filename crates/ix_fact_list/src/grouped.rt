@@ -33,6 +33,8 @@ impl Grouped {
     }
 
     /// The facts on the path: all that name it, and of few facts all others too. It takes no memory.
+    // Facts are few mostly: at the caller that is a look and no call.
+    #[inline]
     pub(crate) fn on(&self, p: &Path) -> &[Fact]
         ensures { result.now ≡ on_grouped self.now p.now }
     {

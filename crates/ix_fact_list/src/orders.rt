@@ -1,6 +1,7 @@
 //! Facts in all their orders.
 
-ghost use Rattle.std.specs.Prelude.{◌≡◌, ◌∷◌, ◌++◌, IfOk, OnOk, option_to_list};
+ghost use Rattle.std.specs.Prelude.{◌≡◌, ◌≤◌, ◌+◌, ◌∷◌, ◌++◌, IfOk, option_to_list};
+ghost use Rattle.std.specs.Vec.{vec_len, vec_capacity};
 ghost use Rattle.ix_facts.specs.Facts.{orders, is_default, in_orders};
 
 use ix_core::{Fact, PathOff};
@@ -29,23 +30,26 @@ fn is_said_of_all(fact: &Fact) -> bool
     }
 }
 
-fn push_orders(ordered: &mut Vec<Fact>, fact: &Fact) -> Result<(), AllocError>
-    ensures { OnOk result (ordered.new.items ≡ ordered.old.items ++ orders fact.now) }
+/// Puts the fact's orders behind the others. There is room for two.
+fn push_orders(ordered: &mut Vec<Fact>, fact: &Fact)
+    requires room { vec_len ordered.old + 2 ≤ vec_capacity ordered.old }
+    ensures orders { ordered.new.items ≡ ordered.old.items ++ orders fact.now }
+    ensures at_most_two { vec_len ordered.new ≤ vec_len ordered.old + 2 }
+    ensures same_room { vec_capacity ordered.new ≡ vec_capacity ordered.old }
 {
-    ordered.push(*fact)?;
+    ordered.push_reserved(*fact);
     if let Some(other) = turned(fact) {
-        ordered.push(other)?;
+        ordered.push_reserved(other);
     }
-    Ok(())
 }
 
 pub(crate) fn in_all_orders(alloc: Global, facts: &[Fact]) -> Result<Vec<Fact>, AllocError>
     ensures { IfOk result (λ ordered. ordered.items ≡ in_orders facts.now) }
 {
-    let mut ordered = Vec::with_capacity(alloc, facts.len())?;
+    let mut ordered = Vec::with_capacity(alloc, 2 * facts.len())?;
     for fact in facts {
         if !is_said_of_all(fact) {
-            push_orders(&mut ordered, fact)?;
+            push_orders(&mut ordered, fact);
         }
     }
     Ok(ordered)

@@ -58,6 +58,7 @@ impl PathIndex {
     }
 
     /// The facts that name the path. It takes no memory.
+    #[inline(never)]
     pub(crate) fn on(&self, p: &Path) -> &[Fact]
         ensures { result.now ≡ on_index self.now p.now }
     {

@@ -1,12 +1,13 @@
 //! A set of paths in order.
 
-ghost use Rattle.std.specs.Prelude.{◌≡◌, ◌⊎◌, ◌<◌, ℕ, true, false, get_or, length, [], List, IsTrue, OnOk, OnErr};
+ghost use Rattle.std.specs.Prelude.{◌≡◌, ◌⊎◌, ◌<◌, ℕ, true, false, get_or, length, [], ◌∷◌, ◌++◌, List, IsTrue, OnOk, OnErr};
 ghost use Rattle.std.specs.BTreeSet.{insert_key};
 ghost use Rattle.ix_core.specs.declared.fact.Path.{Path};
 ghost use Rattle.ix_facts.specs.PathOrder.{path_cmp};
 ghost use Rattle.ix_fact_list.specs.Marks.{IsMarked, AreMarked};
 ghost use Rattle.ix_fact_list.specs.PutLaws.{IsRising};
 
+use crate::by_path::is_before;
 use crate::by_slot::NEAR;
 use ix_core::Path;
 use ix_facts::compare_paths;
@@ -57,10 +58,10 @@ fn reach(marks: &mut Vec<bool>, slot: usize) -> Result<(), AllocError>
     ensures reached { OnOk result (slot < length marks.new.items) }
     ensures same { (s : ℕ) → get_or marks.new.items s false ≡ get_or marks.old.items s false }
 {
-    for _ in marks.len()..slot + 1 {
-        marks.push(false)?;
+    if slot < marks.len() {
+        return Ok(());
     }
-    Ok(())
+    marks.resize(slot + 1, false)
 }
 
 fn mark_slot(marks: &mut Vec<bool>, slot: usize) -> Result<(), AllocError>
@@ -72,11 +73,26 @@ fn mark_slot(marks: &mut Vec<bool>, slot: usize) -> Result<(), AllocError>
     Ok(())
 }
 
+/// Whether the path's place is behind all others. Mostly it is, since facts come in the order of their first paths.
+fn is_behind(paths: &[Path], p: &Path) -> bool
+    requires rising { IsRising paths.now }
+    ensures { IsTrue result → insert_key path_cmp paths.now p.now ≡ paths.now ++ p.now ∷ [] }
+{
+    match paths.last() {
+        Some(last) => is_before(last, p),
+        None => true,
+    }
+}
+
 fn put_path(paths: &mut Vec<Path>, p: Path) -> Result<(), AllocError>
     requires rising { IsRising paths.old.items }
     ensures put { OnOk result (paths.new.items ≡ insert_key path_cmp paths.old.items p) }
     ensures unchanged { OnErr result (paths.new.items ≡ paths.old.items) }
 {
+    if is_behind(paths, &p) {
+        paths.push(p)?;
+        return Ok(());
+    }
     match paths.binary_search_by(|path| compare_paths(path, &p)) {
         Ok(_) => Ok(()),
         Err(place) => {
@@ -98,12 +114,21 @@ impl PathSet {
     }
 
     /// Puts the path at its place, unless it is there. The only error is want of memory.
+    // Most paths that are put are marked: at the caller that is a look and no call.
+    #[inline]
     pub fn put(&mut self, p: Path) -> Result<(), AllocError>
         ensures { OnOk result (self.new ≡ insert_key path_cmp self.old p) }
     {
         if is_marked(&self.marks, &p) {
             return Ok(());
         }
+        self.put_unmarked(p)
+    }
+
+    #[inline(never)]
+    fn put_unmarked(&mut self, p: Path) -> Result<(), AllocError>
+        ensures { OnOk result (self.new ≡ insert_key path_cmp self.old p) }
+    {
         put_path(&mut self.paths, p)?;
         mark(&mut self.marks, &p)?;
         Ok(())

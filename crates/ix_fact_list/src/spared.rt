@@ -1,6 +1,7 @@
 //! Whether facts name a path that is to change.
 
-ghost use Rattle.std.specs.Prelude.{◌≡◌};
+ghost use Rattle.std.specs.Prelude.{◌≡◌, IfSome};
+ghost use Rattle.ix_core.specs.declared.fact.Path.{Path};
 ghost use Rattle.ix_facts.specs.Forget.{of_path};
 ghost use Rattle.ix_facts.specs.After.{of_target};
 ghost use Rattle.ix_fact_list.specs.Spared.{some_named};
@@ -8,15 +9,21 @@ ghost use Rattle.ix_fact_list.specs.Spared.{some_named};
 use ix_core::{Fact, OpKind, Path};
 use ix_facts::{names_path, names_target};
 
-pub(crate) fn some_name_target(facts: &[Fact], kind: &OpKind) -> bool
-    ensures { result ≡ some_named (of_target kind.now) facts.now }
+/// The path that the operation assigns, where it may change that path and what is in it, and no other.
+pub(crate) fn assigned_path(kind: &OpKind) -> Option<Path>
+    ensures { IfSome result (λ target. (p : Path) → of_target kind.now p ≡ of_path target p) }
 {
-    for fact in facts {
-        if names_target(kind, fact) {
-            return true;
-        }
+    match kind {
+        OpKind::Const(t, _) => Some(Path::Slot(*t)),
+        OpKind::Copy(t, _, _) => Some(Path::Slot(*t)),
+        OpKind::Num(t, _, _, _) => Some(Path::Slot(*t)),
+        OpKind::Unary(t, _, _) => Some(Path::Slot(*t)),
+        OpKind::Length(t, _) => Some(Path::Slot(*t)),
+        OpKind::NewArray(t, _, _) => Some(Path::Slot(*t)),
+        OpKind::Fill(t, _, _) => Some(Path::Slot(*t)),
+        OpKind::Load(t, _, _, _) => Some(Path::Slot(*t)),
+        _ => None,
     }
-    false
 }
 
 pub(crate) fn some_name_path(facts: &[Fact], path: &Path) -> bool
@@ -28,4 +35,25 @@ pub(crate) fn some_name_path(facts: &[Fact], path: &Path) -> bool
         }
     }
     false
+}
+
+fn some_name_changed(facts: &[Fact], kind: &OpKind) -> bool
+    ensures { result ≡ some_named (of_target kind.now) facts.now }
+{
+    for fact in facts {
+        if names_target(kind, fact) {
+            return true;
+        }
+    }
+    false
+}
+
+// To look for one path takes less than to ask the operation for each.
+pub(crate) fn some_name_target(facts: &[Fact], kind: &OpKind) -> bool
+    ensures { result ≡ some_named (of_target kind.now) facts.now }
+{
+    match assigned_path(kind) {
+        Some(path) => some_name_path(facts, &path),
+        None => some_name_changed(facts, kind),
+    }
 }

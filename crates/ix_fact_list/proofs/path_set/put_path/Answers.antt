@@ -12,15 +12,15 @@ use Rattle.ix_fact_list.proofs.path_set.put_path.Goals as goal
 pub returns-in-Ok-clause-put : goal.returns-in-Ok-clause-put
 returns-in-Ok-clause-put c =
     let p = c.args.p in
-    let e = c.deref.ensures.value in
-    let rising : IsRising c.deref.result.now = subst IsRising (sym e) c.requires.rising in
+    let e = c.deref-2.ensures.value in
+    let rising : IsRising c.deref-2.result.now = subst IsRising (sym e) c.requires.rising in
     let here = c.in-Ok.ensures.position (λ q. path_cmp q p) (always_returns_same _ _ _ (λ a r next called. search rules)) in
-    subst (λ l. l ≡ insert_key path_cmp l p) e (sym (found c.deref.result.now c.in-Ok.field-0 p rising c.in-Ok.ensures.bound here))
+    subst (λ l. l ≡ insert_key path_cmp l p) e (sym (found c.deref-2.result.now c.in-Ok.field-0 p rising c.in-Ok.ensures.bound here))
 
 pub returns-in_ok-insert-in-Err-clause-put : goal.returns-in_ok-insert-in-Err-clause-put
 returns-in_ok-insert-in-Err-clause-put c =
     let p = c.args.p in
-    let e = c.deref.ensures.value in
+    let e = c.deref-2.ensures.value in
     let items = c.args.paths.now.items in
     let here = c.in-Err.ensures.position (λ q. path_cmp q p) (always_returns_same _ _ _ (λ a r next called. search rules)) in
     let parted : IsBinarySearchResult (λ q. path_cmp q p) items (Err c.in-Err.place) = subst (λ (l : List Path). IsBinarySearchResult (λ q. path_cmp q p) l (Err c.in-Err.place)) e here in

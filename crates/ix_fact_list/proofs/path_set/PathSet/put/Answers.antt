@@ -3,7 +3,6 @@ use Rattle.std.specs.BTreeSet.{insert_key}
 use Rattle.ix_facts.specs.PathOrder.{path_cmp}
 use Rattle.ix_fact_list.specs.Marks.{IsMarked}
 use Rattle.ix_fact_list.specs.PutLaws.{put_again}
-use Rattle.ix_fact_list.proofs.Marked.{put_marked}
 use Rattle.ix_fact_list.proofs.path_set.PathSet.put.Goals as goal
 
 pub returns-then-is_marked : goal.returns-then-is_marked
@@ -12,11 +11,3 @@ returns-then-is_marked c =
     let paths = c.self.inside.paths.items in
     let marked : IsMarked c.self.inside.marks.items p = subst (λ l. IsMarked l p) c.deref.ensures.value (c.is_marked.ensures c.if-is_marked.true) in
     subst (λ l. l ≡ insert_key path_cmp l p) c.self.view_is (sym (put_again paths p c.self.invariant.0 (c.self.invariant.1 p marked)))
-
-pub invariant_of-self-in_err-mark : goal.invariant_of-self-in_err-mark
-invariant_of-self-in_err-mark c =
-    put_marked c.self.inside.paths.items c.put_path.new.paths.items c.self.inside.marks.items c.mark.new.marks.items c.args.p c.self.invariant c.in_ok-put_path.ensures.put c.mark.ensures
-
-pub invariant_of-self-2 : goal.invariant_of-self-2
-invariant_of-self-2 c =
-    put_marked c.self.inside.paths.items c.put_path.new.paths.items c.self.inside.marks.items c.mark.new.marks.items c.args.p c.self.invariant c.in_ok-put_path.ensures.put c.mark.ensures

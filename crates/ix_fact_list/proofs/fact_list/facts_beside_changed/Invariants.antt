@@ -2,7 +2,7 @@ use Rattle.std.proofs.Common.{◌≡◌, ◌++◌, All, drop}
 use Rattle.ix_facts.specs.Forget.{without}
 use Rattle.ix_facts.specs.After.{of_target}
 use Rattle.ix_facts.specs.Small.{HasSmallNumbers}
-use Rattle.ix_fact_list.proofs.fact_list.facts_beside_target.Given as goal
+use Rattle.ix_fact_list.proofs.fact_list.facts_beside_changed.Given as goal
 
 abbrev pub invariant-loop-k : goal.invariant-loop-k
 invariant-loop-k g l = record {
