@@ -16,15 +16,15 @@ fn lower_by<G: Groups>(facts: &G, p: &Path, fact: &Fact) -> Option<i64>
     ensures bound { result ≡ spec.lower_by (G.all facts.now) p.now fact.now }
     ensures small { IfSome result IsLimit }
 {
-    match *fact {
+    match fact {
         Fact::Less(q, r, c) => {
-            if is_same_path(&r, p) {
-                Some(past(range_low(facts, &q), c as i64))
+            if is_same_path(r, p) {
+                Some(past(range_low(facts, q), *c as i64))
             } else {
                 None
             }
         }
-        Fact::IsLen(r, a) if is_same_path(&r, p) => Some(length_low(facts, &a)),
+        Fact::IsLen(r, a) if is_same_path(r, p) => Some(length_low(facts, a)),
         _ => None,
     }
 }
@@ -60,7 +60,7 @@ fn limit_by_upper<G: Groups>(
     ensures bound { result ≡ spec.limit_by (G.all facts.now) p.now (Upper r.now a.now offset.now c) }
     ensures small { IfSome result IsLimit }
 {
-    match *offset {
+    match offset {
         PathOff::Nothing => {
             if is_same_path(r, p) {
                 Some(within(length_high(facts, a), c as i64))
@@ -77,16 +77,16 @@ fn limit_by<G: Groups>(facts: &G, p: &Path, fact: &Fact) -> Option<i64>
     ensures bound { result ≡ spec.limit_by (G.all facts.now) p.now fact.now }
     ensures small { IfSome result IsLimit }
 {
-    match *fact {
+    match fact {
         Fact::Less(r, q, c) => {
-            if is_same_path(&r, p) {
-                Some(short_of(range_high(facts, &q), c as i64))
+            if is_same_path(r, p) {
+                Some(short_of(range_high(facts, q), *c as i64))
             } else {
                 None
             }
         }
-        Fact::Upper(r, a, offset, c) => limit_by_upper(facts, p, &r, &a, &offset, c),
-        Fact::IsLen(r, a) if is_same_path(&r, p) => Some(length_high(facts, &a)),
+        Fact::Upper(r, a, offset, c) => limit_by_upper(facts, p, r, a, offset, *c),
+        Fact::IsLen(r, a) if is_same_path(r, p) => Some(length_high(facts, a)),
         _ => None,
     }
 }

@@ -65,19 +65,19 @@ fn shifted_by<G: Groups>(
     ensures bound { result ≡ spec.shifted_by (G.all facts.now) p.now a.now offset.now fact.now }
     ensures small { IfSome result IsLimit }
 {
-    match (*fact, *offset) {
+    match (fact, offset) {
         (Fact::Upper(r, b, x, c), _) => {
             // Few facts fit, and whether the lengths are the same may be a walk over facts.
-            let fits = is_same_offset(&x, offset) || is_same_path(&r, p);
-            if fits && are_same(facts, &b, a) {
-                shifted_of(facts, p, offset, &r, &x, c as i64)
+            let fits = is_same_offset(x, offset) || is_same_path(r, p);
+            if fits && are_same(facts, b, a) {
+                shifted_of(facts, p, offset, r, x, *c as i64)
             } else {
                 None
             }
         }
         (Fact::IsLen(r, b), PathOff::Nothing) => {
-            if is_same_path(&b, a) {
-                through(-1, stored_less(facts, p, &r))
+            if is_same_path(b, a) {
+                through(-1, stored_less(facts, p, r))
             } else {
                 None
             }

@@ -23,16 +23,16 @@ fn stored_upper_by<G: Groups>(
     ensures bound { result ≡ spec.stored_upper_by (G.all facts.now) p.now a.now offset.now fact.now }
     ensures small { IfSome result IsInt }
 {
-    match (*fact, *offset) {
+    match (fact, offset) {
         (Fact::Upper(r, b, x, c), _) => {
-            if is_same_path(&r, p) && is_same_offset(&x, offset) && are_same(facts, &b, a) {
-                Some(c as i64)
+            if is_same_path(r, p) && is_same_offset(x, offset) && are_same(facts, b, a) {
+                Some(*c as i64)
             } else {
                 None
             }
         }
         (Fact::IsLen(r, b), PathOff::Nothing) => {
-            if is_same_path(&r, p) && is_same_path(&b, a) {
+            if is_same_path(r, p) && is_same_path(b, a) {
                 Some(-1)
             } else {
                 None
@@ -84,17 +84,17 @@ fn stored_less_by<G: Groups>(facts: &G, p: &Path, q: &Path, fact: &Fact) -> Opti
     ensures bound { result ≡ spec.stored_less_by (G.all facts.now) p.now q.now fact.now }
     ensures small { IfSome result IsEnd }
 {
-    match *fact {
+    match fact {
         Fact::Less(r, s, c) => {
-            if is_same_path(&r, p) && is_same_path(&s, q) {
-                Some(c as i64)
+            if is_same_path(r, p) && is_same_path(s, q) {
+                Some(*c as i64)
             } else {
                 None
             }
         }
         Fact::IsLen(r, a) => {
-            if is_same_path(&r, q) {
-                below_length(facts, p, &a)
+            if is_same_path(r, q) {
+                below_length(facts, p, a)
             } else {
                 None
             }
@@ -126,10 +126,10 @@ fn fact_less_by(p: &Path, q: &Path, fact: &Fact) -> Option<i64>
     ensures bound { result ≡ spec.fact_less_by p.now q.now fact.now }
     ensures small { IfSome result IsEnd }
 {
-    match *fact {
+    match fact {
         Fact::Less(r, s, c) => {
-            if is_same_path(&r, p) && is_same_path(&s, q) {
-                Some(c as i64)
+            if is_same_path(r, p) && is_same_path(s, q) {
+                Some(*c as i64)
             } else {
                 None
             }
