@@ -4,9 +4,9 @@ ghost use Rattle.std.specs.Prelude.{◌≡◌};
 ghost use Rattle.std.specs.Ordering.{ordering_then};
 ghost use Rattle.ix_facts.specs.PathOrder.{path_cmp, offset_cmp};
 ghost use Rattle.ix_fact_table.specs.FactOrder as spec;
-ghost use Rattle.ix_fact_table.specs.FactOrder.{fact_cmp, rest_cmp};
+ghost use Rattle.ix_fact_table.specs.FactOrder.{third, fact_cmp, rest_cmp};
 
-use ix_core::{Fact, Path, PathOff};
+use ix_core::{Fact, Path};
 use ix_facts::{compare_offsets, compare_paths};
 use std::cmp::Ordering;
 
@@ -75,25 +75,27 @@ fn second_path(fact: &Fact) -> &Path
     }
 }
 
-/// The third path, as an offset.
-fn third(fact: &Fact) -> PathOff
-    ensures { result ≡ spec.third fact.now }
+/// By third path, which only a sum and a bound have.
+fn compare_thirds(fact: &Fact, other: &Fact) -> Ordering
+    requires form { spec.form fact.now ≡ spec.form other.now }
+    ensures { result ≡ offset_cmp (third fact.now) (third other.now) }
 {
-    match *fact {
-        Fact::Sum(_, _, z) => PathOff::Plus(z),
-        Fact::Upper(_, _, offset, _) => offset,
-        _ => PathOff::Nothing,
+    match (fact, other) {
+        (Fact::Sum(_, _, z), Fact::Sum(_, _, w)) => path_order(z, w),
+        (Fact::Upper(_, _, x, _), Fact::Upper(_, _, y, _)) => compare_offsets(x, y),
+        _ => Ordering::Equal,
     }
 }
 
 /// By second and third path.
 fn compare_others(fact: &Fact, other: &Fact) -> Ordering
-    ensures { result ≡ ordering_then (path_cmp (spec.second_path fact.now) (spec.second_path other.now)) (offset_cmp (spec.third fact.now) (spec.third other.now)) }
+    requires form { spec.form fact.now ≡ spec.form other.now }
+    ensures { result ≡ ordering_then (path_cmp (spec.second_path fact.now) (spec.second_path other.now)) (offset_cmp (third fact.now) (third other.now)) }
 {
     match path_order(second_path(fact), second_path(other)) {
         Ordering::Less => Ordering::Less,
         Ordering::Greater => Ordering::Greater,
-        Ordering::Equal => compare_offsets(&third(fact), &third(other)),
+        Ordering::Equal => compare_thirds(fact, other),
     }
 }
 

@@ -65,10 +65,10 @@ fn sorted_many(alloc: Global, kind: Kind, facts: &[Fact]) -> Result<List<Fact>, 
 }
 
 /// The facts of the kind as a table keeps them: at each key what they say together, in the order of keys. Where no fact is of the kind it takes no memory.
-pub(crate) fn entries(alloc: Global, kind: Kind, facts: &[Fact]) -> Result<Vec<Fact>, AllocError>
+pub(crate) fn sorted(alloc: Global, kind: Kind, facts: &[Fact]) -> Result<Vec<Fact>, AllocError>
     requires classes { HaveClasses facts.now }
-    ensures form { IfOk result (λ entries. is_table_of kind entries.items ≡ true) }
-    ensures table { IfOk result (λ entries. IsTable (of_kind kind facts.now) entries.items) }
+    ensures form { IfOk result (λ table. is_table_of kind table.items ≡ true) }
+    ensures table { IfOk result (λ table. IsTable (of_kind kind facts.now) table.items) }
 {
     let rest = from_first(kind, facts);
     if rest.len() <= FEW {
@@ -81,13 +81,17 @@ pub(crate) fn entries(alloc: Global, kind: Kind, facts: &[Fact]) -> Result<Vec<F
     Ok(many)
 }
 
-/// The same as a list.
-pub(crate) fn sorted(alloc: Global, kind: Kind, facts: &[Fact]) -> Result<List<Fact>, AllocError>
+/// The same as the list of a table.
+pub(crate) fn sorted_list(
+    alloc: Global,
+    kind: Kind,
+    facts: &[Fact],
+) -> Result<List<Fact>, AllocError>
     requires classes { HaveClasses facts.now }
     ensures form { IfOk result (λ table. is_table_of kind table ≡ true) }
     ensures table { IfOk result (λ table. IsTable (of_kind kind facts.now) table) }
 {
-    let own = entries(alloc, kind, facts)?;
+    let own = sorted(alloc, kind, facts)?;
     let table = copied(alloc, &own)?;
     Ok(table)
 }

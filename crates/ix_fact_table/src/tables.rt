@@ -20,7 +20,7 @@ use crate::entries::{in_first_order as first_order, int_of};
 use crate::fact_table::FactTable;
 use crate::filters::{beside_path, beside_target};
 use crate::look_ups::{facts_on, place_of};
-use crate::sorted::{entries, sorted};
+use crate::sorted::{sorted, sorted_list};
 use crate::walks::{covers_all, merged, shared};
 use ix_core::{Fact, OpKind, Path};
 use ix_facts::{Kind, Landmarks, rounded_facts};
@@ -45,7 +45,7 @@ impl FactTable {
         ensures table { IfOk result (λ table. IsTable (of_kind kind facts.now) (facts_of table)) }
         ensures kind { IfOk result (λ table. table_kind table ≡ kind) }
     {
-        let facts = sorted(alloc, kind, facts)?;
+        let facts = sorted_list(alloc, kind, facts)?;
         Ok(FactTable { kind, facts })
     }
 
@@ -105,7 +105,7 @@ impl FactTable {
         ensures table { IfOk result (λ table. IsTable (facts_of self.now ++ of_kind (table_kind self.now) new.now) (facts_of table)) }
         ensures kind { IfOk result (λ table. table_kind table ≡ table_kind self.now) }
     {
-        let more = entries(alloc, self.kind, new)?;
+        let more = sorted(alloc, self.kind, new)?;
         let facts = merged(alloc, self.facts.as_slice(), &more)?;
         Ok(FactTable {
             kind: self.kind,
@@ -122,7 +122,7 @@ impl FactTable {
         ensures table { IfOk result (λ more. IfSome more (λ table. IsTable (facts_of self.now ++ of_kind (table_kind self.now) new.now) (facts_of table))) }
         ensures kind { IfOk result (λ more. IfSome more (λ table. table_kind table ≡ table_kind self.now)) }
     {
-        let more = entries(alloc, self.kind, new)?;
+        let more = sorted(alloc, self.kind, new)?;
         if covers_all(self.facts.as_slice(), &more) {
             return Ok(None);
         }
@@ -194,7 +194,7 @@ impl FactTable {
         ensures kind { IfOk result (λ table. table_kind table ≡ table_kind self.now) }
     {
         let moved = rounded_facts(alloc, self.facts.as_slice(), marks.ints.as_slice())?;
-        let facts = sorted(alloc, self.kind, &moved)?;
+        let facts = sorted_list(alloc, self.kind, &moved)?;
         Ok(FactTable {
             kind: self.kind,
             facts,

@@ -2,7 +2,7 @@ use Rattle.std.proofs.Common.{ap, sym, subst, ◌∙◌}
 use Rattle.ix_facts.specs.Kinds.{of_kind}
 use Rattle.ix_facts.specs.Systems.{HaveClasses, IsTable}
 use Rattle.ix_fact_table.proofs.OneKind.{kind_twice, kind_have}
-use Rattle.ix_fact_table.proofs.sorted.entries.Goals as goal
+use Rattle.ix_fact_table.proofs.sorted.sorted.Goals as goal
 
 pub inserted-requires : goal.inserted-requires
 inserted-requires c = record { classes = λ f i. c.requires.classes f (c.from_first-rest.ensures.part f i) }
