@@ -104,7 +104,7 @@ fn facts_beside_path<K: Know>(alloc: Global, know: &K, path: &Path) -> Result<Ve
     Ok(facts)
 }
 
-// To look for one path takes less than to ask the operation for each.
+/// The facts that name no path that the operation may change. To look for one path takes less than to ask the operation for each.
 fn facts_beside_target<K: Know>(
     alloc: Global,
     know: &K,

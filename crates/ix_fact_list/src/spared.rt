@@ -9,9 +9,9 @@ ghost use Rattle.ix_fact_list.specs.Spared.{some_named};
 use ix_core::{Fact, OpKind, Path};
 use ix_facts::{names_path, names_target};
 
-/// The path that the operation assigns, where it may change that path and what is in it, and no other.
-pub(crate) fn assigned_path(kind: &OpKind) -> Option<Path>
-    ensures { IfSome result (λ target. (p : Path) → of_target kind.now p ≡ of_path target p) }
+/// The path that the operation assigns, where it may change that path and what is in it, and no other (JLS 15.26). It takes no memory.
+pub fn assigned_path(kind: &OpKind) -> Option<Path>
+    ensures target { IfSome result (λ target. (p : Path) → of_target kind.now p ≡ of_path target p) }
 {
     match kind {
         OpKind::Const(t, _) => Some(Path::Slot(*t)),
@@ -26,8 +26,9 @@ pub(crate) fn assigned_path(kind: &OpKind) -> Option<Path>
     }
 }
 
-pub(crate) fn some_name_path(facts: &[Fact], path: &Path) -> bool
-    ensures { result ≡ some_named (of_path path.now) facts.now }
+/// Whether a fact names the path, or a field of the object in it. It takes no memory.
+pub fn some_name_path(facts: &[Fact], path: &Path) -> bool
+    ensures named { result ≡ some_named (of_path path.now) facts.now }
 {
     for fact in facts {
         if names_path(path, fact) {
@@ -48,7 +49,7 @@ fn some_name_changed(facts: &[Fact], kind: &OpKind) -> bool
     false
 }
 
-// To look for one path takes less than to ask the operation for each.
+/// Whether a fact names a path that the operation may change. To look for one path takes less than to ask the operation for each.
 pub(crate) fn some_name_target(facts: &[Fact], kind: &OpKind) -> bool
     ensures { result ≡ some_named (of_target kind.now) facts.now }
 {

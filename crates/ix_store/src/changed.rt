@@ -1,13 +1,15 @@
 //! Which paths a step may change, and the facts that name none of them.
 
-ghost use Rattle.std.specs.Prelude.{◌≡◌, IfOk};
+ghost use Rattle.std.specs.Prelude.{◌≡◌, IfOk, IfSome};
+ghost use Rattle.ix_core.specs.declared.fact.Path.{Path};
 ghost use Rattle.ix_core.specs.declared.fact.Path.TheVariants.{Slot, FieldOf};
-ghost use Rattle.ix_facts.specs.Forget.{offset_names, names, without, of_call};
+ghost use Rattle.ix_facts.specs.Forget.{offset_names, names, without, of_path, of_call};
 ghost use Rattle.ix_fact_list.specs.Spared.{some_named};
 ghost use Rattle.ix_store.specs.ChangedPaths.{is_spared, is_final, is_changed};
 
 use ix_core::{Fact, OpKind, Path, PathOff, Program};
-use ix_facts::{is_of_path, is_of_target};
+use ix_fact_list::{assigned_path, some_name_path};
+use ix_facts::{is_of_path, is_of_target, names_path};
 use ix_text::List;
 use std::alloc::{AllocError, Global};
 
@@ -132,8 +134,18 @@ fn names_changed(changed: &Changed, fact: &Fact) -> bool
     }
 }
 
-/// Whether a fact names a path that the step may change. It takes no memory.
-pub(crate) fn some_name_changed(facts: &[Fact], changed: &Changed) -> bool
+/// The path that the step changes, where it changes that path and what is in it, and no other.
+fn one_path(changed: &Changed) -> Option<Path>
+    ensures path { IfSome result (λ path. (p : Path) → is_changed changed.now p ≡ of_path path p) }
+{
+    match *changed {
+        Changed::At(path) => Some(path),
+        Changed::Target(kind) => assigned_path(kind),
+        _ => None,
+    }
+}
+
+fn some_name_many(facts: &[Fact], changed: &Changed) -> bool
     ensures { result ≡ some_named (is_changed changed.now) facts.now }
 {
     for fact in facts {
@@ -144,8 +156,29 @@ pub(crate) fn some_name_changed(facts: &[Fact], changed: &Changed) -> bool
     false
 }
 
-/// The facts that name no path that the step may change.
-pub(crate) fn unchanged(
+/// Whether a fact names a path that the step may change. To look for one path takes less than to ask the step for each. It takes no memory.
+pub(crate) fn some_name_changed(facts: &[Fact], changed: &Changed) -> bool
+    ensures { result ≡ some_named (is_changed changed.now) facts.now }
+{
+    match one_path(changed) {
+        Some(path) => some_name_path(facts, &path),
+        None => some_name_many(facts, changed),
+    }
+}
+
+fn beside_path(alloc: Global, facts: &[Fact], path: &Path) -> Result<List<Fact>, AllocError>
+    ensures { IfOk result (λ kept. kept ≡ without (of_path path.now) facts.now) }
+{
+    let mut kept = List::new(alloc);
+    for fact in facts {
+        if !names_path(path, fact) {
+            kept.push(*fact)?;
+        }
+    }
+    Ok(kept)
+}
+
+fn beside_many(
     alloc: Global,
     facts: &[Fact],
     changed: &Changed,
@@ -159,4 +192,18 @@ pub(crate) fn unchanged(
         }
     }
     Ok(kept)
+}
+
+/// The facts that name no path that the step may change.
+pub(crate) fn unchanged(
+    alloc: Global,
+    facts: &[Fact],
+    changed: &Changed,
+) -> Result<List<Fact>, AllocError>
+    ensures { IfOk result (λ kept. kept ≡ without (is_changed changed.now) facts.now) }
+{
+    match one_path(changed) {
+        Some(path) => beside_path(alloc, facts, &path),
+        None => beside_many(alloc, facts, changed),
+    }
 }
