@@ -16,7 +16,7 @@ ghost use Rattle.ix_fact_list.specs.Spared.{some_named};
 
 use crate::ends::{all_ends, all_links};
 use crate::grouped::Grouped;
-use crate::named::{all_arrays, all_ints};
+use crate::named::ints_and_arrays;
 use crate::orders::in_all_orders;
 use crate::spared::{assigned_path, some_name_path, some_name_target};
 use ix_bounds::{self, Groups};
@@ -129,8 +129,7 @@ impl FactList {
         let ordered = in_all_orders(alloc, &facts)?;
         let ends = Grouped::of(alloc, all_ends(alloc, &ordered)?)?;
         let links = Grouped::of(alloc, all_links(alloc, &ordered)?)?;
-        let ints = all_ints(alloc, &ordered)?;
-        let arrays = all_arrays(alloc, &ordered)?;
+        let (ints, arrays) = ints_and_arrays(alloc, &ordered)?;
         let by_path = Grouped::of(alloc, ordered)?;
         Ok(FactList {
             facts,
