@@ -18,6 +18,7 @@ fn put_offset(paths: &mut PathSet, offset: &PathOff) -> Result<(), AllocError>
     }
 }
 
+#[inline]
 fn put_two(paths: &mut PathSet, p: Path, q: Path) -> Result<(), AllocError>
     ensures { OnOk result (paths.new ≡ put_all paths.old (p ∷ q ∷ [])) }
 {
@@ -32,6 +33,7 @@ fn put_three(paths: &mut PathSet, t: Path, y: Path, z: Path) -> Result<(), Alloc
     put_two(paths, y, z)
 }
 
+#[inline]
 fn put_int_and_array(
     ints: &mut PathSet,
     arrays: &mut PathSet,
