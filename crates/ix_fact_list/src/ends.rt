@@ -18,19 +18,6 @@ fn is_end(fact: &Fact) -> bool
     }
 }
 
-/// The ranges and classes among the facts.
-pub(crate) fn all_ends(alloc: Global, facts: &[Fact]) -> Result<Vec<Fact>, AllocError>
-    ensures { IfOk result (λ ends. ends.items ≡ ends_in facts.now) }
-{
-    let mut ends = Vec::with_capacity(alloc, facts.len())?;
-    for fact in facts {
-        if is_end(fact) {
-            ends.push_reserved(*fact);
-        }
-    }
-    Ok(ends)
-}
-
 fn is_link(fact: &Fact) -> bool
     ensures { result ≡ is_link fact.now }
 {
@@ -41,15 +28,23 @@ fn is_link(fact: &Fact) -> bool
     }
 }
 
-/// The differences and lengths among the facts.
-pub(crate) fn all_links(alloc: Global, facts: &[Fact]) -> Result<Vec<Fact>, AllocError>
-    ensures { IfOk result (λ links. links.items ≡ links_in facts.now) }
+/// The ranges and classes among the facts, and the differences and lengths.
+pub(crate) fn ends_and_links(
+    alloc: Global,
+    facts: &[Fact],
+) -> Result<(Vec<Fact>, Vec<Fact>), AllocError>
+    ensures ends { IfOk result (λ parts. parts.0.items ≡ ends_in facts.now) }
+    ensures links { IfOk result (λ parts. parts.1.items ≡ links_in facts.now) }
 {
+    let mut ends = Vec::with_capacity(alloc, facts.len())?;
     let mut links = Vec::with_capacity(alloc, facts.len())?;
     for fact in facts {
+        if is_end(fact) {
+            ends.push_reserved(*fact);
+        }
         if is_link(fact) {
             links.push_reserved(*fact);
         }
     }
-    Ok(links)
+    Ok((ends, links))
 }

@@ -18,6 +18,7 @@ fn put_offset(paths: &mut PathSet, offset: &PathOff) -> Result<(), AllocError>
     }
 }
 
+#[inline]
 fn put_two(paths: &mut PathSet, p: Path, q: Path) -> Result<(), AllocError>
     ensures { OnOk result (paths.new ≡ put_all paths.old (p ∷ q ∷ [])) }
 {
@@ -32,74 +33,54 @@ fn put_three(paths: &mut PathSet, t: Path, y: Path, z: Path) -> Result<(), Alloc
     put_two(paths, y, z)
 }
 
-fn put_with_offset(paths: &mut PathSet, p: Path, offset: &PathOff) -> Result<(), AllocError>
-    ensures { OnOk result (paths.new ≡ put_all paths.old (p ∷ offset_paths offset.now)) }
+#[inline]
+fn put_int_and_array(
+    ints: &mut PathSet,
+    arrays: &mut PathSet,
+    p: Path,
+    a: Path,
+) -> Result<(), AllocError>
+    ensures ints { OnOk result (ints.new ≡ put_all ints.old (p ∷ [])) }
+    ensures arrays { OnOk result (arrays.new ≡ put_all arrays.old (a ∷ [])) }
 {
-    paths.put(p)?;
-    put_offset(paths, offset)
+    ints.put(p)?;
+    arrays.put(a)
 }
 
-fn put_ints(paths: &mut PathSet, fact: &Fact) -> Result<(), AllocError>
-    ensures { OnOk result (paths.new ≡ put_all paths.old (ints_of fact.now)) }
+/// Puts the ints that the fact names into the one set, and the arrays into the other.
+fn put_named(ints: &mut PathSet, arrays: &mut PathSet, fact: &Fact) -> Result<(), AllocError>
+    ensures ints { OnOk result (ints.new ≡ put_all ints.old (ints_of fact.now)) }
+    ensures arrays { OnOk result (arrays.new ≡ put_all arrays.old (arrays_of fact.now)) }
 {
     match *fact {
-        Fact::Rng(p, _, _) => paths.put(p),
-        Fact::LenRng(_, _, _) => Ok(()),
-        Fact::Low(p, _) => paths.put(p),
-        Fact::Same(_, _) => Ok(()),
-        Fact::IsLen(p, _) => paths.put(p),
-        Fact::Less(p, q, _) => put_two(paths, p, q),
-        Fact::Sum(t, y, z) => put_three(paths, t, y, z),
-        Fact::Search(p, _) => paths.put(p),
-        Fact::Neg(p, _) => paths.put(p),
-        Fact::Upper(p, _, offset, _) => put_with_offset(paths, p, &offset),
+        Fact::Rng(p, _, _) => ints.put(p),
+        Fact::LenRng(a, _, _) => arrays.put(a),
+        Fact::Low(p, _) => ints.put(p),
+        Fact::Same(a, b) => put_two(arrays, a, b),
+        Fact::IsLen(p, a) => put_int_and_array(ints, arrays, p, a),
+        Fact::Less(p, q, _) => put_two(ints, p, q),
+        Fact::Sum(t, y, z) => put_three(ints, t, y, z),
+        Fact::Search(p, a) => put_int_and_array(ints, arrays, p, a),
+        Fact::Neg(p, a) => put_int_and_array(ints, arrays, p, a),
+        Fact::Upper(p, a, offset, _) => {
+            put_int_and_array(ints, arrays, p, a)?;
+            put_offset(ints, &offset)
+        }
     }
 }
 
-fn put_arrays(paths: &mut PathSet, fact: &Fact) -> Result<(), AllocError>
-    ensures { OnOk result (paths.new ≡ put_all paths.old (arrays_of fact.now)) }
+/// The ints that the facts name, and the arrays.
+pub(crate) fn ints_and_arrays(
+    alloc: Global,
+    facts: &[Fact],
+) -> Result<(Vec<Path>, Vec<Path>), AllocError>
+    ensures ints { IfOk result (λ named. named.0.items ≡ put_all [] (named_ints facts.now)) }
+    ensures arrays { IfOk result (λ named. named.1.items ≡ put_all [] (named_arrays facts.now)) }
 {
-    match *fact {
-        Fact::LenRng(a, _, _) => paths.put(a),
-        Fact::Same(a, b) => put_two(paths, a, b),
-        Fact::IsLen(_, a) => paths.put(a),
-        Fact::Search(_, a) => paths.put(a),
-        Fact::Neg(_, a) => paths.put(a),
-        Fact::Upper(_, a, _, _) => paths.put(a),
-        _ => Ok(()),
-    }
-}
-
-fn int_set(alloc: Global, facts: &[Fact]) -> Result<PathSet, AllocError>
-    ensures { IfOk result (λ paths. paths ≡ put_all [] (named_ints facts.now)) }
-{
-    let mut paths = PathSet::new(alloc);
+    let mut ints = PathSet::new(alloc);
+    let mut arrays = PathSet::new(alloc);
     for fact in facts {
-        put_ints(&mut paths, fact)?;
+        put_named(&mut ints, &mut arrays, fact)?;
     }
-    Ok(paths)
-}
-
-fn array_set(alloc: Global, facts: &[Fact]) -> Result<PathSet, AllocError>
-    ensures { IfOk result (λ paths. paths ≡ put_all [] (named_arrays facts.now)) }
-{
-    let mut paths = PathSet::new(alloc);
-    for fact in facts {
-        put_arrays(&mut paths, fact)?;
-    }
-    Ok(paths)
-}
-
-pub(crate) fn all_ints(alloc: Global, facts: &[Fact]) -> Result<Vec<Path>, AllocError>
-    ensures { IfOk result (λ paths. paths.items ≡ put_all [] (named_ints facts.now)) }
-{
-    let paths = int_set(alloc, facts)?;
-    Ok(paths.into_paths())
-}
-
-pub(crate) fn all_arrays(alloc: Global, facts: &[Fact]) -> Result<Vec<Path>, AllocError>
-    ensures { IfOk result (λ paths. paths.items ≡ put_all [] (named_arrays facts.now)) }
-{
-    let paths = array_set(alloc, facts)?;
-    Ok(paths.into_paths())
+    Ok((ints.into_paths(), arrays.into_paths()))
 }
