@@ -11,26 +11,21 @@ use Rattle.ix_facts.specs.Facts.{IsIn}
 use Rattle.ix_facts.specs.Closure.{Closed}
 use Rattle.ix_facts.specs.Kinds.{kind_of, is_kind, is_of, of_kind}
 use Rattle.ix_facts.specs.Systems.{IsTable}
-use Rattle.ix_facts.proofs.Tests.{by_test}
 use Rattle.ix_fact_table.specs.declared.fact_table.FactTable.{FactTable}
 use Rattle.ix_fact_table.specs.FactTables.{facts_of, table_kind}
 use Rattle.ix_fact_table.specs.TableLaws.{all_own}
-use Rattle.ix_fact_table.proofs.MergedTables.{kind_all}
+use Rattle.ix_fact_table.proofs.MergedTables.{kind_all, kind_app}
 use Rattle.ix_fact_table.proofs.OneKind.{from_kind}
 use Rattle.ix_closure.specs.Beside.{are_plain, AreBeside}
 use Rattle.ix_store.specs.declared.tables.Tables.{Tables}
 use Rattle.ix_store.specs.AllTables.{all_facts, AreOfKinds}
 use Rattle.ix_store.proofs.Together.{in_kind, six_tables}
 
-kinds_app : (own : Kind) (a b : List Fact) → of_kind own (a ++ b) ≡ of_kind own a ++ of_kind own b
-kinds_app own [] b = refl
-kinds_app own (f ∷ a) b = by_test (is_of own f) (λ t. rw t (ap (λ l. f ∷ l) (kinds_app own a b))) (λ t. rw t (kinds_app own a b))
-
 pub range_app : (a b : List Fact) → of_kind kind.Range (a ++ b) ≡ of_kind kind.Range a ++ of_kind kind.Range b
-range_app a b = kinds_app kind.Range a b
+range_app a b = kind_app kind.Range a b
 
 both_parts : (own : Kind) (a b x y : List Fact) → of_kind own a ≡ x → of_kind own b ≡ y → of_kind own (a ++ b) ≡ x ++ y
-both_parts own a b x y first second = kinds_app own a b ∙ (ap (λ l. l ++ of_kind own b) first ∙ ap (λ l. x ++ l) second)
+both_parts own a b x y first second = kind_app own a b ∙ (ap (λ l. l ++ of_kind own b) first ∙ ap (λ l. x ++ l) second)
 
 kind_none : (own : Kind) (facts : List Fact) → ((f : Fact) → IsIn f facts → is_of own f ≡ false) → of_kind own facts ≡ []
 kind_none own [] none = refl
@@ -102,7 +97,7 @@ module _ (tables : Tables) (kinds : AreOfKinds tables) where
 
   -- one table with the new facts of its kind is the table of all facts of the kind
   with_own : (own : Kind) (part new more : List Fact) → of_kind own (all_facts tables) ≡ part → IsTable (part ++ of_kind own new) more → IsTable (of_kind own (all_facts tables ++ new)) more
-  with_own own part new more e is = subst (λ l. IsTable l more) (sym (kinds_app own (all_facts tables) new ∙ ap (λ l. l ++ of_kind own new) e)) is
+  with_own own part new more e is = subst (λ l. IsTable l more) (sym (kind_app own (all_facts tables) new ∙ ap (λ l. l ++ of_kind own new) e)) is
 
   -- beside closed tables stand new plain facts
   pub are_beside : (new ranges : List Fact) → Closed (all_facts tables) → are_plain new ≡ true → IsTable (facts_of tables.ranges ++ of_kind kind.Range new) ranges → AreBeside (all_facts tables) new ranges (facts_of tables.searches)

@@ -178,11 +178,7 @@ fn beside_path(alloc: Global, facts: &[Fact], path: &Path) -> Result<List<Fact>,
     Ok(kept)
 }
 
-fn beside_many(
-    alloc: Global,
-    facts: &[Fact],
-    changed: &Changed,
-) -> Result<List<Fact>, AllocError>
+fn beside_many(alloc: Global, facts: &[Fact], changed: &Changed) -> Result<List<Fact>, AllocError>
     ensures { IfOk result (λ kept. kept ≡ without (is_changed changed.now) facts.now) }
 {
     let mut kept = List::new(alloc);

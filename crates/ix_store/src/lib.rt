@@ -1,7 +1,7 @@
 //! One store of all facts that are known at a place of a program: unreachable, or closed facts.
 //!
-//! What goes in: facts, an operation, a copy, a claim, what a test tells, what a step may change, landmarks. What comes out: the store behind it, and whether a claim is proved.
-//! The contract: the stores of `ix_facts`: behind a rule stands the closed store of what the rule gives of the facts before.
+//! What goes in: facts, an operation, a copy, a claim, what a test tells, what a step may change, landmarks. What comes out: the store behind it, whether a claim is proved, and a store's facts and the bounds that they give.
+//! The contract: the stores of `ix_facts`: behind a rule stands the closed store of what the rule gives of the facts before. A store meets `Know`.
 //! It stands on `ix_closure` for what follows from facts, on `ix_fact_table` for tables, on `ix_after`, `ix_outcomes` and `ix_rules` for rules.
 //! It never looks at the program but for the operation that it is told.
 #![tactic(auto, using(std::proofs::lemmas::List::append_assoc, ix_exact::specs::KeptLaws::kept_joined, ix_exact::specs::KeptLaws::same_int))]
