@@ -6,3 +6,4 @@ pub mod Found
 mod Places
 mod Added
 mod Marked
+mod OnePath

@@ -1,6 +1,6 @@
 //! Whether facts name a path that is to change.
 
-ghost use Rattle.std.specs.Prelude.{◌≡◌, IfSome};
+ghost use Rattle.std.specs.Prelude.{◌≡◌, IfSome, IfNone};
 ghost use Rattle.ix_core.specs.declared.fact.Path.{Path};
 ghost use Rattle.ix_facts.specs.Forget.{of_path};
 ghost use Rattle.ix_facts.specs.After.{of_target};
@@ -9,9 +9,11 @@ ghost use Rattle.ix_fact_list.specs.Spared.{some_named};
 use ix_core::{Fact, OpKind, Path};
 use ix_facts::{names_path, names_target};
 
-/// The path that the operation assigns, where it may change that path and what is in it, and no other (JLS 15.26). It takes no memory.
+/// The path that the operation changes, where it may change that path and what is in it, and no other; none exactly where no path is such (JLS 15.26). It
+/// takes no memory.
 pub fn assigned_path(kind: &OpKind) -> Option<Path>
     ensures target { IfSome result (λ target. (p : Path) → of_target kind.now p ≡ of_path target p) }
+    ensures none { IfNone result ((target : Path) → ((p : Path) → of_target kind.now p ≡ of_path target p) → ⊥) }
 {
     match kind {
         OpKind::Const(t, _) => Some(Path::Slot(*t)),
@@ -22,7 +24,14 @@ pub fn assigned_path(kind: &OpKind) -> Option<Path>
         OpKind::NewArray(t, _, _) => Some(Path::Slot(*t)),
         OpKind::Fill(t, _, _) => Some(Path::Slot(*t)),
         OpKind::Load(t, _, _, _) => Some(Path::Slot(*t)),
-        _ => None,
+        OpKind::Store(_, _, _, _) => None,
+        OpKind::ReadField(_, _, _) => None,
+        OpKind::WriteField(_, _, _) => None,
+        OpKind::NewObject(_) => None,
+        OpKind::StaticCall(_) => None,
+        OpKind::InstanceCall(_) => None,
+        OpKind::SuperCall(_) => None,
+        OpKind::Print(_) => None,
     }
 }
 
