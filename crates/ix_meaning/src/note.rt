@@ -60,12 +60,21 @@ pub enum Which {
 }
 
 /// Why a source has no table.
-#[derive(Drop)]
 pub enum NameErrors {
     Errors(List<NameError>),
     /// A limit, and the place that passes it.
     Limit(Which, u32),
     Memory,
+}
+
+impl Drop for NameErrors {
+    fn drop(self) {
+        match self {
+            NameErrors::Errors(errors) => drop(errors),
+            NameErrors::Limit(_, _) => {}
+            NameErrors::Memory => {}
+        }
+    }
 }
 
 /// What a declaration says of what it declares.
@@ -78,7 +87,6 @@ pub struct Declared {
 }
 
 /// One thing that the tree says, in the order of the text.
-#[derive(Drop)]
 pub enum Note {
     /// The use at that place means this.
     Use(Span, Meaning),
@@ -90,4 +98,16 @@ pub enum Note {
     Wrong(NameError),
     /// A rule on annotations is broken, at the annotation.
     WrongAnnot(NameError),
+}
+
+impl Drop for Note {
+    fn drop(self) {
+        match self {
+            Note::Use(_, _) => {}
+            Note::Typed(_, ty) => drop(ty),
+            Note::Declares(_, declared) => drop(declared),
+            Note::Wrong(_) => {}
+            Note::WrongAnnot(_) => {}
+        }
+    }
 }

@@ -10,7 +10,6 @@ pub struct Ident {
 }
 
 /// The value of an argument of an annotation.
-#[derive(Drop)]
 pub enum AnnotValue {
     /// An int literal, with a minus before it or without.
     Number(i64),
@@ -18,6 +17,16 @@ pub enum AnnotValue {
     Truth(bool),
     /// A string, or the strings in braces, each as it is written between its quotes.
     Texts(List<Text>),
+}
+
+impl Drop for AnnotValue {
+    fn drop(self) {
+        match self {
+            AnnotValue::Number(_) => {}
+            AnnotValue::Truth(_) => {}
+            AnnotValue::Texts(texts) => drop(texts),
+        }
+    }
 }
 
 /// An argument of an annotation (JLS 9.7): `value`, or `name = value`.
@@ -37,11 +46,20 @@ pub struct Annot {
 }
 
 /// What a type stands on.
-#[derive(Drop)]
 pub enum BaseTree {
     Int,
     Boolean,
     Named(Ident),
+}
+
+impl Drop for BaseTree {
+    fn drop(self) {
+        match self {
+            BaseTree::Int => {}
+            BaseTree::Boolean => {}
+            BaseTree::Named(name) => drop(name),
+        }
+    }
 }
 
 /// A type as it is written (JLS 4): a base, and an array of it where `depth` isn't 0.

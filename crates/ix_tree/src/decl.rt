@@ -31,10 +31,18 @@ pub struct MethodDecl {
 }
 
 /// A member of a class; a field's declaration gives one for each declarator.
-#[derive(Drop)]
 pub enum Member {
     Field(LocalDecl),
     Method(MethodDecl),
+}
+
+impl Drop for Member {
+    fn drop(self) {
+        match self {
+            Member::Field(field) => drop(field),
+            Member::Method(method) => drop(method),
+        }
+    }
 }
 
 /// The declaration of a class.

@@ -30,10 +30,19 @@ pub enum BinaryOp {
 
 /// The initialiser of a variable or of an array's entry (JLS 8.3, 10.6).
 #[cycle(tree)]
-#[derive(Drop)]
 pub enum Init {
     Value(Expr),
     Items(List<Init>, Span),
+}
+
+impl Drop for Init {
+    #[cycle(tree)]
+    fn drop(self) {
+        match self {
+            Init::Value(value) => drop(value),
+            Init::Items(items, _) => drop(items),
+        }
+    }
 }
 
 /// An expression, whose span has no parentheses that stand around it.
@@ -46,7 +55,6 @@ pub struct Expr {
 
 /// The forms of expression. Parentheses leave no node.
 #[cycle(tree)]
-#[derive(Drop)]
 pub enum ExprKind {
     /// The low 32 bits of an int literal (JLS 3.10.1).
     Int(i32),
@@ -76,4 +84,52 @@ pub enum ExprKind {
         after: bool,
         target: Boxed<Expr>,
     },
+}
+
+impl Drop for ExprKind {
+    #[cycle(tree)]
+    fn drop(self) {
+        match self {
+            ExprKind::Int(_) => {}
+            ExprKind::Bool(_) => {}
+            ExprKind::Null => {}
+            ExprKind::This => {}
+            ExprKind::Name(name) => drop(name),
+            ExprKind::Select(object, name) => {
+                drop(object);
+                drop(name)
+            }
+            ExprKind::Index(array, index) => {
+                drop(array);
+                drop(index)
+            }
+            ExprKind::Call(object, name, args) => {
+                drop(object);
+                drop(name);
+                drop(args)
+            }
+            ExprKind::New(name, args) => {
+                drop(name);
+                drop(args)
+            }
+            ExprKind::NewArray(ty, length) => {
+                drop(ty);
+                drop(length)
+            }
+            ExprKind::NewItems(ty, items) => {
+                drop(ty);
+                drop(items)
+            }
+            ExprKind::Unary(_, operand) => drop(operand),
+            ExprKind::Binary(_, left, right) => {
+                drop(left);
+                drop(right)
+            }
+            ExprKind::Assign(_, target, value) => {
+                drop(target);
+                drop(value)
+            }
+            ExprKind::Step { up: _, after: _, target } => drop(target),
+        }
+    }
 }

@@ -15,7 +15,6 @@ pub struct Stmt {
 
 /// The forms of statement.
 #[cycle(stmt)]
-#[derive(Drop)]
 pub enum StmtKind {
     Block(List<Stmt>),
     Empty,
@@ -34,4 +33,40 @@ pub enum StmtKind {
     /// `System.out.println(e);`
     Print(Expr),
     Run(Expr),
+}
+
+impl Drop for StmtKind {
+    #[cycle(stmt)]
+    fn drop(self) {
+        match self {
+            StmtKind::Block(stmts) => drop(stmts),
+            StmtKind::Empty => {}
+            StmtKind::Local(decls) => drop(decls),
+            StmtKind::If(cond, when_true, when_false) => {
+                drop(cond);
+                drop(when_true);
+                drop(when_false)
+            }
+            StmtKind::While(cond, body) => {
+                drop(cond);
+                drop(body)
+            }
+            StmtKind::Do(body, cond) => {
+                drop(body);
+                drop(cond)
+            }
+            StmtKind::For(first, cond, update, body) => {
+                drop(first);
+                drop(cond);
+                drop(update);
+                drop(body)
+            }
+            StmtKind::Break => {}
+            StmtKind::Continue => {}
+            StmtKind::Return(value) => drop(value),
+            StmtKind::Throw(name) => drop(name),
+            StmtKind::Print(value) => drop(value),
+            StmtKind::Run(value) => drop(value),
+        }
+    }
 }
