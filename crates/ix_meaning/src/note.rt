@@ -60,21 +60,12 @@ pub enum Which {
 }
 
 /// Why a source has no table.
+#[derive(Drop)]
 pub enum NameErrors {
     Errors(List<NameError>),
     /// A limit, and the place that passes it.
     Limit(Which, u32),
     Memory,
-}
-
-impl Drop for NameErrors {
-    fn drop(self) {
-        match self {
-            NameErrors::Errors(errors) => drop(errors),
-            NameErrors::Limit(_, _) => {}
-            NameErrors::Memory => {}
-        }
-    }
 }
 
 /// What a declaration says of what it declares.
