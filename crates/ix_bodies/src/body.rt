@@ -3,15 +3,14 @@
 ghost use Rattle.std.specs.Prelude.{◌≡◌, ◌++◌, ◌+◌, ◌<◌, ◌^◌, OnOk, map};
 ghost use Rattle.ix_meaning.specs.Bodies as spec;
 ghost use Rattle.ix_meaning.specs.Rules as rules;
-ghost use Rattle.ix_scopes.specs.Here.{here, Extends};
+ghost use Rattle.ix_values.specs.Here.{here, Extends};
 
 use crate::locals::declare;
 use ix_meaning::{Note, Rule};
-use ix_scopes::{Scopes, wrong, wrong_if};
 use ix_text::{List, Span};
 use ix_tree::{Expr, LocalDecl, Stmt, StmtKind};
 use ix_types::{BOOLEAN, Need};
-use ix_values::{check, value};
+use ix_values::{Scopes, check, value, wrong, wrong_if};
 use ix_world::World;
 use std::alloc::{AllocError, Global};
 

@@ -10,4 +10,5 @@ mod body;
 mod locals;
 
 pub use body::statements;
+pub use ix_values::{arguments, given_to};
 pub use locals::initialiser;

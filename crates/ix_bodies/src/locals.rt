@@ -5,15 +5,14 @@ ghost use Rattle.ix_meaning.specs.Bodies as spec;
 ghost use Rattle.ix_meaning.specs.Scope.{meant};
 ghost use Rattle.indexmap.specs.IndexMap.{get_by_text};
 ghost use Rattle.ix_bodies.specs.Added.{AddsLast};
-ghost use Rattle.ix_scopes.specs.Here.{here, names, local_known_as, Extends};
+ghost use Rattle.ix_values.specs.Here.{here, names, local_known_as, Extends};
 
 use indexmap::IndexMap;
 use ix_core::{Name, Type_};
 use ix_meaning::{Note, Rule};
-use ix_scopes::{InAnnotation, Local, Scopes, note_declared, wrong_if};
 use ix_text::List;
 use ix_tree::{Init, LocalDecl};
-use ix_values::fill;
+use ix_values::{InAnnotation, Local, Scopes, fill, note_declared, wrong_if};
 use ix_world::World;
 use ix_written::{Declaration, Part, variable};
 use std::alloc::{AllocError, Global};

@@ -5,9 +5,9 @@ use Rattle.std.proofs.Common.{add-one, inl, inr, ap, sym, ◌∙◌, arith, ⊎_
 use Rattle.std.proofs.Math.Seq.{drop-cons}
 use Rattle.std.proofs.lemmas.Int.{ints, clamps}
 use Rattle.ix_core.specs.declared.fact.Fact.{Fact}
-use Rattle.ix_facts.specs.Facts.{IsIn}
-use Rattle.ix_facts.specs.Bounds.{best, at_least, at_most, greatest}
-use Rattle.ix_facts.specs.Exact.{each}
+use Rattle.ix_index.specs.Facts.{IsIn}
+use Rattle.ix_index.specs.Bounds.{best, at_least, at_most, greatest}
+use Rattle.ix_index.specs.Exact.{each}
 
 max_joined : (x y z : ℤ) → int_max (int_max x y) z ≡ int_max x (int_max y z)
 max_joined x y z = omega (arith, ints, clamps)

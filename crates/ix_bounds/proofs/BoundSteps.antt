@@ -7,11 +7,11 @@ use Rattle.ix_core.specs.declared.fact.Path.{Path}
 use Rattle.ix_core.specs.declared.fact.PathOff.TheVariants.{Nothing, Plus, Minus}
 use Rattle.ix_core.specs.declared.fact.Fact.{Fact}
 use Rattle.ix_core.specs.declared.fact.Fact.TheVariants.{Rng, LenRng, Low, Same, IsLen, Less, Sum, Search, Neg, Upper}
-use Rattle.ix_facts.proofs.Tests.{by_test}
-use Rattle.ix_facts.specs.Facts.{orders, is_default, in_orders}
-use Rattle.ix_facts.specs.Small.{HasSmallNumbers}
-use Rattle.ix_facts.specs.Bounds
-use Rattle.ix_facts.specs.Bounds.{is_path, when}
+use Rattle.ix_index.proofs.Tests.{by_test}
+use Rattle.ix_index.specs.Facts.{orders, is_default, in_orders}
+use Rattle.ix_index.specs.Small.{HasSmallNumbers}
+use Rattle.ix_index.specs.Bounds
+use Rattle.ix_index.specs.Bounds.{is_path, when}
 
 module _ (facts : List Fact) (p : Path) (fact : Fact) where
   pub lower_of_less : (q r : Path) (c n : ℤ) → fact ≡ Less q r c → is_path r p ≡ true → n ≡ Bounds.range_low facts q -ℤ c +ℤ pos 1 → Some n ≡ Bounds.lower_by facts p fact

@@ -7,11 +7,11 @@ use Rattle.ix_core.specs.declared.fact.PathOff.{PathOff}
 use Rattle.ix_core.specs.declared.fact.PathOff.TheVariants.{Nothing, Plus, Minus}
 use Rattle.ix_core.specs.declared.fact.Fact.{Fact}
 use Rattle.ix_core.specs.declared.fact.Fact.TheVariants.{Rng, LenRng, Low, Same, IsLen, Less, Sum, Search, Neg, Upper}
-use Rattle.ix_facts.specs.Bounds
-use Rattle.ix_facts.specs.Bounds.{is_path, is_offset, when, says_same, stored_same, length_low_by, length_high_by, range_low_by, range_high_by, fact_less_by}
-use Rattle.ix_facts.specs.Assume.{has, is_length, is_search, is_negative}
-use Rattle.ix_facts.specs.Forget.{names}
-use Rattle.ix_facts.specs.PathOrder.{path_itself, path_same}
+use Rattle.ix_index.specs.Bounds
+use Rattle.ix_index.specs.Bounds.{is_path, is_offset, when, says_same, stored_same, length_low_by, length_high_by, range_low_by, range_high_by, fact_less_by}
+use Rattle.ix_index.specs.Assume.{has, is_length, is_search, is_negative}
+use Rattle.ix_index.specs.Forget.{names}
+use Rattle.ix_index.specs.PathOrder.{path_itself, path_same}
 use Rattle.ix_index.specs.OnPaths.{LooksOnly, HasNamed}
 
 by_test : {G : Type 0} (t : Bool) → (t ≡ true → G) → (t ≡ false → G) → G

@@ -7,8 +7,8 @@ use Rattle.ix_num.specs.Ints.{least_int, greatest_int}
 use Rattle.ix_core.specs.declared.fact.Path.{Path}
 use Rattle.ix_core.specs.declared.fact.Fact.{Fact}
 use Rattle.ix_core.specs.declared.fact.Fact.TheVariants.{Rng, LenRng, Low, Same, IsLen, Less, Sum, Search, Neg, Upper}
-use Rattle.ix_facts.specs.Bounds
-use Rattle.ix_facts.specs.Bounds.{at_least, at_most, greatest, least, best, best_of, length_low_by, length_high_by, range_low_by, range_high_by, fact_less_by}
+use Rattle.ix_index.specs.Bounds
+use Rattle.ix_index.specs.Bounds.{at_least, at_most, greatest, least, best, best_of, length_low_by, length_high_by, range_low_by, range_high_by, fact_less_by}
 use Rattle.ix_index.specs.OnPaths.{HasNamed, best_on}
 use Rattle.ix_bounds.specs.Ends.{is_end, ends_in}
 use Rattle.ix_bounds.specs.Links.{is_link, links_in}

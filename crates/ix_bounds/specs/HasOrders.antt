@@ -5,9 +5,9 @@ use Rattle.ix_core.specs.declared.fact.Path.{Path}
 use Rattle.ix_core.specs.declared.fact.PathOff.TheVariants.{Nothing, Plus, Minus}
 use Rattle.ix_core.specs.declared.fact.Fact.{Fact}
 use Rattle.ix_core.specs.declared.fact.Fact.TheVariants.{Rng, LenRng, Low, Same, IsLen, Less, Sum, Search, Neg, Upper}
-use Rattle.ix_facts.specs.Bounds.{is_path}
-use Rattle.ix_facts.specs.Facts.{is_default, in_orders}
-use Rattle.ix_facts.specs.Assume.{has, is_length, is_search, is_negative}
+use Rattle.ix_index.specs.Bounds.{is_path}
+use Rattle.ix_index.specs.Facts.{is_default, in_orders}
+use Rattle.ix_index.specs.Assume.{has, is_length, is_search, is_negative}
 
 by_test : {G : Type 0} (t : Bool) → (t ≡ true → G) → (t ≡ false → G) → G
 by_test true first second = first refl

@@ -3,10 +3,10 @@
 ghost use Rattle.std.specs.Prelude.{◌≡◌, All, List, filter};
 ghost use Rattle.ix_core.specs.declared.fact.Path.{Path};
 ghost use Rattle.ix_core.specs.declared.fact.Fact.{Fact};
-ghost use Rattle.ix_facts.specs.Bounds.{is_path};
-ghost use Rattle.ix_facts.specs.Facts.{IsIn};
-ghost use Rattle.ix_facts.specs.Forget.{names};
-ghost use Rattle.ix_facts.specs.Small.{HasSmallNumbers};
+ghost use Rattle.ix_index.specs.Bounds.{is_path};
+ghost use Rattle.ix_index.specs.Facts.{IsIn};
+ghost use Rattle.ix_index.specs.Forget.{names};
+ghost use Rattle.ix_index.specs.Small.{HasSmallNumbers};
 ghost use Rattle.ix_bounds.specs.Ends.{ends_in};
 ghost use Rattle.ix_bounds.specs.Links.{links_in};
 

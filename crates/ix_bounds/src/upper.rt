@@ -2,8 +2,8 @@
 
 ghost use Rattle.std.specs.Prelude.{◌≡◌, IfSome, ◌+ℤ◌, ◌-ℤ◌};
 ghost use Rattle.std.specs.Option.{option_map};
-ghost use Rattle.ix_facts.specs.Bounds as spec;
-ghost use Rattle.ix_facts.specs.Small.{IsLimit, IsBound};
+ghost use Rattle.ix_index.specs.Bounds as spec;
+ghost use Rattle.ix_index.specs.Small.{IsLimit, IsBound};
 
 use crate::ends::length_low;
 use crate::groups::Groups;
@@ -13,7 +13,7 @@ use crate::said::are_same;
 use crate::shifted::shifted_upper;
 use crate::stored::{stored_less, stored_upper};
 use ix_core::{Fact, Path, PathOff};
-use ix_facts::{greater, is_same_path};
+use ix_index::{greater, is_same_path};
 
 /// A bound at an offset as one without, and the bound of a sum as one of its parts.
 fn upper_by<G: Groups>(facts: &G, p: &Path, a: &Path, offset: &PathOff, fact: &Fact) -> Option<i64>

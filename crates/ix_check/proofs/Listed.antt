@@ -8,9 +8,9 @@ use Rattle.ix_core.specs.Safe.{Safe}
 use Rattle.ix_core.specs.declared.claim.Type_.{Type_}
 use Rattle.ix_check.specs.Judged.{CanCheck}
 use Rattle.ix_errors.specs.MethodErrors.{HaveNone}
-use Rattle.ix_sign.specs.declared.ranked.Ranked.{Ranked}
-use Rattle.ix_sign.specs.Exactly.{AreExactly}
-use Rattle.ix_sound.specs.Sound.{LocalsApart, HasNoErrors}
+use Rattle.ix_listing.specs.Ranked.{Ranked}
+use Rattle.ix_listing.specs.Exactly.{AreExactly}
+use Rattle.ix_errors.specs.Sound.{LocalsApart, HasNoErrors}
 use Rattle.ix_listing.specs.ErrorList.{IsErrorList, In}
 use Rattle.ix_listing.proofs.Lists.{same_list, none_listed}
 

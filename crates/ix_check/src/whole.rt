@@ -9,11 +9,10 @@ ghost use Rattle.ix_errors.specs.MethodErrors.{IsError, nodes_below};
 ghost use Rattle.ix_listing.specs.ErrorList.{IsErrorList};
 
 use ix_core::{Error, Profile, Program};
-use ix_errors::program_errors;
+use ix_errors::{program_errors, soundness};
 use ix_listing::list_errors;
 use ix_ready::{loops_are_in_order, names_are_small, overridden_is_there};
 use ix_solve::Steps;
-use ix_sound::soundness;
 use std::alloc::{AllocError, Global};
 use std::marker::Brand;
 use std::sync::ledger::{Blank, Ledger};

@@ -10,3 +10,7 @@ mod OverBoth
 mod ClassesOfInts
 pub mod Only
 mod BesideClosed
+-- Passed on from ix_fact_table.
+pub use Rattle.ix_fact_table.proofs.MergedTables
+pub use Rattle.ix_fact_table.proofs.OneKind
+pub use Rattle.ix_fact_table.proofs.Searches

@@ -3,3 +3,16 @@ pub mod Links
 pub mod Listed
 pub mod Saturated
 pub mod Beside
+-- Passed on from ix_fact_list.
+pub use Rattle.ix_fact_list.specs.ByPath
+pub use Rattle.ix_fact_list.specs.PutLaws
+pub use Rattle.ix_fact_list.specs.Spared
+-- Passed on from ix_fact_table.
+pub use Rattle.ix_fact_table.specs.Entries
+pub use Rattle.ix_fact_table.specs.FactOrder
+pub use Rattle.ix_fact_table.specs.FactTables
+pub use Rattle.ix_fact_table.specs.MeetLaws
+pub use Rattle.ix_fact_table.specs.RisingLaws
+pub use Rattle.ix_fact_table.specs.TableLaws
+pub use Rattle.ix_fact_table.specs.Walks
+pub use Rattle.ix_fact_table.specs.declared.fact_table.FactTable

@@ -16,3 +16,5 @@ mod searches;
 
 pub use beside::{are_plain, more_beside};
 pub use closing::more_that_follows;
+pub use ix_fact_list::{FactList, assigned_path, some_name_path};
+pub use ix_fact_table::FactTable;

@@ -39,3 +39,7 @@ mod Unsafe
 mod FormedRows
 mod BrokenRows
 mod InputRows
+-- Passed on from ix_num.
+pub use Rattle.ix_num.proofs.BitsWithinBounds
+pub use Rattle.ix_num.proofs.Members
+pub use Rattle.ix_num.proofs.OpRangeLaws

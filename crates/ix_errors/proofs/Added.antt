@@ -9,11 +9,11 @@ use Rattle.ix_facts.specs.Stores.{Stored}
 use Rattle.ix_graph.specs.declared.node.Node.{Node}
 use Rattle.ix_graph.specs.Built.{kind_of}
 use Rattle.ix_graph.specs.Graph.{Kind}
-use Rattle.ix_method.specs.Ranked.{Ranked}
-use Rattle.ix_method.specs.Exactly.{AddsExactly}
-use Rattle.ix_method.proofs.Refused.{exactly_none, exactly_same, adds_both}
-use Rattle.ix_method.specs.Store.{Store}
-use Rattle.ix_method.specs.StoredFacts.{stored}
+use Rattle.ix_labels.specs.Ranked.{Ranked}
+use Rattle.ix_labels.specs.Exactly.{AddsExactly}
+use Rattle.ix_labels.proofs.Refused.{exactly_none, exactly_same, adds_both}
+use Rattle.ix_labels.specs.Store.{Store}
+use Rattle.ix_labels.specs.StoredFacts.{stored}
 use Rattle.ix_errors.specs.NodeErrors.{AtNode}
 
 pub adds_none : (Derived : Error → ℕ → Type 0) (old : List Ranked) → ((error : Error) (rank : ℕ) → Derived error rank → ⊥) → AddsExactly Derived old old

@@ -9,9 +9,9 @@ use Rattle.ix_core.specs.declared.program.Method.{Method}
 use Rattle.ix_core.specs.declared.program.Program.{Program}
 use Rattle.ix_core.specs.Tables.{method_at, no_method, body_of}
 use Rattle.ix_flow.specs.Flow.{Rules, Avoids, IsDerived}
-use Rattle.ix_method.specs.MethodRules.{method_rules}
-use Rattle.ix_method.specs.Ranked.{Ranked}
-use Rattle.ix_method.specs.StoredFacts.{stored}
+use Rattle.ix_labels.specs.MethodRules.{method_rules}
+use Rattle.ix_labels.specs.Ranked.{Ranked}
+use Rattle.ix_labels.specs.StoredFacts.{stored}
 use Rattle.ix_errors.specs.MethodErrors.{Derives, IsErrorOf}
 use Rattle.ix_code_places.specs.CodePlaces.{MethodPlaces, IsIn, PlacesWithin}
 use Rattle.ix_errors.proofs.FlowPlaces.{is_flow_more}

@@ -19,15 +19,15 @@ use Rattle.ix_graph.proofs.Numbers.{method_numbered, method_below}
 use Rattle.ix_graph.proofs.Solved.{labels_of, joined_of}
 use Rattle.ix_labels.specs.declared.labels.Labels.{Labels}
 use Rattle.ix_labels.specs.Labels.{AreLabels}
-use Rattle.ix_method.specs.MethodRules.{method_rules}
-use Rattle.ix_method.specs.RuleErrors.{OverridesBy, OpText, TestEscapes}
-use Rattle.ix_method.proofs.MethodLaws.{method_laws}
-use Rattle.ix_method.proofs.ErrorsWeaker.{errors_weaker}
-use Rattle.ix_method.specs.Ranked.{Ranked}
-use Rattle.ix_method.specs.Exactly.{IsListed, AreExactly, AddsExactly}
-use Rattle.ix_method.proofs.Refused.{adds_both}
-use Rattle.ix_method.specs.Store.{Store}
-use Rattle.ix_method.specs.StoredFacts.{stored}
+use Rattle.ix_labels.specs.MethodRules.{method_rules}
+use Rattle.ix_labels.specs.RuleErrors.{OverridesBy, OpText, TestEscapes}
+use Rattle.ix_labels.proofs.MethodLaws.{method_laws}
+use Rattle.ix_labels.proofs.ErrorsWeaker.{errors_weaker}
+use Rattle.ix_labels.specs.Ranked.{Ranked}
+use Rattle.ix_labels.specs.Exactly.{IsListed, AreExactly, AddsExactly}
+use Rattle.ix_labels.proofs.Refused.{adds_both}
+use Rattle.ix_labels.specs.Store.{Store}
+use Rattle.ix_labels.specs.StoredFacts.{stored}
 use Rattle.ix_sound.specs.Errors.{NoErrors}
 use Rattle.ix_sound.specs.Sound.{HasNoErrors}
 use Rattle.ix_errors.specs.NodeErrors.{LabelGives, TextGives, NodeGives, AtNode}

@@ -2,3 +2,5 @@
 pub mod NodeErrors
 -- All errors of a method.
 pub mod MethodErrors
+-- Passed on from ix_sound.
+pub use Rattle.ix_sound.specs.Sound

@@ -10,13 +10,13 @@ use Rattle.ix_core.specs.Tables.{method_at, body_of}
 use Rattle.ix_flow.specs.Flow.{Point, IsDerived}
 use Rattle.ix_graph.specs.Graph.{behind_code, method_parts}
 use Rattle.ix_graph.specs.Heads.{AreInOrder}
-use Rattle.ix_method.specs.MethodRules.{method_rules}
-use Rattle.ix_method.specs.RuleErrors.{PointErrors, TextErrors}
-use Rattle.ix_method.specs.Ranked.{Ranked}
-use Rattle.ix_method.specs.Naming.{HaveSmallNames}
+use Rattle.ix_labels.specs.MethodRules.{method_rules}
+use Rattle.ix_labels.specs.RuleErrors.{PointErrors, TextErrors}
+use Rattle.ix_labels.specs.Ranked.{Ranked}
+use Rattle.ix_labels.specs.Naming.{HaveSmallNames}
 use Rattle.ix_sound.specs.Sound.{HasNoErrors}
-use Rattle.ix_method.specs.Store.{Store}
-use Rattle.ix_method.specs.StoredFacts.{stored}
+use Rattle.ix_labels.specs.Store.{Store}
+use Rattle.ix_labels.specs.StoredFacts.{stored}
 
 -- what a store gives at a point
 abbrev pub Derives : Program → Method → ℕ → Point → Store → Ranked → Type 0

@@ -8,9 +8,9 @@ use Rattle.ix_flow.specs.Flow.{Doing, Returning, Ending}
 use Rattle.ix_graph.specs.declared.node.Node.{Node}
 use Rattle.ix_graph.specs.Graph.{Kind, Does, Compares, Returns, Ends}
 use Rattle.ix_graph.specs.Built.{kind_of}
-use Rattle.ix_method.specs.RuleErrors.{PointErrors, OpText, TestEscapes}
-use Rattle.ix_method.specs.Store.{Store}
-use Rattle.ix_method.specs.StoredFacts.{stored}
+use Rattle.ix_labels.specs.RuleErrors.{PointErrors, OpText, TestEscapes}
+use Rattle.ix_labels.specs.Store.{Store}
+use Rattle.ix_labels.specs.StoredFacts.{stored}
 
 -- by the label of a node
 abbrev pub LabelGives : Program → Method → ℕ → Kind → Stored → Error → ℕ → Type 0

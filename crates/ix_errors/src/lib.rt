@@ -10,4 +10,5 @@ mod method;
 mod nodes;
 mod program;
 
+pub use ix_sound::soundness;
 pub use program::program_errors;

@@ -3,8 +3,8 @@ use Rattle.std.specs.Prelude.{◌≡◌, ℕ, ◌<◌, ◌+◌, ℤ, Option, Som
 use Rattle.std.specs.Int.{int_min, int_max}
 use Rattle.std.proofs.Common.{ap, sym, ◌∙◌, arith}
 use Rattle.std.proofs.lemmas.Int.{ints, clamps}
-use Rattle.ix_core.specs.declared.fact.Path.{Path}
-use Rattle.ix_core.specs.declared.fact.Fact.{Fact}
+use Rattle.ix_facts.specs.Path.{Path}
+use Rattle.ix_facts.specs.Fact.{Fact}
 use Rattle.ix_facts.specs.Bounds.{best, least, greatest, at_least, at_most}
 use Rattle.ix_facts.specs.Exact.{least_at}
 use Rattle.ix_exact.specs.KeptLaws.{at_drop}

@@ -1,12 +1,12 @@
 -- What is kept of lists joined end to end.
 use Rattle.std.specs.Prelude.{◌≡◌, ℕ, ◌<◌, ◌+◌, List, [], ◌∷◌, ◌++◌, length, drop, slice_index_or, refl}
-use Rattle.ix_core.specs.declared.fact.Path.{Path}
+use Rattle.ix_facts.specs.Path.{Path}
 use Rattle.ix_facts.specs.Exact.{each, each_path}
 use Rattle.std.proofs.Math.Seq.{drop-cons}
 use Rattle.std.proofs.Common.{add-one, sym, ap, ◌∙◌, w64, to_z, of_z, ℤ, FitsSigned}
 use Rattle.std.proofs.lemmas.Int.{to_z-of_z}
 use Rattle.std.proofs.lemmas.List.{append_assoc}
-use Rattle.ix_core.specs.declared.fact.Fact.{Fact}
+use Rattle.ix_facts.specs.Fact.{Fact}
 use Rattle.ix_facts.specs.Closure.{kept_fact, kept}
 
 pub kept_joined : (xs ys : List Fact) → kept (xs ++ ys) ≡ kept xs ++ kept ys

@@ -8,8 +8,8 @@ use Rattle.ix_num.specs.declared.arith.Arith.TheVariants.{Add, Sub}
 use Rattle.ix_num.specs.declared.interval.Interval.{Interval}
 use Rattle.ix_num.specs.Intervals.{normal}
 use Rattle.ix_num.specs.OpRanges.{op_range}
-use Rattle.ix_core.specs.declared.fact.Path.{Path}
-use Rattle.ix_core.specs.declared.fact.Fact.{Fact}
+use Rattle.ix_facts.specs.Path.{Path}
+use Rattle.ix_facts.specs.Fact.{Fact}
 use Rattle.ix_facts.specs.Bounds
 use Rattle.ix_facts.specs.Bounds.{best, least}
 use Rattle.ix_facts.specs.Exact as exact

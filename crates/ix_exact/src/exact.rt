@@ -6,7 +6,7 @@ ghost use Rattle.std.specs.Option.{option_map};
 ghost use Rattle.ix_num.specs.declared.arith.Arith.TheVariants.{Add, Sub};
 ghost use Rattle.ix_num.specs.Intervals.{IsWithin, all_ints, normal, interval};
 ghost use Rattle.ix_num.specs.OpRanges.{op_range};
-ghost use Rattle.ix_core.specs.declared.fact.Fact.TheVariants.{Upper};
+ghost use Rattle.ix_facts.specs.Fact.TheVariants.{Upper};
 ghost use Rattle.ix_facts.specs.Bounds as spec;
 ghost use Rattle.ix_facts.specs.Closure.{kept};
 ghost use Rattle.ix_facts.specs.Exact as exact;
@@ -15,10 +15,10 @@ ghost use Rattle.ix_facts.specs.Facts.{in_orders};
 ghost use Rattle.ix_facts.specs.Small.{IsBound, IsEnd};
 
 use crate::push::push_if;
-use ix_core::{Fact, Path, PathOff, Profile, UnaryNum};
-use ix_facts::{Know, is_same_path, lesser};
+use ix_facts::{
+    Fact, Know, Low, Path, PathOff, Profile, UnaryNum, is_same_path, lesser, low_table,
+};
 use ix_num::{Arith, Interval};
-use ix_tables::{Low, low_table};
 use std::alloc::AllocError;
 
 /// From an int's lower bound to its upper limit.

@@ -1,11 +1,11 @@
 //! One fact more, where its constant is kept.
 
 ghost use Rattle.std.specs.Prelude.{◌≡◌, ◌++◌, ◌∷◌, [], Option, OnOk};
-ghost use Rattle.ix_core.specs.declared.fact.Fact.TheVariants.{Less, Upper};
+ghost use Rattle.ix_facts.specs.Fact.TheVariants.{Less, Upper};
 ghost use Rattle.ix_facts.specs.Closure.{kept};
 ghost use Rattle.ix_facts.specs.Exact.{if_so, if_some};
 
-use ix_core::{Fact, Path, PathOff};
+use ix_facts::{Fact, Path, PathOff};
 use std::alloc::AllocError;
 
 /// Adds `p < q + c`, where the constant is kept.

@@ -20,3 +20,6 @@ pub mod Small
 pub mod PathOrder
 pub mod Named
 pub mod NamedLaws
+-- Passed on from ix_core.
+pub use Rattle.ix_core.specs.declared.fact.Fact
+pub use Rattle.ix_core.specs.declared.fact.Path

@@ -1,7 +1,7 @@
 //! Lists of facts as the answers of a system: what each call of `System` makes of the facts of a table.
 
 ghost use Rattle.std.specs.Prelude.{◌≡◌, int_le, ◌++◌, IfOk, IfSome, OnOk, Some, option_to_list};
-ghost use Rattle.ix_num.specs.Ints.{IsInt};
+ghost use Rattle.ix_core.specs.Ints.{IsInt};
 ghost use Rattle.ix_facts.specs.Bounds.{when};
 ghost use Rattle.ix_facts.specs.Forget.{of_path, without};
 ghost use Rattle.ix_facts.specs.After.{of_target};

@@ -3,5 +3,5 @@
 /// Ints in ascending order, the ends of the int range among them.
 #[derive(Drop)]
 pub struct Landmarks {
-    pub ints: ix_text::List<i32>,
+    pub ints: ix_core::List<i32>,
 }

@@ -21,6 +21,8 @@ mod system;
 pub use conditions::{Blocks, condition_laws};
 pub use filters::{facts_without_path, facts_without_target, rounded_facts};
 pub use forget::{is_of_path, is_of_target, names_path, names_target};
+pub use ix_core::{Fact, Path, PathOff, Profile, UnaryNum};
+pub use ix_tables::{Low, low_table};
 pub use kind::{Kind, is_of_kind, kind_of_fact};
 pub use know::Know;
 pub use landmarks::Landmarks;

@@ -1,1 +1,3 @@
 pub mod OverNamed
+-- Passed on from ix_rules.
+pub use Rattle.ix_rules.specs.OverParts

@@ -1,14 +1,13 @@
 //! Facts by the paths that they name.
 
 ghost use Rattle.std.specs.Prelude.{◌≡◌, List, filter};
-ghost use Rattle.ix_core.specs.declared.fact.Path.{Path};
-ghost use Rattle.ix_core.specs.declared.fact.Fact.{Fact};
+ghost use Rattle.ix_facts.specs.Path.{Path};
+ghost use Rattle.ix_facts.specs.Fact.{Fact};
 ghost use Rattle.ix_facts.specs.Bounds.{is_path};
 ghost use Rattle.ix_facts.specs.Facts.{in_orders};
 ghost use Rattle.ix_facts.specs.Forget.{names};
 
-use ix_core::{Fact, Path};
-use ix_facts::Know;
+use ix_facts::{Fact, Know, Path};
 
 /// What is known, with the facts on each path at hand. No call takes memory.
 pub trait Indexed: Know {

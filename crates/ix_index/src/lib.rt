@@ -10,3 +10,4 @@
 mod indexed;
 
 pub use indexed::Indexed;
+pub use ix_facts::{greater, is_same_offset, is_same_path, lesser};

@@ -1,3 +1,7 @@
 mod Visited
 mod SameLandmarks
 mod Solved
+-- Passed on from ix_method.
+pub use Rattle.ix_method.proofs.MethodLaws
+pub use Rattle.ix_method.proofs.ErrorsWeaker
+pub use Rattle.ix_method.proofs.Refused

@@ -4,3 +4,12 @@ pub mod ProblemLaws
 pub mod SmallOnce
 -- What the labels of a method are.
 pub mod Labels
+-- Passed on from ix_method.
+pub use Rattle.ix_method.specs.MethodRules
+pub use Rattle.ix_method.specs.Naming
+pub use Rattle.ix_method.specs.Store
+pub use Rattle.ix_method.specs.Exactly
+pub use Rattle.ix_method.specs.Ranked
+pub use Rattle.ix_method.specs.RuleErrors
+pub use Rattle.ix_method.specs.SignErrors
+pub use Rattle.ix_method.specs.StoredFacts

@@ -6,3 +6,6 @@ pub mod ErrorList
 pub mod FullKey
 -- What the two sorts leave.
 pub mod Least
+-- Passed on from ix_sign.
+pub use Rattle.ix_sign.specs.Exactly
+pub use Rattle.ix_sign.specs.declared.ranked.Ranked

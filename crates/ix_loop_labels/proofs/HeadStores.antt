@@ -16,9 +16,9 @@ use Rattle.ix_graph.proofs.Numbers.{method_numbered}
 use Rattle.ix_graph.proofs.Solved.{solved_least}
 use Rattle.ix_labels.specs.declared.labels.Labels.{Labels}
 use Rattle.ix_labels.specs.Labels.{AreLabels}
-use Rattle.ix_method.specs.MethodRules.{method_rules}
-use Rattle.ix_method.proofs.MethodLaws.{method_laws}
-use Rattle.ix_method.specs.Store.{Store}
+use Rattle.ix_labels.specs.MethodRules.{method_rules}
+use Rattle.ix_labels.proofs.MethodLaws.{method_laws}
+use Rattle.ix_labels.specs.Store.{Store}
 use Rattle.ix_loop_labels.specs.LoopLabels.{AreLoopLabels, is_head, one_if, head_stores}
 
 -- ---- one node more

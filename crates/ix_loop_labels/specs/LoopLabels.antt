@@ -9,8 +9,8 @@ use Rattle.ix_graph.specs.declared.node.Node.{Node}
 use Rattle.ix_graph.specs.Built.{kind_of}
 use Rattle.ix_graph.specs.Graph.{Kind, Heads, method_parts}
 use Rattle.ix_graph.specs.Heads.{heads_in}
-use Rattle.ix_method.specs.MethodRules.{method_rules}
-use Rattle.ix_method.specs.Store.{Store}
+use Rattle.ix_labels.specs.MethodRules.{method_rules}
+use Rattle.ix_labels.specs.Store.{Store}
 
 -- One label for each loop of the body, in the order of the loops' numbers: they are those of a flow of the body by the rules of the method, and below those of every flow.
 pub record AreLoopLabels (program : Program) (method : Method) (profile : Profile) (found : List Store) : Type 0 where

@@ -8,5 +8,5 @@
 
 mod loops;
 
-pub use ix_method::Store;
+pub use ix_labels::Store;
 pub use loops::loop_labels;

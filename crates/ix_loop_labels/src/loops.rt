@@ -6,12 +6,11 @@ ghost use Rattle.ix_graph.specs.Built.{kind_of};
 ghost use Rattle.ix_graph.specs.Graph.{behind_code, method_parts};
 ghost use Rattle.ix_graph.specs.Heads.{AreInOrder};
 ghost use Rattle.ix_loop_labels.specs.LoopLabels as spec;
-ghost use Rattle.ix_method.specs.Naming.{HasSmallNames, HaveSmallNames};
+ghost use Rattle.ix_labels.specs.Naming.{HasSmallNames, HaveSmallNames};
 
 use ix_core::{Method, Profile, Program};
 use ix_graph::{Node, NodeKind};
-use ix_labels::label_nodes;
-use ix_method::Store;
+use ix_labels::{Store, label_nodes};
 use ix_solve::Steps;
 use std::alloc::{AllocError, Global};
 use std::sync::ledger::Ledger;

@@ -11,3 +11,5 @@ pub mod Source
 pub mod Limits
 pub mod Listed
 pub mod Resolved
+-- Passed on from ix_annot.
+pub use Rattle.ix_annot.specs.Expansion

@@ -6,11 +6,11 @@ ghost use Rattle.ix_scopes.specs.Here.{here};
 ghost use Rattle.ix_world.specs.World.{shown};
 ghost use Rattle.ix_member_notes.specs.Parents as parts;
 
+use ix_bodies::{arguments, given_to};
 use ix_meaning::{Note, Rule};
 use ix_scopes::{Scopes, wrong_if};
 use ix_text::{List, Span};
 use ix_tree::{Expr, MethodDecl};
-use ix_values::{arguments, given_to};
 use ix_world::World;
 use std::alloc::{AllocError, Global};
 

@@ -1,1 +1,3 @@
 pub mod OverGroups
+-- Passed on from ix_after.
+pub use Rattle.ix_after.specs.SameFacts

@@ -18,5 +18,6 @@ mod shared;
 mod tests;
 
 pub use facts::facts_of_outcome;
+pub use ix_after::{facts_after, facts_of_copy, push_claim};
 pub use outcome::Outcome;
 pub use tests::outcomes;

@@ -6,9 +6,9 @@ ghost use Rattle.ix_facts.specs.Stores as stores;
 ghost use Rattle.ix_outcomes.specs.OverGroups.{outcomes_of};
 
 use crate::outcome::Outcome;
+use ix_after::{is_array, is_int};
 use ix_core::{Path, Test, Type_};
 use ix_num::Rel;
-use ix_rules::{is_array, is_int};
 use std::alloc::{AllocError, Global};
 
 /// The comparison that holds where this one doesn't (JLS 15.20.1, 15.21.1).

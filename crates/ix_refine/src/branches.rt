@@ -2,12 +2,11 @@
 
 ghost use Rattle.std.specs.Prelude.{true, false, IfOk};
 ghost use Rattle.ix_facts.specs.Stores.{AreTold, IsTested};
-ghost use Rattle.ix_outcomes.specs.OverGroups.{outcomes_of};
+ghost use Rattle.ix_store.specs.OverGroups.{outcomes_of};
 ghost use Rattle.ix_store.specs.StoredFacts.{stored};
 
 use ix_core::Test;
-use ix_outcomes::{Outcome, outcomes};
-use ix_store::Store;
+use ix_store::{Outcome, Store, outcomes};
 use std::alloc::{AllocError, Global};
 
 fn told_all(alloc: Global, store: Store, told: &[Outcome]) -> Result<Store, AllocError>

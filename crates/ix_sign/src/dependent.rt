@@ -11,7 +11,7 @@ ghost use Rattle.ix_sign.specs.Signs.{claims_facts, dependent_facts};
 
 use crate::naming::Naming;
 use ix_core::{Claim, Fact, Field, Name, Off, Path, Program};
-use ix_rules::push_claim;
+use ix_store::push_claim;
 use std::alloc::AllocError;
 
 fn is_field(field: u32, name: &Name) -> bool

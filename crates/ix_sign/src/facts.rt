@@ -14,7 +14,7 @@ use crate::naming::Naming;
 use crate::paths::param_slot;
 use ix_core::{Base, Claim, Fact, Local, Method, Path, Program, Type_};
 use ix_exact::push_if;
-use ix_rules::push_claim;
+use ix_store::push_claim;
 use std::alloc::AllocError;
 
 /// What claims of a path add. The only error is want of memory.

@@ -1,7 +1,7 @@
 -- Closed facts of which no range is empty are the store of themselves.
 use Rattle.ix_facts.specs.Closure.{IsClosedOf, given}
 use Rattle.ix_facts.specs.Stores.{IsStoreOf, Reached, reached}
-use Rattle.ix_fact_table.specs.FactTables.{facts_of}
+use Rattle.ix_closure.specs.FactTables.{facts_of}
 use Rattle.ix_store.specs.declared.known.Known.{Known}
 use Rattle.ix_store.specs.StoredFacts.{facts_in}
 use Rattle.ix_store.proofs.ClosedTests.{closed_of_test}

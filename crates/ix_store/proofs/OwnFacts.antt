@@ -11,11 +11,11 @@ use Rattle.ix_facts.specs.Facts.{IsIn}
 use Rattle.ix_facts.specs.Closure.{Closed}
 use Rattle.ix_facts.specs.Kinds.{kind_of, is_kind, is_of, of_kind}
 use Rattle.ix_facts.specs.Systems.{IsTable}
-use Rattle.ix_fact_table.specs.declared.fact_table.FactTable.{FactTable}
-use Rattle.ix_fact_table.specs.FactTables.{facts_of, table_kind}
-use Rattle.ix_fact_table.specs.TableLaws.{all_own}
-use Rattle.ix_fact_table.proofs.MergedTables.{kind_all, kind_app}
-use Rattle.ix_fact_table.proofs.OneKind.{from_kind}
+use Rattle.ix_closure.specs.FactTable.{FactTable}
+use Rattle.ix_closure.specs.FactTables.{facts_of, table_kind}
+use Rattle.ix_closure.specs.TableLaws.{all_own}
+use Rattle.ix_closure.proofs.MergedTables.{kind_all, kind_app}
+use Rattle.ix_closure.proofs.OneKind.{from_kind}
 use Rattle.ix_closure.specs.Beside.{are_plain, AreBeside}
 use Rattle.ix_store.specs.declared.tables.Tables.{Tables}
 use Rattle.ix_store.specs.AllTables.{all_facts, AreOfKinds}

@@ -13,10 +13,10 @@ use Rattle.ix_facts.specs.Kinds.{is_of}
 use Rattle.ix_facts.specs.Small.{HasSmallNumbers}
 use Rattle.ix_facts.specs.Systems.{MayStand, HaveClasses}
 use Rattle.ix_facts.proofs.FactLists.{in_either}
-use Rattle.ix_fact_table.specs.declared.fact_table.FactTable.{FactTable}
-use Rattle.ix_fact_table.specs.FactTables.{facts_of, table_kind}
-use Rattle.ix_fact_table.specs.TableLaws.{all_own, all_may}
-use Rattle.ix_fact_table.proofs.Searches.{in_place}
+use Rattle.ix_closure.specs.FactTable.{FactTable}
+use Rattle.ix_closure.specs.FactTables.{facts_of, table_kind}
+use Rattle.ix_closure.specs.TableLaws.{all_own, all_may}
+use Rattle.ix_closure.proofs.Searches.{in_place}
 use Rattle.ix_store.specs.declared.tables.Tables.{Tables}
 use Rattle.ix_store.specs.AllTables.{all_facts, AreOfKinds}
 use Rattle.ix_store.specs.EmptyRanges.{is_empty, some_empty}

@@ -13,7 +13,7 @@ use Rattle.ix_facts.specs.Kinds.{kind_of, is_kind, is_of, of_kind}
 use Rattle.ix_facts.specs.Systems.{Merges, IsTable}
 use Rattle.ix_facts.specs.Systems as merges
 use Rattle.ix_facts.proofs.FactLists.{in_either}
-use Rattle.ix_fact_table.proofs.OneKind.{from_kind}
+use Rattle.ix_closure.proofs.OneKind.{from_kind}
 use Rattle.ix_facts.proofs.SaidLaws.{in_orders_left, in_orders_right}
 
 by_test : {G : Type 0} (t : Bool) → (t ≡ true → G) → (t ≡ false → G) → G

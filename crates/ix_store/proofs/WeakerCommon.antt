@@ -3,9 +3,9 @@ use Rattle.std.specs.Prelude.{List}
 use Rattle.ix_core.specs.declared.fact.Fact.{Fact}
 use Rattle.ix_facts.specs.Closure.{SaysAll, AllTell, IsCommon}
 use Rattle.ix_facts.proofs.SaidLaws.{said_itself}
-use Rattle.ix_fact_table.specs.declared.fact_table.FactTable.{FactTable}
-use Rattle.ix_fact_table.specs.FactTables.{facts_of}
-use Rattle.ix_fact_table.specs.TableLaws.{all_may}
+use Rattle.ix_closure.specs.FactTable.{FactTable}
+use Rattle.ix_closure.specs.FactTables.{facts_of}
+use Rattle.ix_closure.specs.TableLaws.{all_may}
 
 pub second_common : (first second : List Fact) → SaysAll first second → AllTell second → IsCommon first second second
 second_common first second says tells = record {

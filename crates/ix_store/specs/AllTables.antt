@@ -2,7 +2,7 @@
 use Rattle.std.specs.Prelude.{◌≡◌, List, ◌++◌}
 use Rattle.ix_core.specs.declared.fact.Fact.{Fact}
 use Rattle.ix_facts.specs.declared.kind.Kind.TheVariants as kind
-use Rattle.ix_fact_table.specs.FactTables.{facts_of, table_kind}
+use Rattle.ix_closure.specs.FactTables.{facts_of, table_kind}
 use Rattle.ix_store.specs.declared.tables.Tables.{Tables}
 
 -- all facts: ranges, classes, lengths, differences, searches, bounds from an array's end

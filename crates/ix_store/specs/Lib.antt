@@ -8,3 +8,6 @@ pub mod CommonParts
 pub mod SixCommon
 pub mod StoreOrder
 pub mod StoreLaws
+-- Passed on from ix_outcomes.
+pub use Rattle.ix_outcomes.specs.OverGroups
+pub use Rattle.ix_outcomes.specs.declared.outcome.Outcome

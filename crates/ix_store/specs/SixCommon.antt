@@ -7,9 +7,9 @@ use Rattle.ix_facts.specs.declared.kind.Kind.{Kind}
 use Rattle.ix_facts.specs.declared.kind.Kind.TheVariants as kind
 use Rattle.ix_facts.specs.Closure.{SaysAll, IsCommon}
 use Rattle.ix_facts.specs.Kinds.{kind_of, is_kind}
-use Rattle.ix_fact_table.specs.declared.fact_table.FactTable.{FactTable}
-use Rattle.ix_fact_table.specs.FactTables.{facts_of, table_kind}
-use Rattle.ix_fact_table.specs.TableLaws.{all_own}
+use Rattle.ix_closure.specs.FactTable.{FactTable}
+use Rattle.ix_closure.specs.FactTables.{facts_of, table_kind}
+use Rattle.ix_closure.specs.TableLaws.{all_own}
 use Rattle.ix_store.specs.declared.tables.Tables.{Tables}
 use Rattle.ix_store.specs.AllTables.{all_facts, AreOfKinds}
 use Rattle.ix_store.specs.CommonParts.{AreOf, AreApart, both_of, one_common, two_common, SaysPart, two_say, first_says, second_says, whole_says}

@@ -17,13 +17,13 @@ use Rattle.ix_facts.specs.Closure.{SaysAll}
 use Rattle.ix_facts.specs.Stores.{Stored, IsBelow, IsJoined, left, right, both}
 use Rattle.ix_facts.proofs.StoreLaws.{below_itself, below_below, joined_least}
 use Rattle.ix_facts.proofs.Tests.{by_test}
-use Rattle.ix_fact_table.specs.declared.fact_table.FactTable.{FactTable}
-use Rattle.ix_fact_table.specs.FactOrder.{fact_cmp}
-use Rattle.ix_fact_table.specs.FactTables.{facts_of, table_kind, TableBelow, table_rank, low_within, high_within, numbers_rank, keyed}
-use Rattle.ix_fact_table.specs.Entries.{has_ends}
-use Rattle.ix_fact_table.specs.MeetLaws.{entry_parts, two_ends}
-use Rattle.ix_fact_table.specs.RisingLaws.{table_each}
-use Rattle.ix_fact_table.specs.TableLaws.{table_laws, all_own, above_left, above_right}
+use Rattle.ix_closure.specs.FactTable.{FactTable}
+use Rattle.ix_closure.specs.FactOrder.{fact_cmp}
+use Rattle.ix_closure.specs.FactTables.{facts_of, table_kind, TableBelow, table_rank, low_within, high_within, numbers_rank, keyed}
+use Rattle.ix_closure.specs.Entries.{has_ends}
+use Rattle.ix_closure.specs.MeetLaws.{entry_parts, two_ends}
+use Rattle.ix_closure.specs.RisingLaws.{table_each}
+use Rattle.ix_closure.specs.TableLaws.{table_laws, all_own, above_left, above_right}
 use Rattle.ix_store.specs.declared.tables.Tables.{Tables}
 use Rattle.ix_store.specs.declared.known.Known.{Known}
 use Rattle.ix_store.specs.declared.store.Store.{Store}

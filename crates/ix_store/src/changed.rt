@@ -4,11 +4,11 @@ ghost use Rattle.std.specs.Prelude.{◌≡◌, IfOk, IfSome};
 ghost use Rattle.ix_core.specs.declared.fact.Path.{Path};
 ghost use Rattle.ix_core.specs.declared.fact.Path.TheVariants.{Slot, FieldOf};
 ghost use Rattle.ix_facts.specs.Forget.{offset_names, names, without, of_path, of_call};
-ghost use Rattle.ix_fact_list.specs.Spared.{some_named};
+ghost use Rattle.ix_closure.specs.Spared.{some_named};
 ghost use Rattle.ix_store.specs.ChangedPaths.{is_spared, is_final, is_changed};
 
+use ix_closure::{assigned_path, some_name_path};
 use ix_core::{Fact, OpKind, Path, PathOff, Program};
-use ix_fact_list::{assigned_path, some_name_path};
 use ix_facts::{is_of_path, is_of_target, names_path};
 use ix_text::List;
 use std::alloc::{AllocError, Global};

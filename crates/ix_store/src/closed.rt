@@ -9,7 +9,7 @@ ghost use Rattle.ix_facts.specs.Stores.{IsStoreOf};
 ghost use Rattle.ix_facts.specs.Closure.{Closed, SaysAll, IsClosedOf, IsCommon};
 ghost use Rattle.ix_closure.specs.Beside.{are_plain};
 ghost use Rattle.ix_closure.specs.Saturated.{IsSaturated};
-ghost use Rattle.ix_fact_table.specs.FactTables.{facts_of};
+ghost use Rattle.ix_closure.specs.FactTables.{facts_of};
 ghost use Rattle.ix_store.specs.AllTables as spec;
 ghost use Rattle.ix_store.specs.AllTables.{AreOfKinds};
 ghost use Rattle.ix_store.specs.StoredFacts.{facts_in, stored_in};
@@ -18,9 +18,8 @@ use crate::joins;
 use crate::known::Known;
 use crate::making::{all_facts, has_empty, ranges_with, tables_with};
 use crate::tables::Tables;
-use ix_closure::{more_beside, more_that_follows};
+use ix_closure::{FactList, more_beside, more_that_follows};
 use ix_core::Fact;
-use ix_fact_list::FactList;
 use std::alloc::{AllocError, Global};
 
 /// The facts of the tables, and new ones behind them.

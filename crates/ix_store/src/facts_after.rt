@@ -9,20 +9,18 @@ ghost use Rattle.ix_facts.specs.Forget.{of_path, without};
 ghost use Rattle.ix_facts.specs.Round.{rounded};
 ghost use Rattle.ix_facts.specs.Stores.{operated, with_copy, with_outcome};
 ghost use Rattle.ix_facts.specs.Systems.{HaveClasses};
-ghost use Rattle.ix_after.specs.SameFacts.{AreSame};
+ghost use Rattle.ix_outcomes.specs.SameFacts.{AreSame};
 ghost use Rattle.ix_store.specs.StoredFacts.{facts_in};
 ghost use Rattle.ix_outcomes.specs.OverGroups.{outcome_of};
 
 use crate::changed::{Changed, unchanged};
 use crate::known::Known;
-use ix_after::{facts_after, facts_of_copy};
 use ix_claims::is_proved;
+use ix_closure::FactList;
 use ix_core::{Fact, OpKind, Path, PathClaim, Profile, Type_};
 use ix_exact::{push_less, push_upper};
-use ix_fact_list::FactList;
 use ix_facts::rounded_facts;
-use ix_outcomes::{Outcome, facts_of_outcome};
-use ix_rules::push_claim;
+use ix_outcomes::{Outcome, facts_after, facts_of_copy, facts_of_outcome, push_claim};
 use std::alloc::{AllocError, Global};
 
 fn push_kept(out: &mut Vec<Fact>, fact: &Fact) -> Result<(), AllocError>

@@ -2,11 +2,11 @@
 
 ghost use Rattle.std.specs.Prelude.{◌≡◌, ◌↔◌, ◌&&◌, IsTrue, IfOk};
 ghost use Rattle.ix_facts.specs.Closure.{SaysAll, IsCommon};
-ghost use Rattle.ix_fact_table.specs.FactTables.{facts_of, table_kind};
+ghost use Rattle.ix_closure.specs.FactTables.{facts_of, table_kind};
 ghost use Rattle.ix_store.specs.AllTables.{all_facts, AreOfKinds};
 
 use crate::tables::Tables;
-use ix_fact_table::FactTable;
+use ix_closure::FactTable;
 use ix_text::Joint;
 use std::alloc::{AllocError, Global};
 

@@ -20,4 +20,5 @@ mod seen;
 mod store;
 mod tables;
 
+pub use ix_outcomes::{Outcome, outcomes, push_claim};
 pub use store::Store;

@@ -5,15 +5,15 @@ ghost use Rattle.ix_facts.specs.Forget.{without};
 ghost use Rattle.ix_facts.specs.declared.kind.Kind.TheVariants as kind;
 ghost use Rattle.ix_facts.specs.Kinds.{of_kind};
 ghost use Rattle.ix_facts.specs.Systems.{HaveClasses, IsTable};
-ghost use Rattle.ix_fact_table.specs.FactTables.{facts_of, table_kind};
+ghost use Rattle.ix_closure.specs.FactTables.{facts_of, table_kind};
 ghost use Rattle.ix_store.specs.AllTables.{all_facts, AreOfKinds};
 ghost use Rattle.ix_store.specs.ChangedPaths.{is_changed};
 ghost use Rattle.ix_store.specs.EmptyRanges.{is_empty, some_empty};
 
 use crate::changed::{Changed, some_name_changed, unchanged};
 use crate::tables::Tables;
+use ix_closure::FactTable;
 use ix_core::Fact;
-use ix_fact_table::FactTable;
 use ix_facts::Kind;
 use ix_text::Joint;
 use std::alloc::{AllocError, Global};

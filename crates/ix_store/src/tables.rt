@@ -1,6 +1,6 @@
 //! Six tables of facts, one of each kind.
 
-use ix_fact_table::FactTable;
+use ix_closure::FactTable;
 use ix_text::Joint;
 
 /// The tables of the six kinds of facts. Several stores may hold one of them jointly: a step makes those anew that it changes, and no others.

@@ -129,7 +129,11 @@ impl Drop for ExprKind {
                 drop(target);
                 drop(value)
             }
-            ExprKind::Step { up: _, after: _, target } => drop(target),
+            ExprKind::Step {
+                up: _,
+                after: _,
+                target,
+            } => drop(target),
         }
     }
 }

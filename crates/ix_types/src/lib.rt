@@ -12,6 +12,7 @@ mod types;
 pub use classes::{
     ClassTable, class_table, is_among, is_cyclic, note_first, parent, parents, supers,
 };
+pub use ix_meaning::{Field, Meaning, Signature};
 pub use types::{
     BOOLEAN, INT, Need, copied, copied_option, element, is_primitive, is_reference, need_like,
     same_type,

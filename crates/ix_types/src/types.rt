@@ -4,8 +4,8 @@ ghost use Rattle.std.specs.Prelude.{◌≡◌, ◌≤◌, length, IfOk};
 ghost use Rattle.ix_meaning.specs.Types as spec;
 ghost use Rattle.ix_types.specs.Needs as needs;
 
-use ix_annot::same_claim;
 use ix_core::{Base, Claim, Type_};
+use ix_meaning::same_claim;
 use ix_text::List;
 use std::alloc::{AllocError, Global};
 

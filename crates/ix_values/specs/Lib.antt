@@ -1,1 +1,5 @@
 pub mod Objects
+-- Passed on from ix_scopes.
+pub use Rattle.ix_scopes.specs.Here
+pub use Rattle.ix_scopes.specs.declared.scope.Local
+pub use Rattle.ix_scopes.specs.declared.scope.Scopes

@@ -10,4 +10,5 @@ mod names;
 mod selections;
 mod values;
 
+pub use ix_scopes::{InAnnotation, Local, Scopes, note_declared, wrong, wrong_if};
 pub use values::{arguments, check, fill, given_to, value};

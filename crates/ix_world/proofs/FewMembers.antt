@@ -4,8 +4,8 @@ use Rattle.std.proofs.lemmas.List.{length-append}
 use Rattle.ix_tree.specs.declared.decl.ClassDecl.{ClassDecl}
 use Rattle.ix_tree.specs.declared.decl.Member.{Member}
 use Rattle.ix_tree.specs.declared.decl.Member.TheVariants as member
-use Rattle.ix_meaning.specs.Members.{ClassOf, next_field, next_fields, fields_in, fields_from, methods_in, methods_from}
-use Rattle.ix_meaning.specs.Source.{members_in}
+use Rattle.ix_types.specs.Members.{ClassOf, next_field, next_fields, fields_in, fields_from, methods_in, methods_from}
+use Rattle.ix_types.specs.Source.{members_in}
 
 module _ (class : ClassOf) where
   fields_within : (c next : ℕ) (ms : List Member) → length (fields_in class c next ms) ≤ length ms

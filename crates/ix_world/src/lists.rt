@@ -2,15 +2,15 @@
 
 ghost use Rattle.std.specs.Prelude.{◌≡◌, ◌++◌, ◌+◌, ◌<◌, ◌≤◌, ◌^◌, length, map, IfOk, OnOk};
 ghost use Rattle.indexmap.specs.IndexMap.{get_by_text};
-ghost use Rattle.ix_meaning.specs.Members as spec;
-ghost use Rattle.ix_meaning.specs.Source.{members_in};
+ghost use Rattle.ix_types.specs.Members as spec;
+ghost use Rattle.ix_types.specs.Source.{members_in};
 
 use crate::constant::constant;
 use indexmap::IndexMap;
 use ix_core::Type_;
-use ix_meaning::{Field, Meaning, Signature};
 use ix_text::{List, Text};
 use ix_tree::{ClassDecl, LocalDecl, Member, MethodDecl};
+use ix_types::{Field, Meaning, Signature};
 use ix_written::{Part, element_claims, target_before, written_type};
 use std::alloc::{AllocError, Global};
 

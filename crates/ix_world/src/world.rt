@@ -2,19 +2,18 @@
 
 ghost use Rattle.std.specs.Prelude.{◌≡◌, ◌+◌, ◌<◌, ◌^◌, IfOk, option_copied, option_map, length, slice_get};
 ghost use Rattle.indexmap.specs.IndexMap.{get_by_text};
-ghost use Rattle.ix_meaning.specs.Members as members;
-ghost use Rattle.ix_meaning.specs.Classes as classes;
-ghost use Rattle.ix_meaning.specs.Source.{members_in};
+ghost use Rattle.ix_types.specs.Members as members;
+ghost use Rattle.ix_types.specs.Classes as classes;
+ghost use Rattle.ix_types.specs.Source.{members_in};
 ghost use Rattle.ix_world.specs.World as spec;
 
 use crate::lists::{fields, methods};
 use crate::named::{own_constructor, own_fields, own_methods};
 use indexmap::IndexMap;
 use ix_core::Type_;
-use ix_meaning::{Field, Signature};
 use ix_text::List;
 use ix_tree::ClassDecl;
-use ix_types::{class_table, parent, parents, supers};
+use ix_types::{Field, Signature, class_table, parent, parents, supers};
 use std::alloc::{AllocError, Global};
 
 /// What one class declares and extends: the numbers of its members by their names.

@@ -3,15 +3,16 @@
 ghost use Rattle.std.specs.Prelude.{◌≡◌, ◌∷◌, ◌++◌, ◌||◌, IfOk, OnOk, List as Elements};
 ghost use Rattle.ix_core.specs.declared.claim.Claim.{Claim};
 ghost use Rattle.ix_core.specs.SameClaims.{distinct};
-ghost use Rattle.ix_annot.specs.Expansion.{expanded};
+ghost use Rattle.ix_meaning.specs.Expansion.{expanded};
 ghost use Rattle.ix_meaning.specs.Annotated as spec;
 ghost use Rattle.ix_written.specs.Parts.{chosen};
 ghost use Rattle.ix_written.specs.Seen.{seen, unseen};
 
 use crate::part::{Part, is_chosen};
-use ix_annot::{AnnotError, Found, Names, Naming, Target, expand, same_claim};
 use ix_core::{Claim, Name};
-use ix_meaning::{NameError, Note, Rule};
+use ix_meaning::{
+    AnnotError, Found, NameError, Names, Naming, Note, Rule, Target, expand, same_claim,
+};
 use ix_text::List;
 use ix_tree::Annot;
 use std::alloc::{AllocError, Global};

@@ -4,7 +4,7 @@ ghost use Rattle.std.specs.Prelude.{◌≡◌};
 ghost use Rattle.ix_meaning.specs.Annotated as spec;
 ghost use Rattle.ix_written.specs.Parts.{is_chosen};
 
-use ix_annot::row_named;
+use ix_meaning::row_named;
 use ix_tree::Annot;
 
 /// Which annotations of a list are meant.
@@ -23,7 +23,7 @@ pub fn is_of_method(annot: &Annot) -> bool
 {
     match row_named(&annot.name.text) {
         None => false,
-        Some((targets, _)) => ix_annot::is_of_method(targets),
+        Some((targets, _)) => ix_meaning::is_of_method(targets),
     }
 }
 

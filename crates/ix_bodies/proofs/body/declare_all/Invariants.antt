@@ -1,5 +1,5 @@
 use Rattle.std.proofs.Common.{◌≡◌, ◌++◌, ◌+◌, drop}
-use Rattle.ix_scopes.specs.Here.{here, Extends}
+use Rattle.ix_values.specs.Here.{here, Extends}
 use Rattle.ix_meaning.specs.Bodies as spec
 use Rattle.ix_bodies.proofs.body.declare_all.Given as goal
 

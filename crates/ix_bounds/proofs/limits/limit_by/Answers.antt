@@ -1,6 +1,6 @@
 use Rattle.std.proofs.Common.{rules, ◌≡◌, pos, ◌+ℤ◌, ◌-ℤ◌, w32, w64, to_z, of_z, sym, ◌∙◌}
 use Rattle.std.proofs.lemmas.Int.{to_z-of_z}
-use Rattle.ix_facts.specs.Bounds
+use Rattle.ix_index.specs.Bounds
 use Rattle.ix_bounds.proofs.BoundSteps.{limit_of_less}
 use Rattle.ix_bounds.proofs.limits.limit_by.Goals as goal
 

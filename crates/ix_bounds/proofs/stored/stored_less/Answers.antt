@@ -1,5 +1,5 @@
 use Rattle.std.proofs.Common.{ap, ◌∙◌}
-use Rattle.ix_facts.specs.Bounds as spec
+use Rattle.ix_index.specs.Bounds as spec
 use Rattle.ix_bounds.proofs.PartsAlone.{stored_less_of}
 use Rattle.ix_bounds.proofs.stored.stored_less.Goals as goal
 

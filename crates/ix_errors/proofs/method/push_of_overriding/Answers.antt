@@ -1,10 +1,10 @@
 use Rattle.std.proofs.Common.{◌<◌, ◌⊎◌, length, sym, subst}
 use Rattle.std.proofs.lemmas.Result.{on_ok_weaker}
 use Rattle.ix_core.specs.declared.program.Method.{Method}
-use Rattle.ix_method.specs.RuleErrors.{OverridesBy}
-use Rattle.ix_method.specs.Exactly.{AddsExactly}
-use Rattle.ix_method.specs.Naming.{HasSmallNames}
-use Rattle.ix_method.specs.SignErrors.{OverrideParameter, OverrideResult, OverrideEffect}
+use Rattle.ix_labels.specs.RuleErrors.{OverridesBy}
+use Rattle.ix_labels.specs.Exactly.{AddsExactly}
+use Rattle.ix_labels.specs.Naming.{HasSmallNames}
+use Rattle.ix_labels.specs.SignErrors.{OverrideParameter, OverrideResult, OverrideEffect}
 use Rattle.ix_errors.proofs.Added.{method_is}
 use Rattle.ix_errors.proofs.method.push_of_overriding.Goals as goal
 

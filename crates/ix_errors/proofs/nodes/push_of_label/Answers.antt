@@ -1,9 +1,9 @@
 use Rattle.std.proofs.Common.{sym, subst}
 use Rattle.std.proofs.lemmas.Result.{on_ok_weaker}
 use Rattle.ix_graph.specs.Built.{kind_of}
-use Rattle.ix_method.specs.Exactly.{AddsExactly}
-use Rattle.ix_method.proofs.Refused.{adds_both}
-use Rattle.ix_method.specs.StoredFacts.{stored}
+use Rattle.ix_labels.specs.Exactly.{AddsExactly}
+use Rattle.ix_labels.proofs.Refused.{adds_both}
+use Rattle.ix_labels.specs.StoredFacts.{stored}
 use Rattle.ix_errors.specs.NodeErrors.{LabelGives}
 use Rattle.ix_errors.proofs.nodes.push_of_label.Goals as goal
 

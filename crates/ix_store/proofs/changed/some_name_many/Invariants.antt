@@ -1,5 +1,5 @@
 use Rattle.std.proofs.Common.{◌≡◌, drop}
-use Rattle.ix_fact_list.specs.Spared.{some_named}
+use Rattle.ix_closure.specs.Spared.{some_named}
 use Rattle.ix_store.specs.ChangedPaths.{is_changed}
 use Rattle.ix_store.proofs.changed.some_name_many.Given as goal
 

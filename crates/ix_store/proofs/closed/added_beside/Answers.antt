@@ -5,7 +5,7 @@ use Rattle.ix_facts.specs.Kinds.{of_kind}
 use Rattle.ix_facts.specs.Systems.{HaveClasses}
 use Rattle.ix_closure.specs.Beside.{AreBeside}
 use Rattle.ix_closure.specs.Saturated.{IsSaturated}
-use Rattle.ix_fact_table.specs.FactTables.{facts_of}
+use Rattle.ix_closure.specs.FactTables.{facts_of}
 use Rattle.ix_store.specs.AllTables.{all_facts}
 use Rattle.ix_store.proofs.ClassesAfter.{app_have}
 use Rattle.ix_store.proofs.OwnFacts.{are_beside, range_app}

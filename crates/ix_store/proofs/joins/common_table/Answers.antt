@@ -1,6 +1,6 @@
 use Rattle.std.proofs.Common.{◌≡◌, sym, subst}
 use Rattle.ix_facts.specs.Closure.{IsCommon}
-use Rattle.ix_fact_table.specs.FactTables.{facts_of}
+use Rattle.ix_closure.specs.FactTables.{facts_of}
 use Rattle.ix_store.proofs.WeakerCommon.{first_common, second_common, table_tells}
 use Rattle.ix_store.proofs.joins.common_table.Goals as goal
 

@@ -1,6 +1,6 @@
 use Rattle.std.proofs.Common.{sym, ap, ◌∙◌}
-use Rattle.ix_fact_list.specs.Spared.{some_named, spared}
-use Rattle.ix_fact_table.specs.FactTables.{facts_of}
+use Rattle.ix_closure.specs.Spared.{some_named, spared}
+use Rattle.ix_closure.specs.FactTables.{facts_of}
 use Rattle.ix_store.specs.ChangedPaths.{is_changed}
 use Rattle.ix_store.proofs.making.table_beside.Goals as goal
 

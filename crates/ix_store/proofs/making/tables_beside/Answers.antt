@@ -1,4 +1,4 @@
-use Rattle.ix_fact_table.specs.FactTables.{facts_of}
+use Rattle.ix_closure.specs.FactTables.{facts_of}
 use Rattle.ix_store.specs.ChangedPaths.{is_changed}
 use Rattle.ix_store.proofs.PartsWithout.{two_without}
 use Rattle.ix_store.proofs.making.tables_beside.Goals as goal

@@ -1,6 +1,6 @@
 use Rattle.std.proofs.Common.{◌≡◌, ◌++◌, drop}
 use Rattle.indexmap.specs.IndexMap.{get_by_text}
-use Rattle.ix_meaning.specs.Members as spec
+use Rattle.ix_types.specs.Members as spec
 use Rattle.ix_world.proofs.lists.methods.Given as goal
 
 abbrev pub invariant-loop-c : goal.invariant-loop-c

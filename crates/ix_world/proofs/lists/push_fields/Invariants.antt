@@ -1,6 +1,6 @@
 use Rattle.std.proofs.Common.{◌≡◌, ◌++◌, ◌+◌, ◌≤◌, drop}
 use Rattle.indexmap.specs.IndexMap.{get_by_text}
-use Rattle.ix_meaning.specs.Members as spec
+use Rattle.ix_types.specs.Members as spec
 use Rattle.ix_world.proofs.lists.push_fields.Given as goal
 
 abbrev pub invariant-loop-i : goal.invariant-loop-i

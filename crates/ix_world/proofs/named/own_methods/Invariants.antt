@@ -1,6 +1,6 @@
 use Rattle.std.proofs.Common.{◌≡◌, ℕ, List, None, drop}
 use Rattle.indexmap.specs.IndexMap.{get_by_text}
-use Rattle.ix_meaning.specs.Members.{is_method_named}
+use Rattle.ix_types.specs.Members.{is_method_named}
 use Rattle.ix_world.specs.First.{first_where}
 use Rattle.ix_world.proofs.named.own_methods.Given as goal
 

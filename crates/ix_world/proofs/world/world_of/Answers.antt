@@ -1,7 +1,7 @@
 use Rattle.std.proofs.Common.{rules, ◌≡◌, ◌∙◌, ap, length}
 use Rattle.indexmap.specs.IndexMap.{get_by_text}
-use Rattle.ix_meaning.specs.Classes.{class_named, parents_by}
-use Rattle.ix_meaning.specs.Members.{fields_from, methods_from}
+use Rattle.ix_types.specs.Classes.{class_named, parents_by}
+use Rattle.ix_types.specs.Members.{fields_from, methods_from}
 use Rattle.ix_world.specs.World as spec
 use Rattle.ix_world.proofs.Worlds.{is_world}
 use Rattle.ix_world.proofs.world.world_of.Goals as goal

@@ -1,6 +1,6 @@
 use Rattle.std.proofs.Common.{◌≡◌, true, false, All, sym, subst, ap, ◌∙◌}
 use Rattle.ix_facts.specs.Small.{HasSmallNumbers}
-use Rattle.ix_fact_table.specs.FactTables.{facts_of}
+use Rattle.ix_closure.specs.FactTables.{facts_of}
 use Rattle.ix_store.specs.AllTables.{all_facts}
 use Rattle.ix_store.specs.EmptyRanges.{some_empty}
 use Rattle.ix_store.proofs.ClosedTests.{closed_by_test}
