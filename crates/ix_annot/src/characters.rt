@@ -78,7 +78,7 @@ fn starts_identifier(c: char) -> bool
 fn continues_identifier(c: char) -> bool
     ensures { result ≡ characters.continues_identifier c }
 {
-    unicode_ident::is_xid_continue(c) || c == '$'
+    unicode_ident::is_xid_continue(c) && c != '\u{200c}' && c != '\u{200d}' || c == '$'
 }
 
 fn letters_and_digits(text: &[char]) -> usize

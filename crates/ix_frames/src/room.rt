@@ -108,8 +108,7 @@ fn item_needs(item: &Item) -> Result<Needs, AllocError>
             let asked = cond_needs(cond)?;
             let body = items_needs(body.items.as_slice())?;
             let next = items_needs(next.items.as_slice())?;
-            let needs = higher(larger(asked, larger(body, next)), 3)?;
-            Ok(needs)
+            higher(larger(asked, larger(body, next)), 3)
         }
         Item::Break | Item::Continue | Item::Return(_, _) | Item::Throw(_, _) => Ok(Needs {
             above: 0,
@@ -131,13 +130,11 @@ fn cond_needs(cond: &Cond) -> Result<Needs, AllocError>
         }),
         Cond::Compare(block, _) => {
             let needs = items_needs(block.items.as_slice())?;
-            let needs = higher(needs, 1)?;
-            Ok(needs)
+            higher(needs, 1)
         }
         Cond::Truth(block, _) => {
             let needs = items_needs(block.items.as_slice())?;
-            let needs = higher(needs, 1)?;
-            Ok(needs)
+            higher(needs, 1)
         }
         Cond::Both(first, second) => {
             let first = cond_needs(first.get())?;
@@ -153,8 +150,7 @@ fn cond_needs(cond: &Cond) -> Result<Needs, AllocError>
         }
         Cond::Opposite(asked) => {
             let asked = cond_needs(asked.get())?;
-            let needs = higher(asked, 1)?;
-            Ok(needs)
+            higher(asked, 1)
         }
     }
 }

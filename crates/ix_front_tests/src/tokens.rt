@@ -95,6 +95,8 @@ const READ: &[(&[u8], &[(Expected, u32, u32)])] = &[
             (Expected::Fixed(59), 6, 7),
         ],
     ),
+    (b"\"\\\\u0041\"", &[(Expected::Str("\\\\u0041"), 0, 9)]),
+    (b"// \\\\u \\U0041", &[]),
     (
         b"1.5",
         &[
@@ -133,6 +135,23 @@ const REFUSED: &[(&[u8], LexError)] = &[
     (b"a\xC3", LexError::BadUtf8(1)),
     (b"a \xED\xA0\x80", LexError::BadUtf8(2)),
     (b"a \"", LexError::OpenString(2)),
+    (b"// \\u000a r = a[5];", LexError::BadChar(3)),
+    (b"/* \\u0041 */", LexError::BadChar(3)),
+    (b"\"\\u0041\"", LexError::BadChar(1)),
+    (b"\"\\\\\\u0041\"", LexError::BadChar(3)),
+    (b"\"a\\uu0041\"", LexError::BadChar(2)),
+    (b"x // a\\b\\u", LexError::BadChar(8)),
+    (b"// \xC3\xA9\\u", LexError::BadChar(5)),
+    (b"// \\u\n#", LexError::BadChar(3)),
+    (b"// \\u\n1a", LexError::BadChar(3)),
+    (b"# // \\u", LexError::BadChar(0)),
+    (b"1a // \\u", LexError::BadNumber(0)),
+    (b"/* \\u", LexError::OpenComment(0)),
+    (b"\"\\u", LexError::OpenString(0)),
+    (b"K\xE2\x80\x8C", LexError::BadChar(1)),
+    (b"K\xE2\x80\x8D1", LexError::BadChar(1)),
+    (b"1\xE2\x80\x8C", LexError::BadChar(1)),
+    (b"\xE2\x80\x8CK", LexError::BadChar(0)),
 ];
 
 fn is_expected(token: &Token, what: Expected, from: u32, to: u32) -> bool {
@@ -201,6 +220,59 @@ fn wrongly_refused(alloc: Global) -> usize {
 #[test]
 fn texts_are_refused_for_their_cause(rt: HostRuntime) {
     assert!(rt; wrongly_refused(rt.alloc()) == 0);
+}
+
+/// The characters that Java ignores in a name, from the first to the last of each run: `Character.isIdentifierIgnorable` of Java 17.
+const IGNORED: &[(u32, u32)] = &[
+    (0x0, 0x8),
+    (0xE, 0x1B),
+    (0x7F, 0x9F),
+    (0xAD, 0xAD),
+    (0x600, 0x605),
+    (0x61C, 0x61C),
+    (0x6DD, 0x6DD),
+    (0x70F, 0x70F),
+    (0x8E2, 0x8E2),
+    (0x180E, 0x180E),
+    (0x200B, 0x200F),
+    (0x202A, 0x202E),
+    (0x2060, 0x2064),
+    (0x2066, 0x206F),
+    (0xFEFF, 0xFEFF),
+    (0xFFF9, 0xFFFB),
+    (0x110BD, 0x110BD),
+    (0x110CD, 0x110CD),
+    (0x13430, 0x13438),
+    (0x1BCA0, 0x1BCA3),
+    (0x1D173, 0x1D17A),
+    (0xE0001, 0xE0001),
+    (0xE0020, 0xE007F),
+];
+
+/// Whether a text of `a` and this character has a token that ends behind the `a`.
+fn goes_on(alloc: Global, c: char) -> bool {
+    let mut text = String::new(alloc);
+    if text.push('a').is_err() || text.push(c).is_err() {
+        return true;
+    }
+    match lex_small(alloc, text.as_bytes()) {
+        Some(Ok(tokens)) => tokens.iter().any(|token| token.span.to > 1),
+        _ => false,
+    }
+}
+
+fn none_goes_on(alloc: Global, from: u32, to: u32) -> bool {
+    (from..=to).all(|code| !char::from_u32(code).is_some_and(|c| goes_on(alloc, c)))
+}
+
+#[test]
+fn what_java_ignores_is_in_no_name(rt: HostRuntime) {
+    let alloc = rt.alloc();
+    assert!(rt;
+        IGNORED
+            .iter()
+            .all(|(from, to)| none_goes_on(alloc, *from, *to))
+    );
 }
 
 /// Semicolons, and then this end.

@@ -3,6 +3,7 @@ pub mod Scans
 pub mod LongestElement
 pub mod OneReading
 pub mod OneAnswer
+pub mod EscapesFirst
 pub mod ReadingSteps
 pub mod WholeText
 pub mod TokensInOrder

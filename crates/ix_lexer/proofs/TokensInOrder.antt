@@ -1,14 +1,15 @@
 -- The tokens of a text stand in order in it, and none is empty. The place of an error lies in the text.
-use Rattle.std.proofs.Common.{◌≡◌, ℕ, ◌+◌, ◌≤◌, List, [], ◌∷◌, length, Ok, Err, refl, ap, arith, ◌≢◌}
+use Rattle.std.proofs.Common.{◌≡◌, ℕ, ◌+◌, ◌≤◌, Bool, true, false, ◌&&◌, not, ◌==◌, if◌then◌else◌, List, [], ◌∷◌, length, Option, Some, None, Ok, Err, refl, sym, ap, subst, arith, inl, inr, ◌≢◌}
 use Rattle.std.specs.Prelude.{IfOk, IfErr}
+use Rattle.std.specs.Str.{byte}
 use Rattle.std.proofs.lemmas.Str.{length-le-encodes}
 use Rattle.ix_lexer.specs.declared.elements.Element.{Element}
 use Rattle.ix_lexer.specs.declared.token.Token.{Token}
 use Rattle.ix_lexer.specs.declared.token.LexError.{LexError}
 use Rattle.ix_lexer.specs.declared.token.LexError.TheVariants as error
-use Rattle.ix_lexer.specs.Characters.{Text}
 use Rattle.ix_lexer.specs.Elements.{IsElement, white_space, line_comment, comment, open_comment, word, number, quoted, open_string, sign}
-use Rattle.ix_lexer.specs.Tokens.{Longest, size, Reads, none, gap, one, Tokens, Fails, Spells}
+use Rattle.ix_lexer.specs.Characters.{Text, backslash, first}
+use Rattle.ix_lexer.specs.Tokens.{Longest, size, Reads, none, gap, one, escape_from, first_escape, StopsFirst, Stopped, Tokens, Fails, Spells}
 use Rattle.ix_lexer.specs.Spans.{InOrder, IsWithin}
 use Rattle.ix_lexer.proofs.LongestElement.{some_sign}
 use Rattle.ix_lexer.proofs.ReadingSteps.{size_append}
@@ -58,13 +59,39 @@ answer_in_order bytes (Err x) t = tt
 stopped_within : (bytes : List ℕ) (text : Text) (tokens : List Token) (at place : ℕ) (left : Text) → Spells text bytes → Reads 0 text tokens at left → place ≡ at → place ≤ length bytes
 stopped_within bytes text tokens at place left s r e = omega (arith, read_size r, ap length s.1)
 
+-- what stops the reading lies in the text
+stop_within : (bytes : List ℕ) (text : Text) (why : LexError) → Spells text bytes → Stopped text why → IsWithin (length bytes) why
+stop_within bytes text (error.BadUtf8 k) s f = absurd f.5
+stop_within bytes text (error.BadChar k) s f = stopped_within bytes text f.0 f.1 k f.2 s f.3 f.5.0
+stop_within bytes text (error.OpenComment k) s f = stopped_within bytes text f.0 f.1 k f.2 s f.3 f.5.0
+stop_within bytes text (error.OpenString k) s f = stopped_within bytes text f.0 f.1 k f.2 s f.3 f.5.0
+stop_within bytes text (error.BadNumber k) s f = stopped_within bytes text f.0 f.1 k f.2 s f.3 f.5.0
+stop_within bytes text (error.TooMany k) s f = stopped_within bytes text f.0 f.1 k f.2 s f.3 f.5.0
+stop_within bytes text error.Memory s f = absurd f.5
+
+-- an escape stands in the text
+escape_within : (even : Bool) (at : ℕ) (text : Text) (place : ℕ) → escape_from even at text ≡ Some place → place ≤ at + size text
+escape_within even at [] place h = cc
+escape_within even at (c ∷ cs) place h =
+    elim (even && c == backslash && first cs == byte "u") as (λ b. (if b then Some at else escape_from (not (even && c == backslash)) (at + size (c ∷ [])) cs) ≡ Some place → place ≤ at + size (c ∷ cs)) [
+      | true ↦ λ g. let e : at ≡ place = cc in omega (arith, e)
+      | false ↦ λ g. omega (arith, escape_within (not (even && c == backslash)) (at + size (c ∷ [])) cs place g, size_append (c ∷ []) cs)
+    ] h
+
+first_within : (bytes : List ℕ) (text : Text) (why : LexError) (escape : Option ℕ) → escape ≡ first_escape text → Spells text bytes → StopsFirst escape text why → IsWithin (length bytes) why
+first_within bytes text why None e s f = stop_within bytes text why s f
+first_within bytes text why (Some place) e s (inl f) = stop_within bytes text why s f.0
+first_within bytes text why (Some place) e s (inr f) =
+    let within : IsWithin (length bytes) (error.BadChar place) = omega (arith, escape_within true 0 text place (sym e), ap length s.1) in
+    subst (IsWithin (length bytes)) (sym f.0) within
+
 fails_within : (bytes : List ℕ) (why : LexError) → Fails bytes why → IsWithin (length bytes) why
 fails_within bytes (error.BadUtf8 k) f = omega (arith, f.1.short)
-fails_within bytes (error.BadChar k) f = stopped_within bytes f.0 f.2.0 f.2.1 k f.2.2 f.1 f.2.3 f.2.5.0
-fails_within bytes (error.OpenComment k) f = stopped_within bytes f.0 f.2.0 f.2.1 k f.2.2 f.1 f.2.3 f.2.5.0
-fails_within bytes (error.OpenString k) f = stopped_within bytes f.0 f.2.0 f.2.1 k f.2.2 f.1 f.2.3 f.2.5.0
-fails_within bytes (error.BadNumber k) f = stopped_within bytes f.0 f.2.0 f.2.1 k f.2.2 f.1 f.2.3 f.2.5.0
-fails_within bytes (error.TooMany k) f = stopped_within bytes f.0 f.2.0 f.2.1 k f.2.2 f.1 f.2.3 f.2.5.0
+fails_within bytes (error.BadChar k) f = first_within bytes f.0 (error.BadChar k) (first_escape f.0) refl f.1 f.2
+fails_within bytes (error.OpenComment k) f = first_within bytes f.0 (error.OpenComment k) (first_escape f.0) refl f.1 f.2
+fails_within bytes (error.OpenString k) f = first_within bytes f.0 (error.OpenString k) (first_escape f.0) refl f.1 f.2
+fails_within bytes (error.BadNumber k) f = first_within bytes f.0 (error.BadNumber k) (first_escape f.0) refl f.1 f.2
+fails_within bytes (error.TooMany k) f = first_within bytes f.0 (error.TooMany k) (first_escape f.0) refl f.1 f.2
 fails_within bytes error.Memory f = tt
 
 error_within : (bytes : List ℕ) (why : LexError) → (why ≢ error.Memory → Fails bytes why) → IsWithin (length bytes) why

@@ -1,8 +1,8 @@
 -- The tokens of a text, and why a text has none (JLS 3.2, 3.5).
-use Rattle.std.specs.Prelude.{◌≡◌, ◌≤◌, ℕ, ◌+◌, ◌-◌, Bool, true, ◌&&◌, not, ◌==◌, nat_eq, if◌then◌else◌, List, [], ◌∷◌, ◌++◌, length, take, drop, Option, Some, None}
+use Rattle.std.specs.Prelude.{◌≡◌, ◌≤◌, ℕ, ◌+◌, ◌-◌, Bool, true, ◌&&◌, not, ◌==◌, ◌⊎◌, nat_eq, if◌then◌else◌, List, [], ◌∷◌, ◌++◌, length, take, drop, Option, Some, None}
 use Rattle.std.specs.List.{position_from}
 use Rattle.std.specs.Cmp.Lexicographic.{pointwise}
-use Rattle.std.specs.Str.{encode_utf8_all, all_scalars, IsUtf8, IsValidUpTo}
+use Rattle.std.specs.Str.{byte, encode_utf8_all, all_scalars, IsUtf8, IsValidUpTo}
 use Rattle.std.specs.Int.{cast_signed, w32}
 use Rattle.ix_lexer.specs.declared.elements.Element.{Element}
 use Rattle.ix_lexer.specs.declared.elements.Element.TheVariants as element
@@ -12,9 +12,10 @@ use Rattle.ix_lexer.specs.declared.token.TokenKind.TheVariants as kind
 use Rattle.ix_lexer.specs.declared.token.LexError.{LexError}
 use Rattle.ix_lexer.specs.declared.token.LexError.TheVariants as error
 unfoldable pub use Rattle.ix_lexer.specs.Fixed.{words}
-use Rattle.ix_lexer.specs.Characters.{Text}
+use Rattle.ix_lexer.specs.Characters.{Text, backslash, first}
 use Rattle.ix_lexer.specs.Elements.{IsElement, signs}
 use Rattle.ix_lexer.specs.Numbers.{number_of, is_hexadecimal}
+use Rattle.ix_lexer.specs.Spans.{IsWithin}
 
 -- The text begins with the element `w`, and with no longer one: "the longest possible translation is used at each step" (JLS 3.2).
 abbrev pub Longest : Element → Text → Text → Type 0
@@ -86,15 +87,36 @@ Complete text tokens = (end : ℕ) × Reads 0 text tokens end []
 abbrev pub Stopped : Text → LexError → Type 0
 Stopped text why = (tokens : List Token) × (at : ℕ) × (left : Text) × Reads 0 text tokens at left × (length tokens ≤ most_tokens) × Stops why (length tokens) at left
 
+-- ---- Unicode escapes
+
+-- The place of the first Unicode escape (JLS 3.3): a backslash behind an even number of backslashes, with a `u` behind it. `at`: the place of the
+-- text, `even`: whether an even number of backslashes stands directly before it.
+abbrev pub escape_from : Bool → ℕ → Text → Option ℕ
+escape_from even at [] = None
+escape_from even at (c ∷ cs) =
+    if even && c == backslash && first cs == byte "u" then Some at else escape_from (not (even && c == backslash)) (at + size (c ∷ [])) cs
+
+abbrev pub first_escape : Text → Option ℕ
+first_escape text = escape_from true 0 text
+
+-- Java reads an escape before anything else, so in a comment or a string too it would mean something else there. It is refused wherever it stands; of
+-- what stops the reading and of an escape that comes which stands first.
+abbrev pub StopsFirst : Option ℕ → Text → LexError → Type 0
+StopsFirst None text why = Stopped text why
+StopsFirst (Some place) text why =
+    (Stopped text why × IsWithin place why) ⊎ ((why ≡ error.BadChar place) × ((other : LexError) → Stopped text other → IsWithin place other → ⊥))
+
+-- ---- bytes
+
 -- the bytes are these characters in UTF-8
 abbrev pub Spells : Text → List ℕ → Type 0
 Spells text bytes = (all_scalars text ≡ true) × (encode_utf8_all text ≡ bytes)
 
 -- The bytes have these tokens.
 abbrev pub Tokens : List ℕ → List Token → Type 0
-Tokens bytes tokens = (text : Text) × Spells text bytes × Complete text tokens
+Tokens bytes tokens = (text : Text) × Spells text bytes × Complete text tokens × (first_escape text ≡ None)
 
 -- The bytes have no list of at most 200,000 tokens, for this cause.
 abbrev pub Fails : List ℕ → LexError → Type 0
 Fails bytes (error.BadUtf8 place) = (IsUtf8 bytes → ⊥) × IsValidUpTo bytes place
-Fails bytes why = (text : Text) × Spells text bytes × Stopped text why
+Fails bytes why = (text : Text) × Spells text bytes × StopsFirst (first_escape text) text why

@@ -1,6 +1,6 @@
 //! Reads the tokens of a text.
 
-ghost use Rattle.std.specs.Prelude.{◌≡◌, ◌≢◌, ◌≤◌, ◌<◌, ◌+◌, ◌^◌, ℕ, List, ◌⊎◌, length, take, drop, IfOk, IfErr, IfSome, MatchResult, Ok, Err};
+ghost use Rattle.std.specs.Prelude.{◌≡◌, ◌≢◌, ◌≤◌, ◌<◌, ◌+◌, ◌^◌, ℕ, List, ◌⊎◌, length, take, drop, IfOk, IfErr, IfSome, MatchResult, Ok, Err, None};
 ghost use Rattle.std.specs.Str.{chars};
 ghost use Rattle.ix_lexer.specs.Spans.{InOrder, IsWithin};
 ghost use Rattle.ix_lexer.specs.Steps as steps;
@@ -8,6 +8,7 @@ ghost use Rattle.ix_lexer.specs.Tokens as spec;
 ghost use Rattle.ix_lexer.specs.declared.token.LexError.TheVariants.{Memory};
 
 use crate::elements::{Element, element_at};
+use crate::escapes::{first_cause, first_escape};
 use crate::kinds::kind_of;
 use crate::token::{LexError, Token, TokenKind};
 use ix_text::Span;
@@ -103,6 +104,25 @@ fn tokens_of(alloc: Global, mut text: &[char]) -> Result<Vec<Token>, LexError>
     Ok(tokens)
 }
 
+/// The tokens of a text without Unicode escapes, or the first cause for which it has none.
+fn escapeless_tokens(alloc: Global, text: &[char]) -> Result<Vec<Token>, LexError>
+    requires { spec.size text.now < 2 ^ 32 }
+    ensures tokens { IfOk result (λ tokens. steps.HasTokens text.now tokens.items × (spec.first_escape text.now ≡ None)) }
+    ensures stopped { IfErr result (λ why. why ≢ Memory → spec.StopsFirst (spec.first_escape text.now) text.now why) }
+{
+    let escape = first_escape(text);
+    match tokens_of(alloc, text) {
+        Ok(tokens) => match escape {
+            None => Ok(tokens),
+            Some(place) => {
+                drop(tokens);
+                Err(LexError::BadChar(place))
+            }
+        },
+        Err(why) => Err(first_cause(why, escape)),
+    }
+}
+
 #[tactic(auto, using(std::proofs::lemmas::Str::chars_from_encodes))]
 fn characters_of(alloc: Global, text: &str) -> Result<Vec<char>, AllocError>
     ensures { IfOk result (λ characters. characters.items ≡ chars text.now) }
@@ -110,7 +130,7 @@ fn characters_of(alloc: Global, text: &str) -> Result<Vec<char>, AllocError>
     text.chars().collect(alloc)
 }
 
-/// The tokens of a text, each with its span, or the one cause for which it has none: JLS 3 without Unicode escapes, with the numbers
+/// The tokens of a text, each with its span, or the one cause for which it has none: JLS 3 without Unicode escapes (which are refused in comments and strings too), with the numbers
 /// and strings that `TokenKind` names, and with at most 200,000 tokens.
 ///
 /// A place counts bytes. `LexError` names the causes; want of memory can stand for each answer. The time is linear in the text, and the
@@ -133,7 +153,7 @@ pub fn lex(alloc: Global, text: &[u8]) -> Result<Vec<Token>, LexError>
         Err(error) => Err(LexError::BadUtf8(error.valid_up_to() as u32)),
         Ok(text) => {
             let characters = characters_of(alloc, text)?;
-            tokens_of(alloc, &characters)
+            escapeless_tokens(alloc, &characters)
         }
     }
 }

@@ -6,6 +6,7 @@
 #![tactic(auto)]
 
 mod elements;
+mod escapes;
 pub mod fixed;
 mod kinds;
 mod lexer;

@@ -155,6 +155,5 @@ pub fn begin_constructor(
     ensures limit { (which : Which) → IsErrOf result (stop.Limit which) → spec.constructor_start (shown_site site.now) (shown_home home.now) args.now span body.old ≡ Err which }
 {
     super_call(alloc, site, home.parent, args, span, body)?;
-    initialise_all(alloc, site, home.field, home.members, body)?;
-    Ok(())
+    initialise_all(alloc, site, home.field, home.members, body)
 }

@@ -52,10 +52,8 @@ pub fn is_effect_free(table: &Table, span: Span) -> bool
 fn push_param(params: &mut List<Local>, param: Local) -> Result<(), AllocError>
     ensures { OnOk result (params.new ≡ params.old ++ param ∷ []) }
 {
-    match params.push(param) {
-        Ok(()) => Ok(()),
-        Err(_) => Err(AllocError),
-    }
+    params.push(param)?;
+    Ok(())
 }
 
 /// The parameters, in the slots from that one on.
@@ -81,10 +79,8 @@ pub fn params(
 fn push_type(types: &mut List<Type_>, ty: Type_) -> Result<(), AllocError>
     ensures { OnOk result (types.new ≡ types.old ++ ty ∷ []) }
 {
-    match types.push(ty) {
-        Ok(()) => Ok(()),
-        Err(_) => Err(AllocError),
-    }
+    types.push(ty)?;
+    Ok(())
 }
 
 /// The types of the parameters.
@@ -144,10 +140,8 @@ fn add_field(
         return Ok(());
     }
     let field = field_of(alloc, table, class, decl)?;
-    match fields.push(field) {
-        Ok(()) => Ok(()),
-        Err(_) => Err(AllocError),
-    }
+    fields.push(field)?;
+    Ok(())
 }
 
 fn add_fields(
@@ -254,10 +248,8 @@ fn class_of(
 fn push_class(classes: &mut List<Class>, class: Class) -> Result<(), AllocError>
     ensures { OnOk result (classes.new ≡ classes.old ++ class ∷ []) }
 {
-    match classes.push(class) {
-        Ok(()) => Ok(()),
-        Err(_) => Err(AllocError),
-    }
+    classes.push(class)?;
+    Ok(())
 }
 
 /// The classes, with the numbers of their members.

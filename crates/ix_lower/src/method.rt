@@ -253,8 +253,7 @@ pub fn written<'t>(
         params: head.params.as_slice(),
     };
     let body = written_body(alloc, &site, home, decl, free)?;
-    let method = with_body(head, body)?;
-    Ok(method)
+    with_body(head, body)
 }
 
 /// The constructor of a class that has none written (JLS 8.8.9).

@@ -83,10 +83,8 @@ fn placed_default<'t>(
 fn push_method(methods: &mut List<Method>, method: Method) -> Result<(), AllocError>
     ensures { OnOk result (methods.new ≡ methods.old ++ method ∷ []) }
 {
-    match methods.push(method) {
-        Ok(()) => Ok(()),
-        Err(_) => Err(AllocError),
-    }
+    methods.push(method)?;
+    Ok(())
 }
 
 /// Adds the written methods of a class.

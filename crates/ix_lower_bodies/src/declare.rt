@@ -77,10 +77,8 @@ pub fn init_span(init: &Init) -> Span
 fn push_local(locals: &mut List<(Local, Span)>, local: Local, span: Span) -> Result<(), AllocError>
     ensures { OnOk result (locals.new ≡ locals.old ++ (local, span) ∷ []) }
 {
-    match locals.push((local, span)) {
-        Ok(()) => Ok(()),
-        Err(_) => Err(AllocError),
-    }
+    locals.push((local, span))?;
+    Ok(())
 }
 
 /// A local takes the first free slot.

@@ -78,8 +78,7 @@ fn variable(
     }
     let ty = type_at(alloc, scope, span)?;
     let kind = OpKind::Copy(made.free, slot, ty);
-    let slot = compute(alloc, made, kind, span)?;
-    Ok(slot)
+    compute(alloc, made, kind, span)
 }
 
 /// What a name with that meaning holds.
@@ -146,8 +145,7 @@ fn null(alloc: Global, scope: &Scope<'_>, span: Span, made: &mut Made) -> Result
 {
     let ty = type_at(alloc, scope, span)?;
     let kind = OpKind::Const(made.free, Literal::NullOf(ty));
-    let slot = compute(alloc, made, kind, span)?;
-    Ok(slot)
+    compute(alloc, made, kind, span)
 }
 
 fn step_operator(up: bool) -> Arith
@@ -175,8 +173,7 @@ pub fn assign(
 {
     let (whole, target, from) = spans;
     let item = write(alloc, spot, value, ty, whole, target, from)?;
-    push(made, item)?;
-    Ok(())
+    push(made, item)
 }
 
 /// A call into that target.
@@ -257,8 +254,7 @@ pub fn value(alloc: Global, scope: &Scope<'_>, expr: &Expr, made: &mut Made) -> 
     match form_of(&expr.kind) {
         Form::Asks => {
             let asked = asked(alloc, scope, expr, &mut made.free)?;
-            let slot = truth(alloc, asked, expr.span, made)?;
-            Ok(slot)
+            truth(alloc, asked, expr.span, made)
         }
         Form::Calls => called(alloc, scope, expr, made),
         Form::Creates => created(alloc, scope, expr, made),
@@ -319,8 +315,7 @@ fn selected(alloc: Global, scope: &Scope<'_>, expr: &Expr, made: &mut Made) -> R
             let i = value(alloc, scope, index.get(), made)?;
             let ty = type_at(alloc, scope, array.get().span)?;
             let kind = OpKind::Load(made.free, a, i, ty);
-            let slot = compute(alloc, made, kind, index.get().span)?;
-            Ok(slot)
+            compute(alloc, made, kind, index.get().span)
         }
         _ => unreachable!(),
     }
@@ -461,13 +456,11 @@ fn created(alloc: Global, scope: &Scope<'_>, expr: &Expr, made: &mut Made) -> Re
             let n = value(alloc, scope, size.get(), made)?;
             let ty = type_at(alloc, scope, expr.span)?;
             let kind = OpKind::NewArray(made.free, ty, n);
-            let slot = compute(alloc, made, kind, size.get().span)?;
-            Ok(slot)
+            compute(alloc, made, kind, size.get().span)
         }
         ExprKind::NewItems(_, items) => {
             let ty = type_at(alloc, scope, expr.span)?;
-            let slot = filled(alloc, scope, items.as_slice(), expr.span, &ty, made)?;
-            Ok(slot)
+            filled(alloc, scope, items.as_slice(), expr.span, &ty, made)
         }
         _ => unreachable!(),
     }
@@ -531,8 +524,7 @@ fn filled(
     let parts = init_spans(alloc, inits)?;
     let ty = copied(alloc, ty)?;
     let kind = OpKind::Fill(made.free, ty, slots);
-    let slot = take(made, Item::Do(Op { kind, span, parts }))?;
-    Ok(slot)
+    take(made, Item::Do(Op { kind, span, parts }))
 }
 
 /// The value of an initialiser of a variable of that type.

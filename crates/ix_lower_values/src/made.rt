@@ -32,10 +32,8 @@ pub fn empty(alloc: Global, free: u32) -> Made
 pub fn push(made: &mut Made, item: Item) -> Result<(), AllocError>
     ensures { OnOk result (made.new ≡ spec.with_item made.old item) }
 {
-    match made.items.push(item) {
-        Ok(()) => Ok(()),
-        Err(_) => Err(AllocError),
-    }
+    made.items.push(item)?;
+    Ok(())
 }
 
 /// Adds an item whose target is the first free slot, and takes that.
@@ -97,8 +95,7 @@ pub fn truth(alloc: Global, asked: Cond, span: Span, made: &mut Made) -> Result<
 {
     let holds = truth_block(alloc, true, made.free, span)?;
     let fails = truth_block(alloc, false, made.free, span)?;
-    let slot = take(made, Item::If(asked, holds, fails))?;
-    Ok(slot)
+    take(made, Item::If(asked, holds, fails))
 }
 
 /// What is in a spot, in a new temporary.
@@ -118,8 +115,7 @@ pub fn read(alloc: Global, spot: &Spot, target: Span, made: &mut Made) -> Result
         Spot::Cell(array, index, ty, at) => {
             let ty = copied(alloc, ty)?;
             let kind = OpKind::Load(made.free, *array, *index, ty);
-            let slot = compute(alloc, made, kind, *at)?;
-            Ok(slot)
+            compute(alloc, made, kind, *at)
         }
     }
 }

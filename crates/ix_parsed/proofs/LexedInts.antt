@@ -56,4 +56,4 @@ read_ints at to text left _ (one {tokens} which w rest what same longest is late
 
 -- The tokens of a text have ints.
 pub tokens_have_ints : (bytes : List ℕ) (tokens : List Token) → Tokens bytes tokens → HaveInts tokens
-tokens_have_ints bytes tokens (text, spells, (end, reads)) = read_ints 0 end text _ tokens reads
+tokens_have_ints bytes tokens (text, spells, (end, reads), _) = read_ints 0 end text _ tokens reads

@@ -5,8 +5,8 @@ use Rattle.ix_lexer.proofs.WholeText.{answer_tokens, answer_cause, size_of, only
 use Rattle.ix_lexer.proofs.TokensInOrder.{answer_in_order, answer_within}
 use Rattle.ix_lexer.proofs.lexer.lex.Goals as goal
 
-pub tokens_of-requires : goal.tokens_of-requires
-tokens_of-requires c =
+pub escapeless_tokens-requires : goal.escapeless_tokens-requires
+escapeless_tokens-requires c =
     let is = c.deref.ensures.value ∙ c.in_ok-characters-in-Ok.ensures ∙ ap chars c.in-Ok.ensures.cases.0 in
     size_of c.args.text.now c.deref.result.now _ c.in-Ok.ensures.cases.1 is c.requires
 
@@ -17,29 +17,29 @@ returns-in-Err-clause-only_cause c = λ why f.
 pub returns-in_ok-characters-in-Ok-clause-tokens : goal.returns-in_ok-characters-in-Ok-clause-tokens
 returns-in_ok-characters-in-Ok-clause-tokens c =
     let is = c.deref.ensures.value ∙ c.in_ok-characters-in-Ok.ensures ∙ ap chars c.in-Ok.ensures.cases.0 in
-    answer_tokens c.args.text.now c.in-Ok.ensures.cases.1 c.deref.result.now is c.tokens_of.result c.tokens_of.ensures.tokens
+    answer_tokens c.args.text.now c.in-Ok.ensures.cases.1 c.deref.result.now is c.escapeless_tokens.result c.escapeless_tokens.ensures.tokens
 
 pub returns-in_ok-characters-in-Ok-clause-cause : goal.returns-in_ok-characters-in-Ok-clause-cause
 returns-in_ok-characters-in-Ok-clause-cause c =
     let is = c.deref.ensures.value ∙ c.in_ok-characters-in-Ok.ensures ∙ ap chars c.in-Ok.ensures.cases.0 in
-    answer_cause c.args.text.now c.in-Ok.ensures.cases.1 c.deref.result.now is c.tokens_of.result c.tokens_of.ensures.stopped
+    answer_cause c.args.text.now c.in-Ok.ensures.cases.1 c.deref.result.now is c.escapeless_tokens.result c.escapeless_tokens.ensures.stopped
 
 pub returns-in_ok-characters-in-Ok-clause-only_tokens : goal.returns-in_ok-characters-in-Ok-clause-only_tokens
 returns-in_ok-characters-in-Ok-clause-only_tokens c =
     let is = c.deref.ensures.value ∙ c.in_ok-characters-in-Ok.ensures ∙ ap chars c.in-Ok.ensures.cases.0 in
-    only_tokens c.args.text.now c.in-Ok.ensures.cases.1 c.deref.result.now is c.tokens_of.result c.tokens_of.ensures.tokens c.tokens_of.ensures.stopped
+    only_tokens c.args.text.now c.in-Ok.ensures.cases.1 c.deref.result.now is c.escapeless_tokens.result c.escapeless_tokens.ensures.tokens c.escapeless_tokens.ensures.stopped
 
 pub returns-in_ok-characters-in-Ok-clause-only_cause : goal.returns-in_ok-characters-in-Ok-clause-only_cause
 returns-in_ok-characters-in-Ok-clause-only_cause c =
     let is = c.deref.ensures.value ∙ c.in_ok-characters-in-Ok.ensures ∙ ap chars c.in-Ok.ensures.cases.0 in
-    only_cause c.args.text.now c.in-Ok.ensures.cases.1 c.deref.result.now is c.tokens_of.result c.tokens_of.ensures.tokens c.tokens_of.ensures.stopped
+    only_cause c.args.text.now c.in-Ok.ensures.cases.1 c.deref.result.now is c.escapeless_tokens.result c.escapeless_tokens.ensures.tokens c.escapeless_tokens.ensures.stopped
 
 pub returns-in_ok-characters-in-Ok-clause-in_order : goal.returns-in_ok-characters-in-Ok-clause-in_order
 returns-in_ok-characters-in-Ok-clause-in_order c =
     let is = c.deref.ensures.value ∙ c.in_ok-characters-in-Ok.ensures ∙ ap chars c.in-Ok.ensures.cases.0 in
-    answer_in_order c.args.text.now c.tokens_of.result (answer_tokens c.args.text.now c.in-Ok.ensures.cases.1 c.deref.result.now is c.tokens_of.result c.tokens_of.ensures.tokens)
+    answer_in_order c.args.text.now c.escapeless_tokens.result (answer_tokens c.args.text.now c.in-Ok.ensures.cases.1 c.deref.result.now is c.escapeless_tokens.result c.escapeless_tokens.ensures.tokens)
 
 pub returns-in_ok-characters-in-Ok-clause-places : goal.returns-in_ok-characters-in-Ok-clause-places
 returns-in_ok-characters-in-Ok-clause-places c =
     let is = c.deref.ensures.value ∙ c.in_ok-characters-in-Ok.ensures ∙ ap chars c.in-Ok.ensures.cases.0 in
-    answer_within c.args.text.now c.tokens_of.result (answer_cause c.args.text.now c.in-Ok.ensures.cases.1 c.deref.result.now is c.tokens_of.result c.tokens_of.ensures.stopped)
+    answer_within c.args.text.now c.escapeless_tokens.result (answer_cause c.args.text.now c.in-Ok.ensures.cases.1 c.deref.result.now is c.escapeless_tokens.result c.escapeless_tokens.ensures.stopped)
