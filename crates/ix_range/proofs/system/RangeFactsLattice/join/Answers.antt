@@ -1,5 +1,0 @@
-use Rattle.ix_range.specs.RangeTables.{is_join}
-use Rattle.ix_range.proofs.system.RangeFactsLattice.join.Goals as goal
-
-pub returns : goal.returns
-returns c = record { least_above = is_join c.args.self.now c.args.other.now _ c.in_ok-table.ensures.common }
