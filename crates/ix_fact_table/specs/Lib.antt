@@ -8,4 +8,3 @@ pub mod RisingLaws
 pub mod Walks
 pub mod FactTables
 pub mod TableLaws
-pub mod KindLaws
