@@ -15,8 +15,7 @@ pub fn push_less(out: &mut Vec<Fact>, p: &Path, q: &Path, c: i64) -> Result<(), 
     if c > 2147483647 {
         return Ok(());
     }
-    out.push(Fact::Less(*p, *q, c.max(-2147483648) as i32))?;
-    Ok(())
+    out.push(Fact::Less(*p, *q, c.max(-2147483648) as i32))
 }
 
 /// Adds `p + offset + c < a.length`, where the constant is kept.
@@ -32,8 +31,7 @@ pub fn push_upper(
     if c < -2147483648 {
         return Ok(());
     }
-    out.push(Fact::Upper(*p, *a, *offset, c.min(2147483647) as i32))?;
-    Ok(())
+    out.push(Fact::Upper(*p, *a, *offset, c.min(2147483647) as i32))
 }
 
 /// Adds `p < q + c`, where there is such a number.

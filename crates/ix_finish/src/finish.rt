@@ -34,8 +34,7 @@ pub fn push_finish_int<K: Indexed>(
         t,
         low,
         high,
-    )?;
-    Ok(())
+    )
 }
 
 /// Adds the rest of the facts on an array: the named ints that are at most its length, by ranges.
@@ -91,8 +90,7 @@ pub fn push_finished_by<K: Indexed>(
     ensures { OnOk result (out.new.items ≡ out.old.items ++ kept (over.finished_by (in_orders (K.known know.now)) (K.on_path know.now) (K.int_paths know.now) (K.array_paths know.now) new.now ty.now t.now)) }
 {
     push_int_if(out, know, new, is_int(ty), t)?;
-    push_array_if(out, know, new, is_array(ty), t)?;
-    Ok(())
+    push_array_if(out, know, new, is_array(ty), t)
 }
 
 fn push_finished_load<K: Indexed>(
@@ -105,8 +103,7 @@ fn push_finished_load<K: Indexed>(
     ensures { OnOk result (out.new.items ≡ out.old.items ++ kept (over.finished_load (in_orders (K.known know.now)) (K.on_path know.now) (K.int_paths know.now) (K.array_paths know.now) new.now t.now ty.now)) }
 {
     push_int_if(out, know, new, holds_ints(ty), t)?;
-    push_array_if(out, know, new, holds_arrays(ty), t)?;
-    Ok(())
+    push_array_if(out, know, new, holds_arrays(ty), t)
 }
 
 fn push_finished_const<K: Indexed>(

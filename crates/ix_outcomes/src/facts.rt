@@ -51,8 +51,7 @@ fn push_equal<K: Indexed>(
     ensures { OnOk result (out.new.items ≡ out.old.items ++ (kept (each (over.passed_by y.now z.now) (K.on_path know.now y.now)) ++ kept (each (over.passed_by z.now y.now) (K.on_path know.now z.now)))) }
 {
     push_passed(out, y, z, know.on(y))?;
-    push_passed(out, z, y, know.on(z))?;
-    Ok(())
+    push_passed(out, z, y, know.on(z))
 }
 
 fn push_outcome<K: Indexed>(
@@ -68,8 +67,7 @@ fn push_outcome<K: Indexed>(
         Outcome::Apart(p, q) => push_apart(alloc, out, know, p, q),
         Outcome::Equal(y, z) => push_equal(out, know, y, z),
         Outcome::OneArray(a, b) => {
-            out.push(Fact::Same(*a, *b))?;
-            Ok(())
+            out.push(Fact::Same(*a, *b))
         }
     }
 }

@@ -40,8 +40,7 @@ fn least_above(bound: &i64, k: &i32, d: &i32) -> i64
 fn push_rng(out: &mut Vec<Fact>, p: &Path, low: i64, high: i64) -> Result<(), AllocError>
     ensures { OnOk result (out.new.items ≡ out.old.items ++ kept (Rng p.now low high ∷ [])) }
 {
-    out.push(Fact::Rng(*p, low, high))?;
-    Ok(())
+    out.push(Fact::Rng(*p, low, high))
 }
 
 fn push_range_to(

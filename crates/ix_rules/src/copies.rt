@@ -24,8 +24,7 @@ fn push_copies(
 {
     push_if(out, second, new_second)?;
     push_if(out, first, new_first)?;
-    push_if(out, first && second, new_both)?;
-    Ok(())
+    push_if(out, first && second, new_both)
 }
 
 fn push_same(out: &mut Vec<Fact>, t: &Path, s: &Path, a: &Path, b: &Path) -> Result<(), AllocError>
@@ -134,8 +133,7 @@ pub(crate) fn push_copied_array(
     ensures { OnOk result (out.new.items ≡ out.old.items ++ kept (after.copied_array on_source.now t.now s.now)) }
 {
     out.push(Fact::Same(*t, *s))?;
-    push_array_copies(out, t, s, on_source)?;
-    Ok(())
+    push_array_copies(out, t, s, on_source)
 }
 
 /// A sum of y and z with the copy for its parts.
@@ -221,8 +219,7 @@ pub(crate) fn push_copied_int(
 {
     push_less(out, t, s, 1)?;
     push_less(out, s, t, 1)?;
-    push_copies_of(out, t, s, on_source)?;
-    Ok(())
+    push_copies_of(out, t, s, on_source)
 }
 
 /// `t = s`, by the type: nothing of a type that is neither int nor array.

@@ -41,8 +41,7 @@ fn push_fill(out: &mut Vec<Fact>, t: &Path, entries: &List<u32>) -> Result<(), A
 {
     let count = entries.as_slice().len() as i64;
     out.push(Fact::LenRng(*t, count, count))?;
-    out.push(Fact::Same(*t, *t))?;
-    Ok(())
+    out.push(Fact::Same(*t, *t))
 }
 
 /// A cell of an array of this type.
@@ -50,8 +49,7 @@ fn push_load(out: &mut Vec<Fact>, t: &Path, ty: &Type_) -> Result<(), AllocError
     ensures { OnOk result (out.new.items ≡ out.old.items ++ kept (over.load_facts t.now ty.now)) }
 {
     push_if(out, holds_arrays(ty), Fact::Same(*t, *t))?;
-    push_loaded(out, t, ty)?;
-    Ok(())
+    push_loaded(out, t, ty)
 }
 
 /// Adds the facts of `t = y op z`.

@@ -30,8 +30,7 @@ pub(crate) fn push_product<K: Know>(
     ensures { OnOk result (out.new.items ≡ out.old.items ++ kept (after.product_facts (in_orders (K.known know.now)) t.now y.now z.now)) }
 {
     push_less_if(out, is_from(know, y, 0) && is_from(know, z, 1), y, t, 1)?;
-    push_less_if(out, is_from(know, z, 0) && is_from(know, y, 1), z, t, 1)?;
-    Ok(())
+    push_less_if(out, is_from(know, z, 0) && is_from(know, y, 1), z, t, 1)
 }
 
 /// `t = y / z`.
@@ -45,8 +44,7 @@ pub(crate) fn push_quotient<K: Know>(
     ensures { OnOk result (out.new.items ≡ out.old.items ++ kept (after.quotient_facts (in_orders (K.known know.now)) t.now y.now z.now)) }
 {
     push_less_if(out, is_from(know, y, 0) && is_from(know, z, 0), t, y, 1)?;
-    push_less_if(out, is_from(know, y, 1) && is_from(know, z, 2), t, y, 0)?;
-    Ok(())
+    push_less_if(out, is_from(know, y, 1) && is_from(know, z, 2), t, y, 0)
 }
 
 /// `t = y % z`.
@@ -60,8 +58,7 @@ pub(crate) fn push_remainder<K: Know>(
     ensures { OnOk result (out.new.items ≡ out.old.items ++ kept (after.remainder_facts (in_orders (K.known know.now)) t.now y.now z.now)) }
 {
     push_less_if(out, is_from(know, z, 0), t, z, 0)?;
-    push_less_if(out, is_from(know, y, 0), t, y, 1)?;
-    Ok(())
+    push_less_if(out, is_from(know, y, 0), t, y, 1)
 }
 
 /// `t = y & z`.
@@ -75,8 +72,7 @@ pub(crate) fn push_and<K: Know>(
     ensures { OnOk result (out.new.items ≡ out.old.items ++ kept (after.and_facts (in_orders (K.known know.now)) t.now y.now z.now)) }
 {
     push_less_if(out, is_from(know, z, 0), t, z, 1)?;
-    push_less_if(out, is_from(know, y, 0), t, y, 1)?;
-    Ok(())
+    push_less_if(out, is_from(know, y, 0), t, y, 1)
 }
 
 /// `t = y >> z` and `t = y >>> z`.
@@ -114,8 +110,7 @@ fn push_half_between<K: Know>(
         push_less(out, y, t, 1)?;
         push_less(out, t, z, 1)?;
     }
-    push_less_if(out, is_less(know, y, z, 0), t, z, 0)?;
-    Ok(())
+    push_less_if(out, is_less(know, y, z, 0), t, z, 0)
 }
 
 fn push_half_of<K: Know>(

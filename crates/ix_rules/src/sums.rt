@@ -86,8 +86,7 @@ fn push_sum_array<K: Know>(
         a,
         &PathOff::Minus(*y),
         know.upper(z, a, &PathOff::Nothing),
-    )?;
-    Ok(())
+    )
 }
 
 fn push_sum_arrays<K: Know>(
@@ -117,8 +116,7 @@ fn push_apart<K: Know>(
     ensures { OnOk result (out.new.items ≡ out.old.items ++ kept (if_some (Less t.now r.now) (spec.fact_less (in_orders (K.known know.now)) z.now q.now) ++ if_some (Less r.now t.now) (spec.fact_less (in_orders (K.known know.now)) q.now z.now))) }
 {
     push_some_less(out, t, r, know.difference(z, q))?;
-    push_some_less(out, r, t, know.difference(q, z))?;
-    Ok(())
+    push_some_less(out, r, t, know.difference(q, z))
 }
 
 fn push_apart_if<K: Know>(
@@ -196,8 +194,7 @@ fn push_difference_array<K: Know>(
         a,
         &PathOff::Nothing,
         know.upper(y, a, &PathOff::Minus(*z)),
-    )?;
-    Ok(())
+    )
 }
 
 fn push_difference_arrays<K: Know>(
@@ -227,8 +224,7 @@ fn push_sum_ends<K: Know>(
     ensures { OnOk result (out.new.items ≡ out.old.items ++ (kept (Less t.now y.now (spec.upper_limit (in_orders (K.known know.now)) z.now +ℤ pos 1) ∷ []) ++ kept (Less y.now t.now (pos 1 -ℤ spec.lower_bound (in_orders (K.known know.now)) z.now) ∷ []))) }
 {
     push_below_limit(out, know, t, y, z)?;
-    push_below_bound(out, know, y, t, z)?;
-    Ok(())
+    push_below_bound(out, know, y, t, z)
 }
 
 /// `t = y + z`.
@@ -249,8 +245,7 @@ pub(crate) fn push_sum<K: Know>(
     push_sum_ends(out, know, t, z, y)?;
     push_sum_arrays(out, know, t, y, z, arrays)?;
     push_sums_beside(out, know, t, y, z, on_left)?;
-    push_sums_beside(out, know, t, z, y, on_right)?;
-    Ok(())
+    push_sums_beside(out, know, t, z, y, on_right)
 }
 
 /// `t = y - z`.
@@ -267,6 +262,5 @@ pub(crate) fn push_difference<K: Know>(
     out.push(Fact::Sum(*y, *t, *z))?;
     push_below_bound(out, know, t, y, z)?;
     push_below_limit(out, know, y, t, z)?;
-    push_difference_arrays(out, know, t, y, z, arrays)?;
-    Ok(())
+    push_difference_arrays(out, know, t, y, z, arrays)
 }
