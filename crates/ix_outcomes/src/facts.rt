@@ -6,7 +6,7 @@ ghost use Rattle.ix_facts.specs.Closure.{kept};
 ghost use Rattle.ix_facts.specs.Exact.{if_so, each};
 ghost use Rattle.ix_facts.specs.Facts.{in_orders};
 ghost use Rattle.ix_facts.specs.AfterTest as rule;
-ghost use Rattle.ix_after.specs.SameFacts.{AreSame};
+ghost use Rattle.ix_facts.specs.SameFacts.{AreSame};
 ghost use Rattle.ix_outcomes.specs.OverGroups as over;
 
 use crate::below::push_below;

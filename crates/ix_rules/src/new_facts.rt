@@ -10,7 +10,7 @@ use crate::copies::push_copied;
 use crate::lengths::{push_length, push_new_array};
 use crate::loaded::push_loaded;
 use crate::operation::{push_num, push_unary};
-use crate::types::{holds_arrays, is_array};
+
 use ix_core::{Fact, Literal, OpKind, Path, Profile, Type_, UnaryNum};
 use ix_exact::push_if;
 use ix_facts::Know;

@@ -9,7 +9,7 @@ ghost use Rattle.ix_facts.specs.Forget.{of_path, without};
 ghost use Rattle.ix_facts.specs.Round.{rounded};
 ghost use Rattle.ix_facts.specs.Stores.{operated, with_copy, with_outcome};
 ghost use Rattle.ix_facts.specs.Systems.{HaveClasses};
-ghost use Rattle.ix_outcomes.specs.SameFacts.{AreSame};
+ghost use Rattle.ix_facts.specs.SameFacts.{AreSame};
 ghost use Rattle.ix_store.specs.StoredFacts.{facts_in};
 ghost use Rattle.ix_outcomes.specs.OverGroups.{outcome_of};
 

@@ -11,7 +11,7 @@ ghost use Rattle.ix_facts.specs.Round as round;
 ghost use Rattle.ix_facts.specs.Systems.{system_rounded};
 
 use crate::forget::{names_path, names_target};
-use crate::same::{greater, lesser};
+use ix_facts::{greater, lesser};
 use ix_core::{Fact, OpKind, Path, PathOff};
 use std::alloc::{AllocError, Global};
 

@@ -20,7 +20,7 @@ pub fn compare_paths(p: &Path, q: &Path) -> Ordering
 }
 
 /// The order of paths, as maps by paths use it.
-#[tactic(auto, using(crate::specs::PathOrder::path_same, crate::specs::PathOrder::path_itself, crate::proofs::PathOrders::path_equal))]
+#[tactic(auto, using(ix_facts::specs::PathOrder::path_same, ix_facts::specs::PathOrder::path_itself, ix_facts::proofs::PathOrders::path_equal))]
 pub fn path_order_laws()
     ensures order { ⟦<Path as Ord>⟧.cmp ≡ path_cmp }
     ensures total { IsTotalOrder path_cmp }
@@ -38,7 +38,7 @@ pub fn compare_offsets(x: &PathOff, y: &PathOff) -> Ordering
 }
 
 /// The order of offsets, as maps by offsets use it.
-#[tactic(auto, using(crate::specs::PathOrder::offset_total, crate::proofs::PathOrders::offset_equal))]
+#[tactic(auto, using(ix_facts::specs::PathOrder::offset_total, ix_facts::proofs::PathOrders::offset_equal))]
 pub fn offset_order_laws()
     ensures order { ⟦<PathOff as Ord>⟧.cmp ≡ offset_cmp }
     ensures total { IsTotalOrder offset_cmp }

@@ -7,7 +7,7 @@ use Rattle.ix_facts.specs.Facts.{IsIn}
 use Rattle.ix_facts.specs.Closure.{kept_fact, kept}
 use Rattle.ix_facts.specs.Exact.{if_so, each, each_path}
 use Rattle.ix_facts.specs.Named.{IsAmongPaths, IsEachOnce}
-use Rattle.ix_after.specs.SameFacts.{HasAll, AreSame}
+use Rattle.ix_facts.specs.SameFacts.{HasAll, AreSame}
 
 in_left : (f : Fact) (xs ys : List Fact) → IsIn f xs → IsIn f (xs ++ ys)
 in_left f [] ys i = absurd i
