@@ -10,6 +10,7 @@ ghost use Rattle.ix_core.specs.declared.fact.PathOff.TheVariants.{Nothing};
 ghost use Rattle.ix_core.specs.declared.fact.Fact.TheVariants.{Less, Upper};
 
 use ix_core::{Fact, Path, PathOff};
+use ix_exact::push_fact;
 use ix_facts::Know;
 use std::alloc::AllocError;
 
@@ -34,7 +35,7 @@ fn push_near(out: &mut Vec<Fact>, p: &Path, q: &Path, c: i128) -> Result<(), All
     if c > 1 {
         return Ok(());
     }
-    out.push(Fact::Less(*p, *q, c.max(-2147483648) as i32))
+    push_fact(out, Fact::Less(*p, *q, c.max(-2147483648) as i32))
 }
 
 fn push_above<K: Know>(
@@ -112,7 +113,7 @@ fn push_reaching(out: &mut Vec<Fact>, p: &Path, a: &Path, c: i128) -> Result<(),
     if c < -1 {
         return Ok(());
     }
-    out.push(Fact::Upper(*p, *a, PathOff::Nothing, c.min(2147483647) as i32))
+    push_fact(out, Fact::Upper(*p, *a, PathOff::Nothing, c.min(2147483647) as i32))
 }
 
 fn push_beside_array<K: Know>(

@@ -59,9 +59,10 @@ fn push_int_if<K: Indexed>(
     ensures { OnOk result (out.new.items ≡ out.old.items ++ kept (if_so test (over.finish_int (in_orders (K.known know.now)) (K.on_path know.now) (K.int_paths know.now) (K.array_paths know.now) new.now t.now))) }
 {
     if test {
-        push_finish_int(out, know, new, t)?;
+        push_finish_int(out, know, new, t)
+    } else {
+        Ok(())
     }
-    Ok(())
 }
 
 fn push_array_if<K: Indexed>(
@@ -74,9 +75,10 @@ fn push_array_if<K: Indexed>(
     ensures { OnOk result (out.new.items ≡ out.old.items ++ kept (if_so test (over.finish_array (in_orders (K.known know.now)) (K.on_path know.now) (K.int_paths know.now) (K.array_paths know.now) new.now t.now))) }
 {
     if test {
-        push_finish_array(out, know, new, t)?;
+        push_finish_array(out, know, new, t)
+    } else {
+        Ok(())
     }
-    Ok(())
 }
 
 /// Adds the rest of the facts by the type of the target: an int, an array or neither.

@@ -7,7 +7,7 @@ ghost use Rattle.ix_facts.specs.AfterOperation as after;
 ghost use Rattle.ix_core.specs.declared.fact.Fact.TheVariants.{Rng, LenRng, Low, Same, IsLen, Sum, Search, Neg, Upper};
 
 use ix_core::{Base, Fact, Path, PathOff, Type_};
-use ix_exact::{push_if, push_less, push_upper_if};
+use ix_exact::{push_fact, push_if, push_less, push_upper_if};
 use ix_facts::is_same_path;
 use std::alloc::AllocError;
 
@@ -132,7 +132,7 @@ pub(crate) fn push_copied_array(
 ) -> Result<(), AllocError>
     ensures { OnOk result (out.new.items ≡ out.old.items ++ kept (after.copied_array on_source.now t.now s.now)) }
 {
-    out.push(Fact::Same(*t, *s))?;
+    push_fact(out, Fact::Same(*t, *s))?;
     push_array_copies(out, t, s, on_source)
 }
 
@@ -172,10 +172,11 @@ fn push_sum_copies(
     let z_is = is_same_path(z, s);
     push_parts(out, u, t, y_is, z_is, y, z)?;
     if is_same_path(u, s) {
-        out.push(Fact::Sum(*t, *y, *z))?;
-        push_parts(out, t, t, y_is, z_is, y, z)?;
+        push_fact(out, Fact::Sum(*t, *y, *z))?;
+        push_parts(out, t, t, y_is, z_is, y, z)
+    } else {
+        Ok(())
     }
-    Ok(())
 }
 
 fn push_copy(out: &mut Vec<Fact>, t: &Path, s: &Path, fact: &Fact) -> Result<(), AllocError>

@@ -11,7 +11,7 @@ ghost use Rattle.ix_core.specs.declared.fact.Fact.TheVariants.{Rng, LenRng, Same
 
 use crate::plain::is_from;
 use ix_core::{Fact, Path, PathOff};
-use ix_exact::{push_if, push_less_if, push_upper, push_upper_if};
+use ix_exact::{push_fact, push_if, push_less_if, push_upper, push_upper_if};
 use ix_facts::{Know, is_same_path};
 use std::alloc::AllocError;
 
@@ -61,8 +61,8 @@ pub(crate) fn push_length<K: Know>(
 {
     let low = know.len_lo(a);
     let high = know.len_hi(a);
-    out.push(Fact::IsLen(*t, *a))?;
-    out.push(Fact::Rng(*t, low, high))?;
+    push_fact(out, Fact::IsLen(*t, *a))?;
+    push_fact(out, Fact::Rng(*t, low, high))?;
     push_lengths(out, t, a, on_operand)
 }
 
@@ -109,9 +109,9 @@ pub(crate) fn push_new_array<K: Know>(
 {
     let low = know.lo(n).max(0);
     let high = know.hi(n).min(2147483647);
-    out.push(Fact::IsLen(*n, *t))?;
-    out.push(Fact::Same(*t, *t))?;
-    out.push(Fact::LenRng(*t, low, high))?;
+    push_fact(out, Fact::IsLen(*n, *t))?;
+    push_fact(out, Fact::Same(*t, *t))?;
+    push_fact(out, Fact::LenRng(*t, low, high))?;
     push_new_arrays(out, t, n, on_operand)
 }
 

@@ -47,9 +47,10 @@ fn push_sum_if<K: Know>(
     ensures { OnOk result (out.new.items ≡ out.old.items ++ kept (if_so counts (over.sum_facts (in_orders (K.known know.now)) on_left.now on_right.now arrays.now t.now y.now z.now))) }
 {
     if counts {
-        push_sum(out, know, on_left, on_right, arrays, t, y, z)?;
+        push_sum(out, know, on_left, on_right, arrays, t, y, z)
+    } else {
+        Ok(())
     }
-    Ok(())
 }
 
 fn push_difference_if<K: Know>(
@@ -64,9 +65,10 @@ fn push_difference_if<K: Know>(
     ensures { OnOk result (out.new.items ≡ out.old.items ++ kept (if_so counts (over.difference_facts (in_orders (K.known know.now)) [] [] arrays.now t.now y.now z.now))) }
 {
     if counts {
-        push_difference(out, know, arrays, t, y, z)?;
+        push_difference(out, know, arrays, t, y, z)
+    } else {
+        Ok(())
     }
-    Ok(())
 }
 
 fn push_product_if<K: Know>(
@@ -80,9 +82,10 @@ fn push_product_if<K: Know>(
     ensures { OnOk result (out.new.items ≡ out.old.items ++ kept (if_so counts (after.product_facts (in_orders (K.known know.now)) t.now y.now z.now))) }
 {
     if counts {
-        push_product(out, know, t, y, z)?;
+        push_product(out, know, t, y, z)
+    } else {
+        Ok(())
     }
-    Ok(())
 }
 
 /// `t = y / z`, and the half of a sum.

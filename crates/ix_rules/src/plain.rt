@@ -125,9 +125,10 @@ fn push_half_of<K: Know>(
     ensures { OnOk result (out.new.items ≡ out.old.items ++ kept (if_so (spec.is_path x.now s.now) (after.half_between (in_orders (K.known know.now)) t.now y.now z.now))) }
 {
     if is_same_path(x, s) {
-        push_half_between(out, know, t, y, z)?;
+        push_half_between(out, know, t, y, z)
+    } else {
+        Ok(())
     }
-    Ok(())
 }
 
 fn push_half_by<K: Know>(
@@ -179,7 +180,8 @@ pub(crate) fn push_half<K: Know>(
     ensures { OnOk result (out.new.items ≡ out.old.items ++ kept (if_so (after.is_from (in_orders (K.known know.now)) z.now n && (int_le (spec.upper_limit (in_orders (K.known know.now)) z.now) n && after.is_from (in_orders (K.known know.now)) s.now (pos 0))) (each (after.half_by (in_orders (K.known know.now)) t.now s.now) on_left.now))) }
 {
     if is_half(know, n, s, z) {
-        push_halves(out, know, t, s, on_left)?;
+        push_halves(out, know, t, s, on_left)
+    } else {
+        Ok(())
     }
-    Ok(())
 }

@@ -13,7 +13,7 @@ use Rattle.ix_facts.specs.Stores.{Stored, Unreachable, Reached, IsStoreOf, IsFor
 use Rattle.ix_steps.specs.MachineSteps.{own_slot}
 use Rattle.ix_steps.specs.FieldAccess.{spared_by}
 use Rattle.ix_store.specs.ChangedPaths.{is_spared}
-use Rattle.ix_sign.specs.Spared.{this_if}
+use Rattle.ix_claim_facts.specs.Spared.{this_if}
 
 module _ (is other : Path → Bool) (alike : (p : Path) → is p ≡ other p) where
   or_alike : (p q : Path) → (is p || is q) ≡ (other p || other q)

@@ -7,7 +7,7 @@ use Rattle.ix_facts.specs.Stores.{Stored, IsBelow, IsGiven, Gives, Then, IsStep}
 use Rattle.ix_facts.proofs.SplitLaws.{proved_mono}
 use Rattle.ix_facts.proofs.StepLaws.{given_gives, given_least}
 use Rattle.ix_facts.proofs.StoreLaws.{below_itself}
-use Rattle.ix_sign.specs.Signs.{IsLeastOf}
+use Rattle.ix_claim_facts.specs.Signs.{IsLeastOf}
 use Rattle.ix_sign.specs.SignErrors.{Refuses, AllRefuse}
 
 -- the store that a rule gives is the least that is above

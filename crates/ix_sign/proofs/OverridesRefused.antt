@@ -18,12 +18,12 @@ use Rattle.ix_steps.specs.MachineSteps.{on_paths, own_path}
 use Rattle.ix_store.specs.ChangedPaths.{of_called}
 use Rattle.ix_sign.specs.Exactly.{AreExactly}
 use Rattle.ix_sign.specs.Refusals.{refusals, not_proved, param_refusals}
-use Rattle.ix_sign.specs.Signs.{Adds, Forgets, IsLeastAllowed, received_params, params_facts, received, claims_facts}
+use Rattle.ix_claim_facts.specs.Signs.{Adds, Forgets, IsLeastAllowed, received_params, params_facts, received, claims_facts}
 use Rattle.ix_sign.specs.SignErrors.{Refuses, AllRefuse, OverrideParameter, OverrideResult, HasRun, of_run}
 use Rattle.ix_sign.proofs.Alike.{forgotten_alike}
 use Rattle.ix_sign.proofs.LeastSteps.{least_given, least_then, all_refuse, refuse_least}
 use Rattle.ix_sign.proofs.Refused.{fails_refused, exactly_same, refusals_exact, params_exact, SomeParam, OneParam}
-use Rattle.ix_sign.proofs.SignClasses.{both_have, claims_have, received_has, received_have, params_have}
+use Rattle.ix_claim_facts.proofs.SignClasses.{both_have, claims_have, received_has, received_have, params_have}
 use Rattle.ix_sign.proofs.SignSteps.{adds_step, forgets_step}
 use Rattle.ix_sign.proofs.WritesRefused.{other_failure}
 

@@ -23,7 +23,7 @@ use Rattle.ix_facts.specs.Stores.{Stored, Unreachable, Reached, IsProved}
 use Rattle.ix_steps.specs.MachineSteps.{on_paths, own_path}
 use Rattle.ix_sign.specs.declared.ranked.Ranked.{Ranked}
 use Rattle.ix_sign.specs.Exactly.{IsListed, AreExactly, AddsExactly}
-use Rattle.ix_sign.specs.Names.{call_path, object_path, written_path, names_field}
+use Rattle.ix_claim_facts.specs.Names.{call_path, object_path, written_path, names_field}
 use Rattle.ix_sign.specs.Refusals.{is_proved, refusals, not_proved, not_proved_naming, argument_refusals, field_refusals, dependent_refusals, param_refusals}
 use Rattle.ix_sign.specs.SignErrors.{Refuses, unproved, Unproved, ArgumentClaim, ReturnClaim, ConstructorClaim}
 

@@ -16,8 +16,8 @@ use Rattle.ix_facts.proofs.SaidLaws.{says_app}
 use Rattle.ix_facts.proofs.SaidRules.{without_mono, with_copy_mono}
 use Rattle.ix_facts.proofs.StepLaws.{gives_step, then_step}
 use Rattle.ix_steps.specs.FieldAccess.{spared_by}
-use Rattle.ix_sign.specs.Names.{is_built}
-use Rattle.ix_sign.specs.Signs.{Adds, Forgets, Copies, read_facts, write_facts, of_callee, result_facts, zero_fields, own_fields, fields_facts, inherited_fields}
+use Rattle.ix_claim_facts.specs.Names.{is_built}
+use Rattle.ix_claim_facts.specs.Signs.{Adds, Forgets, Copies, read_facts, write_facts, of_callee, result_facts, zero_fields, own_fields, fields_facts, inherited_fields}
 use Rattle.ix_sign.specs.SignLaws.{SignsMonotone}
 
 adds_monotone : (new : List Fact) → IsMonotone (with_facts new)

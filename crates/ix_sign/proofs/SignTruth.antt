@@ -20,8 +20,8 @@ use Rattle.ix_facts.proofs.FactLists.{all_hold_app}
 use Rattle.ix_facts.proofs.Frame.{without_stays, without_holds}
 use Rattle.ix_facts.proofs.StepLaws.{gives_meets}
 use Rattle.ix_facts.proofs.StoresHold.{proved_meets}
-use Rattle.ix_sign.specs.Names.{is_built}
-use Rattle.ix_sign.specs.Signs.{Adds, Forgets, Copies, entry_facts, read_facts, write_facts}
+use Rattle.ix_claim_facts.specs.Names.{is_built}
+use Rattle.ix_claim_facts.specs.Signs.{Adds, Forgets, Copies, entry_facts, read_facts, write_facts}
 use Rattle.ix_sign.specs.SignLaws.{SignsHold}
 
 adds_hold : (new : List Fact) (s t : Stored) (v : Numbers) → AllHold new v → Adds new s t → Meets s v → Meets t v

@@ -16,9 +16,9 @@ use Rattle.ix_core.specs.Tables.{field_at, no_field}
 use Rattle.ix_facts.specs.Stores.{Stored, IsAdded, with_facts}
 use Rattle.ix_steps.specs.MachineSteps.{on_paths}
 use Rattle.ix_sign.specs.Exactly.{AreExactly}
-use Rattle.ix_sign.specs.Names.{written_path, is_built, names_field}
+use Rattle.ix_claim_facts.specs.Names.{written_path, is_built, names_field}
 use Rattle.ix_sign.specs.Refusals.{refusals, not_proved, dependent_refusals}
-use Rattle.ix_sign.specs.Signs.{Adds, write_facts}
+use Rattle.ix_claim_facts.specs.Signs.{Adds, write_facts}
 use Rattle.ix_sign.specs.SignErrors.{Refuses, AllRefuse, Unproved, FieldClaim, FieldDependent}
 use Rattle.ix_sign.proofs.LeastSteps.{least_given, all_refuse, refuse_least}
 use Rattle.ix_sign.proofs.Refused.{fails_refused, exactly_same, exactly_both, refusals_exact, dependents_exact, SomeDependent}

@@ -1,9 +1,3 @@
--- Names, and the paths that they stand for.
-pub mod Names
-pub mod Naming
-pub mod Spared
--- What the rules give.
-pub mod Signs
 -- What they refuse.
 pub mod SignErrors
 pub mod Exactly
@@ -14,3 +8,7 @@ pub mod SignLaws
 pub use Rattle.ix_store.specs.StoredFacts
 pub use Rattle.ix_store.specs.StoreOrder
 pub use Rattle.ix_store.specs.declared.store.Store
+-- Passed on from ix_claim_facts: names, the paths that they stand for, and what the rules give.
+pub use Rattle.ix_claim_facts.specs.Names
+pub use Rattle.ix_claim_facts.specs.Naming
+pub use Rattle.ix_claim_facts.specs.Signs

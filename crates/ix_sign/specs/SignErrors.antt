@@ -24,8 +24,8 @@ use Rattle.ix_core.specs.Tables.{method_at, field_at, all_fields, param_slot, pa
 use Rattle.ix_facts.specs.Forget.{of_slot, of_call}
 use Rattle.ix_facts.specs.Stores.{Stored, Unreachable, Reached, IsAbove, IsProved, Then}
 use Rattle.ix_steps.specs.MachineSteps.{on_paths, own_path}
-use Rattle.ix_sign.specs.Names.{call_path, object_path, written_path, is_built, names_field}
-use Rattle.ix_sign.specs.Signs.{Adds, Forgets, write_facts, params_facts, received_params, received, claims_facts}
+use Rattle.ix_claim_facts.specs.Names.{call_path, object_path, written_path, is_built, names_field}
+use Rattle.ix_claim_facts.specs.Signs.{Adds, Forgets, write_facts, params_facts, received_params, received, claims_facts}
 
 -- ---- what is proved
 

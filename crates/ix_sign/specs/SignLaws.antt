@@ -13,8 +13,8 @@ use Rattle.ix_facts.specs.FieldSteps.{IsRead, IsWritten}
 use Rattle.ix_facts.specs.Forget.{SameBut, of_slot, of_this}
 use Rattle.ix_facts.specs.Stores.{Stored, Meets, IsProved, IsStep}
 use Rattle.ix_steps.specs.FieldAccess.{spared_by}
-use Rattle.ix_sign.specs.Names.{is_built}
-use Rattle.ix_sign.specs.Signs.{EntryGives, entry_facts, ReadGives, read_facts, WriteGives, write_facts, CallGives, SuperGives, of_callee, result_facts, zero_fields, own_fields, fields_facts, inherited_fields}
+use Rattle.ix_claim_facts.specs.Names.{is_built}
+use Rattle.ix_claim_facts.specs.Signs.{EntryGives, entry_facts, ReadGives, read_facts, WriteGives, write_facts, CallGives, SuperGives, of_callee, result_facts, zero_fields, own_fields, fields_facts, inherited_fields}
 
 -- True: v are the numbers before, w those after.
 pub record SignsHold (program : Program) (method : Method) : Type 0 where

@@ -7,15 +7,14 @@ ghost use Rattle.ix_core.specs.Tables.{field_at};
 ghost use Rattle.ix_core.specs.Types as types;
 ghost use Rattle.ix_store.specs.StoredFacts.{stored};
 ghost use Rattle.ix_sign.specs.Exactly.{AddsExactly};
-ghost use Rattle.ix_sign.specs.Names.{object_path};
-ghost use Rattle.ix_sign.specs.Naming.{HasSmallNames, HaveSmallNames};
+ghost use Rattle.ix_claim_facts.specs.Names.{object_path};
+ghost use Rattle.ix_claim_facts.specs.Naming.{HasSmallNames, HaveSmallNames};
 ghost use Rattle.ix_sign.specs.Refusals.{refusals, not_proved, field_refusals};
 ghost use Rattle.ix_sign.specs.SignErrors.{ReturnClaim, ConstructorClaim, MissingReturn};
 
-use crate::facts::claims_of;
-use crate::naming::Naming;
 use crate::ranked::Ranked;
 use crate::unproved::{Report, push_unproved};
+use ix_claim_facts::{Naming, claims_of};
 use ix_classes::instance_fields;
 use ix_core::{Detail, Error, Method, Path, Program, Subject, Type_};
 use ix_store::Store;

@@ -9,18 +9,18 @@ ghost use Rattle.ix_facts.specs.Stores.{IsStoreOf};
 ghost use Rattle.ix_steps.specs.MachineSteps.{own_path};
 ghost use Rattle.ix_store.specs.StoredFacts.{stored};
 ghost use Rattle.ix_sign.specs.Exactly.{AddsExactly, AreExactly};
-ghost use Rattle.ix_sign.specs.Naming.{AreSmallClaims, HasSmallNames};
+ghost use Rattle.ix_claim_facts.specs.Naming.{AreSmallClaims, HasSmallNames};
 ghost use Rattle.ix_sign.specs.Refusals.{refusals, not_proved, param_refusals};
-ghost use Rattle.ix_sign.specs.Signs as signs;
-ghost use Rattle.ix_sign.specs.Signs.{IsLeastAllowed};
+ghost use Rattle.ix_claim_facts.specs.Signs as signs;
+ghost use Rattle.ix_claim_facts.specs.Signs.{IsLeastAllowed};
 ghost use Rattle.ix_sign.specs.SignErrors.{OverrideParameter, OverrideResult, OverrideEffect, HasRun};
 
-use crate::facts::{push_claims, push_params, push_received, push_received_params};
-use crate::naming::Naming;
-use crate::paths::param_slot;
 use crate::ranked::Ranked;
 use crate::unproved::{Report, push_unproved};
-use ix_core::{Detail, Error, Fact, Local, Method, Path, Program, Subject};
+use ix_claim_facts::{
+    Naming, asked_facts, called_facts, own_result, param_slot, result_slot,
+};
+use ix_core::{Detail, Error, Local, Method, Path, Program, Subject};
 use ix_store::Store;
 use std::alloc::{AllocError, Global};
 
@@ -62,23 +62,13 @@ fn push_params_of(
     Ok(())
 }
 
-fn asked_facts(alloc: Global, upper: &Method) -> Result<Vec<Fact>, AllocError>
-    requires small { HasSmallNames upper.now }
-    ensures { IfOk result (λ facts. facts.items ≡ signs.params_facts upper.now 0 upper.now.params) }
-{
-    let mut facts = Vec::new(alloc);
-    push_params(&mut facts, upper)?;
-    Ok(facts)
-}
-
 /// The store where the claims of a method's parameters are known, and nothing else.
 fn asked(alloc: Global, upper: &Method) -> Result<Store, AllocError>
     requires small { HasSmallNames upper.now }
     ensures { IfOk result (λ store. IsStoreOf (signs.params_facts upper.now 0 upper.now.params) (stored store)) }
 {
     let facts = asked_facts(alloc, upper)?;
-    let store = Store::of_facts(alloc, &facts)?;
-    Ok(store)
+    Store::of_facts(alloc, &facts)
 }
 
 /// The parameters' claims that aren't proved where those of the overridden method hold.
@@ -97,49 +87,13 @@ fn push_param_errors(
     push_params_of(out, &store, method, own)
 }
 
-/// The slot of the result, above those of the parameters.
-fn result_slot(method: &Method) -> u32
-    requires small { HasSmallNames method.now }
-    ensures { result ≡ param_slots method.now }
-{
-    param_slot(method, method.params.len() as u32)
-}
-
-fn called_facts(alloc: Global, upper: &Method) -> Result<Vec<Fact>, AllocError>
-    requires small { HasSmallNames upper.now }
-    ensures { IfOk result (λ facts. facts.items ≡ signs.received_params upper.now 0 upper.now.param_types ++ signs.params_facts upper.now 0 upper.now.params) }
-{
-    let mut facts = Vec::new(alloc);
-    push_received_params(&mut facts, upper)?;
-    push_params(&mut facts, upper)?;
-    Ok(facts)
-}
-
 /// The store where the overridden method is called.
 fn called(alloc: Global, upper: &Method) -> Result<Store, AllocError>
     requires small { HasSmallNames upper.now }
     ensures { IfOk result (λ store. IsStoreOf (signs.received_params upper.now 0 upper.now.param_types ++ signs.params_facts upper.now 0 upper.now.params) (stored store)) }
 {
     let facts = called_facts(alloc, upper)?;
-    let store = Store::of_facts(alloc, &facts)?;
-    Ok(store)
-}
-
-/// What the overriding method's own claims say of its result.
-fn own_result(alloc: Global, method: &Method) -> Result<Vec<Fact>, AllocError>
-    requires small { HasSmallNames method.now }
-    ensures { IfOk result (λ facts. facts.items ≡ signs.received method.now.result (Slot (param_slots method.now)) ++ signs.claims_facts (own_path method.now) (Slot (param_slots method.now)) method.now.result_claims) }
-{
-    let at = Path::Slot(result_slot(method));
-    let mut facts = Vec::new(alloc);
-    push_received(&mut facts, &method.result, &at)?;
-    push_claims(
-        &mut facts,
-        &Naming::Inside(method),
-        &at,
-        method.result_claims.as_slice(),
-    )?;
-    Ok(facts)
+    Store::of_facts(alloc, &facts)
 }
 
 /// The least store where the overriding method has run for the overridden one.
@@ -157,8 +111,7 @@ fn has_run(
     let target = result_slot(method);
     let rest = before.forget_called(alloc, program, target, method.effect_free, None)?;
     let facts = own_result(alloc, method)?;
-    let store = rest.add(alloc, &facts)?;
-    Ok(store)
+    rest.add(alloc, &facts)
 }
 
 /// The claims of the overridden method's result that aren't proved where the overriding one has run.

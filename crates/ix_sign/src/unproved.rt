@@ -2,13 +2,12 @@
 
 ghost use Rattle.std.specs.Prelude.{◌≡◌, ◌++◌, not, OnOk};
 ghost use Rattle.ix_store.specs.StoredFacts.{stored};
-ghost use Rattle.ix_sign.specs.Naming.{path_by, AreSmallClaims};
+ghost use Rattle.ix_claim_facts.specs.Naming.{path_by, AreSmallClaims};
 ghost use Rattle.ix_sign.specs.Refusals.{is_proved, refusals, not_proved, not_proved_naming};
 ghost use Rattle.ix_sign.specs.SignErrors.{unproved};
 
-use crate::dependent::names_field;
-use crate::naming::Naming;
 use crate::ranked::Ranked;
+use ix_claim_facts::{Naming, names_field};
 use ix_core::{Claim, Detail, Error, Path, PathClaim, Subject};
 use ix_store::Store;
 use ix_text::Span;

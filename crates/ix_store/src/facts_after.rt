@@ -13,14 +13,14 @@ ghost use Rattle.ix_facts.specs.SameFacts.{AreSame};
 ghost use Rattle.ix_store.specs.StoredFacts.{facts_in};
 ghost use Rattle.ix_outcomes.specs.OverGroups.{outcome_of};
 
-use crate::changed::{Changed, unchanged};
 use crate::known::Known;
+use ix_after::{facts_after, facts_of_copy, push_claim};
 use ix_claims::is_proved;
-use ix_closure::FactList;
 use ix_core::{Fact, OpKind, Path, PathClaim, Profile, Type_};
 use ix_exact::{push_less, push_upper};
-use ix_facts::rounded_facts;
-use ix_outcomes::{Outcome, facts_after, facts_of_copy, facts_of_outcome, push_claim};
+use ix_fact_list::FactList;
+use ix_outcomes::{Outcome, facts_of_outcome};
+use ix_six_tables::{Changed, rounded_facts, unchanged};
 use std::alloc::{AllocError, Global};
 
 fn push_kept(out: &mut Vec<Fact>, fact: &Fact) -> Result<(), AllocError>

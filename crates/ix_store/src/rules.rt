@@ -5,22 +5,20 @@ ghost use Rattle.ix_facts.specs.Closure.{Closed};
 ghost use Rattle.ix_facts.specs.Stores.{Unreachable, Reached, IsStoreOf, IsAfter, IsCopied, IsTold, IsAssumed, IsAdded, IsForgotten, IsRounded, IsProved};
 ghost use Rattle.ix_facts.specs.Systems.{HaveClasses};
 ghost use Rattle.ix_facts.specs.Forget.{of_path, of_field, of_call, without};
-ghost use Rattle.ix_store.specs.AllTables.{all_facts, AreOfKinds};
-ghost use Rattle.ix_store.specs.ChangedPaths.{is_spared, is_final, of_called, of_parent, is_changed};
+ghost use Rattle.ix_six_tables.specs.AllTables.{all_facts, AreOfKinds};
+ghost use Rattle.ix_six_tables.specs.ChangedPaths.{is_spared, is_final, of_called, of_parent, is_changed};
 ghost use Rattle.ix_store.specs.StoredFacts.{facts_in, stored};
 ghost use Rattle.ix_store.specs.StoreOrder.{nowhere};
 ghost use Rattle.ix_outcomes.specs.OverGroups.{outcome_of};
 
-use crate::changed::{Changed, some_name_changed};
 use crate::facts_after::{assumed, kept_facts};
 use crate::known::Known;
-use crate::making::{no_tables, tables_beside};
 use crate::store::Store;
-use crate::tables::Tables;
 use ix_closure::are_plain;
 use ix_core::{Fact, OpKind, Path, PathClaim, Profile, Program, Type_};
 use ix_facts::Landmarks;
 use ix_outcomes::Outcome;
+use ix_six_tables::{Changed, Tables, no_tables, some_name_changed, tables_beside};
 use ix_text::Joint;
 use std::alloc::{AllocError, Global};
 

@@ -2,7 +2,7 @@ use Rattle.std.proofs.Common.{◌≡◌, ◌++◌, sym, subst}
 use Rattle.std.specs.Prelude.{OnOk, ◌+◌, ◌<◌, ◌^◌, length}
 use Rattle.ix_store.specs.StoredFacts.{stored}
 use Rattle.ix_core.specs.Tables.{method_at}
-use Rattle.ix_sign.specs.Naming.{AreSmallParams}
+use Rattle.ix_claim_facts.specs.Naming.{AreSmallParams}
 use Rattle.ix_sign.specs.Refusals.{argument_refusals}
 use Rattle.ix_sign.specs.SignErrors.{ArgumentClaim}
 use Rattle.ix_sign.proofs.Refused.{ok_adds, arguments_are}

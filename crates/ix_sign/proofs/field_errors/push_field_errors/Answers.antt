@@ -6,12 +6,12 @@ use Rattle.ix_facts.specs.Exact.{if_so}
 use Rattle.ix_facts.specs.Stores.{IsAdded}
 use Rattle.ix_facts.specs.Systems.{HaveClasses}
 use Rattle.ix_store.specs.StoredFacts.{stored}
-use Rattle.ix_sign.specs.Names.{is_built, written_path}
+use Rattle.ix_claim_facts.specs.Names.{is_built, written_path}
 use Rattle.ix_sign.specs.Refusals.{refusals, not_proved, dependent_refusals}
-use Rattle.ix_sign.specs.Signs.{write_facts}
+use Rattle.ix_claim_facts.specs.Signs.{write_facts}
 use Rattle.ix_sign.specs.SignErrors.{FieldClaim, FieldDependent}
 use Rattle.ix_sign.proofs.Refused.{ok_adds, ok_both}
-use Rattle.ix_sign.proofs.SignClasses.{if_have, write_have}
+use Rattle.ix_claim_facts.proofs.SignClasses.{if_have, write_have}
 use Rattle.ix_sign.proofs.WritesRefused.{writes_are}
 use Rattle.ix_sign.proofs.field_errors.push_field_errors.Goals as goal
 

@@ -7,7 +7,7 @@ use Rattle.ix_facts.specs.Systems.{HaveClasses}
 use Rattle.ix_steps.specs.MachineSteps.{own_path}
 use Rattle.ix_store.specs.ChangedPaths.{of_called}
 use Rattle.ix_store.specs.StoredFacts.{stored}
-use Rattle.ix_sign.specs.Signs.{received, claims_facts}
+use Rattle.ix_claim_facts.specs.Signs.{received, claims_facts}
 use Rattle.ix_sign.proofs.OverridesRefused.{own_have, run_least}
 use Rattle.ix_sign.proofs.overriding.has_run.Goals as goal
 

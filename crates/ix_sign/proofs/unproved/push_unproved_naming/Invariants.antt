@@ -1,6 +1,6 @@
 use Rattle.std.proofs.Common.{◌≡◌, ◌++◌, drop}
 use Rattle.ix_store.specs.StoredFacts.{stored}
-use Rattle.ix_sign.specs.Naming.{path_by, AreSmallClaims}
+use Rattle.ix_claim_facts.specs.Naming.{path_by, AreSmallClaims}
 use Rattle.ix_sign.specs.Refusals.{refusals, not_proved_naming}
 use Rattle.ix_sign.proofs.unproved.push_unproved_naming.Given as goal
 

@@ -5,7 +5,7 @@ use Rattle.ix_facts.specs.Stores.{Reached, with_facts}
 use Rattle.ix_facts.proofs.Members.{same_equal}
 use Rattle.ix_store.specs.StoredFacts.{facts_in, stored}
 use Rattle.ix_store.proofs.BehindRules.{given_by}
-use Rattle.ix_store.proofs.PartsWithout.{none_dropped}
+use Rattle.ix_six_tables.proofs.PartsWithout.{none_dropped}
 use Rattle.ix_store.proofs.store.Store.assume.Goals as goal
 
 pub returns : goal.returns

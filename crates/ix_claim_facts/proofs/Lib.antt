@@ -1,0 +1,2 @@
+pub mod SignClasses
+mod SmallNames

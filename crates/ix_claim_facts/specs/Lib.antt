@@ -1,0 +1,6 @@
+-- Names, and the paths that they stand for.
+pub mod Names
+pub mod Naming
+pub mod Spared
+-- What the rules give.
+pub mod Signs
