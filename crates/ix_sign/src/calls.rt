@@ -28,7 +28,8 @@ pub fn after_call(
     let spared = this_if(within.constructor);
     let rest = store.forget_called(alloc, program, call.target, free, spared)?;
     let facts = result_facts(alloc, program, call)?;
-    rest.add(alloc, &facts)
+    let after = rest.add(alloc, &facts)?;
+    Ok(after)
 }
 
 /// The store behind `super(..)`: as behind a call, but nothing stays known of `this`; its own fields are 0 or null, and the claims of inherited ones hold (JLS
@@ -47,5 +48,6 @@ pub fn after_super(
     let spared = this_if(within.constructor);
     let rest = store.forget_parent(alloc, program, call.target, free, spared)?;
     let facts = facts_of_this(alloc, program, within)?;
-    rest.add(alloc, &facts)
+    let after = rest.add(alloc, &facts)?;
+    Ok(after)
 }

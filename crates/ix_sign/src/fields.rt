@@ -48,7 +48,8 @@ pub fn after_read(
     let facts = facts_at_read(alloc, program, within, object, field)?;
     let known = store.add(alloc, &facts)?;
     let source = Path::FieldOf(object, field);
-    copied(alloc, &known, program, field, &Path::Slot(target), &source)
+    let after = copied(alloc, &known, program, field, &Path::Slot(target), &source)?;
+    Ok(after)
 }
 
 /// The store behind `object.field = value`: what the claims of a built object say is known before; then each fact on that field is dropped, of the object in
@@ -70,5 +71,6 @@ pub fn after_write(
     let known = store.add(alloc, &facts)?;
     let rest = known.forget_field(alloc, field, spared_at_write(within, object))?;
     let target = Path::FieldOf(object, field);
-    copied(alloc, &rest, program, field, &target, &Path::Slot(value))
+    let after = copied(alloc, &rest, program, field, &target, &Path::Slot(value))?;
+    Ok(after)
 }

@@ -111,7 +111,8 @@ fn has_run(
     let target = result_slot(method);
     let rest = before.forget_called(alloc, program, target, method.effect_free, None)?;
     let facts = own_result(alloc, method)?;
-    rest.add(alloc, &facts)
+    let store = rest.add(alloc, &facts)?;
+    Ok(store)
 }
 
 /// The claims of the overridden method's result that aren't proved where the overriding one has run.

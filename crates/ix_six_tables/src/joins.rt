@@ -27,10 +27,12 @@ fn common_table(
     ensures kind { IfOk result (λ table. table_kind table ≡ table_kind first.now) }
 {
     if table_says_all(first, second) {
-        return second.join();
+        let table = second.join()?;
+        return Ok(table);
     }
     if table_says_all(second, first) {
-        return first.join();
+        let table = first.join()?;
+        return Ok(table);
     }
     Joint::new(alloc, first.get().common(alloc, second.get())?)
 }

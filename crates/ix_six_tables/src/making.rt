@@ -105,7 +105,8 @@ fn table_beside(
 {
     let facts = table.get().as_slice();
     if !some_name_changed(facts, changed) {
-        return table.join();
+        let rest = table.join()?;
+        return Ok(rest);
     }
     let facts = unchanged(alloc, facts, changed)?;
     Joint::new(alloc, table.get().of_part(facts))

@@ -78,8 +78,7 @@ fn behind(
         return Ok(Store { known: Some(known) });
     }
     let tables = tables_beside(alloc, &known.get().tables, changed)?;
-    let store = closed_beside(alloc, &tables, new)?;
-    Ok(store)
+    closed_beside(alloc, &tables, new)
 }
 
 impl Store {
@@ -106,8 +105,7 @@ impl Store {
         let mut new = Vec::new(alloc);
         new.extend_from_slice(facts)?;
         let tables = no_tables(alloc)?;
-        let store = closed(alloc, &tables, new)?;
-        Ok(store)
+        closed(alloc, &tables, new)
     }
 
     /// The store behind an operation that is no call and touches no field. The only error is want of memory.
@@ -229,8 +227,7 @@ impl Store {
         let Some(known) = &self.known else {
             return Ok(Store::unreachable());
         };
-        let store = behind(alloc, known, changed, Vec::new(alloc))?;
-        Ok(store)
+        behind(alloc, known, changed, Vec::new(alloc))
     }
 
     /// The store of a loop's label: without the facts that name a slot from `scope` on, the constants of the others moved to landmarks. The only error is want of memory.
@@ -241,8 +238,7 @@ impl Store {
             return Ok(Store::unreachable());
         };
         let facts = known.get().rounded(alloc, marks.ints.as_slice(), scope)?;
-        let store = Store::of_facts(alloc, &facts)?;
-        Ok(store)
+        Store::of_facts(alloc, &facts)
     }
 
     /// The store with more facts. What an int is at least must be -1, 0 or 1 in each of them. The only error is want of memory.
