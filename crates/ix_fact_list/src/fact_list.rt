@@ -12,15 +12,16 @@ ghost use Rattle.ix_bounds.specs.Ends.{ends_in};
 ghost use Rattle.ix_bounds.specs.Links.{links_in};
 ghost use Rattle.ix_path_index.specs.ByPath.{put_all};
 ghost use Rattle.ix_path_index.specs.Grouped.{on_grouped, on_list};
-ghost use Rattle.ix_fact_paths.specs.Spared.{some_named};
+ghost use Rattle.ix_path_index.specs.Spared.{some_named};
 
 use crate::ends::ends_and_links;
-use ix_bounds::{self, Groups};
+use ix_bounds::{self, Groups, Indexed};
 use ix_core::{Fact, OpKind, Path, PathOff};
-use ix_fact_paths::{assigned_path, names_path, names_target, some_name_path, some_name_target};
 use ix_facts::Know;
-use ix_index::Indexed;
-use ix_path_index::{Grouped, in_all_orders, ints_and_arrays};
+use ix_path_index::{
+    Grouped, assigned_path, in_all_orders, ints_and_arrays, names_path, names_target, some_name_path,
+    some_name_target,
+};
 use std::alloc::{AllocError, Global};
 use std::marker::Model;
 

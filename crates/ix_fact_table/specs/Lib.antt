@@ -9,3 +9,5 @@ pub mod Walks
 pub mod FactTables
 pub mod TableLaws
 pub mod KindLaws
+-- Passed on from ix_fact_paths.
+pub use Rattle.ix_fact_paths.specs.Spared

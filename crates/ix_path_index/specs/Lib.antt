@@ -4,3 +4,5 @@ pub mod Marks
 pub mod OnPathLaws
 pub mod OnListLaws
 pub mod PutLaws
+-- Passed on from ix_fact_paths.
+pub use Rattle.ix_fact_paths.specs.Spared

@@ -16,7 +16,9 @@ mod path_index;
 mod path_set;
 
 pub use grouped::Grouped;
-pub use ix_fact_paths::path_order_laws;
+pub use ix_fact_paths::{
+    assigned_path, names_path, names_target, path_order_laws, some_name_path, some_name_target,
+};
 pub use named::ints_and_arrays;
 pub use orders::in_all_orders;
 pub use path_index::PathIndex;

@@ -6,5 +6,5 @@ pub mod ChangedPaths
 -- What two have in common.
 pub mod CommonParts
 pub mod SixCommon
--- Passed on from ix_fact_paths.
-pub use Rattle.ix_fact_paths.specs.Spared
+-- Passed on from ix_fact_table.
+pub use Rattle.ix_fact_table.specs.Spared

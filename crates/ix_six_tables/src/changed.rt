@@ -4,11 +4,11 @@ ghost use Rattle.std.specs.Prelude.{◌≡◌, IfOk, IfSome};
 ghost use Rattle.ix_core.specs.declared.fact.Path.{Path};
 ghost use Rattle.ix_core.specs.declared.fact.Path.TheVariants.{Slot, FieldOf};
 ghost use Rattle.ix_facts.specs.Forget.{offset_names, names, without, of_path, of_call};
-ghost use Rattle.ix_fact_paths.specs.Spared.{some_named};
+ghost use Rattle.ix_fact_table.specs.Spared.{some_named};
 ghost use Rattle.ix_six_tables.specs.ChangedPaths.{is_spared, is_final, is_changed};
 
 use ix_core::{Fact, OpKind, Path, PathOff, Program};
-use ix_fact_paths::{assigned_path, is_of_path, is_of_target, names_path, some_name_path};
+use ix_fact_table::{assigned_path, is_of_path, is_of_target, names_path, some_name_path};
 use ix_text::List;
 use std::alloc::{AllocError, Global};
 

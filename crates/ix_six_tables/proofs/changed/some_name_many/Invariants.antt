@@ -1,5 +1,5 @@
 use Rattle.std.proofs.Common.{◌≡◌, drop}
-use Rattle.ix_fact_paths.specs.Spared.{some_named}
+use Rattle.ix_fact_table.specs.Spared.{some_named}
 use Rattle.ix_six_tables.specs.ChangedPaths.{is_changed}
 use Rattle.ix_six_tables.proofs.changed.some_name_many.Given as goal
 

@@ -1,5 +1,5 @@
 use Rattle.std.proofs.Common.{sym, ap, ◌∙◌}
-use Rattle.ix_fact_paths.specs.Spared.{some_named, spared}
+use Rattle.ix_fact_table.specs.Spared.{some_named, spared}
 use Rattle.ix_fact_table.specs.FactTables.{facts_of}
 use Rattle.ix_six_tables.specs.ChangedPaths.{is_changed}
 use Rattle.ix_six_tables.proofs.making.table_beside.Goals as goal
