@@ -4,3 +4,7 @@ pub mod Naming
 pub mod Spared
 -- What the rules give.
 pub mod Signs
+-- What they refuse.
+pub mod SignErrors
+-- What the rules owe.
+pub mod SignLaws
