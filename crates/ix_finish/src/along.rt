@@ -178,7 +178,8 @@ fn push_both_above(
     ensures { OnOk result (out.new.items ≡ out.old.items ++ kept (each (rule.step_above t.now q.now c.now) on_other.now ++ each (rule.bound_above t.now q.now c.now) on_other.now)) }
 {
     push_steps_above(out, t, q, c, on_other)?;
-    push_bounds_above(out, t, q, c, on_other)
+    push_bounds_above(out, t, q, c, on_other)?;
+    Ok(())
 }
 
 fn push_all_above<K: Indexed>(
@@ -208,7 +209,8 @@ fn push_both_below(
     ensures { OnOk result (out.new.items ≡ out.old.items ++ kept (each (rule.step_below t.now p.now c.now) on_other.now ++ each (rule.bound_below t.now p.now c.now) on_other.now)) }
 {
     push_steps_below(out, t, p, c, on_other)?;
-    push_bounds_below(out, t, p, c, on_other)
+    push_bounds_below(out, t, p, c, on_other)?;
+    Ok(())
 }
 
 fn push_all_below<K: Indexed>(
@@ -239,7 +241,8 @@ fn push_along_less<K: Indexed>(
     ensures { OnOk result (out.new.items ≡ out.old.items ++ kept (over.along_by (K.on_path know.now) t.now (Less p.now q.now c.now))) }
 {
     push_all_above(out, know, p, t, q, c)?;
-    push_all_below(out, know, q, t, p, c)
+    push_all_below(out, know, q, t, p, c)?;
+    Ok(())
 }
 
 /// What a new difference gives along stored differences and bounds.

@@ -128,5 +128,6 @@ pub(crate) fn push_below<K: Indexed>(
     push_all(out, &bounds)?;
     push_lengths_of(out, know, p, &ranges)?;
     push_lengths_of(out, know, q, &ranges)?;
-    push_parts_of(out, know, p, &bounds)
+    push_parts_of(out, know, p, &bounds)?;
+    Ok(())
 }

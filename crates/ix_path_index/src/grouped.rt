@@ -12,12 +12,20 @@ use std::alloc::{AllocError, Global};
 const FEW: usize = 48;
 
 /// Facts with those on each path at hand.
-#[derive(Drop)]
 pub enum Grouped {
     /// Few facts: all are on each path.
     Few(Vec<Fact>),
     /// Many facts, by the paths that they name.
     ByPath(PathIndex),
+}
+
+impl Drop for Grouped {
+    fn drop(self) {
+        match self {
+            Grouped::Few(facts) => drop(facts),
+            Grouped::ByPath(index) => drop(index),
+        }
+    }
 }
 
 impl Grouped {
