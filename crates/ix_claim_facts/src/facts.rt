@@ -12,8 +12,9 @@ ghost use Rattle.ix_claim_facts.specs.Signs.{claims_facts, params_facts, receive
 
 use crate::naming::Naming;
 use crate::paths::param_slot;
-use ix_core::{Base, Claim, Fact, Local, Method, Path, Program, Type_};
+use ix_core::{Claim, Fact, Local, Method, Path, Program, Type_};
 use ix_exact::push_if;
+use ix_facts::{is_array, is_int};
 use ix_rules::push_claim;
 use std::alloc::AllocError;
 
@@ -67,18 +68,6 @@ pub fn push_params(out: &mut Vec<Fact>, method: &Method) -> Result<(), AllocErro
         push_param(out, method, number as u32, &params[number])?;
     }
     Ok(())
-}
-
-fn is_int(ty: &Type_) -> bool
-    ensures { result ≡ is_int_type ty.now }
-{
-    matches!(ty, Type_::Plain(Base::Int))
-}
-
-fn is_array(ty: &Type_) -> bool
-    ensures { result ≡ is_array_type ty.now }
-{
-    matches!(ty, Type_::Array { .. })
 }
 
 /// An array that a path gets has its own length.

@@ -4,7 +4,7 @@
 //! The contract: `all_facts` of the tables, exactly; no table is made anew where its facts stay.
 //! It stands on `ix_fact_table` for tables and for the paths that facts name.
 //! It never looks at what follows from facts.
-#![tactic(auto)]
+#![tactic(auto, using(std::proofs::lemmas::List::append_assoc))]
 
 mod changed;
 mod joins;
