@@ -11,10 +11,10 @@ use Rattle.ix_facts.specs.AfterOperation as after
 use Rattle.ix_facts.specs.After.{kept_new, finished, finished_by}
 use Rattle.ix_facts.specs.Named.{IsEachOnce}
 use Rattle.ix_index.specs.OnPaths.{HasNamed}
-use Rattle.ix_finish.specs.OverParts as parts
+use Rattle.ix_rules.specs.OverParts as parts
 use Rattle.ix_finish.specs.OverNamed as over
-use Rattle.ix_after.specs.SameFacts.{AreSame}
-use Rattle.ix_after.proofs.Members.{same_equal, same_trans, same_app, same_kept}
+use Rattle.ix_facts.specs.SameFacts.{AreSame}
+use Rattle.ix_facts.proofs.Members.{same_equal, same_trans, same_app, same_kept}
 use Rattle.ix_after.proofs.SameRules.{new_same, copied_same}
 use Rattle.ix_after.proofs.SameFinish.{finished_same, finished_by_same}
 

@@ -9,7 +9,7 @@ use Rattle.ix_facts.specs.Facts.{IsIn}
 use Rattle.ix_facts.specs.Bounds.{best, best_of}
 use Rattle.ix_facts.specs.Exact.{least_at}
 use Rattle.ix_facts.specs.Named.{IsAmongPaths, IsEachOnce}
-use Rattle.ix_after.specs.SameFacts.{HasAll, AreSame}
+use Rattle.ix_facts.specs.SameFacts.{HasAll, AreSame}
 
 pub record Better (better : ℤ → ℤ → ℤ) : Type 0 where
   pub joined : (x y z : ℤ) → better (better x y) z ≡ better x (better y z)

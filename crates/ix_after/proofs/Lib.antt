@@ -1,4 +1,3 @@
-pub mod Members
 pub mod BestMembers
 pub mod Silent
 pub mod SameRules

@@ -21,8 +21,8 @@ use Rattle.ix_facts.specs.Finish as rule
 use Rattle.ix_facts.specs.Named.{IsEachOnce}
 use Rattle.ix_index.specs.OnPaths.{HasNamed, each_on}
 use Rattle.ix_finish.specs.OverNamed as over
-use Rattle.ix_after.specs.SameFacts.{AreSame}
-use Rattle.ix_after.proofs.Members.{same_itself, same_equal, same_trans, same_app, same_if, same_each, same_once, each_equal}
+use Rattle.ix_facts.specs.SameFacts.{AreSame}
+use Rattle.ix_facts.proofs.Members.{same_itself, same_equal, same_trans, same_app, same_if, same_each, same_once, each_equal}
 use Rattle.ix_after.proofs.BestMembers.{lesser, greater, same_best}
 use Rattle.ix_after.proofs.Silent.{reads_step_above, reads_step_below, reads_bound_above, reads_bound_below}
 

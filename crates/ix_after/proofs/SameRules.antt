@@ -30,9 +30,9 @@ use Rattle.ix_facts.specs.AfterOperation.{is_int, is_array, is_from}
 use Rattle.ix_facts.specs.Named.{IsEachOnce}
 use Rattle.ix_index.specs.OnPaths.{HasNamed, each_on, best_on}
 use Rattle.ix_exact.specs.OverPaths.{exact_range}
-use Rattle.ix_finish.specs.OverParts as over
-use Rattle.ix_after.specs.SameFacts.{AreSame}
-use Rattle.ix_after.proofs.Members.{same_itself, same_equal, same_trans, same_app, same_cons, same_if, same_once}
+use Rattle.ix_rules.specs.OverParts as over
+use Rattle.ix_facts.specs.SameFacts.{AreSame}
+use Rattle.ix_facts.proofs.Members.{same_itself, same_equal, same_trans, same_app, same_cons, same_if, same_once}
 use Rattle.ix_after.proofs.BestMembers.{least_once}
 use Rattle.ix_after.proofs.Silent.{reads_sum, reads_half, reads_length, reads_new_array, reads_flip, reads_copied, reads_array_copied, looks_limit}
 

@@ -8,5 +8,5 @@
 
 mod new_facts;
 
-pub use ix_finish::{is_array, is_int, push_claim};
+pub use ix_rules::push_claim;
 pub use new_facts::{facts_after, facts_of_copy};

@@ -5,11 +5,12 @@ ghost use Rattle.ix_facts.specs.Closure.{kept};
 ghost use Rattle.ix_facts.specs.Facts.{in_orders};
 ghost use Rattle.ix_facts.specs.AfterOperation.{copied};
 ghost use Rattle.ix_facts.specs.After.{kept_new, finished, finished_by};
-ghost use Rattle.ix_after.specs.SameFacts.{AreSame};
+ghost use Rattle.ix_facts.specs.SameFacts.{AreSame};
 
 use ix_core::{Fact, OpKind, Path, Profile, Type_};
-use ix_finish::{push_copied, push_finished, push_finished_by, push_new_facts};
+use ix_finish::{push_finished, push_finished_by};
 use ix_index::Indexed;
+use ix_rules::{push_copied, push_new_facts};
 use std::alloc::{AllocError, Global};
 
 /// The new facts of an operation by what is known, where nothing that is known names its target: what its own rule gives, and what follows of that with what

@@ -8,7 +8,7 @@ use ix_after::facts_after;
 use ix_claims::is_proved;
 use ix_core::{Base, Claim, Fact, Literal, OpKind, Path, PathClaim, Profile, Type_, UnaryNum};
 use ix_fact_list::FactList;
-use ix_facts::facts_without_target;
+use ix_fact_paths::facts_without_target;
 use ix_num::Arith;
 use ix_rules::push_claim;
 use ix_text::List;

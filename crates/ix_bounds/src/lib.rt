@@ -18,6 +18,7 @@ mod upper;
 
 pub use ends::{length_high, length_low};
 pub use groups::Groups;
+pub use ix_index::Indexed;
 pub use limits::{lower_bound, upper_limit};
 pub use said::{has_length, has_negative, has_search, stored_same};
 pub use stored::fact_less;

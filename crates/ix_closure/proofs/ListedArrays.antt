@@ -8,8 +8,8 @@ use Rattle.ix_facts.specs.Facts.{IsIn}
 use Rattle.ix_facts.specs.Closure.{Follows}
 use Rattle.ix_facts.specs.Closure as closure
 use Rattle.ix_facts.specs.Named.{IsAmongPaths}
-use Rattle.ix_fact_list.specs.ByPath.{put_all}
-use Rattle.ix_fact_list.specs.PutLaws.{put_once}
+use Rattle.ix_path_index.specs.ByPath.{put_all}
+use Rattle.ix_path_index.specs.PutLaws.{put_once}
 use Rattle.ix_closure.specs.Saturated.{AreListed}
 use Rattle.ix_closure.specs.Listed.{listed_by, all_listed}
 

@@ -3,10 +3,9 @@ pub mod Links
 pub mod Listed
 pub mod Saturated
 pub mod Beside
--- Passed on from ix_fact_list.
-pub use Rattle.ix_fact_list.specs.ByPath
-pub use Rattle.ix_fact_list.specs.PutLaws
-pub use Rattle.ix_fact_list.specs.Spared
+-- Passed on from ix_path_index.
+pub use Rattle.ix_path_index.specs.ByPath
+pub use Rattle.ix_path_index.specs.PutLaws
 -- Passed on from ix_fact_table.
 pub use Rattle.ix_fact_table.specs.Entries
 pub use Rattle.ix_fact_table.specs.FactOrder

@@ -10,7 +10,8 @@ ghost use Rattle.ix_closure.specs.Classes.{Roots, root_of, replaced, relabelled,
 
 use crate::links::length_links;
 use ix_core::{Fact, Path};
-use ix_facts::{is_same_path, path_order_laws};
+use ix_facts::is_same_path;
+use ix_path_index::path_order_laws;
 use std::alloc::{AllocError, Global};
 use std::marker::Model;
 

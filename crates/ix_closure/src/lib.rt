@@ -2,7 +2,7 @@
 //!
 //! What goes in: facts. What comes out: more facts, so that tables of both say all that follows from the facts, and nothing else.
 //! The contract: `more_that_follows`, and `more_beside` of closed facts and few new ones, over `Follows` of `ix_facts`.
-//! It stands on `ix_fact_table` for the ranges among the facts, on `ix_fact_list` for sets of paths.
+//! It stands on `ix_fact_table` for the ranges among the facts, on `ix_path_index` for sets of paths.
 //! It never looks at how the list is kept, nor at the program.
 #![tactic(auto)]
 
@@ -16,5 +16,4 @@ mod searches;
 
 pub use beside::{are_plain, more_beside};
 pub use closing::more_that_follows;
-pub use ix_fact_list::{FactList, assigned_path, some_name_path};
 pub use ix_fact_table::FactTable;

@@ -1,12 +1,12 @@
 //! The arrays of which facts say that they have the length of another, or that an int is their length.
 
 ghost use Rattle.std.specs.Prelude.{◌≡◌, ◌∷◌, [], IfOk, OnOk};
-ghost use Rattle.ix_fact_list.specs.ByPath.{put_all};
+ghost use Rattle.ix_path_index.specs.ByPath.{put_all};
 ghost use Rattle.ix_closure.specs.Saturated.{AreListed};
 ghost use Rattle.ix_closure.specs.Listed.{listed_by, all_listed};
 
 use ix_core::{Fact, Path};
-use ix_fact_list::PathSet;
+use ix_path_index::PathSet;
 use std::alloc::{AllocError, Global};
 
 fn put_two(arrays: &mut PathSet, a: Path, b: Path) -> Result<(), AllocError>

@@ -9,9 +9,9 @@ use Rattle.ix_facts.specs.Stores.{Stored}
 use Rattle.ix_graph.specs.declared.node.Node.{Node}
 use Rattle.ix_graph.specs.Built.{kind_of}
 use Rattle.ix_graph.specs.Graph.{Kind}
-use Rattle.ix_labels.specs.Ranked.{Ranked}
-use Rattle.ix_labels.specs.Exactly.{AddsExactly}
-use Rattle.ix_labels.proofs.Refused.{exactly_none, exactly_same, adds_both}
+use Rattle.ix_method_errors.specs.Ranked.{Ranked}
+use Rattle.ix_method_errors.specs.Exactly.{AddsExactly}
+use Rattle.ix_method_errors.proofs.Refused.{exactly_none, exactly_same, adds_both}
 use Rattle.ix_labels.specs.Store.{Store}
 use Rattle.ix_labels.specs.StoredFacts.{stored}
 use Rattle.ix_errors.specs.NodeErrors.{AtNode}

@@ -12,7 +12,7 @@ use Rattle.ix_graph.specs.GraphSolutions.{AllPoints, label_at}
 use Rattle.ix_graph.specs.Linked.{kinds_in}
 use Rattle.ix_labels.specs.MethodRules.{method_rules}
 use Rattle.ix_labels.specs.RuleErrors.{OpText, TestEscapes}
-use Rattle.ix_labels.specs.Ranked.{Ranked}
+use Rattle.ix_method_errors.specs.Ranked.{Ranked}
 use Rattle.ix_labels.specs.Store.{Store}
 use Rattle.ix_labels.specs.StoredFacts.{stored}
 use Rattle.ix_sound.specs.Errors.{NoErrors}

@@ -23,9 +23,9 @@ use Rattle.ix_labels.specs.MethodRules.{method_rules}
 use Rattle.ix_labels.specs.RuleErrors.{OverridesBy, OpText, TestEscapes}
 use Rattle.ix_labels.proofs.MethodLaws.{method_laws}
 use Rattle.ix_labels.proofs.ErrorsWeaker.{errors_weaker}
-use Rattle.ix_labels.specs.Ranked.{Ranked}
-use Rattle.ix_labels.specs.Exactly.{IsListed, AreExactly, AddsExactly}
-use Rattle.ix_labels.proofs.Refused.{adds_both}
+use Rattle.ix_method_errors.specs.Ranked.{Ranked}
+use Rattle.ix_method_errors.specs.Exactly.{IsListed, AreExactly, AddsExactly}
+use Rattle.ix_method_errors.proofs.Refused.{adds_both}
 use Rattle.ix_labels.specs.Store.{Store}
 use Rattle.ix_labels.specs.StoredFacts.{stored}
 use Rattle.ix_sound.specs.Errors.{NoErrors}

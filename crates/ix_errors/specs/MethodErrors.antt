@@ -12,7 +12,7 @@ use Rattle.ix_graph.specs.Graph.{behind_code, method_parts}
 use Rattle.ix_graph.specs.Heads.{AreInOrder}
 use Rattle.ix_labels.specs.MethodRules.{method_rules}
 use Rattle.ix_labels.specs.RuleErrors.{PointErrors, TextErrors}
-use Rattle.ix_labels.specs.Ranked.{Ranked}
+use Rattle.ix_method_errors.specs.Ranked.{Ranked}
 use Rattle.ix_labels.specs.Naming.{HaveSmallNames}
 use Rattle.ix_sound.specs.Sound.{HasNoErrors}
 use Rattle.ix_labels.specs.Store.{Store}

@@ -3,16 +3,17 @@
 ghost use Rattle.std.specs.Prelude.{◌≡◌, OnOk, length};
 ghost use Rattle.ix_graph.specs.Built.{kind_of};
 ghost use Rattle.ix_labels.specs.StoredFacts.{stored};
-ghost use Rattle.ix_labels.specs.Exactly.{AddsExactly};
+ghost use Rattle.ix_method_errors.specs.Exactly.{AddsExactly};
 ghost use Rattle.ix_labels.specs.Naming.{HasSmallNames, HaveSmallNames};
 ghost use Rattle.ix_errors.specs.NodeErrors.{LabelGives, TextGives, NodeGives, AtNode};
 
 use ix_core::{Method, Program};
 use ix_graph::{Node, NodeKind};
-use ix_labels::signs::{
+use ix_method_errors::signs::{
     Ranked, push_constructor_errors, push_effect_error, push_missing_return, push_return_errors,
 };
-use ix_labels::{Store, push_op_errors};
+use ix_labels::Store;
+use ix_method_errors::push_op_errors;
 use ix_uses::{push_assigned_parameter, push_escapes_in, push_escapes_of};
 use std::alloc::{AllocError, Global};
 

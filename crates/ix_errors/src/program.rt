@@ -1,12 +1,12 @@
 //! All errors of a program.
 
 ghost use Rattle.std.specs.Prelude.{◌≡◌, ◌+◌, ◌≤◌, [], IfOk, length};
-ghost use Rattle.ix_labels.specs.Exactly.{AreExactly};
+ghost use Rattle.ix_method_errors.specs.Exactly.{AreExactly};
 ghost use Rattle.ix_errors.specs.MethodErrors.{IsReady, IsError, HaveNone, nodes_below};
 
 use crate::method::push_method_errors;
 use ix_core::{Profile, Program};
-use ix_labels::signs::Ranked;
+use ix_method_errors::signs::Ranked;
 use ix_solve::Steps;
 use std::alloc::{AllocError, Global};
 use std::sync::ledger::Ledger;

@@ -14,7 +14,7 @@ ghost use Rattle.ix_exact.specs.OverPaths as over;
 ghost use Rattle.ix_facts.specs.Facts.{in_orders};
 ghost use Rattle.ix_facts.specs.Small.{IsBound, IsEnd};
 
-use crate::push::push_if;
+use crate::push::{push_fact, push_if};
 use ix_facts::{
     Fact, Know, Low, Path, PathOff, Profile, UnaryNum, is_same_path, lesser, low_table,
 };
@@ -277,12 +277,11 @@ fn push_class(out: &mut Vec<Fact>, t: &Path, known: Low) -> Result<(), AllocErro
     ensures { OnOk result (out.new.items ≡ out.old.items ++ kept (exact.class_facts t.now known)) }
 {
     match known {
-        Low::Unknown => {}
-        Low::MinusOne => out.push(Fact::Low(*t, -1))?,
-        Low::Zero => out.push(Fact::Low(*t, 0))?,
-        Low::One => out.push(Fact::Low(*t, 1))?,
+        Low::Unknown => Ok(()),
+        Low::MinusOne => push_fact(out, Fact::Low(*t, -1)),
+        Low::Zero => push_fact(out, Fact::Low(*t, 0)),
+        Low::One => push_fact(out, Fact::Low(*t, 1)),
     }
-    Ok(())
 }
 
 /// Adds the classes of a result, where the exact result counts: that of its interval's low end, and the low table's.
@@ -297,9 +296,10 @@ pub fn push_low(
 {
     if fits(profile, i) {
         push_class(out, t, Low::of_number(i.lo))?;
-        push_class(out, t, table)?;
+        push_class(out, t, table)
+    } else {
+        Ok(())
     }
-    Ok(())
 }
 
 /// The low table's answer for two operands. Index Checker, "Lower bounds".

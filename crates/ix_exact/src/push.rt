@@ -8,6 +8,14 @@ ghost use Rattle.ix_facts.specs.Exact.{if_so, if_some};
 use ix_facts::{Fact, Path, PathOff};
 use std::alloc::AllocError;
 
+/// Adds the fact. The only error is want of memory.
+pub fn push_fact(out: &mut Vec<Fact>, fact: Fact) -> Result<(), AllocError>
+    ensures { OnOk result (out.new.items ≡ out.old.items ++ fact ∷ []) }
+{
+    out.push(fact)?;
+    Ok(())
+}
+
 /// Adds `p < q + c`, where the constant is kept.
 pub fn push_less(out: &mut Vec<Fact>, p: &Path, q: &Path, c: i64) -> Result<(), AllocError>
     ensures { OnOk result (out.new.items ≡ out.old.items ++ kept (Less p.now q.now c ∷ [])) }
@@ -15,8 +23,7 @@ pub fn push_less(out: &mut Vec<Fact>, p: &Path, q: &Path, c: i64) -> Result<(), 
     if c > 2147483647 {
         return Ok(());
     }
-    out.push(Fact::Less(*p, *q, c.max(-2147483648) as i32))?;
-    Ok(())
+    push_fact(out, Fact::Less(*p, *q, c.max(-2147483648) as i32))
 }
 
 /// Adds `p + offset + c < a.length`, where the constant is kept.
@@ -32,8 +39,7 @@ pub fn push_upper(
     if c < -2147483648 {
         return Ok(());
     }
-    out.push(Fact::Upper(*p, *a, *offset, c.min(2147483647) as i32))?;
-    Ok(())
+    push_fact(out, Fact::Upper(*p, *a, *offset, c.min(2147483647) as i32))
 }
 
 /// Adds `p < q + c`, where there is such a number.
@@ -45,10 +51,10 @@ pub fn push_some_less(
 ) -> Result<(), AllocError>
     ensures { OnOk result (out.new.items ≡ out.old.items ++ kept (if_some (Less p.now q.now) c)) }
 {
-    if let Some(c) = c {
-        push_less(out, p, q, c)?;
+    match c {
+        Some(c) => push_less(out, p, q, c),
+        None => Ok(()),
     }
-    Ok(())
 }
 
 /// Adds `p + offset + c < a.length`, where there is such a number.
@@ -61,10 +67,10 @@ pub fn push_some_upper(
 ) -> Result<(), AllocError>
     ensures { OnOk result (out.new.items ≡ out.old.items ++ kept (if_some (Upper p.now a.now offset.now) c)) }
 {
-    if let Some(c) = c {
-        push_upper(out, p, a, offset, c)?;
+    match c {
+        Some(c) => push_upper(out, p, a, offset, c),
+        None => Ok(()),
     }
-    Ok(())
 }
 
 /// Adds `p < q + c`, where the test is true.
@@ -78,9 +84,10 @@ pub fn push_less_if(
     ensures { OnOk result (out.new.items ≡ out.old.items ++ kept (if_so test (Less p.now q.now c ∷ []))) }
 {
     if test {
-        push_less(out, p, q, c)?;
+        push_less(out, p, q, c)
+    } else {
+        Ok(())
     }
-    Ok(())
 }
 
 /// Adds `p + offset + c < a.length`, where the test is true.
@@ -95,9 +102,10 @@ pub fn push_upper_if(
     ensures { OnOk result (out.new.items ≡ out.old.items ++ kept (if_so test (Upper p.now a.now offset.now c ∷ []))) }
 {
     if test {
-        push_upper(out, p, a, offset, c)?;
+        push_upper(out, p, a, offset, c)
+    } else {
+        Ok(())
     }
-    Ok(())
 }
 
 /// Adds the fact, where the test is true.
@@ -105,7 +113,8 @@ pub fn push_if(out: &mut Vec<Fact>, test: bool, fact: Fact) -> Result<(), AllocE
     ensures { OnOk result (out.new.items ≡ out.old.items ++ if_so test (fact ∷ [])) }
 {
     if test {
-        out.push(fact)?;
+        push_fact(out, fact)
+    } else {
+        Ok(())
     }
-    Ok(())
 }

@@ -1,9 +1,2 @@
 mod KnownFacts
 mod SmallFacts
-pub mod PathTies
-pub mod EntriesAre
-pub mod Found
-mod Places
-mod Added
-mod Marked
-mod OnePath

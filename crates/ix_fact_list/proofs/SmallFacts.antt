@@ -11,8 +11,8 @@ use Rattle.ix_facts.specs.Small.{HasSmallNumbers}
 use Rattle.ix_facts.specs.Bounds.{is_path}
 use Rattle.ix_facts.specs.Forget.{names}
 use Rattle.ix_bounds.specs.Ends.{is_end, ends_in}
-use Rattle.ix_fact_list.specs.ByPath.{on_it}
-use Rattle.ix_fact_list.specs.Grouped.{few, on_list}
+use Rattle.ix_path_index.specs.ByPath.{on_it}
+use Rattle.ix_path_index.specs.Grouped.{few, on_list}
 
 -- the ends of ranges are small in each order of a fact
 one_small : (f : Fact) → HasSmallNumbers f → All HasSmallNumbers (f ∷ [])

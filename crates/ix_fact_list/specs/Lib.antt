@@ -1,7 +1,3 @@
-pub mod ByPath
-pub mod Grouped
-pub mod Marks
-pub mod OnPathLaws
-pub mod OnListLaws
-pub mod PutLaws
-pub mod Spared
+-- Passed on from ix_path_index.
+pub use Rattle.ix_path_index.specs.ByPath
+pub use Rattle.ix_path_index.specs.PutLaws

@@ -10,19 +10,18 @@ ghost use Rattle.ix_facts.specs.Exact.{named_ints, named_arrays};
 ghost use Rattle.ix_facts.specs.Small.{HasSmallNumbers};
 ghost use Rattle.ix_bounds.specs.Ends.{ends_in};
 ghost use Rattle.ix_bounds.specs.Links.{links_in};
-ghost use Rattle.ix_fact_list.specs.ByPath.{put_all};
-ghost use Rattle.ix_fact_list.specs.Grouped.{on_grouped, on_list};
-ghost use Rattle.ix_fact_list.specs.Spared.{some_named};
+ghost use Rattle.ix_path_index.specs.ByPath.{put_all};
+ghost use Rattle.ix_path_index.specs.Grouped.{on_grouped, on_list};
+ghost use Rattle.ix_path_index.specs.Spared.{some_named};
 
 use crate::ends::ends_and_links;
-use crate::grouped::Grouped;
-use crate::named::ints_and_arrays;
-use crate::orders::in_all_orders;
-use crate::spared::{assigned_path, some_name_path, some_name_target};
-use ix_bounds::{self, Groups};
+use ix_bounds::{self, Groups, Indexed};
 use ix_core::{Fact, OpKind, Path, PathOff};
-use ix_facts::{Know, names_path, names_target};
-use ix_index::Indexed;
+use ix_facts::Know;
+use ix_path_index::{
+    Grouped, assigned_path, in_all_orders, ints_and_arrays, names_path, names_target, some_name_path,
+    some_name_target,
+};
 use std::alloc::{AllocError, Global};
 use std::marker::Model;
 
@@ -186,8 +185,8 @@ impl Groups for FactList {
     ghost use Rattle.ix_facts.specs.Facts.{in_orders};
     ghost use Rattle.ix_bounds.specs.Ends.{ends_in};
     ghost use Rattle.ix_bounds.specs.Links.{links_in};
-    ghost use Rattle.ix_fact_list.specs.Grouped.{on_list};
-    ghost use Rattle.ix_fact_list.specs.OnListLaws.{on_list_named, on_list_only};
+    ghost use Rattle.ix_path_index.specs.Grouped.{on_list};
+    ghost use Rattle.ix_path_index.specs.OnListLaws.{on_list_named, on_list_only};
 
     ghost all = { λ list. in_orders list };
 
@@ -221,8 +220,8 @@ impl Groups for FactList {
 impl Know for FactList {
     ghost use Rattle.ix_facts.specs.Facts.{in_orders};
     ghost use Rattle.ix_facts.specs.Exact.{named_ints, named_arrays};
-    ghost use Rattle.ix_fact_list.specs.ByPath.{put_all};
-    ghost use Rattle.ix_fact_list.specs.PutLaws.{put_once};
+    ghost use Rattle.ix_path_index.specs.ByPath.{put_all};
+    ghost use Rattle.ix_path_index.specs.PutLaws.{put_once};
 
     ghost known = { λ list. list };
 
@@ -305,8 +304,8 @@ impl Know for FactList {
 
 impl Indexed for FactList {
     ghost use Rattle.ix_facts.specs.Facts.{in_orders};
-    ghost use Rattle.ix_fact_list.specs.Grouped.{on_list};
-    ghost use Rattle.ix_fact_list.specs.OnListLaws.{on_list_named};
+    ghost use Rattle.ix_path_index.specs.Grouped.{on_list};
+    ghost use Rattle.ix_path_index.specs.OnListLaws.{on_list_named};
 
     ghost on_path = { λ list p. on_list (in_orders list) p };
 

@@ -8,3 +8,5 @@ pub mod RisingLaws
 pub mod Walks
 pub mod FactTables
 pub mod TableLaws
+-- Passed on from ix_fact_paths.
+pub use Rattle.ix_fact_paths.specs.Spared

@@ -5,7 +5,7 @@ ghost use Rattle.ix_facts.specs.Forget.{of_path, without};
 ghost use Rattle.ix_facts.specs.After.{of_target};
 
 use ix_core::{Fact, OpKind, Path};
-use ix_facts::{names_path, names_target};
+use ix_fact_paths::{names_path, names_target};
 use ix_text::List;
 use std::alloc::{AllocError, Global};
 

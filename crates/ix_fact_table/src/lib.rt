@@ -20,4 +20,7 @@ mod tables;
 mod walks;
 
 pub use fact_table::FactTable;
+pub use ix_fact_paths::{
+    assigned_path, is_of_path, is_of_target, names_path, rounded_facts, some_name_path,
+};
 pub use order::compare_facts;

@@ -11,7 +11,7 @@ ghost use Rattle.ix_fact_table.specs.FactOrder.{AtKey};
 
 use crate::order::{compare_facts, first_path};
 use ix_core::{Fact, Path};
-use ix_facts::compare_paths;
+use ix_fact_paths::compare_paths;
 use std::cmp::Ordering;
 
 /// Where the fact at the key stands.

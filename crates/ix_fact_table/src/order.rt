@@ -7,7 +7,7 @@ ghost use Rattle.ix_fact_table.specs.FactOrder as spec;
 ghost use Rattle.ix_fact_table.specs.FactOrder.{third, fact_cmp, rest_cmp};
 
 use ix_core::{Fact, Path};
-use ix_facts::{compare_offsets, compare_paths};
+use ix_fact_paths::{compare_offsets, compare_paths};
 use std::cmp::Ordering;
 
 /// The order of paths. Most are slots: these are compared here, without a call.

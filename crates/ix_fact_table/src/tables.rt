@@ -23,7 +23,8 @@ use crate::look_ups::{facts_on, place_of};
 use crate::sorted::{sorted, sorted_list};
 use crate::walks::{covers_all, merged, shared};
 use ix_core::{Fact, OpKind, Path};
-use ix_facts::{Kind, Landmarks, rounded_facts};
+use ix_fact_paths::rounded_facts;
+use ix_facts::{Kind, Landmarks};
 use ix_text::List;
 use std::alloc::{AllocError, Global};
 

@@ -5,7 +5,8 @@ ghost use Rattle.ix_facts.specs.Small.{HasSmallNumbers};
 
 use ix_core::{Fact, Path, PathOff};
 use ix_fact_list::FactList;
-use ix_facts::{Know, compare_offsets, compare_paths};
+use ix_fact_paths::{compare_offsets, compare_paths};
+use ix_facts::Know;
 use ix_path_numbers::{path_number, path_of};
 use std::alloc::{AllocError, Global};
 use std::cmp::Ordering;

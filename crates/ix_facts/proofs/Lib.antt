@@ -4,6 +4,7 @@ pub mod BoundsHold
 pub mod Worse
 pub mod BoundsMonotone
 pub mod FactLists
+pub mod Members
 pub mod Frame
 pub mod ClosureLaws
 pub mod RuleForms

@@ -20,6 +20,7 @@ pub mod Small
 pub mod PathOrder
 pub mod Named
 pub mod NamedLaws
+pub mod SameFacts
 -- Passed on from ix_core.
 pub use Rattle.ix_core.specs.declared.fact.Fact
 pub use Rattle.ix_core.specs.declared.fact.Path

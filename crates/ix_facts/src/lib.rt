@@ -7,20 +7,16 @@
 #![tactic(auto)]
 
 mod conditions;
-mod filters;
-mod forget;
 mod kind;
 mod know;
 mod landmarks;
 mod laws;
-mod path_order;
 mod same;
 mod stores;
 mod system;
+mod types;
 
 pub use conditions::{Blocks, condition_laws};
-pub use filters::{facts_without_path, facts_without_target, rounded_facts};
-pub use forget::{is_of_path, is_of_target, names_path, names_target};
 pub use ix_core::{Fact, Path, PathOff, Profile, UnaryNum};
 pub use ix_tables::{Low, low_table};
 pub use kind::{Kind, is_of_kind, kind_of_fact};
@@ -30,7 +26,7 @@ pub use laws::{
     bounds_laws, claim_laws, closing_laws, forget_laws, form_laws, operation_laws, system_laws,
     test_laws,
 };
-pub use path_order::{compare_offsets, compare_paths, offset_order_laws, path_order_laws};
 pub use same::{greater, is_same_offset, is_same_path, lesser};
 pub use stores::{field_laws, rule_laws, store_laws};
 pub use system::System;
+pub use types::{holds_arrays, holds_ints, is_array, is_int};

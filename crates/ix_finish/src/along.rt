@@ -193,9 +193,10 @@ fn push_all_above<K: Indexed>(
     ensures { OnOk result (out.new.items ≡ out.old.items ++ kept (if_so (spec.is_path x.now t.now) (each (rule.step_above t.now q.now c.now) (K.on_path know.now q.now) ++ each (rule.bound_above t.now q.now c.now) (K.on_path know.now q.now)))) }
 {
     if is_same_path(x, t) {
-        push_both_above(out, know.on(q), t, q, c)?;
+        push_both_above(out, know.on(q), t, q, c)
+    } else {
+        Ok(())
     }
-    Ok(())
 }
 
 fn push_both_below(
@@ -223,9 +224,10 @@ fn push_all_below<K: Indexed>(
     ensures { OnOk result (out.new.items ≡ out.old.items ++ kept (if_so (spec.is_path x.now t.now) (each (rule.step_below t.now p.now c.now) (K.on_path know.now p.now) ++ each (rule.bound_below t.now p.now c.now) (K.on_path know.now p.now)))) }
 {
     if is_same_path(x, t) {
-        push_both_below(out, know.on(p), t, p, c)?;
+        push_both_below(out, know.on(p), t, p, c)
+    } else {
+        Ok(())
     }
-    Ok(())
 }
 
 fn push_along_less<K: Indexed>(

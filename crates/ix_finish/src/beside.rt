@@ -10,6 +10,7 @@ ghost use Rattle.ix_core.specs.declared.fact.PathOff.TheVariants.{Nothing};
 ghost use Rattle.ix_core.specs.declared.fact.Fact.TheVariants.{Less, Upper};
 
 use ix_core::{Fact, Path, PathOff};
+use ix_exact::push_fact;
 use ix_facts::Know;
 use std::alloc::AllocError;
 
@@ -34,8 +35,7 @@ fn push_near(out: &mut Vec<Fact>, p: &Path, q: &Path, c: i128) -> Result<(), All
     if c > 1 {
         return Ok(());
     }
-    out.push(Fact::Less(*p, *q, c.max(-2147483648) as i32))?;
-    Ok(())
+    push_fact(out, Fact::Less(*p, *q, c.max(-2147483648) as i32))
 }
 
 fn push_above<K: Know>(
@@ -77,8 +77,7 @@ fn push_beside_int<K: Know>(
     ensures { OnOk result (out.new.items ≡ out.old.items ++ kept (rule.beside_int (in_orders (K.known know.now)) new.now t.now r.now)) }
 {
     push_above(out, know, t, high, r)?;
-    push_below(out, know, t, low, r)?;
-    Ok(())
+    push_below(out, know, t, low, r)
 }
 
 fn push_beside_ints<K: Know>(
@@ -114,8 +113,7 @@ fn push_reaching(out: &mut Vec<Fact>, p: &Path, a: &Path, c: i128) -> Result<(),
     if c < -1 {
         return Ok(());
     }
-    out.push(Fact::Upper(*p, *a, PathOff::Nothing, c.min(2147483647) as i32))?;
-    Ok(())
+    push_fact(out, Fact::Upper(*p, *a, PathOff::Nothing, c.min(2147483647) as i32))
 }
 
 fn push_beside_array<K: Know>(
@@ -202,6 +200,5 @@ pub(crate) fn push_by_ranges<K: Know>(
     ensures { OnOk result (out.new.items ≡ out.old.items ++ kept (each_path (rule.beside_int (in_orders (K.known know.now)) new.now t.now) ints.now ++ each_path (rule.beside_array (in_orders (K.known know.now)) new.now t.now) arrays.now)) }
 {
     push_beside_ints(out, know, new, t, low, high, ints)?;
-    push_beside_arrays(out, know, new, t, high, arrays)?;
-    Ok(())
+    push_beside_arrays(out, know, new, t, high, arrays)
 }

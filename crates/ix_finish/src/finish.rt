@@ -10,8 +10,8 @@ use crate::along::push_along;
 use crate::beside::{push_beside_lengths, push_by_ranges};
 use crate::new_ends::{new_high, new_length, new_low};
 use ix_core::{Fact, Literal, OpKind, Path, Type_};
+use ix_facts::{holds_arrays, holds_ints, is_array, is_int};
 use ix_index::Indexed;
-use ix_rules::{holds_arrays, holds_ints, is_array, is_int};
 use std::alloc::AllocError;
 
 /// Adds the rest of the facts on an int: along stored differences and bounds, and by ranges. `new` are the new facts, `t` is no int that is known.
@@ -34,8 +34,7 @@ pub fn push_finish_int<K: Indexed>(
         t,
         low,
         high,
-    )?;
-    Ok(())
+    )
 }
 
 /// Adds the rest of the facts on an array: the named ints that are at most its length, by ranges.
@@ -60,9 +59,10 @@ fn push_int_if<K: Indexed>(
     ensures { OnOk result (out.new.items ≡ out.old.items ++ kept (if_so test (over.finish_int (in_orders (K.known know.now)) (K.on_path know.now) (K.int_paths know.now) (K.array_paths know.now) new.now t.now))) }
 {
     if test {
-        push_finish_int(out, know, new, t)?;
+        push_finish_int(out, know, new, t)
+    } else {
+        Ok(())
     }
-    Ok(())
 }
 
 fn push_array_if<K: Indexed>(
@@ -75,9 +75,10 @@ fn push_array_if<K: Indexed>(
     ensures { OnOk result (out.new.items ≡ out.old.items ++ kept (if_so test (over.finish_array (in_orders (K.known know.now)) (K.on_path know.now) (K.int_paths know.now) (K.array_paths know.now) new.now t.now))) }
 {
     if test {
-        push_finish_array(out, know, new, t)?;
+        push_finish_array(out, know, new, t)
+    } else {
+        Ok(())
     }
-    Ok(())
 }
 
 /// Adds the rest of the facts by the type of the target: an int, an array or neither.
@@ -91,8 +92,7 @@ pub fn push_finished_by<K: Indexed>(
     ensures { OnOk result (out.new.items ≡ out.old.items ++ kept (over.finished_by (in_orders (K.known know.now)) (K.on_path know.now) (K.int_paths know.now) (K.array_paths know.now) new.now ty.now t.now)) }
 {
     push_int_if(out, know, new, is_int(ty), t)?;
-    push_array_if(out, know, new, is_array(ty), t)?;
-    Ok(())
+    push_array_if(out, know, new, is_array(ty), t)
 }
 
 fn push_finished_load<K: Indexed>(
@@ -105,8 +105,7 @@ fn push_finished_load<K: Indexed>(
     ensures { OnOk result (out.new.items ≡ out.old.items ++ kept (over.finished_load (in_orders (K.known know.now)) (K.on_path know.now) (K.int_paths know.now) (K.array_paths know.now) new.now t.now ty.now)) }
 {
     push_int_if(out, know, new, holds_ints(ty), t)?;
-    push_array_if(out, know, new, holds_arrays(ty), t)?;
-    Ok(())
+    push_array_if(out, know, new, holds_arrays(ty), t)
 }
 
 fn push_finished_const<K: Indexed>(

@@ -13,4 +13,3 @@ mod finish;
 mod new_ends;
 
 pub use finish::{push_finish_array, push_finish_int, push_finished, push_finished_by};
-pub use ix_rules::{is_array, is_int, push_claim, push_copied, push_new_facts};

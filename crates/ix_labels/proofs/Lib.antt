@@ -4,4 +4,3 @@ mod Solved
 -- Passed on from ix_method.
 pub use Rattle.ix_method.proofs.MethodLaws
 pub use Rattle.ix_method.proofs.ErrorsWeaker
-pub use Rattle.ix_method.proofs.Refused

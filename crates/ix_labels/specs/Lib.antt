@@ -8,8 +8,6 @@ pub mod Labels
 pub use Rattle.ix_method.specs.MethodRules
 pub use Rattle.ix_method.specs.Naming
 pub use Rattle.ix_method.specs.Store
-pub use Rattle.ix_method.specs.Exactly
-pub use Rattle.ix_method.specs.Ranked
 pub use Rattle.ix_method.specs.RuleErrors
 pub use Rattle.ix_method.specs.SignErrors
 pub use Rattle.ix_method.specs.StoredFacts

@@ -11,5 +11,5 @@ mod labels;
 mod problem;
 mod visit;
 
-pub use ix_method::{Store, push_op_errors, signs};
+pub use ix_method::Store;
 pub use labels::{Labels, label_nodes};

@@ -7,8 +7,8 @@ use Rattle.std.proofs.lemmas.List.Sorted.{IsPermutation-sym}
 use Rattle.std.proofs.lemmas.Map.Keys.{IsDistinct-IsPermutation, IsDistinct-from_apart, apart_from_distinct}
 use Rattle.std.proofs.lemmas.Option.{slice_get-map, slice_get_within, get_or_from_slice_get, slice_get-get_or}
 use Rattle.ix_core.specs.declared.error.Error.{Error}
-use Rattle.ix_sign.specs.declared.ranked.Ranked.{Ranked}
-use Rattle.ix_sign.specs.Exactly.{IsListed}
+use Rattle.ix_sign_errors.specs.declared.ranked.Ranked.{Ranked}
+use Rattle.ix_sign_errors.specs.Exactly.{IsListed}
 use Rattle.ix_listing.specs.ErrorList.{In, HasRank, IsErrorList}
 use Rattle.ix_listing.specs.FullKey.{full_key}
 use Rattle.ix_listing.specs.Order.{error_key, is_before}

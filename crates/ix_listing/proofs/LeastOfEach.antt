@@ -9,8 +9,8 @@ use Rattle.std.specs.Cmp.{ranks, tied_itself}
 use Rattle.std.proofs.lemmas.List.{get_or_default}
 use Rattle.std.proofs.lemmas.List.Sorted.{Contains-permutation, IsPermutation-sym}
 use Rattle.ix_core.specs.declared.error.Error.{Error}
-use Rattle.ix_sign.specs.declared.ranked.Ranked.{Ranked}
-use Rattle.ix_sign.specs.Exactly.{IsListed}
+use Rattle.ix_sign_errors.specs.declared.ranked.Ranked.{Ranked}
+use Rattle.ix_sign_errors.specs.Exactly.{IsListed}
 use Rattle.ix_listing.specs.ErrorList.{In, HasRank}
 use Rattle.ix_listing.specs.FullKey.{full_key}
 use Rattle.ix_listing.specs.Least.{AreLeast, AreOnce}

@@ -2,8 +2,8 @@
 use Rattle.std.specs.Prelude.{◌≡◌, ◌≢◌, ℕ, suc, true, List, slice_get, Some}
 use Rattle.std.specs.List.{AllPairs}
 use Rattle.ix_core.specs.declared.error.Error.{Error}
-use Rattle.ix_sign.specs.declared.ranked.Ranked.{Ranked}
-use Rattle.ix_sign.specs.Exactly.{IsListed}
+use Rattle.ix_sign_errors.specs.declared.ranked.Ranked.{Ranked}
+use Rattle.ix_sign_errors.specs.Exactly.{IsListed}
 use Rattle.ix_listing.specs.ErrorList.{In, HasRank}
 use Rattle.ix_listing.specs.Order.{error_key, is_before}
 

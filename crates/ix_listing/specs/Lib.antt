@@ -7,5 +7,5 @@ pub mod FullKey
 -- What the two sorts leave.
 pub mod Least
 -- Passed on from ix_sign.
-pub use Rattle.ix_sign.specs.Exactly
-pub use Rattle.ix_sign.specs.declared.ranked.Ranked
+pub use Rattle.ix_sign_errors.specs.Exactly
+pub use Rattle.ix_sign_errors.specs.declared.ranked.Ranked

@@ -6,7 +6,7 @@ ghost use Rattle.ix_listing.specs.Least.{AreLeast, AreOnce, AreOrdered};
 
 use crate::key::key_of;
 use ix_core::Error;
-use ix_sign::Ranked;
+use ix_sign_errors::Ranked;
 use std::alloc::{AllocError, Global};
 
 /// Leaves each error once, at its least rank: sorted by the error and then the rank, the first of each run.

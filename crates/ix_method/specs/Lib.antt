@@ -3,15 +3,11 @@ pub mod MethodRules
 -- The errors that the rules derive.
 pub mod RuleErrors
 pub mod Shown
--- The errors of an operation as lists.
-pub mod Lists
 -- What is passed on of signatures and of the store.
 pub use Rattle.ix_sign.specs.Names
 pub use Rattle.ix_sign.specs.Naming
 pub use Rattle.ix_sign.specs.Signs
 pub use Rattle.ix_sign.specs.SignErrors
-pub use Rattle.ix_sign.specs.Exactly
-pub use Rattle.ix_sign.specs.declared.ranked.Ranked
 pub use Rattle.ix_sign.specs.StoredFacts
 pub use Rattle.ix_sign.specs.StoreOrder
 pub use Rattle.ix_sign.specs.Store

@@ -17,7 +17,7 @@ use Rattle.ix_facts.specs.AfterTest as rule
 use Rattle.ix_facts.proofs.FactLists.{in_left, in_right, in_either}
 use Rattle.ix_index.specs.OnPaths.{HasNamed, each_on, best_on}
 use Rattle.ix_exact.specs.BestLaws.{low_joined, high_joined}
-use Rattle.ix_after.specs.SameFacts.{HasAll, AreSame}
+use Rattle.ix_facts.specs.SameFacts.{HasAll, AreSame}
 use Rattle.ix_outcomes.specs.OverGroups as over
 use Rattle.ix_outcomes.proofs.PathsRead.{reads_length, looks_low, looks_high}
 use Rattle.ix_outcomes.proofs.OverAll.{ranges_are}

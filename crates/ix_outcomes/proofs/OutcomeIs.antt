@@ -15,8 +15,8 @@ use Rattle.ix_facts.proofs.FactLists.{in_left, in_right, in_either}
 use Rattle.ix_index.specs.OnPaths.{HasNamed, each_on}
 use Rattle.std.proofs.lemmas.List.{append_assoc}
 use Rattle.ix_exact.specs.KeptLaws.{kept_joined}
-use Rattle.ix_after.specs.SameFacts.{AreSame}
-use Rattle.ix_after.proofs.Members.{same_itself, same_equal, same_trans, same_app, same_if, same_kept}
+use Rattle.ix_facts.specs.SameFacts.{AreSame}
+use Rattle.ix_facts.proofs.Members.{same_itself, same_equal, same_trans, same_app, same_if, same_kept}
 use Rattle.ix_outcomes.specs.OverGroups as over
 use Rattle.ix_outcomes.proofs.PathsRead.{reads_passed}
 use Rattle.ix_outcomes.proofs.OverAll.{ranges_are, differences_are, bounds_are, parts_are}

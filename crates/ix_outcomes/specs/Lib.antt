@@ -1,3 +1,1 @@
 pub mod OverGroups
--- Passed on from ix_after.
-pub use Rattle.ix_after.specs.SameFacts

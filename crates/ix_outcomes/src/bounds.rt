@@ -91,9 +91,10 @@ fn push_bounds_moved_if(
     ensures { OnOk result (out.new.items ≡ out.old.items ++ kept (if_so test (each (bound_moved r.now (c.now +ℤ k.now -ℤ pos 2) q.now) on_q.now))) }
 {
     if test {
-        push_bounds_moved(out, r, k, c, q, on_q)?;
+        push_bounds_moved(out, r, k, c, q, on_q)
+    } else {
+        Ok(())
     }
-    Ok(())
 }
 
 fn push_bounds_by(

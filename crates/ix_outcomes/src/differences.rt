@@ -43,9 +43,10 @@ fn push_between_if(
     ensures { OnOk result (out.new.items ≡ out.old.items ++ kept (if_so test (between k.now r.now c.now s.now d.now))) }
 {
     if test {
-        push_between(out, k, r, c, s, d)?;
+        push_between(out, k, r, c, s, d)
+    } else {
+        Ok(())
     }
-    Ok(())
 }
 
 fn push_between_by(
@@ -94,9 +95,10 @@ fn push_from_if(
     ensures { OnOk result (out.new.items ≡ out.old.items ++ kept (if_so test (at_above (between k.now r.now c.now) on_q.now q.now))) }
 {
     if test {
-        push_from(out, k, q, on_q, r, c)?;
+        push_from(out, k, q, on_q, r, c)
+    } else {
+        Ok(())
     }
-    Ok(())
 }
 
 fn push_from_by(

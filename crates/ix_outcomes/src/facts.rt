@@ -6,13 +6,14 @@ ghost use Rattle.ix_facts.specs.Closure.{kept};
 ghost use Rattle.ix_facts.specs.Exact.{if_so, each};
 ghost use Rattle.ix_facts.specs.Facts.{in_orders};
 ghost use Rattle.ix_facts.specs.AfterTest as rule;
-ghost use Rattle.ix_after.specs.SameFacts.{AreSame};
+ghost use Rattle.ix_facts.specs.SameFacts.{AreSame};
 ghost use Rattle.ix_outcomes.specs.OverGroups as over;
 
 use crate::below::push_below;
 use crate::outcome::Outcome;
 use crate::shared::push_passed;
 use ix_core::{Fact, Path};
+use ix_exact::push_fact;
 use ix_index::Indexed;
 use std::alloc::{AllocError, Global};
 
@@ -37,9 +38,10 @@ fn push_apart<K: Indexed>(
     ensures { OnOk result (out.new.items ≡ out.old.items ++ if_so (int_le (spec.less_bound (in_orders (K.known know.now)) p.now q.now) (pos 1)) (over.below_facts (in_orders (K.known know.now)) (K.on_path know.now) p.now q.now (pos 0))) }
 {
     if is_at_most(know, p, q) {
-        push_below(alloc, out, know, p, q, &0)?;
+        push_below(alloc, out, know, p, q, &0)
+    } else {
+        Ok(())
     }
-    Ok(())
 }
 
 fn push_equal<K: Indexed>(
@@ -51,8 +53,7 @@ fn push_equal<K: Indexed>(
     ensures { OnOk result (out.new.items ≡ out.old.items ++ (kept (each (over.passed_by y.now z.now) (K.on_path know.now y.now)) ++ kept (each (over.passed_by z.now y.now) (K.on_path know.now z.now)))) }
 {
     push_passed(out, y, z, know.on(y))?;
-    push_passed(out, z, y, know.on(z))?;
-    Ok(())
+    push_passed(out, z, y, know.on(z))
 }
 
 fn push_outcome<K: Indexed>(
@@ -67,10 +68,7 @@ fn push_outcome<K: Indexed>(
         Outcome::Below(p, q, k) => push_below(alloc, out, know, p, q, k),
         Outcome::Apart(p, q) => push_apart(alloc, out, know, p, q),
         Outcome::Equal(y, z) => push_equal(out, know, y, z),
-        Outcome::OneArray(a, b) => {
-            out.push(Fact::Same(*a, *b))?;
-            Ok(())
-        }
+        Outcome::OneArray(a, b) => push_fact(out, Fact::Same(*a, *b)),
     }
 }
 

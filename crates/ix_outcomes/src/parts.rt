@@ -54,9 +54,10 @@ fn push_parts_if(
     ensures { OnOk result (out.new.items ≡ out.old.items ++ kept (if_so test (each (part_of p.now a.now e.now) on_p.now))) }
 {
     if test {
-        push_parts_of(out, p, on_p, a, e)?;
+        push_parts_of(out, p, on_p, a, e)
+    } else {
+        Ok(())
     }
-    Ok(())
 }
 
 /// Of a bound at an offset there is none.

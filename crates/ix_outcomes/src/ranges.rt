@@ -10,6 +10,7 @@ ghost use Rattle.ix_facts.specs.AfterTest.{at_below, below_by, at_above, above_b
 ghost use Rattle.ix_outcomes.specs.OverGroups.{range_to, range_from};
 
 use ix_core::{Fact, Path};
+use ix_exact::push_fact;
 use ix_facts::is_same_path;
 use std::alloc::AllocError;
 
@@ -40,8 +41,7 @@ fn least_above(bound: &i64, k: &i32, d: &i32) -> i64
 fn push_rng(out: &mut Vec<Fact>, p: &Path, low: i64, high: i64) -> Result<(), AllocError>
     ensures { OnOk result (out.new.items ≡ out.old.items ++ kept (Rng p.now low high ∷ [])) }
 {
-    out.push(Fact::Rng(*p, low, high))?;
-    Ok(())
+    push_fact(out, Fact::Rng(*p, low, high))
 }
 
 fn push_range_to(
@@ -69,9 +69,10 @@ fn push_range_to_if(
     ensures { OnOk result (out.new.items ≡ out.old.items ++ kept (if_so test (range_to limit.now k.now r.now c.now))) }
 {
     if test {
-        push_range_to(out, limit, k, r, c)?;
+        push_range_to(out, limit, k, r, c)
+    } else {
+        Ok(())
     }
-    Ok(())
 }
 
 fn push_range_to_by(
@@ -133,9 +134,10 @@ fn push_range_from_if(
     ensures { OnOk result (out.new.items ≡ out.old.items ++ kept (if_so test (range_from bound.now k.now s.now d.now))) }
 {
     if test {
-        push_range_from(out, bound, k, s, d)?;
+        push_range_from(out, bound, k, s, d)
+    } else {
+        Ok(())
     }
-    Ok(())
 }
 
 fn push_range_from_by(

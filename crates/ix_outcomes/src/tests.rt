@@ -6,8 +6,8 @@ ghost use Rattle.ix_facts.specs.Stores as stores;
 ghost use Rattle.ix_outcomes.specs.OverGroups.{outcomes_of};
 
 use crate::outcome::Outcome;
-use ix_after::{is_array, is_int};
 use ix_core::{Path, Test, Type_};
+use ix_facts::{is_array, is_int};
 use ix_num::Rel;
 use std::alloc::{AllocError, Global};
 

@@ -6,7 +6,7 @@ ghost use Rattle.ix_core.specs.declared.fact.PathOff.TheVariants.{Nothing};
 ghost use Rattle.ix_core.specs.declared.fact.Fact.TheVariants.{Rng, LenRng, Low, Same, Less, Search, Neg, Upper};
 
 use ix_core::{Fact, Path, PathClaim, PathOff};
-use ix_exact::push_if;
+use ix_exact::{push_fact, push_if};
 use ix_facts::is_same_path;
 use std::alloc::AllocError;
 
@@ -15,23 +15,22 @@ pub fn push_claim(out: &mut Vec<Fact>, claim: &PathClaim, p: &Path) -> Result<()
     ensures { OnOk result (out.new.items ≡ out.old.items ++ claim_facts claim.now p.now) }
 {
     match *claim {
-        PathClaim::Range(low, high) => out.push(Fact::Rng(*p, low as i64, high as i64))?,
+        PathClaim::Range(low, high) => push_fact(out, Fact::Rng(*p, low as i64, high as i64)),
         PathClaim::Low(low) => {
-            out.push(Fact::Rng(*p, low as i64, 2147483647))?;
-            push_if(out, -1 <= low && low <= 1, Fact::Low(*p, low))?;
+            push_fact(out, Fact::Rng(*p, low as i64, 2147483647))?;
+            push_if(out, -1 <= low && low <= 1, Fact::Low(*p, low))
         }
-        PathClaim::Length(least) => out.push(Fact::LenRng(*p, least as i64, 2147483647))?,
-        PathClaim::Same(other) => out.push(Fact::Same(*p, other))?,
-        PathClaim::Less(q, c) => push_if(out, !is_same_path(p, &q), Fact::Less(*p, q, c))?,
-        PathClaim::Upper(a, offset, c) => out.push(Fact::Upper(*p, a, offset, c))?,
+        PathClaim::Length(least) => push_fact(out, Fact::LenRng(*p, least as i64, 2147483647)),
+        PathClaim::Same(other) => push_fact(out, Fact::Same(*p, other)),
+        PathClaim::Less(q, c) => push_if(out, !is_same_path(p, &q), Fact::Less(*p, q, c)),
+        PathClaim::Upper(a, offset, c) => push_fact(out, Fact::Upper(*p, a, offset, c)),
         PathClaim::Search(a) => {
-            out.push(Fact::Search(*p, a))?;
-            out.push(Fact::Upper(*p, a, PathOff::Nothing, 0))?;
+            push_fact(out, Fact::Search(*p, a))?;
+            push_fact(out, Fact::Upper(*p, a, PathOff::Nothing, 0))
         }
         PathClaim::Negative(a) => {
-            out.push(Fact::Neg(*p, a))?;
-            out.push(Fact::Rng(*p, -2147483648, -1))?;
+            push_fact(out, Fact::Neg(*p, a))?;
+            push_fact(out, Fact::Rng(*p, -2147483648, -1))
         }
     }
-    Ok(())
 }

@@ -7,7 +7,7 @@ ghost use Rattle.ix_facts.specs.AfterOperation as after;
 ghost use Rattle.ix_core.specs.declared.fact.Fact.TheVariants.{Rng, LenRng, Low, Same, IsLen, Sum, Search, Neg, Upper};
 
 use ix_core::{Base, Fact, Path, PathOff, Type_};
-use ix_exact::{push_if, push_less, push_upper_if};
+use ix_exact::{push_fact, push_if, push_less, push_upper_if};
 use ix_facts::is_same_path;
 use std::alloc::AllocError;
 
@@ -24,8 +24,7 @@ fn push_copies(
 {
     push_if(out, second, new_second)?;
     push_if(out, first, new_first)?;
-    push_if(out, first && second, new_both)?;
-    Ok(())
+    push_if(out, first && second, new_both)
 }
 
 fn push_same(out: &mut Vec<Fact>, t: &Path, s: &Path, a: &Path, b: &Path) -> Result<(), AllocError>
@@ -133,9 +132,8 @@ pub(crate) fn push_copied_array(
 ) -> Result<(), AllocError>
     ensures { OnOk result (out.new.items ≡ out.old.items ++ kept (after.copied_array on_source.now t.now s.now)) }
 {
-    out.push(Fact::Same(*t, *s))?;
-    push_array_copies(out, t, s, on_source)?;
-    Ok(())
+    push_fact(out, Fact::Same(*t, *s))?;
+    push_array_copies(out, t, s, on_source)
 }
 
 /// A sum of y and z with the copy for its parts.
@@ -174,10 +172,11 @@ fn push_sum_copies(
     let z_is = is_same_path(z, s);
     push_parts(out, u, t, y_is, z_is, y, z)?;
     if is_same_path(u, s) {
-        out.push(Fact::Sum(*t, *y, *z))?;
-        push_parts(out, t, t, y_is, z_is, y, z)?;
+        push_fact(out, Fact::Sum(*t, *y, *z))?;
+        push_parts(out, t, t, y_is, z_is, y, z)
+    } else {
+        Ok(())
     }
-    Ok(())
 }
 
 fn push_copy(out: &mut Vec<Fact>, t: &Path, s: &Path, fact: &Fact) -> Result<(), AllocError>
@@ -221,8 +220,7 @@ pub(crate) fn push_copied_int(
 {
     push_less(out, t, s, 1)?;
     push_less(out, s, t, 1)?;
-    push_copies_of(out, t, s, on_source)?;
-    Ok(())
+    push_copies_of(out, t, s, on_source)
 }
 
 /// `t = s`, by the type: nothing of a type that is neither int nor array.

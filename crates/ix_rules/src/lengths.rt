@@ -11,7 +11,7 @@ ghost use Rattle.ix_core.specs.declared.fact.Fact.TheVariants.{Rng, LenRng, Same
 
 use crate::plain::is_from;
 use ix_core::{Fact, Path, PathOff};
-use ix_exact::{push_if, push_less_if, push_upper, push_upper_if};
+use ix_exact::{push_fact, push_if, push_less_if, push_upper, push_upper_if};
 use ix_facts::{Know, is_same_path};
 use std::alloc::AllocError;
 
@@ -20,8 +20,7 @@ fn push_equal(out: &mut Vec<Fact>, test: bool, q: &Path, t: &Path) -> Result<(),
     ensures { OnOk result (out.new.items ≡ out.old.items ++ kept (if_so test (Less q.now t.now (pos 1) ∷ Less t.now q.now (pos 1) ∷ []))) }
 {
     push_less_if(out, test, q, t, 1)?;
-    push_less_if(out, test, t, q, 1)?;
-    Ok(())
+    push_less_if(out, test, t, q, 1)
 }
 
 fn push_length_by(out: &mut Vec<Fact>, t: &Path, a: &Path, fact: &Fact) -> Result<(), AllocError>
@@ -62,10 +61,9 @@ pub(crate) fn push_length<K: Know>(
 {
     let low = know.len_lo(a);
     let high = know.len_hi(a);
-    out.push(Fact::IsLen(*t, *a))?;
-    out.push(Fact::Rng(*t, low, high))?;
-    push_lengths(out, t, a, on_operand)?;
-    Ok(())
+    push_fact(out, Fact::IsLen(*t, *a))?;
+    push_fact(out, Fact::Rng(*t, low, high))?;
+    push_lengths(out, t, a, on_operand)
 }
 
 fn push_new_array_by(out: &mut Vec<Fact>, t: &Path, n: &Path, fact: &Fact) -> Result<(), AllocError>
@@ -111,11 +109,10 @@ pub(crate) fn push_new_array<K: Know>(
 {
     let low = know.lo(n).max(0);
     let high = know.hi(n).min(2147483647);
-    out.push(Fact::IsLen(*n, *t))?;
-    out.push(Fact::Same(*t, *t))?;
-    out.push(Fact::LenRng(*t, low, high))?;
-    push_new_arrays(out, t, n, on_operand)?;
-    Ok(())
+    push_fact(out, Fact::IsLen(*n, *t))?;
+    push_fact(out, Fact::Same(*t, *t))?;
+    push_fact(out, Fact::LenRng(*t, low, high))?;
+    push_new_arrays(out, t, n, on_operand)
 }
 
 fn reaches(number: Option<i64>, n: i64) -> bool
@@ -192,6 +189,5 @@ pub(crate) fn push_flip<K: Know>(
     ensures { OnOk result (out.new.items ≡ out.old.items ++ kept (each_path (after.flip_array (in_orders (K.known know.now)) t.now y.now) arrays.now ++ each (after.flip_by [] t.now y.now) on_operand.now)) }
 {
     push_flip_arrays(out, know, t, y, arrays)?;
-    push_flips(out, t, y, on_operand)?;
-    Ok(())
+    push_flips(out, t, y, on_operand)
 }

@@ -14,9 +14,7 @@ mod new_facts;
 mod operation;
 mod plain;
 mod sums;
-mod types;
 
 pub use claims::push_claim;
 pub use copies::push_copied;
 pub use new_facts::push_new_facts;
-pub use types::{holds_arrays, holds_ints, is_array, is_int};

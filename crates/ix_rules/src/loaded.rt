@@ -5,7 +5,7 @@ ghost use Rattle.ix_facts.specs.Closure.{kept};
 ghost use Rattle.ix_facts.specs.AfterOperation as after;
 
 use ix_core::{Base, Claim, Fact, Path, Type_};
-use ix_exact::push_if;
+use ix_exact::{push_fact, push_if};
 use std::alloc::AllocError;
 
 /// The facts of one claim. Only ranges and low ends can be claimed of the ints in an array.
@@ -13,14 +13,13 @@ fn push_claimed(out: &mut Vec<Fact>, t: &Path, claim: &Claim) -> Result<(), Allo
     ensures { OnOk result (out.new.items ≡ out.old.items ++ kept (after.claimed_by t.now claim.now)) }
 {
     match *claim {
-        Claim::Range(low, high) => out.push(Fact::Rng(*t, low as i64, high as i64))?,
+        Claim::Range(low, high) => push_fact(out, Fact::Rng(*t, low as i64, high as i64)),
         Claim::Low(low) => {
-            out.push(Fact::Rng(*t, low as i64, 2147483647))?;
-            push_if(out, -1 <= low && low <= 1, Fact::Low(*t, low))?;
+            push_fact(out, Fact::Rng(*t, low as i64, 2147483647))?;
+            push_if(out, -1 <= low && low <= 1, Fact::Low(*t, low))
         }
-        _ => {}
+        _ => Ok(()),
     }
-    Ok(())
 }
 
 fn push_all_claimed(out: &mut Vec<Fact>, t: &Path, claims: &[Claim]) -> Result<(), AllocError>

@@ -10,10 +10,9 @@ use crate::copies::push_copied;
 use crate::lengths::{push_length, push_new_array};
 use crate::loaded::push_loaded;
 use crate::operation::{push_num, push_unary};
-use crate::types::{holds_arrays, is_array};
 use ix_core::{Fact, Literal, OpKind, Path, Profile, Type_, UnaryNum};
-use ix_exact::push_if;
-use ix_facts::Know;
+use ix_exact::{push_fact, push_if};
+use ix_facts::{Know, holds_arrays, is_array};
 use ix_index::Indexed;
 use ix_num::Arith;
 use ix_text::List;
@@ -24,15 +23,14 @@ fn push_const(out: &mut Vec<Fact>, t: &Path, value: &Literal) -> Result<(), Allo
     ensures { OnOk result (out.new.items ≡ out.old.items ++ kept (over.const_facts t.now value.now)) }
 {
     match value {
-        Literal::Int(n) => out.push(Fact::Rng(*t, *n as i64, *n as i64))?,
+        Literal::Int(n) => push_fact(out, Fact::Rng(*t, *n as i64, *n as i64)),
         Literal::NullOf(ty) => {
             let array = is_array(ty);
             push_if(out, array, Fact::LenRng(*t, 0, 0))?;
-            push_if(out, array, Fact::Same(*t, *t))?;
+            push_if(out, array, Fact::Same(*t, *t))
         }
-        Literal::Bool(_) => {}
+        Literal::Bool(_) => Ok(()),
     }
-    Ok(())
 }
 
 /// An array of as many entries.
@@ -40,9 +38,8 @@ fn push_fill(out: &mut Vec<Fact>, t: &Path, entries: &List<u32>) -> Result<(), A
     ensures { OnOk result (out.new.items ≡ out.old.items ++ kept (over.fill_facts t.now (length entries.now))) }
 {
     let count = entries.as_slice().len() as i64;
-    out.push(Fact::LenRng(*t, count, count))?;
-    out.push(Fact::Same(*t, *t))?;
-    Ok(())
+    push_fact(out, Fact::LenRng(*t, count, count))?;
+    push_fact(out, Fact::Same(*t, *t))
 }
 
 /// A cell of an array of this type.
@@ -50,8 +47,7 @@ fn push_load(out: &mut Vec<Fact>, t: &Path, ty: &Type_) -> Result<(), AllocError
     ensures { OnOk result (out.new.items ≡ out.old.items ++ kept (over.load_facts t.now ty.now)) }
 {
     push_if(out, holds_arrays(ty), Fact::Same(*t, *t))?;
-    push_loaded(out, t, ty)?;
-    Ok(())
+    push_loaded(out, t, ty)
 }
 
 /// Adds the facts of `t = y op z`.

@@ -30,8 +30,7 @@ fn push_result(
     ensures { OnOk result (out.new.items ≡ out.old.items ++ kept (exact.range_facts t.now i ++ exact.low_facts profile t.now i table)) }
 {
     push_range(out, t, i)?;
-    push_low(out, profile, t, i, table)?;
-    Ok(())
+    push_low(out, profile, t, i, table)
 }
 
 fn push_sum_if<K: Know>(
@@ -48,9 +47,10 @@ fn push_sum_if<K: Know>(
     ensures { OnOk result (out.new.items ≡ out.old.items ++ kept (if_so counts (over.sum_facts (in_orders (K.known know.now)) on_left.now on_right.now arrays.now t.now y.now z.now))) }
 {
     if counts {
-        push_sum(out, know, on_left, on_right, arrays, t, y, z)?;
+        push_sum(out, know, on_left, on_right, arrays, t, y, z)
+    } else {
+        Ok(())
     }
-    Ok(())
 }
 
 fn push_difference_if<K: Know>(
@@ -65,9 +65,10 @@ fn push_difference_if<K: Know>(
     ensures { OnOk result (out.new.items ≡ out.old.items ++ kept (if_so counts (over.difference_facts (in_orders (K.known know.now)) [] [] arrays.now t.now y.now z.now))) }
 {
     if counts {
-        push_difference(out, know, arrays, t, y, z)?;
+        push_difference(out, know, arrays, t, y, z)
+    } else {
+        Ok(())
     }
-    Ok(())
 }
 
 fn push_product_if<K: Know>(
@@ -81,9 +82,10 @@ fn push_product_if<K: Know>(
     ensures { OnOk result (out.new.items ≡ out.old.items ++ kept (if_so counts (after.product_facts (in_orders (K.known know.now)) t.now y.now z.now))) }
 {
     if counts {
-        push_product(out, know, t, y, z)?;
+        push_product(out, know, t, y, z)
+    } else {
+        Ok(())
     }
-    Ok(())
 }
 
 /// `t = y / z`, and the half of a sum.
@@ -98,8 +100,7 @@ fn push_division<K: Know>(
     ensures { OnOk result (out.new.items ≡ out.old.items ++ kept (after.quotient_facts (in_orders (K.known know.now)) t.now y.now z.now ++ over.half_facts (in_orders (K.known know.now)) on_left.now [] [] (pos 2) t.now y.now z.now)) }
 {
     push_quotient(out, know, t, y, z)?;
-    push_half(out, know, on_left, 2, t, y, z)?;
-    Ok(())
+    push_half(out, know, on_left, 2, t, y, z)
 }
 
 /// `t = y >> z` and `t = y >>> z`, and the half of a sum.
@@ -114,8 +115,7 @@ fn push_right_shift<K: Know>(
     ensures { OnOk result (out.new.items ≡ out.old.items ++ kept (after.shift_facts (in_orders (K.known know.now)) t.now y.now ++ over.half_facts (in_orders (K.known know.now)) on_left.now [] [] (pos 1) t.now y.now z.now)) }
 {
     push_shift(out, know, t, y)?;
-    push_half(out, know, on_left, 1, t, y, z)?;
-    Ok(())
+    push_half(out, know, on_left, 1, t, y, z)
 }
 
 /// What an operator gives besides the range and the classes of its result; `counts` says whether bounds may count the exact result.
@@ -176,8 +176,7 @@ pub(crate) fn push_num<K: Know>(
         t,
         y,
         z,
-    )?;
-    Ok(())
+    )
 }
 
 fn push_unary_rule<K: Know>(
@@ -212,6 +211,5 @@ pub(crate) fn push_unary<K: Know>(
 {
     let i = unary_interval(know, unary, y);
     push_result(out, profile, t, i, Low::Unknown)?;
-    push_unary_rule(out, know, on_operand, arrays, unary, t, y)?;
-    Ok(())
+    push_unary_rule(out, know, on_operand, arrays, unary, t, y)
 }

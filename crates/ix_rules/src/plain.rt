@@ -30,8 +30,7 @@ pub(crate) fn push_product<K: Know>(
     ensures { OnOk result (out.new.items ≡ out.old.items ++ kept (after.product_facts (in_orders (K.known know.now)) t.now y.now z.now)) }
 {
     push_less_if(out, is_from(know, y, 0) && is_from(know, z, 1), y, t, 1)?;
-    push_less_if(out, is_from(know, z, 0) && is_from(know, y, 1), z, t, 1)?;
-    Ok(())
+    push_less_if(out, is_from(know, z, 0) && is_from(know, y, 1), z, t, 1)
 }
 
 /// `t = y / z`.
@@ -45,8 +44,7 @@ pub(crate) fn push_quotient<K: Know>(
     ensures { OnOk result (out.new.items ≡ out.old.items ++ kept (after.quotient_facts (in_orders (K.known know.now)) t.now y.now z.now)) }
 {
     push_less_if(out, is_from(know, y, 0) && is_from(know, z, 0), t, y, 1)?;
-    push_less_if(out, is_from(know, y, 1) && is_from(know, z, 2), t, y, 0)?;
-    Ok(())
+    push_less_if(out, is_from(know, y, 1) && is_from(know, z, 2), t, y, 0)
 }
 
 /// `t = y % z`.
@@ -60,8 +58,7 @@ pub(crate) fn push_remainder<K: Know>(
     ensures { OnOk result (out.new.items ≡ out.old.items ++ kept (after.remainder_facts (in_orders (K.known know.now)) t.now y.now z.now)) }
 {
     push_less_if(out, is_from(know, z, 0), t, z, 0)?;
-    push_less_if(out, is_from(know, y, 0), t, y, 1)?;
-    Ok(())
+    push_less_if(out, is_from(know, y, 0), t, y, 1)
 }
 
 /// `t = y & z`.
@@ -75,8 +72,7 @@ pub(crate) fn push_and<K: Know>(
     ensures { OnOk result (out.new.items ≡ out.old.items ++ kept (after.and_facts (in_orders (K.known know.now)) t.now y.now z.now)) }
 {
     push_less_if(out, is_from(know, z, 0), t, z, 1)?;
-    push_less_if(out, is_from(know, y, 0), t, y, 1)?;
-    Ok(())
+    push_less_if(out, is_from(know, y, 0), t, y, 1)
 }
 
 /// `t = y >> z` and `t = y >>> z`.
@@ -114,8 +110,7 @@ fn push_half_between<K: Know>(
         push_less(out, y, t, 1)?;
         push_less(out, t, z, 1)?;
     }
-    push_less_if(out, is_less(know, y, z, 0), t, z, 0)?;
-    Ok(())
+    push_less_if(out, is_less(know, y, z, 0), t, z, 0)
 }
 
 fn push_half_of<K: Know>(
@@ -130,9 +125,10 @@ fn push_half_of<K: Know>(
     ensures { OnOk result (out.new.items ≡ out.old.items ++ kept (if_so (spec.is_path x.now s.now) (after.half_between (in_orders (K.known know.now)) t.now y.now z.now))) }
 {
     if is_same_path(x, s) {
-        push_half_between(out, know, t, y, z)?;
+        push_half_between(out, know, t, y, z)
+    } else {
+        Ok(())
     }
-    Ok(())
 }
 
 fn push_half_by<K: Know>(
@@ -184,7 +180,8 @@ pub(crate) fn push_half<K: Know>(
     ensures { OnOk result (out.new.items ≡ out.old.items ++ kept (if_so (after.is_from (in_orders (K.known know.now)) z.now n && (int_le (spec.upper_limit (in_orders (K.known know.now)) z.now) n && after.is_from (in_orders (K.known know.now)) s.now (pos 0))) (each (after.half_by (in_orders (K.known know.now)) t.now s.now) on_left.now))) }
 {
     if is_half(know, n, s, z) {
-        push_halves(out, know, t, s, on_left)?;
+        push_halves(out, know, t, s, on_left)
+    } else {
+        Ok(())
     }
-    Ok(())
 }

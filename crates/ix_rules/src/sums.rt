@@ -11,7 +11,7 @@ ghost use Rattle.ix_core.specs.declared.fact.PathOff.TheVariants.{Nothing, Plus,
 ghost use Rattle.ix_core.specs.declared.fact.Fact.TheVariants.{Less, Sum};
 
 use ix_core::{Fact, Path, PathOff};
-use ix_exact::{push_less, push_some_less, push_some_upper};
+use ix_exact::{push_fact, push_less, push_some_less, push_some_upper};
 use ix_facts::{Know, is_same_path};
 use std::alloc::AllocError;
 
@@ -86,8 +86,7 @@ fn push_sum_array<K: Know>(
         a,
         &PathOff::Minus(*y),
         know.upper(z, a, &PathOff::Nothing),
-    )?;
-    Ok(())
+    )
 }
 
 fn push_sum_arrays<K: Know>(
@@ -117,8 +116,7 @@ fn push_apart<K: Know>(
     ensures { OnOk result (out.new.items ≡ out.old.items ++ kept (if_some (Less t.now r.now) (spec.fact_less (in_orders (K.known know.now)) z.now q.now) ++ if_some (Less r.now t.now) (spec.fact_less (in_orders (K.known know.now)) q.now z.now))) }
 {
     push_some_less(out, t, r, know.difference(z, q))?;
-    push_some_less(out, r, t, know.difference(q, z))?;
-    Ok(())
+    push_some_less(out, r, t, know.difference(q, z))
 }
 
 fn push_apart_if<K: Know>(
@@ -134,9 +132,10 @@ fn push_apart_if<K: Know>(
     ensures { OnOk result (out.new.items ≡ out.old.items ++ kept (if_so (spec.is_path x.now y.now) (if_some (Less t.now r.now) (spec.fact_less (in_orders (K.known know.now)) z.now q.now) ++ if_some (Less r.now t.now) (spec.fact_less (in_orders (K.known know.now)) q.now z.now)))) }
 {
     if is_same_path(x, y) {
-        push_apart(out, know, t, r, z, q)?;
+        push_apart(out, know, t, r, z, q)
+    } else {
+        Ok(())
     }
-    Ok(())
 }
 
 /// `t = y + z` and stored `r = y + q`: t and r differ as z and q do.
@@ -196,8 +195,7 @@ fn push_difference_array<K: Know>(
         a,
         &PathOff::Nothing,
         know.upper(y, a, &PathOff::Minus(*z)),
-    )?;
-    Ok(())
+    )
 }
 
 fn push_difference_arrays<K: Know>(
@@ -227,8 +225,7 @@ fn push_sum_ends<K: Know>(
     ensures { OnOk result (out.new.items ≡ out.old.items ++ (kept (Less t.now y.now (spec.upper_limit (in_orders (K.known know.now)) z.now +ℤ pos 1) ∷ []) ++ kept (Less y.now t.now (pos 1 -ℤ spec.lower_bound (in_orders (K.known know.now)) z.now) ∷ []))) }
 {
     push_below_limit(out, know, t, y, z)?;
-    push_below_bound(out, know, y, t, z)?;
-    Ok(())
+    push_below_bound(out, know, y, t, z)
 }
 
 /// `t = y + z`.
@@ -244,13 +241,12 @@ pub(crate) fn push_sum<K: Know>(
 ) -> Result<(), AllocError>
     ensures { OnOk result (out.new.items ≡ out.old.items ++ kept (over.sum_facts (in_orders (K.known know.now)) on_left.now on_right.now arrays.now t.now y.now z.now)) }
 {
-    out.push(Fact::Sum(*t, *y, *z))?;
+    push_fact(out, Fact::Sum(*t, *y, *z))?;
     push_sum_ends(out, know, t, y, z)?;
     push_sum_ends(out, know, t, z, y)?;
     push_sum_arrays(out, know, t, y, z, arrays)?;
     push_sums_beside(out, know, t, y, z, on_left)?;
-    push_sums_beside(out, know, t, z, y, on_right)?;
-    Ok(())
+    push_sums_beside(out, know, t, z, y, on_right)
 }
 
 /// `t = y - z`.
@@ -264,9 +260,8 @@ pub(crate) fn push_difference<K: Know>(
 ) -> Result<(), AllocError>
     ensures { OnOk result (out.new.items ≡ out.old.items ++ kept (over.difference_facts (in_orders (K.known know.now)) [] [] arrays.now t.now y.now z.now)) }
 {
-    out.push(Fact::Sum(*y, *t, *z))?;
+    push_fact(out, Fact::Sum(*y, *t, *z))?;
     push_below_bound(out, know, t, y, z)?;
     push_below_limit(out, know, y, t, z)?;
-    push_difference_arrays(out, know, t, y, z, arrays)?;
-    Ok(())
+    push_difference_arrays(out, know, t, y, z, arrays)
 }

@@ -1,11 +1,7 @@
-pub mod SignSteps
-pub mod SignTruth
-pub mod LeastSteps
-pub mod SignClasses
 mod Alike
 mod Rules
-mod SmallNames
--- Lists that have exactly the errors of a rule: crates above cite these.
-pub mod Refused
-mod WritesRefused
-mod OverridesRefused
+-- Passed on from ix_claim_facts.
+pub use Rattle.ix_claim_facts.proofs.SignClasses
+pub use Rattle.ix_claim_facts.proofs.SignSteps
+pub use Rattle.ix_claim_facts.proofs.SignTruth
+pub use Rattle.ix_claim_facts.proofs.LeastSteps

@@ -12,13 +12,14 @@ use Rattle.ix_facts.specs.Forget.{without, of_slot, of_field, of_this}
 use Rattle.ix_facts.specs.Stores.{Stored, IsAdded, IsCopied, IsForgotten, Then, with_facts, with_copy}
 use Rattle.ix_steps.specs.FieldAccess.{spared_by}
 use Rattle.ix_store.specs.ChangedPaths.{is_spared, is_final, of_called, of_parent}
-use Rattle.ix_sign.specs.Spared.{this_if}
-use Rattle.ix_sign.specs.Names.{is_built}
-use Rattle.ix_sign.specs.Signs.{Adds, Forgets, Copies, IsLeastOf, read_facts, write_facts, of_callee, result_facts, zero_fields, own_fields, fields_facts, inherited_fields, ReadGives, WriteGives, CallGives, SuperGives}
-use Rattle.ix_sign.proofs.SignSteps.{adds_step, forgets_step, copies_step}
+use Rattle.ix_claim_facts.specs.Spared.{this_if}
+use Rattle.ix_claim_facts.specs.Names.{is_built}
+use Rattle.ix_claim_facts.specs.Signs.{Adds, Forgets, Copies, IsLeastOf, read_facts, write_facts, of_callee, result_facts, zero_fields, own_fields, fields_facts, inherited_fields, ReadGives, WriteGives, CallGives, SuperGives}
+use Rattle.ix_claim_facts.proofs.SignSteps.{adds_step, forgets_step, copies_step}
 use Rattle.ix_facts.proofs.StepLaws.{then_step}
-use Rattle.ix_sign.proofs.LeastSteps.{least_given, least_then}
-use Rattle.ix_sign.proofs.Alike.{forgotten_alike, field_alike, call_alike}
+use Rattle.ix_claim_facts.proofs.LeastSteps.{least_given, least_then}
+use Rattle.ix_claim_facts.proofs.ForgottenAlike.{forgotten_alike}
+use Rattle.ix_sign.proofs.Alike.{field_alike, call_alike}
 
 module _ (program : Program) (method : Method) where
   pub read_least : (target object field : ℕ) (s between t : Stored) → IsAdded (if_so (is_built method object) (read_facts program object field)) s between

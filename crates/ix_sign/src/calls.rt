@@ -3,46 +3,14 @@
 ghost use Rattle.std.specs.Prelude.{◌≡◌, ◌++◌, IfOk};
 ghost use Rattle.ix_core.specs.Tables.{method_at};
 ghost use Rattle.ix_store.specs.StoredFacts.{stored};
-ghost use Rattle.ix_sign.specs.Naming.{HaveSmallNames};
-ghost use Rattle.ix_sign.specs.Signs as signs;
-ghost use Rattle.ix_sign.specs.Signs.{IsLeastOf, CallGives, SuperGives, zero_fields, fields_facts, own_fields};
+ghost use Rattle.ix_claim_facts.specs.Naming.{HaveSmallNames};
+ghost use Rattle.ix_claim_facts.specs.Signs as signs;
+ghost use Rattle.ix_claim_facts.specs.Signs.{IsLeastOf, CallGives, SuperGives, zero_fields, fields_facts, own_fields};
 
-use crate::facts::{push_claims, push_fields, push_received, push_zero_fields};
-use crate::fields::this_if;
-use crate::naming::Naming;
-use ix_classes::{fields_of, instance_fields, parent_of};
-use ix_core::{CallOp, Fact, Method, Path, Program};
+use ix_claim_facts::{facts_of_this, is_effect_free, result_facts, this_if};
+use ix_core::{CallOp, Method, Program};
 use ix_store::Store;
 use std::alloc::{AllocError, Global};
-
-/// Whether the method is side-effect-free; a method that the program doesn't have isn't.
-pub(crate) fn is_effect_free(program: &Program, method: u32) -> bool
-    ensures { result ≡ (method_at program.now method).effect_free }
-{
-    match program.methods.as_slice().get(method as usize) {
-        Some(found) => found.effect_free,
-        None => false,
-    }
-}
-
-/// What is known of a call's result.
-fn result_facts(alloc: Global, program: &Program, call: &CallOp) -> Result<Vec<Fact>, AllocError>
-    requires small { HaveSmallNames program.now }
-    ensures { IfOk result (λ facts. facts.items ≡ signs.result_facts program.now call.now) }
-{
-    let mut facts = Vec::new(alloc);
-    if let Some(callee) = program.methods.as_slice().get(call.method as usize) {
-        let at = Path::Slot(call.target);
-        push_received(&mut facts, &callee.result, &at)?;
-        push_claims(
-            &mut facts,
-            &Naming::AtCall(call),
-            &at,
-            callee.result_claims.as_slice(),
-        )?;
-    }
-    Ok(facts)
-}
 
 /// The store behind a call, `new` included: without what it may change, and with what the claims of the named method's result say (JLS 15.9.4, 15.12.4). The
 /// only error is want of memory.
@@ -62,32 +30,6 @@ pub fn after_call(
     let facts = result_facts(alloc, program, call)?;
     let after = rest.add(alloc, &facts)?;
     Ok(after)
-}
-
-/// The fields of a method's parent class, inherited ones included. The only error is want of memory.
-fn inherited_fields(
-    alloc: Global,
-    program: &Program,
-    within: &Method,
-) -> Result<Vec<u32>, AllocError>
-    ensures { IfOk result (λ fields. fields.items ≡ signs.inherited_fields program.now within.now) }
-{
-    match parent_of(program, within.class) {
-        Some(parent) => instance_fields(alloc, program, parent),
-        None => Ok(Vec::new(alloc)),
-    }
-}
-
-/// What is known of `this` behind a call of the parent's constructor.
-fn facts_of_this(alloc: Global, program: &Program, within: &Method) -> Result<Vec<Fact>, AllocError>
-    requires small { HaveSmallNames program.now }
-    ensures { IfOk result (λ facts. facts.items ≡ zero_fields program.now (own_fields program.now within.now) ++ fields_facts program.now (signs.inherited_fields program.now within.now)) }
-{
-    let inherited = inherited_fields(alloc, program, within)?;
-    let mut facts = Vec::new(alloc);
-    push_zero_fields(&mut facts, program, fields_of(program, within.class))?;
-    push_fields(&mut facts, program, &inherited)?;
-    Ok(facts)
 }
 
 /// The store behind `super(..)`: as behind a call, but nothing stays known of `this`; its own fields are 0 or null, and the claims of inherited ones hold (JLS

@@ -3,27 +3,13 @@
 ghost use Rattle.std.specs.Prelude.{◌≡◌, IfOk};
 ghost use Rattle.ix_facts.specs.Stores.{IsStoreOf};
 ghost use Rattle.ix_store.specs.StoredFacts.{stored};
-ghost use Rattle.ix_sign.specs.Naming.{HasSmallNames};
-ghost use Rattle.ix_sign.specs.Signs as signs;
+ghost use Rattle.ix_claim_facts.specs.Naming.{HasSmallNames};
+ghost use Rattle.ix_claim_facts.specs.Signs as signs;
 
-use crate::facts::{push_params, push_received_params, push_zero_fields};
-use ix_classes::{fields_of, parent_of};
-use ix_core::{Fact, Method, Program};
+use ix_claim_facts::entry_facts;
+use ix_core::{Method, Program};
 use ix_store::Store;
 use std::alloc::{AllocError, Global};
-
-fn entry_facts(alloc: Global, program: &Program, method: &Method) -> Result<Vec<Fact>, AllocError>
-    requires small { HasSmallNames method.now }
-    ensures { IfOk result (λ facts. facts.items ≡ signs.entry_facts program.now method.now) }
-{
-    let mut facts = Vec::new(alloc);
-    push_received_params(&mut facts, method)?;
-    push_params(&mut facts, method)?;
-    if method.constructor && parent_of(program, method.class).is_none() {
-        push_zero_fields(&mut facts, program, fields_of(program, method.class))?;
-    }
-    Ok(facts)
-}
 
 /// The store at the entry of a method: the closed store of what the claims of its parameters say; in a constructor without parent the fields are 0 or null
 /// (JLS 12.5). The only error is want of memory.
@@ -32,6 +18,5 @@ pub fn enter(alloc: Global, program: &Program, method: &Method) -> Result<Store,
     ensures entry { IfOk result (λ store. IsStoreOf (signs.entry_facts program.now method.now) (stored store)) }
 {
     let facts = entry_facts(alloc, program, method)?;
-    let store = Store::of_facts(alloc, &facts)?;
-    Ok(store)
+    Store::of_facts(alloc, &facts)
 }

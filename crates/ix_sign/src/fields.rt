@@ -5,87 +5,15 @@ ghost use Rattle.ix_core.specs.Tables.{field_at};
 ghost use Rattle.ix_facts.specs.Exact.{if_so};
 ghost use Rattle.ix_facts.specs.Stores.{IsCopied};
 ghost use Rattle.ix_store.specs.StoredFacts.{stored};
-ghost use Rattle.ix_sign.specs.Names as names;
-ghost use Rattle.ix_sign.specs.Naming.{HaveSmallNames};
-ghost use Rattle.ix_sign.specs.Signs.{IsLeastOf, ReadGives, WriteGives, read_facts, write_facts};
-ghost use Rattle.ix_sign.specs.Spared as spared;
+ghost use Rattle.ix_claim_facts.specs.Names as names;
+ghost use Rattle.ix_claim_facts.specs.Naming.{HaveSmallNames};
+ghost use Rattle.ix_claim_facts.specs.Signs.{IsLeastOf, ReadGives, WriteGives, read_facts, write_facts};
+ghost use Rattle.ix_claim_facts.specs.Spared as spared;
 
-use crate::dependent::push_dependents;
-use crate::facts::{claims_of, push_claims};
-use crate::naming::Naming;
-use ix_core::{Fact, Method, Path, Program, Type_};
+use ix_claim_facts::{facts_at_read, facts_at_write, spared_at_write};
+use ix_core::{Method, Path, Program, Type_};
 use ix_store::Store;
 use std::alloc::{AllocError, Global};
-
-/// Whether the object in the slot is built: it isn't `this` of a constructor.
-pub(crate) fn is_built(within: &Method, object: u32) -> bool
-    ensures { result ≡ names.is_built within.now object }
-{
-    !(within.constructor && object == 0)
-}
-
-/// The slot that is spared: that of `this`, or none.
-pub(crate) fn this_if(test: bool) -> Option<u32>
-    ensures { result ≡ spared.this_if test }
-{
-    if test { Some(0) } else { None }
-}
-
-/// The slot that a write through the object's slot spares.
-fn spared_at_write(within: &Method, object: u32) -> Option<u32>
-    ensures { result ≡ spared.this_if (within.now.constructor && not (object == 0)) }
-{
-    this_if(within.constructor && object != 0)
-}
-
-/// What is known of a built object before its field is read.
-fn facts_at_read(
-    alloc: Global,
-    program: &Program,
-    within: &Method,
-    object: u32,
-    field: u32,
-) -> Result<Vec<Fact>, AllocError>
-    requires small { HaveSmallNames program.now }
-    ensures { IfOk result (λ facts. facts.items ≡ if_so (names.is_built within.now object) (read_facts program.now object field)) }
-{
-    let mut facts = Vec::new(alloc);
-    if is_built(within, object) {
-        let at = Path::FieldOf(object, field);
-        push_claims(
-            &mut facts,
-            &Naming::OfObject(object),
-            &at,
-            claims_of(program, field),
-        )?;
-    }
-    Ok(facts)
-}
-
-/// What is known of a built object before its field is written.
-pub(crate) fn facts_at_write(
-    alloc: Global,
-    program: &Program,
-    within: &Method,
-    object: u32,
-    field: u32,
-) -> Result<Vec<Fact>, AllocError>
-    requires small { HaveSmallNames program.now }
-    ensures { IfOk result (λ facts. facts.items ≡ if_so (names.is_built within.now object) (write_facts program.now object field)) }
-{
-    let mut facts = Vec::new(alloc);
-    if is_built(within, object) {
-        let at = Path::FieldOf(object, field);
-        push_claims(
-            &mut facts,
-            &Naming::OfObject(object),
-            &at,
-            claims_of(program, field),
-        )?;
-        push_dependents(&mut facts, program, object, field)?;
-    }
-    Ok(facts)
-}
 
 /// The store behind a copy to or from a field, by the field's type.
 fn copied(

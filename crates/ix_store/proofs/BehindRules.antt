@@ -16,8 +16,8 @@ use Rattle.ix_facts.specs.Stores.{Stored, Reached, IsStoreOf, IsGiven, operated,
 use Rattle.ix_facts.specs.Systems.{HaveClasses}
 use Rattle.ix_facts.proofs.ClassesStay.{after_classes, copy_classes}
 use Rattle.ix_facts.proofs.Frame.{in_without}
-use Rattle.ix_outcomes.specs.SameFacts.{AreSame}
-use Rattle.ix_outcomes.proofs.Members.{same_itself, same_equal, same_trans, same_app}
+use Rattle.ix_facts.specs.SameFacts.{AreSame}
+use Rattle.ix_facts.proofs.Members.{same_itself, same_equal, same_trans, same_app}
 use Rattle.ix_store.proofs.SameStores.{same_store, same_classes}
 use Rattle.ix_store.proofs.ClassesAfter.{told_classes}
 

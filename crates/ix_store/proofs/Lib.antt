@@ -1,4 +1,3 @@
-mod Together
 pub mod StoresOf
 mod SmallNumbers
 pub mod SameStores
@@ -9,7 +8,5 @@ mod FullCommon
 mod JoinedStores
 mod NoFacts
 mod ClosedTests
-mod OwnFacts
 mod KnownStores
-mod WeakerCommon
-mod PartsWithout
+mod BesideTables

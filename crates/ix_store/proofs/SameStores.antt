@@ -7,7 +7,7 @@ use Rattle.ix_facts.specs.Systems.{HaveClasses}
 use Rattle.ix_facts.proofs.FactLists.{covers_itself}
 use Rattle.ix_facts.proofs.SaidLaws.{listed_says}
 use Rattle.ix_facts.proofs.StoreLaws.{follows_says, contradicts_more}
-use Rattle.ix_outcomes.specs.SameFacts.{HasAll, AreSame}
+use Rattle.ix_facts.specs.SameFacts.{HasAll, AreSame}
 
 all_said : (some more : List Fact) → HasAll some more → SaysAll more some
 all_said some more h = listed_says more some (record { met = λ f i. (f, h f i, covers_itself f) })

@@ -17,9 +17,9 @@ use Rattle.ix_closure.specs.FactTable.{FactTable}
 use Rattle.ix_closure.specs.FactTables.{facts_of, table_kind}
 use Rattle.ix_closure.specs.TableLaws.{all_own, all_may}
 use Rattle.ix_closure.proofs.Searches.{in_place}
-use Rattle.ix_store.specs.declared.tables.Tables.{Tables}
-use Rattle.ix_store.specs.AllTables.{all_facts, AreOfKinds}
-use Rattle.ix_store.specs.EmptyRanges.{is_empty, some_empty}
+use Rattle.ix_six_tables.specs.declared.tables.Tables.{Tables}
+use Rattle.ix_six_tables.specs.AllTables.{all_facts, AreOfKinds}
+use Rattle.ix_six_tables.specs.EmptyRanges.{is_empty, some_empty}
 use Rattle.ix_store.proofs.StoresOf.{IsNoRange}
 use Rattle.ix_store.specs.StoreLaws.{each_full}
 

@@ -14,7 +14,7 @@ use Rattle.ix_facts.specs.Stores.{IsStoreOf, unreachable, reached, Unreachable, 
 use Rattle.ix_facts.proofs.FactLists.{in_left, in_either, from_in_orders}
 use Rattle.ix_closure.specs.Saturated.{IsSaturated}
 use Rattle.ix_closure.proofs.RangesMet.{merges_follow}
-use Rattle.ix_store.specs.EmptyRanges.{is_empty, some_empty, HasEmpty}
+use Rattle.ix_six_tables.specs.EmptyRanges.{is_empty, some_empty, HasEmpty}
 use Rattle.ix_store.specs.StoreLaws.{each_full}
 
 pub table_closed : (facts more table : List Fact) → IsSaturated facts more → IsTable more table → IsClosedOf facts table

@@ -24,14 +24,14 @@ use Rattle.ix_closure.specs.Entries.{has_ends}
 use Rattle.ix_closure.specs.MeetLaws.{entry_parts, two_ends}
 use Rattle.ix_closure.specs.RisingLaws.{table_each}
 use Rattle.ix_closure.specs.TableLaws.{table_laws, all_own, above_left, above_right}
-use Rattle.ix_store.specs.declared.tables.Tables.{Tables}
+use Rattle.ix_six_tables.specs.declared.tables.Tables.{Tables}
 use Rattle.ix_store.specs.declared.known.Known.{Known}
 use Rattle.ix_store.specs.declared.store.Store.{Store}
-use Rattle.ix_store.specs.AllTables.{all_facts, AreOfKinds}
-use Rattle.ix_store.specs.EmptyRanges.{is_empty, some_empty}
+use Rattle.ix_six_tables.specs.AllTables.{all_facts, AreOfKinds}
+use Rattle.ix_six_tables.specs.EmptyRanges.{is_empty, some_empty}
 use Rattle.ix_store.specs.StoredFacts.{facts_in, stored_in, stored}
 use Rattle.ix_store.specs.StoreOrder.{StoreBelow, tables_rank, top_rank, known_rank, store_rank}
-use Rattle.ix_store.specs.SixCommon.{six_say, say_ranges, say_lows, say_lengths, say_differences, say_searches, say_uppers}
+use Rattle.ix_six_tables.specs.SixCommon.{six_say, say_ranges, say_lows, say_lengths, say_differences, say_searches, say_uppers}
 
 -- ---- how large the rank of tables can be
 

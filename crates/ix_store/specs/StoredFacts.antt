@@ -4,7 +4,7 @@ use Rattle.ix_core.specs.declared.fact.Fact.{Fact}
 use Rattle.ix_facts.specs.Stores.{Stored, Unreachable, Reached}
 use Rattle.ix_store.specs.declared.known.Known.{Known}
 use Rattle.ix_store.specs.declared.store.Store.{Store}
-use Rattle.ix_store.specs.AllTables.{all_facts}
+use Rattle.ix_six_tables.specs.AllTables.{all_facts}
 
 abbrev pub facts_in : Known → List Fact
 facts_in known = all_facts known.tables

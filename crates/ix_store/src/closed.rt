@@ -10,16 +10,15 @@ ghost use Rattle.ix_facts.specs.Closure.{Closed, SaysAll, IsClosedOf, IsCommon};
 ghost use Rattle.ix_closure.specs.Beside.{are_plain};
 ghost use Rattle.ix_closure.specs.Saturated.{IsSaturated};
 ghost use Rattle.ix_closure.specs.FactTables.{facts_of};
-ghost use Rattle.ix_store.specs.AllTables as spec;
-ghost use Rattle.ix_store.specs.AllTables.{AreOfKinds};
+ghost use Rattle.ix_six_tables.specs.AllTables as spec;
+ghost use Rattle.ix_six_tables.specs.AllTables.{AreOfKinds};
 ghost use Rattle.ix_store.specs.StoredFacts.{facts_in, stored_in};
 
-use crate::joins;
 use crate::known::Known;
-use crate::making::{all_facts, has_empty, ranges_with, tables_with};
-use crate::tables::Tables;
-use ix_closure::{FactList, more_beside, more_that_follows};
+use ix_closure::{more_beside, more_that_follows};
 use ix_core::Fact;
+use ix_fact_list::FactList;
+use ix_six_tables::{self, Tables, all_facts, has_empty, ranges_with, tables_with};
 use std::alloc::{AllocError, Global};
 
 /// The facts of the tables, and new ones behind them.
@@ -130,7 +129,7 @@ impl Known {
     pub(crate) fn common(&self, alloc: Global, other: &Known) -> Result<Known, AllocError>
         ensures common { IfOk result (λ known. IsCommon (facts_in self.now) (facts_in other.now) (facts_in known)) }
     {
-        let tables = joins::common(alloc, &self.tables, &other.tables)?;
+        let tables = ix_six_tables::common(alloc, &self.tables, &other.tables)?;
         let all = all_facts(alloc, &tables)?;
         let _count = all.len();
         let list = FactList::new(alloc, all)?;
@@ -141,6 +140,6 @@ impl Known {
     pub(crate) fn says_all(&self, other: &Known) -> bool
         ensures below { IsTrue result ↔ SaysAll (facts_in self.now) (facts_in other.now) }
     {
-        joins::says_all(&self.tables, &other.tables)
+        ix_six_tables::says_all(&self.tables, &other.tables)
     }
 }

@@ -9,18 +9,18 @@ ghost use Rattle.ix_facts.specs.Forget.{of_path, without};
 ghost use Rattle.ix_facts.specs.Round.{rounded};
 ghost use Rattle.ix_facts.specs.Stores.{operated, with_copy, with_outcome};
 ghost use Rattle.ix_facts.specs.Systems.{HaveClasses};
-ghost use Rattle.ix_outcomes.specs.SameFacts.{AreSame};
+ghost use Rattle.ix_facts.specs.SameFacts.{AreSame};
 ghost use Rattle.ix_store.specs.StoredFacts.{facts_in};
 ghost use Rattle.ix_outcomes.specs.OverGroups.{outcome_of};
 
-use crate::changed::{Changed, unchanged};
 use crate::known::Known;
+use ix_after::{facts_after, facts_of_copy, push_claim};
 use ix_claims::is_proved;
-use ix_closure::FactList;
 use ix_core::{Fact, OpKind, Path, PathClaim, Profile, Type_};
-use ix_exact::{push_less, push_upper};
-use ix_facts::rounded_facts;
-use ix_outcomes::{Outcome, facts_after, facts_of_copy, facts_of_outcome, push_claim};
+use ix_exact::{push_fact, push_less, push_upper};
+use ix_fact_list::FactList;
+use ix_outcomes::{Outcome, facts_of_outcome};
+use ix_six_tables::{Changed, rounded_facts, unchanged};
 use std::alloc::{AllocError, Global};
 
 fn push_kept(out: &mut Vec<Fact>, fact: &Fact) -> Result<(), AllocError>
@@ -29,10 +29,7 @@ fn push_kept(out: &mut Vec<Fact>, fact: &Fact) -> Result<(), AllocError>
     match fact {
         Fact::Less(p, q, c) => push_less(out, p, q, *c as i64),
         Fact::Upper(p, a, offset, c) => push_upper(out, p, a, offset, *c as i64),
-        _ => {
-            out.push(*fact)?;
-            Ok(())
-        }
+        _ => push_fact(out, *fact),
     }
 }
 
@@ -127,6 +124,5 @@ pub(crate) fn assumed(alloc: Global, claim: &PathClaim, at: &Path) -> Result<Vec
 {
     let mut told = Vec::new(alloc);
     push_claim(&mut told, claim, at)?;
-    let new = kept_facts(alloc, &told)?;
-    Ok(new)
+    kept_facts(alloc, &told)
 }

@@ -10,8 +10,8 @@ impl Know for Store {
     ghost use Rattle.std.specs.Prelude.{[]};
     ghost use Rattle.ix_facts.specs.Facts.{in_orders};
     ghost use Rattle.ix_facts.specs.Exact.{named_ints, named_arrays};
-    ghost use Rattle.ix_closure.specs.ByPath.{put_all};
-    ghost use Rattle.ix_closure.specs.PutLaws.{put_once};
+    ghost use Rattle.ix_fact_list.specs.ByPath.{put_all};
+    ghost use Rattle.ix_fact_list.specs.PutLaws.{put_once};
     ghost use Rattle.ix_store.specs.SeenFacts.{facts_seen};
 
     ghost known = { facts_seen };

@@ -3,11 +3,11 @@
 ghost use Rattle.std.specs.Prelude.{◌≡◌, ◌<◌, ◌^◌, false, length};
 ghost use Rattle.ix_store.specs.ClosedFacts.{AreClosed};
 ghost use Rattle.ix_closure.specs.FactTables.{facts_of};
-ghost use Rattle.ix_store.specs.AllTables.{all_facts, AreOfKinds};
-ghost use Rattle.ix_store.specs.EmptyRanges.{some_empty};
+ghost use Rattle.ix_six_tables.specs.AllTables.{all_facts, AreOfKinds};
+ghost use Rattle.ix_six_tables.specs.EmptyRanges.{some_empty};
 
-use crate::tables::Tables;
-use ix_closure::FactList;
+use ix_fact_list::FactList;
+use ix_six_tables::Tables;
 
 /// Closed facts of which no range is empty: in tables, and by the paths that they name.
 #[derive(Drop)]

@@ -5,22 +5,20 @@ ghost use Rattle.ix_facts.specs.Closure.{Closed};
 ghost use Rattle.ix_facts.specs.Stores.{Unreachable, Reached, IsStoreOf, IsAfter, IsCopied, IsTold, IsAssumed, IsAdded, IsForgotten, IsRounded, IsProved};
 ghost use Rattle.ix_facts.specs.Systems.{HaveClasses};
 ghost use Rattle.ix_facts.specs.Forget.{of_path, of_field, of_call, without};
-ghost use Rattle.ix_store.specs.AllTables.{all_facts, AreOfKinds};
-ghost use Rattle.ix_store.specs.ChangedPaths.{is_spared, is_final, of_called, of_parent, is_changed};
+ghost use Rattle.ix_six_tables.specs.AllTables.{all_facts, AreOfKinds};
+ghost use Rattle.ix_six_tables.specs.ChangedPaths.{is_spared, is_final, of_called, of_parent, is_changed};
 ghost use Rattle.ix_store.specs.StoredFacts.{facts_in, stored};
 ghost use Rattle.ix_store.specs.StoreOrder.{nowhere};
 ghost use Rattle.ix_outcomes.specs.OverGroups.{outcome_of};
 
-use crate::changed::{Changed, some_name_changed};
 use crate::facts_after::{assumed, kept_facts};
 use crate::known::Known;
-use crate::making::{no_tables, tables_beside};
 use crate::store::Store;
-use crate::tables::Tables;
 use ix_closure::are_plain;
 use ix_core::{Fact, OpKind, Path, PathClaim, Profile, Program, Type_};
 use ix_facts::Landmarks;
 use ix_outcomes::Outcome;
+use ix_six_tables::{Changed, Tables, no_tables, some_name_changed, tables_beside};
 use ix_text::Joint;
 use std::alloc::{AllocError, Global};
 
@@ -80,8 +78,7 @@ fn behind(
         return Ok(Store { known: Some(known) });
     }
     let tables = tables_beside(alloc, &known.get().tables, changed)?;
-    let store = closed_beside(alloc, &tables, new)?;
-    Ok(store)
+    closed_beside(alloc, &tables, new)
 }
 
 impl Store {
@@ -108,8 +105,7 @@ impl Store {
         let mut new = Vec::new(alloc);
         new.extend_from_slice(facts)?;
         let tables = no_tables(alloc)?;
-        let store = closed(alloc, &tables, new)?;
-        Ok(store)
+        closed(alloc, &tables, new)
     }
 
     /// The store behind an operation that is no call and touches no field. The only error is want of memory.
@@ -231,8 +227,7 @@ impl Store {
         let Some(known) = &self.known else {
             return Ok(Store::unreachable());
         };
-        let store = behind(alloc, known, changed, Vec::new(alloc))?;
-        Ok(store)
+        behind(alloc, known, changed, Vec::new(alloc))
     }
 
     /// The store of a loop's label: without the facts that name a slot from `scope` on, the constants of the others moved to landmarks. The only error is want of memory.
@@ -243,8 +238,7 @@ impl Store {
             return Ok(Store::unreachable());
         };
         let facts = known.get().rounded(alloc, marks.ints.as_slice(), scope)?;
-        let store = Store::of_facts(alloc, &facts)?;
-        Ok(store)
+        Store::of_facts(alloc, &facts)
     }
 
     /// The store with more facts. What an int is at least must be -1, 0 or 1 in each of them. The only error is want of memory.

@@ -16,7 +16,7 @@ use Rattle.ix_facts.specs.Small.{HasSmallNumbers}
 use Rattle.ix_facts.specs.Systems.{HasClass, HaveClasses}
 use Rattle.ix_facts.proofs.FactLists.{in_right}
 use Rattle.ix_facts.proofs.ClassesStay.{after_classes, copy_classes}
-use Rattle.ix_after.specs.SameFacts.{AreSame}
+use Rattle.ix_facts.specs.SameFacts.{AreSame}
 
 small_class : (f : Fact) → HasSmallNumbers f → HasClass f
 small_class (Low p c) h = h

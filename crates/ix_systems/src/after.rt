@@ -7,7 +7,7 @@ ghost use Rattle.ix_facts.specs.Forget.{of_path, without};
 ghost use Rattle.ix_facts.specs.AfterOperation.{copied};
 ghost use Rattle.ix_facts.specs.After.{of_target, beside_target, kept_new, finished, finished_by};
 ghost use Rattle.ix_facts.specs.Systems.{HaveClasses};
-ghost use Rattle.ix_after.specs.SameFacts.{AreSame};
+ghost use Rattle.ix_facts.specs.SameFacts.{AreSame};
 
 use crate::known::all_known;
 use ix_after::{facts_after, facts_of_copy};

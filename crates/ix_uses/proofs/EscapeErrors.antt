@@ -6,10 +6,10 @@ use Rattle.ix_core.specs.declared.error.Error.{Error}
 use Rattle.ix_core.specs.declared.op.Op.{Op}
 use Rattle.ix_core.specs.declared.op.Test.{Test}
 use Rattle.ix_core.specs.declared.program.Method.{Method}
-use Rattle.ix_method.specs.Ranked.{Ranked}
-use Rattle.ix_method.specs.Exactly.{AreExactly}
+use Rattle.ix_sign_errors.specs.declared.ranked.Ranked.{Ranked}
+use Rattle.ix_sign_errors.specs.Exactly.{AreExactly}
 use Rattle.ix_method.specs.SignErrors.{plain}
-use Rattle.ix_method.proofs.Refused.{exactly_none, exactly_both, exactly_same}
+use Rattle.ix_sign_errors.proofs.Refused.{exactly_none, exactly_both, exactly_same}
 use Rattle.ix_method.specs.RuleErrors.{EscapesAt, OpEscapes, TestEscapes, escapes_by, escapes_in}
 use Rattle.ix_uses.specs.Escapes.{errors_at}
 

@@ -11,10 +11,10 @@ use Rattle.ix_core.specs.declared.op.OpKind.TheVariants as op
 use Rattle.ix_core.specs.declared.program.Method.{Method}
 use Rattle.ix_core.specs.Objects.{claim_names, Names}
 use Rattle.ix_core.specs.Tables.{param_slot}
-use Rattle.ix_method.specs.Ranked.{Ranked}
-use Rattle.ix_method.specs.Exactly.{AreExactly}
+use Rattle.ix_sign_errors.specs.declared.ranked.Ranked.{Ranked}
+use Rattle.ix_sign_errors.specs.Exactly.{AreExactly}
 use Rattle.ix_method.specs.SignErrors.{plain, part}
-use Rattle.ix_method.proofs.Refused.{exactly_none}
+use Rattle.ix_sign_errors.proofs.Refused.{exactly_none}
 use Rattle.ix_method.specs.RuleErrors.{AssignsNamed}
 use Rattle.ix_uses.specs.Parameters.{is_param, some_param, names_param, some_names_param, param_of, is_named_by, is_named}
 

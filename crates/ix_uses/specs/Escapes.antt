@@ -1,7 +1,7 @@
 -- The errors of places where `this` of a constructor is used.
 use Rattle.std.specs.Prelude.{Bool, if◌then◌else◌, List, [], ◌∷◌}
 use Rattle.ix_text.specs.declared.span.Span.{Span}
-use Rattle.ix_method.specs.Ranked.{Ranked}
+use Rattle.ix_sign_errors.specs.declared.ranked.Ranked.{Ranked}
 use Rattle.ix_method.specs.SignErrors.{plain}
 
 abbrev pub place_if : Bool → Span → List Span

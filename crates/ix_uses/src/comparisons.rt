@@ -1,13 +1,13 @@
 //! What a comparison does with `this` before its object is built.
 
 ghost use Rattle.std.specs.Prelude.{◌≡◌, ◌++◌, OnOk};
-ghost use Rattle.ix_method.specs.Exactly.{AddsExactly};
+ghost use Rattle.ix_sign_errors.specs.Exactly.{AddsExactly};
 ghost use Rattle.ix_method.specs.RuleErrors.{TestEscapes, escapes_in};
 ghost use Rattle.ix_uses.specs.Escapes.{errors_at};
 
 use crate::this::push_if_this;
 use ix_core::{Method, Test};
-use ix_method::signs::Ranked;
+use ix_sign_errors::Ranked;
 use std::alloc::AllocError;
 
 /// The errors of the uses of slot 0 by a test.

@@ -4,7 +4,7 @@ ghost use Rattle.std.specs.Prelude.{◌≡◌, ◌∷◌, [], ◌++◌, OnOk};
 ghost use Rattle.ix_method.specs.SignErrors as signs;
 
 use ix_core::{Detail, Error, Op};
-use ix_method::signs::Ranked;
+use ix_sign_errors::Ranked;
 use ix_text::Span;
 use std::alloc::AllocError;
 

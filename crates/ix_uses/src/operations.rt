@@ -1,14 +1,14 @@
 //! What an operation does with `this` before its object is built.
 
 ghost use Rattle.std.specs.Prelude.{◌≡◌, ◌++◌, OnOk};
-ghost use Rattle.ix_method.specs.Exactly.{AddsExactly};
+ghost use Rattle.ix_sign_errors.specs.Exactly.{AddsExactly};
 ghost use Rattle.ix_method.specs.RuleErrors.{OpEscapes, escapes_by, is_this, this_args};
 ghost use Rattle.ix_uses.specs.Escapes.{errors_at, place_if};
 
 use crate::errors::part;
 use crate::this::{push_if_this, push_this_args, push_this_entries};
 use ix_core::{CallOp, Method, Op, OpKind};
-use ix_method::signs::Ranked;
+use ix_sign_errors::Ranked;
 use ix_text::Span;
 use std::alloc::AllocError;
 

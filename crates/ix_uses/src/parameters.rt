@@ -2,13 +2,13 @@
 
 ghost use Rattle.std.specs.Prelude.{◌≡◌, OnOk};
 ghost use Rattle.ix_core.specs.Objects.{offset_names};
-ghost use Rattle.ix_method.specs.Exactly.{AddsExactly};
+ghost use Rattle.ix_sign_errors.specs.Exactly.{AddsExactly};
 ghost use Rattle.ix_method.specs.RuleErrors.{AssignsNamed};
 ghost use Rattle.ix_uses.specs.Parameters as spec;
 
 use crate::errors::{part, push_plain};
 use ix_core::{Claim, Method, Name, Off, Op, OpKind};
-use ix_method::signs::Ranked;
+use ix_sign_errors::Ranked;
 use std::alloc::AllocError;
 
 fn is_param(number: u32, name: &Name) -> bool

@@ -6,7 +6,7 @@ ghost use Rattle.ix_uses.specs.Escapes.{errors_at, place_if};
 
 use crate::errors::{part, push_plain};
 use ix_core::{Arg, Op};
-use ix_method::signs::Ranked;
+use ix_sign_errors::Ranked;
 use ix_text::Span;
 use std::alloc::AllocError;
 

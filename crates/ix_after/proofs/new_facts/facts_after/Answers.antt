@@ -2,9 +2,9 @@ use Rattle.std.proofs.Common.{◌≡◌, ◌++◌, ap, sym, ◌∙◌, subst}
 use Rattle.ix_facts.specs.Closure.{kept}
 use Rattle.ix_facts.specs.Facts.{in_orders}
 use Rattle.ix_facts.specs.After.{kept_new, finished}
-use Rattle.ix_finish.specs.OverParts as parts
+use Rattle.ix_rules.specs.OverParts as parts
 use Rattle.ix_finish.specs.OverNamed as over
-use Rattle.ix_after.specs.SameFacts.{AreSame}
+use Rattle.ix_facts.specs.SameFacts.{AreSame}
 use Rattle.ix_after.proofs.AfterIs.{after_is}
 use Rattle.ix_after.proofs.new_facts.facts_after.Goals as goal
 

@@ -4,7 +4,7 @@ use Rattle.ix_facts.specs.Facts.{in_orders}
 use Rattle.ix_facts.specs.AfterOperation.{copied}
 use Rattle.ix_facts.specs.After.{finished_by}
 use Rattle.ix_finish.specs.OverNamed as over
-use Rattle.ix_after.specs.SameFacts.{AreSame}
+use Rattle.ix_facts.specs.SameFacts.{AreSame}
 use Rattle.ix_after.proofs.AfterIs.{copy_is}
 use Rattle.ix_after.proofs.new_facts.facts_of_copy.Goals as goal
 

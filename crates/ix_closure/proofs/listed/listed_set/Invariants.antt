@@ -1,5 +1,5 @@
 use Rattle.std.proofs.Common.{◌≡◌, [], drop}
-use Rattle.ix_fact_list.specs.ByPath.{put_all}
+use Rattle.ix_path_index.specs.ByPath.{put_all}
 use Rattle.ix_closure.specs.Listed.{all_listed}
 use Rattle.ix_closure.proofs.listed.listed_set.Given as goal
 

@@ -1,8 +1,8 @@
 use Rattle.std.proofs.Common.{sym, subst}
 use Rattle.std.proofs.lemmas.Result.{on_ok_weaker}
 use Rattle.ix_graph.specs.Built.{kind_of}
-use Rattle.ix_labels.specs.Exactly.{AddsExactly}
-use Rattle.ix_labels.proofs.Refused.{adds_both}
+use Rattle.ix_method_errors.specs.Exactly.{AddsExactly}
+use Rattle.ix_method_errors.proofs.Refused.{adds_both}
 use Rattle.ix_labels.specs.StoredFacts.{stored}
 use Rattle.ix_errors.specs.NodeErrors.{LabelGives}
 use Rattle.ix_errors.proofs.nodes.push_of_label.Goals as goal

@@ -1,5 +1,5 @@
 use Rattle.std.proofs.lemmas.Result.{on_ok_weaker}
-use Rattle.ix_labels.proofs.Refused.{adds_both}
+use Rattle.ix_method_errors.proofs.Refused.{adds_both}
 use Rattle.ix_errors.proofs.nodes.push_of_node.Goals as goal
 
 pub returns : goal.returns

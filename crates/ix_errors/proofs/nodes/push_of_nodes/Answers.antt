@@ -2,7 +2,7 @@ use Rattle.std.proofs.Common.{◌≡◌, ◌<◌, length, arith, subst, sym}
 use Rattle.ix_graph.specs.declared.node.Node.{Node}
 use Rattle.ix_graph.specs.Built.{kind_of}
 use Rattle.ix_labels.specs.StoredFacts.{stored}
-use Rattle.ix_labels.specs.Exactly.{AddsExactly}
+use Rattle.ix_method_errors.specs.Exactly.{AddsExactly}
 use Rattle.ix_errors.specs.NodeErrors.{NodeGives, AtNode}
 use Rattle.ix_errors.proofs.Added.{adds_none, none_yet, next_node}
 use Rattle.ix_errors.proofs.nodes.push_of_nodes.Goals as goal

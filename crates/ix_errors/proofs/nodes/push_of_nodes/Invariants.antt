@@ -1,4 +1,4 @@
-use Rattle.ix_labels.specs.Exactly.{AddsExactly}
+use Rattle.ix_method_errors.specs.Exactly.{AddsExactly}
 use Rattle.ix_errors.specs.NodeErrors.{NodeGives, AtNode}
 use Rattle.ix_errors.proofs.nodes.push_of_nodes.Given as goal
 

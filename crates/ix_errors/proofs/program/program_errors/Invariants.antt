@@ -1,5 +1,5 @@
 use Rattle.std.proofs.Common.{◌≡◌, ◌+◌, ◌≤◌, []}
-use Rattle.ix_labels.specs.Exactly.{AreExactly}
+use Rattle.ix_method_errors.specs.Exactly.{AreExactly}
 use Rattle.ix_errors.specs.MethodErrors.{IsErrorBelow, HaveNone, nodes_below}
 use Rattle.ix_errors.proofs.program.program_errors.Given as goal
 

@@ -1,7 +1,7 @@
 use Rattle.std.proofs.Common.{rules}
 use Rattle.std.proofs.lemmas.Fn.{dedup_same}
 use Rattle.std.proofs.lemmas.List.Sorted.{answers_always}
-use Rattle.ix_sign.specs.declared.ranked.Ranked.{Ranked}
+use Rattle.ix_sign_errors.specs.declared.ranked.Ranked.{Ranked}
 use Rattle.ix_listing.specs.FullKey.{full_key}
 use Rattle.ix_listing.specs.Least.{AreLeast, AreOnce}
 use Rattle.ix_listing.proofs.FullKeys.{full_cmp}

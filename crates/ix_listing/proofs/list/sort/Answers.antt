@@ -1,6 +1,6 @@
 use Rattle.std.proofs.Common.{rules}
 use Rattle.std.proofs.lemmas.List.Sorted.{answers_always}
-use Rattle.ix_sign.specs.declared.ranked.Ranked.{Ranked}
+use Rattle.ix_sign_errors.specs.declared.ranked.Ranked.{Ranked}
 use Rattle.ix_listing.specs.FullKey.{full_key}
 use Rattle.ix_listing.proofs.FullKeys.{full_cmp}
 use Rattle.ix_listing.proofs.InOrder.{least_moved, once_moved, ordered_of}

@@ -1,5 +1,5 @@
 use Rattle.std.proofs.Common.{◌≡◌, map, drop, ◌++◌}
-use Rattle.ix_sign.specs.declared.ranked.Ranked.{Ranked}
+use Rattle.ix_sign_errors.specs.declared.ranked.Ranked.{Ranked}
 use Rattle.ix_listing.proofs.list.without_ranks.Given as goal
 
 abbrev pub invariant-loop-one : goal.invariant-loop-one

@@ -2,7 +2,7 @@ use Rattle.std.proofs.Common.{◌++◌, ap, ◌∙◌}
 use Rattle.ix_facts.specs.Facts.{in_orders}
 use Rattle.ix_facts.specs.AfterTest as rule
 use Rattle.ix_facts.specs.Closure.{kept}
-use Rattle.ix_after.proofs.Members.{same_equal, same_trans}
+use Rattle.ix_facts.proofs.Members.{same_equal, same_trans}
 use Rattle.ix_outcomes.specs.OverGroups as over
 use Rattle.ix_outcomes.proofs.OutcomeIs.{outcome_same}
 use Rattle.ix_outcomes.proofs.facts.facts_of_outcome.Goals as goal

@@ -6,9 +6,10 @@ use Rattle.ix_facts.specs.Systems.{HaveClasses}
 use Rattle.ix_closure.specs.Beside.{AreBeside}
 use Rattle.ix_closure.specs.Saturated.{IsSaturated}
 use Rattle.ix_closure.specs.FactTables.{facts_of}
-use Rattle.ix_store.specs.AllTables.{all_facts}
+use Rattle.ix_six_tables.specs.AllTables.{all_facts}
 use Rattle.ix_store.proofs.ClassesAfter.{app_have}
-use Rattle.ix_store.proofs.OwnFacts.{are_beside, range_app}
+use Rattle.ix_six_tables.proofs.OwnFacts.{range_app}
+use Rattle.ix_store.proofs.BesideTables.{are_beside}
 use Rattle.ix_store.proofs.closed.added_beside.Goals as goal
 
 pub returns-clause-saturated : goal.returns-clause-saturated

@@ -2,7 +2,7 @@ use Rattle.std.proofs.Common.{◌≡◌, sym, subst}
 use Rattle.ix_facts.specs.Closure.{IsCommon}
 use Rattle.ix_store.specs.StoredFacts.{facts_in}
 use Rattle.ix_store.proofs.SmallNumbers.{may}
-use Rattle.ix_store.proofs.WeakerCommon.{first_common, second_common}
+use Rattle.ix_six_tables.proofs.WeakerCommon.{first_common, second_common}
 use Rattle.ix_store.proofs.lattice.common.Goals as goal
 
 pub returns-then-says_all : goal.returns-then-says_all

@@ -5,8 +5,8 @@ use Rattle.ix_facts.specs.Closure.{Closed}
 use Rattle.ix_facts.specs.Forget.{without}
 use Rattle.ix_facts.specs.Stores.{IsStoreOf, Reached}
 use Rattle.ix_facts.proofs.ClosedStays.{without_closed}
-use Rattle.ix_closure.specs.Spared.{some_named, spared}
-use Rattle.ix_store.specs.ChangedPaths.{is_changed}
+use Rattle.ix_six_tables.specs.Spared.{some_named, spared}
+use Rattle.ix_six_tables.specs.ChangedPaths.{is_changed}
 use Rattle.ix_store.specs.StoredFacts.{facts_in}
 use Rattle.ix_store.proofs.ClosedTests.{closed_of_test}
 use Rattle.ix_store.proofs.KnownStores.{known_store}

@@ -2,7 +2,7 @@ use Rattle.std.proofs.Common.{◌∙◌, subst}
 use Rattle.std.specs.Prelude.{◌≡◌, All}
 use Rattle.ix_facts.specs.Small.{HasSmallNumbers}
 use Rattle.ix_facts.specs.Facts.{in_orders}
-use Rattle.ix_after.specs.SameFacts.{AreSame}
+use Rattle.ix_facts.specs.SameFacts.{AreSame}
 use Rattle.ix_systems.proofs.KnownClasses.{copy_new, copy_is}
 use Rattle.ix_systems.proofs.after.new_facts_of_copy.Goals as goal
 

@@ -1,4 +1,4 @@
-use Rattle.ix_method.proofs.Refused.{ok_adds}
+use Rattle.ix_sign_errors.proofs.Refused.{ok_adds}
 use Rattle.ix_method.specs.RuleErrors.{TestEscapes, escapes_in}
 use Rattle.ix_uses.specs.Escapes.{errors_at}
 use Rattle.ix_uses.proofs.EscapeErrors.{test_escapes}

@@ -1,7 +1,7 @@
 use Rattle.std.proofs.Common.{◌≡◌, ◌++◌, ap, sym, ◌∙◌}
 use Rattle.ix_facts.specs.Forget.{without}
 use Rattle.ix_facts.specs.After.{of_target}
-use Rattle.ix_closure.specs.Spared.{spared}
+use Rattle.ix_six_tables.specs.Spared.{spared}
 use Rattle.ix_store.proofs.BehindRules.{after_is, after_have}
 use Rattle.ix_store.proofs.ClassesAfter.{right_have}
 use Rattle.ix_store.specs.StoredFacts.{facts_in}

@@ -1,7 +1,7 @@
 use Rattle.std.proofs.Common.{◌++◌, subst}
 use Rattle.ix_facts.specs.Systems.{IsTable}
 use Rattle.ix_facts.proofs.ClosureLaws.{is_closed}
-use Rattle.ix_store.specs.AllTables.{all_facts}
+use Rattle.ix_six_tables.specs.AllTables.{all_facts}
 use Rattle.ix_store.proofs.StoresOf.{table_closed}
 use Rattle.ix_store.proofs.known.Known.closed.Goals as goal
 

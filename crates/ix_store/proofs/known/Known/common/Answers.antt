@@ -2,8 +2,8 @@ use Rattle.std.proofs.Common.{◌≡◌, false, All, sym, subst}
 use Rattle.ix_facts.specs.Small.{HasSmallNumbers}
 use Rattle.ix_facts.proofs.ClosureLaws.{common_closed}
 use Rattle.ix_closure.specs.FactTables.{facts_of}
-use Rattle.ix_store.specs.AllTables.{all_facts}
-use Rattle.ix_store.specs.EmptyRanges.{some_empty}
+use Rattle.ix_six_tables.specs.AllTables.{all_facts}
+use Rattle.ix_six_tables.specs.EmptyRanges.{some_empty}
 use Rattle.ix_store.proofs.ClosedTests.{closed_by_test, closed_of_test}
 use Rattle.ix_store.proofs.SmallNumbers.{all_small}
 use Rattle.ix_store.proofs.FullCommon.{common_full}

@@ -1,6 +1,6 @@
 use Rattle.std.proofs.Common.{◌≡◌, ◌++◌, ap, sym, ◌∙◌}
 use Rattle.ix_facts.specs.Forget.{of_path, without}
-use Rattle.ix_closure.specs.Spared.{spared}
+use Rattle.ix_six_tables.specs.Spared.{spared}
 use Rattle.ix_store.proofs.BehindRules.{copy_is, copy_have}
 use Rattle.ix_store.proofs.ClassesAfter.{right_have}
 use Rattle.ix_store.specs.StoredFacts.{facts_in}

@@ -1,8 +1,8 @@
 use Rattle.std.proofs.Common.{◌≡◌, true, false, All, sym, subst, ap, ◌∙◌}
 use Rattle.ix_facts.specs.Small.{HasSmallNumbers}
 use Rattle.ix_closure.specs.FactTables.{facts_of}
-use Rattle.ix_store.specs.AllTables.{all_facts}
-use Rattle.ix_store.specs.EmptyRanges.{some_empty}
+use Rattle.ix_six_tables.specs.AllTables.{all_facts}
+use Rattle.ix_six_tables.specs.EmptyRanges.{some_empty}
 use Rattle.ix_store.proofs.ClosedTests.{closed_by_test}
 use Rattle.ix_store.proofs.StoresOf.{closed_unreachable, closed_reached}
 use Rattle.ix_store.proofs.SmallNumbers.{rest_facts, no_ranges, all_small}

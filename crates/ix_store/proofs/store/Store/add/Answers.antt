@@ -2,11 +2,11 @@ use Rattle.std.proofs.Common.{◌≡◌, ◌++◌, sym, subst, ap, ◌∙◌}
 use Rattle.ix_facts.specs.Closure.{kept}
 use Rattle.ix_facts.specs.Stores.{Reached, with_facts}
 use Rattle.ix_facts.specs.Systems.{HaveClasses}
-use Rattle.ix_outcomes.proofs.Members.{same_equal}
+use Rattle.ix_facts.proofs.Members.{same_equal}
 use Rattle.ix_store.specs.StoredFacts.{facts_in, stored}
 use Rattle.ix_store.proofs.BehindRules.{given_by}
 use Rattle.ix_store.proofs.ClassesAfter.{kept_have}
-use Rattle.ix_store.proofs.PartsWithout.{none_dropped}
+use Rattle.ix_six_tables.proofs.PartsWithout.{none_dropped}
 use Rattle.ix_store.proofs.store.Store.add.Goals as goal
 
 pub behind-requires : goal.behind-requires

@@ -2,7 +2,7 @@ use Rattle.std.proofs.Common.{◌≡◌, ◌++◌, subst}
 use Rattle.ix_facts.specs.After.{of_target}
 use Rattle.ix_facts.specs.Forget.{without}
 use Rattle.ix_facts.specs.Stores.{Reached, operated}
-use Rattle.ix_outcomes.specs.SameFacts.{AreSame}
+use Rattle.ix_facts.specs.SameFacts.{AreSame}
 use Rattle.ix_store.specs.StoredFacts.{facts_in, stored}
 use Rattle.ix_store.proofs.BehindRules.{given_by}
 use Rattle.ix_store.proofs.store.Store.after.Goals as goal

@@ -2,10 +2,10 @@ use Rattle.std.proofs.Common.{◌≡◌, ◌++◌, ap, ◌∙◌}
 use Rattle.ix_facts.specs.Assume.{claim_facts}
 use Rattle.ix_facts.specs.Closure.{kept}
 use Rattle.ix_facts.specs.Stores.{Reached, with_facts}
-use Rattle.ix_outcomes.proofs.Members.{same_equal}
+use Rattle.ix_facts.proofs.Members.{same_equal}
 use Rattle.ix_store.specs.StoredFacts.{facts_in, stored}
 use Rattle.ix_store.proofs.BehindRules.{given_by}
-use Rattle.ix_store.proofs.PartsWithout.{none_dropped}
+use Rattle.ix_six_tables.proofs.PartsWithout.{none_dropped}
 use Rattle.ix_store.proofs.store.Store.assume.Goals as goal
 
 pub returns : goal.returns

@@ -1,7 +1,7 @@
 use Rattle.std.proofs.Common.{◌≡◌, ◌++◌, subst}
 use Rattle.ix_facts.specs.Forget.{of_path, without}
 use Rattle.ix_facts.specs.Stores.{Reached, with_copy}
-use Rattle.ix_outcomes.specs.SameFacts.{AreSame}
+use Rattle.ix_facts.specs.SameFacts.{AreSame}
 use Rattle.ix_store.specs.StoredFacts.{facts_in, stored}
 use Rattle.ix_store.proofs.BehindRules.{given_by}
 use Rattle.ix_store.proofs.store.Store.copy.Goals as goal

@@ -1,10 +1,10 @@
 use Rattle.std.proofs.Common.{◌≡◌, ◌++◌, sym, subst}
 use Rattle.ix_facts.specs.Stores.{Reached, with_outcome}
-use Rattle.ix_outcomes.specs.SameFacts.{AreSame}
+use Rattle.ix_facts.specs.SameFacts.{AreSame}
 use Rattle.ix_outcomes.specs.OverGroups.{outcome_of}
 use Rattle.ix_store.specs.StoredFacts.{facts_in, stored}
 use Rattle.ix_store.proofs.BehindRules.{given_by}
-use Rattle.ix_store.proofs.PartsWithout.{none_dropped}
+use Rattle.ix_six_tables.proofs.PartsWithout.{none_dropped}
 use Rattle.ix_store.proofs.store.Store.told.Goals as goal
 
 pub returns : goal.returns

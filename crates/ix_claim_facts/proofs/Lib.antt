@@ -1,0 +1,6 @@
+pub mod SignClasses
+pub mod SignSteps
+pub mod SignTruth
+pub mod LeastSteps
+pub mod ForgottenAlike
+mod SmallNames

@@ -1,6 +1,0 @@
-use Rattle.std.proofs.Common.{◌≡◌, ◌++◌, drop}
-use Rattle.ix_facts.specs.Systems.{system_rounded}
-use Rattle.ix_facts.proofs.filters.rounded_facts.Given as goal
-
-abbrev pub invariant-loop-fact : goal.invariant-loop-fact
-invariant-loop-fact l = l.kept.items ++ system_rounded l.marks (drop l.fact-index l.facts) ≡ system_rounded l.marks l.facts

@@ -1,0 +1,3 @@
+mod Listed
+-- Passed on from ix_sign_errors.
+pub use Rattle.ix_sign_errors.proofs.Refused

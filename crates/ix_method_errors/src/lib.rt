@@ -1,0 +1,14 @@
+//! The errors of the operations of one method.
+//!
+//! What goes in: a program, one of its methods, an operation, and the store before it. What comes out: the errors of the operation.
+//! The contract: each list has exactly the errors that the rules of `ix_method` derive.
+//! It stands on `ix_sign_errors` for the claims that aren't proved, on `ix_method` for rules and variables.
+//! It never looks at how a body is put together, nor at the stores behind operations.
+#![tactic(auto)]
+
+mod accesses;
+mod elements;
+mod op_errors;
+
+pub use ix_sign_errors as signs;
+pub use op_errors::push_op_errors;

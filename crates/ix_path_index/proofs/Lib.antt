@@ -1,0 +1,6 @@
+pub mod PathTies
+pub mod EntriesAre
+pub mod Found
+mod Places
+mod Added
+mod Marked

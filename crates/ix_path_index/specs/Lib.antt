@@ -1,0 +1,8 @@
+pub mod ByPath
+pub mod Grouped
+pub mod Marks
+pub mod OnPathLaws
+pub mod OnListLaws
+pub mod PutLaws
+-- Passed on from ix_fact_paths.
+pub use Rattle.ix_fact_paths.specs.Spared

@@ -1,0 +1,156 @@
+//! Facts put at the paths that they name.
+
+ghost use Rattle.std.specs.Prelude.{◌≡◌, ◌<◌, ℕ, cond, nat_eq, get_or, length, List, [], ◌∷◌, ◌++◌, IfOk, OnOk};
+ghost use Rattle.ix_core.specs.declared.fact.Path.{Path};
+ghost use Rattle.ix_core.specs.declared.fact.Fact.{Fact};
+ghost use Rattle.ix_path_index.specs.ByPath.{at_two, at_three, at_bound, at_paths, facts_at, Adds, on_it};
+
+use ix_core::{Fact, Path, PathOff};
+use ix_facts::is_same_path;
+use ix_text::List;
+use std::alloc::{AllocError, Global};
+use std::marker::Model;
+
+/// How many slots have lists of their own.
+pub(crate) const NEAR: u32 = 1024;
+
+/// Of each near slot the facts that name it, by its number, and those of all other paths beside them.
+#[derive(Drop)]
+pub(crate) struct Places {
+    pub(crate) slots: Vec<List<Fact>>,
+    pub(crate) others: Vec<(Path, Fact)>,
+}
+
+impl Model for Places {
+    ghost Value = { List (List Fact) × List (Path × Fact) };
+
+    ghost view = { λ places. (places.slots.items, places.others.items) };
+}
+
+/// Makes room for the slot.
+fn reach(alloc: Global, slots: &mut Vec<List<Fact>>, slot: usize) -> Result<(), AllocError>
+    requires near { slot < 1024 }
+    ensures reached { OnOk result (slot < length slots.new.items) }
+    ensures same { OnOk result ((s : ℕ) → get_or slots.new.items s [] ≡ get_or slots.old.items s []) }
+{
+    for _ in slots.len()..slot + 1 {
+        slots.push(List::new(alloc))?;
+    }
+    Ok(())
+}
+
+fn put_slot(
+    alloc: Global,
+    slots: &mut Vec<List<Fact>>,
+    slot: usize,
+    fact: &Fact,
+) -> Result<(), AllocError>
+    requires near { slot < 1024 }
+    ensures { OnOk result ((s : ℕ) → get_or slots.new.items s [] ≡ get_or slots.old.items s [] ++ cond (nat_eq s slot) (fact.now ∷ []) []) }
+{
+    reach(alloc, slots, slot)?;
+    slots[slot].push(*fact)?;
+    Ok(())
+}
+
+impl Places {
+    fn new(alloc: Global) -> Places
+        ensures { (x : Path) → facts_at result x ≡ [] }
+    {
+        Places {
+            slots: Vec::new(alloc),
+            others: Vec::new(alloc),
+        }
+    }
+
+    /// Puts the fact at the path, behind those that stand there.
+    fn put(&mut self, alloc: Global, p: &Path, fact: &Fact) -> Result<(), AllocError>
+        ensures { OnOk result (Adds self.old self.new ((p.now, fact.now) ∷ [])) }
+    {
+        match *p {
+            Path::Slot(slot) if slot < NEAR => put_slot(
+                alloc,
+                &mut self.slots,
+                slot as usize,
+                fact,
+            ),
+            _ => {
+                self.others.push((*p, *fact))?;
+                Ok(())
+            }
+        }
+    }
+
+    fn put_two(&mut self, alloc: Global, p: &Path, q: &Path, fact: &Fact) -> Result<(), AllocError>
+        ensures { OnOk result (Adds self.old self.new (at_two p.now q.now fact.now)) }
+    {
+        self.put(alloc, p, fact)?;
+        if !is_same_path(q, p) {
+            self.put(alloc, q, fact)?;
+        }
+        Ok(())
+    }
+
+    fn put_three(
+        &mut self,
+        alloc: Global,
+        p: &Path,
+        q: &Path,
+        r: &Path,
+        fact: &Fact,
+    ) -> Result<(), AllocError>
+        ensures { OnOk result (Adds self.old self.new (at_three p.now q.now r.now fact.now)) }
+    {
+        self.put_two(alloc, p, q, fact)?;
+        if !(is_same_path(r, p) || is_same_path(r, q)) {
+            self.put(alloc, r, fact)?;
+        }
+        Ok(())
+    }
+
+    fn put_bound(
+        &mut self,
+        alloc: Global,
+        p: &Path,
+        a: &Path,
+        offset: &PathOff,
+        fact: &Fact,
+    ) -> Result<(), AllocError>
+        ensures { OnOk result (Adds self.old self.new (at_bound p.now a.now offset.now fact.now)) }
+    {
+        match offset {
+            PathOff::Nothing => self.put_two(alloc, p, a, fact),
+            PathOff::Plus(q) => self.put_three(alloc, p, a, q, fact),
+            PathOff::Minus(q) => self.put_three(alloc, p, a, q, fact),
+        }
+    }
+
+    /// Puts the fact at each path that it names.
+    fn put_fact(&mut self, alloc: Global, fact: &Fact) -> Result<(), AllocError>
+        ensures { OnOk result (Adds self.old self.new (at_paths fact.now)) }
+    {
+        match *fact {
+            Fact::Rng(p, _, _) => self.put(alloc, &p, fact),
+            Fact::LenRng(p, _, _) => self.put(alloc, &p, fact),
+            Fact::Low(p, _) => self.put(alloc, &p, fact),
+            Fact::Same(a, b) => self.put_two(alloc, &a, &b, fact),
+            Fact::IsLen(p, a) => self.put_two(alloc, &p, &a, fact),
+            Fact::Less(p, q, _) => self.put_two(alloc, &p, &q, fact),
+            Fact::Sum(t, y, z) => self.put_three(alloc, &t, &y, &z, fact),
+            Fact::Search(p, a) => self.put_two(alloc, &p, &a, fact),
+            Fact::Neg(p, a) => self.put_two(alloc, &p, &a, fact),
+            Fact::Upper(p, a, offset, _) => self.put_bound(alloc, &p, &a, &offset, fact),
+        }
+    }
+
+    /// The facts, each at each path that it names.
+    pub(crate) fn of(alloc: Global, facts: &[Fact]) -> Result<Places, AllocError>
+        ensures { IfOk result (λ places. (x : Path) → facts_at places x ≡ on_it x facts.now) }
+    {
+        let mut places = Places::new(alloc);
+        for fact in facts {
+            places.put_fact(alloc, fact)?;
+        }
+        Ok(places)
+    }
+}

@@ -1,0 +1,86 @@
+//! The ints and the arrays that facts name, each once.
+
+ghost use Rattle.std.specs.Prelude.{◌≡◌, ◌∷◌, [], IfOk, OnOk};
+ghost use Rattle.ix_facts.specs.Exact.{offset_paths, ints_of, arrays_of, named_ints, named_arrays};
+ghost use Rattle.ix_path_index.specs.ByPath.{put_all};
+
+use crate::path_set::PathSet;
+use ix_core::{Fact, Path, PathOff};
+use std::alloc::{AllocError, Global};
+
+fn put_offset(paths: &mut PathSet, offset: &PathOff) -> Result<(), AllocError>
+    ensures { OnOk result (paths.new ≡ put_all paths.old (offset_paths offset.now)) }
+{
+    match *offset {
+        PathOff::Nothing => Ok(()),
+        PathOff::Plus(q) => paths.put(q),
+        PathOff::Minus(q) => paths.put(q),
+    }
+}
+
+#[inline]
+fn put_two(paths: &mut PathSet, p: Path, q: Path) -> Result<(), AllocError>
+    ensures { OnOk result (paths.new ≡ put_all paths.old (p ∷ q ∷ [])) }
+{
+    paths.put(p)?;
+    paths.put(q)
+}
+
+fn put_three(paths: &mut PathSet, t: Path, y: Path, z: Path) -> Result<(), AllocError>
+    ensures { OnOk result (paths.new ≡ put_all paths.old (t ∷ y ∷ z ∷ [])) }
+{
+    paths.put(t)?;
+    put_two(paths, y, z)
+}
+
+#[inline]
+fn put_int_and_array(
+    ints: &mut PathSet,
+    arrays: &mut PathSet,
+    p: Path,
+    a: Path,
+) -> Result<(), AllocError>
+    ensures ints { OnOk result (ints.new ≡ put_all ints.old (p ∷ [])) }
+    ensures arrays { OnOk result (arrays.new ≡ put_all arrays.old (a ∷ [])) }
+{
+    ints.put(p)?;
+    arrays.put(a)
+}
+
+/// Puts the ints that the fact names into the one set, and the arrays into the other.
+fn put_named(ints: &mut PathSet, arrays: &mut PathSet, fact: &Fact) -> Result<(), AllocError>
+    ensures ints { OnOk result (ints.new ≡ put_all ints.old (ints_of fact.now)) }
+    ensures arrays { OnOk result (arrays.new ≡ put_all arrays.old (arrays_of fact.now)) }
+{
+    match *fact {
+        Fact::Rng(p, _, _) => ints.put(p),
+        Fact::LenRng(a, _, _) => arrays.put(a),
+        Fact::Low(p, _) => ints.put(p),
+        Fact::Same(a, b) => put_two(arrays, a, b),
+        Fact::IsLen(p, a) => put_int_and_array(ints, arrays, p, a),
+        Fact::Less(p, q, _) => put_two(ints, p, q),
+        Fact::Sum(t, y, z) => put_three(ints, t, y, z),
+        Fact::Search(p, a) => put_int_and_array(ints, arrays, p, a),
+        Fact::Neg(p, a) => put_int_and_array(ints, arrays, p, a),
+        Fact::Upper(p, a, offset, _) => {
+            put_int_and_array(ints, arrays, p, a)?;
+            put_offset(ints, &offset)
+        }
+    }
+}
+
+/// The ints that the facts name, and the arrays. The only error is want of memory.
+pub fn ints_and_arrays(
+    alloc: Global,
+    facts: &[Fact],
+) -> Result<(Vec<Path>, Vec<Path>), AllocError>
+    ensures ints { IfOk result (λ named. named.0.items ≡ put_all [] (named_ints facts.now)) }
+    ensures arrays { IfOk result (λ named. named.1.items ≡ put_all [] (named_arrays facts.now)) }
+{
+    let mut ints = PathSet::new(alloc);
+    let mut arrays = PathSet::new(alloc);
+    for fact in facts {
+        put_named(&mut ints, &mut arrays, fact)?;
+    }
+    Ok((ints.into_paths(), arrays.into_paths()))
+}

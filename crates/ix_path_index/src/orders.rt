@@ -1,0 +1,57 @@
+//! Facts in all their orders.
+
+ghost use Rattle.std.specs.Prelude.{◌≡◌, ◌≤◌, ◌+◌, ◌∷◌, ◌++◌, IfOk, option_to_list};
+ghost use Rattle.std.specs.Vec.{vec_len, vec_capacity};
+ghost use Rattle.ix_facts.specs.Facts.{orders, is_default, in_orders};
+
+use ix_core::{Fact, PathOff};
+use std::alloc::{AllocError, Global};
+
+/// The fact in its other order, if it has one.
+fn turned(fact: &Fact) -> Option<Fact>
+    ensures { orders fact.now ≡ fact.now ∷ option_to_list result }
+{
+    match *fact {
+        Fact::Same(a, b) => Some(Fact::Same(b, a)),
+        Fact::Sum(t, y, z) => Some(Fact::Sum(t, z, y)),
+        Fact::Upper(p, a, PathOff::Plus(q), c) => Some(Fact::Upper(q, a, PathOff::Plus(p), c)),
+        _ => None,
+    }
+}
+
+/// Whether the fact is a range that is said of every path.
+fn is_said_of_all(fact: &Fact) -> bool
+    ensures { result ≡ is_default fact.now }
+{
+    match *fact {
+        Fact::Rng(_, low, high) => low <= -2147483648 && high >= 2147483647,
+        Fact::LenRng(_, low, high) => low <= 0 && high >= 2147483647,
+        _ => false,
+    }
+}
+
+/// Puts the fact's orders behind the others. There is room for two.
+fn push_orders(ordered: &mut Vec<Fact>, fact: &Fact)
+    requires room { vec_len ordered.old + 2 ≤ vec_capacity ordered.old }
+    ensures orders { ordered.new.items ≡ ordered.old.items ++ orders fact.now }
+    ensures at_most_two { vec_len ordered.new ≤ vec_len ordered.old + 2 }
+    ensures same_room { vec_capacity ordered.new ≡ vec_capacity ordered.old }
+{
+    ordered.push_reserved(*fact);
+    if let Some(other) = turned(fact) {
+        ordered.push_reserved(other);
+    }
+}
+
+/// The facts, each in all its orders, but for ranges that are said of every path. The only error is want of memory.
+pub fn in_all_orders(alloc: Global, facts: &[Fact]) -> Result<Vec<Fact>, AllocError>
+    ensures { IfOk result (λ ordered. ordered.items ≡ in_orders facts.now) }
+{
+    let mut ordered = Vec::with_capacity(alloc, 2 * facts.len())?;
+    for fact in facts {
+        if !is_said_of_all(fact) {
+            push_orders(&mut ordered, fact);
+        }
+    }
+    Ok(ordered)
+}

@@ -1,0 +1,70 @@
+//! Facts beside the paths that they name, found by binary search.
+
+ghost use Rattle.std.specs.Prelude.{◌≡◌, length, get_or, List, [], IfOk};
+ghost use Rattle.ix_core.specs.declared.fact.Path.{Path};
+ghost use Rattle.ix_core.specs.declared.fact.Fact.{Fact};
+ghost use Rattle.ix_path_index.specs.ByPath.{IsSorted, on_index, on_it};
+
+use crate::by_path::{facts_beside, facts_of, in_order, paths_of};
+use crate::by_slot::{NEAR, Places};
+use ix_core::{Fact, Path};
+use ix_text::List;
+use std::alloc::{AllocError, Global};
+use std::marker::Model;
+
+/// Of each path the facts that name it.
+#[derive(Drop)]
+pub struct PathIndex {
+    /// Those that name a near slot, by its number.
+    slots: Vec<List<Fact>>,
+    /// The other paths that the facts name, in order, each as often as facts name it.
+    paths: Vec<Path>,
+    /// Beside each path a fact that names it.
+    facts: Vec<Fact>,
+}
+
+impl Model for PathIndex {
+    ghost Value = { List (List Fact) × (List Path × List Fact) };
+
+    ghost view = { λ index. (index.slots.items, (index.paths.items, index.facts.items)) };
+
+    ghost invariant = { λ index. IsSorted index.paths.items × (length index.facts.items ≡ length index.paths.items) };
+}
+
+/// The facts at the slot.
+fn at_slot(slots: &[List<Fact>], slot: usize) -> &[Fact]
+    ensures { result.now ≡ get_or slots.now slot [] }
+{
+    match slots.get(slot) {
+        Some(facts) => facts.as_slice(),
+        None => &[],
+    }
+}
+
+impl PathIndex {
+    /// Of each path those of the facts that name it, in time near linear in their number. The only error is want of memory.
+    pub fn of(alloc: Global, facts: &[Fact]) -> Result<PathIndex, AllocError>
+        ensures { IfOk result (λ index. (p : Path) → on_index index p ≡ on_it p facts.now) }
+    {
+        let places = Places::of(alloc, facts)?;
+        let others = in_order(places.others)?;
+        let paths = paths_of(alloc, &others)?;
+        let facts = facts_of(alloc, &others)?;
+        Ok(PathIndex {
+            slots: places.slots,
+            paths,
+            facts,
+        })
+    }
+
+    /// The facts that name the path. It takes no memory.
+    #[inline(never)]
+    pub fn on(&self, p: &Path) -> &[Fact]
+        ensures { result.now ≡ on_index self.now p.now }
+    {
+        match *p {
+            Path::Slot(slot) if slot < NEAR => at_slot(&self.slots, slot as usize),
+            _ => facts_beside(&self.paths, &self.facts, p),
+        }
+    }
+}

@@ -1,0 +1,143 @@
+//! A set of paths in order.
+
+ghost use Rattle.std.specs.Prelude.{◌≡◌, ◌⊎◌, ◌<◌, ℕ, true, false, get_or, length, [], ◌∷◌, ◌++◌, List, IsTrue, OnOk, OnErr};
+ghost use Rattle.std.specs.BTreeSet.{insert_key};
+ghost use Rattle.ix_core.specs.declared.fact.Path.{Path};
+ghost use Rattle.ix_facts.specs.PathOrder.{path_cmp};
+ghost use Rattle.ix_path_index.specs.Marks.{IsMarked, AreMarked};
+ghost use Rattle.ix_path_index.specs.PutLaws.{IsRising};
+
+use crate::by_path::is_before;
+use crate::by_slot::NEAR;
+use ix_core::Path;
+use ix_fact_paths::compare_paths;
+use std::alloc::{AllocError, Global};
+use std::marker::Model;
+
+/// Paths in order, each once.
+#[derive(Drop)]
+pub struct PathSet {
+    paths: Vec<Path>,
+    /// Of a near slot, by its number, that it is among them: so that no place is sought for it again.
+    marks: Vec<bool>,
+}
+
+impl Model for PathSet {
+    ghost Value = { List Path };
+
+    ghost view = { λ set. set.paths.items };
+
+    ghost invariant = { λ set. IsRising set.paths.items × AreMarked set.marks.items set.paths.items };
+}
+
+fn is_marked(marks: &[bool], p: &Path) -> bool
+    ensures { IsTrue result → IsMarked marks.now p.now }
+{
+    match *p {
+        Path::Slot(slot) if slot < NEAR => match marks.get(slot as usize) {
+            Some(mark) => *mark,
+            None => false,
+        },
+        _ => false,
+    }
+}
+
+/// Marks the path, where it is a near slot.
+fn mark(marks: &mut Vec<bool>, p: &Path) -> Result<(), AllocError>
+    ensures { (q : Path) → IsMarked marks.new.items q → IsMarked marks.old.items q ⊎ (q ≡ p.now) }
+{
+    match *p {
+        Path::Slot(slot) if slot < NEAR => mark_slot(marks, slot as usize),
+        _ => Ok(()),
+    }
+}
+
+/// Makes room for the slot.
+fn reach(marks: &mut Vec<bool>, slot: usize) -> Result<(), AllocError>
+    requires near { slot < 1024 }
+    ensures reached { OnOk result (slot < length marks.new.items) }
+    ensures same { (s : ℕ) → get_or marks.new.items s false ≡ get_or marks.old.items s false }
+{
+    if slot < marks.len() {
+        return Ok(());
+    }
+    marks.resize(slot + 1, false)
+}
+
+fn mark_slot(marks: &mut Vec<bool>, slot: usize) -> Result<(), AllocError>
+    requires near { slot < 1024 }
+    ensures { (s : ℕ) → get_or marks.new.items s false ≡ true → (get_or marks.old.items s false ≡ true) ⊎ (s ≡ slot) }
+{
+    reach(marks, slot)?;
+    marks[slot] = true;
+    Ok(())
+}
+
+/// Whether the path's place is behind all others. Mostly it is, since facts come in the order of their first paths.
+fn is_behind(paths: &[Path], p: &Path) -> bool
+    requires rising { IsRising paths.now }
+    ensures { IsTrue result → insert_key path_cmp paths.now p.now ≡ paths.now ++ p.now ∷ [] }
+{
+    match paths.last() {
+        Some(last) => is_before(last, p),
+        None => true,
+    }
+}
+
+fn put_path(paths: &mut Vec<Path>, p: Path) -> Result<(), AllocError>
+    requires rising { IsRising paths.old.items }
+    ensures put { OnOk result (paths.new.items ≡ insert_key path_cmp paths.old.items p) }
+    ensures unchanged { OnErr result (paths.new.items ≡ paths.old.items) }
+{
+    if is_behind(paths, &p) {
+        paths.push(p)?;
+        return Ok(());
+    }
+    match paths.binary_search_by(|path| compare_paths(path, &p)) {
+        Ok(_) => Ok(()),
+        Err(place) => {
+            paths.insert(place, p)?;
+            Ok(())
+        }
+    }
+}
+
+impl PathSet {
+    /// No paths. It takes no memory.
+    pub fn new(alloc: Global) -> PathSet
+        ensures { result ≡ [] }
+    {
+        PathSet {
+            paths: Vec::new(alloc),
+            marks: Vec::new(alloc),
+        }
+    }
+
+    /// Puts the path at its place, unless it is there. The only error is want of memory.
+    // Most paths that are put are marked: at the caller that is a look and no call.
+    #[inline]
+    pub fn put(&mut self, p: Path) -> Result<(), AllocError>
+        ensures { OnOk result (self.new ≡ insert_key path_cmp self.old p) }
+    {
+        if is_marked(&self.marks, &p) {
+            return Ok(());
+        }
+        self.put_unmarked(p)
+    }
+
+    #[inline(never)]
+    fn put_unmarked(&mut self, p: Path) -> Result<(), AllocError>
+        ensures { OnOk result (self.new ≡ insert_key path_cmp self.old p) }
+    {
+        put_path(&mut self.paths, p)?;
+        mark(&mut self.marks, &p)?;
+        Ok(())
+    }
+
+    /// The paths, in order.
+    pub fn into_paths(self) -> Vec<Path>
+        ensures { result.items ≡ self }
+    {
+        self.paths
+    }
+}

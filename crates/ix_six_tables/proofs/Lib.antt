@@ -1,0 +1,4 @@
+pub mod Together
+pub mod OwnFacts
+pub mod PartsWithout
+pub mod WeakerCommon
