@@ -19,6 +19,8 @@ mod objects;
 #[cfg(test)]
 mod overriding;
 #[cfg(test)]
+mod once;
+#[cfg(test)]
 mod row;
 #[cfg(test)]
 mod sums;
