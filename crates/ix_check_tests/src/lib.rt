@@ -11,15 +11,17 @@ mod calls;
 #[cfg(test)]
 mod drawn;
 #[cfg(test)]
+mod kept;
+#[cfg(test)]
 mod loops;
 #[cfg(test)]
 mod making;
 #[cfg(test)]
 mod objects;
 #[cfg(test)]
-mod overriding;
-#[cfg(test)]
 mod once;
+#[cfg(test)]
+mod overriding;
 #[cfg(test)]
 mod row;
 #[cfg(test)]
