@@ -1,7 +1,7 @@
 -- The statuses and their numbers.
 use Rattle.std.specs.Prelude.{ℕ, Bool, true, false}
 use Rattle.ix_answer.specs.declared.status.Status.{Status}
-use Rattle.ix_answer.specs.declared.status.Status.TheVariants.{Done, Rejected, Usage, ReadFault, WriteFault, Limit, Memory, Stopped, StepsSpent, InputsRefused, Unbuilt}
+use Rattle.ix_answer.specs.declared.status.Status.TheVariants.{Done, Rejected, Usage, ReadFault, WriteFault, Limit, Memory, Stopped, StepsSpent, InputsRefused}
 
 -- the number that the program ends with
 abbrev pub number_of : Status → ℕ
@@ -15,7 +15,6 @@ number_of Memory = 6
 number_of Stopped = 7
 number_of StepsSpent = 8
 number_of InputsRefused = 9
-number_of Unbuilt = 10
 
 -- a status that neither a fault nor want of memory gives
 abbrev pub is_answer : Status → Bool

@@ -25,8 +25,6 @@ pub enum Status {
     StepsSpent,
     /// A run was not begun, for its entry or its inputs.
     InputsRefused,
-    /// The source is of a form that isn't built yet.
-    Unbuilt,
 }
 
 impl Status {
@@ -45,7 +43,6 @@ impl Status {
             Status::Stopped => 7,
             Status::StepsSpent => 8,
             Status::InputsRefused => 9,
-            Status::Unbuilt => 10,
         }
     }
 }

@@ -11,11 +11,15 @@ mod calls;
 #[cfg(test)]
 mod drawn;
 #[cfg(test)]
+mod kept;
+#[cfg(test)]
 mod loops;
 #[cfg(test)]
 mod making;
 #[cfg(test)]
 mod objects;
+#[cfg(test)]
+mod once;
 #[cfg(test)]
 mod overriding;
 #[cfg(test)]

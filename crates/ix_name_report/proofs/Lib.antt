@@ -1,2 +1,4 @@
 pub mod ErrorLines
 pub mod OneList
+pub mod ToldErrors
+pub mod EarlierStarts

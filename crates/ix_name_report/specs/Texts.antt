@@ -1,6 +1,7 @@
 -- The texts of errors on names, as bytes. A line ends with LF, which is 10.
-use Rattle.std.specs.Prelude.{ℕ, ◌≤◌, List, [], ◌∷◌, ◌++◌, length, codes, decimal}
-use Rattle.std.specs.List.{All}
+use Rattle.std.specs.Prelude.{ℕ, ◌≤◌, Bool, ◌&&◌, ◌==◌, if◌then◌else◌, List, [], ◌∷◌, ◌++◌, length, codes, decimal}
+use Rattle.std.specs.List.{All, list_any}
+use Rattle.std.specs.Str.{bytes_eq}
 use Rattle.ix_text.specs.Lines.{place}
 use Rattle.ix_meaning.specs.declared.note.NameError.{NameError}
 use Rattle.ix_meaning.specs.declared.note.Rule.{Rule}
@@ -49,6 +50,24 @@ abbrev pub error_lines : List ℕ → List ℕ → List NameError → List ℕ
 error_lines file text [] = []
 error_lines file text (error ∷ errors) = error_line file text error ++ error_lines file text errors
 
--- a line for each error, in their order, and one with their number
+-- ---- each line once
+
+-- Two errors have one line: they start at one place, and users know their rules by one key.
+abbrev pub have_one_line : NameError → NameError → Bool
+have_one_line one other = one.span.from == other.span.from && bytes_eq (key one.rule) (key other.rule)
+
+-- one error more behind those that were told, unless its line was told
+abbrev pub tell : List NameError → NameError → List NameError
+tell before error = if list_any (have_one_line error) before then before else before ++ error ∷ []
+
+abbrev pub told_behind : List NameError → List NameError → List NameError
+told_behind before [] = before
+told_behind before (error ∷ errors) = told_behind (tell before error) errors
+
+-- the errors without those whose line was told before
+abbrev pub told : List NameError → List NameError
+told errors = told_behind [] errors
+
+-- a line for each error, in their order, each line once, and one with the number of these lines
 abbrev pub misnamed : List ℕ → List ℕ → List NameError → List ℕ
-misnamed file text errors = error_lines file text errors ++ (codes "rejected: " ++ decimal (length errors) ++ codes " errors" ++ 10 ∷ [])
+misnamed file text errors = error_lines file text (told errors) ++ (codes "rejected: " ++ decimal (length (told errors)) ++ codes " errors" ++ 10 ∷ [])

@@ -6,6 +6,7 @@
 //! It never decides anything.
 #![tactic(auto)]
 
+mod once;
 mod texts;
 
 pub use texts::{limit_name, misnamed};

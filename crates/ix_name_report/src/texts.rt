@@ -3,12 +3,13 @@
 ghost use Rattle.std.specs.Prelude.{◌≡◌, ◌≤◌, length, IfOk, string_bytes};
 ghost use Rattle.ix_name_report.specs.Texts as spec;
 
+use crate::once::told;
 use ix_meaning::{NameError, Rule, Which};
 use ix_text::LineMap;
 use std::alloc::{AllocError, Global};
 
 /// What users know a rule by.
-fn key(rule: Rule) -> &'static str
+pub(crate) fn key(rule: Rule) -> &'static str
     ensures { result.now ≡ spec.key rule }
 {
     match rule {
@@ -60,8 +61,9 @@ fn error_line(
     format!(in alloc; "{file}:{line}:{column}: {key}\n")
 }
 
-/// The lines of a source with errors on names: one for each of them, in their order, and one with their number. `lines` are those of the
-/// source, in which each error starts.
+/// The lines of a source with errors on names: one for each of them, in their order, each line once, and one with the number of
+/// these lines. `lines` are those of the source, in which each error starts.
+#[tactic(auto, using(crate::proofs::ToldErrors::told_start))]
 pub fn misnamed(
     alloc: Global,
     lines: &LineMap,
@@ -72,10 +74,11 @@ pub fn misnamed(
     ensures { IfOk result (λ text. string_bytes text ≡ spec.misnamed file.now lines.now errors.now) }
 {
     let mut text = String::new(alloc);
-    for error in errors {
+    let told = told(alloc, errors)?;
+    for error in told.as_slice() {
         text.push_str(error_line(alloc, lines, file, error)?.as_str())?;
     }
-    let count = errors.len();
+    let count = told.len();
     write!(text, "rejected: {count} errors\n")?;
     Ok(text)
 }

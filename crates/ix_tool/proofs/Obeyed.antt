@@ -1,7 +1,11 @@
 -- What an obeyed command leaves is what a call of the tool promises.
 use Rattle.std.proofs.Common.{◌≡◌, ◌≢◌, ◌⊎◌, inl, inr, ℕ, true, List, [], ◌++◌, append-nil, Option, Some, ap, sym, subst, ◌∙◌, refl}
 use Rattle.ix_answer.specs.declared.status.Status.{Status}
-use Rattle.ix_answer.specs.declared.status.Status.TheVariants.{Done, ReadFault, WriteFault, Memory}
+use Rattle.ix_answer.specs.declared.status.Status.TheVariants.{Done, Rejected, Usage, ReadFault, WriteFault, Limit, Memory, Stopped, StepsSpent, InputsRefused}
+use Rattle.std.specs.Prelude.{Result, Ok, Err, IfOk}
+use Rattle.std.specs.declared.alloc.AllocError.{AllocError}
+use Rattle.ix_answer.specs.declared.reply.Reply.{Reply}
+use Rattle.ix_answer.specs.Replies.{Says, shown as shown_reply}
 use Rattle.ix_answer.specs.Statuses.{is_answer}
 use Rattle.ix_answer.specs.Answer.{Answer, err_answer}
 use Rattle.ix_answer.specs.Delivery.{Sinks, Delivers, IsOnly, RoseOne}
@@ -128,6 +132,41 @@ obeyed_memory IsSure before after asked command given result old new is d wanted
         | inr none ↦ inr (inr (inr none))
       ]
     ]
+
+-- ---- a reply with nothing for `out`
+
+says_nothing : (reply : Result Reply AllocError) (text : Answer) → text.out ≡ [] → IfOk reply (λ r. shown_reply r ≡ text) → (a : Answer) → Says reply a → a.out ≡ []
+says_nothing (Ok reply) text none is a says = ap (λ (b : Answer). b.out) (says ∙ is) ∙ none
+says_nothing (Err why) text none is a says = absurd says
+
+whole_untouched : (IsRight : Answer → Type 0) (result : Status) (old new : Sinks) → ((a : Answer) → IsRight a → a.out ≡ []) → result ≢ WriteFault → result ≢ Memory → Delivers IsRight result old new → new.taken.out ≡ old.taken.out
+whole_untouched IsRight result old new none written enough d =
+    let e = (d.whole written enough).0 in took_none e.answer.out old.taken.out new.taken.out (none e.answer e.right) e.out
+
+part_untouched : (IsRight : Answer → Type 0) (old new : Texts) → ((a : Answer) → IsRight a → a.out ≡ []) → TookPart IsRight old new → new.out ≡ old.out
+part_untouched IsRight old new none part = TookPrefix-none part.answer.out old.out new.out (none part.answer part.right) part.out
+
+wanted_untouched : (IsRight : Answer → Type 0) (old new : Texts) → ((a : Answer) → IsRight a → a.out ≡ [])
+    → TookPart IsRight old new ⊎ (TookWanted IsRight old new ⊎ TookNothing old new) → new.out ≡ old.out
+wanted_untouched IsRight old new none (inl part) = part_untouched IsRight old new none part
+wanted_untouched IsRight old new none (inr (inl w)) = TookPrefix-none w.answer.out old.out new.out (none w.answer w.right) w.out
+wanted_untouched IsRight old new none (inr (inr nothing)) = nothing.out
+
+out_untouched : (IsRight : Answer → Type 0) (result : Status) (old new : Sinks) → ((a : Answer) → IsRight a → a.out ≡ []) → Delivers IsRight result old new → new.taken.out ≡ old.taken.out
+out_untouched IsRight WriteFault old new none d = part_untouched IsRight old.taken new.taken none (d.fault refl).1
+out_untouched IsRight Memory old new none d = wanted_untouched IsRight old.taken new.taken none (d.memory refl)
+out_untouched IsRight Done old new none d = whole_untouched IsRight Done old new none (λ e. cc e) (λ e. cc e) d
+out_untouched IsRight Rejected old new none d = whole_untouched IsRight Rejected old new none (λ e. cc e) (λ e. cc e) d
+out_untouched IsRight Usage old new none d = whole_untouched IsRight Usage old new none (λ e. cc e) (λ e. cc e) d
+out_untouched IsRight ReadFault old new none d = whole_untouched IsRight ReadFault old new none (λ e. cc e) (λ e. cc e) d
+out_untouched IsRight Limit old new none d = whole_untouched IsRight Limit old new none (λ e. cc e) (λ e. cc e) d
+out_untouched IsRight Stopped old new none d = whole_untouched IsRight Stopped old new none (λ e. cc e) (λ e. cc e) d
+out_untouched IsRight StepsSpent old new none d = whole_untouched IsRight StepsSpent old new none (λ e. cc e) (λ e. cc e) d
+out_untouched IsRight InputsRefused old new none d = whole_untouched IsRight InputsRefused old new none (λ e. cc e) (λ e. cc e) d
+
+pub said_on_err : (reply : Result Reply AllocError) (status : Status) (text : List ℕ) (result : Status) (old new : Sinks)
+    → IfOk reply (λ r. shown_reply r ≡ err_answer status text) → Delivers (Says reply) result old new → new.taken.out ≡ old.taken.out
+said_on_err reply status text result old new is d = out_untouched (Says reply) result old new (says_nothing reply (err_answer status text) refl is) d
 
 -- ---- without faults, the answer
 

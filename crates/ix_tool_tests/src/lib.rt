@@ -14,7 +14,11 @@ mod faults;
 #[cfg(test)]
 mod forms;
 #[cfg(test)]
+mod inputs;
+#[cfg(test)]
 mod limits;
+#[cfg(test)]
+mod names;
 #[cfg(test)]
 mod runs;
 #[cfg(test)]

@@ -5,5 +5,5 @@ use Rattle.ix_name_report.proofs.texts.misnamed.Goals as goal
 
 pub loop-error-preserved : goal.loop-error-preserved
 loop-error-preserved c =
-    lines_more c.args.file.now c.args.lines.now c.args.errors.now c.loop-error.error-index _ _ _ _ (take_more c.args.errors.now c.loop-error.error-index _ (search rules)) c.loop-error.invariant
+    lines_more c.args.file.now c.args.lines.now c.as_slice-error-items.result.now c.loop-error.error-index _ _ _ _ (take_more c.as_slice-error-items.result.now c.loop-error.error-index _ (search rules)) c.loop-error.invariant
     c.in_ok-error_line.ensures (search rules)

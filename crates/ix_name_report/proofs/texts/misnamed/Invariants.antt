@@ -3,4 +3,4 @@ use Rattle.ix_name_report.specs.Texts as spec
 use Rattle.ix_name_report.proofs.texts.misnamed.Given as goal
 
 abbrev pub invariant-loop-error : goal.invariant-loop-error
-invariant-loop-error l = string_bytes l.text ≡ spec.error_lines l.file l.lines (take l.error-index l.errors)
+invariant-loop-error l = string_bytes l.text ≡ spec.error_lines l.file l.lines (take l.error-index l.error-items)
