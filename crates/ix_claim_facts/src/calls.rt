@@ -23,7 +23,11 @@ pub fn is_effect_free(program: &Program, method: u32) -> bool
 }
 
 /// What is known of a call's result. The only error is want of memory.
-pub fn result_facts(alloc: Global, program: &Program, call: &CallOp) -> Result<Vec<Fact>, AllocError>
+pub fn result_facts(
+    alloc: Global,
+    program: &Program,
+    call: &CallOp,
+) -> Result<Vec<Fact>, AllocError>
     requires small { HaveSmallNames program.now }
     ensures { IfOk result (λ facts. facts.items ≡ signs.result_facts program.now call.now) }
 {
@@ -56,7 +60,11 @@ fn inherited_fields(
 }
 
 /// What is known of `this` behind a call of the parent's constructor. The only error is want of memory.
-pub fn facts_of_this(alloc: Global, program: &Program, within: &Method) -> Result<Vec<Fact>, AllocError>
+pub fn facts_of_this(
+    alloc: Global,
+    program: &Program,
+    within: &Method,
+) -> Result<Vec<Fact>, AllocError>
     requires small { HaveSmallNames program.now }
     ensures { IfOk result (λ facts. facts.items ≡ zero_fields program.now (own_fields program.now within.now) ++ fields_facts program.now (signs.inherited_fields program.now within.now)) }
 {

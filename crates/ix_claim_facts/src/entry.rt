@@ -10,7 +10,11 @@ use ix_core::{Fact, Method, Program};
 use std::alloc::{AllocError, Global};
 
 /// What is known at the entry of a method: what the claims of its parameters say; in a constructor without parent the fields are 0 or null (JLS 12.5). The only error is want of memory.
-pub fn entry_facts(alloc: Global, program: &Program, method: &Method) -> Result<Vec<Fact>, AllocError>
+pub fn entry_facts(
+    alloc: Global,
+    program: &Program,
+    method: &Method,
+) -> Result<Vec<Fact>, AllocError>
     requires small { HasSmallNames method.now }
     ensures { IfOk result (λ facts. facts.items ≡ signs.entry_facts program.now method.now) }
 {

@@ -140,11 +140,7 @@ fn push_field(out: &mut Vec<Fact>, program: &Program, field: u32) -> Result<(), 
 }
 
 /// What the claims of these fields add of `this`.
-pub fn push_fields(
-    out: &mut Vec<Fact>,
-    program: &Program,
-    fields: &[u32],
-) -> Result<(), AllocError>
+pub fn push_fields(out: &mut Vec<Fact>, program: &Program, fields: &[u32]) -> Result<(), AllocError>
     requires small { HaveSmallNames program.now }
     ensures { OnOk result (out.new.items ≡ out.old.items ++ fields_facts program.now fields.now) }
 {

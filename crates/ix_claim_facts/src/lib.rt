@@ -20,7 +20,8 @@ pub use calls::{facts_of_this, is_effect_free, result_facts};
 pub use dependent::{names_field, push_dependents};
 pub use entry::entry_facts;
 pub use facts::{
-    claims_of, push_claims, push_fields, push_params, push_received, push_received_params, push_zero_fields,
+    claims_of, push_claims, push_fields, push_params, push_received, push_received_params,
+    push_zero_fields,
 };
 pub use fields::{facts_at_read, facts_at_write, is_built, spared_at_write, this_if};
 pub use naming::Naming;

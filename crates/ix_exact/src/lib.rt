@@ -12,5 +12,6 @@ mod push;
 
 pub use exact::{exact_interval, fits, push_low, push_range, table_class, unary_interval};
 pub use push::{
-    push_fact, push_if, push_less, push_less_if, push_some_less, push_some_upper, push_upper, push_upper_if,
+    push_fact, push_if, push_less, push_less_if, push_some_less, push_some_upper, push_upper,
+    push_upper_if,
 };

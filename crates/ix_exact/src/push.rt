@@ -112,9 +112,5 @@ pub fn push_upper_if(
 pub fn push_if(out: &mut Vec<Fact>, test: bool, fact: Fact) -> Result<(), AllocError>
     ensures { OnOk result (out.new.items ≡ out.old.items ++ if_so test (fact ∷ [])) }
 {
-    if test {
-        push_fact(out, fact)
-    } else {
-        Ok(())
-    }
+    if test { push_fact(out, fact) } else { Ok(()) }
 }

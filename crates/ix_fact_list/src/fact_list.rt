@@ -19,8 +19,8 @@ use ix_bounds::{self, Groups, Indexed};
 use ix_core::{Fact, OpKind, Path, PathOff};
 use ix_facts::Know;
 use ix_path_index::{
-    Grouped, assigned_path, in_all_orders, ints_and_arrays, names_path, names_target, some_name_path,
-    some_name_target,
+    Grouped, assigned_path, in_all_orders, ints_and_arrays, names_path, names_target,
+    some_name_path, some_name_target,
 };
 use std::alloc::{AllocError, Global};
 use std::marker::Model;

@@ -11,8 +11,8 @@ ghost use Rattle.ix_facts.specs.Round as round;
 ghost use Rattle.ix_facts.specs.Systems.{system_rounded};
 
 use crate::forget::{names_path, names_target};
-use ix_facts::{greater, lesser};
 use ix_core::{Fact, OpKind, Path, PathOff};
+use ix_facts::{greater, lesser};
 use std::alloc::{AllocError, Global};
 
 /// The facts that don't name the path; of a slot also without those that name a field of the object in it.

@@ -6,8 +6,8 @@ ghost use Rattle.ix_facts.specs.Forget.{of_path};
 ghost use Rattle.ix_facts.specs.After.{of_target};
 ghost use Rattle.ix_fact_paths.specs.Spared.{some_named};
 
-use ix_core::{Fact, OpKind, Path};
 use crate::forget::{names_path, names_target};
+use ix_core::{Fact, OpKind, Path};
 
 /// The path that the operation changes, where it may change that path and what is in it, and no other; none exactly where no path is such (JLS 15.26). It
 /// takes no memory.

@@ -113,7 +113,10 @@ fn push_reaching(out: &mut Vec<Fact>, p: &Path, a: &Path, c: i128) -> Result<(),
     if c < -1 {
         return Ok(());
     }
-    push_fact(out, Fact::Upper(*p, *a, PathOff::Nothing, c.min(2147483647) as i32))
+    push_fact(
+        out,
+        Fact::Upper(*p, *a, PathOff::Nothing, c.min(2147483647) as i32),
+    )
 }
 
 fn push_beside_array<K: Know>(

@@ -70,10 +70,7 @@ fn put_named(ints: &mut PathSet, arrays: &mut PathSet, fact: &Fact) -> Result<()
 }
 
 /// The ints that the facts name, and the arrays. The only error is want of memory.
-pub fn ints_and_arrays(
-    alloc: Global,
-    facts: &[Fact],
-) -> Result<(Vec<Path>, Vec<Path>), AllocError>
+pub fn ints_and_arrays(alloc: Global, facts: &[Fact]) -> Result<(Vec<Path>, Vec<Path>), AllocError>
     ensures ints { IfOk result (λ named. named.0.items ≡ put_all [] (named_ints facts.now)) }
     ensures arrays { IfOk result (λ named. named.1.items ≡ put_all [] (named_arrays facts.now)) }
 {

@@ -17,9 +17,7 @@ ghost use Rattle.ix_claim_facts.specs.SignErrors.{OverrideParameter, OverrideRes
 
 use crate::ranked::Ranked;
 use crate::unproved::{Report, push_unproved};
-use ix_claim_facts::{
-    Naming, asked_facts, called_facts, own_result, param_slot, result_slot,
-};
+use ix_claim_facts::{Naming, asked_facts, called_facts, own_result, param_slot, result_slot};
 use ix_core::{Detail, Error, Local, Method, Path, Program, Subject};
 use ix_store::Store;
 use std::alloc::{AllocError, Global};

@@ -190,11 +190,7 @@ fn beside_many(alloc: Global, facts: &[Fact], changed: &Changed) -> Result<List<
 }
 
 /// The facts that name no path that the step may change. The only error is want of memory.
-pub fn unchanged(
-    alloc: Global,
-    facts: &[Fact],
-    changed: &Changed,
-) -> Result<List<Fact>, AllocError>
+pub fn unchanged(alloc: Global, facts: &[Fact], changed: &Changed) -> Result<List<Fact>, AllocError>
     ensures { IfOk result (λ kept. kept ≡ without (is_changed changed.now) facts.now) }
 {
     match one_path(changed) {

@@ -12,8 +12,8 @@ ghost use Rattle.ix_six_tables.specs.EmptyRanges.{is_empty, some_empty};
 
 use crate::changed::{Changed, some_name_changed, unchanged};
 use crate::tables::Tables;
-use ix_fact_table::FactTable;
 use ix_core::Fact;
+use ix_fact_table::FactTable;
 use ix_facts::Kind;
 use ix_text::Joint;
 use std::alloc::{AllocError, Global};
