@@ -1,1 +1,2 @@
 pub mod KindTables
+pub mod KindLaws

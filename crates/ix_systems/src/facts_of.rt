@@ -3,7 +3,7 @@
 ghost use Rattle.std.specs.Prelude.{◌≡◌};
 ghost use Rattle.ix_fact_table.specs.FactTables.{table_kind};
 
-use crate::kinds::OneKind;
+use crate::one_kind::OneKind;
 use ix_fact_table::FactTable;
 use std::marker::PhantomData;
 

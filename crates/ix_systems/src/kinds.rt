@@ -1,17 +1,10 @@
 //! The kinds of facts as types, and the six systems.
 
-ghost use Rattle.ix_facts.specs.declared.kind.Kind.{Kind};
 ghost use Rattle.ix_facts.specs.declared.kind.Kind.TheVariants as kind;
 
 use crate::facts_of::FactsOf;
+use crate::one_kind::OneKind;
 use ix_facts::Kind;
-
-/// The type of a kind of facts.
-pub trait OneKind {
-    ghost KIND: { Kind };
-
-    const KIND: Kind;
-}
 
 /// Ranges of ints and of lengths, of each path one.
 pub struct Ranges;

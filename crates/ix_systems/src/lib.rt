@@ -12,12 +12,14 @@ mod after;
 mod facts_of;
 mod kinds;
 mod known;
+mod one_kind;
 mod system;
 mod tables;
 
 pub use after::{new_facts, new_facts_of_copy};
 pub use facts_of::FactsOf;
 pub use kinds::{
-    Bounds, Differences, Lengths, LessFacts, LowFacts, Lows, OneKind, RangeFacts, Ranges,
-    SameFacts, SearchFacts, Searches, UpperFacts,
+    Bounds, Differences, Lengths, LessFacts, LowFacts, Lows, RangeFacts, Ranges, SameFacts,
+    SearchFacts, Searches, UpperFacts,
 };
+pub use one_kind::OneKind;

@@ -2,7 +2,7 @@
 
 use crate::after::{new_facts, new_facts_of_copy};
 use crate::facts_of::FactsOf;
-use crate::kinds::OneKind;
+use crate::one_kind::OneKind;
 use ix_core::{Fact, Op, Path, Profile, Type_};
 use ix_facts::{Know, Landmarks, System};
 use ix_lattice::Lattice;
@@ -10,7 +10,8 @@ use std::alloc::{AllocError, Global};
 use std::marker::PhantomData;
 
 impl<K: OneKind> Lattice for FactsOf<K> {
-    ghost use Rattle.ix_systems.specs.KindTables.{FactsBelow, facts_rank, facts_laws};
+    ghost use Rattle.ix_systems.specs.KindTables.{FactsBelow, facts_rank};
+    ghost use Rattle.ix_systems.specs.KindLaws.{facts_laws};
 
     ghost Below = { FactsBelow };
 
@@ -32,7 +33,8 @@ impl<K: OneKind> Lattice for FactsOf<K> {
 }
 
 impl<K: OneKind> System for FactsOf<K> {
-    ghost use Rattle.ix_systems.specs.KindTables.{known_facts, all_own, all_may_stand, order_itself, common_part};
+    ghost use Rattle.ix_systems.specs.KindTables.{known_facts};
+    ghost use Rattle.ix_systems.specs.KindLaws.{all_own, all_may_stand, order_itself, common_part};
 
     ghost known = { known_facts };
 

@@ -8,7 +8,7 @@ ghost use Rattle.ix_facts.specs.Systems.{HaveClasses, IsTable};
 ghost use Rattle.ix_systems.specs.KindTables.{known_facts};
 
 use crate::facts_of::FactsOf;
-use crate::kinds::OneKind;
+use crate::one_kind::OneKind;
 use ix_core::{Fact, OpKind, Path};
 use ix_fact_table::FactTable;
 use std::alloc::{AllocError, Global};

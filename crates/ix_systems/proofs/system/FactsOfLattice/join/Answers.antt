@@ -1,4 +1,4 @@
-use Rattle.ix_systems.specs.KindTables.{is_join}
+use Rattle.ix_systems.specs.KindLaws.{is_join}
 use Rattle.ix_systems.proofs.system.FactsOfLattice.join.Goals as goal
 
 pub returns : goal.returns
