@@ -19,9 +19,9 @@ use Rattle.ix_sign.specs.Store.{Store}
 use Rattle.ix_sign.specs.StoredFacts.{stored}
 use Rattle.ix_sign.specs.Names.{param_in, variable_at}
 use Rattle.ix_sign.specs.Signs.{Adds, IsLeastOf}
-use Rattle.ix_sign.proofs.LeastSteps.{least_given, least_then}
-use Rattle.ix_sign.proofs.SignSteps.{adds_step}
-use Rattle.ix_sign.proofs.SignClasses.{claims_have}
+use Rattle.ix_claim_facts.proofs.LeastSteps.{least_given, least_then}
+use Rattle.ix_claim_facts.proofs.SignSteps.{adds_step}
+use Rattle.ix_claim_facts.proofs.SignClasses.{claims_have}
 use Rattle.ix_core.specs.declared.fact.Path.TheVariants.{Slot}
 use Rattle.ix_method.specs.MethodRules.{variable_claims, copied_claims, KindGives}
 

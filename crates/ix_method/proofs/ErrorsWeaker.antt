@@ -31,7 +31,7 @@ use Rattle.ix_flow.specs.Flow.{Point, Doing, Returning, Ending}
 use Rattle.ix_sign.specs.Names.{variable_at, call_path, object_path, written_path}
 use Rattle.ix_sign.specs.Signs.{Adds, write_facts}
 use Rattle.ix_sign.specs.SignErrors.{Refuses, AllRefuse, IsReached, Unproved, part, ArgumentClaim, ConstructorClaim}
-use Rattle.ix_sign.proofs.SignSteps.{adds_step}
+use Rattle.ix_claim_facts.proofs.SignSteps.{adds_step}
 use Rattle.ix_method.specs.RuleErrors.{AccessLow, AccessHigh, AssignClaim, ElementClaim, KindErrors, PointErrors, subject_of, no_path}
 
 module _ (s t : Stored) (below : IsBelow s t) where

@@ -1,4 +1,4 @@
 pub mod MethodLaws
 pub mod ErrorsWeaker
 mod AfterRules
-pub use Rattle.ix_sign.proofs.SignTruth
+pub use Rattle.ix_claim_facts.proofs.SignTruth

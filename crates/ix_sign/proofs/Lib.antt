@@ -1,7 +1,2 @@
 mod Alike
 mod Rules
--- Passed on from ix_claim_facts.
-pub use Rattle.ix_claim_facts.proofs.SignClasses
-pub use Rattle.ix_claim_facts.proofs.SignSteps
-pub use Rattle.ix_claim_facts.proofs.SignTruth
-pub use Rattle.ix_claim_facts.proofs.LeastSteps
