@@ -51,7 +51,7 @@ accepted_only source made _ accepts good (too_big p also is) = absurd (not_both 
 accepted_only source made _ accepts good (named other also is) = ap (λ p. Whole p) (same_program (program (names source) source.classes) made other good is)
 
 -- a limit of a method
-big_only : (source : Source) (q : Passed) (other : Finding) → Accepts source → program (names source) source.classes ≡ Err q → FoundIn source other → of_limit q ≡ other
+pub big_only : (source : Source) (q : Passed) (other : Finding) → Accepts source → program (names source) source.classes ≡ Err q → FoundIn source other → of_limit q ≡ other
 big_only source q _ accepts bad (passes_limit p is) = absurd (not_none (limit source.classes) p accepts.within is)
 big_only source q _ accepts bad (misnames errors refused) = absurd (no_list source errors refused accepts.no_errors)
 big_only source q _ accepts bad (inherits p none no_errors is) = absurd (not_none (inheritance_limit source.classes) p accepts.few_inherited is)
@@ -93,6 +93,23 @@ errors_only source errors _ refused (too_big p accepts is) = absurd (no_list sou
 errors_only source errors _ refused (named made accepts is) = absurd (no_list source errors refused accepts.no_errors)
 
 -- ---- limits
+
+-- a limit of the source
+pub passed_only : (source : Source) (q : Passed) (other : Finding) → limit source.classes ≡ Some q → FoundIn source other → of_limit q ≡ other
+passed_only source q _ over (passes_limit p is) = ap of_limit (same_passed (limit source.classes) q p over is)
+passed_only source q _ over (misnames errors refused) = absurd (not_none (limit source.classes) q refused.within over)
+passed_only source q _ over (inherits p none no_errors is) = absurd (not_none (limit source.classes) q none over)
+passed_only source q _ over (too_big p accepts is) = absurd (not_none (limit source.classes) q accepts.within over)
+passed_only source q _ over (named made accepts is) = absurd (not_none (limit source.classes) q accepts.within over)
+
+-- the limit of inheritance
+pub inherited_only : (source : Source) (q : Passed) (other : Finding) → limit source.classes ≡ None → name_errors source ≡ [] → inheritance_limit source.classes ≡ Some q → FoundIn source other
+    → of_limit q ≡ other
+inherited_only source q _ within clean over (passes_limit p is) = absurd (not_none (limit source.classes) p within is)
+inherited_only source q _ within clean over (misnames errors refused) = absurd (no_list source errors refused clean)
+inherited_only source q _ within clean over (inherits p none no_errors is) = ap of_limit (same_passed (inheritance_limit source.classes) q p over is)
+inherited_only source q _ within clean over (too_big p accepts is) = absurd (not_none (inheritance_limit source.classes) q accepts.few_inherited over)
+inherited_only source q _ within clean over (named made accepts is) = absurd (not_none (inheritance_limit source.classes) q accepts.few_inherited over)
 
 record Passes (o : Option Passed) (which : Which) (place : ℕ) : Type 0 where
   pub p : Passed
