@@ -108,7 +108,8 @@ fn item_needs(item: &Item) -> Result<Needs, AllocError>
             let asked = cond_needs(cond)?;
             let body = items_needs(body.items.as_slice())?;
             let next = items_needs(next.items.as_slice())?;
-            higher(larger(asked, larger(body, next)), 3)
+            let needs = higher(larger(asked, larger(body, next)), 3)?;
+            Ok(needs)
         }
         Item::Break | Item::Continue | Item::Return(_, _) | Item::Throw(_, _) => Ok(Needs {
             above: 0,
@@ -130,11 +131,13 @@ fn cond_needs(cond: &Cond) -> Result<Needs, AllocError>
         }),
         Cond::Compare(block, _) => {
             let needs = items_needs(block.items.as_slice())?;
-            higher(needs, 1)
+            let needs = higher(needs, 1)?;
+            Ok(needs)
         }
         Cond::Truth(block, _) => {
             let needs = items_needs(block.items.as_slice())?;
-            higher(needs, 1)
+            let needs = higher(needs, 1)?;
+            Ok(needs)
         }
         Cond::Both(first, second) => {
             let first = cond_needs(first.get())?;
@@ -150,7 +153,8 @@ fn cond_needs(cond: &Cond) -> Result<Needs, AllocError>
         }
         Cond::Opposite(asked) => {
             let asked = cond_needs(asked.get())?;
-            higher(asked, 1)
+            let needs = higher(asked, 1)?;
+            Ok(needs)
         }
     }
 }
