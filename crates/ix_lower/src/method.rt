@@ -253,7 +253,8 @@ pub fn written<'t>(
         params: head.params.as_slice(),
     };
     let body = written_body(alloc, &site, home, decl, free)?;
-    with_body(head, body)
+    let method = with_body(head, body)?;
+    Ok(method)
 }
 
 /// The constructor of a class that has none written (JLS 8.8.9).
