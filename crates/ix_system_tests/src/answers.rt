@@ -4,12 +4,12 @@ use crate::drawn::{checksum, drawn_facts};
 use crate::known::{is_proper, known_beside_path, known_beside_target, landmarks, small_facts};
 use crate::reading::{fact, int, number, operation, path, profile, type_of, word};
 use crate::texts::add_facts;
-use ix_core::{Fact, Op, Profile};
+use ix_core::{Fact, Op, Path, Profile, Type_};
 use ix_facts::System;
 use ix_lattice::Lattice;
 use ix_systems::{Bounds, Differences, FactsOf, Lengths, Lows, OneKind, Ranges, Searches};
 use ix_text::{List, Span};
-use std::alloc::Global;
+use std::alloc::{AllocError, Global};
 use std::process::Abort;
 
 fn words_of<'a>(alloc: Global, text: &'a str) -> Option<Vec<&'a str>> {
@@ -91,16 +91,38 @@ fn joined<K: OneKind>(alloc: Global, facts: &[Fact], asked: &str) -> Option<Fact
     first.join(alloc, &second).ok()
 }
 
+/// The table after a copy, where these facts are known besides.
+fn after_copy<K: OneKind>(
+    alloc: Global,
+    table: &FactsOf<K>,
+    facts: &[Fact],
+    target: &Path,
+    source: &Path,
+    ty: &Type_,
+) -> Result<FactsOf<K>, AllocError> {
+    let know = known_beside_path(alloc, table, facts, target)?;
+    table.copy(alloc, target, source, ty, &know, Profile::Int32)
+}
+
+/// The same after an operation.
+fn after_operation<K: OneKind>(
+    alloc: Global,
+    table: &FactsOf<K>,
+    facts: &[Fact],
+    profile: Profile,
+    op: &Op,
+) -> Result<FactsOf<K>, AllocError> {
+    let know = known_beside_target(alloc, table, facts, &op.kind)?;
+    table.after(alloc, op, &know, profile)
+}
+
 /// `copy s3 s9.f0` of an int, `bool s3 s0` and `array s6 s5` of others: the table after a copy to the first path from the second.
 fn copied<K: OneKind>(alloc: Global, facts: &[Fact], words: &[&str]) -> Option<FactsOf<K>> {
     let target = path(words, 1)?;
     let source = path(words, 2)?;
     let ty = type_of(alloc, word(words, 0));
     let table = table::<K>(alloc, facts)?;
-    let know = known_beside_path(alloc, &table, facts, &target).ok()?;
-    table
-        .copy(alloc, &target, &source, &ty, &know, Profile::Int32)
-        .ok()
+    after_copy(alloc, &table, facts, &target, &source, &ty).ok()
 }
 
 /// `ideal s3 = s0 + s1` or `int32 s3 = s0 + s1`: the table after an operation in this profile.
@@ -112,8 +134,7 @@ fn operated<K: OneKind>(alloc: Global, facts: &[Fact], words: &[&str]) -> Option
         parts: List::new(alloc),
     };
     let table = table::<K>(alloc, facts)?;
-    let know = known_beside_target(alloc, &table, facts, &op.kind).ok()?;
-    table.after(alloc, &op, &know, profile).ok()
+    after_operation(alloc, &table, facts, profile, &op).ok()
 }
 
 /// The table that is asked for; `table` asks for that of the facts alone.
