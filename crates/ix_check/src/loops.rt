@@ -6,6 +6,7 @@ ghost use Rattle.ix_core.specs.Tables.{method_at};
 ghost use Rattle.ix_check.specs.Judged.{CanCheck};
 ghost use Rattle.ix_loop_labels.specs.Graph.{behind_code};
 ghost use Rattle.ix_loop_labels.specs.LoopLabels.{AreLoopLabels};
+ghost use Rattle.ix_loop_labels.specs.Visits.{VisitsWithin};
 
 use ix_core::{Method, Profile, Program};
 use ix_loop_labels::{Store, loop_labels};
@@ -23,7 +24,7 @@ fn method_of(program: &Program, number: u32) -> &Method
 }
 
 /// The least labels of the loops of a method in a profile, by the loops' numbers: what is known at the head of each whenever it is reached, by the rules. The
-/// one error is want of memory. Visits of the nodes of the method's graph are counted, at least one each.
+/// one error is want of memory. Visits of the nodes of the method's graph are counted, at least one each, and at most as many as its least labels take.
 pub fn labels<L: Ledger>(
     alloc: Global,
     program: &Program,
@@ -36,6 +37,7 @@ pub fn labels<L: Ledger>(
     requires number { method < length program.now.methods }
     ensures labels { IfOk result (λ found. AreLoopLabels program.now (method_at program.now method) profile found.items) }
     ensures at_least { IfOk result (λ found. steps.old + behind_code (block_code (method_at program.now method).body) 2 ≤ steps.new) }
+    ensures at_most { IfOk result (λ found. VisitsWithin program.now (method_at program.now method) profile steps.old steps.new) }
 {
     names_are_small();
     loops_are_in_order();

@@ -6,6 +6,7 @@ ghost use Rattle.ix_core.specs.Formed.{Formed};
 ghost use Rattle.ix_core.specs.Safe.{Safe};
 ghost use Rattle.ix_check.specs.Judged.{CanCheck};
 ghost use Rattle.ix_errors.specs.MethodErrors.{IsError, nodes_below};
+ghost use Rattle.ix_errors.specs.Visits.{AllVisitsWithin};
 ghost use Rattle.ix_listing.specs.ErrorList.{IsErrorList};
 
 use ix_core::{Error, Profile, Program};
@@ -20,7 +21,7 @@ use std::sync::ledger::{Blank, Ledger};
 /// The errors of the program in a profile: all that the rules derive at the least labels of each method, and those of its text, nothing else, as they are
 /// listed. Where there are none, no run of the program indexes outside an array or makes one of negative length, whatever the inputs that meet the entry's
 /// annotations, and for any number of steps; in the profile `Ideal` this is said of a run up to the first sum that wraps. The one error is want of memory.
-/// Visits of the nodes of each method's graph are counted, at least one each.
+/// Visits of the nodes of each method's graph are counted, at least one each, and at most as many as the least labels of the methods take.
 pub fn check<L: Ledger>(
     alloc: Global,
     program: &Program,
@@ -32,6 +33,7 @@ pub fn check<L: Ledger>(
     ensures errors { IfOk result (λ errors. IsErrorList (IsError program.now profile) errors.items) }
     ensures safe { IfOk result (λ errors. errors.items ≡ [] → Safe program.now profile) }
     ensures at_least { IfOk result (λ errors. steps.old + nodes_below program.now (length program.now.methods) ≤ steps.new) }
+    ensures at_most { IfOk result (λ errors. AllVisitsWithin program.now profile steps.old steps.new) }
 {
     soundness();
     names_are_small();

@@ -12,6 +12,8 @@ use Rattle.ix_method_errors.specs.Exactly.{AreExactly, AddsExactly}
 use Rattle.ix_method_errors.proofs.Refused.{exactly_none, exactly_same, adds_both}
 use Rattle.ix_sound.specs.Sound.{HasNoErrors}
 use Rattle.ix_errors.specs.MethodErrors.{IsErrorOf, IsErrorBelow, HaveNone, nodes_below}
+use Rattle.ix_labels.specs.Visits.{VisitsWithin}
+use Rattle.ix_errors.specs.Visits.{VisitsOfFirst}
 
 module _ (program : Program) (profile : Profile) where
   pub no_methods : (errors : List Ranked) → errors ≡ [] → AreExactly (IsErrorBelow program profile 0) errors
@@ -57,3 +59,12 @@ module _ (program : Program) (profile : Profile) where
   pub next_visits : (count start middle new : ℕ) → start + nodes_below program count ≤ middle → middle + behind_code (block_code (method_at program count).body) 2 ≤ new
       → start + nodes_below program (count + 1) ≤ new
   next_visits count start middle new before last = omega (arith, before, last, nodes_next count)
+
+  pub no_most : (start : ℕ) → VisitsOfFirst program profile 0 start start
+  no_most start = (0, refl, omega arith)
+
+  pub next_most : (count start middle new : ℕ) → VisitsOfFirst program profile count start middle → VisitsWithin program (method_at program count) profile middle new
+      → VisitsOfFirst program profile (count + 1) start new
+  next_most count start middle new (before, before_is, first) (last, last_is, later) =
+      let e : suc count ≡ count + 1 = omega arith in
+      subst (λ n. VisitsOfFirst program profile n start new) e (before + last, (before, last, before_is, last_is, refl), omega (arith, first, later))

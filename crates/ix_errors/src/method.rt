@@ -9,6 +9,7 @@ ghost use Rattle.ix_graph.specs.Heads.{AreInOrder};
 ghost use Rattle.ix_labels.specs.RuleErrors.{OverridesBy};
 ghost use Rattle.ix_method_errors.specs.Exactly.{AddsExactly};
 ghost use Rattle.ix_labels.specs.Naming.{HasSmallNames, HaveSmallNames};
+ghost use Rattle.ix_labels.specs.Visits.{VisitsWithin};
 ghost use Rattle.ix_sound.specs.Sound.{HasNoErrors};
 ghost use Rattle.ix_errors.specs.MethodErrors.{IsErrorOf};
 
@@ -42,7 +43,7 @@ fn push_of_overriding(
 
 /// All errors of a method in a profile: those that no flow of its body avoids, and those of its text, each with the place of its claim in its declaration, in
 /// any order; none of them is what a sound program needs of each method. The one error is want of memory. Visits of the nodes of its graph are counted, at least
-/// one each.
+/// one each, and at most as many as its least labels take.
 pub(crate) fn push_method_errors<L: Ledger>(
     alloc: Global,
     out: &mut Vec<Ranked>,
@@ -58,6 +59,7 @@ pub(crate) fn push_method_errors<L: Ledger>(
     ensures errors { OnOk result (AddsExactly (IsErrorOf program.now profile number) out.old.items out.new.items) }
     ensures none { OnOk result (out.new.items ≡ out.old.items → HasNoErrors program.now profile number) }
     ensures at_least { OnOk result (steps.old + behind_code (block_code (method_at program.now number).body) 2 ≤ steps.new) }
+    ensures at_most { OnOk result (VisitsWithin program.now (method_at program.now number) profile steps.old steps.new) }
 {
     let within = &program.methods.as_slice()[number as usize];
     let labels = label_nodes(alloc, program, within, profile, steps)?;

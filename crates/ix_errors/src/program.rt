@@ -3,6 +3,7 @@
 ghost use Rattle.std.specs.Prelude.{◌≡◌, ◌+◌, ◌≤◌, [], IfOk, length};
 ghost use Rattle.ix_method_errors.specs.Exactly.{AreExactly};
 ghost use Rattle.ix_errors.specs.MethodErrors.{IsReady, IsError, HaveNone, nodes_below};
+ghost use Rattle.ix_errors.specs.Visits.{AllVisitsWithin};
 
 use crate::method::push_method_errors;
 use ix_core::{Profile, Program};
@@ -12,7 +13,7 @@ use std::alloc::{AllocError, Global};
 use std::sync::ledger::Ledger;
 
 /// All errors of a program in a profile, each with the place of its claim in its declaration, in any order; none of them is what a sound program needs. The one
-/// error is want of memory. Visits of the nodes of each method's graph are counted, at least one each.
+/// error is want of memory. Visits of the nodes of each method's graph are counted, at least one each, and at most as many as the least labels of the methods take.
 pub fn program_errors<L: Ledger>(
     alloc: Global,
     program: &Program,
@@ -23,6 +24,7 @@ pub fn program_errors<L: Ledger>(
     ensures errors { IfOk result (λ errors. AreExactly (IsError program.now profile) errors.items) }
     ensures none { IfOk result (λ errors. errors.items ≡ [] → HaveNone program.now profile (length program.now.methods)) }
     ensures at_least { IfOk result (λ errors. steps.old + nodes_below program.now (length program.now.methods) ≤ steps.new) }
+    ensures at_most { IfOk result (λ errors. AllVisitsWithin program.now profile steps.old steps.new) }
 {
     let mut out = Vec::new(alloc);
     for number in 0..program.methods.len() as u32 {

@@ -4,6 +4,8 @@ pub mod ProblemLaws
 pub mod SmallOnce
 -- What the labels of a method are.
 pub mod Labels
+-- How many visits of nodes they take at most.
+pub mod Visits
 -- Passed on from ix_method.
 pub use Rattle.ix_method.specs.MethodRules
 pub use Rattle.ix_method.specs.Naming

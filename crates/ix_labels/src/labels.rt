@@ -3,11 +3,9 @@
 ghost use Rattle.std.specs.Prelude.{◌+◌, ◌≤◌, IfOk};
 ghost use Rattle.ix_core.specs.Code.{block_code};
 ghost use Rattle.ix_graph.specs.Graph.{behind_code};
-ghost use Rattle.ix_solve.specs.Readers.{VisitsAtMost};
-ghost use Rattle.ix_method.specs.StoreOrder.{StoreBelow, store_rank};
 ghost use Rattle.ix_method.specs.Naming.{HasSmallNames, HaveSmallNames};
 ghost use Rattle.ix_labels.specs.Labels.{AreLabels};
-ghost use Rattle.ix_labels.specs.Problem.{readers_in};
+ghost use Rattle.ix_labels.specs.Visits.{visits_by};
 
 use crate::problem::Problem;
 use ix_core::{Method, Profile, Program};
@@ -38,7 +36,7 @@ pub fn label_nodes<'a, L: Ledger>(
     requires method { HasSmallNames within.now }
     ensures labels { IfOk result (AreLabels program.now within.now profile) }
     ensures at_least { IfOk result (λ labels. steps.old + behind_code (block_code within.now.body) 2 ≤ steps.new) }
-    ensures at_most { IfOk result (λ labels. VisitsAtMost StoreBelow store_rank (readers_in labels.graph.nodes.items) steps.old steps.new labels.stores.items) }
+    ensures at_most { IfOk result (λ labels. steps.new ≤ steps.old + visits_by (block_code within.now.body) labels.stores.items) }
 {
     let marks = landmarks(alloc, program, within)?;
     let graph = graph(alloc, within)?;

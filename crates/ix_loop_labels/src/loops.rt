@@ -7,6 +7,7 @@ ghost use Rattle.ix_graph.specs.Graph.{behind_code, method_parts};
 ghost use Rattle.ix_graph.specs.Heads.{AreInOrder};
 ghost use Rattle.ix_loop_labels.specs.LoopLabels as spec;
 ghost use Rattle.ix_labels.specs.Naming.{HasSmallNames, HaveSmallNames};
+ghost use Rattle.ix_labels.specs.Visits.{VisitsWithin};
 
 use ix_core::{Method, Profile, Program};
 use ix_graph::{Node, NodeKind};
@@ -46,7 +47,7 @@ fn at_heads(alloc: Global, nodes: &[Node<'_>], stores: &[Store]) -> Result<Vec<S
 }
 
 /// The least labels of a method's loops in a profile, by the loops' numbers. The one error is want of memory. Each node of the method's graph is visited at least
-/// once.
+/// once, and all of them at most as often as its least labels take.
 pub fn loop_labels<L: Ledger>(
     alloc: Global,
     program: &Program,
@@ -59,6 +60,7 @@ pub fn loop_labels<L: Ledger>(
     requires loops { AreInOrder 0 (method_parts (block_code within.now.body)) }
     ensures labels { IfOk result (λ found. spec.AreLoopLabels program.now within.now profile found.items) }
     ensures at_least { IfOk result (λ found. steps.old + behind_code (block_code within.now.body) 2 ≤ steps.new) }
+    ensures at_most { IfOk result (λ found. VisitsWithin program.now within.now profile steps.old steps.new) }
 {
     let labels = label_nodes(alloc, program, within, profile, steps)?;
     at_heads(

@@ -3,6 +3,8 @@ use Rattle.std.proofs.lemmas.Result.{IfOk-weaker}
 use Rattle.ix_core.specs.declared.program.Method.{Method}
 use Rattle.ix_core.specs.Code.{block_code}
 use Rattle.ix_graph.specs.Graph.{behind_code}
+use Rattle.ix_labels.specs.Visits.{VisitsWithin}
+use Rattle.ix_labels.proofs.Bounded.{visits_within}
 use Rattle.ix_errors.proofs.Added.{method_is}
 use Rattle.ix_errors.proofs.Whole.{found_all}
 use Rattle.ix_errors.proofs.method.push_method_errors.Goals as goal
@@ -32,3 +34,10 @@ returns-clause-at_least c e =
     let within : e.args.number < length e.as_slice.result.now = subst (λ ms. e.args.number < length ms) (sym e.as_slice.ensures) e.requires.number in
     let is = method_is e.args.program.now e.args.number e.as_slice.result.now e.index-as_slice-number.result e.as_slice.ensures within e.index-as_slice-number.is in
     IfOk-weaker e.push_of_nodes.result _ _ (λ _ _. subst (λ (m : Method). e.args.steps.now + behind_code (block_code m.body) 2 ≤ e.label_nodes.new.steps) (sym is) e.in_ok-labels.ensures.at_least) e.push_of_nodes.ensures
+
+pub returns-clause-at_most : goal.returns-clause-at_most
+returns-clause-at_most c e =
+    let within : e.args.number < length e.as_slice.result.now = subst (λ ms. e.args.number < length ms) (sym e.as_slice.ensures) e.requires.number in
+    let is = method_is e.args.program.now e.args.number e.as_slice.result.now e.index-as_slice-number.result e.as_slice.ensures within e.index-as_slice-number.is in
+    let visits = visits_within e.args.program.now e.index-as_slice-number.result e.args.profile e.in_ok-labels.labels e.args.steps.now e.label_nodes.new.steps e.in_ok-labels.ensures.labels e.in_ok-labels.ensures.at_most in
+    IfOk-weaker e.push_of_nodes.result _ _ (λ _ _. subst (λ (m : Method). VisitsWithin e.args.program.now m e.args.profile e.args.steps.now e.label_nodes.new.steps) (sym is) visits) e.push_of_nodes.ensures

@@ -6,6 +6,7 @@ use Rattle.ix_graph.specs.Built.{kind_of}
 use Rattle.ix_graph.specs.Graph.{Joins, behind_code}
 use Rattle.ix_labels.specs.Problem.{readers_in, kind_in}
 use Rattle.ix_labels.proofs.Solved.{solved, least}
+use Rattle.ix_labels.proofs.Bounded.{visits_bounded}
 use Rattle.ix_labels.proofs.labels.label_nodes.Goals as goal
 
 pub returns-clause-labels : goal.returns-clause-labels
@@ -24,3 +25,7 @@ returns-clause-labels c e =
       solution = solved e.args.program.now method e.args.profile marks e.in_ok-marks.ensures.landmarks body (kind_in nodes) are (length (readers_in nodes)) (behind_code body 2) e.in_ok-stores.stores.items same many e.in_ok-stores.ensures.solution;
       least = least e.args.program.now method e.args.profile marks e.in_ok-marks.ensures.landmarks body (kind_in nodes) are (length (readers_in nodes)) (behind_code body 2) e.in_ok-stores.stores.items same many e.in_ok-stores.ensures.least;
     }
+
+pub returns-clause-at_most : goal.returns-clause-at_most
+returns-clause-at_most c e =
+    visits_bounded (block_code e.args.within.now.body) e.in_ok-graph.graph.nodes.items e.in_ok-stores.stores.items e.args.steps.now _ e.in_ok-graph.ensures.size e.in_ok-graph.ensures.edges e.in_ok-stores.ensures.at_most

@@ -1,0 +1,77 @@
+-- The bound on the visits of a method's nodes, by its edges and its least labels.
+use Rattle.std.specs.List.{AllZip}
+use Rattle.std.proofs.Common.{◌≡◌, ◌+◌, ◌*◌, ◌-◌, ◌≤◌, ℕ, suc, List, [], ◌∷◌, Some, length, slice_get, arith, refl, sym, ap, ◌∙◌}
+use Rattle.ix_core.specs.declared.fact.Profile.{Profile}
+use Rattle.ix_core.specs.declared.program.Method.{Method}
+use Rattle.ix_core.specs.declared.program.Program.{Program}
+use Rattle.ix_core.specs.Code.{Code, block_code}
+use Rattle.ix_graph.specs.declared.node.Edge.{Edge}
+use Rattle.ix_graph.specs.declared.node.Node.{Node}
+use Rattle.ix_graph.specs.Built.{edges_of, targets_from}
+use Rattle.ix_graph.specs.Graph.{behind_code, method_parts}
+use Rattle.ix_graph.specs.Linked.{HaveEdges}
+use Rattle.ix_lattice.specs.Lattice.{LatticeLaws, same_rank}
+use Rattle.ix_method.specs.Store.{Store}
+use Rattle.ix_method.specs.StoreOrder.{StoreBelow, store_rank, nowhere, top_rank}
+use Rattle.ix_solve.specs.Readers.{readings, VisitsAtMost}
+use Rattle.ix_solve.specs.Solutions.{one_least_solution}
+use Rattle.ix_graph.specs.GraphSolutions.{NodeAsks}
+use Rattle.ix_method.specs.MethodRules.{method_rules}
+use Rattle.ix_labels.specs.declared.labels.Labels.{Labels}
+use Rattle.ix_labels.specs.Labels.{AreLabels}
+use Rattle.ix_labels.specs.Problem.{readers_in}
+use Rattle.ix_labels.specs.Visits.{targets_of, readers_by, visits_by, MostVisits, VisitsWithin}
+
+-- the readers of the nodes are the targets of the edges
+readers_from : (edges : List (ℕ × Edge × ℕ)) (nodes : List Node) (at : ℕ) → ((k : ℕ) (node : Node) → slice_get nodes k ≡ Some node → node.readers.items ≡ targets_from (at + k) edges) → readers_in nodes ≡ targets_of edges at (length nodes)
+readers_from edges [] at each = refl
+readers_from edges (node ∷ nodes) at each =
+    let none : at + 0 ≡ at = omega arith in
+    let first : node.readers.items ≡ targets_from at edges = each 0 node refl ∙ ap (λ n. targets_from n edges) none in
+    let rest = readers_from edges nodes (suc at) (λ k other found. each (suc k) other found ∙ (let e : at + suc k ≡ suc at + k = omega arith in ap (λ n. targets_from n edges) e)) in
+    ap (λ by. by ∷ readers_in nodes) first ∙ ap (λ more. targets_from at edges ∷ more) rest
+
+pub readers_are : (body : Code) (nodes : List Node) → length nodes ≡ behind_code body 2 → HaveEdges nodes (edges_of (method_parts body)) → readers_in nodes ≡ readers_by body
+readers_are body nodes size have =
+    readers_from (edges_of (method_parts body)) nodes 0 (λ k node found. (have k node found).readers ∙ (let e : k ≡ 0 + k = omega arith in ap (λ n. targets_from n (edges_of (method_parts body))) e))
+    ∙ ap (targets_of (edges_of (method_parts body)) 0) size
+
+-- the solver's bound is the one by the edges
+pub visits_bounded : (body : Code) (nodes : List Node) (labels : List Store) (before after : ℕ) → length nodes ≡ behind_code body 2 → HaveEdges nodes (edges_of (method_parts body))
+    → VisitsAtMost StoreBelow store_rank (readers_in nodes) before after labels → after ≤ before + visits_by body labels
+visits_bounded body nodes labels before after size have bound =
+    let are = readers_are body nodes size have in
+    let many : length (readers_in nodes) ≡ behind_code body 2 = counted nodes ∙ size in
+    let found : after ≤ before + length (readers_in nodes) + readings store_rank top_rank (readers_in nodes) labels = bound nowhere (λ value. tt) in
+    let same : readings store_rank top_rank (readers_in nodes) labels ≡ readings store_rank top_rank (readers_by body) labels = ap (λ by. readings store_rank top_rank by labels) are in
+    let within : after ≤ before + (behind_code body 2 + readings store_rank top_rank (readers_by body) labels) = omega (arith, found, many, same) in
+    within
+  where
+    counted : (nodes : List Node) → length (readers_in nodes) ≡ length nodes
+    counted [] = refl
+    counted (node ∷ nodes) = let later = counted nodes in omega (arith, later)
+
+pub visits_within : (program : Program) (method : Method) (profile : Profile) (labels : Labels) (before after : ℕ) → AreLabels program method profile labels
+    → after ≤ before + visits_by (block_code method.body) labels.stores.items → VisitsWithin program method profile before after
+visits_within program method profile labels before after are within = (
+  visits_by (block_code method.body) labels.stores.items,
+  record { labels = labels.stores.items; solution = are.solution; least = are.least; is = refl },
+  within,
+)
+
+-- ---- there is one such number
+
+same_readings : LatticeLaws StoreBelow store_rank → (readers : List (List ℕ)) (a b : List Store) → AllZip StoreBelow a b → AllZip StoreBelow b a → readings store_rank top_rank readers a ≡ readings store_rank top_rank readers b
+same_readings laws [] a b up down = refl
+same_readings laws (by ∷ readers) [] [] up down = refl
+same_readings laws (by ∷ readers) [] (y ∷ b) up down = absurd up
+same_readings laws (by ∷ readers) (x ∷ a) [] up down = absurd up
+same_readings laws (by ∷ readers) (x ∷ a) (y ∷ b) up down =
+    let one : store_rank x ≡ store_rank y = same_rank laws x y up.0 down.0 in
+    ap (λ r. length by * (top_rank - r) + readings store_rank top_rank readers a) one ∙ ap (λ more. length by * (top_rank - store_rank y) + more) (same_readings laws readers a b up.1 down.1)
+
+pub one_most : LatticeLaws StoreBelow store_rank → (program : Program) (method : Method) (profile : Profile) (first second : ℕ) → MostVisits program method profile first → MostVisits program method profile second → first ≡ second
+one_most laws program method profile first second one other =
+    let body = block_code method.body in
+    let same = one_least_solution StoreBelow (behind_code body 2) (NodeAsks (method_rules program method profile) (method_parts body)) one.labels other.labels one.solution one.least other.solution other.least in
+    one.is ∙ ap (λ more. behind_code body 2 + more) (same_readings laws (readers_by body) one.labels other.labels same.0 same.1) ∙ sym other.is
