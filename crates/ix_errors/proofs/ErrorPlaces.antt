@@ -11,7 +11,6 @@ use Rattle.ix_core.specs.Tables.{method_at, no_method, body_of}
 use Rattle.ix_flow.specs.Flow.{Rules, Avoids, IsDerived}
 use Rattle.ix_labels.specs.MethodRules.{method_rules}
 use Rattle.ix_method_errors.specs.Ranked.{Ranked}
-use Rattle.ix_labels.specs.StoredFacts.{stored}
 use Rattle.ix_errors.specs.MethodErrors.{Derives, IsErrorOf}
 use Rattle.ix_code_places.specs.CodePlaces.{MethodPlaces, IsIn, PlacesWithin}
 use Rattle.ix_errors.proofs.FlowPlaces.{is_flow_more}
@@ -38,7 +37,7 @@ module _ (end : ℕ) (program : Program) (profile : Profile) (places : PlacesWit
   any_derived error other past derived = λ labels flow.
       let m = method_places (IsIn end) program.methods number places within in
       derived labels (is_flow_more (IsIn end) R (Avoids R (Derives program method number) (found other)) (Avoids R (Derives program method number) (found error))
-      (λ point store at avoided gives. let p = point_place (IsIn end) program method number point (stored store) error rank m.0 at gives in let le = p.0 in omega (arith, le, past)) labels (body_of method) m.1 flow)
+      (λ point store at avoided gives. let p = point_place (IsIn end) program method number point store error rank m.0 at gives in let le = p.0 in omega (arith, le, past)) labels (body_of method) m.1 flow)
 
   pub error_starts : (error : Error) → IsErrorOf program profile number error rank → (error.span.from ≤ end) ⊎ ((other : Error) → IsErrorOf program profile number other rank)
   error_starts error either = elim either [

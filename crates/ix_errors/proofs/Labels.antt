@@ -4,6 +4,7 @@ use Rattle.ix_core.specs.declared.error.Error.{Error}
 use Rattle.ix_core.specs.declared.fact.Profile.{Profile}
 use Rattle.ix_core.specs.declared.program.Method.{Method}
 use Rattle.ix_core.specs.declared.program.Program.{Program}
+use Rattle.ix_facts.specs.Stores.{Stored}
 use Rattle.ix_flow.specs.Flow.{Rules, Avoids}
 use Rattle.ix_graph.specs.declared.node.Node.{Node}
 use Rattle.ix_graph.specs.Built.{kind_of, kinds_of}
@@ -14,7 +15,6 @@ use Rattle.ix_labels.specs.MethodRules.{method_rules}
 use Rattle.ix_labels.specs.RuleErrors.{OpText, TestEscapes}
 use Rattle.ix_method_errors.specs.Ranked.{Ranked}
 use Rattle.ix_labels.specs.Store.{Store}
-use Rattle.ix_labels.specs.StoredFacts.{stored}
 use Rattle.ix_sound.specs.Errors.{NoErrors}
 use Rattle.ix_errors.specs.NodeErrors.{LabelGives, TextGives}
 use Rattle.ix_errors.specs.MethodErrors.{Derives}
@@ -37,7 +37,7 @@ store_there [] at within = absurd (omega (arith, within))
 store_there (first ∷ stores) zero within = (first, refl)
 store_there (first ∷ stores) (suc at) within = store_there stores at (omega (arith, within))
 
-module _ (program : Program) (method : Method) (number : ℕ) (profile : Profile) (stores : List Store) (error : Error) (rank : ℕ) where
+module _ (program : Program) (method : Method) (number : ℕ) (profile : Profile) (stores : List Stored) (error : Error) (rank : ℕ) where
   abbrev pub R : Rules
   R = method_rules program method profile
 
@@ -56,7 +56,7 @@ module _ (program : Program) (method : Method) (number : ℕ) (profile : Profile
   later_is all rest kind first same k = same (suc k) ∙ (let e : first + suc k ≡ suc first + k = omega arith in ap (slice_get all) e)
 
   pub avoid : (all : List Kind) (parts : List Part) (first : ℕ) → AreNumbered first parts → ((k : ℕ) → slice_get (kinds_of parts) k ≡ slice_get all (first + k))
-      → ((at : ℕ) (kind : Kind) → slice_get all at ≡ Some kind → LabelGives program method number kind (stored (label_at R stores at)) error rank → ⊥) → AvoidAll parts
+      → ((at : ℕ) (kind : Kind) → slice_get all at ≡ Some kind → LabelGives program method number kind (label_at R stores at) error rank → ⊥) → AvoidAll parts
   avoid all [] first numbered same none = tt
   avoid all (NodePart at Starts ∷ parts) first numbered same none = avoid all parts (suc first) numbered.1 (later_is all (kinds_of parts) Starts first same) none
   avoid all (NodePart at (Does op) ∷ parts) first numbered same none =
@@ -73,29 +73,29 @@ module _ (program : Program) (method : Method) (number : ℕ) (profile : Profile
 
   -- what is avoided at all points no label gives
   pub refused : (parts : List Part) (first k at : ℕ) (kind : Kind) → AreNumbered first parts → at ≡ first + k → slice_get (kinds_of parts) k ≡ Some kind → AvoidAll parts
-      → LabelGives program method number kind (stored (label_at R stores at)) error rank → ⊥
+      → LabelGives program method number kind (label_at R stores at) error rank → ⊥
   refused [] first k at kind numbered is there avoided gives = cc
-  refused (NodePart n Starts ∷ parts) first zero at kind numbered is there avoided gives = subst (λ j. LabelGives program method number j (stored (label_at R stores at)) error rank) (let e : kind ≡ Starts = cc in e) gives
+  refused (NodePart n Starts ∷ parts) first zero at kind numbered is there avoided gives = subst (λ j. LabelGives program method number j (label_at R stores at) error rank) (let e : kind ≡ Starts = cc in e) gives
   refused (NodePart n Starts ∷ parts) first (suc k) at kind numbered is there avoided gives = refused parts (suc first) k at kind numbered.1 (omega (arith, is)) there avoided gives
   refused (NodePart n (Does op) ∷ parts) first zero at kind numbered is there avoided gives =
       let e : at ≡ n = omega (arith, is, numbered.0) in
-      avoided.0 (subst (λ m. LabelGives program method number (Does op) (stored (label_at R stores m)) error rank) e (subst (λ j. LabelGives program method number j (stored (label_at R stores at)) error rank) (let i : kind ≡ Does op = cc in i) gives))
+      avoided.0 (subst (λ m. LabelGives program method number (Does op) (label_at R stores m) error rank) e (subst (λ j. LabelGives program method number j (label_at R stores at) error rank) (let i : kind ≡ Does op = cc in i) gives))
   refused (NodePart n (Does op) ∷ parts) first (suc k) at kind numbered is there avoided gives = refused parts (suc first) k at kind numbered.1 (omega (arith, is)) there avoided.1 gives
-  refused (NodePart n (Compares test) ∷ parts) first zero at kind numbered is there avoided gives = subst (λ j. LabelGives program method number j (stored (label_at R stores at)) error rank) (let e : kind ≡ Compares test = cc in e) gives
+  refused (NodePart n (Compares test) ∷ parts) first zero at kind numbered is there avoided gives = subst (λ j. LabelGives program method number j (label_at R stores at) error rank) (let e : kind ≡ Compares test = cc in e) gives
   refused (NodePart n (Compares test) ∷ parts) first (suc k) at kind numbered is there avoided gives = refused parts (suc first) k at kind numbered.1 (omega (arith, is)) there avoided gives
-  refused (NodePart n (Tells code slot) ∷ parts) first zero at kind numbered is there avoided gives = subst (λ j. LabelGives program method number j (stored (label_at R stores at)) error rank) (let e : kind ≡ Tells code slot = cc in e) gives
+  refused (NodePart n (Tells code slot) ∷ parts) first zero at kind numbered is there avoided gives = subst (λ j. LabelGives program method number j (label_at R stores at) error rank) (let e : kind ≡ Tells code slot = cc in e) gives
   refused (NodePart n (Tells code slot) ∷ parts) first (suc k) at kind numbered is there avoided gives = refused parts (suc first) k at kind numbered.1 (omega (arith, is)) there avoided gives
-  refused (NodePart n Joins ∷ parts) first zero at kind numbered is there avoided gives = subst (λ j. LabelGives program method number j (stored (label_at R stores at)) error rank) (let e : kind ≡ Joins = cc in e) gives
+  refused (NodePart n Joins ∷ parts) first zero at kind numbered is there avoided gives = subst (λ j. LabelGives program method number j (label_at R stores at) error rank) (let e : kind ≡ Joins = cc in e) gives
   refused (NodePart n Joins ∷ parts) first (suc k) at kind numbered is there avoided gives = refused parts (suc first) k at kind numbered.1 (omega (arith, is)) there avoided gives
-  refused (NodePart n (Heads loop scope) ∷ parts) first zero at kind numbered is there avoided gives = subst (λ j. LabelGives program method number j (stored (label_at R stores at)) error rank) (let e : kind ≡ Heads loop scope = cc in e) gives
+  refused (NodePart n (Heads loop scope) ∷ parts) first zero at kind numbered is there avoided gives = subst (λ j. LabelGives program method number j (label_at R stores at) error rank) (let e : kind ≡ Heads loop scope = cc in e) gives
   refused (NodePart n (Heads loop scope) ∷ parts) first (suc k) at kind numbered is there avoided gives = refused parts (suc first) k at kind numbered.1 (omega (arith, is)) there avoided gives
   refused (NodePart n (Returns value span) ∷ parts) first zero at kind numbered is there avoided gives =
       let e : at ≡ n = omega (arith, is, numbered.0) in
-      avoided.0 (subst (λ m. LabelGives program method number (Returns value span) (stored (label_at R stores m)) error rank) e (subst (λ j. LabelGives program method number j (stored (label_at R stores at)) error rank) (let i : kind ≡ Returns value span = cc in i) gives))
+      avoided.0 (subst (λ m. LabelGives program method number (Returns value span) (label_at R stores m) error rank) e (subst (λ j. LabelGives program method number j (label_at R stores at) error rank) (let i : kind ≡ Returns value span = cc in i) gives))
   refused (NodePart n (Returns value span) ∷ parts) first (suc k) at kind numbered is there avoided gives = refused parts (suc first) k at kind numbered.1 (omega (arith, is)) there avoided.1 gives
   refused (NodePart n Ends ∷ parts) first zero at kind numbered is there avoided gives =
       let e : at ≡ n = omega (arith, is, numbered.0) in
-      avoided.0 (subst (λ m. LabelGives program method number Ends (stored (label_at R stores m)) error rank) e (subst (λ j. LabelGives program method number j (stored (label_at R stores at)) error rank) (let i : kind ≡ Ends = cc in i) gives))
+      avoided.0 (subst (λ m. LabelGives program method number Ends (label_at R stores m) error rank) e (subst (λ j. LabelGives program method number j (label_at R stores at) error rank) (let i : kind ≡ Ends = cc in i) gives))
   refused (NodePart n Ends ∷ parts) first (suc k) at kind numbered is there avoided gives = refused parts (suc first) k at kind numbered.1 (omega (arith, is)) there avoided.1 gives
   refused (EdgePart node pass target ∷ parts) first k at kind numbered is there avoided gives = refused parts first k at kind numbered is there avoided gives
 
@@ -135,7 +135,7 @@ module _ (program : Program) (method : Method) (number : ℕ) (profile : Profile
   at_text (first ∷ kinds) (suc at) kind there gives = inr (at_text kinds at kind there gives)
 
 -- what avoids each error has none
-pub together : (program : Program) (method : Method) (number : ℕ) (profile : Profile) (stores : List Store) (parts : List Part) → ((error : Error) (rank : ℕ) → AvoidAll program method number profile stores error rank parts)
+pub together : (program : Program) (method : Method) (number : ℕ) (profile : Profile) (stores : List Stored) (parts : List Part) → ((error : Error) (rank : ℕ) → AvoidAll program method number profile stores error rank parts)
     → AllPoints (λ at point. NoErrors program method number point (label_at (method_rules program method profile) stores at)) parts
 together program method number profile stores [] avoided = tt
 together program method number profile stores (NodePart at Starts ∷ parts) avoided = together program method number profile stores parts avoided

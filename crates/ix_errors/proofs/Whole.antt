@@ -1,5 +1,6 @@
 -- What is found at the nodes of a method's graph, with what overriding gives, is exactly what the rules derive of the method.
-use Rattle.std.proofs.Common.{◌≡◌, ◌⊎◌, inl, inr, ◌+◌, ◌<◌, ℕ, zero, suc, List, [], ◌∷◌, ◌++◌, Some, length, slice_get, unwrap_or, arith, sym, ap, subst, ◌∙◌}
+use Rattle.std.proofs.Common.{◌≡◌, ◌⊎◌, inl, inr, ◌+◌, ◌<◌, ℕ, zero, suc, List, [], ◌∷◌, ◌++◌, Some, length, map, slice_get, unwrap_or, arith, sym, ap, subst, ◌∙◌}
+use Rattle.std.proofs.lemmas.List.{length-map}
 use Rattle.std.proofs.lemmas.Option.{slice_get_within}
 use Rattle.ix_core.specs.declared.error.Error.{Error}
 use Rattle.ix_core.specs.declared.fact.Profile.{Profile}
@@ -7,6 +8,7 @@ use Rattle.ix_core.specs.declared.program.Method.{Method}
 use Rattle.ix_core.specs.declared.program.Program.{Program}
 use Rattle.ix_core.specs.Code.{Code, block_code}
 use Rattle.ix_core.specs.Tables.{method_at}
+use Rattle.ix_facts.specs.Stores.{Stored}
 use Rattle.ix_flow.specs.Flow.{Rules, RulesLaws, IsDerived}
 use Rattle.ix_graph.specs.declared.node.Node.{Node}
 use Rattle.ix_graph.specs.Built.{kind_of, kinds_of}
@@ -28,6 +30,7 @@ use Rattle.ix_method_errors.specs.Exactly.{IsListed, AreExactly, AddsExactly}
 use Rattle.ix_method_errors.proofs.Refused.{adds_both}
 use Rattle.ix_labels.specs.Store.{Store}
 use Rattle.ix_labels.specs.StoredFacts.{stored}
+use Rattle.ix_solve.proofs.LabelLists.{meaning_at}
 use Rattle.ix_sound.specs.Errors.{NoErrors}
 use Rattle.ix_sound.specs.Sound.{HasNoErrors}
 use Rattle.ix_errors.specs.NodeErrors.{LabelGives, TextGives, NodeGives, AtNode}
@@ -66,8 +69,12 @@ module _ (program : Program) (profile : Profile) (number : ℕ) (labels : Labels
   abbrev stores : List Store
   stores = labels.stores.items
 
-  label_is : (at : ℕ) (label : Store) → slice_get stores at ≡ Some label → label_at R stores at ≡ label
-  label_is at label found = ap (λ o. unwrap_or o R.nowhere) found
+  -- what they say
+  abbrev said : List Stored
+  said = map stored stores
+
+  label_is : (at : ℕ) (label : Store) → slice_get stores at ≡ Some label → label_at R said at ≡ stored label
+  label_is at label found = ap (λ o. unwrap_or o R.nowhere) (meaning_at stored stores at label found)
 
   -- a node of a kind, with its label
   node_at : (at : ℕ) (kind : Kind) → slice_get (kinds_of parts) at ≡ Some kind → (node : Node) × (label : Store) × (at < length nodes) × (slice_get nodes at ≡ Some node) × (slice_get stores at ≡ Some label) × (kind_of node.kind ≡ kind)
@@ -75,7 +82,7 @@ module _ (program : Program) (profile : Profile) (number : ℕ) (labels : Labels
       let n = node_there nodes at kind (ap (λ ks. slice_get ks at) are.kinds ∙ there) in
       let within : at < length nodes = slice_get_within nodes at n.0 n.1 in
       let inside : 0 + at < behind_code body 2 = below_at parts 0 at (behind_code body 2) (method_numbered body) (method_below body) (slice_get_within (kinds_of parts) at kind there) in
-      let s = store_there stores at (omega (arith, inside, are.solution.len)) in
+      let s = store_there stores at (omega (arith, inside, are.solution.len, length-map stores stored)) in
       (n.0, s.0, within, n.1, s.1, n.2)
 
   -- ---- what labels give
@@ -85,15 +92,15 @@ module _ (program : Program) (profile : Profile) (number : ℕ) (labels : Labels
       abbrev it : Ranked
       it = record { error = error; rank = rank }
 
-      agrees : (IsDerived R (Derives program method number) body it → AvoidAll program method number profile stores error rank parts → ⊥)
-          × ((AvoidAll program method number profile stores error rank parts → ⊥) → IsDerived R (Derives program method number) body it)
+      agrees : (IsDerived R (Derives program method number) body it → AvoidAll program method number profile said error rank parts → ⊥)
+          × ((AvoidAll program method number profile said error rank parts → ⊥) → IsDerived R (Derives program method number) body it)
       agrees =
-          derived_exactly R L (Derives program method number) (λ point s t e below. errors_weaker (stored s) (stored t) below program method number e.error e.rank point) body
-          (labels_of R L parts stores (behind_code body 2) are.solution (head_of parts)) (joined_of R L parts stores (behind_code body 2) are.solution (head_of parts)) (label_at R stores) it
-          (stores_keep R L body stores order are.solution) (stores_least R L body stores are.least)
+          derived_exactly R L (Derives program method number) (λ point s t e below. errors_weaker s t below program method number e.error e.rank point) body
+          (labels_of R L parts said (behind_code body 2) are.solution (head_of parts)) (joined_of R L parts said (behind_code body 2) are.solution (head_of parts)) (label_at R said) it
+          (stores_keep R L body said order are.solution) (stores_least R L body said are.least)
 
       -- an error of a node's label is listed
-      labelled : (at : ℕ) (kind : Kind) → slice_get (kinds_of parts) at ≡ Some kind → LabelGives program method number kind (stored (label_at R stores at)) error rank → IsListed it errors
+      labelled : (at : ℕ) (kind : Kind) → slice_get (kinds_of parts) at ≡ Some kind → LabelGives program method number kind (label_at R said at) error rank → IsListed it errors
       labelled at kind there gives =
           let n = node_at at kind there in
           exact.all error rank (inr (record {
@@ -103,13 +110,13 @@ module _ (program : Program) (profile : Profile) (number : ℕ) (labels : Labels
             found = n.3;
             label = n.1;
             labelled = n.4;
-            here = inl (subst (λ k. LabelGives program method number k (stored n.1) error rank) (sym n.5) (subst (λ s. LabelGives program method number kind (stored s) error rank) (label_is at n.1 n.4) gives));
+            here = inl (subst (λ k. LabelGives program method number k (stored n.1) error rank) (sym n.5) (subst (λ s. LabelGives program method number kind s error rank) (label_is at n.1 n.4) gives));
           }))
 
       derived_listed : IsDerived R (Derives program method number) body it → IsListed it errors
       derived_listed derived = elim (listed_or_not it errors) [
         | inl has ↦ has
-        | inr absent ↦ absurd (agrees.0 derived (avoid program method number profile stores error rank (kinds_of parts) parts 0 (method_numbered body) (λ k. let e : k ≡ 0 + k = omega arith in ap (slice_get (kinds_of parts)) e)
+        | inr absent ↦ absurd (agrees.0 derived (avoid program method number profile said error rank (kinds_of parts) parts 0 (method_numbered body) (λ k. let e : k ≡ 0 + k = omega arith in ap (slice_get (kinds_of parts)) e)
             (λ at kind there gives. absent (labelled at kind there gives))))
       ]
 
@@ -130,17 +137,17 @@ module _ (program : Program) (profile : Profile) (number : ℕ) (labels : Labels
       all_listed (inl derived) = derived_listed derived
       all_listed (inr (inl over)) = exact.all error rank (inl over)
       all_listed (inr (inr somewhere)) =
-          let r = text_at program method number profile stores error rank (kinds_of parts) (somewhere_node (λ done. OpText program method done error rank) (λ test. TestEscapes method test error rank) body somewhere) in
+          let r = text_at program method number profile said error rank (kinds_of parts) (somewhere_node (λ done. OpText program method done error rank) (λ test. TestEscapes method test error rank) body somewhere) in
           text_listed r.0 r.1 r.2 r.3
 
       node_only : AtNode (NodeGives program method number) nodes stores (length nodes) error rank → IsErrorOf program profile number error rank
       node_only node =
           let there : slice_get (kinds_of parts) node.at ≡ Some (kind_of node.node.kind) = ap (λ ks. slice_get ks node.at) (sym are.kinds) ∙ kind_there nodes node.at node.node node.found in
           elim node.here [
-            | inl gives ↦ inl (agrees.1 (λ avoided. refused program method number profile stores error rank parts 0 node.at node.at (kind_of node.node.kind) (method_numbered body) (let e : node.at ≡ 0 + node.at = omega arith in e) there avoided
-                (subst (λ s. LabelGives program method number (kind_of node.node.kind) (stored s) error rank) (sym (label_is node.at node.label node.labelled)) gives)))
+            | inl gives ↦ inl (agrees.1 (λ avoided. refused program method number profile said error rank parts 0 node.at node.at (kind_of node.node.kind) (method_numbered body) (let e : node.at ≡ 0 + node.at = omega arith in e) there avoided
+                (subst (λ s. LabelGives program method number (kind_of node.node.kind) s error rank) (sym (label_is node.at node.label node.labelled)) gives)))
             | inr gives ↦ inr (inr (node_somewhere (λ done. OpText program method done error rank) (λ test. TestEscapes method test error rank) body
-                (at_text program method number profile stores error rank (kinds_of parts) node.at (kind_of node.node.kind) there gives)))
+                (at_text program method number profile said error rank (kinds_of parts) node.at (kind_of node.node.kind) there gives)))
           ]
 
     pub method_exact : AreExactly (IsErrorOf program profile number) errors
@@ -157,18 +164,18 @@ module _ (program : Program) (profile : Profile) (number : ℕ) (labels : Labels
       unlisted : (found : Ranked) → IsListed found errors → ⊥
       unlisted found has = subst (IsListed found) none has
 
-      avoids : (error : Error) (rank : ℕ) → AvoidAll program method number profile stores error rank parts
+      avoids : (error : Error) (rank : ℕ) → AvoidAll program method number profile said error rank parts
       avoids error rank =
-          avoid program method number profile stores error rank (kinds_of parts) parts 0 (method_numbered body) (λ k. let e : k ≡ 0 + k = omega arith in ap (slice_get (kinds_of parts)) e)
+          avoid program method number profile said error rank (kinds_of parts) parts 0 (method_numbered body) (λ k. let e : k ≡ 0 + k = omega arith in ap (slice_get (kinds_of parts)) e)
           (λ at kind there gives. unlisted (it error rank) (labelled error rank at kind there gives))
 
       pub has_none : HasNoErrors program profile number
       has_none = record {
-        labels = labels_of R L parts stores (behind_code body 2) are.solution (head_of parts);
+        labels = labels_of R L parts said (behind_code body 2) are.solution (head_of parts);
         flow =
-            fine_flows R L (NoErrors program method number) (λ point s t below fine error rank has. fine error rank (errors_weaker (stored s) (stored t) below program method number error rank point has)) body
-            (labels_of R L parts stores (behind_code body 2) are.solution (head_of parts)) (joined_of R L parts stores (behind_code body 2) are.solution (head_of parts)) (label_at R stores)
-            (stores_keep R L body stores order are.solution) (together program method number profile stores parts avoids);
+            fine_flows R L (NoErrors program method number) (λ point s t below fine error rank has. fine error rank (errors_weaker s t below program method number error rank point has)) body
+            (labels_of R L parts said (behind_code body 2) are.solution (head_of parts)) (joined_of R L parts said (behind_code body 2) are.solution (head_of parts)) (label_at R said)
+            (stores_keep R L body said order are.solution) (together program method number profile said parts avoids);
         text = λ error rank gives. unlisted (it error rank) (all_listed error rank (inr gives));
       }
 

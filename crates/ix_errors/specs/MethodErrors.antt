@@ -7,6 +7,7 @@ use Rattle.ix_core.specs.declared.program.Method.{Method}
 use Rattle.ix_core.specs.declared.program.Program.{Program}
 use Rattle.ix_core.specs.Code.{block_code}
 use Rattle.ix_core.specs.Tables.{method_at, body_of}
+use Rattle.ix_facts.specs.Stores.{Stored}
 use Rattle.ix_flow.specs.Flow.{Point, IsDerived}
 use Rattle.ix_graph.specs.Graph.{behind_code, method_parts}
 use Rattle.ix_graph.specs.Heads.{AreInOrder}
@@ -15,14 +16,13 @@ use Rattle.ix_labels.specs.RuleErrors.{PointErrors, TextErrors}
 use Rattle.ix_method_errors.specs.Ranked.{Ranked}
 use Rattle.ix_labels.specs.Naming.{HaveSmallNames}
 use Rattle.ix_sound.specs.Sound.{HasNoErrors}
-use Rattle.ix_labels.specs.Store.{Store}
-use Rattle.ix_labels.specs.StoredFacts.{stored}
 
 -- what a store gives at a point
-abbrev pub Derives : Program → Method → ℕ → Point → Store → Ranked → Type 0
-Derives program method number point store found = PointErrors program method number point (stored store) found.error found.rank
+abbrev pub Derives : Program → Method → ℕ → Point → Stored → Ranked → Type 0
+Derives program method number point store found = PointErrors program method number point store found.error found.rank
 
--- An error of a method: no flow of its body avoids it, or the text alone gives it.
+-- An error of a method: no flow of its body avoids it, whatever facts are taken to be known at each place, or the text alone gives it. A weaker store has all
+-- errors of a stronger one, so those that no flow avoids are those at the least labels (`derived_exactly` of ix_graph).
 abbrev pub IsErrorOf : Program → Profile → ℕ → Error → ℕ → Type 0
 IsErrorOf program profile number error rank =
     IsDerived (method_rules program (method_at program number) profile) (Derives program (method_at program number) number) (body_of (method_at program number)) (record { error = error; rank = rank })

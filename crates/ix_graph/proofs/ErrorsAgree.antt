@@ -68,3 +68,13 @@ module _ (R : Rules) (L : RulesLaws R) where
           λ derived avoids. derived labels (fine_flows (Avoids R Derives error) finer body labels J M kept avoids),
           λ not other flow. not (fine_at_nodes (Avoids R Derives error) finer body M other least flow),
         )
+
+    -- Of a least solution of the graph the labels at the heads are the least ones: an error is derived exactly where no flow with these labels avoids it.
+    pub derived_at_least : (body : Code) (labels J M : ℕ → R.Store) (error : E) → AllKeep R (Anything R) labels J M (method_parts body) → IsLeastOf R L (method_parts body) M
+        → (IsDerived R Derives body error → IsFlow R (Avoids R Derives error) labels body → ⊥)
+        × ((IsFlow R (Avoids R Derives error) labels body → ⊥) → IsDerived R Derives body error)
+    derived_at_least body labels J M error kept least =
+        let finer : (point : Point) (s t : R.Store) → R.Below s t → Avoids R Derives error point t → Avoids R Derives error point s = λ point s t below avoids has. avoids (weaker point s t error below has) in (
+          λ derived. derived labels,
+          λ not other flow. not (fine_flows (Avoids R Derives error) finer body labels J M kept (fine_at_nodes (Avoids R Derives error) finer body M other least flow)),
+        )

@@ -1,6 +1,6 @@
 -- The bound on the visits of a method's nodes, by its edges and its least labels.
 use Rattle.std.specs.List.{AllZip}
-use Rattle.std.proofs.Common.{◌≡◌, ◌+◌, ◌*◌, ◌-◌, ◌≤◌, ℕ, suc, List, [], ◌∷◌, Some, length, slice_get, arith, refl, sym, ap, ◌∙◌}
+use Rattle.std.proofs.Common.{◌≡◌, ◌+◌, ◌*◌, ◌-◌, ◌≤◌, ℕ, suc, List, [], ◌∷◌, Some, length, map, slice_get, arith, refl, sym, ap, ◌∙◌}
 use Rattle.ix_core.specs.declared.fact.Profile.{Profile}
 use Rattle.ix_core.specs.declared.program.Method.{Method}
 use Rattle.ix_core.specs.declared.program.Program.{Program}
@@ -11,7 +11,9 @@ use Rattle.ix_graph.specs.Built.{edges_of, targets_from}
 use Rattle.ix_graph.specs.Graph.{behind_code, method_parts}
 use Rattle.ix_graph.specs.Linked.{HaveEdges}
 use Rattle.ix_lattice.specs.Lattice.{LatticeLaws, same_rank}
+use Rattle.ix_facts.specs.Stores.{IsBelow}
 use Rattle.ix_method.specs.Store.{Store}
+use Rattle.ix_method.specs.StoredFacts.{stored}
 use Rattle.ix_method.specs.StoreOrder.{StoreBelow, store_rank, nowhere, top_rank}
 use Rattle.ix_solve.specs.Readers.{readings, VisitsAtMost}
 use Rattle.ix_solve.specs.Solutions.{one_least_solution}
@@ -61,7 +63,7 @@ visits_within program method profile labels before after are within = (
 
 -- ---- there is one such number
 
-same_readings : LatticeLaws StoreBelow store_rank → (readers : List (List ℕ)) (a b : List Store) → AllZip StoreBelow a b → AllZip StoreBelow b a → readings store_rank top_rank readers a ≡ readings store_rank top_rank readers b
+same_readings : LatticeLaws StoreBelow store_rank → (readers : List (List ℕ)) (a b : List Store) → AllZip IsBelow (map stored a) (map stored b) → AllZip IsBelow (map stored b) (map stored a) → readings store_rank top_rank readers a ≡ readings store_rank top_rank readers b
 same_readings laws [] a b up down = refl
 same_readings laws (by ∷ readers) [] [] up down = refl
 same_readings laws (by ∷ readers) [] (y ∷ b) up down = absurd up
@@ -73,5 +75,5 @@ same_readings laws (by ∷ readers) (x ∷ a) (y ∷ b) up down =
 pub one_most : LatticeLaws StoreBelow store_rank → (program : Program) (method : Method) (profile : Profile) (first second : ℕ) → MostVisits program method profile first → MostVisits program method profile second → first ≡ second
 one_most laws program method profile first second one other =
     let body = block_code method.body in
-    let same = one_least_solution StoreBelow (behind_code body 2) (NodeAsks (method_rules program method profile) (method_parts body)) one.labels other.labels one.solution one.least other.solution other.least in
+    let same = one_least_solution IsBelow (behind_code body 2) (NodeAsks (method_rules program method profile) (method_parts body)) (map stored one.labels) (map stored other.labels) one.solution one.least other.solution other.least in
     one.is ∙ ap (λ more. behind_code body 2 + more) (same_readings laws (readers_by body) one.labels other.labels same.0 same.1) ∙ sym other.is

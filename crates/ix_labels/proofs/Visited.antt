@@ -5,9 +5,9 @@ use Rattle.std.proofs.Math.Seq.{take-suc}
 use Rattle.ix_core.specs.declared.op.Op.{Op}
 use Rattle.ix_core.specs.declared.op.Test.{Test}
 use Rattle.ix_facts.specs.Round.{rounded}
-use Rattle.ix_facts.specs.Stores.{IsStoreOf, IsTested, IsRounded, outcomes_of}
+use Rattle.ix_facts.specs.Stores.{Stored, IsBelow, IsStoreOf, IsJoined, IsTested, IsRounded, outcomes_of}
 use Rattle.ix_facts.proofs.StepLaws.{told_give, told_least, given_gives, given_least}
-use Rattle.ix_facts.proofs.StoreLaws.{below_itself, store_above, store_least}
+use Rattle.ix_facts.proofs.StoreLaws.{below_itself, store_above, store_least, joined_least}
 use Rattle.ix_flow.specs.Flow.{Anything}
 use Rattle.ix_graph.specs.declared.node.Edge.{Edge}
 use Rattle.ix_graph.specs.declared.node.Edge.TheVariants.{Next, WhenTrue, WhenFalse}
@@ -39,41 +39,41 @@ kind_found (first ∷ nodes) (suc at) node within is = kind_found nodes at node 
 
 module _ (problem : Problem) where
   -- the least store above what an edge carries
-  abbrev pub IsCarried : Pass → Store → Store → Type 0
-  IsCarried pass label = IsLeastOf StoreBelow (Carries (rules_of problem) (Anything (rules_of problem)) (λ number. label) pass label)
+  abbrev pub IsCarried : Pass → Stored → Stored → Type 0
+  IsCarried pass label = IsLeastOf IsBelow (Carries (rules_of problem) (Anything (rules_of problem)) (λ number. label) pass label)
 
-  pub tested_least : (answer : Bool) (test : Test) (label after : Store) → IsTested answer test (stored label) (stored after) → IsCarried (Testing answer test) label after
+  pub tested_least : (answer : Bool) (test : Test) (label after : Stored) → IsTested answer test label after → IsCarried (Testing answer test) label after
   tested_least answer test label after tested = (
-    told_give (outcomes_of answer test) (stored label) (stored after) tested,
-    λ other carries. told_least (outcomes_of answer test) (stored label) (stored after) (stored other) tested carries,
+    told_give (outcomes_of answer test) label after tested,
+    λ other carries. told_least (outcomes_of answer test) label after other tested carries,
   )
 
-  pub same_least : (kind : NodeKind) (edge : Edge) (label : Store) → ((op : _) → kind ≡ node.Do op → ⊥) → ((test : _) → kind ≡ node.Compare test → edge ≡ Next) → IsCarried (pass_of (kind_of kind) edge) label label
-  same_least node.Entry edge label no_op asked = (below_itself (stored label), λ other carries. carries)
+  pub same_least : (kind : NodeKind) (edge : Edge) (label : Stored) → ((op : _) → kind ≡ node.Do op → ⊥) → ((test : _) → kind ≡ node.Compare test → edge ≡ Next) → IsCarried (pass_of (kind_of kind) edge) label label
+  same_least node.Entry edge label no_op asked = (below_itself label, λ other carries. carries)
   same_least (node.Do op) edge label no_op asked = absurd (no_op op refl)
   same_least (node.Compare test) edge label no_op asked =
-      subst (λ e. IsCarried (pass_of (kind_of (node.Compare test)) e) label label) (sym (asked test refl)) (below_itself (stored label), λ other carries. carries)
-  same_least (node.Truth block slot) Next label no_op asked = (below_itself (stored label), λ other carries. carries)
-  same_least (node.Truth block slot) WhenTrue label no_op asked = (below_itself (stored label), λ other carries. carries)
-  same_least (node.Truth block slot) WhenFalse label no_op asked = (below_itself (stored label), λ other carries. carries)
-  same_least node.Join edge label no_op asked = (below_itself (stored label), λ other carries. carries)
-  same_least (node.Head number scope) edge label no_op asked = (below_itself (stored label), λ other carries. carries)
-  same_least (node.Return value span) edge label no_op asked = (below_itself (stored label), λ other carries. carries)
-  same_least node.End edge label no_op asked = (below_itself (stored label), λ other carries. carries)
+      subst (λ e. IsCarried (pass_of (kind_of (node.Compare test)) e) label label) (sym (asked test refl)) (below_itself label, λ other carries. carries)
+  same_least (node.Truth block slot) Next label no_op asked = (below_itself label, λ other carries. carries)
+  same_least (node.Truth block slot) WhenTrue label no_op asked = (below_itself label, λ other carries. carries)
+  same_least (node.Truth block slot) WhenFalse label no_op asked = (below_itself label, λ other carries. carries)
+  same_least node.Join edge label no_op asked = (below_itself label, λ other carries. carries)
+  same_least (node.Head number scope) edge label no_op asked = (below_itself label, λ other carries. carries)
+  same_least (node.Return value span) edge label no_op asked = (below_itself label, λ other carries. carries)
+  same_least node.End edge label no_op asked = (below_itself label, λ other carries. carries)
 
-  pub entered : (joined label : Store) → IsStoreOf (entry_facts problem.program.now problem.within.now) (stored label) → IsSettled (rules_of problem) Starts joined label
+  pub entered : (joined label : Stored) → IsStoreOf (entry_facts problem.program.now problem.within.now) label → IsSettled (rules_of problem) Starts joined label
   entered joined label is = (
-    store_above (entry_facts problem.program.now problem.within.now) (stored label) is,
-    λ other entry. store_least (entry_facts problem.program.now problem.within.now) (stored label) (stored other) is entry,
+    store_above (entry_facts problem.program.now problem.within.now) label is,
+    λ other entry. store_least (entry_facts problem.program.now problem.within.now) label other is entry,
   )
 
-  pub headed : (number scope : ℕ) (joined label : Store) → IsRounded problem.marks.ints scope (stored joined) (stored label) → IsSettled (rules_of problem) (Heads number scope) joined label
+  pub headed : (number scope : ℕ) (joined label : Stored) → IsRounded problem.marks.ints scope joined label → IsSettled (rules_of problem) (Heads number scope) joined label
   headed number scope joined label is = (
-    given_gives (rounded problem.marks.ints scope) (stored joined) (stored label) is,
-    λ other gives. given_least (rounded problem.marks.ints scope) (stored joined) (stored label) (stored other) is gives,
+    given_gives (rounded problem.marks.ints scope) joined label is,
+    λ other gives. given_least (rounded problem.marks.ints scope) joined label other is gives,
   )
 
-  pub as_joined : (kind : NodeKind) (joined label : Store) → (kind ≡ node.Entry → ⊥) → ((number scope : ℕ) → kind ≡ node.Head number scope → ⊥) → label ≡ joined → IsSettled (rules_of problem) (kind_of kind) joined label
+  pub as_joined : (kind : NodeKind) (joined label : Stored) → (kind ≡ node.Entry → ⊥) → ((number scope : ℕ) → kind ≡ node.Head number scope → ⊥) → label ≡ joined → IsSettled (rules_of problem) (kind_of kind) joined label
   as_joined node.Entry joined label no_entry no_head is = absurd (no_entry refl)
   as_joined (node.Do op) joined label no_entry no_head is = is
   as_joined (node.Compare test) joined label no_entry no_head is = is
@@ -103,29 +103,34 @@ from_within problem at items k d are within =
     (subst (LeadTo (behind_code (block_code problem.within.now.body) 2) at (edges_of (parts_of problem))) (sym are)
     (all_lead (behind_code (block_code problem.within.now.body) 2) at (parts_of problem) (method_below (block_code problem.within.now.body)))) within)
 
+-- what a join says is the join of what the two say, among all that can be said
+pub join_said : (one other join : Store) → IsJoin StoreBelow one other join → IsJoined (stored one) (stored other) (stored join) → IsJoin IsBelow (stored one) (stored other) (stored join)
+join_said one other join is said = record { left = is.left; right = is.right; least = λ above. joined_least (stored one) (stored other) (stored join) above said }
+
 -- one edge more
-pub one_more_edge : (problem : Problem) (labels : List Store) (items : List (ℕ × Edge)) (k : ℕ) (d : ℕ × Edge) (joined label carried new : Store) → k < length items
-    → IsLeastOf StoreBelow (AllBring (rules_of problem) (kinds_at problem) labels (take k items)) joined
+pub one_more_edge : (problem : Problem) (labels : List Store) (items : List (ℕ × Edge)) (k : ℕ) (d : ℕ × Edge) (joined : Stored) (label : Store) (carried new : Stored) → k < length items
+    → IsLeastOf IsBelow (AllBring (rules_of problem) (kinds_at problem) (map stored labels) (take k items)) joined
     → label ≡ get_or labels (get_or items k d).0 label → (get_or items k d).0 < length labels
-    → IsLeastOf StoreBelow (Carries (rules_of problem) (Anything (rules_of problem)) (λ number. label) (pass_of (kinds_at problem (get_or items k d).0) (get_or items k d).1) label) carried
-    → IsJoin StoreBelow joined carried new → IsLeastOf StoreBelow (AllBring (rules_of problem) (kinds_at problem) labels (take (k + 1) items)) new
+    → IsLeastOf IsBelow (Carries (rules_of problem) (Anything (rules_of problem)) (λ number. stored label) (pass_of (kinds_at problem (get_or items k d).0) (get_or items k d).1) (stored label)) carried
+    → IsJoin IsBelow joined carried new → IsLeastOf IsBelow (AllBring (rules_of problem) (kinds_at problem) (map stored labels) (take (k + 1) items)) new
 one_more_edge problem labels items k d joined label carried new within before is there last join =
     let from = get_or items k d in
+    let said = map stored labels in
     let R = rules_of problem in
     let L = laws_with problem.program.now problem.within.now problem.profile problem.marks.ints in
-    let at : label_at R labels from.0 ≡ label = label_is labels from.0 label there is in
-    let brings : IsLeastOf StoreBelow (Brings R (kinds_at problem) labels from) carried = (
-      carries_as R L labels (λ number. label) (λ number. carried) (pass_of (kinds_at problem from.0) from.1) (label_at R labels from.0) carried
-          (subst (λ s. Carries R (Anything R) (λ number. label) (pass_of (kinds_at problem from.0) from.1) s carried) (sym at) last.0),
+    let at : label_at R said from.0 ≡ stored label = label_is labels from.0 label there is in
+    let brings : IsLeastOf IsBelow (Brings R (kinds_at problem) said from) carried = (
+      carries_as R L said (λ number. stored label) (λ number. carried) (pass_of (kinds_at problem from.0) from.1) (label_at R said from.0) carried
+          (subst (λ s. Carries R (Anything R) (λ number. stored label) (pass_of (kinds_at problem from.0) from.1) s carried) (sym at) last.0),
       λ other carries. last.1 other
-          (subst (λ s. Carries R (Anything R) (λ number. label) (pass_of (kinds_at problem from.0) from.1) s other) at
-          (carries_as R L labels (λ number. other) (λ number. label) (pass_of (kinds_at problem from.0) from.1) (label_at R labels from.0) other carries)),
+          (subst (λ s. Carries R (Anything R) (λ number. stored label) (pass_of (kinds_at problem from.0) from.1) s other) at
+          (carries_as R L said (λ number. other) (λ number. stored label) (pass_of (kinds_at problem from.0) from.1) (label_at R said from.0) other carries)),
     ) in
-    subst (λ es. IsLeastOf StoreBelow (AllBring R (kinds_at problem) labels es) new) (sym (next_front items k d within)) (one_more R L labels (kinds_at problem) (take k items) from joined carried new before brings join)
+    subst (λ es. IsLeastOf IsBelow (AllBring R (kinds_at problem) said es) new) (sym (next_front items k d within)) (one_more R L said (kinds_at problem) (take k items) from joined carried new before brings join)
   where
-    label_is : (labels : List Store) (k : ℕ) (label : Store) → k < length labels → label ≡ get_or labels k label → label_at (rules_of problem) labels k ≡ label
+    label_is : (labels : List Store) (k : ℕ) (label : Store) → k < length labels → label ≡ get_or labels k label → label_at (rules_of problem) (map stored labels) k ≡ stored label
     label_is [] k label within is = absurd (omega (arith, within))
-    label_is (first ∷ labels) zero label within is = sym is
+    label_is (first ∷ labels) zero label within is = ap stored (sym is)
     label_is (first ∷ labels) (suc k) label within is = label_is labels k label (omega (arith, within)) is
 
 -- ---- the nodes that read a label are nodes

@@ -1,5 +1,5 @@
 -- The least labels of a method, at the nodes of its graph.
-use Rattle.std.specs.Prelude.{◌≡◌, length}
+use Rattle.std.specs.Prelude.{◌≡◌, length, map}
 use Rattle.ix_core.specs.declared.fact.Profile.{Profile}
 use Rattle.ix_core.specs.declared.program.Method.{Method}
 use Rattle.ix_core.specs.declared.program.Program.{Program}
@@ -10,12 +10,13 @@ use Rattle.ix_graph.specs.Built.{kinds_of}
 use Rattle.ix_graph.specs.Linked.{kinds_in}
 use Rattle.ix_method.specs.MethodRules.{method_rules}
 use Rattle.ix_solve.specs.Solutions.{IsSolution, IsLeast}
-use Rattle.ix_method.specs.StoreOrder.{StoreBelow}
+use Rattle.ix_facts.specs.Stores.{IsBelow}
+use Rattle.ix_method.specs.StoredFacts.{stored}
 use Rattle.ix_labels.specs.declared.labels.Labels.{Labels}
 
--- The nodes are those of the method's graph, and the stores are its least solution by the rules of the method.
+-- The nodes are those of the method's graph, and what the stores say is its least solution by the rules of the method.
 pub record AreLabels (program : Program) (method : Method) (profile : Profile) (labels : Labels) : Type 0 where
   pub size : length labels.graph.nodes.items ≡ behind_code (block_code method.body) 2
   pub kinds : kinds_in labels.graph.nodes.items ≡ kinds_of (method_parts (block_code method.body))
-  pub solution : IsSolution StoreBelow (behind_code (block_code method.body) 2) (NodeAsks (method_rules program method profile) (method_parts (block_code method.body))) labels.stores.items
-  pub least : IsLeast StoreBelow (behind_code (block_code method.body) 2) (NodeAsks (method_rules program method profile) (method_parts (block_code method.body))) labels.stores.items
+  pub solution : IsSolution IsBelow (behind_code (block_code method.body) 2) (NodeAsks (method_rules program method profile) (method_parts (block_code method.body))) (map stored labels.stores.items)
+  pub least : IsLeast IsBelow (behind_code (block_code method.body) 2) (NodeAsks (method_rules program method profile) (method_parts (block_code method.body))) (map stored labels.stores.items)

@@ -13,3 +13,4 @@ pub use Rattle.ix_method.specs.Store
 pub use Rattle.ix_method.specs.RuleErrors
 pub use Rattle.ix_method.specs.SignErrors
 pub use Rattle.ix_method.specs.StoredFacts
+pub use Rattle.ix_facts.specs.Stores

@@ -5,7 +5,7 @@ use Rattle.ix_core.specs.declared.program.Method.{Method}
 use Rattle.ix_core.specs.declared.program.Program.{Program}
 use Rattle.ix_core.specs.Code.{block_code}
 use Rattle.ix_facts.specs.Round.{rounded}
-use Rattle.ix_facts.specs.Stores.{Gives}
+use Rattle.ix_facts.specs.Stores.{Stored, Gives}
 use Rattle.ix_flow.specs.Flow.{Rules}
 use Rattle.ix_graph.specs.declared.node.Edge.{Edge}
 use Rattle.ix_graph.specs.declared.node.Node.{Node}
@@ -14,8 +14,6 @@ use Rattle.ix_graph.specs.Brought.{Gathers}
 use Rattle.ix_graph.specs.Built.{edges_of, edges_to}
 use Rattle.ix_graph.specs.Linked.{kinds_in}
 use Rattle.ix_method.specs.MethodRules.{method_rules}
-use Rattle.ix_method.specs.Store.{Store}
-use Rattle.ix_method.specs.StoredFacts.{stored}
 use Rattle.ix_labels.specs.declared.problem.Problem.{Problem}
 
 -- the nodes that read each node's label
@@ -28,14 +26,14 @@ readers_of problem = readers_in problem.graph.nodes.items
 -- the rules of a method, where a loop's label is rounded to these landmarks
 abbrev pub rules_with : Program → Method → Profile → List ℤ → Rules
 rules_with program method profile marks = record {
-  Store = Store;
+  Store = Stored;
   Below = (method_rules program method profile).Below;
   nowhere = (method_rules program method profile).nowhere;
   Entry = (method_rules program method profile).Entry;
   After = (method_rules program method profile).After;
   Tested = (method_rules program method profile).Tested;
   Told = (method_rules program method profile).Told;
-  Rounded = λ scope s t. Gives (rounded marks scope) (stored s) (stored t);
+  Rounded = λ scope. Gives (rounded marks scope);
 }
 
 abbrev pub rules_of : Problem → Rules
@@ -56,5 +54,5 @@ abbrev pub edges_at : Problem → ℕ → List (ℕ × Edge)
 edges_at problem at = edges_to at (edges_of (parts_of problem))
 
 -- what is asked of a node's label
-abbrev pub Asks : Problem → ℕ → List Store → Store → Type 0
+abbrev pub Asks : Problem → ℕ → List Stored → Stored → Type 0
 Asks problem = Gathers (rules_of problem) (kinds_at problem) (edges_at problem)

@@ -7,9 +7,10 @@ use Rattle.ix_core.specs.declared.program.Method.{Method}
 use Rattle.ix_core.specs.declared.program.Program.{Program}
 use Rattle.ix_core.specs.Code.{block_code}
 use Rattle.ix_facts.specs.Round.{rounded}
-use Rattle.ix_facts.specs.Stores.{Reached}
+use Rattle.ix_facts.specs.Stores.{Stored, Reached, IsBelow}
 use Rattle.ix_facts.proofs.SaidRules.{rounded_mono}
 use Rattle.ix_facts.proofs.StepLaws.{gives_step}
+use Rattle.ix_facts.proofs.StoreLaws.{below_itself}
 use Rattle.ix_flow.specs.Flow.{RulesLaws}
 use Rattle.ix_graph.specs.declared.node.Node.{Node}
 use Rattle.ix_graph.specs.Graph.{behind_code, AreBelow}
@@ -17,9 +18,8 @@ use Rattle.ix_graph.proofs.AsProblem.{gathers_monotone, gathers_depends}
 use Rattle.ix_graph.proofs.Numbers.{method_below}
 use Rattle.ix_method.proofs.MethodLaws.{method_laws}
 use Rattle.ix_method.specs.Signs.{entry_facts}
-use Rattle.ix_solve.specs.Solutions.{IsMonotone}
+use Rattle.ix_solve.specs.Solutions.{IsMonotone, OrdersBy}
 use Rattle.ix_solve.specs.Readers.{DependsOnRead}
-use Rattle.ix_method.specs.Store.{Store}
 use Rattle.ix_method.specs.StoredFacts.{stored}
 use Rattle.ix_method.specs.StoreOrder.{StoreBelow}
 use Rattle.ix_labels.specs.declared.problem.Problem.{Problem}
@@ -35,14 +35,18 @@ laws_with program method profile marks =
       after = laws.after;
       tested = laws.tested;
       told = laws.told;
-      rounded = λ scope s t u w. gives_step (rounded marks scope) (rounded_mono marks scope) (stored s) (stored t) (stored u) (stored w);
+      rounded = λ scope. gives_step (rounded marks scope) (rounded_mono marks scope);
     }
 
-entry_up : (problem : Problem) (s t : Store) → (rules_of problem).Entry s → StoreBelow s t → (rules_of problem).Entry t
+entry_up : (problem : Problem) (s t : Stored) → (rules_of problem).Entry s → IsBelow s t → (rules_of problem).Entry t
 entry_up problem s t entry up =
-    gives_step (λ facts. entry_facts problem.program.now problem.within.now) (λ strong weak says. inr (λ f said. said)) (Reached []) (Reached []) (stored s) (stored t) (λ f said. said) entry up
+    gives_step (λ facts. entry_facts problem.program.now problem.within.now) (λ strong weak says. inr (λ f said. said)) (Reached []) (Reached []) s t (λ f said. said) entry up
 
-pub problem_monotone : (problem : Problem) → IsMonotone StoreBelow (Asks problem)
+-- stores are ordered as what they say
+pub store_order : OrdersBy StoreBelow IsBelow stored
+store_order = record { same = λ low high. (λ below. below, λ below. below); reflexive = below_itself }
+
+pub problem_monotone : (problem : Problem) → IsMonotone IsBelow (Asks problem)
 problem_monotone problem =
     gathers_monotone (rules_of problem) (laws_with problem.program.now problem.within.now problem.profile problem.marks.ints) (kinds_at problem) (entry_up problem) (edges_at problem)
 

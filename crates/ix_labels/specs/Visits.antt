@@ -1,6 +1,6 @@
 -- How many visits of nodes the least labels of a method take at most: one of each node, and one more for each time that a label which the node reads can have
 -- risen. A label rises at most as often as its rank falls.
-use Rattle.std.specs.Prelude.{◌≡◌, ℕ, zero, suc, ◌+◌, ◌≤◌, List, [], ◌∷◌}
+use Rattle.std.specs.Prelude.{◌≡◌, ℕ, zero, suc, ◌+◌, ◌≤◌, List, [], ◌∷◌, map}
 use Rattle.ix_core.specs.declared.fact.Profile.{Profile}
 use Rattle.ix_core.specs.declared.program.Method.{Method}
 use Rattle.ix_core.specs.declared.program.Program.{Program}
@@ -11,7 +11,9 @@ use Rattle.ix_graph.specs.GraphSolutions.{NodeAsks}
 use Rattle.ix_graph.specs.Built.{edges_of, targets_from}
 use Rattle.ix_method.specs.MethodRules.{method_rules}
 use Rattle.ix_method.specs.Store.{Store}
-use Rattle.ix_method.specs.StoreOrder.{StoreBelow, store_rank, top_rank}
+use Rattle.ix_facts.specs.Stores.{IsBelow}
+use Rattle.ix_method.specs.StoredFacts.{stored}
+use Rattle.ix_method.specs.StoreOrder.{store_rank, top_rank}
 use Rattle.ix_solve.specs.Readers.{readings}
 use Rattle.ix_solve.specs.Solutions.{IsSolution, IsLeast}
 
@@ -31,8 +33,8 @@ visits_by body labels = behind_code body 2 + readings store_rank top_rank (reade
 -- The number that the least labels of a method give. Least labels have the same ranks, so there is one.
 pub record MostVisits (program : Program) (method : Method) (profile : Profile) (most : ℕ) : Type 0 where
   pub labels : List Store
-  pub solution : IsSolution StoreBelow (behind_code (block_code method.body) 2) (NodeAsks (method_rules program method profile) (method_parts (block_code method.body))) labels
-  pub least : IsLeast StoreBelow (behind_code (block_code method.body) 2) (NodeAsks (method_rules program method profile) (method_parts (block_code method.body))) labels
+  pub solution : IsSolution IsBelow (behind_code (block_code method.body) 2) (NodeAsks (method_rules program method profile) (method_parts (block_code method.body))) (map stored labels)
+  pub least : IsLeast IsBelow (behind_code (block_code method.body) 2) (NodeAsks (method_rules program method profile) (method_parts (block_code method.body))) (map stored labels)
   pub is : most ≡ visits_by (block_code method.body) labels
 
 -- from `before` on no more were counted

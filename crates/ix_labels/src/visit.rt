@@ -1,11 +1,12 @@
 //! The visits of a graph's nodes.
 
-ghost use Rattle.std.specs.Prelude.{◌≡◌, ◌<◌, IfOk, length};
+ghost use Rattle.std.specs.Prelude.{◌≡◌, ◌<◌, IfOk, length, map};
 ghost use Rattle.ix_solve.specs.Solutions.{IsLeastOf};
 ghost use Rattle.ix_flow.specs.Flow.{Anything};
 ghost use Rattle.ix_graph.specs.GraphSolutions.{Carries};
 ghost use Rattle.ix_graph.specs.Brought.{pass_of, AllBring, IsSettled};
-ghost use Rattle.ix_method.specs.StoreOrder.{StoreBelow};
+ghost use Rattle.ix_facts.specs.Stores.{IsBelow};
+ghost use Rattle.ix_method.specs.StoredFacts.{stored};
 ghost use Rattle.ix_labels.specs.Problem.{rules_of, kinds_at, edges_at};
 
 use crate::problem::Problem;
@@ -27,7 +28,7 @@ impl<'a> Problem<'a> {
         label: &Store,
     ) -> Result<Store, AllocError>
         requires node { from.0 < length self.now.graph.nodes.items }
-        ensures least { IfOk result (IsLeastOf StoreBelow (Carries (rules_of self.now) (Anything (rules_of self.now)) (λ number. label.now) (pass_of (kinds_at self.now from.0) from.1) label.now)) }
+        ensures least { IfOk result (λ store. IsLeastOf IsBelow (Carries (rules_of self.now) (Anything (rules_of self.now)) (λ number. stored label.now) (pass_of (kinds_at self.now from.0) from.1) (stored label.now)) (stored store)) }
     {
         match (&self.graph.nodes[from.0].kind, from.1) {
             (NodeKind::Do(op), _) => {
@@ -43,7 +44,7 @@ impl<'a> Problem<'a> {
     fn gathered(&self, alloc: Global, at: usize, labels: &[Store]) -> Result<Store, AllocError>
         requires node { at < length self.now.graph.nodes.items }
         requires labels { length labels.now ≡ length self.now.graph.nodes.items }
-        ensures least { IfOk result (IsLeastOf StoreBelow (AllBring (rules_of self.now) (kinds_at self.now) labels.now (edges_at self.now at))) }
+        ensures least { IfOk result (λ store. IsLeastOf IsBelow (AllBring (rules_of self.now) (kinds_at self.now) (map stored labels.now) (edges_at self.now at)) (stored store)) }
     {
         let mut joined = Store::unreachable();
         for from in self.graph.nodes[at].from.as_slice() {
@@ -56,7 +57,7 @@ impl<'a> Problem<'a> {
     /// The label of a node, by the store above what its edges bring.
     fn settled(&self, alloc: Global, at: usize, joined: &Store) -> Result<Store, AllocError>
         requires node { at < length self.now.graph.nodes.items }
-        ensures settled { IfOk result (IsSettled (rules_of self.now) (kinds_at self.now at) joined.now) }
+        ensures settled { IfOk result (λ store. IsSettled (rules_of self.now) (kinds_at self.now at) (stored joined.now) (stored store)) }
     {
         match self.graph.nodes[at].kind {
             NodeKind::Entry => enter(alloc, self.program, self.within),
@@ -67,14 +68,24 @@ impl<'a> Problem<'a> {
 }
 
 impl<'a> FlowProblem for Problem<'a> {
+    ghost use Rattle.ix_facts.specs.Stores.{Stored, IsBelow};
+    ghost use Rattle.ix_method.specs.StoredFacts.{stored};
     ghost use Rattle.ix_labels.specs.Problem.{readers_of, Asks};
-    ghost use Rattle.ix_labels.specs.ProblemLaws.{problem_monotone, problem_depends};
+    ghost use Rattle.ix_labels.specs.ProblemLaws.{store_order, problem_monotone, problem_depends};
 
     type Value = Store;
+
+    ghost Meaning = { Stored };
+
+    ghost means = { stored };
+
+    ghost SaysAll = { IsBelow };
 
     ghost readers_of = { readers_of };
 
     ghost Asks = { Asks };
+
+    ghost order = { store_order };
 
     ghost monotone = { problem_monotone };
 

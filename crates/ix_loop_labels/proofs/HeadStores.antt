@@ -1,6 +1,7 @@
 -- The stores beside the heads are those at the loops' numbers.
-use Rattle.std.proofs.Common.{◌≡◌, ◌+◌, ◌<◌, inl, inr, ℕ, zero, suc, Bool, true, false, List, [], ◌∷◌, ◌++◌, Some, length, slice_get, get_or, unwrap_or, drop, arith, refl, sym, ap, subst, ◌∙◌, append_assoc}
+use Rattle.std.proofs.Common.{◌≡◌, ◌+◌, ◌<◌, inl, inr, ℕ, zero, suc, Bool, true, false, List, [], ◌∷◌, ◌++◌, Some, length, map, slice_get, get_or, unwrap_or, drop, arith, refl, sym, ap, subst, ◌∙◌, append_assoc}
 use Rattle.std.specs.Prelude.{if◌then◌else◌}
+use Rattle.std.proofs.lemmas.List.{length-map}
 use Rattle.ix_core.specs.declared.fact.Profile.{Profile}
 use Rattle.ix_core.specs.declared.program.Method.{Method}
 use Rattle.ix_core.specs.declared.program.Program.{Program}
@@ -19,6 +20,8 @@ use Rattle.ix_labels.specs.Labels.{AreLabels}
 use Rattle.ix_labels.specs.MethodRules.{method_rules}
 use Rattle.ix_labels.proofs.MethodLaws.{method_laws}
 use Rattle.ix_labels.specs.Store.{Store}
+use Rattle.ix_labels.specs.StoredFacts.{stored}
+use Rattle.ix_solve.proofs.LabelLists.{meaning_at}
 use Rattle.ix_loop_labels.specs.LoopLabels.{AreLoopLabels, is_head, one_if, head_stores}
 
 -- ---- one node more
@@ -122,17 +125,19 @@ found_labels program method profile labels nodes stores found nodes_are stores_a
     let R = method_rules program method profile in
     let L = method_laws program method profile in
     let all = labels.stores.items in
+    let said = map stored all in
     let kinds : kinds_in nodes ≡ kinds_of parts = ap kinds_in nodes_are ∙ are.kinds in
     let made : found ≡ by_kinds (kinds_of parts) all = is ∙ same_by nodes stores ∙ ap (λ ks. by_kinds ks stores) kinds ∙ ap (by_kinds (kinds_of parts)) stores_are in
-    let many : length all ≡ length (kinds_of parts) = are.solution.len ∙ sym are.size ∙ sym (ap length nodes_are) ∙ sym (kinds_many nodes) ∙ ap length kinds in
+    let many : length all ≡ length (kinds_of parts) = sym (length-map all stored) ∙ are.solution.len ∙ sym are.size ∙ sym (ap length nodes_are) ∙ sym (kinds_many nodes) ∙ ap length kinds in
     let each : length found ≡ length (heads_in parts) = ap length made ∙ counts parts all many in
     record {
-      labels = λ number. label_at R all (head_of parts number);
-      least = solved_least R L body (length found) all (head_of parts) (found_by_number parts order) (λ number within. let e : 0 + number ≡ number = omega arith in subst (λ n. HasHead n parts) e (has_head parts 0 number order (omega (arith, within, each)))) are.solution are.least;
+      labels = λ number. label_at R said (head_of parts number);
+      least = solved_least R L body (length found) said (head_of parts) (found_by_number parts order) (λ number within. let e : 0 + number ≡ number = omega arith in subst (λ n. HasHead n parts) e (has_head parts 0 number order (omega (arith, within, each)))) are.solution are.least;
       there = λ number within.
           let one = there found number within in
           let same : slice_get found number ≡ slice_get all (head_of parts number) =
           ap (λ l. slice_get l number) made ∙ at_number parts 0 all all (method_numbered body) many (λ k. let e : k ≡ 0 + k = omega arith in ap (slice_get all) e) number (omega (arith, within, each)) in
-          one.1 ∙ ap (λ s. Some s) (sym (ap (λ o. unwrap_or o R.nowhere) (sym same ∙ one.1)));
+          let label : label_at R said (head_of parts number) ≡ stored one.0 = ap (λ o. unwrap_or o R.nowhere) (meaning_at stored all (head_of parts number) one.0 (sym same ∙ one.1)) in
+          meaning_at stored found number one.0 one.1 ∙ ap (λ s. Some s) (sym label);
       each = each;
     }

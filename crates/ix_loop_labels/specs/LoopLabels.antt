@@ -1,9 +1,10 @@
 -- The least labels of a method's loops, by their numbers.
-use Rattle.std.specs.Prelude.{◌≡◌, ℕ, ◌<◌, Bool, true, false, if◌then◌else◌, List, [], ◌∷◌, length, slice_get, Some}
+use Rattle.std.specs.Prelude.{◌≡◌, ℕ, ◌<◌, Bool, true, false, if◌then◌else◌, List, [], ◌∷◌, length, map, slice_get, Some}
 use Rattle.ix_core.specs.declared.fact.Profile.{Profile}
 use Rattle.ix_core.specs.declared.program.Method.{Method}
 use Rattle.ix_core.specs.declared.program.Program.{Program}
 use Rattle.ix_core.specs.Code.{block_code}
+use Rattle.ix_labels.specs.Stores.{Stored}
 use Rattle.ix_flow.specs.Flow.{IsLeastFlow}
 use Rattle.ix_graph.specs.declared.node.Node.{Node}
 use Rattle.ix_graph.specs.Built.{kind_of}
@@ -11,12 +12,13 @@ use Rattle.ix_graph.specs.Graph.{Kind, Heads, method_parts}
 use Rattle.ix_graph.specs.Heads.{heads_in}
 use Rattle.ix_labels.specs.MethodRules.{method_rules}
 use Rattle.ix_labels.specs.Store.{Store}
+use Rattle.ix_labels.specs.StoredFacts.{stored}
 
--- One label for each loop of the body, in the order of the loops' numbers: they are those of a flow of the body by the rules of the method, and below those of every flow.
+-- One label for each loop of the body, in the order of the loops' numbers: what they say are the labels of a flow of the body by the rules of the method, and below those of every flow.
 pub record AreLoopLabels (program : Program) (method : Method) (profile : Profile) (found : List Store) : Type 0 where
-  pub labels : ℕ → Store
+  pub labels : ℕ → Stored
   pub least : IsLeastFlow (method_rules program method profile) (block_code method.body) (length found) labels
-  pub there : (number : ℕ) → number < length found → slice_get found number ≡ Some (labels number)
+  pub there : (number : ℕ) → number < length found → slice_get (map stored found) number ≡ Some (labels number)
   pub each : length found ≡ length (heads_in (method_parts (block_code method.body)))
 
 abbrev pub is_head : Kind → Bool

@@ -11,7 +11,6 @@ use Rattle.ix_facts.proofs.SaidRules.{operated_mono, rounded_mono}
 use Rattle.ix_facts.proofs.StepLaws.{gives_step, then_step, outcomes_step}
 use Rattle.ix_facts.proofs.StoreLaws.{below_itself, below_below}
 use Rattle.ix_flow.specs.Flow.{RulesLaws}
-use Rattle.ix_sign.specs.StoredFacts.{stored}
 use Rattle.ix_sign.specs.Signs.{Adds}
 use Rattle.ix_claim_facts.proofs.SignSteps.{adds_step, signs_monotone}
 use Rattle.ix_method.specs.MethodRules.{copied_claims, KindGives, method_rules}
@@ -41,11 +40,11 @@ module _ (program : Program) (method : Method) (profile : Profile) where
 
   pub method_laws : RulesLaws (method_rules program method profile)
   method_laws = record {
-    reflexive = λ s. below_itself (stored s);
-    transitive = λ s t u. below_below (stored s) (stored t) (stored u);
+    reflexive = below_itself;
+    transitive = below_below;
     nowhere_below = λ s. tt;
-    after = λ done s t u w. kind_step done.kind done.span.from (stored s) (stored t) (stored u) (stored w);
-    tested = λ answer test s t u w. outcomes_step (outcomes_of answer test) (stored s) (stored t) (stored u) (stored w);
-    told = λ answer code slot s t u w a b c. below_below (stored s) (stored u) (stored w) (below_below (stored s) (stored t) (stored u) a b) c;
-    rounded = λ scope s t u w a b c. (b.0, b.1, gives_step (rounded b.0 scope) (rounded_mono b.0 scope) (stored s) (stored t) (stored u) (stored w) a b.2 c);
+    after = λ done. kind_step done.kind done.span.from;
+    tested = λ answer test. outcomes_step (outcomes_of answer test);
+    told = λ answer code slot s t u w a b c. below_below s u w (below_below s t u a b) c;
+    rounded = λ scope s t u w a b c. (b.0, b.1, gives_step (rounded b.0 scope) (rounded_mono b.0 scope) s t u w a b.2 c);
   }

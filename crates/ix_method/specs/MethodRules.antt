@@ -1,4 +1,4 @@
--- The rules of a method of a program in a profile, as rules of flow over stores.
+-- The rules of a method of a program in a profile, as rules of flow over stores: over all that can be known at a place, and not over what a table can hold.
 use Rattle.std.specs.Prelude.{ℕ, ℤ, List, [], Option, None, Some}
 use Rattle.ix_core.specs.declared.claim.Claim.{Claim}
 use Rattle.ix_core.specs.declared.claim.Name.{Name}
@@ -12,12 +12,9 @@ use Rattle.ix_core.specs.declared.program.Method.{Method}
 use Rattle.ix_core.specs.declared.program.Program.{Program}
 use Rattle.ix_facts.specs.MethodLandmarks.{AreLandmarksOf}
 use Rattle.ix_facts.specs.Round.{rounded}
-use Rattle.ix_facts.specs.Stores.{Stored, IsBelow, Gives, Then, OutcomesGive, operated, outcomes_of}
+use Rattle.ix_facts.specs.Stores.{Stored, Unreachable, IsBelow, Gives, Then, OutcomesGive, operated, outcomes_of}
 use Rattle.ix_flow.specs.Flow.{Rules}
 use Rattle.ix_steps.specs.MachineSteps.{own_path}
-use Rattle.ix_sign.specs.Store.{Store}
-use Rattle.ix_sign.specs.StoredFacts.{stored}
-use Rattle.ix_sign.specs.StoreOrder.{StoreBelow, nowhere}
 use Rattle.ix_sign.specs.Names.{variable_at}
 use Rattle.ix_sign.specs.Signs.{Adds, claims_facts, EntryGives, ReadGives, WriteGives, CallGives, SuperGives}
 
@@ -52,12 +49,12 @@ RoundedGives program method scope s t = (marks : List ℤ) × AreLandmarksOf pro
 -- The rules of a method. Of a boolean slot no fact speaks, so it tells nothing.
 abbrev pub method_rules : Program → Method → Profile → Rules
 method_rules program method profile = record {
-  Store = Store;
-  Below = StoreBelow;
-  nowhere = nowhere;
-  Entry = λ s. EntryGives program method (stored s);
-  After = λ done s t. AfterGives program method profile done (stored s) (stored t);
-  Tested = λ answer test s t. OutcomesGive (outcomes_of answer test) (stored s) (stored t);
-  Told = λ answer code slot s t. IsBelow (stored s) (stored t);
-  Rounded = λ scope s t. RoundedGives program method scope (stored s) (stored t);
+  Store = Stored;
+  Below = IsBelow;
+  nowhere = Unreachable;
+  Entry = EntryGives program method;
+  After = AfterGives program method profile;
+  Tested = λ answer test. OutcomesGive (outcomes_of answer test);
+  Told = λ answer code slot. IsBelow;
+  Rounded = RoundedGives program method;
 }

@@ -1,8 +1,8 @@
 -- Lists of labels, compared label by label.
-use Rattle.std.proofs.Common.{◌≡◌, ℕ, zero, suc, List, [], ◌∷◌, ◌++◌, length, set, slice_get, Some, arith, refl, subst}
+use Rattle.std.proofs.Common.{◌≡◌, ℕ, zero, suc, List, [], ◌∷◌, ◌++◌, length, map, set, slice_get, Some, arith, refl, ap, subst}
 use Rattle.std.specs.List.{AllZip}
-use Rattle.ix_lattice.specs.Lattice.{LatticeLaws, IsJoin}
-use Rattle.ix_solve.specs.Solutions.{IsBottom, AreBottom, IsLeast, IsLeastOf, IsMonotone}
+use Rattle.ix_lattice.specs.Lattice.{IsJoin}
+use Rattle.ix_solve.specs.Solutions.{IsBottom, AreBottom, IsLeast, IsLeastOf, IsMonotone, OrdersBy}
 
 module _ {V : Type 0} (Below : V → V → Type 0) where
   -- a label is changed to one that is still below the other's
@@ -46,7 +46,7 @@ module _ {V : Type 0} (Below : V → V → Type 0) where
   zip_bottom (x ∷ a) [] all same = absurd (omega arith)
   zip_bottom (x ∷ a) (q ∷ b) all same = (all.0 q, zip_bottom a b all.1 (omega arith))
 
-module _ {V : Type 0} {Below : V → V → Type 0} {rank : V → ℕ} (laws : LatticeLaws Below rank) {size : ℕ} {Asks : ℕ → List V → V → Type 0}
+module _ {V : Type 0} {Below : V → V → Type 0} (reflexive : (v : V) → Below v v) {size : ℕ} {Asks : ℕ → List V → V → Type 0}
     (monotone : IsMonotone Below Asks) where
   -- least labels stay so where one is joined with what its equation says
   pub least_set : (a : List V) (at : ℕ) (label value join : V) → IsLeast Below size Asks a → slice_get a at ≡ Some label → IsLeastOf Below (Asks at a) value → IsJoin Below label value join → IsLeast Below size Asks (set a at join)
@@ -54,10 +54,32 @@ module _ {V : Type 0} {Below : V → V → Type 0} {rank : V → ℕ} (laws : La
       let zip = least other solution in
       let theirs = zip_at Below a other at label zip found in
       let above = solution.above at theirs.0 theirs.1 in
-      zip_set Below a other at join theirs.0 zip theirs.1 (is.least theirs.0 theirs.2 (says.1 theirs.0 (monotone at a other theirs.0 theirs.0 zip above (laws.reflexive theirs.0))))
+      zip_set Below a other at join theirs.0 zip theirs.1 (is.least theirs.0 theirs.2 (says.1 theirs.0 (monotone at a other theirs.0 theirs.0 zip above (reflexive theirs.0))))
 
-module _ {V : Type 0} {Below : V → V → Type 0} {rank : V → ℕ} (laws : LatticeLaws Below rank) {Asks : ℕ → List V → V → Type 0}
+module _ {V : Type 0} {Below : V → V → Type 0} (reflexive : (v : V) → Below v v) {Asks : ℕ → List V → V → Type 0}
     (monotone : IsMonotone Below Asks) where
   -- what is high enough stays so where it rises
   pub enough_above : (a : List V) (at : ℕ) (v w : V) → Asks at a v → Below v w → Asks at a w
-  enough_above a at v w says below = monotone at a a v w (zip_same Below laws.reflexive a) says below
+  enough_above a at v w says below = monotone at a a v w (zip_same Below reflexive a) says below
+
+-- ---- what labels say
+
+module _ {V M : Type 0} (meaning : V → M) where
+  pub meaning_set : (a : List V) (i : ℕ) (y : V) → map meaning (set a i y) ≡ set (map meaning a) i (meaning y)
+  meaning_set [] i y = refl
+  meaning_set (x ∷ a) zero y = refl
+  meaning_set (x ∷ a) (suc i) y = ap (λ said. meaning x ∷ said) (meaning_set a i y)
+
+  pub meaning_at : (a : List V) (i : ℕ) (x : V) → slice_get a i ≡ Some x → slice_get (map meaning a) i ≡ Some (meaning x)
+  meaning_at [] i x found = cc
+  meaning_at (w ∷ a) zero x found = let is : w ≡ x = cc in ap (λ v. Some (meaning v)) is
+  meaning_at (w ∷ a) (suc i) x found = meaning_at a i x found
+
+  pub bottom_push : (SaysAll : M → M → Type 0) (labels : List V) (label : V) → AreBottom SaysAll (map meaning labels) → IsBottom SaysAll (meaning label) → AreBottom SaysAll (map meaning (labels ++ label ∷ []))
+  bottom_push SaysAll [] label all bottom = (bottom, tt)
+  bottom_push SaysAll (x ∷ labels) label all bottom = (all.0, bottom_push SaysAll labels label all.1 bottom)
+
+  -- labels that say everything are below every value
+  pub bottom_values : {Below : V → V → Type 0} {SaysAll : M → M → Type 0} → OrdersBy Below SaysAll meaning → (labels : List V) → AreBottom SaysAll (map meaning labels) → AreBottom Below labels
+  bottom_values order [] all = tt
+  bottom_values order (x ∷ labels) all = (λ value. (order.same x value).1 (all.0 (meaning value)), bottom_values order labels all.1)

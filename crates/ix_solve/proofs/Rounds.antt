@@ -26,7 +26,7 @@ module _ {V : Type 0} {Below : V → V → Type 0} {rank : V → ℕ} (laws : La
       let same : rank (get_or a at label) ≡ rank label = ap rank (sym read) in
       record {
         len = simp length-set so_far.len;
-        least = least_set laws monotone a at label value join so_far.least found says is;
+        least = least_set laws.reflexive monotone a at label value join so_far.least found says is;
         falls = grind (arith, sum, same, strict, so_far.falls);
         quiet = λ e. absurd (false≢true (sym e));
       }
@@ -45,6 +45,6 @@ module _ {V : Type 0} {Below : V → V → Type 0} {rank : V → ℕ} (laws : La
             let is : k ≡ at = omega arith in
             let both : Some label ≡ Some other = sym found ∙ subst (λ t. slice_get a t ≡ Some other) is g in
             let same : label ≡ other = cc in
-            subst (Asks k a) same (subst (λ t. Asks t a label) (sym is) (enough_above laws monotone a at value label says.0 below)))
+            subst (Asks k a) same (subst (λ t. Asks t a label) (sym is) (enough_above laws.reflexive monotone a at value label says.0 below)))
             (cases_lt k at);
       }

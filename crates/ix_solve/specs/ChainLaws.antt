@@ -4,7 +4,7 @@ use Rattle.std.specs.List.{AllZip}
 use Rattle.std.proofs.Common.{zero, suc, arith, sym, ◌∙◌, refl, subst}
 use Rattle.ix_lattice.specs.Lattice.{LatticeLaws}
 use Rattle.ix_solve.specs.Readers.{DependsOnRead}
-use Rattle.ix_solve.specs.Solutions.{IsMonotone}
+use Rattle.ix_solve.specs.Solutions.{IsMonotone, OrdersBy}
 use Rattle.ix_solve.specs.Chain.{HeightBelow, height_rank, chain_readers, ChainAsks}
 use Rattle.ix_solve.specs.declared.chain.Height.{Height}
 
@@ -15,6 +15,10 @@ height_laws = record {
   falls = λ a b p. omega arith;
   level = λ a b p h. omega (arith, a.small, b.small);
 }
+
+-- a height says itself
+pub height_order : OrdersBy HeightBelow HeightBelow (λ height. height)
+height_order = record { same = λ a b. (λ below. below, λ below. below); reflexive = height_laws.reflexive }
 
 below_at : (a b : List Height) (i : ℕ) (w : Height) → AllZip HeightBelow a b → slice_get b i ≡ Some w → (v : Height) × (slice_get a i ≡ Some v) × HeightBelow v w
 below_at [] [] i w zip g = cc

@@ -1,6 +1,6 @@
 -- Solutions of equations over a lattice, and the least of them. An equation asks that its label is high
 -- enough, by all labels: `Asks at labels label`. Whether a least such label exists need not be known.
-use Rattle.std.specs.Prelude.{◌≡◌, ℕ, List, [], ◌∷◌, length, slice_get, Some}
+use Rattle.std.specs.Prelude.{◌≡◌, ◌↔◌, ℕ, List, [], ◌∷◌, length, slice_get, Some}
 use Rattle.std.specs.List.{AllZip}
 
 -- below every value
@@ -19,6 +19,11 @@ IsMonotone {V} Below Asks = (at : ℕ) (a b : List V) (v w : V) → AllZip Below
 -- high enough, and below all that is
 abbrev pub IsLeastOf : {V : Type 0} → (V → V → Type 0) → (V → Type 0) → V → Type 0
 IsLeastOf {V} Below IsEnough value = IsEnough value × ((other : V) → IsEnough other → Below value other)
+
+-- Values are ordered as what they say: `SaysAll` is the order of what is said.
+pub record OrdersBy {V M : Type 0} (Below : V → V → Type 0) (SaysAll : M → M → Type 0) (meaning : V → M) : Type 0 where
+  pub same : (a b : V) → Below a b ↔ SaysAll (meaning a) (meaning b)
+  pub reflexive : (said : M) → SaysAll said said
 
 module _ {V : Type 0} (Below : V → V → Type 0) (size : ℕ) (Asks : ℕ → List V → V → Type 0) where
   -- There is a label for each equation, and it is high enough for its equation at the labels: a post-fixed

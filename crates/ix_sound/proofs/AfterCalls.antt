@@ -18,9 +18,7 @@ use Rattle.ix_core.specs.Waits.{FitsKind, FitsCall, Since, AreFresh, is_super}
 use Rattle.ix_core.specs.World.{World, tables_in}
 use Rattle.ix_core.proofs.Kept.{has_ints}
 use Rattle.ix_core.proofs.LawsAreSafe.{types_in}
-use Rattle.ix_facts.specs.Stores.{Meets}
-use Rattle.ix_method.specs.Store.{Store}
-use Rattle.ix_method.specs.StoredFacts.{stored}
+use Rattle.ix_facts.specs.Stores.{Stored, Meets}
 use Rattle.ix_method.specs.Signs.{CallGives}
 use Rattle.ix_sound.specs.Direct.{direct}
 use Rattle.ix_sound.specs.Known.{Known, Anything, Here, Behind, CallsWell, BehindGives, stage_behind, call_of, MeetsHere, HoldsFor}
@@ -42,22 +40,22 @@ module _ (program : Program) (locals : List (List Type_)) (formed : is_formed pr
   abbrev later : List Held
   later = set_target (target_of (tables_in world) kind call) value slots
 
-  module _ (stage : Stage) (s : Store) (here : MeetsHere program profile (types_in program locals formed) stage s slots began) (well : CallsWell program caller callee kind call stage (stored s)) (t : Store) (types : Types) where
+  module _ (stage : Stage) (s : Stored) (here : MeetsHere program profile (types_in program locals formed) stage s slots began) (well : CallsWell program caller callee kind call stage s) (t : Stored) (types : Types) where
     before : HasInts world.place slots began
     before = has_ints world.place slots began kept
 
-    meets_before : Meets (stored s) (numbers_of world.place slots began before)
+    meets_before : Meets s (numbers_of world.place slots began before)
     meets_before = (here before).0
 
     stands : StandsFor world (method_at program well.named) callee
     stands = subst (StandsFor world (method_at program well.named)) (sym well.callee_is) (overrides_stands program locals formed texts call.method well.named well.overrides)
 
     -- a call of a method, or of the constructor of a new object
-    plain_holds : is_super kind ≡ false → CallGives program caller (call_of call well.named) (stored s) (stored t) → MeetsHere program profile (types_in program locals formed) (with_types stage types) t later heap
+    plain_holds : is_super kind ≡ false → CallGives program caller (call_of call well.named) s t → MeetsHere program profile (types_in program locals formed) (with_types stage types) t later heap
     plain_holds plain gives behind =
-        let met = params_met program locals formed slots began on before (stored s) meets_before kind call well.named well.known well.kinds well.args well.met in (
+        let met = params_met program locals formed slots began on before s meets_before kind call well.named well.known well.kinds well.args well.met in (
           call_meets program locals formed caller callee kind call slots began heap value plain fits size on kept since kept_after int given results well.named well.known stands well.kinds well.args well.apart well.receiver met
-              (ap (λ (m : Method). m.result) well.callee_is) before behind (stored s) (stored t) gives meets_before,
+              (ap (λ (m : Method). m.result) well.callee_is) before behind s t gives meets_before,
           stage_on stage refl (here before).1,
         )
       where
@@ -66,7 +64,7 @@ module _ (program : Program) (locals : List (List Type_)) (formed : is_formed pr
         stage_on (Making class false old) e holds = subst (λ x. StageHolds world (with_types x types) (numbers_of world.place later heap behind)) (sym e) tt
         stage_on (Making class true old) e holds =
             let made = (well.makes class true old e).0 in
-            let met = params_met program locals formed slots began on before (stored s) meets_before kind call well.named well.known well.kinds well.args well.met in
+            let met = params_met program locals formed slots began on before s meets_before kind call well.named well.known well.kinds well.args well.met in
             let same : KeepsThis (numbers_of world.place slots began before) (numbers_of world.place later heap behind)
             = call_keeps program locals formed caller callee kind call slots began heap value plain fits size on kept since kept_after int given results well.named well.known stands well.kinds well.args well.apart well.receiver met
             (ap (λ (m : Method). m.result) well.callee_is) before behind made (well.target made) in
@@ -74,7 +72,7 @@ module _ (program : Program) (locals : List (List Type_)) (formed : is_formed pr
             (stage_kept world (Making class true old) types (numbers_of world.place slots began before) (numbers_of world.place later heap behind) same (subst (λ x. StageHolds world x (numbers_of world.place slots began before)) e holds))
 
     -- a call of the parent's constructor, which gives no value
-    super_holds : kind ≡ Super → BehindGives program caller Super (call_of call well.named) (stored s) (stored t) → MeetsHere program profile (types_in program locals formed) (stage_behind Super stage types) t slots heap
+    super_holds : kind ≡ Super → BehindGives program caller Super (call_of call well.named) s t → MeetsHere program profile (types_in program locals formed) (stage_behind Super stage types) t slots heap
     super_holds is gives behind =
         let kinds : FitsKind world Super caller callee call = subst (λ k. FitsKind world k caller callee call) is fits.kinds in
         let this = built (ap is_super is) in
@@ -82,7 +80,7 @@ module _ (program : Program) (locals : List (List Type_)) (formed : is_formed pr
         = well.callee_is ∙ ap (method_at program) (sym (constructor_itself program locals formed call.method well.named well.overrides (sym (ap (λ (m : Method). m.constructor) well.callee_is) ∙ kinds.1))) in (
           super_meets program locals formed caller well.named call slots began heap kinds.0 (kinds.3 ∙ ap (λ (m : Method). Some m.class) same) on
               (subst (λ m. Since world caller m Super slots began heap) same (subst (λ k. Since world caller callee k slots began heap) is since)) this.0 this.1 this.2
-              (λ field has. this.3 field (subst (λ (m : Method). HasField world (ObjectOf m.class) field) (sym same) has)) before behind (stored s) (stored t) gives meets_before,
+              (λ field has. this.3 field (subst (λ (m : Method). HasField world (ObjectOf m.class) field) (sym same) has)) before behind s t gives meets_before,
           made_stage stage,
         )
       where
@@ -90,7 +88,7 @@ module _ (program : Program) (locals : List (List Type_)) (formed : is_formed pr
         made_stage Plain = tt
         made_stage (Making class new old) = tt
 
-    by_kind : (k : CallKind) → kind ≡ k → BehindGives program caller k (call_of call well.named) (stored s) (stored t) → MeetsHere program profile (types_in program locals formed) (stage_behind k stage types) t (set_target (target_of (tables_in world) k call) value slots) heap
+    by_kind : (k : CallKind) → kind ≡ k → BehindGives program caller k (call_of call well.named) s t → MeetsHere program profile (types_in program locals formed) (stage_behind k stage types) t (set_target (target_of (tables_in world) k call) value slots) heap
     by_kind Static e gives = subst (λ k. MeetsHere program profile (types_in program locals formed) (with_types stage types) t (set_target (target_of (tables_in world) k call) value slots) heap) e (plain_holds (ap is_super e) gives)
     by_kind Instance e gives = subst (λ k. MeetsHere program profile (types_in program locals formed) (with_types stage types) t (set_target (target_of (tables_in world) k call) value slots) heap) e (plain_holds (ap is_super e) gives)
     by_kind (New class) e gives = subst (λ k. MeetsHere program profile (types_in program locals formed) (with_types stage types) t (set_target (target_of (tables_in world) k call) value slots) heap) e (plain_holds (ap is_super e) gives)

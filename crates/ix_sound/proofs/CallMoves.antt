@@ -29,8 +29,7 @@ use Rattle.ix_core.proofs.LawsAreSafe.{types_in}
 use Rattle.ix_core.proofs.TypedCalls.{not_static}
 use Rattle.ix_core.proofs.TypedStarts.{OperationFits}
 use Rattle.ix_steps.proofs.MachineTests.{field_is}
-use Rattle.ix_method.specs.Store.{Store}
-use Rattle.ix_method.specs.StoredFacts.{stored}
+use Rattle.ix_facts.specs.Stores.{Stored}
 use Rattle.ix_method.specs.MethodRules.{method_rules, KindGives}
 use Rattle.ix_sound.specs.Chain.{Flowing}
 use Rattle.ix_sound.specs.Clean.{IsClean}
@@ -43,7 +42,7 @@ use Rattle.ix_sound.proofs.FormedCalls.{CallHas, call_has, static_fits_call, ins
 use Rattle.ix_sound.proofs.StageMoves.{operation_stays, super_made}
 use Rattle.ix_method.specs.SignErrors.{ArgumentClaim}
 
-module _ (program : Program) (locals : List (List Type_)) (formed : is_formed program locals ≡ true) (profile : Profile) (entries : (number : ℕ) → nat_lt number (length program.methods) ≡ true → Store)
+module _ (program : Program) (locals : List (List Type_)) (formed : is_formed program locals ≡ true) (profile : Profile) (entries : (number : ℕ) → nat_lt number (length program.methods) ≡ true → Stored)
     (building : ℕ → Type 0) (number : ℕ) (lt : number < length program.methods) (slots : List Held) (heap : Heap) (keeps : HeapKeeps (direct program) building heap)
     (frame_keeps : FrameKeeps building (method_at program number) slots heap) (kept_ints : KeepsInts slots heap) where
   abbrev world : World
@@ -65,9 +64,9 @@ module _ (program : Program) (locals : List (List Type_)) (formed : is_formed pr
   on = all_on world building method slots heap keeps frame_keeps
 
   module _ (done : Op) (rest : Code) (below : Tasks) (fits : OperationFits program locals formed (record { now = frame number (Run (Do done rest) below) slots; below = []; heap = heap; wrapped = false; ended = None }) done)
-      (stage : Stage) (stage_fits : StageFits program (types_in program locals formed) number (Run (Do done rest) below) stage) (s t : Store) (here : MeetsHere program profile (types_in program locals formed) stage s slots heap)
-      (none : NoKindErrors program method number done done.kind (stored s)) (clean : IsClean program method done.kind) (gives : KindGives program method profile done.kind done.span.from (stored s) (stored t))
-      (labels : ℕ → Store) (flowing : Flowing (method_rules program method profile) (NoErrors program method number) labels (λ (d : Op). IsClean program method d.kind) (code_then rest below) t) where
+      (stage : Stage) (stage_fits : StageFits program (types_in program locals formed) number (Run (Do done rest) below) stage) (s t : Stored) (here : MeetsHere program profile (types_in program locals formed) stage s slots heap)
+      (none : NoKindErrors program method number done done.kind s) (clean : IsClean program method done.kind) (gives : KindGives program method profile done.kind done.span.from s t)
+      (labels : ℕ → Stored) (flowing : Flowing (method_rules program method profile) (NoErrors program method number) labels (λ (d : Op). IsClean program method d.kind) (code_then rest below) t) where
     -- what formedness and the text say of the call
     pub record CallParts (kind : CallKind) (call : CallOp) : Type 0 where
       pub has : CallHas program locals formed number lt slots heap fits.types fits.size fits.typed call
@@ -127,11 +126,11 @@ module _ (program : Program) (locals : List (List Type_)) (formed : is_formed pr
 
     -- ---- what the laws ask
 
-    module _ (kind : CallKind) (call : CallOp) (parts : CallParts kind call) (no_claim : (error : Error) (rank : ℕ) → ArgumentClaim program call (stored s) error rank → ⊥) (behind : BehindGives program method kind call (stored s) (stored t)) where
+    module _ (kind : CallKind) (call : CallOp) (parts : CallParts kind call) (no_claim : (error : Error) (rank : ℕ) → ArgumentClaim program call s error rank → ⊥) (behind : BehindGives program method kind call s t) where
       makes : (class : ℕ) (new : Bool) (types : Types) → stage ≡ Making class new types → (method.constructor ≡ true) × (class ≡ method.class)
       makes class new types is = let making = subst (StageFits program (types_in program locals formed) number (Run (Do done rest) below)) is stage_fits in (making.constructor, making.of)
 
-      pub well : CallsWell program method (method_at program call.method) kind call stage (stored s)
+      pub well : CallsWell program method (method_at program call.method) kind call stage s
       well = record {
         number = number;
         there = lt;
@@ -156,7 +155,7 @@ module _ (program : Program) (locals : List (List Type_)) (formed : is_formed pr
         store = Here stage s;
         holds = here;
         fits = parts.call_fits;
-        met = params_met program locals formed slots heap on before (stored s) (here before).0 kind call call.method parts.has.there parts.kinds parts.has.args no_claim;
+        met = params_met program locals formed slots heap on before s (here before).0 kind call call.method parts.has.there parts.kinds parts.has.args no_claim;
         fresh = fresh;
         fine = λ there. record { well = well; after = t; gives = behind; types = types; fine = record { labels = labels; flowing = flowing; stage_fits = fine } };
       }
@@ -167,8 +166,8 @@ module _ (program : Program) (locals : List (List Type_)) (formed : is_formed pr
         let zero = holds field (subst (λ c. HasField world (ObjectOf c) field) (sym of) has) in
         field_is world slots heap before 0 object field at ∙ (λ i. record { int = zero.0 i; size = zero.1 i })
 
-    plain_calls : (kind : CallKind) (call : CallOp) → is_super kind ≡ false → is_super_call done.kind ≡ false → CallParts kind call → ((error : Error) (rank : ℕ) → ArgumentClaim program call (stored s) error rank → ⊥)
-        → BehindGives program method kind call (stored s) (stored t) → ((types : Types) → StageFits program (types_in program locals formed) number (code_then rest below) (with_types stage types) → StageFits program (types_in program locals formed) number (code_then rest below) (stage_behind kind stage types))
+    plain_calls : (kind : CallKind) (call : CallOp) → is_super kind ≡ false → is_super_call done.kind ≡ false → CallParts kind call → ((error : Error) (rank : ℕ) → ArgumentClaim program call s error rank → ⊥)
+        → BehindGives program method kind call s t → ((types : Types) → StageFits program (types_in program locals formed) number (code_then rest below) (with_types stage types) → StageFits program (types_in program locals formed) number (code_then rest below) (stage_behind kind stage types))
         → Calls profile world know number kind call (code_then rest below) slots heap
     plain_calls kind call plain no_super parts no_claim behind same =
         let after = operation_stays program locals formed number lt done rest below stage no_super stage_fits in
@@ -176,18 +175,18 @@ module _ (program : Program) (locals : List (List Type_)) (formed : is_formed pr
 
     pub static_shown : (call : CallOp) → done.kind ≡ op.StaticCall call → Calls profile world know number Static call (code_then rest below) slots heap
     static_shown call is =
-        plain_calls Static call refl (ap is_super_call is) (static_parts call (subst (λ k. op_fits program method (locals_of program locals formed number) (Some fits.types) done k ≡ true) is fits.fits) (subst (IsClean program method) is clean)) (subst (λ k. NoKindErrors program method number done k (stored s)) is none)
-        (subst (λ k. KindGives program method profile k done.span.from (stored s) (stored t)) is gives) (λ types f. f)
+        plain_calls Static call refl (ap is_super_call is) (static_parts call (subst (λ k. op_fits program method (locals_of program locals formed number) (Some fits.types) done k ≡ true) is fits.fits) (subst (IsClean program method) is clean)) (subst (λ k. NoKindErrors program method number done k s) is none)
+        (subst (λ k. KindGives program method profile k done.span.from s t) is gives) (λ types f. f)
 
     pub instance_shown : (call : CallOp) → done.kind ≡ op.InstanceCall call → Calls profile world know number Instance call (code_then rest below) slots heap
     instance_shown call is =
         plain_calls Instance call refl (ap is_super_call is) (instance_parts call (subst (λ k. op_fits program method (locals_of program locals formed number) (Some fits.types) done k ≡ true) is fits.fits) (subst (IsClean program method) is clean))
-        (subst (λ k. NoKindErrors program method number done k (stored s)) is none) (subst (λ k. KindGives program method profile k done.span.from (stored s) (stored t)) is gives) (λ types f. f)
+        (subst (λ k. NoKindErrors program method number done k s) is none) (subst (λ k. KindGives program method profile k done.span.from s t) is gives) (λ types f. f)
 
     pub new_shown : (call : CallOp) → done.kind ≡ op.NewObject call → Calls profile world know number (New call.class) call (code_then rest below) slots heap
     new_shown call is =
         plain_calls (New call.class) call refl (ap is_super_call is) (new_parts call (subst (λ k. op_fits program method (locals_of program locals formed number) (Some fits.types) done k ≡ true) is fits.fits) (subst (IsClean program method) is clean))
-        (subst (λ k. NoKindErrors program method number done k (stored s)) is none) (subst (λ k. KindGives program method profile k done.span.from (stored s) (stored t)) is gives) (λ types f. f)
+        (subst (λ k. NoKindErrors program method number done k s) is none) (subst (λ k. KindGives program method profile k done.span.from s t) is gives) (λ types f. f)
 
     pub super_shown : (call : CallOp) → done.kind ≡ op.SuperCall call → Calls profile world know number Super call (code_then rest below) slots heap
     super_shown call is = by_stage stage refl
@@ -195,11 +194,11 @@ module _ (program : Program) (locals : List (List Type_)) (formed : is_formed pr
         parts : CallParts Super call
         parts = super_parts call (subst (λ k. op_fits program method (locals_of program locals formed number) (Some fits.types) done k ≡ true) is fits.fits) (subst (IsClean program method) is clean)
 
-        no_claim : (error : Error) (rank : ℕ) → ArgumentClaim program call (stored s) error rank → ⊥
-        no_claim = subst (λ k. NoKindErrors program method number done k (stored s)) is none
+        no_claim : (error : Error) (rank : ℕ) → ArgumentClaim program call s error rank → ⊥
+        no_claim = subst (λ k. NoKindErrors program method number done k s) is none
 
-        behind : BehindGives program method Super call (stored s) (stored t)
-        behind = subst (λ k. KindGives program method profile k done.span.from (stored s) (stored t)) is gives
+        behind : BehindGives program method Super call s t
+        behind = subst (λ k. KindGives program method profile k done.span.from s t) is gives
 
         by_stage : (at : Stage) → stage ≡ at → Calls profile world know number Super call (code_then rest below) slots heap
         by_stage Plain e = absurd (false≢true (sym (subst (StageFits program (types_in program locals formed) number (Run (Do done rest) below)) e stage_fits) ∙ parts.call_fits.kinds.0))

@@ -20,14 +20,14 @@ use Rattle.ix_core.specs.World.{World, tables_in}
 use Rattle.ix_core.proofs.Entered.{args_each, first_and}
 use Rattle.ix_core.proofs.LawsAreSafe.{types_in}
 use Rattle.ix_core.proofs.TypedCalls.{method_has}
-use Rattle.ix_method.specs.Store.{Store}
+use Rattle.ix_facts.specs.Stores.{Stored}
 use Rattle.ix_sound.specs.Direct.{direct}
 use Rattle.ix_sound.specs.Known.{Known, Anything, Here, Behind, Overrides, BehindFine, call_of, knowledge}
 use Rattle.ix_sound.specs.Stands.{StandsFor}
 use Rattle.ix_sound.proofs.Dispatch.{IsFound}
 use Rattle.ix_sound.proofs.Overridden.{NoTexts, overrides_stands, overrides_overrides, found_overrides}
 
-module _ (program : Program) (locals : List (List Type_)) (formed : is_formed program locals ≡ true) (profile : Profile) (texts : NoTexts program locals formed) (entries : (number : ℕ) → nat_lt number (length program.methods) ≡ true → Store) where
+module _ (program : Program) (locals : List (List Type_)) (formed : is_formed program locals ≡ true) (profile : Profile) (texts : NoTexts program locals formed) (entries : (number : ℕ) → nat_lt number (length program.methods) ≡ true → Stored) where
   abbrev world : World
   world = direct program
 

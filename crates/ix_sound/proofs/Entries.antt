@@ -34,8 +34,7 @@ use Rattle.ix_facts.specs.Facts.{AllHold}
 use Rattle.ix_facts.proofs.FactLists.{all_hold_app}
 use Rattle.ix_steps.specs.MachineSteps.{reading_at}
 use Rattle.ix_steps.proofs.MachineTests.{field_is}
-use Rattle.ix_method.specs.Store.{Store}
-use Rattle.ix_method.specs.StoredFacts.{stored}
+use Rattle.ix_facts.specs.Stores.{Stored}
 use Rattle.ix_method.specs.Signs.{EntryGives, entry_facts, received_params, params_facts, zero_fields, own_fields, has_no_parent}
 use Rattle.ix_sound.specs.Direct.{direct}
 use Rattle.ix_sound.specs.Known.{stage_if, entry_stage, known_at, HoldsFor}
@@ -89,17 +88,17 @@ module _ (program : Program) (locals : List (List Type_)) (formed : is_formed pr
         by_parent false = tt
 
   abbrev Entries : Type 0
-  Entries = (number : ℕ) → nat_lt number (length program.methods) ≡ true → Store
+  Entries = (number : ℕ) → nat_lt number (length program.methods) ≡ true → Stored
 
   abbrev pub EntriesGive : Entries → Type 0
-  EntriesGive entries = (number : ℕ) (there : nat_lt number (length program.methods) ≡ true) → EntryGives program (method_at program number) (stored (entries number there))
+  EntriesGive entries = (number : ℕ) (there : nat_lt number (length program.methods) ≡ true) → EntryGives program (method_at program number) (entries number there)
 
   pub entry_met : (entries : Entries) → EntriesGive entries → (number : ℕ) (slots : List Held) (heap : Heap) → MeetParams world (method_at program number) slots heap → IsNew number slots heap
       → (t : Bool) (e : nat_lt number (length program.methods) ≡ t) → HoldsFor program profile (types_in program locals formed) (known_at program profile (types_in program locals formed) entries number t e) slots heap
   entry_met entries gives number slots heap met new false e = tt
   entry_met entries gives number slots heap met new true e = λ ints.
       let lt : number < length program.methods = grind (arith, nat_tests) in (
-        above_met (entry_facts program (method_at program number)) (stored (entries number e)) (numbers_of world.place slots heap ints) (entry_holds number lt slots heap met new ints) (gives number e),
+        above_met (entry_facts program (method_at program number)) (entries number e) (numbers_of world.place slots heap ints) (entry_holds number lt slots heap met new ints) (gives number e),
         stage_holds number lt slots heap met new ints (method_at program number).constructor refl,
       )
 

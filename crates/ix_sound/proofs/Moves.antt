@@ -30,7 +30,7 @@ use Rattle.ix_core.proofs.Kept.{has_ints}
 use Rattle.ix_core.proofs.LawsAreSafe.{types_in}
 use Rattle.ix_core.proofs.TypedStarts.{OperationFits, next_fits}
 use Rattle.ix_facts.specs.Round.{rounded}
-use Rattle.ix_facts.specs.Stores.{Meets, operated, outcomes_of, OutcomesGive}
+use Rattle.ix_facts.specs.Stores.{Stored, Meets, operated, outcomes_of, OutcomesGive}
 use Rattle.ix_facts.proofs.AfterLaws.{after_hold}
 use Rattle.ix_facts.proofs.FactLists.{stronger_hold}
 use Rattle.ix_facts.proofs.RoundLaws.{rounded_weaker}
@@ -39,8 +39,6 @@ use Rattle.ix_facts.proofs.StoreLaws.{below_meets}
 use Rattle.ix_flow.specs.Flow.{Rules, Doing, Flows}
 use Rattle.ix_steps.proofs.MachineSteps.{printed_stays}
 use Rattle.ix_steps.proofs.MachineTests.{told_true, told_false}
-use Rattle.ix_method.specs.Store.{Store}
-use Rattle.ix_method.specs.StoredFacts.{stored}
 use Rattle.ix_method.specs.MethodRules.{method_rules, KindGives}
 use Rattle.ix_sound.specs.Chain.{Passes, Same, Weaker, Rounding, Flowing, Finishing, Running, Asking, Comparing, Telling, Turning, Returning, Leaving, Passing, Each}
 use Rattle.ix_sound.specs.Clean.{IsClean}
@@ -57,9 +55,9 @@ use Rattle.ix_sound.proofs.OperationsMeet.{stage_kept}
 use Rattle.ix_sound.proofs.StageMoves.{stage_stays, operation_stays}
 use Rattle.ix_sound.proofs.OperationsKeep.{IsNoCall}
 
-module _ (program : Program) (locals : List (List Type_)) (formed : is_formed program locals ≡ true) (tables : IsWorld (direct program)) (apart : LocalsApart program) (profile : Profile) (entries : (number : ℕ) → nat_lt number (length program.methods) ≡ true → Store)
+module _ (program : Program) (locals : List (List Type_)) (formed : is_formed program locals ≡ true) (tables : IsWorld (direct program)) (apart : LocalsApart program) (profile : Profile) (entries : (number : ℕ) → nat_lt number (length program.methods) ≡ true → Stored)
     (limits : Limits) (building : ℕ → Type 0) (number : ℕ) (lt : number < length program.methods) (slots : List Held) (heap : Heap) (keeps : HeapKeeps (direct program) building heap)
-    (frame_keeps : FrameKeeps building (method_at program number) slots heap) (kept_ints : KeepsInts slots heap) (labels : ℕ → Store) where
+    (frame_keeps : FrameKeeps building (method_at program number) slots heap) (kept_ints : KeepsInts slots heap) (labels : ℕ → Stored) where
   abbrev world : World
   world = direct program
 
@@ -75,10 +73,10 @@ module _ (program : Program) (locals : List (List Type_)) (formed : is_formed pr
   abbrev Okay : Op → Type 0
   Okay done = IsClean program method done.kind
 
-  abbrev Chain : Tasks → Store → Type 0
+  abbrev Chain : Tasks → Stored → Type 0
   Chain tasks s = Flowing rules (NoErrors program method number) labels Okay tasks s
 
-  abbrev Met : Stage → Store → Type 0
+  abbrev Met : Stage → Stored → Type 0
   Met stage s = MeetsHere program profile (types_in program locals formed) stage s slots heap
 
   abbrev Show : Move → Type 0
@@ -92,7 +90,7 @@ module _ (program : Program) (locals : List (List Type_)) (formed : is_formed pr
 
   -- ---- moves that change nothing but the tasks
 
-  goes : (stage : Stage) (s : Store) (tasks : Tasks) → Met stage s → StageStays program (types_in program locals formed) number stage (Go tasks slots heap) → Chain tasks s → Show (Go tasks slots heap)
+  goes : (stage : Stage) (s : Stored) (tasks : Tasks) → Met stage s → StageStays program (types_in program locals formed) number stage (Go tasks slots heap) → Chain tasks s → Show (Go tasks slots heap)
   goes stage s tasks here stays flowing = (
     idle program locals formed tables apart profile entries limits building number lt slots heap keeps frame_keeps kept_ints,
     kept_ints,
@@ -104,21 +102,21 @@ module _ (program : Program) (locals : List (List Type_)) (formed : is_formed pr
   )
 
   -- another store that is met
-  met_by : (stage : Stage) (s t : Store) → ((v : Numbers) → Meets (stored s) v → Meets (stored t) v) → Met stage s → Met stage t
+  met_by : (stage : Stage) (s t : Stored) → ((v : Numbers) → Meets s v → Meets t v) → Met stage s → Met stage t
   met_by stage s t each here ints = (each (numbers_of world.place slots heap ints) (here ints).0, (here ints).1)
 
-  passes_met : (stage : Stage) (s t : Store) → Passes rules (NoErrors program method number) labels Okay s t → Met stage s → Met stage t
+  passes_met : (stage : Stage) (s t : Stored) → Passes rules (NoErrors program method number) labels Okay s t → Met stage s → Met stage t
   passes_met stage s _ (Same _) here = here
-  passes_met stage s t (Weaker _ _ below) here = met_by stage s t (λ v. below_meets (stored s) (stored t) v below) here
+  passes_met stage s t (Weaker _ _ below) here = met_by stage s t (λ v. below_meets s t v below) here
   passes_met stage s t (Rounding scope _ joined _ below given) here =
       met_by stage s t
-      (λ v meets. gives_meets (rounded given.0 scope) v v (λ facts h. stronger_hold v facts (rounded given.0 scope facts) (rounded_weaker given.0 scope facts) h) (stored joined) (stored t) given.2
-      (below_meets (stored s) (stored joined) v below meets)) here
+      (λ v meets. gives_meets (rounded given.0 scope) v v (λ facts h. stronger_hold v facts (rounded given.0 scope facts) (rounded_weaker given.0 scope facts) h) joined t given.2
+      (below_meets s joined v below meets)) here
 
   -- ---- operations
 
-  module _ (done : Op) (rest : Code) (below : Tasks) (stage : Stage) (s t : Store) (typed : NowTyped program (types_in program locals formed) number (Run (Do done rest) below) slots heap) (stage_fits : Fits (Run (Do done rest) below) stage) (here : Met stage s)
-      (none : NoErrors program method number (Doing done) s) (clean : IsClean program method done.kind) (gives : KindGives program method profile done.kind done.span.from (stored s) (stored t)) (flowing : Chain (code_then rest below) t) where
+  module _ (done : Op) (rest : Code) (below : Tasks) (stage : Stage) (s t : Stored) (typed : NowTyped program (types_in program locals formed) number (Run (Do done rest) below) slots heap) (stage_fits : Fits (Run (Do done rest) below) stage) (here : Met stage s)
+      (none : NoErrors program method number (Doing done) s) (clean : IsClean program method done.kind) (gives : KindGives program method profile done.kind done.span.from s t) (flowing : Chain (code_then rest below) t) where
     fits : OperationFits program locals formed (record { now = frame number (Run (Do done rest) below) slots; below = []; heap = heap; wrapped = false; ended = None }) done
     fits = next_fits program locals formed (record { now = frame number (Run (Do done rest) below) slots; below = []; heap = heap; wrapped = false; ended = None }) done rest below (record { heap = typed.heap_typed; now = typed.frame_typed; below = tt }) refl
 
@@ -132,11 +130,11 @@ module _ (program : Program) (locals : List (List Type_)) (formed : is_formed pr
     print_shown : (value : ℕ) → done.kind ≡ op.Print value → Shown (op.Print value)
     print_shown value is =
         let after = operation_stays program locals formed number lt done rest below stage (ap is_super_call is) stage_fits in
-        let told = subst (λ k. KindGives program method profile k done.span.from (stored s) (stored t)) is gives in record {
+        let told = subst (λ k. KindGives program method profile k done.span.from s t) is gives in record {
           store = Here (with_types stage after.0) t;
           holds = λ ints. (
             gives_meets (operated profile (op.Print value)) (numbers_of world.place slots heap ints) (numbers_of world.place slots heap ints)
-                (λ facts. after_hold profile (op.Print value) facts (numbers_of world.place slots heap ints) (numbers_of world.place slots heap ints) tt (printed_stays profile value (numbers_of world.place slots heap ints))) (stored s) (stored t) told (here ints).0,
+                (λ facts. after_hold profile (op.Print value) facts (numbers_of world.place slots heap ints) (numbers_of world.place slots heap ints) tt (printed_stays profile value (numbers_of world.place slots heap ints))) s t told (here ints).0,
             stage_kept world stage after.0 (numbers_of world.place slots heap ints) (numbers_of world.place slots heap ints) (λ field. (refl, refl)) (here ints).1,
           );
           fine = λ there. record { labels = labels; flowing = flowing; stage_fits = after.1 };
@@ -168,23 +166,23 @@ module _ (program : Program) (locals : List (List Type_)) (formed : is_formed pr
 
   -- ---- statements
 
-  code_shown : (code : Code) (tasks : Tasks) (s end breaks continues : Store) → Flows rules (NoErrors program method number) labels code s end breaks continues → Each Okay code
+  code_shown : (code : Code) (tasks : Tasks) (s end breaks continues : Stored) → Flows rules (NoErrors program method number) labels code s end breaks continues → Each Okay code
       → Chain tasks end → Chain (behind_loop tasks) breaks → Chain (next_turn tasks) continues → (stage : Stage) → Fits (Run code tasks) stage → Met stage s → NowTyped program (types_in program locals formed) number (Run code tasks) slots heap
       → Show (step_code limits (tables_in world) slots heap code tasks)
   code_shown End tasks s end breaks continues flows okay ends jumps turns stage stage_fits here typed =
-      goes stage end tasks (met_by stage s end (λ v. below_meets (stored s) (stored end) v flows) here) (stage_stays program locals formed number lt stage (Run End tasks) limits (tables_in world) slots heap tt stage_fits) ends
+      goes stage end tasks (met_by stage s end (λ v. below_meets s end v flows) here) (stage_stays program locals formed number lt stage (Run End tasks) limits (tables_in world) slots heap tt stage_fits) ends
   code_shown (Do done rest) tasks s end breaks continues (fine, t, gives, flows) okay ends jumps turns stage stage_fits here typed =
       do_shown done rest tasks stage s t typed stage_fits here fine okay.0 gives (code_flowing rules (NoErrors program method number) labels Okay rest tasks t end breaks continues flows okay.1 (record { ends = ends; jumps = jumps; turns = turns })) done.kind refl
   code_shown (If asked first second rest) tasks s end breaks continues flows okay ends jumps turns stage stage_fits here typed =
       goes stage s (Ask asked (code_then first Empty) (code_then second Empty) (code_then rest tasks)) here (stage_stays program locals formed number lt stage (Run (If asked first second rest) tasks) limits (tables_in world) slots heap tt stage_fits)
       (if_flowing rules (NoErrors program method number) labels Okay asked first second rest tasks s end breaks continues flows okay (record { ends = ends; jumps = jumps; turns = turns }))
   code_shown (Break rest) tasks s end breaks continues (jump, flows) okay ends jumps turns stage stage_fits here typed =
-      goes stage breaks (behind_loop tasks) (met_by stage s breaks (λ v. below_meets (stored s) (stored breaks) v jump) here) (stage_stays program locals formed number lt stage (Run (Break rest) tasks) limits (tables_in world) slots heap tt stage_fits) jumps
+      goes stage breaks (behind_loop tasks) (met_by stage s breaks (λ v. below_meets s breaks v jump) here) (stage_stays program locals formed number lt stage (Run (Break rest) tasks) limits (tables_in world) slots heap tt stage_fits) jumps
   code_shown (Continue rest) tasks s end breaks continues (jump, flows) okay ends jumps turns stage stage_fits here typed =
-      goes stage continues (next_turn tasks) (met_by stage s continues (λ v. below_meets (stored s) (stored continues) v jump) here) (stage_stays program locals formed number lt stage (Run (Continue rest) tasks) limits (tables_in world) slots heap tt stage_fits) turns
+      goes stage continues (next_turn tasks) (met_by stage s continues (λ v. below_meets s continues v jump) here) (stage_stays program locals formed number lt stage (Run (Continue rest) tasks) limits (tables_in world) slots heap tt stage_fits) turns
   code_shown (Return value span rest) tasks s end breaks continues (fine, flows) okay ends jumps turns stage stage_fits here typed =
       let fits = return_typed value span rest tasks typed.frame_typed.types typed.frame_typed.fits in
-      returns_shown program locals formed profile know number lt slots heap building frame_keeps before (stored s) (here before).0 fits.0 value span fits.1 (λ error rank x. fine error rank (inl x)) (λ error rank x. fine error rank (inr x))
+      returns_shown program locals formed profile know number lt slots heap building frame_keeps before s (here before).0 fits.0 value span fits.1 (λ error rank x. fine error rank (inl x)) (λ error rank x. fine error rank (inr x))
   code_shown (Throw thrown span rest) tasks s end breaks continues flows okay ends jumps turns stage stage_fits here typed = λ bad. bad
   code_shown (Loop true asked body next label scope rest) tasks s end breaks continues flows okay ends jumps turns stage stage_fits here typed =
       goes stage s (Head asked body next (Out (code_then rest tasks))) here (stage_stays program locals formed number lt stage (Run (Loop true asked body next label scope rest) tasks) limits (tables_in world) slots heap tt stage_fits)
@@ -195,26 +193,26 @@ module _ (program : Program) (locals : List (List Type_)) (formed : is_formed pr
 
   -- ---- tests
 
-  decided : (answer : Bool) (first second tasks : Tasks) (stage : Stage) (holds fails : Store) → (answer ≡ true → Met stage holds) → (answer ≡ false → Met stage fails) → Chain (followed_by first tasks) holds → Chain (followed_by second tasks) fails
+  decided : (answer : Bool) (first second tasks : Tasks) (stage : Stage) (holds fails : Stored) → (answer ≡ true → Met stage holds) → (answer ≡ false → Met stage fails) → Chain (followed_by first tasks) holds → Chain (followed_by second tasks) fails
       → StageStays program (types_in program locals formed) number stage (Go (followed_by (if answer then first else second) tasks) slots heap) → Show (Go (followed_by (if answer then first else second) tasks) slots heap)
   decided true first second tasks stage holds fails one two yes_chain no_chain stays = goes stage holds (followed_by first tasks) (one refl) stays yes_chain
   decided false first second tasks stage holds fails one two yes_chain no_chain stays = goes stage fails (followed_by second tasks) (two refl) stays no_chain
 
-  tested : (answer : Bool) (test : Test) (stage : Stage) (s t : Store) → OutcomesGive (outcomes_of answer test) (stored s) (stored t) → test_of test.ty test.rel (value_at slots test.left) (value_at slots test.right) ≡ answer → Met stage s → Met stage t
+  tested : (answer : Bool) (test : Test) (stage : Stage) (s t : Stored) → OutcomesGive (outcomes_of answer test) s t → test_of test.ty test.rel (value_at slots test.left) (value_at slots test.right) ≡ answer → Met stage s → Met stage t
   tested true test stage s t gives is here = λ ints. (
-    outcomes_meet (outcomes_of true test) (stored s) (stored t) (numbers_of world.place slots heap ints) gives (told_true world.place slots heap ints test.left test.right test.ty test.rel is) (here ints).0,
+    outcomes_meet (outcomes_of true test) s t (numbers_of world.place slots heap ints) gives (told_true world.place slots heap ints test.left test.right test.ty test.rel is) (here ints).0,
     (here ints).1,
   )
   tested false test stage s t gives is here = λ ints. (
-    outcomes_meet (outcomes_of false test) (stored s) (stored t) (numbers_of world.place slots heap ints) gives (told_false world.place slots heap ints test.left test.right test.ty test.rel is) (here ints).0,
+    outcomes_meet (outcomes_of false test) s t (numbers_of world.place slots heap ints) gives (told_false world.place slots heap ints test.left test.right test.ty test.rel is) (here ints).0,
     (here ints).1,
   )
 
   -- ---- every move
 
-  pub shown : (tasks : Tasks) (s : Store) → Chain tasks s → (stage : Stage) → Fits tasks stage → Met stage s → NowTyped program (types_in program locals formed) number tasks slots heap → Show (step_tasks limits (tables_in world) slots heap tasks)
+  pub shown : (tasks : Tasks) (s : Stored) → Chain tasks s → (stage : Stage) → Fits tasks stage → Met stage s → NowTyped program (types_in program locals formed) number tasks slots heap → Show (step_tasks limits (tables_in world) slots heap tasks)
   shown Empty s (Finishing _ fine) stage stage_fits here typed =
-      ends_shown program locals formed profile know number lt slots heap building frame_keeps before (stored s) (here before).0 (λ error rank x. fine error rank (inl x)) (λ error rank x. fine error rank (inr x))
+      ends_shown program locals formed profile know number lt slots heap building frame_keeps before s (here before).0 (λ error rank x. fine error rank (inl x)) (λ error rank x. fine error rank (inr x))
   shown (Run code tasks) s (Running _ _ _ end breaks continues flows okay ends jumps turns) stage stage_fits here typed = code_shown code tasks s end breaks continues flows okay ends jumps turns stage stage_fits here typed
   shown (Ask asked first second tasks) s (Asking _ _ _ _ _ holds fails breaks continues asks okay one two jumps turns) stage stage_fits here typed =
       goes stage s _ here (stage_stays program locals formed number lt stage (Ask asked first second tasks) limits (tables_in world) slots heap tt stage_fits)
@@ -225,7 +223,7 @@ module _ (program : Program) (locals : List (List Type_)) (formed : is_formed pr
       (stage_stays program locals formed number lt stage (Decide test first second tasks) limits (tables_in world) slots heap tt stage_fits)
   shown (DecideTruth slot first second tasks) s (Telling code _ _ _ _ _ holds fails when_true when_false one two) stage stage_fits here typed =
       decided (is_true (value_at slots slot)) first second tasks stage holds fails
-      (λ is. met_by stage s holds (λ v. below_meets (stored s) (stored holds) v when_true) here) (λ is. met_by stage s fails (λ v. below_meets (stored s) (stored fails) v when_false) here) one two
+      (λ is. met_by stage s holds (λ v. below_meets s holds v when_true) here) (λ is. met_by stage s fails (λ v. below_meets s fails v when_false) here) one two
       (stage_stays program locals formed number lt stage (DecideTruth slot first second tasks) limits (tables_in world) slots heap tt stage_fits)
   shown (Head asked body next tasks) s (Turning _ _ _ _ _ start again out continues turns rest behind turn) stage stage_fits here typed =
       goes stage s _ here (stage_stays program locals formed number lt stage (Head asked body next tasks) limits (tables_in world) slots heap tt stage_fits)

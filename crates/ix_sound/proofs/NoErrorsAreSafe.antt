@@ -25,7 +25,7 @@ use Rattle.ix_core.proofs.LawsAreSafe.{types_in}
 use Rattle.ix_core.proofs.TypedCalls.{method_has}
 use Rattle.ix_core.proofs.TypedRuns.{step_typed}
 use Rattle.ix_core.proofs.TypedStarts.{start_typed}
-use Rattle.ix_method.specs.Store.{Store}
+use Rattle.ix_facts.specs.Stores.{Stored}
 use Rattle.ix_method.specs.MethodRules.{method_rules}
 use Rattle.ix_sound.specs.Chain.{Finishing}
 use Rattle.ix_sound.specs.Clean.{IsClean}
@@ -53,7 +53,7 @@ module _ (program : Program) (locals : List (List Type_)) (formed : is_formed pr
   abbrev errors : (number : ℕ) → nat_lt number (length program.methods) ≡ true → HasNoErrors program profile number
   errors number there = none number (lt_of number there)
 
-  abbrev entries : (number : ℕ) → nat_lt number (length program.methods) ≡ true → Store
+  abbrev entries : (number : ℕ) → nat_lt number (length program.methods) ≡ true → Stored
   entries number there = (errors number there).flow.0
 
   abbrev know : Knowledge

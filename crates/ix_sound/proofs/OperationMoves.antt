@@ -27,8 +27,7 @@ use Rattle.ix_core.proofs.Kept.{has_ints, done_keeps, wrapped_keeps}
 use Rattle.ix_core.proofs.LawsAreSafe.{types_in}
 use Rattle.ix_core.proofs.TypedStarts.{OperationFits}
 use Rattle.ix_core.proofs.Waiting.{later_refl}
-use Rattle.ix_method.specs.Store.{Store}
-use Rattle.ix_method.specs.StoredFacts.{stored}
+use Rattle.ix_facts.specs.Stores.{Stored}
 use Rattle.ix_method.specs.MethodRules.{method_rules, KindGives}
 use Rattle.ix_sound.specs.Chain.{Flowing}
 use Rattle.ix_sound.specs.Clean.{IsClean, Hides}
@@ -66,7 +65,7 @@ not_super (op.InstanceCall call) plain = absurd plain
 not_super (op.SuperCall call) plain = absurd plain
 not_super (op.Print value) plain = refl
 
-module _ (program : Program) (locals : List (List Type_)) (formed : is_formed program locals ≡ true) (tables : IsWorld (direct program)) (apart : LocalsApart program) (profile : Profile) (entries : (number : ℕ) → nat_lt number (length program.methods) ≡ true → Store)
+module _ (program : Program) (locals : List (List Type_)) (formed : is_formed program locals ≡ true) (tables : IsWorld (direct program)) (apart : LocalsApart program) (profile : Profile) (entries : (number : ℕ) → nat_lt number (length program.methods) ≡ true → Stored)
     (limits : Limits) (building : ℕ → Type 0) (number : ℕ) (lt : number < length program.methods) (slots : List Held) (heap : Heap) (keeps : HeapKeeps (direct program) building heap)
     (frame_keeps : FrameKeeps building (method_at program number) slots heap) (kept_ints : KeepsInts slots heap) where
   abbrev world : World
@@ -89,9 +88,9 @@ module _ (program : Program) (locals : List (List Type_)) (formed : is_formed pr
   idle = record { later = later_refl heap; heap_keeps = keeps; frame_keeps = frame_keeps; inputs = λ slot is. refl; fields = λ object field. inl refl }
 
   module _ (done : Op) (rest : Code) (below : Tasks) (plain : IsNoCall done.kind) (fits : OperationFits program locals formed (record { now = frame number (Run (Do done rest) below) slots; below = []; heap = heap; wrapped = false; ended = None }) done)
-      (stage : Stage) (stage_fits : StageFits program (types_in program locals formed) number (Run (Do done rest) below) stage) (s t : Store) (here : MeetsHere program profile (types_in program locals formed) stage s slots heap)
-      (none : NoKindErrors program method number done done.kind (stored s)) (clean : IsClean program method done.kind) (gives : KindGives program method profile done.kind done.span.from (stored s) (stored t))
-      (labels : ℕ → Store) (flowing : Flowing (method_rules program method profile) (NoErrors program method number) labels (λ (d : Op). IsClean program method d.kind) (code_then rest below) t) where
+      (stage : Stage) (stage_fits : StageFits program (types_in program locals formed) number (Run (Do done rest) below) stage) (s t : Stored) (here : MeetsHere program profile (types_in program locals formed) stage s slots heap)
+      (none : NoKindErrors program method number done done.kind s) (clean : IsClean program method done.kind) (gives : KindGives program method profile done.kind done.span.from s t)
+      (labels : ℕ → Stored) (flowing : Flowing (method_rules program method profile) (NoErrors program method number) labels (λ (d : Op). IsClean program method d.kind) (code_then rest below) t) where
     may : Takes world method slots heap done.kind
     may = takes program locals formed number lt slots heap fits.types fits.size fits.typed done done.kind fits.fits clean
 
@@ -119,7 +118,7 @@ module _ (program : Program) (locals : List (List Type_)) (formed : is_formed pr
 
     kept : Keeps world tables limits done.span.from building method slots heap keeps frame_keeps (MayWrap done.kind) (operate limits (tables_in world) done.span.from slots heap done.kind)
     kept = operation_keeps world tables limits done.span.from building method slots heap keeps frame_keeps done.kind plain may (hides done.kind plain clean)
-        (shown_of program locals formed tables number lt slots heap fits.types fits.size fits.typed fits.heap_typed building keeps frame_keeps before (stored s) (here before).0 done done.kind fits.fits clean none own)
+        (shown_of program locals formed tables number lt slots heap fits.types fits.size fits.typed fits.heap_typed building keeps frame_keeps before s (here before).0 done done.kind fits.fits clean none own)
       where
         hides : (kind : OpKind) → IsNoCall kind → IsClean program method kind → Hides method kind
         hides kind plain clean = clean.hides
@@ -147,9 +146,9 @@ module _ (program : Program) (locals : List (List Type_)) (formed : is_formed pr
       record {
         store = Here (with_types stage after_stage.0) t;
         holds = λ behind. (
-          done_meets program locals formed tables apart profile number lt slots heap fits.types fits.size fits.typed fits.heap_typed building keeps frame_keeps before (stored s) (here before).0 limits done.span.from later after behind done done.kind plain fits.fits may none is (stored t) gives,
+          done_meets program locals formed tables apart profile number lt slots heap fits.types fits.size fits.typed fits.heap_typed building keeps frame_keeps before s (here before).0 limits done.span.from later after behind done done.kind plain fits.fits may none is t gives,
           stage_on (numbers_of world.place later after behind)
-              (λ made other. this_kept program locals formed tables apart profile number lt slots heap fits.types fits.size fits.typed fits.heap_typed building keeps frame_keeps before (stored s) (here before).0 limits done.span.from later after behind made done done.kind plain fits.fits may other is),
+              (λ made other. this_kept program locals formed tables apart profile number lt slots heap fits.types fits.size fits.typed fits.heap_typed building keeps frame_keeps before s (here before).0 limits done.span.from later after behind made done done.kind plain fits.fits may other is),
         );
         fine = λ there. fine;
       },
@@ -160,9 +159,9 @@ module _ (program : Program) (locals : List (List Type_)) (formed : is_formed pr
       record {
         store = Here (with_types stage after_stage.0) t;
         holds = λ behind. (
-          wrapped_meets program locals formed tables apart profile number lt slots heap fits.types fits.size fits.typed fits.heap_typed building keeps frame_keeps before (stored s) (here before).0 limits done.span.from later after behind done done.kind keep.0 fits.fits may int32 is (stored t) gives,
+          wrapped_meets program locals formed tables apart profile number lt slots heap fits.types fits.size fits.typed fits.heap_typed building keeps frame_keeps before s (here before).0 limits done.span.from later after behind done done.kind keep.0 fits.fits may int32 is t gives,
           stage_on (numbers_of world.place later after behind)
-              (λ made other. wrapped_this program locals formed tables apart profile number lt slots heap fits.types fits.size fits.typed fits.heap_typed building keeps frame_keeps before (stored s) (here before).0 limits done.span.from later after behind made done.kind keep.0 may int32 is),
+              (λ made other. wrapped_this program locals formed tables apart profile number lt slots heap fits.types fits.size fits.typed fits.heap_typed building keeps frame_keeps before s (here before).0 limits done.span.from later after behind made done.kind keep.0 may int32 is),
         );
         fine = λ there. fine;
       },

@@ -7,12 +7,10 @@ use Rattle.ix_core.specs.declared.program.Method.{Method}
 use Rattle.ix_core.specs.declared.program.Program.{Program}
 use Rattle.ix_facts.specs.Stores.{Stored}
 use Rattle.ix_flow.specs.Flow.{Point}
-use Rattle.ix_method.specs.Store.{Store}
-use Rattle.ix_method.specs.StoredFacts.{stored}
 use Rattle.ix_method.specs.RuleErrors.{KindErrors, PointErrors}
 
-abbrev pub NoErrors : Program → Method → ℕ → Point → Store → Type 0
-NoErrors program method number point store = (error : Error) (rank : ℕ) → PointErrors program method number point (stored store) error rank → ⊥
+abbrev pub NoErrors : Program → Method → ℕ → Point → Stored → Type 0
+NoErrors program method number point store = (error : Error) (rank : ℕ) → PointErrors program method number point store error rank → ⊥
 
 abbrev pub NoKindErrors : Program → Method → ℕ → Op → OpKind → Stored → Type 0
 NoKindErrors program method number done kind store = (error : Error) (rank : ℕ) → KindErrors program method number done kind store error rank → ⊥

@@ -17,8 +17,6 @@ use Rattle.ix_core.specs.Tasks.{Tasks}
 use Rattle.ix_core.specs.Types.{Types}
 use Rattle.ix_core.specs.Waits.{Knowledge}
 use Rattle.ix_facts.specs.Stores.{Stored, Meets}
-use Rattle.ix_method.specs.Store.{Store}
-use Rattle.ix_method.specs.StoredFacts.{stored}
 use Rattle.ix_method.specs.Signs.{CallGives, SuperGives}
 use Rattle.ix_method.specs.SignErrors.{ArgumentClaim}
 use Rattle.ix_method.specs.MethodRules.{method_rules}
@@ -31,7 +29,7 @@ use Rattle.ix_sound.specs.Making.{Stage, Plain, Making, with_types, StageFits, S
 pub data Known : Type 0 where
   -- nothing, of a method that the program doesn't have
   Anything : Known
-  Here : Stage → Store → Known
+  Here : Stage → Stored → Known
   -- behind a call: the caller, the called method, and what was known before it
   Behind : Method → Method → CallKind → CallOp → Known → Known
 
@@ -79,20 +77,20 @@ stage_behind _ stage types = with_types stage types
 
 module _ (program : Program) (profile : Profile) (locals : ℕ → List Type_) where
   -- the store is met, and the fields of a new object are as they were made
-  abbrev pub MeetsHere : Stage → Store → List Held → Heap → Type 0
+  abbrev pub MeetsHere : Stage → Stored → List Held → Heap → Type 0
   MeetsHere stage store slots heap = (ints : HasInts (direct program).place slots heap)
-      → Meets (stored store) (numbers_of (direct program).place slots heap ints) × StageHolds (direct program) stage (numbers_of (direct program).place slots heap ints)
+      → Meets store (numbers_of (direct program).place slots heap ints) × StageHolds (direct program) stage (numbers_of (direct program).place slots heap ints)
 
   -- from the store on the tasks have no error, and they fit the stage
-  pub record FineHere (number : ℕ) (tasks : Tasks) (stage : Stage) (store : Store) : Type 0 where
-    pub labels : ℕ → Store
+  pub record FineHere (number : ℕ) (tasks : Tasks) (stage : Stage) (store : Stored) : Type 0 where
+    pub labels : ℕ → Stored
     pub flowing : Flowing (method_rules program (method_at program number) profile) (NoErrors program (method_at program number) number) labels (λ (done : Op). IsClean program (method_at program number) done.kind) tasks store
     pub stage_fits : StageFits program locals number tasks stage
 
-  pub record FineBehind (number : ℕ) (tasks : Tasks) (caller callee : Method) (kind : CallKind) (call : CallOp) (stage : Stage) (store : Store) : Type 0 where
-    pub well : CallsWell program caller callee kind call stage (stored store)
-    pub after : Store
-    pub gives : BehindGives program caller kind (call_of call well.named) (stored store) (stored after)
+  pub record FineBehind (number : ℕ) (tasks : Tasks) (caller callee : Method) (kind : CallKind) (call : CallOp) (stage : Stage) (store : Stored) : Type 0 where
+    pub well : CallsWell program caller callee kind call stage store
+    pub after : Stored
+    pub gives : BehindGives program caller kind (call_of call well.named) store after
     pub types : Types
     pub fine : FineHere number tasks (stage_behind kind stage types) after
 
@@ -101,7 +99,7 @@ module _ (program : Program) (profile : Profile) (locals : ℕ → List Type_) w
   BehindFine number tasks caller callee kind call _ = ⊥
 
   abbrev pub BehindHolds : Method → Method → CallKind → CallOp → Known → List Held → Heap → Type 0
-  BehindHolds caller callee kind call (Here stage store) slots heap = (well : CallsWell program caller callee kind call stage (stored store)) (after : Store) → BehindGives program caller kind (call_of call well.named) (stored store) (stored after)
+  BehindHolds caller callee kind call (Here stage store) slots heap = (well : CallsWell program caller callee kind call stage store) (after : Stored) → BehindGives program caller kind (call_of call well.named) store after
       → (types : Types) → MeetsHere (stage_behind kind stage types) after slots heap
   BehindHolds caller callee kind call _ slots heap = Unit {0}
 
@@ -123,11 +121,11 @@ module _ (program : Program) (profile : Profile) (locals : ℕ → List Type_) w
   abbrev pub entry_stage : ℕ → Stage
   entry_stage number = stage_if (method_at program number).constructor (method_at program number)
 
-  abbrev pub known_at : (entries : (number : ℕ) → nat_lt number (length program.methods) ≡ true → Store) → (number : ℕ) (t : Bool) → nat_lt number (length program.methods) ≡ t → Known
+  abbrev pub known_at : (entries : (number : ℕ) → nat_lt number (length program.methods) ≡ true → Stored) → (number : ℕ) (t : Bool) → nat_lt number (length program.methods) ≡ t → Known
   known_at entries number true there = Here (entry_stage number) (entries number there)
   known_at entries number false there = Anything
 
-  abbrev pub knowledge : ((number : ℕ) → nat_lt number (length program.methods) ≡ true → Store) → Knowledge
+  abbrev pub knowledge : ((number : ℕ) → nat_lt number (length program.methods) ≡ true → Stored) → Knowledge
   knowledge entries = record {
     Store = Known;
     Holds = HoldsFor;

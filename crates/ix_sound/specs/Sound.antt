@@ -9,7 +9,7 @@ use Rattle.ix_core.specs.declared.program.Program.{Program}
 use Rattle.ix_core.specs.Objects.{Names}
 use Rattle.ix_core.specs.Tables.{method_at, body_of}
 use Rattle.ix_flow.specs.Flow.{IsFlow}
-use Rattle.ix_method.specs.Store.{Store}
+use Rattle.ix_facts.specs.Stores.{Stored}
 use Rattle.ix_steps.specs.MachineSteps.{local_slot}
 use Rattle.ix_method.specs.MethodRules.{method_rules}
 use Rattle.ix_method.specs.RuleErrors.{TextErrors}
@@ -17,7 +17,7 @@ use Rattle.ix_sound.specs.Errors.{NoErrors}
 
 -- The method has a flow with no error at any point, and none by its text.
 pub record HasNoErrors (program : Program) (profile : Profile) (number : ℕ) : Type 0 where
-  pub labels : ℕ → Store
+  pub labels : ℕ → Stored
   pub flow : IsFlow (method_rules program (method_at program number) profile) (NoErrors program (method_at program number) number) labels (body_of (method_at program number))
   pub text : (error : Error) (rank : ℕ) → TextErrors program (method_at program number) number error rank → ⊥
 

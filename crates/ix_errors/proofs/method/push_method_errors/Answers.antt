@@ -1,8 +1,10 @@
 use Rattle.std.proofs.Common.{◌≤◌, ◌+◌, ◌<◌, length, ap, sym, subst, ◌∙◌}
+use Rattle.std.proofs.lemmas.List.{length-map}
 use Rattle.std.proofs.lemmas.Result.{IfOk-weaker}
 use Rattle.ix_core.specs.declared.program.Method.{Method}
 use Rattle.ix_core.specs.Code.{block_code}
 use Rattle.ix_graph.specs.Graph.{behind_code}
+use Rattle.ix_labels.specs.StoredFacts.{stored}
 use Rattle.ix_labels.specs.Visits.{VisitsWithin}
 use Rattle.ix_labels.proofs.Bounded.{visits_within}
 use Rattle.ix_errors.proofs.Added.{method_is}
@@ -11,7 +13,7 @@ use Rattle.ix_errors.proofs.method.push_method_errors.Goals as goal
 
 pub push_of_nodes-requires-clause-labels : goal.push_of_nodes-requires-clause-labels
 push_of_nodes-requires-clause-labels c e =
-    ap length e.as_slice-3.ensures.value ∙ e.in_ok-labels.ensures.labels.solution.len ∙ sym e.in_ok-labels.ensures.labels.size ∙ sym (ap length e.as_slice-2.ensures.value)
+    ap length e.as_slice-3.ensures.value ∙ sym (length-map e.in_ok-labels.labels.stores.items stored) ∙ e.in_ok-labels.ensures.labels.solution.len ∙ sym e.in_ok-labels.ensures.labels.size ∙ sym (ap length e.as_slice-2.ensures.value)
 
 pub returns-clause-errors : goal.returns-clause-errors
 returns-clause-errors c e =

@@ -1,9 +1,10 @@
-use Rattle.std.proofs.Common.{ℕ, ap, sym, ◌∙◌, length, slice_get, unwrap_or}
+use Rattle.std.proofs.Common.{ℕ, ap, sym, ◌∙◌, length, map, slice_get, unwrap_or}
 use Rattle.std.proofs.lemmas.List.{length-map}
 use Rattle.ix_core.specs.Code.{block_code}
 use Rattle.ix_graph.specs.declared.node.Node.{Node}
 use Rattle.ix_graph.specs.Built.{kind_of}
 use Rattle.ix_graph.specs.Graph.{Joins, behind_code}
+use Rattle.ix_method.specs.StoredFacts.{stored}
 use Rattle.ix_labels.specs.Problem.{readers_in, kind_in}
 use Rattle.ix_labels.proofs.Solved.{solved, least}
 use Rattle.ix_labels.proofs.Bounded.{visits_bounded}
@@ -22,8 +23,8 @@ returns-clause-labels c e =
     record {
       size = e.in_ok-graph.ensures.size;
       kinds = kinds;
-      solution = solved e.args.program.now method e.args.profile marks e.in_ok-marks.ensures.landmarks body (kind_in nodes) are (length (readers_in nodes)) (behind_code body 2) e.in_ok-stores.stores.items same many e.in_ok-stores.ensures.solution;
-      least = least e.args.program.now method e.args.profile marks e.in_ok-marks.ensures.landmarks body (kind_in nodes) are (length (readers_in nodes)) (behind_code body 2) e.in_ok-stores.stores.items same many e.in_ok-stores.ensures.least;
+      solution = solved e.args.program.now method e.args.profile marks e.in_ok-marks.ensures.landmarks body (kind_in nodes) are (length (readers_in nodes)) (behind_code body 2) (map stored e.in_ok-stores.stores.items) same many e.in_ok-stores.ensures.solution;
+      least = least e.args.program.now method e.args.profile marks e.in_ok-marks.ensures.landmarks body (kind_in nodes) are (length (readers_in nodes)) (behind_code body 2) (map stored e.in_ok-stores.stores.items) same many e.in_ok-stores.ensures.least;
     }
 
 pub returns-clause-at_most : goal.returns-clause-at_most

@@ -1,7 +1,14 @@
+use Rattle.std.proofs.Common.{length, ap, sym, ◌∙◌}
+use Rattle.std.proofs.lemmas.List.{length-map}
 use Rattle.std.proofs.lemmas.Result.{IfOk-weaker}
+use Rattle.ix_labels.specs.StoredFacts.{stored}
 use Rattle.ix_labels.proofs.Bounded.{visits_within}
 use Rattle.ix_loop_labels.proofs.HeadStores.{found_labels}
 use Rattle.ix_loop_labels.proofs.loops.loop_labels.Goals as goal
+
+pub at_heads-requires : goal.at_heads-requires
+at_heads-requires g c =
+    ap length c.as_slice-2.ensures.value ∙ sym (length-map c.in_ok-labels.labels.stores.items stored) ∙ c.in_ok-labels.ensures.labels.solution.len ∙ sym c.in_ok-labels.ensures.labels.size ∙ sym (ap length c.as_slice.ensures.value)
 
 pub returns-clause-labels : goal.returns-clause-labels
 returns-clause-labels g c =

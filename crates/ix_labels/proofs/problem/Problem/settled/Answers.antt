@@ -2,6 +2,7 @@ use Rattle.std.proofs.Common.{ap, sym, subst, ◌∙◌}
 use Rattle.std.proofs.lemmas.Result.{IfOk-weaker}
 use Rattle.ix_graph.specs.Brought.{IsSettled}
 use Rattle.ix_graph.specs.Built.{kind_of}
+use Rattle.ix_method.specs.StoredFacts.{stored}
 use Rattle.ix_labels.specs.Problem.{rules_of}
 use Rattle.ix_labels.proofs.Visited.{kind_found, entered, headed, as_joined}
 use Rattle.ix_labels.proofs.problem.Problem.settled.Goals as goal
@@ -12,7 +13,7 @@ returns-in-Entry c =
     let kind = kind_found problem.graph.nodes.items c.args.at c.index.result.now c.requires.node c.index.ensures ∙ ap kind_of c.in-Entry.is in
     record {
       settled = IfOk-weaker c.enter.result _ _
-          (λ label is. subst (λ k. IsSettled (rules_of problem) k c.args.joined.now label) (sym kind) (entered problem c.args.joined.now label is)) c.enter.ensures.entry;
+          (λ label is. subst (λ k. IsSettled (rules_of problem) k (stored c.args.joined.now) (stored label)) (sym kind) (entered problem (stored c.args.joined.now) (stored label) is)) c.enter.ensures.entry;
     }
 
 pub returns-in-Head : goal.returns-in-Head
@@ -21,7 +22,7 @@ returns-in-Head c =
     let kind = kind_found problem.graph.nodes.items c.args.at c.index.result.now c.requires.node c.index.ensures ∙ ap kind_of c.in-Head.is in
     record {
       settled = IfOk-weaker c.round.result _ _
-          (λ label is. subst (λ k. IsSettled (rules_of problem) k c.args.joined.now label) (sym kind) (headed problem c.in-Head.field-0 c.in-Head.scope c.args.joined.now label is)) c.round.ensures.after;
+          (λ label is. subst (λ k. IsSettled (rules_of problem) k (stored c.args.joined.now) (stored label)) (sym kind) (headed problem c.in-Head.field-0 c.in-Head.scope (stored c.args.joined.now) (stored label) is)) c.round.ensures.after;
     }
 
 pub returns-in_default : goal.returns-in_default
@@ -30,6 +31,6 @@ returns-in_default c =
     let kind = kind_found problem.graph.nodes.items c.args.at c.index.result.now c.requires.node c.index.ensures in
     record {
       settled = IfOk-weaker c.share.result _ _
-          (λ label is. subst (λ k. IsSettled (rules_of problem) k c.args.joined.now label) (sym kind)
-          (as_joined problem c.index.result.now.kind c.args.joined.now label c.in_default.not-Entry c.in_default.not-Head is)) c.share.ensures.shared;
+          (λ label is. subst (λ k. IsSettled (rules_of problem) k (stored c.args.joined.now) (stored label)) (sym kind)
+          (as_joined problem c.index.result.now.kind (stored c.args.joined.now) (stored label) c.in_default.not-Entry c.in_default.not-Head (ap stored is))) c.share.ensures.shared;
     }
