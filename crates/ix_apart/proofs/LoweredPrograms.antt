@@ -10,8 +10,6 @@ use Rattle.ix_formed.specs.Parsed.{IsParsed}
 use Rattle.ix_formed.proofs.FieldsFit.{IsAccepted}
 use Rattle.ix_formed.proofs.FormedSources.{formed_source, source_apart}
 use Rattle.ix_ready.specs.Few.{HasFew}
-use Rattle.ix_ready.proofs.Ready.{ready}
-use Rattle.ix_ready.specs.Naming.{HaveSmallNames}
 use Rattle.ix_sound.specs.Sound.{LocalsApart}
 use Rattle.ix_apart.proofs.ApartLocals.{own_slots_apart}
 use Rattle.ix_apart.proofs.FewDeclared.{few_methods, few_locals_and_fields}
@@ -27,13 +25,9 @@ module _ (source : Source) (made : Program) (accepts : Accepts source) (parsed :
   pub lowered_apart : LocalsApart made
   lowered_apart = own_slots_apart made formed (source_apart source made parsed accepts (few_members source parsed.can) is)
 
-  -- Methods, locals and fields have numbers of 32 bits,
+  -- Methods, locals and fields have numbers of 32 bits.
   pub lowered_methods_few : length made.methods < 2 ^ 32
   lowered_methods_few = few_methods source made accepted
 
   pub lowered_few : HasFew made
   lowered_few = few_locals_and_fields source made accepted
-
-  -- and so have parameters, those that claims name among them.
-  pub lowered_small : HaveSmallNames made
-  lowered_small = ready made formed lowered_few

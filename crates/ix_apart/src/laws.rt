@@ -7,7 +7,6 @@ ghost use Rattle.ix_meaning.specs.Resolved.{Accepts, names};
 ghost use Rattle.ix_plain.specs.Program.{program};
 ghost use Rattle.ix_formed.specs.Parsed.{IsParsed};
 ghost use Rattle.ix_ready.specs.Few.{HasFew};
-ghost use Rattle.ix_ready.specs.Naming.{HaveSmallNames};
 ghost use Rattle.ix_sound.specs.Sound.{LocalsApart};
 
 /// A claim on a local names locals in scope, and each of these has a slot of its own.
@@ -19,9 +18,4 @@ pub fn lowered_locals_are_apart()
 pub fn lowered_is_few()
     ensures methods { (source : Source) (made : Program) → Accepts source → IsParsed source → program (names source) source.classes ≡ Ok made → length made.methods < 2 ^ 32 }
     ensures few { (source : Source) (made : Program) → Accepts source → IsParsed source → program (names source) source.classes ≡ Ok made → HasFew made }
-{}
-
-/// So can parameters, and claims name parameters that are there.
-pub fn lowered_names_are_small()
-    ensures small { (source : Source) (made : Program) → Accepts source → IsParsed source → program (names source) source.classes ≡ Ok made → HaveSmallNames made }
 {}

@@ -8,4 +8,4 @@
 
 mod laws;
 
-pub use laws::{lowered_is_few, lowered_locals_are_apart, lowered_names_are_small};
+pub use laws::{lowered_is_few, lowered_locals_are_apart};

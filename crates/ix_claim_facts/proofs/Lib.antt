@@ -3,4 +3,3 @@ pub mod SignSteps
 pub mod SignTruth
 pub mod LeastSteps
 pub mod ForgottenAlike
-mod SmallNames

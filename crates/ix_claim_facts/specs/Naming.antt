@@ -50,14 +50,6 @@ pub record HasSmallNames (method : Method) : Type 0 where
   pub few_locals : length method.locals < 2 ^ 32
   pub locals : AreSmallLocals method.locals
 
-abbrev pub AreSmallMethods : List Method → Type 0
-AreSmallMethods [] = Unit {0}
-AreSmallMethods (method ∷ methods) = HasSmallNames method × AreSmallMethods methods
-
-abbrev pub AreSmallFields : List Field → Type 0
-AreSmallFields [] = Unit {0}
-AreSmallFields (field ∷ fields) = AreSmallClaims field.claims × AreSmallFields fields
-
 -- so of all methods; fields have numbers of 32 bits, and their claims name no parameter beyond
 pub record HaveSmallNames (program : Program) : Type 0 where
   pub methods : (number : ℕ) → HasSmallNames (method_at program number)

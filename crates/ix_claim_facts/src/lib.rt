@@ -14,7 +14,6 @@ mod fields;
 mod naming;
 mod overriding;
 mod paths;
-mod small;
 
 pub use calls::{facts_of_this, is_effect_free, result_facts};
 pub use dependent::{names_field, push_dependents};
@@ -27,4 +26,3 @@ pub use fields::{facts_at_read, facts_at_write, is_built, spared_at_write, this_
 pub use naming::Naming;
 pub use overriding::{asked_facts, called_facts, own_result, result_slot};
 pub use paths::param_slot;
-pub use small::have_small_names;

@@ -11,6 +11,8 @@ mod conditions;
 #[cfg(test)]
 mod counting;
 #[cfg(test)]
+mod landmarks;
+#[cfg(test)]
 mod leaving;
 #[cfg(test)]
 mod lines;

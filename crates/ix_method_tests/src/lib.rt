@@ -15,3 +15,5 @@ mod objects;
 mod overriding;
 #[cfg(test)]
 mod row;
+#[cfg(test)]
+mod small;

@@ -5,6 +5,7 @@ ghost use Rattle.ix_meaning.specs.Resolved.{Accepts, names};
 ghost use Rattle.ix_table.specs.Numbered.{shown};
 ghost use Rattle.ix_sign.specs.Naming.{HasSmallNames, HaveSmallNames};
 
+use crate::small::have_small_names;
 use ix_core::{Detail, Error, Item, Method, Profile, Program, Subject};
 use ix_lexer::lex;
 use ix_lower::lower;
@@ -12,7 +13,7 @@ use ix_method::after;
 use ix_method_errors::push_op_errors;
 use ix_names::{Table, resolve};
 use ix_parser::parse;
-use ix_sign::{enter, have_small_names};
+use ix_sign::enter;
 use ix_sign_errors::{
     Ranked, push_constructor_errors, push_effect_error, push_missing_return, push_override_errors,
     push_return_errors,

@@ -13,5 +13,5 @@ mod fields;
 pub use calls::{after_call, after_super};
 pub use entry::enter;
 pub use fields::{after_read, after_write};
-pub use ix_claim_facts::{Naming, have_small_names, param_slot, push_claims};
+pub use ix_claim_facts::{Naming, param_slot, push_claims};
 pub use ix_store::Store;

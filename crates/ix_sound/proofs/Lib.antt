@@ -1,4 +1,3 @@
-mod LocalsListed
 mod ChainMoves
 mod Stable
 mod NamedClaims

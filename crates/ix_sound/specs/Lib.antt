@@ -14,5 +14,3 @@ pub mod Known
 -- The promise.
 pub mod Sound
 pub mod Stands
--- The claims of locals.
-pub mod Apart

@@ -1,13 +1,11 @@
 //! A formed program in which the rules derive no error is safe.
 //!
-//! What goes in: nothing, for this is a law; of `have_locals_apart` a program. What comes out: whether the claims of its locals name locals of other slots.
+//! What goes in: nothing, for this is a law.
 //! The contract: where each method has a flow with no error at any point, and none by its text, no run indexes outside an array.
 //! It stands on `ix_core` for the machine and the laws of an analysis, on `ix_method` for the rules, on `ix_steps` for what ties the two.
 //! It never looks at a body, nor at how the solver and the checker find what a flow is.
 #![tactic(auto)]
 
-mod apart;
 mod laws;
 
-pub use apart::have_locals_apart;
 pub use laws::soundness;

@@ -2,9 +2,9 @@ use Rattle.std.proofs.Common.{sym, subst, ◌∙◌}
 use Rattle.std.proofs.lemmas.Bool.{false≢true}
 use Rattle.ix_text.specs.declared.span.Span.{Span}
 use Rattle.ix_core.specs.declared.program.Local.{Local}
-use Rattle.ix_claim_facts.specs.Naming.{AreSmallClaims}
-use Rattle.ix_claim_facts.proofs.SmallNames.{small_next, at_index}
-use Rattle.ix_claim_facts.proofs.small.locals_small.Goals as goal
+use Rattle.ix_sign.specs.Naming.{AreSmallClaims}
+use Rattle.ix_method_tests.proofs.SmallNames.{small_next, at_index}
+use Rattle.ix_method_tests.proofs.small.locals_small.Goals as goal
 
 pub loop-local-preserved : goal.loop-local-preserved
 loop-local-preserved c =

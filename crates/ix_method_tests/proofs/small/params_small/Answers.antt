@@ -1,8 +1,8 @@
 use Rattle.std.proofs.Common.{subst}
 use Rattle.ix_core.specs.declared.program.Local.{Local}
-use Rattle.ix_claim_facts.specs.Naming.{AreSmallClaims}
-use Rattle.ix_claim_facts.proofs.SmallNames.{small_next}
-use Rattle.ix_claim_facts.proofs.small.params_small.Goals as goal
+use Rattle.ix_sign.specs.Naming.{AreSmallClaims}
+use Rattle.ix_method_tests.proofs.SmallNames.{small_next}
+use Rattle.ix_method_tests.proofs.small.params_small.Goals as goal
 
 pub loop-param-preserved : goal.loop-param-preserved
 loop-param-preserved c =

@@ -5,7 +5,8 @@ use Rattle.ix_core.specs.declared.program.Field.{Field}
 use Rattle.ix_core.specs.declared.program.Method.{Method}
 use Rattle.ix_core.specs.declared.program.Program.{Program}
 use Rattle.ix_core.specs.Tables.{no_method, no_field}
-use Rattle.ix_claim_facts.specs.Naming.{AreSmallClaims, AreSmallMethods, AreSmallFields, HasSmallNames, HaveSmallNames}
+use Rattle.ix_sign.specs.Naming.{AreSmallClaims, HasSmallNames, HaveSmallNames}
+use Rattle.ix_method_tests.specs.SmallLists.{AreSmallMethods, AreSmallFields}
 
 -- ---- the numbers of a program
 

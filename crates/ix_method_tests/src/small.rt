@@ -2,7 +2,8 @@
 
 ghost use Rattle.std.specs.Prelude.{◌≡◌, ◌+◌, ◌<◌, ◌^◌, ◌↔◌, IsTrue};
 ghost use Rattle.ix_core.specs.Objects.{claim_names, offset_names};
-ghost use Rattle.ix_claim_facts.specs.Naming.{IsSmallName, AreSmallNames, AreSmallClaims, AreSmallParams, AreSmallLocals, AreSmallMethods, AreSmallFields, HasSmallNames, HaveSmallNames};
+ghost use Rattle.ix_sign.specs.Naming.{IsSmallName, AreSmallNames, AreSmallClaims, AreSmallParams, AreSmallLocals, HasSmallNames, HaveSmallNames};
+ghost use Rattle.ix_method_tests.specs.SmallLists.{AreSmallMethods, AreSmallFields};
 
 use ix_core::{Claim, Field, Local, Method, Name, Off, Program};
 use ix_text::Span;

@@ -2,9 +2,9 @@ use Rattle.std.proofs.Common.{◌<◌, ◌≤◌, arith, sym, subst, ◌∙◌}
 use Rattle.std.specs.Prelude.{◌^◌}
 use Rattle.std.proofs.lemmas.Bool.{false≢true}
 use Rattle.std.proofs.lemmas.Bool.Decides.{nat_tests}
-use Rattle.ix_claim_facts.specs.Naming.{AreSmallMethods, AreSmallFields}
-use Rattle.ix_claim_facts.proofs.SmallNames.{small_names, small_methods, small_fields}
-use Rattle.ix_claim_facts.proofs.small.have_small_names.Goals as goal
+use Rattle.ix_method_tests.specs.SmallLists.{AreSmallMethods, AreSmallFields}
+use Rattle.ix_method_tests.proofs.SmallNames.{small_names, small_methods, small_fields}
+use Rattle.ix_method_tests.proofs.small.have_small_names.Goals as goal
 
 pub returns : goal.returns
 returns c = record {
