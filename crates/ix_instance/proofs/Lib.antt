@@ -7,3 +7,4 @@ mod CounterFormed
 mod CounterRows
 mod CounterFine
 mod CounterLaws
+mod UnformedRows
