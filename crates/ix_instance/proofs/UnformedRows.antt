@@ -1,6 +1,6 @@
--- More programs that are not formed, each for one reason that the invariant of runs doesn't need, and beside each the same without it; and one that is formed
--- although a loop of it is never reached. Their methods have no locals, so no types of locals make them formed.
-use Rattle.std.proofs.Common.{◌≡◌, pos, true, false, List, [], ◌∷◌, Some, None, refl, sym, ◌∙◌}
+-- More programs that are not formed, each for one reason that the invariant of runs does not need, and beside each the same without it; and one that is formed
+-- although a loop of it is never reached. But for that of `behind_scope` their methods have no locals, so no types of locals make them formed.
+use Rattle.std.proofs.Common.{◌≡◌, Bool, pos, true, false, List, [], ◌∷◌, Some, None, refl, sym, ◌∙◌}
 use Rattle.std.proofs.lemmas.Bool.{false≢true}
 use Rattle.ix_num.specs.declared.rel.Rel.TheVariants as rel
 use Rattle.ix_core.specs.declared.claim.Base.TheVariants as base
@@ -16,7 +16,8 @@ use Rattle.ix_core.specs.declared.op.Literal.TheVariants as literal
 use Rattle.ix_core.specs.declared.op.OpKind.TheVariants as op
 use Rattle.ix_core.specs.declared.program.Program.{Program}
 use Rattle.ix_core.specs.Formed.{Formed, is_formed}
-use Rattle.ix_core.proofs.Programs.{span, int, int_array, block, does, does_with, calls, test, param, static_method, instance_method, constructor_of, field, class_of, program}
+use Rattle.ix_core.specs.Types.{is_type}
+use Rattle.ix_core.proofs.Programs.{span, int, int_array, block, does, does_with, calls, test, param, local, static_method, instance_method, constructor_of, field, class_of, program}
 
 -- no types of locals for methods without locals
 never : (broken : Program) → is_formed broken [] ≡ false → ((all : _) → is_formed broken ([] ∷ all) ≡ false) → ((ty : Type_) (types : List Type_) (all : _) → is_formed broken ((ty ∷ types) ∷ all) ≡ false) → Formed broken → ⊥
@@ -271,3 +272,37 @@ unreached = program (class_of None [] (0 ∷ []) ∷ []) [] 0 (static_method 0 [
 unreached_formed : Formed unreached
 unfolding hidden-the_row-Item-0 hidden-the_row-Cond-1 denote.Hole.Carrier.hidden
 unreached_formed = ([] ∷ [], refl)
+
+-- a copy with the places of a variable and a value, at the end of the variable's scope
+abbrev behind_scope : Program
+behind_scope = program (class_of None [] (0 ∷ []) ∷ []) [] 0 (static_method 0 [] [] int (local 0 [] (span 0 1) ∷ []) 3 (block (does (op.Const 1 (literal.Int (pos 0))) 0 1 ∷ does_with (op.Copy 0 1 int) 1 2 (span 0 1 ∷ span 0 1 ∷ []) ∷ item.Return (Some 0) (span 0 1) ∷ [])) ∷ [])
+
+behind_by : (ty : Type_) (b : Bool) → is_type behind_scope ty ≡ b → is_formed behind_scope ((ty ∷ []) ∷ []) ≡ false
+unfolding hidden-the_row-Item-0 hidden-the_row-Cond-1 denote.Hole.Carrier.hidden
+behind_by ty true h = rw h refl
+behind_by ty false h = rw h refl
+
+behind_more : (ty : Type_) (types : List Type_) (all : _) (b : Bool) → is_type behind_scope ty ≡ b → is_formed behind_scope ((ty ∷ []) ∷ types ∷ all) ≡ false
+unfolding hidden-the_row-Item-0 hidden-the_row-Cond-1 denote.Hole.Carrier.hidden
+behind_more ty types all true h = rw h refl
+behind_more ty types all false h = rw h refl
+
+behind_two : (ty other : Type_) (types : List Type_) (all : _) (b : Bool) → is_type behind_scope ty ≡ b → is_formed behind_scope ((ty ∷ other ∷ types) ∷ all) ≡ false
+unfolding hidden-the_row-Item-0 hidden-the_row-Cond-1 denote.Hole.Carrier.hidden
+behind_two ty other types all true h = rw h refl
+behind_two ty other types all false h = rw h refl
+
+not_behind_scope : Formed behind_scope → ⊥
+unfolding hidden-the_row-Item-0 hidden-the_row-Cond-1 denote.Hole.Carrier.hidden
+not_behind_scope ([], formed) = false≢true formed
+not_behind_scope ([] ∷ all, formed) = false≢true formed
+not_behind_scope ((ty ∷ []) ∷ [], formed) = false≢true (sym (behind_by ty (is_type behind_scope ty) refl) ∙ formed)
+not_behind_scope ((ty ∷ []) ∷ types ∷ all, formed) = false≢true (sym (behind_more ty types all (is_type behind_scope ty) refl) ∙ formed)
+not_behind_scope ((ty ∷ other ∷ types) ∷ all, formed) = false≢true (sym (behind_two ty other types all (is_type behind_scope ty) refl) ∙ formed)
+
+abbrev behind_scope_mended : Program
+behind_scope_mended = program (class_of None [] (0 ∷ []) ∷ []) [] 0 (static_method 0 [] [] int (local 0 [] (span 0 1) ∷ []) 3 (block (does (op.Const 1 (literal.Int (pos 0))) 0 1 ∷ does_with (op.Copy 0 1 int) 0 2 (span 0 1 ∷ span 0 1 ∷ []) ∷ item.Return (Some 0) (span 0 1) ∷ [])) ∷ [])
+
+behind_scope_formed : Formed behind_scope_mended
+unfolding hidden-the_row-Item-0 hidden-the_row-Cond-1 denote.Hole.Carrier.hidden
+behind_scope_formed = ((int ∷ []) ∷ [], refl)
