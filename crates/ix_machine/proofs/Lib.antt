@@ -4,3 +4,4 @@ pub mod Begun
 pub mod Starting
 pub mod Entered
 pub mod OneStart
+pub mod SomeStart

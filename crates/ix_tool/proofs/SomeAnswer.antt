@@ -1,107 +1,31 @@
 -- To all words and bytes there is an answer.
-use Rattle.std.proofs.Common.{◌≡◌, ◌≢◌, ℕ, zero, suc, ◌+◌, ◌==◌, Bool, true, false, List, [], ◌∷◌, length, take, Option, Some, None, Result, Ok, Err, refl, ap, arith, ◌⊎◌, inl, inr}
-use Rattle.std.proofs.lemmas.Bool.{cases_lt, eqb-false}
-use borrow.Author.Tests.{eqb-true}
-use Rattle.ix_core.specs.declared.claim.Type_.{Type_}
+use Rattle.std.proofs.Common.{◌≡◌, ℕ, List, Option, Some, None, refl, subst}
 use Rattle.ix_core.specs.declared.program.Program.{Program}
-use Rattle.ix_core.specs.Heap.{cells_used}
-use Rattle.ix_core.specs.Inputs.{Unmet, IsValueOf, first_unmet}
-use Rattle.ix_core.specs.Machine.{State}
-use Rattle.ix_core.specs.Safe.{Input, input_heap}
-use Rattle.ix_core.specs.Tables.{method_at}
-use Rattle.ix_inputs.specs.Entries.{entry_of}
-use Rattle.ix_inputs.specs.Words.{AreValues, IsFirstWrong}
-use Rattle.ix_machine.specs.declared.start.StartError.{StartError}
-use Rattle.ix_machine.specs.Starts.{Starts, no_entry, wrong_count, wrong_kind, not_met, too_large, begins, types_at}
+use Rattle.ix_machine.proofs.SomeStart.{Is, some_start}
 use Rattle.ix_words.specs.Commands.{Command, Check, Run, Bench}
-use Rattle.ix_words.specs.Words.{Text}
 use Rattle.ix_answer.specs.Answer.{Answer}
 use Rattle.ix_finding.specs.Found.{Finding, TooLong, Broken, Past, Misnamed, Whole, Found}
 use Rattle.ix_finding.proofs.SomeFinding.{some_finding}
-use Rattle.ix_tool.specs.Answers.{AnswersWhole, AnswersOn, Answers, HaveLists, source_bytes, usage, verdict, bench_verdict}
+use Rattle.ix_tool.specs.Answers.{AnswersWhole, AnswersOn, source_bytes, usage, verdict, bench_verdict}
+use Rattle.ix_tool.specs.Existence.{HasList, HasListed, Unanswered}
 use Rattle.ix_tool.specs.Runs.{start_answer}
 
--- ---- what can't fail to be, though no law finds it
-
-abbrev Is : Type 0 → Type 0
-Is A = (A → ⊥) → ⊥
-
-or_not : (A : Type 0) → Is (A ⊎ (A → ⊥))
-or_not A no = no (inr (λ a. no (inl a)))
-
--- ---- words that are values, or the first that is none
-
-abbrev Read : List Type_ → List Text → Type 0
-Read types words = ((inputs : List Input) × AreValues types words inputs) ⊎ ((number : ℕ) × IsFirstWrong types words number)
-
-one_more : (ty : Type_) (types : List Type_) (word : Text) (words : List Text) (input : Input) → IsValueOf ty word input → Read types words → Read (ty ∷ types) (word ∷ words)
-one_more ty types word words input is (inl r) = inl (input ∷ r.0, (is, r.1))
-one_more ty types word words input is (inr r) =
-    inr (suc r.0, record {
-      before = input ∷ r.1.before;
-      ty = r.1.ty;
-      word = r.1.word;
-      values = (is, r.1.values);
-      ty_at = r.1.ty_at;
-      word_at = r.1.word_at;
-      none = r.1.none;
-      counted = ap suc r.1.counted;
-    })
-
-read : (types : List Type_) (words : List Text) → length words ≡ length types → Is (Read types words)
-read [] [] same no = no (inl ([], tt))
-read [] (word ∷ words) same no = omega (arith, same)
-read (ty ∷ types) [] same no = omega (arith, same)
-read (ty ∷ types) (word ∷ words) same no =
-    or_not ((input : Input) × IsValueOf ty word input)
-    (λ h. elim h [
-      | inl some ↦ read types words (omega (arith, same)) (λ r. no (one_more ty types word words some.0 some.1 r))
-      | inr none ↦ no (inr (1, record { before = []; ty = ty; word = word; values = tt; ty_at = refl; word_at = refl; none = λ input is. none (input, is); counted = refl }))
-    ])
-
--- ---- a run that is asked for begins, or a refusal stands in its way
-
-module _ (program : Program) (entry : Text) (words : List Text) (cells : ℕ) where
-  abbrev Begun : Type 0
-  Begun = (begun : Result State StartError) × Starts program entry words cells begun
-
-  by_room : (method : ℕ) → entry_of program entry ≡ Some method → (inputs : List Input) → AreValues (types_at program method) words inputs → first_unmet (method_at program method) inputs ≡ None → Begun
-  by_room method found inputs values met =
-      elim (cases_lt cells (cells_used (input_heap inputs (types_at program method)))) [
-        | inl few ↦ (_, too_large method inputs (record { found = found; values = values }) met few)
-        | inr room ↦ (_, begins method inputs (record { found = found; values = values }) met room)
-      ]
-
-  by_claims : (method : ℕ) → entry_of program entry ≡ Some method → (inputs : List Input) → AreValues (types_at program method) words inputs → (o : Option Unmet)
-      → first_unmet (method_at program method) inputs ≡ o → Begun
-  by_claims method found inputs values None h = by_room method found inputs values h
-  by_claims method found inputs values (Some unmet) h = (_, not_met method inputs unmet (record { found = found; values = values }) h)
-
-  by_words : (method : ℕ) → entry_of program entry ≡ Some method → length words ≡ length (types_at program method) → Read (types_at program method) words → Begun
-  by_words method found same (inl r) = by_claims method found r.0 r.1 (first_unmet (method_at program method) r.0) refl
-  by_words method found same (inr r) = (_, wrong_kind method r.0 found same r.1)
-
-  by_count : (method : ℕ) → entry_of program entry ≡ Some method → (b : Bool) → (length words == length (types_at program method)) ≡ b → Is Begun
-  by_count method found false h no = no (_, wrong_count method found (eqb-false _ _ h))
-  by_count method found true h no =
-      let same = eqb-true (length words) (length (types_at program method)) h in
-      read (types_at program method) words same (λ r. no (by_words method found same r))
-
-  by_entry : (o : Option ℕ) → entry_of program entry ≡ o → Is Begun
-  by_entry None h no = no (_, no_entry h)
-  by_entry (Some method) h no = by_count method h (length words == length (types_at program method)) refl no
-
--- ---- answers
-
-answers_whole : (command : Command) (bytes : List ℕ) (program : Program) → HaveLists command program → Is ((answer : Answer) × AnswersWhole command bytes program answer)
+answers_whole : (command : Command) (bytes : List ℕ) (program : Program) → HasList command program → Is ((answer : Answer) × AnswersWhole command bytes program answer)
 answers_whole (Check sums file) bytes program l no = no (verdict file bytes program l.0, (l.0, l.1, refl))
 answers_whole (Run limits file entry inputs) bytes program l no =
-    by_entry program entry inputs limits.cells (entry_of program entry) refl (λ b. no (start_answer program bytes limits b.0, (b.0, b.1, refl)))
+    some_start program entry inputs limits.cells (λ b. no (start_answer program bytes limits b.0, (b.0, b.1, refl)))
 answers_whole (Bench count) bytes program l no = no (bench_verdict count program l.0, (l.0, l.1, refl))
 
-answers_on : (command : Command) (bytes : List ℕ) (finding : Finding) → ((program : Program) → finding ≡ Whole program → HaveLists command program) → Is ((answer : Answer) × AnswersOn command bytes finding answer)
+answers_on : (command : Command) (bytes : List ℕ) (finding : Finding) → ((program : Program) → finding ≡ Whole program → HasList command program) → Is ((answer : Answer) × AnswersOn command bytes finding answer)
 answers_on command bytes TooLong l no = no (_, refl)
 answers_on command bytes (Broken at key) l no = no (_, refl)
 answers_on command bytes (Past at name) l no = no (_, refl)
 answers_on command bytes (Misnamed errors) l no = no (_, refl)
 answers_on command bytes (Whole program) l no = answers_whole command bytes program (l program refl) no
+
+pub some_answer : (command : Option Command) (bytes : List ℕ) → HasListed command bytes → Unanswered command bytes → ⊥
+some_answer None bytes l no = no (usage, refl)
+some_answer (Some command) bytes l no =
+    let f = some_finding (source_bytes command bytes) in
+    answers_on command (source_bytes command bytes) f.0 (λ program is. l program (subst (Found (source_bytes command bytes)) is f.1))
+    (λ a. no (a.0, (f.0, f.1, a.1)))
