@@ -1,5 +1,5 @@
 -- The list of errors: which are derived, and how they are listed.
-use Rattle.std.specs.Prelude.{◌≡◌, ◌⊎◌, ◌<◌, ◌≤◌, ℕ, ◌==◌, Bool, ◌&&◌, ◌||◌, if◌then◌else◌, nat_lt, List, [], ◌∷◌, ◌++◌}
+use Rattle.std.specs.Prelude.{◌≡◌, ◌⊎◌, ◌<◌, ℕ, ◌==◌, Bool, ◌&&◌, ◌||◌, if◌then◌else◌, nat_lt, List, [], ◌∷◌, ◌++◌}
 use Rattle.std.specs.List.{Contains, AllByRecursion, list_any}
 use Rattle.ix_text.specs.declared.span.Span.{Span}
 use Rattle.ix_meaning.specs.declared.note.NameError.{NameError}
@@ -60,10 +60,11 @@ firsts all (e ∷ es) = if list_any (comes_before e) all then firsts all es else
 abbrev pub derived : List Note → List NameError
 derived ns = wrongs ns ++ firsts (wrong_annots ns) (wrong_annots ns)
 
--- ---- how they are listed: by place and rule, and of one rule and one start only the one that ends first
+-- ---- how they are listed: by their start, their rule and their end, each once
 
 abbrev pub IsBefore : NameError → NameError → Type 0
-IsBefore x y = (x.span.from < y.span.from) ⊎ ((x.span.from ≡ y.span.from) × (order x.rule < order y.rule))
+IsBefore x y = (x.span.from < y.span.from)
+    ⊎ ((x.span.from ≡ y.span.from) × ((order x.rule < order y.rule) ⊎ ((order x.rule ≡ order y.rule) × (x.span.to < y.span.to))))
 
 abbrev pub Rises : List NameError → Type 0
 Rises [] = Unit {0}
@@ -72,22 +73,21 @@ Rises (x ∷ xs) = AllByRecursion (IsBefore x) xs × Rises xs
 pub record IsListed (es ys : List NameError) : Type 0 where
   pub rises : Rises ys
   pub found : (y : NameError) → Contains ys y → Contains es y
-  pub ends_first : (e : NameError) → Contains es e → (y : NameError) × Contains ys y × (y.span.from ≡ e.span.from) × (y.rule ≡ e.rule) × (y.span.to ≤ e.span.to)
+  pub all : (e : NameError) → Contains es e → Contains ys e
 
 -- ---- the same list, computed
 
-abbrev pub is_at : NameError → NameError → Bool
-is_at e y = e.span.from == y.span.from && order e.rule == order y.rule
+abbrev pub is_same : NameError → NameError → Bool
+is_same e y = same_span e.span y.span && order e.rule == order y.rule
 
 abbrev pub goes_before : NameError → NameError → Bool
-goes_before e y = nat_lt e.span.from y.span.from || (e.span.from == y.span.from && nat_lt (order e.rule) (order y.rule))
-
-abbrev pub sooner : NameError → NameError → NameError
-sooner e y = if nat_lt e.span.to y.span.to then e else y
+goes_before e y =
+    nat_lt e.span.from y.span.from
+    || (e.span.from == y.span.from && (nat_lt (order e.rule) (order y.rule) || (order e.rule == order y.rule && nat_lt e.span.to y.span.to)))
 
 abbrev pub insert : NameError → List NameError → List NameError
 insert e [] = e ∷ []
-insert e (y ∷ ys) = if is_at e y then sooner e y ∷ ys else if goes_before e y then e ∷ y ∷ ys else y ∷ insert e ys
+insert e (y ∷ ys) = if is_same e y then y ∷ ys else if goes_before e y then e ∷ y ∷ ys else y ∷ insert e ys
 
 abbrev pub listed : List NameError → List NameError
 listed [] = []

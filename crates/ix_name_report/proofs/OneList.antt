@@ -1,8 +1,8 @@
 -- Of the errors on names one list alone is listed.
-use Rattle.std.proofs.Common.{zero, suc, length, slice_index_or, ◌≡◌, ℕ, ◌<◌, ◌≤◌, ◌⊎◌, inl, inr, List, [], ◌∷◌, refl, sym, ◌∙◌, ap, subst, arith, lt_irrefl}
+use Rattle.std.proofs.Common.{zero, suc, length, slice_index_or, ◌≡◌, ℕ, ◌<◌, ◌⊎◌, inl, inr, List, [], ◌∷◌, refl, sym, ◌∙◌, ap, subst, arith}
 use Rattle.std.specs.List.{Contains, AllByRecursion}
 use Rattle.ix_meaning.specs.declared.note.NameError.{NameError}
-use Rattle.ix_meaning.specs.Listed.{order, IsBefore, Rises, IsListed}
+use Rattle.ix_meaning.specs.Listed.{IsBefore, Rises, IsListed}
 
 -- ---- members
 
@@ -32,23 +32,15 @@ all_in P (y ∷ ys) x all (inr h) = all_in P ys x all.1 h
 
 not_both : (x y : NameError) → IsBefore x y → IsBefore y x → ⊥
 not_both x y (inl a) (inl b) = omega (arith, a, b)
-not_both x y (inl a) (inr b) = omega (arith, a, b.0)
-not_both x y (inr a) (inl b) = omega (arith, a.0, b)
-not_both x y (inr a) (inr b) = omega (arith, a.1, b.1)
+not_both x y (inl a) (inr (e, b)) = omega (arith, a, e)
+not_both x y (inr (e, a)) (inl b) = omega (arith, e, b)
+not_both x y (inr (e, inl a)) (inr (f, inl b)) = omega (arith, a, b)
+not_both x y (inr (e, inl a)) (inr (f, inr (g, b))) = omega (arith, a, g)
+not_both x y (inr (e, inr (g, a))) (inr (f, inl b)) = omega (arith, g, b)
+not_both x y (inr (e, inr (g, a))) (inr (f, inr (h, b))) = omega (arith, a, b)
 
-not_before_like : (x y : NameError) → x.span.from ≡ y.span.from → x.rule ≡ y.rule → IsBefore x y → ⊥
-not_before_like x y from rule (inl a) = omega (arith, a, from)
-not_before_like x y from rule (inr a) = lt_irrefl (order y.rule) (subst (λ r. order r < order y.rule) rule a.1)
-
--- in a list that rises one alone has that start and that rule
-only_like : (xs : List NameError) (x y : NameError) → Rises xs → In x xs → In y xs → x.span.from ≡ y.span.from → x.rule ≡ y.rule → x ≡ y
-only_like [] x y rises hx hy from rule = absurd hx
-only_like (z ∷ zs) x y rises (inl hx) (inl hy) from rule = hx ∙ sym hy
-only_like (z ∷ zs) x y rises (inl hx) (inr hy) from rule =
-    absurd (not_before_like x y from rule (subst (λ v. IsBefore v y) (sym hx) (all_in (IsBefore z) zs y rises.0 hy)))
-only_like (z ∷ zs) x y rises (inr hx) (inl hy) from rule =
-    absurd (not_before_like y x (sym from) (sym rule) (subst (λ v. IsBefore v x) (sym hy) (all_in (IsBefore z) zs x rises.0 hx)))
-only_like (z ∷ zs) x y rises (inr hx) (inr hy) from rule = only_like zs x y rises.1 hx hy from rule
+not_before_itself : (x : NameError) → IsBefore x x → ⊥
+not_before_itself x before = not_both x x before before
 
 -- two lists that rise and have the same members are one
 same_rising : (xs ys : List NameError) → Rises xs → Rises ys → ((x : NameError) → In x xs → In x ys) → ((y : NameError) → In y ys → In y xs) → xs ≡ ys
@@ -67,7 +59,7 @@ same_rising (x ∷ xs) (y ∷ ys) rx ry there back =
     heads (inr h) (inr k) = absurd (not_both x y (all_in (IsBefore x) xs y rx.0 k) (all_in (IsBefore y) ys x ry.0 h))
 
     apart : (v w : NameError) → IsBefore v w → w ≡ v → ⊥
-    apart v w before same = not_before_like v w (ap (λ (e : NameError). e.span.from) (sym same)) (ap (λ (e : NameError). e.rule) (sym same)) before
+    apart v w before same = not_before_itself v (subst (IsBefore v) same before)
 
     later : (v : NameError) (zs : List NameError) (w : NameError) → IsBefore v w → In w (v ∷ zs) → In w zs
     later v zs w before (inl h) = absurd (apart v w before h)
@@ -80,18 +72,7 @@ same_rising (x ∷ xs) (y ∷ ys) rx ry there back =
 
 -- what one list has, another has
 has_too : (es ys zs : List NameError) → IsListed es ys → IsListed es zs → (y : NameError) → In y ys → In y zs
-has_too es ys zs a b y h =
-    let z = b.ends_first y (a.found y (from_in ys y h)) in
-    let w = a.ends_first z.0 (b.found z.0 z.1) in
-    let like : y ≡ w.0 = only_like ys y w.0 a.rises h (to_in ys w.0 w.1) (sym (w.2 ∙ z.2)) (sym (w.3 ∙ z.3)) in
-    let end : y.span.to ≤ z.0.span.to = subst (λ (v : NameError). v.span.to ≤ z.0.span.to) (sym like) w.4 in
-    subst (λ v. In v zs) (same_error z.0 y z.2 (omega (arith, end, z.4)) z.3) (to_in zs z.0 z.1)
-  where
-    same_error : (v w : NameError) → v.span.from ≡ w.span.from → v.span.to ≡ w.span.to → v.rule ≡ w.rule → v ≡ w
-    same_error v w from to rule =
-        ap (λ n. record { rule = v.rule; span = record { from = n; to = v.span.to } }) from
-        ∙ ap (λ n. record { rule = v.rule; span = record { from = w.span.from; to = n } }) to
-        ∙ ap (λ r. record { rule = r; span = w.span }) rule
+has_too es ys zs a b y h = to_in zs y (b.all y (a.found y (from_in ys y h)))
 
 pub one_list : (es ys zs : List NameError) → IsListed es ys → IsListed es zs → ys ≡ zs
 one_list es ys zs a b = same_rising ys zs a.rises b.rises (has_too es ys zs a b) (has_too es zs ys b a)

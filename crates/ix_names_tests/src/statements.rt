@@ -15,6 +15,14 @@ const ROWS: &[(&str, &str)] = &[
     ("class A { void m() { final int x = 1; int y = x; } }", ""),
     ("class A { void m(final int x) { int y = x; } }", ""),
     ("class A { A() { return 1; } }", "23-24 type.mismatch;"),
+    (
+        "class A { void m(boolean b, int x) { x = b + b - b; b = b & b; } }",
+        "41-42 type.mismatch;45-46 type.mismatch;49-50 type.mismatch;56-57 type.mismatch;56-61 type.mismatch;60-61 type.mismatch;",
+    ),
+    (
+        "class A { boolean m(int x, boolean b) { return x == b == x; } }",
+        "47-53 type.mismatch;47-58 type.mismatch;",
+    ),
     ("class A { A() { return; } }", ""),
     (
         "class A { boolean m(int x, A a) { return a != x; } }",

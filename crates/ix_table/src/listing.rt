@@ -1,4 +1,4 @@
-//! The list of errors: by place and rule, and of one rule and one start only the one that ends first.
+//! The list of errors: by start, rule and end, each once.
 
 ghost use Rattle.std.specs.Prelude.{◌≡◌, ◌++◌, ◌↔◌, [], IfOk, OnOk};
 ghost use Rattle.ix_meaning.specs.Listed as spec;
@@ -33,7 +33,7 @@ fn sort(errors: &mut Vec<NameError>) -> Result<(), AllocError>
     ensures { OnOk result (spec.IsListed errors.old.items errors.new.items) }
 {
     errors.sort_by_key(|e| (e.span.from, order(e.rule), e.span.to))?;
-    errors.dedup_by_key(|e| (e.span.from, order(e.rule)));
+    errors.dedup_by_key(|e| (e.span.from, order(e.rule), e.span.to));
     Ok(())
 }
 
