@@ -1,3 +1,5 @@
 mod FirstNotes
 mod LeastRanks
 mod SortedErrors
+-- What crates above cite: errors have a list.
+pub mod SomeList

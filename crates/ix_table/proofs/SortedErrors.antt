@@ -48,10 +48,10 @@ abbrev pub error_cmp : NameError → NameError → Ordering
 error_cmp x y = ordering_then (ordering_then (nat_cmp x.span.from y.span.from) (nat_cmp (order x.rule) (order y.rule))) (nat_cmp x.span.to y.span.to)
 
 -- x and y have one start, one rule and one end
-abbrev Same : NameError → NameError → Type 0
+abbrev pub Same : NameError → NameError → Type 0
 Same x y = (x.span.from ≡ y.span.from) × (order x.rule ≡ order y.rule) × (x.span.to ≡ y.span.to)
 
-same_error : (x y : NameError) → Same x y → x ≡ y
+pub same_error : (x y : NameError) → Same x y → x ≡ y
 same_error x y h =
     ap (λ n. record { rule = x.rule; span = record { from = n; to = x.span.to } }) h.0
     ∙ ap (λ n. record { rule = x.rule; span = record { from = y.span.from; to = n } }) h.2
