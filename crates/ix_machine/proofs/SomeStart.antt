@@ -1,5 +1,5 @@
 -- A run that is asked for begins, or a refusal stands in its way: it can't be that neither is so.
-use Rattle.std.proofs.Common.{◌≡◌, ◌≢◌, ℕ, suc, ◌==◌, Bool, true, false, List, [], ◌∷◌, length, Option, Some, None, Result, refl, ap, arith, ◌⊎◌, inl, inr}
+use Rattle.std.proofs.Common.{◌≡◌, ◌≢◌, ℕ, suc, ◌==◌, Bool, true, false, List, [], ◌∷◌, length, Option, Some, None, Result, refl, arith, ◌⊎◌, inl, inr}
 use Rattle.std.proofs.lemmas.Bool.{cases_lt, eqb-false}
 use borrow.Author.Tests.{eqb-true}
 use Rattle.ix_core.specs.declared.claim.Type_.{Type_}
@@ -20,7 +20,7 @@ abbrev pub Is : Type 0 → Type 0
 Is A = (A → ⊥) → ⊥
 
 or_not : (A : Type 0) → Is (A ⊎ (A → ⊥))
-or_not A no = no (inr (λ a. no (inl a)))
+or_not A never = never (inr (λ a. never (inl a)))
 
 -- ---- words that are values, or the first that is none
 
@@ -38,18 +38,18 @@ one_more ty types word words input is (inr r) =
       ty_at = r.1.ty_at;
       word_at = r.1.word_at;
       none = r.1.none;
-      counted = ap suc r.1.counted;
+      counted = omega (arith, r.1.counted);
     })
 
 read : (types : List Type_) (words : List (List ℕ)) → length words ≡ length types → Is (Read types words)
-read [] [] same no = no (inl ([], tt))
-read [] (word ∷ words) same no = omega (arith, same)
-read (ty ∷ types) [] same no = omega (arith, same)
-read (ty ∷ types) (word ∷ words) same no =
+read [] [] same never = never (inl ([], tt))
+read [] (word ∷ words) same never = omega (arith, same)
+read (ty ∷ types) [] same never = omega (arith, same)
+read (ty ∷ types) (word ∷ words) same never =
     or_not ((input : Input) × IsValueOf ty word input)
     (λ h. elim h [
-      | inl some ↦ read types words (omega (arith, same)) (λ r. no (one_more ty types word words some.0 some.1 r))
-      | inr none ↦ no (inr (1, record { before = []; ty = ty; word = word; values = tt; ty_at = refl; word_at = refl; none = λ input is. none (input, is); counted = refl }))
+      | inl some ↦ read types words (omega (arith, same)) (λ r. never (one_more ty types word words some.0 some.1 r))
+      | inr none ↦ never (inr (1, record { before = []; ty = ty; word = word; values = tt; ty_at = refl; word_at = refl; none = λ input is. none (input, is); counted = refl }))
     ])
 
 -- ---- a run that is asked for begins, or a refusal stands in its way
@@ -75,14 +75,14 @@ module _ (program : Program) (entry : List ℕ) (words : List (List ℕ)) (cells
   by_words method found same (inr r) = (_, wrong_kind method r.0 found same r.1)
 
   by_count : (method : ℕ) → entry_of program entry ≡ Some method → (b : Bool) → (length words == length (types_at program method)) ≡ b → Is Begun
-  by_count method found false h no = no (_, wrong_count method found (eqb-false _ _ h))
-  by_count method found true h no =
+  by_count method found false h never = never (_, wrong_count method found (eqb-false _ _ h))
+  by_count method found true h never =
       let same = eqb-true (length words) (length (types_at program method)) h in
-      read (types_at program method) words same (λ r. no (by_words method found same r))
+      read (types_at program method) words same (λ r. never (by_words method found same r))
 
   begun_by : (o : Option ℕ) → entry_of program entry ≡ o → Is Begun
-  begun_by None h no = no (_, no_entry h)
-  begun_by (Some method) h no = by_count method h (length words == length (types_at program method)) refl no
+  begun_by None h never = never (_, no_entry h)
+  begun_by (Some method) h never = by_count method h (length words == length (types_at program method)) refl never
 
   pub some_start : Is Begun
   some_start = begun_by (entry_of program entry) refl
