@@ -15,3 +15,5 @@ mod leaving;
 mod loops;
 #[cfg(test)]
 mod row;
+#[cfg(test)]
+mod sweeps;

@@ -1,5 +1,6 @@
 //! A method of a source, and its flow graph as lines.
 
+use crate::sweeps::is_in_order;
 use ix_core::{OpKind, Program};
 use ix_graph::{Edge, Graph, Node, NodeKind, graph};
 use ix_lexer::lex;
@@ -20,7 +21,7 @@ pub struct Row {
 
 /// The plain form of a source; nothing where it has none.
 #[tactic(auto, using(ix_counts::proofs::FewDeclarations::few_classes, ix_counts::proofs::FewDeclarations::few_members))]
-fn lowered(alloc: Global, text: &str) -> Option<Program> {
+pub fn lowered(alloc: Global, text: &str) -> Option<Program> {
     let bytes = text.as_bytes();
     if bytes.len() > 1_000_000 {
         return None;
@@ -122,7 +123,7 @@ fn has_lines(alloc: Global, graph: &Graph<'_>, lines: &[&str]) -> Result<bool, A
     Ok(true)
 }
 
-/// Whether the method of the source has that graph.
+/// Whether the method of the source has that graph, and its sweep is in order.
 pub fn has_graph(alloc: Global, row: &Row) -> bool {
     let Some(program) = lowered(alloc, row.source) else {
         return false;
@@ -134,4 +135,5 @@ pub fn has_graph(alloc: Global, row: &Row) -> bool {
         return false;
     };
     has_lines(alloc, &graph, row.graph).unwrap_or(false)
+        && is_in_order(alloc, &graph).unwrap_or(false)
 }

@@ -9,7 +9,7 @@ ghost use Rattle.ix_labels.specs.Visits.{visits_by};
 
 use crate::problem::Problem;
 use ix_core::{Method, Profile, Program};
-use ix_graph::{Graph, graph};
+use ix_graph::{Graph, graph, sweep_parts};
 use ix_landmarks::landmarks;
 use ix_method::Store;
 use ix_solve::{Steps, solve_graph};
@@ -40,6 +40,7 @@ pub fn label_nodes<'a, L: Ledger>(
 {
     let marks = landmarks(alloc, program, within)?;
     let graph = graph(alloc, within)?;
+    let parts = sweep_parts(alloc, &graph)?;
     let problem = Problem {
         program,
         within,
@@ -47,7 +48,7 @@ pub fn label_nodes<'a, L: Ledger>(
         marks,
         graph,
     };
-    let stores = solve_graph(alloc, &problem, steps)?;
+    let stores = solve_graph(alloc, &problem, &parts, steps)?;
     let Problem { graph, .. } = problem;
     Ok(Labels { graph, stores })
 }

@@ -68,10 +68,12 @@ pub trait FlowProblem {
 }
 
 /// The least labels, one for each node, that are high enough for all nodes: what they say is a solution, and is below every solution. Each node is visited
-/// at least once, and then only where a label that it reads has risen.
+/// at least once, and then only where a label that it reads has risen. Sweeps go through the parts, one after another: they say which of the waiting nodes
+/// is next, and labels don't depend on them.
 pub fn solve_graph<G: FlowProblem, L: Ledger>(
     alloc: Global,
     problem: &G,
+    parts: &[Vec<usize>],
     steps: &mut Steps<L>,
 ) -> Result<Vec<G::Value>, AllocError>
     ensures solution { IfOk result (λ labels.
@@ -85,11 +87,11 @@ pub fn solve_graph<G: FlowProblem, L: Ledger>(
         (G.readers_of problem.now) steps.old steps.new labels.items) }
 {
     let mut labels = all_least(alloc, problem)?;
-    let mut waiting = Worklist::of_all(alloc, labels.len())?;
-    while let Some(at) = waiting.take_first() {
+    let mut waiting = Worklist::of_all(alloc, labels.len(), parts)?;
+    while let Some(at) = waiting.take_next() {
         let value = problem.visit(alloc, at, &labels, steps)?;
         if !value.leq(&labels[at]) {
-            waiting.add_all(problem.readers(at))?;
+            waiting.add_all(problem.readers(at));
 
             // It is above the old label, since the labels that it was made of have only risen.
             labels[at] = value;
