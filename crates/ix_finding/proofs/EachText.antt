@@ -183,15 +183,20 @@ text_or_not bytes =
     let whole : take (length bytes) bytes ≡ bytes = take_all (length bytes) bytes (omega arith) in
     elim (cases_lt l.n (length bytes)) [
       | inl short ↦
-          inr (λ u. l.last (length bytes) short (omega arith) (subst IsUtf8 (sym whole) u),
-          (l.n, record {
-            short = short;
-            front = l.is;
-            longest = λ m above u. elim (cases_lt (length bytes) m) [
-              | inl past ↦ l.last (length bytes) short (omega arith) (subst IsUtf8 (take_all m bytes (omega (arith, past)) ∙ sym whole) u)
-              | inr within ↦ l.last m above within u
-            ];
-          }))
+          inr (
+            λ u. l.last (length bytes) short (omega arith) (subst IsUtf8 (sym whole) u),
+            (
+              l.n,
+              record {
+                short = short;
+                front = l.is;
+                longest = λ m above u. elim (cases_lt (length bytes) m) [
+                  | inl past ↦ l.last (length bytes) short (omega arith) (subst IsUtf8 (take_all m bytes (omega (arith, past)) ∙ sym whole) u)
+                  | inr within ↦ l.last m above within u
+                ];
+              },
+            ),
+          )
       | inr long ↦ inl (subst IsUtf8 (take_all l.n bytes long) l.is)
     ]
 

@@ -21,7 +21,9 @@ const ROWS: &[Row] = &[
     (
         "class A { static void f(boolean b, @GTENegativeOne int i, @Positive int k) { int d = i - k; while (b) { } } }",
         0,
-        &["less s3 s1 0; low s1 -1; low s2 1; rng s1 -1 2147483647; rng s2 1 2147483647; sum s1 s2 s3"],
+        &[
+            "less s3 s1 0; low s1 -1; low s2 1; rng s1 -1 2147483647; rng s2 1 2147483647; sum s1 s2 s3",
+        ],
     ),
     (
         "class A { static void f(int x, boolean b) { if (x < 5) while (b) { } } }",
@@ -31,12 +33,16 @@ const ROWS: &[Row] = &[
     (
         "class A { static void f(boolean b) { int x = 5; int y = x - 1; int z = x + 1; int w = x + 2; while (b) { } } }",
         0,
-        &["less s1 s2 2; less s1 s3 0; less s1 s4 -1; less s2 s1 0; less s2 s3 -1; less s2 s4 -1; less s3 s1 2; less s3 s2 3; less s3 s4 0; less s4 s1 3; less s4 s2 4; less s4 s3 2; low s1 1; low s2 1; low s3 1; low s4 1; rng s1 5 5; rng s2 4 4; rng s3 6 6; rng s4 6 2147483647"],
+        &[
+            "less s1 s2 2; less s1 s3 0; less s1 s4 -1; less s2 s1 0; less s2 s3 -1; less s2 s4 -1; less s3 s1 2; less s3 s2 3; less s3 s4 0; less s4 s1 3; less s4 s2 4; less s4 s3 2; low s1 1; low s2 1; low s3 1; low s4 1; rng s1 5 5; rng s2 4 4; rng s3 6 6; rng s4 6 2147483647",
+        ],
     ),
     (
         "class A { static void f(@IntRange(from = 4, to = 4) int p, boolean b) { int x = 2; int y = x * x; while (b) { } } }",
         0,
-        &["less s0 s3 1; less s2 s0 -1; less s2 s3 -1; less s3 s0 1; low s0 1; low s2 1; low s3 1; rng s0 4 4; rng s2 2 2; rng s3 4 4"],
+        &[
+            "less s0 s3 1; less s2 s0 -1; less s2 s3 -1; less s3 s0 1; low s0 1; low s2 1; low s3 1; rng s0 4 4; rng s2 2 2; rng s3 4 4",
+        ],
     ),
     (
         "class A { static void f(@IntRange(from = 4, to = 4) int[] a, boolean b) { int x = 2; int y = x * x; while (b) { } } }",
@@ -66,7 +72,9 @@ const ROWS: &[Row] = &[
     (
         "class A { static void f(int @MinLen(4) [] a, boolean b) { int x = 2; int y = x * x; while (b) { } } }",
         0,
-        &["len s0 4 2147483647; less s2 s3 -1; low s2 1; low s3 1; rng s2 2 2; rng s3 4 4; same s0 s0; upper s2 s0 0 1; upper s3 s0 0 -1"],
+        &[
+            "len s0 4 2147483647; less s2 s3 -1; low s2 1; low s3 1; rng s2 2 2; rng s3 4 4; same s0 s0; upper s2 s0 0 1; upper s3 s0 0 -1",
+        ],
     ),
     (
         "class A { static void f(int[] a, @LTLengthOf(value = \"a\", offset = \"4\") int p, boolean b) { int x = 2; int y = x * x; while (b) { } } }",
@@ -161,7 +169,10 @@ const ROWS: &[Row] = &[
     (
         "class A { static void f(boolean b) { int x = 2; int y = x * x; while (b) { } do { } while (x == 4); } }",
         0,
-        &["less s1 s2 -1; low s1 1; low s2 1; rng s1 2 2; rng s2 4 4", "less s1 s2 -1; low s1 1; low s2 1; rng s1 2 2; rng s2 4 4"],
+        &[
+            "less s1 s2 -1; low s1 1; low s2 1; rng s1 2 2; rng s2 4 4",
+            "less s1 s2 -1; low s1 1; low s2 1; rng s1 2 2; rng s2 4 4",
+        ],
     ),
     (
         "class A { static void f(boolean b) { int x = 2; int y = x * x; while (b) { } if (b) { } else { x = 4; } } }",
@@ -171,12 +182,18 @@ const ROWS: &[Row] = &[
     (
         "class A { static void f(boolean b) { int x = 2; int y = x * x; while (b) { } for (int i = 0; b; i = 4) { } } }",
         0,
-        &["less s1 s2 -1; low s1 1; low s2 1; rng s1 2 2; rng s2 4 4", "less s1 s2 -1; less s3 s2 1; low s1 1; low s2 1; low s3 0; rng s1 2 2; rng s2 4 4; rng s3 0 4"],
+        &[
+            "less s1 s2 -1; low s1 1; low s2 1; rng s1 2 2; rng s2 4 4",
+            "less s1 s2 -1; less s3 s2 1; low s1 1; low s2 1; low s3 0; rng s1 2 2; rng s2 4 4; rng s3 0 4",
+        ],
     ),
     (
         "class A { static void f(boolean b) { int x = 2; int y = x * x; while (b) { } while (b) { if (b) break; x = 4; } } }",
         0,
-        &["less s1 s2 -1; low s1 1; low s2 1; rng s1 2 2; rng s2 4 4", "less s1 s2 1; low s1 1; low s2 1; rng s1 2 4; rng s2 4 4"],
+        &[
+            "less s1 s2 -1; low s1 1; low s2 1; rng s1 2 2; rng s2 4 4",
+            "less s1 s2 1; low s1 1; low s2 1; rng s1 2 4; rng s2 4 4",
+        ],
     ),
     (
         "class A { static void f(boolean b) { int x = 2; int y = x * x; while (b) { } return; } static void g() { int z = 4; } }",
@@ -191,7 +208,9 @@ const ROWS: &[Row] = &[
     (
         "class A { @IntRange(from = 4, to = 4) int g; A(boolean b) { int x = 2; int y = x * x; while (b) { } } }",
         0,
-        &["less s0.0 s2 -1; less s0.0 s3 -1; less s2 s3 -1; low s0.0 0; low s2 1; low s3 1; rng s0.0 0 0; rng s2 2 2; rng s3 4 4"],
+        &[
+            "less s0.0 s2 -1; less s0.0 s3 -1; less s2 s3 -1; low s0.0 0; low s2 1; low s3 1; rng s0.0 0 0; rng s2 2 2; rng s3 4 4",
+        ],
     ),
     (
         "class A { @IntRange(from = 4, to = 4) int g; void f(boolean b) { int x = 2; int y = x * x; while (b) { } } }",
@@ -206,7 +225,9 @@ const ROWS: &[Row] = &[
     (
         "class P { @IntRange(from = 4, to = 4) int g; P() { g = 4; } } class A extends P { A(boolean b) { super(); int x = 2; int y = x * x; while (b) { } } }",
         1,
-        &["less s0.0 s3 1; less s2 s0.0 -1; less s2 s3 -1; less s3 s0.0 1; low s0.0 1; low s2 1; low s3 1; rng s0.0 4 4; rng s2 2 2; rng s3 4 4"],
+        &[
+            "less s0.0 s3 1; less s2 s0.0 -1; less s2 s3 -1; less s3 s0.0 1; low s0.0 1; low s2 1; low s3 1; rng s0.0 4 4; rng s2 2 2; rng s3 4 4",
+        ],
     ),
     (
         "class A { boolean g; A h; A(boolean b) { while (b) { } } }",

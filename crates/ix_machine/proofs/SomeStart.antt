@@ -30,16 +30,19 @@ Read types words = ((inputs : List Input) × AreValues types words inputs) ⊎ (
 one_more : (ty : Type_) (types : List Type_) (word : List ℕ) (words : List (List ℕ)) (input : Input) → IsValueOf ty word input → Read types words → Read (ty ∷ types) (word ∷ words)
 one_more ty types word words input is (inl r) = inl (input ∷ r.0, (is, r.1))
 one_more ty types word words input is (inr r) =
-    inr (suc r.0, record {
-      before = input ∷ r.1.before;
-      ty = r.1.ty;
-      word = r.1.word;
-      values = (is, r.1.values);
-      ty_at = r.1.ty_at;
-      word_at = r.1.word_at;
-      none = r.1.none;
-      counted = omega (arith, r.1.counted);
-    })
+    inr (
+      suc r.0,
+      record {
+        before = input ∷ r.1.before;
+        ty = r.1.ty;
+        word = r.1.word;
+        values = (is, r.1.values);
+        ty_at = r.1.ty_at;
+        word_at = r.1.word_at;
+        none = r.1.none;
+        counted = omega (arith, r.1.counted);
+      },
+    )
 
 read : (types : List Type_) (words : List (List ℕ)) → length words ≡ length types → Is (Read types words)
 read [] [] same never = never (inl ([], tt))
