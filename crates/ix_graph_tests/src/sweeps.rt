@@ -126,7 +126,8 @@ pub fn is_in_order(alloc: Global, graph: &Graph<'_>) -> Result<bool, AllocError>
         return Ok(false);
     }
     for node in 0..size {
-        if places[node] == size || !stands_behind(node, &graph.nodes[node], places.as_slice()) {
+        let has_place = places.get(node).is_some_and(|place| *place < size);
+        if !has_place || !stands_behind(node, &graph.nodes[node], places.as_slice()) {
             return Ok(false);
         }
     }
