@@ -10,23 +10,18 @@ use Rattle.ix_facts.specs.Bounds.{best, best_of}
 use Rattle.ix_facts.specs.Exact.{least_at}
 use Rattle.ix_facts.specs.Named.{IsAmongPaths, IsEachOnce}
 use Rattle.ix_facts.specs.SameFacts.{HasAll, AreSame}
+use Rattle.ix_exact.specs.BestLaws.{min_joined, max_joined}
 
 pub record Better (better : ℤ → ℤ → ℤ) : Type 0 where
   pub joined : (x y z : ℤ) → better (better x y) z ≡ better x (better y z)
   pub turned : (x y : ℤ) → better x y ≡ better y x
   pub twice : (x : ℤ) → better x x ≡ x
 
-min_joined : (x y z : ℤ) → int_min (int_min x y) z ≡ int_min x (int_min y z)
-min_joined x y z = omega (arith, ints, clamps)
-
 min_turned : (x y : ℤ) → int_min x y ≡ int_min y x
 min_turned x y = omega (arith, ints, clamps)
 
 min_twice : (x : ℤ) → int_min x x ≡ x
 min_twice x = omega (arith, ints, clamps)
-
-max_joined : (x y z : ℤ) → int_max (int_max x y) z ≡ int_max x (int_max y z)
-max_joined x y z = omega (arith, ints, clamps)
 
 max_turned : (x y : ℤ) → int_max x y ≡ int_max y x
 max_turned x y = omega (arith, ints, clamps)

@@ -1,7 +1,6 @@
 -- Which path each rule reads: it gives nothing of a fact that does not name it.
-use Rattle.std.specs.Prelude.{◌≡◌, Bool, true, false, ◌&&◌, ◌||◌, ℤ, pos, ◌-ℤ◌, List, [], ◌∷◌, ◌++◌, Some, refl}
-use Rattle.std.proofs.Common.{ap, sym, ◌∙◌, subst}
-use Rattle.std.proofs.lemmas.Bool.{false≢true}
+use Rattle.std.specs.Prelude.{◌≡◌, false, ◌&&◌, ◌||◌, ℤ, pos, ◌-ℤ◌, List, [], ◌∷◌, ◌++◌, Some, refl}
+use Rattle.std.proofs.Common.{ap, ◌∙◌}
 use Rattle.ix_core.specs.declared.fact.Path.{Path}
 use Rattle.ix_core.specs.declared.fact.PathOff.TheVariants.{Nothing, Plus, Minus}
 use Rattle.ix_core.specs.declared.fact.Fact.{Fact}
@@ -9,29 +8,10 @@ use Rattle.ix_core.specs.declared.fact.Fact.TheVariants.{Rng, LenRng, Low, Same,
 use Rattle.ix_facts.specs.Bounds
 use Rattle.ix_facts.specs.Bounds.{is_path, when}
 use Rattle.ix_facts.specs.Exact.{if_so, difference_limit_by}
-use Rattle.ix_facts.specs.PathOrder.{path_itself, path_same}
 use Rattle.ix_facts.specs.AfterOperation as after
 use Rattle.ix_facts.specs.Finish as rule
 use Rattle.ix_index.specs.OnPaths.{ReadsOnly, LooksOnly}
-
-by_test : {G : Type 0} (t : Bool) → (t ≡ true → G) → (t ≡ false → G) → G
-by_test true first second = first refl
-by_test false first second = second refl
-
-off : (p q : Path) → is_path p q ≡ false → is_path q p ≡ false
-off p q n =
-    by_test (is_path q p) (λ t. absurd (false≢true (sym n ∙ subst (λ r. is_path r q ≡ true) (path_same q p t) (path_itself q)))) (λ t. t)
-
-not_first : (x y : Bool) → (x || y) ≡ false → x ≡ false
-not_first true y n = n
-not_first false y n = refl
-
-not_second : (x y : Bool) → (x || y) ≡ false → y ≡ false
-not_second true y n = absurd (false≢true (sym n))
-not_second false y n = n
-
-none_if : (t : Bool) (facts : List Fact) → t ≡ false → if_so t facts ≡ []
-none_if t facts n = ap (λ b. if_so b facts) n
+use Rattle.ix_facts.proofs.Tests.{off, not_first, not_second, none_if}
 
 -- ---- operations
 

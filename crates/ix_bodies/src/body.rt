@@ -2,7 +2,9 @@
 
 ghost use Rattle.std.specs.Prelude.{◌≡◌, ◌++◌, ◌+◌, ◌<◌, ◌^◌, OnOk, map};
 ghost use Rattle.ix_meaning.specs.Bodies as spec;
+ghost use Rattle.ix_meaning.specs.Declarators as declared;
 ghost use Rattle.ix_meaning.specs.Rules as rules;
+ghost use Rattle.ix_written.specs.Begun.{Begins};
 ghost use Rattle.ix_values.specs.Here.{here, Extends};
 
 use crate::locals::declare;
@@ -12,6 +14,7 @@ use ix_tree::{Expr, LocalDecl, Stmt, StmtKind};
 use ix_types::{BOOLEAN, Need};
 use ix_values::{Scopes, check, value, wrong, wrong_if};
 use ix_world::World;
+use ix_written::{Begun, begin_with, further_annotations, own_annotations};
 use std::alloc::{AllocError, Global};
 
 fn condition(
@@ -92,6 +95,62 @@ fn returned(
     }
 }
 
+/// The declarators behind the first of a declaration.
+#[tactic(auto, using(crate::proofs::Prefix::extends))]
+fn declare_further<'a>(
+    alloc: Global,
+    world: &World,
+    scopes: &mut Scopes<'a>,
+    notes: &mut List<Note>,
+    first: &'a LocalDecl,
+    decls: &'a [LocalDecl],
+) -> Result<(), AllocError>
+    requires { scopes.old.next + (spec.all_declared (map (declared.further first.now) decls.now)).declares < 2 ^ 32 }
+    ensures notes { OnOk result (notes.new ≡ notes.old ++ (spec.all_declared (map (declared.further first.now) decls.now)).notes (here world.now scopes.old)) }
+    ensures scope { OnOk result (here world.now scopes.new ≡ spec.after (spec.all_declared (map (declared.further first.now) decls.now)) (here world.now scopes.old)) }
+    ensures keeps { OnOk result (Extends scopes.old scopes.new) }
+{
+    let begun = begin_with(alloc, first)?;
+    for decl in decls {
+        declare_one_more(alloc, world, scopes, notes, &begun, decl)?;
+    }
+    Ok(())
+}
+
+fn declare_one_more<'a>(
+    alloc: Global,
+    world: &World,
+    scopes: &mut Scopes<'a>,
+    notes: &mut List<Note>,
+    begun: &Begun<'_>,
+    decl: &'a LocalDecl,
+) -> Result<(), AllocError>
+    requires begins { Begins begun.now }
+    requires room { scopes.old.next + 1 < 2 ^ 32 }
+    ensures notes { OnOk result (notes.new ≡ notes.old ++ (spec.declared (declared.further begun.now.first.now decl.now)).notes (here world.now scopes.old)) }
+    ensures scope { OnOk result (here world.now scopes.new ≡ spec.after (spec.declared (declared.further begun.now.first.now decl.now)) (here world.now scopes.old)) }
+    ensures keeps { OnOk result (Extends scopes.old scopes.new) }
+{
+    let own = further_annotations(alloc, begun, decl)?;
+    declare(alloc, world, scopes, notes, &own, decl)
+}
+
+fn declare_first<'a>(
+    alloc: Global,
+    world: &World,
+    scopes: &mut Scopes<'a>,
+    notes: &mut List<Note>,
+    decl: &'a LocalDecl,
+) -> Result<(), AllocError>
+    requires { scopes.old.next + 1 < 2 ^ 32 }
+    ensures notes { OnOk result (notes.new ≡ notes.old ++ (spec.declared decl.now).notes (here world.now scopes.old)) }
+    ensures scope { OnOk result (here world.now scopes.new ≡ spec.after (spec.declared decl.now) (here world.now scopes.old)) }
+    ensures keeps { OnOk result (Extends scopes.old scopes.new) }
+{
+    let own = own_annotations(alloc, decl)?;
+    declare(alloc, world, scopes, notes, &own, decl)
+}
+
 #[tactic(auto, using(crate::proofs::Prefix::extends))]
 fn declare_all<'a>(
     alloc: Global,
@@ -100,15 +159,18 @@ fn declare_all<'a>(
     notes: &mut List<Note>,
     decls: &'a [LocalDecl],
 ) -> Result<(), AllocError>
-    requires { scopes.old.next + (spec.all_declared decls.now).declares < 2 ^ 32 }
-    ensures notes { OnOk result (notes.new ≡ notes.old ++ (spec.all_declared decls.now).notes (here world.now scopes.old)) }
-    ensures scope { OnOk result (here world.now scopes.new ≡ spec.after (spec.all_declared decls.now) (here world.now scopes.old)) }
+    requires { scopes.old.next + (spec.all_declared (declared.declarators decls.now)).declares < 2 ^ 32 }
+    ensures notes { OnOk result (notes.new ≡ notes.old ++ (spec.all_declared (declared.declarators decls.now)).notes (here world.now scopes.old)) }
+    ensures scope { OnOk result (here world.now scopes.new ≡ spec.after (spec.all_declared (declared.declarators decls.now)) (here world.now scopes.old)) }
     ensures keeps { OnOk result (Extends scopes.old scopes.new) }
 {
-    for decl in decls {
-        declare(alloc, world, scopes, notes, decl)?;
+    match decls {
+        [] => Ok(()),
+        [first, rest @ ..] => {
+            declare_first(alloc, world, scopes, notes, first)?;
+            declare_further(alloc, world, scopes, notes, first, rest)
+        }
     }
-    Ok(())
 }
 
 /// Notes a statement, and leaves the scope that stands behind it.

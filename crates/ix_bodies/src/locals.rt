@@ -5,6 +5,7 @@ ghost use Rattle.ix_meaning.specs.Bodies as spec;
 ghost use Rattle.ix_meaning.specs.Scope.{meant};
 ghost use Rattle.indexmap.specs.IndexMap.{get_by_text};
 ghost use Rattle.ix_bodies.specs.Added.{AddsLast};
+ghost use Rattle.ix_written.specs.Begun.{annotated};
 ghost use Rattle.ix_values.specs.Here.{here, names, local_known_as, Extends};
 
 use indexmap::IndexMap;
@@ -14,7 +15,7 @@ use ix_text::List;
 use ix_tree::{Init, LocalDecl};
 use ix_values::{InAnnotation, Local, Scopes, fill, note_declared, wrong_if};
 use ix_world::World;
-use ix_written::{Declaration, Part, variable};
+use ix_written::{Annotations, Declaration, variable};
 use std::alloc::{AllocError, Global};
 
 /// What fills a variable of that type.
@@ -39,11 +40,12 @@ fn local_declaration(
     world: &World,
     scopes: &Scopes<'_>,
     notes: &mut List<Note>,
+    own: &Annotations<'_>,
     decl: &LocalDecl,
 ) -> Result<Declaration, AllocError>
-    ensures ty { IfOk result (λ d. d.ty ≡ (spec.local_declaration decl.now (here world.now scopes.now)).ty) }
-    ensures claims { IfOk result (λ d. d.claims ≡ (spec.local_declaration decl.now (here world.now scopes.now)).claims) }
-    ensures notes { OnOk result (notes.new ≡ notes.old ++ (spec.local_declaration decl.now (here world.now scopes.now)).notes) }
+    ensures ty { IfOk result (λ d. d.ty ≡ (spec.local_declaration (annotated own.now decl.now) (here world.now scopes.now)).ty) }
+    ensures claims { IfOk result (λ d. d.claims ≡ (spec.local_declaration (annotated own.now decl.now) (here world.now scopes.now)).claims) }
+    ensures notes { OnOk result (notes.new ≡ notes.old ++ (spec.local_declaration (annotated own.now decl.now) (here world.now scopes.now)).notes) }
 {
     let names = InAnnotation {
         world,
@@ -51,14 +53,13 @@ fn local_declaration(
         own: Some(Name::Local(scopes.next)),
         own_local: Some(decl.name.text.as_str()),
     };
-    let before = decl.mods.get().annots.as_slice();
     variable(
         alloc,
         &world.table,
         notes,
         &names,
-        Part::All,
-        before,
+        own.before.as_slice(),
+        own.behind.as_slice(),
         decl.ty.get(),
     )
 }
@@ -98,20 +99,21 @@ fn bind(alloc: Global, scopes: &mut Scopes<'_>, name: &str, local: Local) -> Res
     insert(alloc, &mut scopes.locals, name, local)
 }
 
-/// A declarator: its type, its claims, its initialiser, and then its name in scope.
+/// A declarator with its annotations: its type, its claims, its initialiser, and then its name in scope.
 pub fn declare<'a>(
     alloc: Global,
     world: &World,
     scopes: &mut Scopes<'a>,
     notes: &mut List<Note>,
+    own: &Annotations<'_>,
     decl: &'a LocalDecl,
 ) -> Result<(), AllocError>
     requires { scopes.old.next + 1 < 2 ^ 32 }
-    ensures notes { OnOk result (notes.new ≡ notes.old ++ (spec.declared decl.now).notes (here world.now scopes.old)) }
-    ensures scope { OnOk result (here world.now scopes.new ≡ spec.after (spec.declared decl.now) (here world.now scopes.old)) }
+    ensures notes { OnOk result (notes.new ≡ notes.old ++ (spec.declared (annotated own.now decl.now)).notes (here world.now scopes.old)) }
+    ensures scope { OnOk result (here world.now scopes.new ≡ spec.after (spec.declared (annotated own.now decl.now)) (here world.now scopes.old)) }
     ensures keeps { OnOk result (Extends scopes.old scopes.new) }
 {
-    let Declaration { ty, claims } = local_declaration(alloc, world, scopes, notes, decl)?;
+    let Declaration { ty, claims } = local_declaration(alloc, world, scopes, notes, own, decl)?;
     let name = decl.name.text.as_str();
     let span = decl.name.span;
     wrong_if(

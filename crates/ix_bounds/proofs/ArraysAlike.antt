@@ -16,20 +16,10 @@ use Rattle.ix_index.specs.Forget.{names}
 use Rattle.ix_index.specs.PathOrder.{path_itself, path_same}
 use Rattle.ix_index.proofs.FactLists.{in_left, in_right, in_either}
 use Rattle.ix_index.specs.OnPaths.{HasNamed}
+use Rattle.ix_core.proofs.Cases.{by_test}
+use Rattle.ix_facts.proofs.Tests.{or_first, or_second}
 use Rattle.ix_bounds.specs.OnArrays.{alike_on}
 use Rattle.ix_bounds.proofs.BestOfParts.{joined, Counts, same_greatest, greatest_of_both}
-
-by_test : {G : Type 0} (t : Bool) → (t ≡ true → G) → (t ≡ false → G) → G
-by_test true first second = first refl
-by_test false first second = second refl
-
-or_first : (x y : Bool) → x ≡ true → (x || y) ≡ true
-or_first true y t = refl
-or_first false y t = absurd (false≢true t)
-
-or_second : (x y : Bool) → y ≡ true → (x || y) ≡ true
-or_second true y t = refl
-or_second false y t = t
 
 -- ---- facts that name a path are on it
 

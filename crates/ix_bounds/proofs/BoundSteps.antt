@@ -27,13 +27,13 @@ module _ (facts : List Fact) (p : Path) (fact : Fact) where
   less_of_length q r a n e t i = subst (λ f. n ≡ Bounds.stored_less_by facts p q f) (sym e) (i ∙ ap (λ x. when x (option_map (λ c. pos 0 -ℤ c) (Bounds.stored_upper facts p a Nothing))) (sym t))
 
 -- the ends of ranges are small in each order of a fact
-one_small : (f : Fact) → HasSmallNumbers f → All HasSmallNumbers (f ∷ [])
+pub one_small : (f : Fact) → HasSmallNumbers f → All HasSmallNumbers (f ∷ [])
 one_small f s = All-cons HasSmallNumbers f [] s (All-nil HasSmallNumbers)
 
-two_small : (f g : Fact) → HasSmallNumbers f → HasSmallNumbers g → All HasSmallNumbers (f ∷ g ∷ [])
+pub two_small : (f g : Fact) → HasSmallNumbers f → HasSmallNumbers g → All HasSmallNumbers (f ∷ g ∷ [])
 two_small f g s t = All-cons HasSmallNumbers f (g ∷ []) s (one_small g t)
 
-orders_small : (f : Fact) → HasSmallNumbers f → All HasSmallNumbers (orders f)
+pub orders_small : (f : Fact) → HasSmallNumbers f → All HasSmallNumbers (orders f)
 orders_small (Same a b) s = two_small (Same a b) (Same b a) tt tt
 orders_small (Sum t y z) s = two_small (Sum t y z) (Sum t z y) tt tt
 orders_small (Upper p a (Plus q) c) s = two_small (Upper p a (Plus q) c) (Upper q a (Plus p) c) tt tt

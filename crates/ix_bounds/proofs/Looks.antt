@@ -1,34 +1,18 @@
 -- Which path each bound looks at: a fact that does not name it gives no number, and is no answer to a question.
-use Rattle.std.specs.Prelude.{◌≡◌, Bool, true, false, ◌||◌, ◌&&◌, ℤ, Option, None, List, [], ◌∷◌, filter, refl}
-use Rattle.std.proofs.Common.{ap, sym, ◌∙◌, subst}
-use Rattle.std.proofs.lemmas.Bool.{false≢true}
+use Rattle.std.specs.Prelude.{◌≡◌, Bool, true, false, ◌||◌, ◌&&◌, List, [], ◌∷◌, filter, refl}
+use Rattle.std.proofs.Common.{ap, sym, ◌∙◌}
 use Rattle.ix_core.specs.declared.fact.Path.{Path}
 use Rattle.ix_core.specs.declared.fact.PathOff.{PathOff}
 use Rattle.ix_core.specs.declared.fact.PathOff.TheVariants.{Nothing, Plus, Minus}
 use Rattle.ix_core.specs.declared.fact.Fact.{Fact}
 use Rattle.ix_core.specs.declared.fact.Fact.TheVariants.{Rng, LenRng, Low, Same, IsLen, Less, Sum, Search, Neg, Upper}
 use Rattle.ix_index.specs.Bounds
-use Rattle.ix_index.specs.Bounds.{is_path, is_offset, when, says_same, stored_same, length_low_by, length_high_by, range_low_by, range_high_by, fact_less_by}
+use Rattle.ix_index.specs.Bounds.{is_path, is_offset, says_same, stored_same, length_low_by, length_high_by, range_low_by, range_high_by, fact_less_by}
 use Rattle.ix_index.specs.Assume.{has, is_length, is_search, is_negative}
 use Rattle.ix_index.specs.Forget.{names}
-use Rattle.ix_index.specs.PathOrder.{path_itself, path_same}
 use Rattle.ix_index.specs.OnPaths.{LooksOnly, HasNamed}
-
-by_test : {G : Type 0} (t : Bool) → (t ≡ true → G) → (t ≡ false → G) → G
-by_test true first second = first refl
-by_test false first second = second refl
-
-off : (p q : Path) → is_path p q ≡ false → is_path q p ≡ false
-off p q n =
-    by_test (is_path q p) (λ t. absurd (false≢true (sym n ∙ subst (λ r. is_path r q ≡ true) (path_same q p t) (path_itself q)))) (λ t. t)
-
-not_first : (x y : Bool) → (x || y) ≡ false → x ≡ false
-not_first true y n = n
-not_first false y n = refl
-
-not_second : (x y : Bool) → (x || y) ≡ false → y ≡ false
-not_second true y n = absurd (false≢true (sym n))
-not_second false y n = n
+use Rattle.ix_core.proofs.Cases.{by_test}
+use Rattle.ix_facts.proofs.Tests.{off, not_first, not_second, no_number}
 
 both_first : (x y : Bool) → x ≡ false → (x && y) ≡ false
 both_first x y n = ap (λ b. b && y) n
@@ -36,9 +20,6 @@ both_first x y n = ap (λ b. b && y) n
 both_second : (x y : Bool) → y ≡ false → (x && y) ≡ false
 both_second true y n = n
 both_second false y n = refl
-
-no_number : (t : Bool) (number : Option ℤ) → t ≡ false → when t number ≡ None
-no_number t number n = ap (λ b. when b number) n
 
 -- A fact that does not name the path is no answer to the question.
 abbrev pub AsksOnly : Path → (Fact → Bool) → Type 0

@@ -10,14 +10,11 @@ use Rattle.ix_core.specs.declared.fact.Fact.TheVariants.{Rng, LenRng, Low, Same,
 use Rattle.ix_index.specs.Bounds
 use Rattle.ix_index.specs.Bounds.{at_least, at_most, greatest, least, best, best_of, length_low_by, length_high_by, range_low_by, range_high_by, fact_less_by}
 use Rattle.ix_index.specs.OnPaths.{HasNamed, best_on}
+use Rattle.ix_core.proofs.Cases.{by_test}
 use Rattle.ix_bounds.specs.Ends.{is_end, ends_in}
 use Rattle.ix_bounds.specs.Links.{is_link, links_in}
 use Rattle.ix_bounds.proofs.Looks.{looks_lower, looks_stored_less, looks_fact_less}
 use Rattle.ix_bounds.proofs.OnPath.{length_low_is, length_high_is, range_low_is, range_high_is}
-
-by_test : {G : Type 0} (t : Bool) → (t ≡ true → G) → (t ≡ false → G) → G
-by_test true first second = first refl
-by_test false first second = second refl
 
 -- A fact that is none of these gives no number.
 abbrev LooksAt : (Fact → Bool) → (Fact → Option ℤ) → Type 0

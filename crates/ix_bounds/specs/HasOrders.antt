@@ -1,5 +1,5 @@
 -- Whether facts have a length or an answer of a search does not hang on the orders in which they are read.
-use Rattle.std.specs.Prelude.{◌≡◌, Bool, true, false, ◌&&◌, ◌||◌, List, [], ◌∷◌, refl}
+use Rattle.std.specs.Prelude.{◌≡◌, ◌&&◌, ◌||◌, List, [], ◌∷◌, refl}
 use Rattle.std.proofs.Common.{ap}
 use Rattle.ix_core.specs.declared.fact.Path.{Path}
 use Rattle.ix_core.specs.declared.fact.PathOff.TheVariants.{Nothing, Plus, Minus}
@@ -8,10 +8,7 @@ use Rattle.ix_core.specs.declared.fact.Fact.TheVariants.{Rng, LenRng, Low, Same,
 use Rattle.ix_index.specs.Bounds.{is_path}
 use Rattle.ix_index.specs.Facts.{is_default, in_orders}
 use Rattle.ix_index.specs.Assume.{has, is_length, is_search, is_negative}
-
-by_test : {G : Type 0} (t : Bool) → (t ≡ true → G) → (t ≡ false → G) → G
-by_test true first second = first refl
-by_test false first second = second refl
+use Rattle.ix_core.proofs.Cases.{by_test}
 
 pub search_in_orders : (p a : Path) (facts : List Fact) → has (is_search p a) (in_orders facts) ≡ has (is_search p a) facts
 search_in_orders p a [] = refl

@@ -22,12 +22,13 @@ use Rattle.ix_facts.proofs.ClosureLaws.{said_follows}
 use Rattle.ix_facts.proofs.FactLists.{in_left, in_right, in_either, from_in_orders}
 use Rattle.ix_facts.proofs.SaidLaws.{said_itself, said_weaker, in_each, from_each}
 use Rattle.ix_facts.proofs.SystemLaws.{default_merges, in_orders_merges}
-use Rattle.ix_facts.proofs.Tests.{by_test}
+use Rattle.ix_core.proofs.Cases.{by_test}
+use Rattle.ix_fact_table.proofs.OneKind.{from_kind}
 use Rattle.ix_closure.specs.Saturated.{IsSaturated, negative_of, class_of}
 use Rattle.ix_closure.specs.Beside.{is_plain, are_plain, is_range_of, has_range, new_class_of, beside, AreBeside}
 use Rattle.ix_closure.proofs.ClassesOfInts.{negative_class, class_class}
 use Rattle.ix_closure.proofs.OverLabels.{three}
-use Rattle.ix_closure.proofs.Members.{in_kind, from_kind, if_true, so_in, merges_more}
+use Rattle.ix_closure.proofs.Members.{in_kind, if_true, so_in, merges_more}
 use Rattle.ix_closure.proofs.RangesMet.{IsBelowZero, range_stored, low_stored, follows_range, follows_negative, follows_class}
 
 -- ---- new facts

@@ -1,5 +1,5 @@
 -- The high end of an int's ranges is at most that of each stored one, and where it is below 0 it is that of one.
-use Rattle.std.specs.Prelude.{◌≡◌, ◌⊎◌, Bool, true, false, ℤ, negsuc, ◌≤ℤ◌, int_le, Option, Some, None, List, [], ◌∷◌, refl}
+use Rattle.std.specs.Prelude.{◌≡◌, ◌⊎◌, ℤ, negsuc, ◌≤ℤ◌, int_le, Option, Some, None, List, [], ◌∷◌, refl}
 use Rattle.std.specs.Int.{int_min}
 use Rattle.std.proofs.Common.{arith, inl, inr, ap, sym, ◌∙◌, subst, ⊎_elim}
 use Rattle.std.proofs.lemmas.Int.{ints, clamps}
@@ -10,10 +10,7 @@ use Rattle.ix_core.specs.declared.fact.Fact.TheVariants.{Rng, LenRng, Low, Same,
 use Rattle.ix_facts.specs.Bounds.{is_path, at_most, least, best, range_high, range_high_by}
 use Rattle.ix_facts.specs.Facts.{IsIn}
 use Rattle.ix_facts.specs.PathOrder.{path_itself, path_same}
-
-by_test : {G : Type 0} (t : Bool) → (t ≡ true → G) → (t ≡ false → G) → G
-by_test true first second = first refl
-by_test false first second = second refl
+use Rattle.ix_core.proofs.Cases.{by_test}
 
 best_left : (n : ℤ) (x rest : Option ℤ) (h k : ℤ) → x ≡ Some h → h ≤ℤ k → at_most n (best int_min x rest) ≤ℤ k
 best_left n x None h k e le = subst (λ y. at_most n (best int_min y None) ≤ℤ k) (sym e) (omega (arith, ints, clamps, le))

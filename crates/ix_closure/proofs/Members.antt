@@ -16,12 +16,9 @@ use Rattle.ix_facts.specs.PathOrder.{path_itself, path_same}
 use Rattle.ix_facts.specs.Systems.{Merges}
 use Rattle.ix_facts.specs.Systems as merges
 use Rattle.ix_facts.proofs.FactLists.{in_left, in_right, in_either}
+use Rattle.ix_core.proofs.Cases.{by_test}
 use Rattle.ix_closure.specs.Classes.{Roots, root_of}
 use Rattle.ix_closure.specs.Saturated.{of_class}
-
-by_test : {G : Type 0} (t : Bool) → (t ≡ true → G) → (t ≡ false → G) → G
-by_test true first second = first refl
-by_test false first second = second refl
 
 -- ---- members of lists that go over paths
 
@@ -51,11 +48,6 @@ in_kind own f (g ∷ facts) i t =
     by_test (is_of own g)
     (λ u. rw u (⊎_elim (λ e. inl e) (λ j. inr (in_kind own f facts j t)) i))
     (λ u. rw u (⊎_elim (λ e. absurd (false≢true (sym u ∙ subst (λ h. is_of own h ≡ true) e t))) (λ j. in_kind own f facts j t) i))
-
-pub from_kind : (own : Kind) (f : Fact) (facts : List Fact) → IsIn f (of_kind own facts) → IsIn f facts
-from_kind own f [] i = absurd i
-from_kind own f (g ∷ facts) i =
-    by_test (is_of own g) (λ t. ⊎_elim (λ e. inl e) (λ j. inr (from_kind own f facts j)) (rw t at i)) (λ t. inr (from_kind own f facts (rw t at i)))
 
 -- ---- what is merged of some facts is merged of more
 

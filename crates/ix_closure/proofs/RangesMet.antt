@@ -16,9 +16,10 @@ use Rattle.ix_facts.specs.Kinds.{of_kind}
 use Rattle.ix_facts.specs.Systems.{Merges, IsTable}
 use Rattle.ix_facts.specs.Systems as merges
 use Rattle.ix_facts.proofs.FactLists.{from_in_orders}
-use Rattle.ix_facts.proofs.Tests.{by_test}
+use Rattle.ix_core.proofs.Cases.{by_test}
+use Rattle.ix_fact_table.proofs.OneKind.{from_kind}
 use Rattle.ix_closure.specs.Saturated.{negative_of, class_of}
-use Rattle.ix_closure.proofs.Members.{from_kind, if_true}
+use Rattle.ix_closure.proofs.Members.{if_true}
 use Rattle.ix_closure.proofs.HighEnds.{high_below, stored_high}
 
 -- what is merged of facts that follow follows

@@ -19,9 +19,10 @@ use Rattle.ix_facts.specs.Systems.{Merges, IsTable}
 use Rattle.ix_facts.specs.Systems as merges
 use Rattle.ix_facts.proofs.FactLists.{in_left, in_right}
 use Rattle.ix_facts.proofs.SaidLaws.{in_each}
+use Rattle.ix_fact_table.proofs.OneKind.{from_kind}
 use Rattle.ix_closure.specs.Classes.{Roots, root_of, AreClasses}
 use Rattle.ix_closure.specs.Saturated.{AreListed, of_class, pairs, along, search_of, negative_of, class_of, alike, searched, saturated}
-use Rattle.ix_closure.proofs.Members.{in_class, in_kind, from_kind, in_path, so_in, merges_more}
+use Rattle.ix_closure.proofs.Members.{in_class, in_kind, in_path, so_in, merges_more}
 use Rattle.ix_closure.proofs.RangesMet.{IsBelowZero, range_stored, low_stored}
 
 module _ (facts : List Fact) (roots : Roots) (listed : List Path) (ranges : List Fact) (classes : AreClasses facts roots) (lists : AreListed facts listed) (table : IsTable (of_kind kind.Range facts) ranges) where

@@ -18,7 +18,7 @@ use Rattle.ix_core.specs.Formed.{Formed, is_formed}
 use Rattle.ix_core.proofs.Programs.{span, int, boolean, int_array, block, does, does_with, arg, calls, test, param, static_method, instance_method, constructor_of, field, class_of, program}
 
 -- no types of locals for two methods without locals
-never : (broken : Program) → is_formed broken [] ≡ false → ((all : _) → is_formed broken ([] ∷ all) ≡ false) → ((ty : Type_) (types : List Type_) (all : _) → is_formed broken ((ty ∷ types) ∷ all) ≡ false) → Formed broken → ⊥
+pub never : (broken : Program) → is_formed broken [] ≡ false → ((all : _) → is_formed broken ([] ∷ all) ≡ false) → ((ty : Type_) (types : List Type_) (all : _) → is_formed broken ((ty ∷ types) ∷ all) ≡ false) → Formed broken → ⊥
 never broken none some other ([], formed) = false≢true (sym none ∙ formed)
 never broken none some other ([] ∷ all, formed) = false≢true (sym (some all) ∙ formed)
 never broken none some other ((ty ∷ types) ∷ all, formed) = false≢true (sym (other ty types all) ∙ formed)

@@ -23,12 +23,13 @@ use Rattle.ix_core.specs.declared.program.Method.{Method}
 use Rattle.ix_core.specs.Heap.{Held, Num, Boolean, Null, At, Object, Heap, Kind, ObjectOf, ArrayOf, nothing, value_at, object_at, array_at, array_cells, Places, place_in, cell_of, int_of, default_of_base, cell_default, cells_used, is_within, with_cells, write_at}
 use Rattle.ix_core.specs.Machine.{Limits, HeapFull, Effect, Done, Wrapped, Stopped, is_past, is_int, int_at, unary_of, assign_int, assign_result, through, at_place, allocate, new_array, operate, slots_with}
 use Rattle.ix_core.specs.Numbers.{HasInts, field_of, held_at}
-use Rattle.ix_core.specs.Objects.{IsOn, AllOn, IsIntHeld, KeepsInts, IntsOnly, IsFree, HeapKeeps, FrameKeeps}
+use Rattle.ix_core.specs.Objects.{IsOn, AllOn, IsIntHeld, KeepsInts, IntsOnly, HeapKeeps, FrameKeeps}
 use Rattle.ix_core.specs.Safe.{Input, Whole, Flag, Ints, AreInts, HaveTypes, input_values, input_heap}
 use Rattle.ix_core.specs.Tables.{Tables}
 use Rattle.ix_core.specs.World.{World}
 use Rattle.ix_core.proofs.Cases.{by_test, equal, differ}
 use Rattle.ix_core.proofs.Heaps.{value_is, object_is, set_keeps, grown_old, grown_new, object_set, object_other, cells_length}
+use Rattle.ix_core.proofs.Entered.{free_on}
 
 pub int_is : (n : ℤ) → is_int n ≡ true → IsInt n
 int_is n e =
@@ -38,12 +39,6 @@ int_is n e =
     record { from = omega (arith, ints, a, b); to = omega (arith, ints, a, b) }
 
 -- ---- no reference to nowhere
-
-free_on : (building : ℕ → Type 0) (heap : Heap) (held : Held) → IsFree building heap held → IsOn heap held
-free_on building heap (At number) free = free.0
-free_on building heap (Num n) free = tt
-free_on building heap (Boolean answer) free = tt
-free_on building heap Null free = tt
 
 this_on : (heap : Heap) (held : Held) → ((object : ℕ) → held ≡ At object → object < length heap) → IsOn heap held
 this_on heap (At number) on = on number refl

@@ -37,9 +37,5 @@ mod CallRows
 mod ObjectRows
 mod Unsafe
 mod FormedRows
-mod BrokenRows
+pub mod BrokenRows
 mod InputRows
--- Passed on from ix_num.
-pub use Rattle.ix_num.proofs.BitsWithinBounds
-pub use Rattle.ix_num.proofs.Members
-pub use Rattle.ix_num.proofs.OpRangeLaws

@@ -10,7 +10,7 @@ use Rattle.ix_core.proofs.Heaps.{value_other}
 use Rattle.ix_core.proofs.Stack.{free_set}
 use Rattle.ix_core.proofs.Waiting.{later_refl}
 
-some_number : (a b : ℕ) → ◌≡◌ {A = Option ℕ} (Some a) (Some b) → a ≡ b
+pub some_number : (a b : ℕ) → ◌≡◌ {A = Option ℕ} (Some a) (Some b) → a ≡ b
 some_number a b e = ap (λ (o : Option ℕ). unwrap_or o 0) e
 
 module _ (world : World) (building : ℕ → Type 0) (method : Method) (slots : List Held) (heap : Heap) (keeps : HeapKeeps world building heap) (frame : FrameKeeps building method slots heap) where

@@ -37,12 +37,12 @@ use Rattle.ix_core.proofs.Cases.{by_test, equal, differ}
 
 -- ---- claims, where the numbers that they name are the same
 
-offset_named : (o : _) (f g : Name → Reading) → ((name : Name) (at : ℕ) → slice_get (offset_names o) at ≡ Some name → f name ≡ g name) → offset_of f o ≡ offset_of g o
+pub offset_named : (o : _) (f g : Name → Reading) → ((name : Name) (at : ℕ) → slice_get (offset_names o) at ≡ Some name → f name ≡ g name) → offset_of f o ≡ offset_of g o
 offset_named off.Nothing f g same = refl
 offset_named (off.Plus name) f g same = ap (λ (r : Reading). r.int) (same name 0 refl)
 offset_named (off.Minus name) f g same = let e = ap (λ (r : Reading). r.int) (same name 0 refl) in omega (arith, ints)
 
-claim_named : (claim : Claim) (v : Reading) (f g : Name → Reading) → ((name : Name) (at : ℕ) → slice_get (claim_names claim) at ≡ Some name → f name ≡ g name) → True claim v f → True claim v g
+pub claim_named : (claim : Claim) (v : Reading) (f g : Name → Reading) → ((name : Name) (at : ℕ) → slice_get (claim_names claim) at ≡ Some name → f name ≡ g name) → True claim v f → True claim v g
 claim_named (Range low high) v f g same is = is
 claim_named (Low low) v f g same is = is
 claim_named (Length least) v f g same is = is
@@ -147,7 +147,7 @@ ints_set slots heap (Some t) (Some x) int ints_ = record { held = set_keeps IsIn
 true_not_false : true ≡ false → ⊥
 true_not_false e = false≢true (sym e)
 
-some_same : (a b : ℕ) → ◌≡◌ {A = Option ℕ} (Some a) (Some b) → a ≡ b
+pub some_same : (a b : ℕ) → ◌≡◌ {A = Option ℕ} (Some a) (Some b) → a ≡ b
 some_same a b e = ap (λ (o : Option ℕ). unwrap_or o 0) e
 
 module _ (profile : Profile) (world : World) (Typed : ℕ → Tasks → List Held → Heap → Type 0) (know : Knowledge) (laws : Laws profile world Typed know) where

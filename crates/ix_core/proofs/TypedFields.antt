@@ -19,14 +19,14 @@ use Rattle.ix_core.proofs.Cases.{by_test}
 use Rattle.ix_core.proofs.FormedParts.{among_all, class_is, fields_all, ways_end}
 use Rattle.ix_core.proofs.TypedValues.{read_typed}
 
-among_reverse : (numbers : List ℕ) (number : ℕ) → is_among numbers number ≡ true → is_among (reverse numbers) number ≡ true
+pub among_reverse : (numbers : List ℕ) (number : ℕ) → is_among numbers number ≡ true → is_among (reverse numbers) number ≡ true
 among_reverse [] number e = absurd (false≢true e)
 among_reverse (first ∷ numbers) number e =
     subst (λ l. is_among l number ≡ true) (sym (reverse_onto numbers first []))
     (⊎_elim (λ here. back_among (reverse numbers) (first ∷ []) number (first_among first number [] here)) (λ rest. front_among (reverse numbers) (first ∷ []) number (among_reverse numbers number rest)) (among_parts first number numbers e))
 
 -- an item of which it is so is found by its number
-where_has : {A : Type 0} (d : A) (is : A → Bool) (first : ℕ) (items : List A) (k : ℕ) → k < length items → is (unwrap_or (slice_get items k) d) ≡ true → is_among (numbers_where is first items) (first + k) ≡ true
+pub where_has : {A : Type 0} (d : A) (is : A → Bool) (first : ℕ) (items : List A) (k : ℕ) → k < length items → is (unwrap_or (slice_get items k) d) ≡ true → is_among (numbers_where is first items) (first + k) ≡ true
 where_has d is first [] k lt e = absurd (omega (arith, lt))
 where_has d is first (item ∷ items) zero lt e =
     let h : (first == first + 0) ≡ true = grind (arith, nat_tests) in

@@ -16,6 +16,7 @@ use Rattle.ix_tree.specs.Parts as parts
 use Rattle.ix_tree.specs.Parts.{Part, expression, statement, declaration, in_type, elsewhere, entries, declarations, together, listed, each, maybe, most_entries, mods_parts, type_parts, args_parts, expr_parts, decl_parts, stmt_parts, method_parts, member_parts, other_name, class_parts, CanResolve}
 use Rattle.ix_meaning.specs.Source.{members_in}
 use Rattle.ix_counts.specs.Few.{DeclaresFew, DeclaresFewInClass}
+use Rattle.ix_meaning.proofs.DeclaratorNumbers.{declarators_number}
 use Rattle.ix_meaning.specs.Bodies as bodies
 use Rattle.ix_meaning.specs.Bodies.{Telling, telling, kind_telling, all_told, all_declared}
 
@@ -55,7 +56,7 @@ module _ {K S : Type 0} (kind : K → StmtKind) (stmt : S → Stmt) (few_stmt : 
       ≤ declarations (parts.stmt_kind_step (map-StmtKind StmtKind Stmt (List Part) (List Part) kind_parts stmt_parts (map-StmtKind K S StmtKind Stmt kind stmt y)))
   few_in_layer (StmtKind-F.Block ss) p = few_in_all ss
   few_in_layer StmtKind-F.Empty p = omega arith
-  few_in_layer (StmtKind-F.Local ds) p = few_declared ds
+  few_in_layer (StmtKind-F.Local ds) p = let e = declarators_number ds in omega (arith, e, few_declared ds)
   few_in_layer (StmtKind-F.If c t None) p = let a = declared_append (expr_parts c) (stmt_parts (stmt t)) in omega (arith, few_stmt t, a)
   few_in_layer (StmtKind-F.If c t (Some u)) p =
       let a = declared_append (expr_parts c) (stmt_parts (stmt t) ++ stmt_parts (stmt u)) in

@@ -14,6 +14,7 @@ use Rattle.ix_grammar.specs.declared.declarations.Word.{Word}
 use Rattle.ix_grammar.specs.declared.found.FoundDecls.{FoundDecls}
 use Rattle.ix_grammar.specs.declared.found.FoundInit.{FoundInit}
 use Rattle.ix_grammar.specs.declared.found.FoundType.{FoundType}
+use Rattle.ix_lexer.proofs.Scans.{chosen}
 use Rattle.ix_descent.specs.Rule.{Rule, pure, take, stop, loop, On, Done, Outcome, and_then, look, run}
 use Rattle.ix_grammar.specs.Patterns.{sign, name_token, a_sign, a_name, one_of, row}
 use Rattle.ix_grammar.specs.Lists.{IsSeparated, first_item, next_item}
@@ -25,7 +26,7 @@ use Rattle.ix_descent.specs.TypeRules.{type_tree}
 use Rattle.ix_grammar.specs.DeclGrammar as grammar
 use Rattle.ix_grammar.specs.DeclGrammar.{IsMods, IsDecl, IsDecls, IsParam, IsParams, IsName, IsThrows, shared, no_mods, with_word, with_annot, local_words, plain_decl, init_decl, one_decl, with_decl, no_params, one_param, with_param, nothing, nothing_more}
 use Rattle.ix_descent.specs.DeclRules.{next_mod, mods, decl_behind, decl, decls, param, some_params, params, a_thrown, throws}
-use Rattle.ix_descent.proofs.Runs.{loop_on, loop_done, chosen}
+use Rattle.ix_descent.proofs.Runs.{loop_on, loop_done}
 use Rattle.ix_descent.proofs.ListsComplete.{separated_reads, more_done}
 use Rattle.ix_descent.proofs.AnnotComplete.{NoParen, annot_marked, annot_starts, annot_takes, tall_annot}
 use Rattle.ix_descent.proofs.TypeComplete.{NoAt, type_reads, type_starts}

@@ -10,6 +10,7 @@ use Rattle.ix_tree.specs.declared.expr.BinaryOp.{BinaryOp}
 use Rattle.ix_tree.specs.declared.expr.UnaryOp.{UnaryOp}
 use Rattle.ix_tree.specs.declared.expr.UnaryOp.TheVariants as op
 use Rattle.ix_tree.specs.declared.expr.ExprKind.TheVariants as e
+use Rattle.ix_lexer.proofs.Scans.{chosen}
 use Rattle.ix_descent.specs.declared.aims.Aim.{Aim}
 use Rattle.ix_descent.specs.declared.aims.Aim.TheVariants as aim
 use Rattle.ix_grammar.specs.declared.found.Args.{Args}
@@ -41,7 +42,7 @@ use Rattle.ix_descent.proofs.AnnotComplete.{NoParen, annot_marked, tall_annot, a
 use Rattle.ix_descent.proofs.TypeComplete.{pairs_read, pairs_done}
 use Rattle.ix_grammar.specs.ExprGrammar as g
 use Rattle.ix_grammar.specs.ExprGrammar.{IsMorePairs, Kind, Primary, Whole, Level, IsExpr, IsExprs, IsArgs, IsInit, IsInits, IsItems}
-use Rattle.ix_descent.proofs.Runs.{loop_on, loop_done, chosen, b_cond}
+use Rattle.ix_descent.proofs.Runs.{loop_on, loop_done, b_cond}
 use Rattle.ix_descent.proofs.SoundRules.{some_same}
 use Rattle.ix_descent.proofs.CompleteRules.{other_reads, bind_reads, then_assoc}
 use Rattle.ix_descent.proofs.Heights.{whole_below, level_below, variable_below, init_below, inner_below, inner_init_below}

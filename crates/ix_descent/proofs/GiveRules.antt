@@ -1,8 +1,9 @@
 -- What holds of everything that a rule gives.
 use Rattle.std.proofs.Common.{◌≡◌, ℕ, zero, suc, nat_lt, Bool, true, List, length, Option, Some, None, Ok, ap, subst, inl, inr}
 use Rattle.ix_lexer.specs.declared.token.Token.{Token}
+use Rattle.ix_lexer.proofs.Scans.{chosen}
 use Rattle.ix_descent.specs.Rule.{Rule, pure, take, bind, stop, loop, Turn, On, Done, look, rest, taken, turned, turns, run}
-use Rattle.ix_descent.proofs.Runs.{same_ok, chosen, bind_ok}
+use Rattle.ix_descent.proofs.Runs.{same_ok, bind_ok}
 use Rattle.ix_descent.proofs.SoundRules.{Sound}
 
 pub record Gives {A : Type 0} (P : A → Type 0) (r : Rule A) : Type 0 where

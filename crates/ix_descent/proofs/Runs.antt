@@ -2,6 +2,7 @@
 use Rattle.std.proofs.Common.{◌≡◌, ℕ, zero, suc, ◌+◌, ◌<◌, ◌≤◌, nat_lt, Bool, true, false, cond, List, [], ◌∷◌, ◌++◌, length, Option, Some, None, Ok, Err, refl, sym, ap, subst, ◌∙◌, append_assoc, arith, ◌⊎◌, inl, inr, length-append}
 use Rattle.std.proofs.lemmas.Bool.{lt-ltb, ltb-true, ltb-false}
 use Rattle.ix_lexer.specs.declared.token.Token.{Token}
+use Rattle.ix_lexer.proofs.Scans.{chosen}
 use Rattle.ix_descent.specs.declared.stop.Stop.{Stop}
 use Rattle.ix_descent.specs.declared.stop.Stop.TheVariants.{Syntax}
 use Rattle.ix_descent.specs.Rule.{Rule, pure, take, bind, stop, loop, Turn, On, Done, Outcome, Parser, and_then, look, rest, taken, turned, turns, run}
@@ -11,10 +12,6 @@ ok_of x = Ok x
 
 pub same_ok : {A : Type 0} (x y : A × List Token) → ok_of x ≡ ok_of y → x ≡ y
 same_ok x y h = cc
-
-pub chosen : {A : Type 0} (b : Bool) (x y z : A) → cond b x y ≡ z → ((b ≡ true) × (x ≡ z)) ⊎ ((b ≡ false) × (y ≡ z))
-chosen true x y z h = inl (refl, h)
-chosen false x y z h = inr (refl, h)
 
 pub bind_ok : {A B : Type 0} (r : Outcome A) (f : A → Parser B) (y : B × List Token) → and_then r f ≡ Ok y → (p : A × List Token) × (r ≡ Ok p) × (f p.0 p.1 ≡ Ok y)
 bind_ok (Ok p) f y h = (p, refl, h)

@@ -8,9 +8,10 @@ use Rattle.ix_lexer.specs.declared.token.TokenKind.TheVariants as k
 use Rattle.ix_tree.specs.declared.annot.Ident.{Ident}
 use Rattle.ix_tree.specs.declared.expr.BinaryOp.{BinaryOp}
 use Rattle.ix_grammar.specs.declared.found.At.{At}
+use Rattle.ix_lexer.proofs.Scans.{chosen}
 use Rattle.ix_descent.specs.Rule.{Rule, pure, take, bind, stop, loop, Turn, On, Done, taken, turned, turns, run}
 use Rattle.ix_grammar.specs.Patterns.{sign, name_token, number_token, least_token, string_token, a_sign, fixed_of, a_name, name_of, a_number, number_of, a_least, least_of, a_text, text_of, one_of, one_of_kind, row, with_span, an_operator, operator_of, at_level, binary_signs}
-use Rattle.ix_descent.proofs.Runs.{same_ok, chosen, bind_ok}
+use Rattle.ix_descent.proofs.Runs.{same_ok, bind_ok}
 
 pub record Sound {A : Type 0} (R : List Token → A → Type 0) (r : Rule A) : Type 0 where
   pub at : (ts us : List Token) (a : A) → run r ts ≡ Ok (a, us) → (seen : List Token) × (ts ≡ seen ++ us) × R seen a

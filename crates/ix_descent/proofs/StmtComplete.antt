@@ -17,6 +17,7 @@ use Rattle.ix_grammar.specs.declared.found.FoundDecls.{FoundDecls}
 use Rattle.ix_grammar.specs.declared.found.FoundStmt.{FoundStmt}
 use Rattle.ix_grammar.specs.declared.found.FoundType.{FoundType}
 use Rattle.ix_grammar.specs.declared.found.Several.{Several}
+use Rattle.ix_lexer.proofs.Scans.{chosen}
 use Rattle.ix_descent.specs.declared.begun.Begun.{Begun}
 use Rattle.ix_descent.specs.declared.begun.Begun.TheVariants.{Local, Run, Print}
 use Rattle.ix_descent.specs.Rule.{Rule, take, bind, stop, loop, On, Done, look, rest, run, Outcome, and_then}
@@ -35,7 +36,7 @@ use Rattle.ix_grammar.specs.ExprGrammar.{Kind, Primary, Whole, Level, IsExpr, Is
 use Rattle.ix_grammar.specs.StmtGrammar as g
 use Rattle.ix_grammar.specs.StmtGrammar.{IsStmt, IsBlockStmt, IsStmts, IsForFirst, IsMaybe, IsUpdate, IsReason, IsLocal, begins_print, stmt_node, block_stmt, if_stmt, if_else_stmt, while_stmt, do_stmt, for_stmt, return_stmt, throw_stmt, print_stmt, run_stmt, one_run, with_run, one_expr, local_stmt}
 use Rattle.ix_descent.specs.StmtRules.{begun, finished, condition, else_part, if_rule, while_rule, do_rule, for_body, for_update, for_condition, for_part, for_rule, return_rule, throw_end, throw_rule, block_rule, stmt_of, stmts_below, stmt, block_statement}
-use Rattle.ix_descent.proofs.Runs.{chosen, loop_on, loop_done, same_ok}
+use Rattle.ix_descent.proofs.Runs.{loop_on, loop_done, same_ok}
 use Rattle.ix_descent.proofs.CompleteRules.{bind_reads, then_assoc}
 use Rattle.ix_descent.proofs.Tables.{other_sign}
 use Rattle.ix_descent.proofs.ListsComplete.{separated_reads, more_done}

@@ -12,6 +12,7 @@ use Rattle.ix_tree.specs.declared.annot.BaseTree.{BaseTree}
 use Rattle.ix_tree.specs.declared.annot.BaseTree.TheVariants.{Int, Boolean, Named}
 use Rattle.ix_grammar.specs.declared.declarations.FoundMods.{FoundMods}
 use Rattle.ix_grammar.specs.declared.declarations.Word.TheVariants.{Final}
+use Rattle.ix_lexer.proofs.Scans.{chosen}
 use Rattle.ix_descent.specs.declared.aims.Aim.TheVariants.{Statement}
 use Rattle.ix_grammar.specs.declared.found.At.{At}
 use Rattle.ix_grammar.specs.declared.found.Found.{Found}
@@ -37,7 +38,7 @@ use Rattle.ix_grammar.specs.ExprGrammar.{Primary, Whole, IsExpr, IsInit, IsState
 use Rattle.ix_grammar.specs.StmtGrammar as g
 use Rattle.ix_grammar.specs.StmtGrammar.{SYSTEM, OUT, PRINTLN, same_text, is_word, is_sign, begins_print, word_token, IsLocal}
 use Rattle.ix_descent.specs.StmtRules.{word_of, a_word, declared, named_type, typed, modified, local_or, chain, go_on, field, run_named, guarded, indexed, named_first, println_part, out_part, system_part, print_or, begun}
-use Rattle.ix_descent.proofs.Runs.{chosen, same_ok, bind_ok}
+use Rattle.ix_descent.proofs.Runs.{same_ok, bind_ok}
 use Rattle.ix_descent.proofs.SoundRules.{Sound, After, weaken, pure_sound, stop_sound, bind_sound, sign_sound, name_sound, take_sound, map_sound, loop_sound, sign_is}
 use Rattle.ix_descent.proofs.ListsSound.{sign_fits, name_fits}
 use Rattle.ix_descent.proofs.AnnotSound.{annot_behind_sound}
@@ -56,7 +57,7 @@ pub and_both : (a b : Bool) → (a && b) ≡ true → (a ≡ true) × (b ≡ tru
 and_both true b h = (refl, h)
 and_both false b h = absurd (cc)
 
-same_is : (xs ys : List ℕ) → same_text xs ys ≡ true → xs ≡ ys
+pub same_is : (xs ys : List ℕ) → same_text xs ys ≡ true → xs ≡ ys
 same_is [] [] h = refl
 same_is [] (b ∷ ys) h = absurd (cc)
 same_is (a ∷ xs) [] h = absurd (cc)

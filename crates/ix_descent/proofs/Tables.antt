@@ -3,9 +3,9 @@ use Rattle.std.proofs.Common.{◌≡◌, ℕ, ◌<◌, ◌==◌, Bool, true, fal
 use Rattle.ix_text.specs.declared.span.Span.{Span}
 use Rattle.ix_lexer.specs.declared.token.Token.{Token}
 use Rattle.ix_tree.specs.declared.expr.BinaryOp.{BinaryOp}
+use Rattle.ix_lexer.proofs.Scans.{chosen}
 use Rattle.ix_descent.specs.Rule.{look}
 use Rattle.ix_grammar.specs.Patterns.{sign, a_sign, row, with_span, one_of, an_operator, binary_signs}
-use Rattle.ix_descent.proofs.Runs.{chosen}
 
 -- no sign of the table is in the other one
 abbrev pub lacks : {W : Type 0} → Option W → Bool

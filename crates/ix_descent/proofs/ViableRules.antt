@@ -3,6 +3,7 @@ use Rattle.std.proofs.Common.{◌≡◌, ℕ, zero, suc, nat_lt, ℤ, Bool, true
 use Rattle.std.proofs.lemmas.List.{append-nil}
 use Rattle.ix_text.specs.declared.span.Span.{Span}
 use Rattle.ix_lexer.specs.declared.token.Token.{Token}
+use Rattle.ix_lexer.proofs.Scans.{chosen}
 use Rattle.ix_descent.specs.declared.stop.Stop.{Stop}
 use Rattle.ix_descent.specs.declared.stop.Stop.TheVariants.{Syntax, TooDeep}
 use Rattle.ix_tree.specs.declared.annot.Ident.{Ident}
@@ -10,7 +11,7 @@ use Rattle.ix_tree.specs.declared.expr.BinaryOp.{BinaryOp}
 use Rattle.ix_grammar.specs.declared.found.At.{At}
 use Rattle.ix_descent.specs.Rule.{Rule, pure, take, bind, stop, loop, Turn, On, Done, Outcome, Parser, and_then, taken, turned, turns, run}
 use Rattle.ix_grammar.specs.Patterns.{sign, name_token, number_token, least_token, string_token, a_sign, a_name, a_number, a_least, a_text, one_of, row, an_operator, binary_signs}
-use Rattle.ix_descent.proofs.Runs.{chosen, bind_ok}
+use Rattle.ix_descent.proofs.Runs.{bind_ok}
 use Rattle.ix_descent.proofs.SoundRules.{Sound, After, sign_is, name_is, number_is, least_is, text_is, one_is, operator_is}
 
 -- these tokens go on to some that stand in the relation

@@ -9,10 +9,10 @@ use Rattle.ix_facts.specs.Bounds.{best, least, greatest, at_least, at_most}
 use Rattle.ix_facts.specs.Exact.{least_at}
 use Rattle.ix_exact.specs.KeptLaws.{at_drop}
 
-min_joined : (x y z : ℤ) → int_min (int_min x y) z ≡ int_min x (int_min y z)
+pub min_joined : (x y z : ℤ) → int_min (int_min x y) z ≡ int_min x (int_min y z)
 min_joined x y z = omega (arith, ints, clamps)
 
-max_joined : (x y z : ℤ) → int_max (int_max x y) z ≡ int_max x (int_max y z)
+pub max_joined : (x y z : ℤ) → int_max (int_max x y) z ≡ int_max x (int_max y z)
 max_joined x y z = omega (arith, ints, clamps)
 
 pub least_joined : (x y z : Option ℤ) → best int_min (best int_min x y) z ≡ best int_min x (best int_min y z)

@@ -7,7 +7,7 @@ use Rattle.ix_core.specs.declared.fact.Path.{Path}
 use Rattle.ix_core.specs.declared.fact.Fact.{Fact}
 use Rattle.ix_facts.specs.Forget.{names, without}
 use Rattle.ix_facts.specs.Small.{HasSmallNumbers}
-use Rattle.ix_facts.proofs.Tests.{by_test}
+use Rattle.ix_core.proofs.Cases.{by_test}
 
 pub drop_at : (facts : List Fact) (k : ℕ) (f : Fact) → slice_get facts k ≡ Some f → drop k facts ≡ f ∷ drop (suc k) facts
 drop_at [] k f e = cc

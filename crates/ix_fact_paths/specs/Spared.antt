@@ -5,14 +5,11 @@ use Rattle.std.proofs.lemmas.Bool.{false≢true}
 use Rattle.ix_core.specs.declared.fact.Path.{Path}
 use Rattle.ix_core.specs.declared.fact.Fact.{Fact}
 use Rattle.ix_facts.specs.Forget.{names, without}
+use Rattle.ix_core.proofs.Cases.{by_test}
 
 abbrev pub some_named : (Path → Bool) → List Fact → Bool
 some_named is [] = false
 some_named is (fact ∷ facts) = names is fact || some_named is facts
-
-by_test : {G : Type 0} (t : Bool) → (t ≡ true → G) → (t ≡ false → G) → G
-by_test true first second = first refl
-by_test false first second = second refl
 
 pub spared : (is : Path → Bool) (facts : List Fact) → some_named is facts ≡ false → without is facts ≡ facts
 spared is [] n = refl

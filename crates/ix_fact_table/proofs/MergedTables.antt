@@ -13,7 +13,7 @@ use Rattle.ix_facts.specs.Systems.{Merges, given, weaker, any_int, any_size, met
 use Rattle.ix_facts.proofs.FactLists.{in_left, in_right, in_either}
 use Rattle.ix_facts.proofs.SaidLaws.{said_itself, said_weaker, is_a_default}
 use Rattle.ix_facts.proofs.SystemLaws.{in_kind}
-use Rattle.ix_facts.proofs.Tests.{by_test}
+use Rattle.ix_core.proofs.Cases.{by_test}
 use Rattle.ix_fact_table.specs.Meets as meets
 use Rattle.ix_fact_table.specs.Entries.{entry_of, is_entry, HasInt}
 use Rattle.ix_fact_table.specs.Rising.{rises, is_table_of}

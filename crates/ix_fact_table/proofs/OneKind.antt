@@ -6,7 +6,7 @@ use Rattle.ix_facts.specs.declared.kind.Kind.{Kind}
 use Rattle.ix_facts.specs.Facts.{IsIn}
 use Rattle.ix_facts.specs.Kinds.{is_of, of_kind}
 use Rattle.ix_facts.specs.Systems.{HaveClasses}
-use Rattle.ix_facts.proofs.Tests.{by_test}
+use Rattle.ix_core.proofs.Cases.{by_test}
 
 pub from_kind : (own : Kind) (f : Fact) (facts : List Fact) → IsIn f (of_kind own facts) → IsIn f facts
 from_kind own f [] i = absurd i

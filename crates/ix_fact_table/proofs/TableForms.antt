@@ -19,7 +19,7 @@ use Rattle.ix_facts.proofs.FactLists.{in_left, in_right, in_either}
 use Rattle.ix_facts.proofs.Frame.{in_without}
 use Rattle.ix_facts.proofs.SaidLaws.{default_is, is_a_default, default_weaker, said_itself, said_weaker}
 use Rattle.ix_facts.proofs.SystemLaws.{in_kind, kind_in}
-use Rattle.ix_facts.proofs.Tests.{by_test}
+use Rattle.ix_core.proofs.Cases.{by_test}
 use Rattle.ix_fact_table.specs.FactOrder.{key_on, key_back}
 use Rattle.ix_fact_table.specs.Meets.{common}
 use Rattle.ix_fact_table.specs.Entries.{HasInt, entry_of, is_entry}

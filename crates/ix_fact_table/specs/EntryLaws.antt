@@ -22,7 +22,8 @@ use Rattle.ix_facts.specs.Systems.{Merges, weaker, any_int, any_size, turned, su
 use Rattle.ix_facts.specs.Systems as merges
 use Rattle.ix_facts.proofs.FactLists.{covers_itself}
 use Rattle.ix_facts.proofs.SaidLaws.{said_weaker, said_turned}
-use Rattle.ix_facts.proofs.Tests.{by_test, at_most_true, at_most_is}
+use Rattle.ix_facts.proofs.Tests.{at_most_true, at_most_is}
+use Rattle.ix_core.proofs.Cases.{by_test}
 use Rattle.ix_fact_table.specs.FactOrder.{path_same}
 use Rattle.ix_fact_table.specs.Entries.{in_first_order, within, entry_of, is_first, has_ends, is_entry, HasInt}
 use Rattle.ix_fact_table.specs.MeetLaws.{entry_parts, entry_from}

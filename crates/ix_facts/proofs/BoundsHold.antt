@@ -11,11 +11,12 @@ use Rattle.ix_core.specs.declared.fact.PathOff.TheVariants.{Nothing, Plus, Minus
 use Rattle.ix_core.specs.declared.fact.Fact.{Fact}
 use Rattle.ix_core.specs.declared.fact.Fact.TheVariants.{Rng, LenRng, Low, Same, IsLen, Less, Sum, Search, Neg, Upper}
 use Rattle.ix_core.specs.Numbers.{Numbers}
+use Rattle.ix_core.proofs.Cases.{by_test}
 use Rattle.ix_facts.specs.Facts.{Holds, AllHold, offset_number, orders, is_default, in_orders}
 use Rattle.ix_facts.specs.Bounds
 use Rattle.ix_facts.specs.Bounds.{is_path, is_offset, says_same, when, best, greatest, least}
 use Rattle.ix_facts.proofs.Gives.{Gives, max_chooses, min_chooses, gives_when, gives_map, gives_also, gives_best, gives_best_of, at_least_holds, at_most_holds}
-use Rattle.ix_facts.proofs.Tests.{path_true, offset_true, by_test, or_else}
+use Rattle.ix_facts.proofs.Tests.{path_true, offset_true, or_else}
 
 module _ (v : Numbers) where
   pub int_same : (p q : Path) → is_path p q ≡ true → v.int p ≡ v.int q

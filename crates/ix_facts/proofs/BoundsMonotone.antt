@@ -9,10 +9,11 @@ use Rattle.ix_core.specs.declared.fact.Path.{Path}
 use Rattle.ix_core.specs.declared.fact.PathOff.{PathOff}
 use Rattle.ix_core.specs.declared.fact.PathOff.TheVariants.{Nothing, Plus, Minus}
 use Rattle.ix_core.specs.declared.fact.Fact.{Fact}
+use Rattle.ix_core.proofs.Cases.{by_test}
 use Rattle.ix_facts.specs.Bounds
 use Rattle.ix_facts.specs.Bounds.{is_path, is_offset, says_same, when, best, greatest, least}
 use Rattle.ix_facts.specs.Facts.{IsIn, Covers, Stronger, rng, len_rng, low, same, is_len, less, sum, upper}
-use Rattle.ix_facts.proofs.Tests.{by_test, or_else, or_first, or_second}
+use Rattle.ix_facts.proofs.Tests.{or_else, or_first, or_second}
 use Rattle.ix_facts.proofs.Worse.{Up, Down, up_laws, down_laws, Worse, worse_when, worse_map, worse_best, worse_best_of, at_least_up, at_most_down}
 
 pub length_low_one : (a : Path) (g f : Fact) → Covers g f → Worse Up (Bounds.length_low_by a f) (Bounds.length_low_by a g)

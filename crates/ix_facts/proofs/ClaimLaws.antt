@@ -11,6 +11,7 @@ use Rattle.ix_core.specs.declared.fact.PathClaim.TheVariants as claim
 use Rattle.ix_core.specs.declared.fact.Fact.{Fact}
 use Rattle.ix_core.specs.declared.fact.Fact.TheVariants.{Low, Less, Search, Neg, Upper}
 use Rattle.ix_core.specs.Numbers.{Numbers}
+use Rattle.ix_core.proofs.Cases.{by_test}
 use Rattle.ix_facts.specs.Facts.{Holds, AllHold, IsIn, Covers, Stronger, rng, len_rng, low, same, is_len, less, sum, search, neg, upper}
 use Rattle.ix_facts.specs.Bounds
 use Rattle.ix_facts.specs.Bounds.{is_path}
@@ -21,7 +22,7 @@ use Rattle.ix_facts.proofs.BoundsMonotone.{stored_same_mono, lower_mono, limit_m
 use Rattle.ix_facts.proofs.Gives.{Gives}
 use Rattle.ix_facts.proofs.RuleForms.{if_so_holds}
 use Rattle.ix_facts.proofs.RulesMonotone.{still_at_most, still_at_least}
-use Rattle.ix_facts.proofs.Tests.{by_test, or_else, or_first, or_second, at_most_true}
+use Rattle.ix_facts.proofs.Tests.{or_else, or_first, or_second, at_most_true}
 use Rattle.ix_facts.proofs.Worse.{Up, Worse}
 
 pub claim_facts_hold : (v : Numbers) (c : PathClaim) (p : Path) → ClaimHolds c p v → AllHold (claim_facts c p) v

@@ -13,9 +13,10 @@ use Rattle.ix_tables.specs.LowTable.{low_of}
 use Rattle.ix_tables.specs.TableLaws.{IsOperand, Breaks}
 use Rattle.ix_tables.proofs.AnswersHold.{low_of_sound}
 use Rattle.ix_tables.proofs.AnswersAreBest.{low_of_best}
+use Rattle.ix_core.proofs.Cases.{by_test}
 use Rattle.ix_facts.specs.Exact.{class_number}
 use Rattle.ix_facts.proofs.Gives.{Gives}
-use Rattle.ix_facts.proofs.Tests.{by_test, at_most_true}
+use Rattle.ix_facts.proofs.Tests.{at_most_true}
 use Rattle.ix_facts.proofs.Worse.{Up, Worse}
 
 at_most_false : (x y : ℤ) → int_le x y ≡ false → y <ℤ x

@@ -26,6 +26,7 @@ use Rattle.ix_core.specs.declared.op.OpKind.{OpKind}
 use Rattle.ix_core.specs.declared.op.OpKind.TheVariants as op
 use Rattle.ix_core.specs.declared.op.UnaryNum.{UnaryNum}
 use Rattle.ix_core.specs.declared.op.UnaryNum.TheVariants.{Neg as Negated, Flip}
+use Rattle.ix_core.proofs.Cases.{by_test}
 use Rattle.ix_facts.specs.Bounds
 use Rattle.ix_facts.specs.Bounds.{is_path}
 use Rattle.ix_facts.specs.Facts.{IsIn, orders, in_orders}
@@ -40,7 +41,7 @@ use Rattle.ix_facts.specs.Assume.{claim_facts}
 use Rattle.ix_facts.specs.Systems.{HasClass, HaveClasses}
 use Rattle.ix_facts.proofs.FactLists.{in_either, from_in_orders}
 use Rattle.ix_facts.proofs.Frame.{in_without}
-use Rattle.ix_facts.proofs.Tests.{by_test, at_most_true}
+use Rattle.ix_facts.proofs.Tests.{at_most_true}
 
 data Classed : List Fact → Type 0 where
   classed_none : Classed []
@@ -342,7 +343,7 @@ in_orders_have facts have x i = let f = from_in_orders x facts i in order_class 
 without_have : (is : Path → Bool) (facts : List Fact) → HaveClasses facts → HaveClasses (without is facts)
 without_have is facts have f i = have f (in_without is f facts i).0
 
-app_have : (a b : List Fact) → HaveClasses a → HaveClasses b → HaveClasses (a ++ b)
+pub app_have : (a b : List Fact) → HaveClasses a → HaveClasses b → HaveClasses (a ++ b)
 app_have a b x y f i = ⊎_elim (λ j. x f j) (λ j. y f j) (in_either f a b i)
 
 -- after an operation, and after a copy

@@ -8,9 +8,9 @@ use Rattle.ix_core.specs.declared.fact.PathOff.TheVariants.{Nothing, Plus, Minus
 use Rattle.ix_core.specs.declared.fact.Fact.{Fact}
 use Rattle.ix_core.specs.declared.fact.Fact.TheVariants.{Rng, LenRng, Low, Same, IsLen, Less, Sum, Search, Neg, Upper}
 use Rattle.ix_core.specs.Numbers.{Numbers}
+use Rattle.ix_core.proofs.Cases.{by_test}
 use Rattle.ix_facts.specs.Facts.{Holds, AllHold, IsIn, Covers, Stronger, orders, in_orders, rng, len_rng, low, same, is_len, less, sum, search, neg, upper}
 use Rattle.ix_facts.specs.Closure.{Follows, given, weaker, any_int, any_size, met, len_met, class, class_one, turned, joined, both_len, len_along, is_len_along, search_along, neg_along, neg_search, search_neg, sum_turned, upper_turned, Default, Said, Closed, Contradicts, IsClosedOf, IsCommon, kept_fact, kept}
-use Rattle.ix_facts.proofs.Tests.{by_test}
 use Rattle.ix_facts.proofs.FactLists.{covers_holds, in_holds, in_either, in_left, in_right, told_either, all_hold_app, stronger_one, stronger_none, stronger_itself}
 
 module _ (facts : List Fact) (v : Numbers) (k : AllHold facts v) where

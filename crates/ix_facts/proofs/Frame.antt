@@ -9,9 +9,10 @@ use Rattle.ix_core.specs.declared.fact.PathOff.TheVariants.{Nothing, Plus, Minus
 use Rattle.ix_core.specs.declared.fact.Fact.{Fact}
 use Rattle.ix_core.specs.declared.fact.Fact.TheVariants.{Rng, LenRng, Low, Same, IsLen, Less, Sum, Search, Neg, Upper}
 use Rattle.ix_core.specs.Numbers.{Numbers}
+use Rattle.ix_core.proofs.Cases.{by_test}
 use Rattle.ix_facts.specs.Facts.{Holds, AllHold, IsIn, Covers, Stronger, offset_number, rng, len_rng, low, same, is_len, less, sum, search, neg, upper}
 use Rattle.ix_facts.specs.Forget.{offset_names, names, without, SameBut}
-use Rattle.ix_facts.proofs.Tests.{by_test, neither}
+use Rattle.ix_facts.proofs.Tests.{neither}
 
 module _ (is : Path → Bool) (v w : Numbers) (s : SameBut is v w) where
   offset_same : (o : PathOff) → offset_names is o ≡ false → offset_number w o ≡ offset_number v o

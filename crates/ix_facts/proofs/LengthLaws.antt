@@ -10,17 +10,18 @@ use Rattle.ix_core.specs.declared.fact.PathOff.{PathOff}
 use Rattle.ix_core.specs.declared.fact.PathOff.TheVariants.{Nothing, Plus, Minus}
 use Rattle.ix_core.specs.declared.fact.Fact.{Fact}
 use Rattle.ix_core.specs.declared.fact.Fact.TheVariants.{Rng, LenRng, Low, Same, IsLen, Less, Sum, Search, Neg, Upper}
+use Rattle.ix_core.proofs.Cases.{by_test}
 use Rattle.ix_facts.specs.Bounds
 use Rattle.ix_facts.specs.Bounds.{is_path, is_offset, says_same, when, best, best_of, greatest, least}
 use Rattle.ix_facts.specs.Facts.{IsIn, Covers, Stronger, is_len, less, sum, upper}
 use Rattle.ix_facts.specs.Closure.{given, is_len_along}
 use Rattle.ix_facts.specs.Laws.{SameBounds, ClosedAsItStands, with_lengths}
-use Rattle.ix_facts.proofs.Tests.{path_true, by_test, or_else}
+use Rattle.ix_facts.proofs.Tests.{path_true, or_else}
 use Rattle.ix_facts.proofs.BoundLaws.{bounds_no_weaker, better_some}
 use Rattle.ix_facts.proofs.BoundsMonotone.{length_low_one, length_high_one, own_low_one, range_low_one, range_high_one}
 use Rattle.ix_facts.proofs.FactLists.{covers_itself, stronger_none, stronger_cons}
-use Rattle.ix_facts.proofs.ShiftedWays.{path_itself}
 use Rattle.ix_facts.proofs.Worse.{BestLaws, Up, Down, up_laws, down_laws, Worse, worse_when, worse_map, worse_both, worse_in, worse_best, at_least_up, at_most_down}
+use Rattle.ix_facts.specs.PathOrder.{path_itself}
 
 worse_test : (R : ℤ → ℤ → Type 0) (t : Bool) (a b : Option ℤ) → (t ≡ true → Worse R a b) → Worse R (when t a) b
 worse_test R true a b h = h refl

@@ -8,6 +8,7 @@ use Rattle.ix_core.specs.declared.fact.Path.{Path}
 use Rattle.ix_core.specs.declared.fact.PathOff.TheVariants.{Nothing, Plus, Minus}
 use Rattle.ix_core.specs.declared.fact.Fact.{Fact}
 use Rattle.ix_core.specs.declared.fact.Fact.TheVariants.{Rng, LenRng, Low, Same, IsLen, Less, Sum, Search, Neg, Upper}
+use Rattle.ix_core.proofs.Cases.{by_test}
 use Rattle.ix_facts.specs.Facts.{IsIn, Covers, Stronger, orders, is_default, in_orders, rng, len_rng, low, same, is_len, less, sum, search, neg, upper}
 use Rattle.ix_facts.specs.Closure.{Default, Said, SaysAll}
 use Rattle.ix_facts.specs.Exact.{each}
@@ -15,7 +16,7 @@ use Rattle.ix_facts.specs.Forget.{names, without}
 use Rattle.ix_facts.proofs.FactLists.{covers_itself, covers_covers, in_left, in_right, in_either, in_in_orders, from_in_orders, covers_told, orders_stronger, in_orders_stronger}
 use Rattle.ix_facts.proofs.FormLaws.{first_order}
 use Rattle.ix_facts.proofs.Frame.{in_without, without_in, covers_names}
-use Rattle.ix_facts.proofs.Tests.{by_test, at_most_true, at_most_is}
+use Rattle.ix_facts.proofs.Tests.{at_most_true, at_most_is}
 
 -- ---- ranges that are said of every path
 

@@ -17,6 +17,7 @@ use Rattle.ix_core.specs.declared.op.OpKind.{OpKind}
 use Rattle.ix_core.specs.declared.op.OpKind.TheVariants as op
 use Rattle.ix_core.specs.declared.op.UnaryNum.{UnaryNum}
 use Rattle.ix_core.specs.declared.op.UnaryNum.TheVariants.{Neg as Negated, Flip}
+use Rattle.ix_core.proofs.Cases.{by_test}
 use Rattle.ix_facts.specs.Facts.{IsIn, orders, is_default, in_orders}
 use Rattle.ix_facts.specs.Closure.{given, SaysAll, Contradicts, kept}
 use Rattle.ix_facts.specs.Exact
@@ -41,7 +42,6 @@ use Rattle.ix_facts.proofs.RoundLaws.{fact_weaker, fact_mono, rounded_weaker}
 use Rattle.ix_facts.proofs.RulesMonotone.{copied_mono}
 use Rattle.ix_facts.proofs.SaidLaws.{says_stronger, listed_says, says_app, without_says, ByFact, each_says}
 use Rattle.ix_facts.proofs.TestLaws.{outcome_mono}
-use Rattle.ix_facts.proofs.Tests.{by_test}
 
 -- ---- bounds and claims
 

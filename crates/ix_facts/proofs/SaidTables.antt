@@ -3,12 +3,12 @@ use Rattle.std.specs.Prelude.{◌≡◌, Bool, ℤ, List, [], ◌∷◌, ◌++�
 use Rattle.std.proofs.Common.{ap, ⊎_elim}
 use Rattle.ix_core.specs.declared.claim.Type_.{Type_}
 use Rattle.ix_core.specs.declared.fact.Path.{Path}
-use Rattle.ix_facts.proofs.Tests.{by_test}
 use Rattle.ix_core.specs.declared.fact.PathOff.TheVariants.{Plus}
 use Rattle.ix_core.specs.declared.fact.Fact.{Fact}
 use Rattle.ix_core.specs.declared.fact.Fact.TheVariants.{Rng, LenRng, Same, Sum, Upper}
 use Rattle.ix_core.specs.declared.fact.Profile.{Profile}
 use Rattle.ix_core.specs.declared.op.OpKind.{OpKind}
+use Rattle.ix_core.proofs.Cases.{by_test}
 use Rattle.ix_facts.specs.Facts.{IsIn, Covers, in_orders}
 use Rattle.ix_facts.specs.Closure.{Said, SaysAll, kept}
 use Rattle.ix_facts.specs.Forget.{of_path, names, without}

@@ -2,12 +2,10 @@
 -- offset that is greater.
 use Rattle.std.specs.Prelude.{◌≡◌, Bool, true, false, ◌&&◌, ℤ, pos, negsuc, ◌+ℤ◌, ◌-ℤ◌, ◌≤ℤ◌, List, [], ◌∷◌, Option, Some, None, refl}
 use Rattle.std.specs.Int.{int_max}
-use Rattle.std.proofs.Common.{arith, ◌==◌, ◌⊎◌, inl, inr, sym, ap, subst, ⊎_elim}
-use Rattle.std.proofs.lemmas.Bool.{and_parts, and_from, false≢true}
-use Rattle.std.proofs.lemmas.Bool.Decides.{nat_tests}
+use Rattle.std.proofs.Common.{arith, ◌⊎◌, inl, inr, sym, ap, subst, ⊎_elim}
+use Rattle.std.proofs.lemmas.Bool.{and_parts, false≢true}
 use Rattle.std.proofs.lemmas.Int.{ints, clamps, by_lt_z}
 use Rattle.ix_core.specs.declared.fact.Path.{Path}
-use Rattle.ix_core.specs.declared.fact.Path.TheVariants.{Slot, FieldOf}
 use Rattle.ix_core.specs.declared.fact.PathOff.{PathOff}
 use Rattle.ix_core.specs.declared.fact.PathOff.TheVariants.{Nothing, Plus, Minus}
 use Rattle.ix_core.specs.declared.fact.Fact.{Fact}
@@ -18,10 +16,7 @@ use Rattle.ix_facts.specs.Bounds.{is_path, is_offset, when, best, best_of, great
 use Rattle.ix_facts.specs.Laws.{Way, itself, greater, plus, minus}
 use Rattle.ix_facts.proofs.Tests.{path_true}
 use Rattle.ix_facts.proofs.Worse.{Up, up_laws, Worse, worse_left, worse_right, worse_in}
-
-pub path_itself : (p : Path) → is_path p p ≡ true
-path_itself (Slot s) = grind (arith, nat_tests)
-path_itself (FieldOf s f) = let x : (s == s) ≡ true = grind (arith, nat_tests) in let y : (f == f) ≡ true = grind (arith, nat_tests) in and_from (s == s) (f == f) x y
+use Rattle.ix_facts.specs.PathOrder.{path_itself}
 
 -- ---- the greatest is one of what the facts give
 

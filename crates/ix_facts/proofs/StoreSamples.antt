@@ -16,7 +16,7 @@ use Rattle.ix_facts.specs.After.{after_facts}
 use Rattle.ix_facts.proofs.SaidLaws.{default_weaker}
 use Rattle.ix_facts.specs.Stores.{Reached, Unreachable, IsStoreOf, unreachable, reached}
 
-nothing_follows : (f : Fact) → Follows [] f → Default f
+pub nothing_follows : (f : Fact) → Follows [] f → Default f
 nothing_follows _ (closure.given f i) = absurd i
 nothing_follows _ (closure.weaker g f c r) = default_weaker g f c (nothing_follows g r)
 nothing_follows _ (closure.any_int p) = (omega (arith, ints), omega (arith, ints))

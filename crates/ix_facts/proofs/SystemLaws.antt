@@ -12,6 +12,7 @@ use Rattle.ix_core.specs.declared.fact.Fact.TheVariants.{Rng, LenRng, Low, Same,
 use Rattle.ix_core.specs.declared.fact.Profile.{Profile}
 use Rattle.ix_core.specs.declared.op.OpKind.{OpKind}
 use Rattle.ix_core.specs.Numbers.{Numbers}
+use Rattle.ix_core.proofs.Cases.{by_test}
 use Rattle.ix_facts.specs.Facts.{Holds, AllHold, IsIn, Covers, Stronger, orders, in_orders, rng, len_rng, low, same, is_len, less, sum, search, neg, upper}
 use Rattle.ix_facts.specs.Closure.{Default, SaysAll, kept}
 use Rattle.ix_facts.specs.Forget.{of_path, without, SameBut}
@@ -29,7 +30,6 @@ use Rattle.ix_facts.proofs.OperationsHold.{new_facts_hold}
 use Rattle.ix_facts.proofs.StoreLaws.{says_hold}
 use Rattle.ix_facts.specs.Laws.{Alike}
 use Rattle.ix_facts.proofs.RulesHold.{copied_hold}
-use Rattle.ix_facts.proofs.Tests.{by_test}
 
 -- ---- tables
 

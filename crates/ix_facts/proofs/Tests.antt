@@ -1,13 +1,18 @@
 -- What the answers of tests tell.
-use Rattle.std.specs.Prelude.{◌≡◌, Bool, true, false, ◌||◌, ◌==◌, ℤ, ◌≤ℤ◌, int_le, refl}
-use Rattle.std.proofs.Common.{arith, ap, sym}
+use Rattle.std.specs.Prelude.{◌≡◌, Bool, true, false, ◌||◌, ◌==◌, ℤ, ◌≤ℤ◌, int_le, Option, None, List, [], refl}
+use Rattle.std.proofs.Common.{arith, ap, sym, ◌∙◌, subst}
 use Rattle.std.proofs.lemmas.Bool.{and_parts, false≢true, eqb-true}
 use Rattle.std.proofs.lemmas.Int.{ints}
 use Rattle.ix_core.specs.declared.fact.Path.{Path}
 use Rattle.ix_core.specs.declared.fact.Path.TheVariants.{Slot, FieldOf}
+use Rattle.ix_core.specs.declared.fact.Fact.{Fact}
 use Rattle.ix_core.specs.declared.fact.PathOff.{PathOff}
 use Rattle.ix_core.specs.declared.fact.PathOff.TheVariants.{Nothing, Plus, Minus}
-use Rattle.ix_facts.specs.Bounds.{is_path, is_offset}
+use Rattle.ix_facts.specs.Bounds.{is_path, is_offset, when}
+use Rattle.ix_facts.specs.Exact.{if_so}
+use Rattle.ix_facts.specs.PathOrder.{path_itself, path_same}
+use Rattle.ix_core.proofs.Cases.{by_test}
+pub use Rattle.ix_facts.specs.NamedLaws.{or_else, or_first, or_second}
 
 pub path_true : (p q : Path) → is_path p q ≡ true → p ≡ q
 path_true (Slot s) (Slot t) h = ap Slot (eqb-true s t h)
@@ -18,6 +23,10 @@ path_true (FieldOf s f) (FieldOf t g) h =
     let a = eqb-true s t both.0 in
     let b = eqb-true f g both.1 in
     cc
+
+pub off : (p q : Path) → is_path p q ≡ false → is_path q p ≡ false
+off p q n =
+    by_test (is_path q p) (λ t. absurd (false≢true (sym n ∙ subst (λ r. is_path r q ≡ true) (path_same q p t) (path_itself q)))) (λ t. t)
 
 pub offset_true : (x y : PathOff) → is_offset x y ≡ true → x ≡ y
 offset_true Nothing Nothing h = refl
@@ -30,22 +39,13 @@ offset_true (Minus p) Nothing h = absurd (false≢true h)
 offset_true (Minus p) (Plus q) h = absurd (false≢true h)
 offset_true (Minus p) (Minus q) h = ap Minus (path_true p q h)
 
--- a proof by the two answers of a test
-pub by_test : {G : Type 0} (t : Bool) → (t ≡ true → G) → (t ≡ false → G) → G
-by_test true first second = first refl
-by_test false first second = second refl
+pub not_first : (x y : Bool) → (x || y) ≡ false → x ≡ false
+not_first true y n = n
+not_first false y n = refl
 
-pub or_else : (s t : Bool) → (s || t) ≡ true → s ≡ false → t ≡ true
-or_else true t h n = absurd (false≢true (sym n))
-or_else false t h n = h
-
-pub or_first : (x y : Bool) → x ≡ true → (x || y) ≡ true
-or_first true y h = refl
-or_first false y h = absurd (false≢true h)
-
-pub or_second : (x y : Bool) → y ≡ true → (x || y) ≡ true
-or_second true y h = refl
-or_second false y h = h
+pub not_second : (x y : Bool) → (x || y) ≡ false → y ≡ false
+not_second true y n = absurd (false≢true (sym n))
+not_second false y n = n
 
 pub neither : (s t : Bool) → (s || t) ≡ false → (s ≡ false) × (t ≡ false)
 neither true t x = absurd (false≢true (sym x))
@@ -56,3 +56,9 @@ at_most_true x y h = grind (arith, ints)
 
 pub at_most_is : (x y : ℤ) → x ≤ℤ y → int_le x y ≡ true
 at_most_is x y h = grind (arith, ints)
+
+pub none_if : (t : Bool) (facts : List Fact) → t ≡ false → if_so t facts ≡ []
+none_if t facts n = ap (λ b. if_so b facts) n
+
+pub no_number : (t : Bool) (number : Option ℤ) → t ≡ false → when t number ≡ None
+no_number t number n = ap (λ b. when b number) n

@@ -3,24 +3,20 @@ use Rattle.std.specs.Prelude.{◌≡◌, ◌⊎◌, Bool, true, false, ◌||◌,
 use Rattle.std.proofs.Common.{inl, inr, sym, ◌∙◌, subst, ⊎_elim}
 use Rattle.std.proofs.lemmas.Bool.{false≢true}
 use Rattle.ix_core.specs.declared.fact.Path.{Path}
+use Rattle.ix_core.proofs.Cases.{by_test}
 use Rattle.ix_facts.specs.Bounds.{is_path}
 use Rattle.ix_facts.specs.Named.{IsAmongPaths, AreDistinct, IsEachOnce, has_path, with_path, with_paths}
 use Rattle.ix_facts.specs.PathOrder.{path_itself, path_same}
 
--- a proof by the two answers of a test
-by_test : {G : Type 0} (t : Bool) → (t ≡ true → G) → (t ≡ false → G) → G
-by_test true first second = first refl
-by_test false first second = second refl
-
-or_else : (s t : Bool) → (s || t) ≡ true → s ≡ false → t ≡ true
+pub or_else : (s t : Bool) → (s || t) ≡ true → s ≡ false → t ≡ true
 or_else true t h n = absurd (false≢true (sym n))
 or_else false t h n = h
 
-or_first : (x y : Bool) → x ≡ true → (x || y) ≡ true
+pub or_first : (x y : Bool) → x ≡ true → (x || y) ≡ true
 or_first true y h = refl
 or_first false y h = absurd (false≢true h)
 
-or_second : (x y : Bool) → y ≡ true → (x || y) ≡ true
+pub or_second : (x y : Bool) → y ≡ true → (x || y) ≡ true
 or_second true y h = refl
 or_second false y h = h
 

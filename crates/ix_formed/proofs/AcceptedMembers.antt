@@ -28,6 +28,7 @@ use Rattle.ix_meaning.specs.Annotated.{written, based, class_use}
 use Rattle.ix_meaning.specs.Classes as classes
 use Rattle.ix_meaning.specs.Classes.{parents, supers}
 use Rattle.ix_meaning.specs.Members as members
+use Rattle.ix_meaning.specs.Declarators as declarators
 use Rattle.ix_meaning.specs.Members.{ClassOf, world, own_field, field_named, field_type, field_meaning, constant, is_int_type, literal, nearest}
 use Rattle.ix_meaning.specs.Resolved.{names}
 use Rattle.ix_meaning.specs.Types as kinds
@@ -50,7 +51,7 @@ or_case : {G : Type 0} (x y : Bool) → (x || y) ≡ true → (x ≡ true → G)
 or_case true y e one other = one refl
 or_case false y e one other = other e
 
-or_later : (a b : Bool) → b ≡ true → (a || b) ≡ true
+pub or_later : (a b : Bool) → b ≡ true → (a || b) ≡ true
 or_later true b e = refl
 or_later false b e = e
 
@@ -173,7 +174,7 @@ module _ (unit : Source) (p : Program) (is : IsAccepted unit p) where
     only_from : (c next : ℕ) (ks : List ClassDecl) → AllOf (λ f. OnlyField f.meaning) (members.fields_from class c next ks)
     only_from c next [] = tt
     only_from c next (k ∷ ks) =
-        all_joined (λ f. OnlyField f.meaning) (members.fields_in class c next k.members) (members.fields_from class (c + 1) (members.next_fields next k.members) ks) (only_in c next k.members) (only_from (c + 1) (members.next_fields next k.members) ks)
+        all_joined (λ f. OnlyField f.meaning) (members.fields_in class c next (declarators.members k.members)) (members.fields_from class (c + 1) (members.next_fields next k.members) ks) (only_in c next (declarators.members k.members)) (only_from (c + 1) (members.next_fields next k.members) ks)
 
     constants_in : (c next : ℕ) (ms : List Member) → AllOf ConstantIs (members.fields_in class c next ms)
     constants_in c next [] = tt
@@ -183,7 +184,7 @@ module _ (unit : Source) (p : Program) (is : IsAccepted unit p) where
     constants_from : (c next : ℕ) (ks : List ClassDecl) → AllOf ConstantIs (members.fields_from class c next ks)
     constants_from c next [] = tt
     constants_from c next (k ∷ ks) =
-        all_joined ConstantIs (members.fields_in class c next k.members) (members.fields_from class (c + 1) (members.next_fields next k.members) ks) (constants_in c next k.members) (constants_from (c + 1) (members.next_fields next k.members) ks)
+        all_joined ConstantIs (members.fields_in class c next (declarators.members k.members)) (members.fields_from class (c + 1) (members.next_fields next k.members) ks) (constants_in c next (declarators.members k.members)) (constants_from (c + 1) (members.next_fields next k.members) ks)
 
   -- the type of a field of the program
   pub field_real : (number : ℕ) (fs : List ProgramField) (k : ℕ) → fields_fit p number fs ≡ true → k < length fs → is_type p (unwrap_or (slice_get fs k) no_field).ty ≡ true

@@ -15,6 +15,7 @@ use Rattle.ix_meaning.specs.declared.note.Rule.TheVariants as rule
 use Rattle.ix_meaning.specs.Classes.{class_named, first_class, first_or, parents, parents_by, parent, parent_in, parent_in_table, is_cyclic, supers}
 use Rattle.ix_meaning.specs.Limits.{Passed, limit, inheritance_limit, past_inheritance, most_inherited}
 use Rattle.ix_meaning.specs.Members.{World, world, methods}
+use Rattle.ix_meaning.specs.Declarators as declared
 use Rattle.ix_meaning.specs.Resolved.{Names, Accepts}
 use Rattle.ix_meaning.specs.Rules.{duplicate_name}
 use Rattle.ix_meaning.specs.Source.{notes, notes_from, class_notes, head_notes, parent_use, member_notes, place, member_named, default_notes_of, next_fields, is_taken, members_in}
@@ -79,7 +80,7 @@ acyclic_from : (w : World) (ps : List (Option ℕ)) (ms : List Signature) (c nex
 acyclic_from w ps ms c next [] clean k lt = absurd (omega (arith, lt))
 acyclic_from w ps ms c next (decl ∷ decls) clean zero lt =
     let own = (clean_parts (class_notes w ps ms c next decl) (notes_from w ps ms (c + 1) (next_fields next decl.members) decls) clean).0 in
-    let head = (clean_parts (head_notes w (is_cyclic ps c) c decl) (member_notes (place w ms c decl) (member_named decl.members) 0 next decl.members ++ default_notes_of w c decl) own).0 in
+    let head = (clean_parts (head_notes w (is_cyclic ps c) c decl) (member_notes (place w ms c decl) (member_named decl.members) 0 next (declared.members decl.members) ++ default_notes_of w c decl) own).0 in
     let behind = (clean_parts (duplicate_name (is_taken (w.class decl.name.text) c) decl.name.span) (parent_use w decl.parent ++ wrong_if (is_cyclic ps c) rule.CyclicClass decl.name.span) head).1 in
     let last = (clean_parts (parent_use w decl.parent) (wrong_if (is_cyclic ps c) rule.CyclicClass decl.name.span) behind).1 in
     let zero : c ≡ c + 0 = omega arith in

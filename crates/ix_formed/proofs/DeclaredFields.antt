@@ -31,10 +31,12 @@ use Rattle.ix_meaning.specs.Rules.{duplicate_name}
 use Rattle.ix_meaning.specs.Source as source
 use Rattle.ix_meaning.specs.Source.{Place, place}
 use Rattle.ix_meaning.specs.Types.{wrong_if}
+use Rattle.ix_meaning.specs.Declarators as declarators
 use Rattle.ix_plain.specs.Members.{field_of}
+use Rattle.ix_formed.proofs.FurtherDeclarators.{fields_same, written_members}
 use Rattle.ix_plain.specs.Scope.{declared_type}
 use Rattle.ix_formed.specs.Additions.{AllOf}
-use Rattle.ix_formed.specs.NoErrors.{Agrees, Say, MembersSay, ClassesSay}
+use Rattle.ix_formed.specs.NoErrors.{Agrees, Say, AllSay, ClassesSay}
 use Rattle.ix_formed.specs.Shape.{own_field, fields_of_class, fields_of}
 use Rattle.ix_formed.specs.Written.{is_written_type, is_written_init, is_written_decl, is_written_member, each_true, maybe_true}
 use Rattle.ix_formed.proofs.ClaimsFit.{Whenever}
@@ -134,7 +136,7 @@ module _ (names : Names) (parts : List Part) where
         (omega (arith, long, more, count), ap (λ (x : Field). x.class) here, typed.1 ∙ ap (λ t. Some t) (sym ty), ap (λ (x : Field). x.is_final) here, static)
 
     fields_in_class : (l : Place) (named : List ℕ → Option ℕ) (i c next : ℕ) (ms : List Member) (before later : List Field) → l.class ≡ c → p.fields ≡ before ++ (fields_of_class names c ms ++ later) → length before ≡ next
-        → MembersSay (Agrees names parts) l named i next ms → each_true is_written_member ms ≡ true → AllOf IsField (members.fields_in l.world.class c next ms)
+        → AllSay (Agrees names parts) l named i next ms → each_true is_written_member ms ≡ true → AllOf IsField (members.fields_in l.world.class c next ms)
     fields_in_class l named i c next [] before later class e count said w = tt
     fields_in_class l named i c next (member.Method m ∷ ms) before later class e count said w =
         fields_in_class l named (i + 1) c next ms before later class e count said.2 (and_parts (is_written_member (member.Method m)) (each_true is_written_member ms) w).1
@@ -180,8 +182,10 @@ module _ (names : Names) (parts : List Part) where
     fields_from_is w ps ss c next (k ∷ ks) before e count said wr =
         let parts_w = and_parts (each_true is_written_member k.members) (each_true (λ (k : ClassDecl). each_true is_written_member k.members) ks) wr in
         let own = fields_of_class names c k.members in
-        all_joined IsField (members.fields_in w.class c next k.members) (members.fields_from w.class (c + 1) (members.next_fields next k.members) ks)
-        (fields_in_class (place w ss c k) (source.member_named k.members) 0 c next k.members before (fields_of names (c + 1) ks) refl e count said.0.members parts_w.0)
+        let all = e ∙ ap (λ (l : List Field). before ++ (l ++ fields_of names (c + 1) ks)) (sym (fields_same names c None k.members)) in
+        all_joined IsField (members.fields_in w.class c next (declarators.members k.members)) (members.fields_from w.class (c + 1) (members.next_fields next k.members) ks)
+        (fields_in_class (place w ss c k) (source.member_named k.members) 0 c next (declarators.members k.members) before (fields_of names (c + 1) ks) refl all count said.0.fields
+        (written_members None k.members parts_w.0))
         (fields_from_is w ps ss (c + 1) (members.next_fields next k.members) ks (before ++ own) (e ∙ sym (append_assoc before own (fields_of names (c + 1) ks)))
         (let a = length-append before own in let b = next_counts next c k.members in omega (arith, a, b, count)) said.1 parts_w.1)
 

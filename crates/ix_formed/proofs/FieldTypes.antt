@@ -7,6 +7,7 @@ use Rattle.ix_core.specs.declared.program.Program.{Program}
 use Rattle.ix_core.specs.Tables.{field_at, no_field}
 use Rattle.ix_core.specs.Types.{is_type}
 use Rattle.ix_core.proofs.Cases.{by_test}
+use Rattle.ix_tree.specs.declared.annot.Annot.{Annot}
 use Rattle.ix_tree.specs.declared.decl.LocalDecl.{LocalDecl}
 use Rattle.ix_tree.specs.declared.decl.Member.{Member}
 use Rattle.ix_tree.specs.declared.decl.Member.TheVariants as member
@@ -26,7 +27,9 @@ use Rattle.ix_meaning.specs.Source.{Place}
 use Rattle.ix_meaning.specs.Types.{wrong_if}
 use Rattle.ix_meaning.specs.Values as reading
 use Rattle.ix_plain.specs.Counts.{one, most_counted}
+use Rattle.ix_meaning.specs.Declarators.{with_annots}
 use Rattle.ix_plain.specs.Members.{field_of, next_field}
+use Rattle.ix_formed.proofs.FurtherDeclarators.{written_with}
 use Rattle.ix_plain.specs.Scope.{declared_type}
 use Rattle.ix_formed.specs.NoErrors.{Agrees, MembersSay}
 use Rattle.ix_formed.specs.Shape.{own_field, fields_of_class, field_count}
@@ -84,6 +87,10 @@ module _ (unit : Source) (p : Program) (is : IsAccepted unit p) where
         said = subst (λ o. Says table all (reading.filling i (source.member_scope l true) o)) has.2 instance;
       }
 
+  -- whatever annotations it has
+  with_own : (l : Place) (k : ℕ) (before behind : List Annot) (d : LocalDecl) (init : Init) → IsTyped p table all l k (with_annots before behind d) init → IsTyped p table all l k d init
+  with_own l k before behind d init h = record { written = h.written; there = h.there; own = h.own; ty = h.ty; real = h.real; said = h.said }
+
   -- the members of a class, where the first field has that number
   pub members_typed : (l : Place) (named : List ℕ → Option ℕ) (i c k : ℕ) (ms : List Member) (before later : List Field) → l.class ≡ c → p.fields ≡ before ++ (fields_of_class table c ms ++ later) → length before ≡ k → k + field_count ms ≤ most_counted
       → MembersSay (Agrees table all) l named i k ms → each_true is_written_member ms ≡ true → AllTyped p table all l k ms
@@ -109,8 +116,8 @@ module _ (unit : Source) (p : Program) (is : IsAccepted unit p) where
       let counted : ◌≡◌ {A = ℕ} (if d.mods.is_static then 0 else 1) 1 = ap (λ b. if b then 0 else 1) f in
       let same : next_field k d ≡ k + 1 = ap (λ b. if b then k else one k) f ∙ one_more k (omega (arith, few, counted)) in
       let fields : p.fields ≡ before ++ field_of table c d ∷ (fields_of_class table c ms ++ later) = e ∙ ap (λ (x : List Field). before ++ ((x ++ fields_of_class table c ms) ++ later)) one_own in
-      let own = subst (λ n. Says table all (source.field_notes l (members.field_of l.world.class n k d) d)) class said.1 in (
-        (λ free init is_init. one_typed l c k d before (fields_of_class table c ms ++ later) class free fields count own parts_w.0 init is_init),
+      let own = subst (λ n. Says table all (source.field_notes l (members.field_of l.world.class n k (with_annots said.1.0 said.1.1 d)) (with_annots said.1.0 said.1.1 d))) class said.1.3 in (
+        (λ free init is_init. with_own l k said.1.0 said.1.1 d init (one_typed l c k (with_annots said.1.0 said.1.1 d) before (fields_of_class table c ms ++ later) class free fields count own (written_with said.1.0 said.1.1 d said.1.2 parts_w.0) init is_init)),
         subst (λ n. AllTyped p table all l n ms) (up ∙ sym same)
             (members_typed l named (i + 1) c (members.next_field k d) ms (before ++ field_of table c d ∷ []) later class
             (fields ∙ sym (append_assoc before (field_of table c d ∷ []) (fields_of_class table c ms ++ later)))

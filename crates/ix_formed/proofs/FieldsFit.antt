@@ -28,7 +28,9 @@ use Rattle.ix_meaning.specs.Resolved.{names, Accepts}
 use Rattle.ix_meaning.specs.Scope.{annot_names}
 use Rattle.ix_meaning.specs.Source as source
 use Rattle.ix_meaning.specs.Source.{Place, place, members_in, notes}
+use Rattle.ix_meaning.specs.Declarators.{with_annots}
 use Rattle.ix_plain.specs.Members.{field_of, first_numbers}
+use Rattle.ix_formed.proofs.FurtherDeclarators.{written_with}
 use Rattle.ix_plain.specs.Scope.{declared_type, declared_claims}
 use Rattle.ix_plain.specs.Program as program
 use Rattle.ix_formed.specs.Additions.{AllOf}
@@ -186,7 +188,7 @@ module _ (unit : Source) (p : Program) (is : IsAccepted unit p) where
       (λ f.
       let one : own_field (names unit) c d ≡ field_of (names unit) c d ∷ [] = ap (λ b. if b then [] else field_of (names unit) c d ∷ []) f in
       let up : members.next_field next d ≡ next + 1 = ap (λ b. if b then next else next + 1) f in
-      let fit = one_field_fits w ss c next k d same lt f parts_w.0 says.1 in
+      let fit = one_field_fits w ss c next k (with_annots says.1.0 says.1.1 d) same lt f (written_with says.1.0 says.1.1 d says.1.2 parts_w.0) says.1.3 in
       let field = field_of (names unit) c d in
       let types = others (name.FieldNamed next) (field_type_of_name p field) in
       let count : next + length (field ∷ fields_of_class (names unit) c ms) ≡ (next + 1) + length (fields_of_class (names unit) c ms) = omega arith in

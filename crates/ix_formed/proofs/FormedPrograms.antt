@@ -37,7 +37,7 @@ use Rattle.ix_formed.proofs.ProgramsHaveShape.{params_behind}
 use Rattle.ix_formed.proofs.SizesFit.{IsSmallBody, sizes_do_fit}
 use Rattle.ix_formed.proofs.ClassFields.{IsMember, members_are}
 
-few_first : (b : Bool) → ◌≤◌ (if b then 0 else 1) 1
+pub few_first : (b : Bool) → ◌≤◌ (if b then 0 else 1) 1
 few_first true = omega arith
 few_first false = omega arith
 

@@ -48,12 +48,12 @@ body_forms body = item_forms body.made.items
 abbrev pub Grows : Body → ℕ → Body → Type 0
 Grows body n after = body_forms after ≤ body_forms body + n
 
-then_grows : (body : Body) (n m : ℕ) (r : Within Body) (next : Body → Within Body) → Makes (Grows body n) r → ((second : Body) → Makes (Grows second m) (next second)) → Makes (Grows body (n + m)) (r >>= next)
+pub then_grows : (body : Body) (n m : ℕ) (r : Within Body) (next : Body → Within Body) → Makes (Grows body n) r → ((second : Body) → Makes (Grows second m) (next second)) → Makes (Grows body (n + m)) (r >>= next)
 then_grows body n m r next first second =
     makes_then (Grows body n) (Grows body (n + m)) r next first
     (λ middle a. makes_more (Grows middle m) (Grows body (n + m)) (λ third b. omega (arith, a, b)) (next middle) (second middle))
 
-grows_as : (body : Body) (n m : ℕ) (r : Within Body) → n ≤ m → Makes (Grows body n) r → Makes (Grows body m) r
+pub grows_as : (body : Body) (n m : ℕ) (r : Within Body) → n ≤ m → Makes (Grows body n) r → Makes (Grows body m) r
 grows_as body n m r le g = makes_more (Grows body n) (Grows body m) (λ after a. omega (arith, a, le)) r g
 
 -- ---- full expressions

@@ -1,5 +1,6 @@
 pub mod PlainItems
 pub mod NumberLists
+pub mod FurtherDeclarators
 pub mod EachMember
 pub mod SameTypes
 pub mod TypedPoints

@@ -74,7 +74,7 @@ same_type_is (type.Plain a) (type.Array b n ds) e = absurd (false≢true e)
 same_type_is (type.Array a m cs) type.Void e = absurd (false≢true e)
 same_type_is (type.Array a m cs) (type.Plain b) e = absurd (false≢true e)
 
-neither : (a b : Bool) → (a || b) ≡ false → (a ≡ false) × (b ≡ false)
+pub neither : (a b : Bool) → (a || b) ≡ false → (a ≡ false) × (b ≡ false)
 neither true b e = absurd (false≢true (sym e))
 neither false b e = (refl, e)
 

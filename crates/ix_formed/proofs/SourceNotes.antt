@@ -31,6 +31,8 @@ use Rattle.ix_meaning.specs.declared.note.Rule.TheVariants as rule
 use Rattle.ix_meaning.specs.Annotated as annotated
 use Rattle.ix_meaning.specs.Annotated.{given, aimed, written, variable, static_field, of_method, of_result}
 use Rattle.ix_meaning.specs.Bodies as bodies
+use Rattle.ix_meaning.specs.Declarators as joint
+use Rattle.ix_meaning.specs.Declarators.{with_annots, counting, counting_behind, further, declarators, annots_before, annots_behind, field_in, first_of, members_behind}
 use Rattle.ix_meaning.specs.Bodies.{Telling, telling, kind_telling, all_told, all_declared, declares_note, init_notes}
 use Rattle.ix_meaning.specs.Classes.{parents, is_cyclic}
 use Rattle.ix_meaning.specs.Inheritance.{hides, clashes, overridden, differs_from}
@@ -60,10 +62,11 @@ module _ (note : Note → ℕ) (part : Part → ℕ) (weighed : IsWeighed note p
   declares_weighs d None claims free = omega arith
   declares_weighs d (Some ty) claims free = let e = weighed.declared d (record { ty = ty; claims = record { list = claims; effect_free = free } }) in omega (arith, e)
 
-  declaration_weighs : (class : List ℕ → Option ℕ) (names : Names) (first second : Target) (before : List Annot) (ty : TypeTree) → N (annotated.declaration class names first second before ty).notes ≤ P (type_parts ty)
-  declaration_weighs class names first second before ty =
-      let a = both (given (aimed names first) before).notes (given (aimed names second) ty.annots).notes 0 0 (given_weigh note part weighed (aimed names first) before) (given_weigh note part weighed (aimed names second) ty.annots) in
-      let b = both (written class ty []).notes ((given (aimed names first) before).notes ++ (given (aimed names second) ty.annots).notes) (P (type_parts ty)) 0 (written_weighs note part weighed class ty []) (omega (arith, a)) in
+  declaration_weighs : (class : List ℕ → Option ℕ) (names : Names) (first second : Target) (before behind : List Annot) (ty : TypeTree)
+      → N (annotated.declaration class names first second before (record ty { annots = behind })).notes ≤ P (type_parts ty)
+  declaration_weighs class names first second before behind ty =
+      let a = both (given (aimed names first) before).notes (given (aimed names second) behind).notes 0 0 (given_weigh note part weighed (aimed names first) before) (given_weigh note part weighed (aimed names second) behind) in
+      let b = both (written class ty []).notes ((given (aimed names first) before).notes ++ (given (aimed names second) behind).notes) (P (type_parts ty)) 0 (written_weighs note part weighed class ty []) (omega (arith, a)) in
       omega (arith, b)
 
   init_weighs : (init : Option Init) (s : Scope) (ty : Option Type_) → N (init_notes init s ty) ≤ P (parts.maybe init_parts init)
@@ -81,10 +84,10 @@ module _ (note : Note → ℕ) (part : Part → ℕ) (weighed : IsWeighed note p
   abbrev Tells : Telling → ℕ → Type 0
   Tells t n = (s : Scope) → N (t.notes s) ≤ n
 
-  declared_tells : (d : LocalDecl) → Tells (bodies.declared d) (P (decl_parts d))
-  declared_tells d s =
-      let l = bodies.local_declaration d s in
-      let a = declaration_weighs s.world.class (bodies.own_names d s) (annotated.target_before d.ty) on.Array d.mods.annots d.ty in
+  declared_tells : (before behind : List Annot) (d : LocalDecl) → Tells (bodies.declared (with_annots before behind d)) (P (decl_parts d))
+  declared_tells before behind d s =
+      let l = bodies.local_declaration (with_annots before behind d) s in
+      let a = declaration_weighs s.world.class (bodies.own_names d s) (annotated.target_before d.ty) on.Array before behind d.ty in
       let c = both (declares_note d.name.span l.ty l.claims false) (init_notes d.init (bodies.pending d s) l.ty) (part (elsewhere d.name)) (P (parts.maybe init_parts d.init))
       (declares_weighs d.name l.ty l.claims false) (init_weighs d.init (bodies.pending d s) l.ty) in
       let b = both (rules.duplicate_name (bodies.is_taken s d.name) d.name.span) (declares_note d.name.span l.ty l.claims false ++ init_notes d.init (bodies.pending d s) l.ty) 0
@@ -96,14 +99,18 @@ module _ (note : Note → ℕ) (part : Part → ℕ) (weighed : IsWeighed note p
   then_tells : (t u : Telling) (n m : ℕ) → Tells t n → Tells u m → Tells (bodies.then_told t u) (n + m)
   then_tells t u n m a b s = both (t.notes s) (u.notes (bodies.after t s)) n m (a s) (b (bodies.after t s))
 
-  all_declared_tell : (ds : List LocalDecl) → Tells (all_declared ds) (P (listed (parts.each decl_parts ds)))
-  all_declared_tell ds s = let e = together_tell ds s in omega (arith, e)
-    where
-      together_tell : (ds : List LocalDecl) → Tells (all_declared ds) (P (together (parts.each decl_parts ds)))
-      together_tell [] s = omega arith
-      together_tell (d ∷ ds) s =
-          let a = then_tells (bodies.declared d) (all_declared ds) (P (decl_parts d)) (P (together (parts.each decl_parts ds))) (declared_tells d) (together_tell ds) s in
-          let b = total_append part (decl_parts d) (together (parts.each decl_parts ds)) in omega (arith, a, b)
+  all_further_tell : (first : LocalDecl) (ds : List LocalDecl) → Tells (all_declared (map (further first) ds)) (P (together (parts.each decl_parts ds)))
+  all_further_tell first [] s = omega arith
+  all_further_tell first (d ∷ ds) s =
+      let a = then_tells (bodies.declared (further first d)) (all_declared (map (further first) ds)) (P (decl_parts d)) (P (together (parts.each decl_parts ds)))
+      (declared_tells (counting first.mods.annots) (counting_behind first d) d) (all_further_tell first ds) s in
+      let b = total_append part (decl_parts d) (together (parts.each decl_parts ds)) in omega (arith, a, b)
+
+  all_declared_tell : (ds : List LocalDecl) → Tells (all_declared (declarators ds)) (P (listed (parts.each decl_parts ds)))
+  all_declared_tell [] s = omega arith
+  all_declared_tell (d ∷ ds) s =
+      let a = then_tells (bodies.declared d) (all_declared (map (further d) ds)) (P (decl_parts d)) (P (together (parts.each decl_parts ds))) (declared_tells d.mods.annots d.ty.annots d) (all_further_tell d ds) s in
+      let b = total_append part (decl_parts d) (together (parts.each decl_parts ds)) in omega (arith, a, b)
 
   needed_weighs : (e : Expr) (need : Need) (s : Scope) → N (bodies.needed e need s) ≤ P (expr_parts e)
   needed_weighs e need s = check_weighs note part weighed (reading e) (P (expr_parts e)) (expression_weighs note part weighed e) s need
@@ -222,25 +229,26 @@ module _ (note : Note → ℕ) (part : Part → ℕ) (weighed : IsWeighed note p
 
   -- ---- fields
 
-  field_declaration_weighs : (l : Place) (f : Field) (d : LocalDecl) → N (source.field_declaration l f d).notes ≤ P (type_parts d.ty)
-  field_declaration_weighs l f d = static_or_not f.is_static
+  field_declaration_weighs : (l : Place) (f : Field) (before behind : List Annot) (d : LocalDecl) → N (source.field_declaration l f (with_annots before behind d)).notes ≤ P (type_parts d.ty)
+  field_declaration_weighs l f before behind d = static_or_not f.is_static
     where
-      static_or_not : (b : Bool) → N (if b then static_field l.world.class d.mods.annots d.ty
-          else variable l.world.class (annot_names (source.member_scope l true) (Some (name.FieldNamed (source.field_number f.meaning))) None) d.mods.annots d.ty).notes ≤ P (type_parts d.ty)
-      static_or_not true = declaration_weighs l.world.class (annotated.names_nothing on.Other) on.Other on.Other d.mods.annots d.ty
+      static_or_not : (b : Bool) → N (if b then static_field l.world.class before (record d.ty { annots = behind })
+          else variable l.world.class (annot_names (source.member_scope l true) (Some (name.FieldNamed (source.field_number f.meaning))) None) before (record d.ty { annots = behind })).notes ≤ P (type_parts d.ty)
+      static_or_not true = declaration_weighs l.world.class (annotated.names_nothing on.Other) on.Other on.Other before behind d.ty
       static_or_not false =
-          declaration_weighs l.world.class (annot_names (source.member_scope l true) (Some (name.FieldNamed (source.field_number f.meaning))) None) (annotated.target_before d.ty) on.Array d.mods.annots d.ty
+          declaration_weighs l.world.class (annot_names (source.member_scope l true) (Some (name.FieldNamed (source.field_number f.meaning))) None) (annotated.target_before d.ty) on.Array before behind d.ty
 
-  field_weighs : (l : Place) (f : Field) (d : LocalDecl) → N (source.field_notes l f d) ≤ P (decl_parts d)
-  field_weighs l f d =
+  field_weighs : (l : Place) (f : Field) (before behind : List Annot) (d : LocalDecl) → N (source.field_notes l f (with_annots before behind d)) ≤ P (decl_parts d)
+  field_weighs l f before behind d =
+      let own = source.field_declaration l f (with_annots before behind d) in
       let init = init_notes d.init (source.member_scope l (not f.is_static)) f.ty in
-      let declares = declares_note d.name.span f.ty (if f.is_static then [] else (source.field_declaration l f d).claims) false in
-      let a = both declares init (part (elsewhere d.name)) (P (parts.maybe init_parts d.init)) (declares_weighs d.name f.ty (if f.is_static then [] else (source.field_declaration l f d).claims) false)
+      let declares = declares_note d.name.span f.ty (if f.is_static then [] else own.claims) false in
+      let a = both declares init (part (elsewhere d.name)) (P (parts.maybe init_parts d.init)) (declares_weighs d.name f.ty (if f.is_static then [] else own.claims) false)
       (init_weighs d.init (source.member_scope l (not f.is_static)) f.ty) in
-      let b = both (source.field_declaration l f d).notes (declares ++ init) (P (type_parts d.ty)) (part (elsewhere d.name) + P (parts.maybe init_parts d.init)) (field_declaration_weighs l f d) a in
-      let c = both (rules.duplicate_name (hides l.world f) d.name.span) ((source.field_declaration l f d).notes ++ (declares ++ init)) 0
+      let b = both own.notes (declares ++ init) (P (type_parts d.ty)) (part (elsewhere d.name) + P (parts.maybe init_parts d.init)) (field_declaration_weighs l f before behind d) a in
+      let c = both (rules.duplicate_name (hides l.world f) d.name.span) (own.notes ++ (declares ++ init)) 0
       (P (type_parts d.ty) + (part (elsewhere d.name) + P (parts.maybe init_parts d.init))) (broken_weighs note part weighed _ rule.DuplicateName d.name.span) b in
-      let e = both (wrong_if (source.is_refused f) rule.NotStatic d.name.span) (rules.duplicate_name (hides l.world f) d.name.span ++ ((source.field_declaration l f d).notes ++ (declares ++ init))) 0
+      let e = both (wrong_if (source.is_refused f) rule.NotStatic d.name.span) (rules.duplicate_name (hides l.world f) d.name.span ++ (own.notes ++ (declares ++ init))) 0
       (0 + (P (type_parts d.ty) + (part (elsewhere d.name) + P (parts.maybe init_parts d.init)))) (broken_weighs note part weighed _ rule.NotStatic d.name.span) c in
       let h = decl_has d in omega (arith, e, h)
 
@@ -254,7 +262,7 @@ module _ (note : Note → ℕ) (part : Part → ℕ) (weighed : IsWeighed note p
       let a = both (declares_note d.name.span own.ty own.claims false) rest (part (elsewhere d.name)) (P (together (parts.each decl_parts ds))) (declares_weighs d.name own.ty own.claims false)
       (params_weigh l s (before ++ d ∷ []) (k + 1) ds) in
       let b = both own.notes (declares_note d.name.span own.ty own.claims false ++ rest) (P (type_parts d.ty)) (part (elsewhere d.name) + P (together (parts.each decl_parts ds)))
-      (declaration_weighs l.world.class (annot_names s (Some (name.Param k)) None) (annotated.target_before d.ty) on.Array d.mods.annots d.ty) a in
+      (declaration_weighs l.world.class (annot_names s (Some (name.Param k)) None) (annotated.target_before d.ty) on.Array d.mods.annots d.ty.annots d.ty) a in
       let c = both (rules.duplicate_name (source.is_named_in before d.name.text) d.name.span) (own.notes ++ (declares_note d.name.span own.ty own.claims false ++ rest)) 0
       (P (type_parts d.ty) + (part (elsewhere d.name) + P (together (parts.each decl_parts ds)))) (broken_weighs note part weighed _ rule.DuplicateName d.name.span) b in
       let h = decl_has d in
@@ -262,7 +270,7 @@ module _ (note : Note → ℕ) (part : Part → ℕ) (weighed : IsWeighed note p
 
   result_weighs : (l : Place) (s : Scope) (annots : List Annot) (ty : Option TypeTree) → N (source.result_of l s annots ty).notes ≤ P (parts.maybe type_parts ty)
   result_weighs l s annots None = given_weigh note part weighed (aimed (annot_names s None None) on.Other) annots
-  result_weighs l s annots (Some ty) = declaration_weighs l.world.class (annot_names s None None) (annotated.target_before ty) on.Array annots ty
+  result_weighs l s annots (Some ty) = declaration_weighs l.world.class (annot_names s None None) (annotated.target_before ty) on.Array annots ty.annots ty
 
   result_given_weighs : (l : Place) (s : Scope) (m : Signature) (d : MethodDecl) → N (source.result_given l s m d).notes ≤ P (parts.maybe type_parts d.result)
   result_given_weighs l s m d = constructor_or_not m.constructor
@@ -355,18 +363,26 @@ module _ (note : Note → ℕ) (part : Part → ℕ) (weighed : IsWeighed note p
 
   -- ---- members and classes
 
-  one_member_weighs : (l : Place) (next : ℕ) (m : Member) → N (source.one_member l next m) ≤ P (member_parts m)
-  one_member_weighs l next (member.Field d) = field_weighs l (field_of l.world.class l.class next d) d
-  one_member_weighs l next (member.Method m) = method_weighs l (signature l.world.class l.class m) m
+  -- a member, which weighs no more than these parts, and those behind it
+  one_more_weighs : (l : Place) (named : List ℕ → Option ℕ) (i next : ℕ) (m : Member) (ms : List Member) (first rest : ℕ) → N (source.one_member l next m) ≤ first
+      → N (source.member_notes l named (i + 1) (source.next_member next m) ms) ≤ rest → N (source.member_notes l named i next (m ∷ ms)) ≤ first + rest
+  one_more_weighs l named i next m ms first rest one others =
+      let a = both (rules.duplicate_name (source.is_taken (named (source.member_name m).text) i) (source.member_name m).span) (source.one_member l next m) 0 first
+      (broken_weighs note part weighed _ rule.DuplicateName (source.member_name m).span) one in
+      let b = both (source.named_member l named i next m) (source.member_notes l named (i + 1) (source.next_member next m) ms) (0 + first) rest a others in omega (arith, b)
 
-  members_weigh : (l : Place) (named : List ℕ → Option ℕ) (i next : ℕ) (ms : List Member) → N (source.member_notes l named i next ms) ≤ P (together (parts.each member_parts ms))
-  members_weigh l named i next [] = omega arith
-  members_weigh l named i next (m ∷ ms) =
-      let a = both (rules.duplicate_name (source.is_taken (named (source.member_name m).text) i) (source.member_name m).span) (source.one_member l next m) 0 (P (member_parts m))
-      (broken_weighs note part weighed _ rule.DuplicateName (source.member_name m).span) (one_member_weighs l next m) in
-      let b = both (source.named_member l named i next m) (source.member_notes l named (i + 1) (source.next_member next m) ms) (0 + P (member_parts m)) (P (together (parts.each member_parts ms))) a
-      (members_weigh l named (i + 1) (source.next_member next m) ms) in
-      let c = total_append part (member_parts m) (together (parts.each member_parts ms)) in omega (arith, b, c)
+  members_weigh : (l : Place) (named : List ℕ → Option ℕ) (i next : ℕ) (first : Option LocalDecl) (ms : List Member) → N (source.member_notes l named i next (members_behind first ms)) ≤ P (together (parts.each member_parts ms))
+  members_weigh l named i next first [] = omega arith
+  members_weigh l named i next first (member.Field d ∷ ms) =
+      let own = field_in first d in
+      let b = one_more_weighs l named i next (member.Field own) (members_behind (Some (first_of first d)) ms) (P (decl_parts d)) (P (together (parts.each member_parts ms)))
+      (field_weighs l (field_of l.world.class l.class next own) (annots_before first d) (annots_behind first d) d)
+      (members_weigh l named (i + 1) (source.next_member next (member.Field d)) (Some (first_of first d)) ms) in
+      let c = total_append part (decl_parts d) (together (parts.each member_parts ms)) in omega (arith, b, c)
+  members_weigh l named i next first (member.Method m ∷ ms) =
+      let b = one_more_weighs l named i next (member.Method m) (members_behind None ms) (P (parts.method_parts m)) (P (together (parts.each member_parts ms)))
+      (method_weighs l (signature l.world.class l.class m) m) (members_weigh l named (i + 1) next None ms) in
+      let c = total_append part (parts.method_parts m) (together (parts.each member_parts ms)) in omega (arith, b, c)
 
   default_weighs : (w : World) (c : ℕ) (k : ClassDecl) → N (source.default_notes_of w c k) ≤ 0
   default_weighs w c k = constructor_or_not (source.has_constructor k.members)
@@ -386,11 +402,11 @@ module _ (note : Note → ℕ) (part : Part → ℕ) (weighed : IsWeighed note p
   class_weighs : (w : World) (ps : List (Option ℕ)) (ms : List Signature) (c next : ℕ) (k : ClassDecl) → N (source.class_notes w ps ms c next k) ≤ P (class_parts k)
   class_weighs w ps ms c next k =
       let cyclic = is_cyclic ps c in
-      let members = source.member_notes (source.place w ms c k) (source.member_named k.members) 0 next k.members in
+      let members = source.member_notes (source.place w ms c k) (source.member_named k.members) 0 next (joint.members k.members) in
       let a = both (source.parent_use w k.parent) (rules.cyclic_class cyclic k.name.span) (P (parts.maybe other_name k.parent)) 0 (parent_weighs w k.parent) (broken_weighs note part weighed _ rule.CyclicClass k.name.span) in
       let b = both (rules.duplicate_name (source.is_taken (w.class k.name.text) c) k.name.span) (source.parent_use w k.parent ++ rules.cyclic_class cyclic k.name.span) 0 (P (parts.maybe other_name k.parent) + 0)
       (broken_weighs note part weighed _ rule.DuplicateName k.name.span) a in
-      let d = both members (source.default_notes_of w c k) (P (together (parts.each member_parts k.members))) 0 (members_weigh (source.place w ms c k) (source.member_named k.members) 0 next k.members) (default_weighs w c k) in
+      let d = both members (source.default_notes_of w c k) (P (together (parts.each member_parts k.members))) 0 (members_weigh (source.place w ms c k) (source.member_named k.members) 0 next None k.members) (default_weighs w c k) in
       let e = both (source.head_notes w cyclic c k) (members ++ source.default_notes_of w c k) (0 + (P (parts.maybe other_name k.parent) + 0)) (P (together (parts.each member_parts k.members)) + 0) b d in
       let f = total_append part (parts.maybe other_name k.parent) (listed (parts.each member_parts k.members)) in omega (arith, e, f)
 

@@ -1,20 +1,20 @@
 -- The superclasses of a class are its ancestors in the program, and it has the fields that it lists and inherits.
-use Rattle.std.proofs.Common.{◌≡◌, ◌≤◌, ◌<◌, ℕ, zero, suc, ◌+◌, Bool, true, false, List, [], ◌∷◌, length, Option, Some, None, sym, ap, subst, ◌∙◌, arith, ⊎_elim}
-use Rattle.std.specs.Prelude.{if◌then◌else◌, ◌==◌, ◌||◌, ◌&&◌, reverse, slice_get, unwrap_or}
+use Rattle.std.proofs.Common.{◌≡◌, ◌≤◌, ◌<◌, ℕ, zero, suc, ◌+◌, true, false, List, [], ◌∷◌, length, Option, Some, None, sym, ap, subst, ◌∙◌, arith}
+use Rattle.std.specs.Prelude.{◌==◌, ◌||◌, ◌&&◌, reverse, slice_get, unwrap_or}
 use Rattle.std.specs.List.{list_all}
 use Rattle.std.proofs.lemmas.Bool.{false≢true, and_parts}
-use Rattle.std.proofs.lemmas.Grind.{reverse_onto}
 use Rattle.ix_core.specs.declared.program.Class.{Class}
 use Rattle.ix_core.specs.declared.program.Field.{Field}
 use Rattle.ix_core.specs.declared.program.Program.{Program}
 use Rattle.ix_core.specs.Formed.{are_distinct, numbers_where, ends_within}
 use Rattle.ix_core.specs.Tables.{class_at, field_at, no_field, no_class, way_up, ancestors, all_fields, is_among, most_on_way}
 use Rattle.ix_core.specs.Types.{is_below}
-use Rattle.ix_core.proofs.Ancestors.{first_among, rest_among, among_parts, above, front_among, back_among, flat_among}
+use Rattle.ix_core.proofs.Ancestors.{first_among, rest_among, above, flat_among}
 use Rattle.ix_core.proofs.Cases.{by_test, equal}
 use Rattle.ix_core.proofs.FormedParts.{among_all}
 use Rattle.ix_meaning.specs.Classes as classes
 use Rattle.ix_meaning.specs.Classes.{parent, onward, supers, is_cyclic}
+use Rattle.ix_core.proofs.TypedFields.{among_reverse, where_has}
 use Rattle.ix_formed.specs.Additions.{AllOf}
 use Rattle.ix_formed.specs.Shape.{AllNumbered, ListsFields}
 use Rattle.ix_formed.proofs.NumberLists.{is_itself}
@@ -26,29 +26,6 @@ among_same n [] e = absurd (false≢true e)
 among_same n (x ∷ xs) e =
     by_test (x == n) (λ t. first_among x n xs t)
     (λ f. rest_among x n xs (among_same n xs (sym (ap (λ b. b || classes.is_among n xs) f) ∙ e)))
-
-among_reverse : (numbers : List ℕ) (number : ℕ) → is_among numbers number ≡ true → is_among (reverse numbers) number ≡ true
-among_reverse [] number e = absurd (false≢true e)
-among_reverse (first ∷ numbers) number e =
-    subst (λ l. is_among l number ≡ true) (sym (reverse_onto numbers first []))
-    (⊎_elim
-    (λ here. back_among (reverse numbers) (first ∷ []) number (first_among first number [] here))
-    (λ rest. front_among (reverse numbers) (first ∷ []) number (among_reverse numbers number rest))
-    (among_parts first number numbers e))
-
-where_has : {A : Type 0} (d : A) (is : A → Bool) (first : ℕ) (items : List A) (k : ℕ) → k < length items → is (unwrap_or (slice_get items k) d) ≡ true → is_among (numbers_where is first items) (first + k) ≡ true
-where_has d is first [] k lt e = absurd (omega (arith, lt))
-where_has d is first (item ∷ items) zero lt e =
-    let same : first ≡ first + 0 = omega arith in
-    subst (λ b. is_among (if b then first ∷ numbers_where is (first + 1) items else numbers_where is (first + 1) items) (first + 0) ≡ true) (sym e)
-    (first_among first (first + 0) (numbers_where is (first + 1) items) (subst (λ n. (first == n) ≡ true) same (is_itself first)))
-where_has d is first (item ∷ items) (suc k) lt e =
-    let same : (first + 1) + k ≡ first + suc k = omega arith in
-    let there = subst (λ n. is_among (numbers_where is (first + 1) items) n ≡ true) same (where_has d is (first + 1) items k (omega (arith, lt)) e) in
-    by_test (is item)
-    (λ t. subst (λ b. is_among (if b then first ∷ numbers_where is (first + 1) items else numbers_where is (first + 1) items) (first + suc k) ≡ true) (sym t)
-    (rest_among first (first + suc k) (numbers_where is (first + 1) items) there))
-    (λ f. subst (λ b. is_among (if b then first ∷ numbers_where is (first + 1) items else numbers_where is (first + 1) items) (first + suc k) ≡ true) (sym f) there)
 
 module _ (p : Program) (ps : List (Option ℕ)) (same : (class : ℕ) → (class_at p class).parent ≡ parent ps class) where
   abbrev parent_of : ℕ → Option ℕ

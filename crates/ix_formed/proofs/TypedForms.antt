@@ -1,9 +1,10 @@
 -- Every form of statement tells what it says.
-use Rattle.std.proofs.Common.{◌≡◌, ◌≤◌, ◌<◌, ℕ, ◌+◌, Bool, true, false, List, [], ◌∷◌, ◌++◌, length, Option, Some, None, refl, sym, ap, subst, ◌∙◌, arith, append_assoc}
+use Rattle.std.proofs.Common.{◌≡◌, ◌≤◌, ◌<◌, ℕ, ◌+◌, Bool, true, false, List, [], ◌∷◌, ◌++◌, length, map, Option, Some, None, refl, sym, ap, subst, ◌∙◌, arith, append_assoc}
 use Rattle.std.specs.Prelude.{if◌then◌else◌, ◌||◌, not}
 use Rattle.std.proofs.lemmas.Bool.{false≢true, and_parts}
 use Rattle.std.proofs.lemmas.List.{append-nil}
 use Rattle.ix_text.specs.declared.span.Span.{Span}
+use Rattle.ix_tree.specs.declared.annot.Annot.{Annot}
 use Rattle.ix_core.specs.declared.claim.Base.TheVariants as base
 use Rattle.ix_core.specs.declared.claim.Type_.{Type_}
 use Rattle.ix_core.specs.declared.claim.Type_.TheVariants as type
@@ -23,6 +24,8 @@ use Rattle.ix_meaning.specs.declared.note.NameError.{NameError}
 use Rattle.ix_meaning.specs.declared.note.Note.TheVariants.{Wrong}
 use Rattle.ix_meaning.specs.declared.note.Rule.TheVariants as rule
 use Rattle.ix_meaning.specs.Bodies as bodies
+use Rattle.ix_meaning.specs.Declarators.{with_annots, counting, counting_behind, further, declarators}
+use Rattle.ix_formed.proofs.FurtherDeclarators.{further_written}
 use Rattle.ix_meaning.specs.Bodies.{Telling, after, declared, all_declared, then_told, nothing as telling_nothing, noting}
 use Rattle.ix_meaning.specs.Rules as rules
 use Rattle.ix_meaning.specs.Scope.{Scope as Names}
@@ -318,29 +321,29 @@ module _ (g : Ground) (ground : IsGround g) where
   }
 
   -- a declarator, and those behind it
-  pub declared_tells : (d : LocalDecl) (ds : List LocalDecl) (s : Names) (start lo hi end : ℕ) (body : Body) (types : List Type_) (point : Point) → Scoped g s body.locals types body.made.free lo end → Stands g s body.locals point → s.next ≡ length body.locals
-      → hi ≤ end → LaidOut start lo hi (row (own_pieces d ++ further_pieces ds)) → AllOf (IsKnown g) (decl_parts d) → AllOf (IsKnown g) (together (parts.each decl_parts ds)) → is_written_decl d ≡ true → each_true is_written_decl ds ≡ true
-      → is_readable_decl d ≡ true → each_true is_readable_decl ds ≡ true → Says g ((declared d).notes s ++ (all_declared ds).notes (after (declared d) s))
-      → Makes (Tells g s (after (all_declared (d ∷ ds)) s) lo hi end end body types (decl_types g.site.names (d ∷ ds)) point) (statements.declarations (d ∷ ds) g.site end body)
-  declared_tells d [] s start lo hi end body types point scoped stands counted le laid known others wr wrs fine fines said =
+  pub declared_tells : (before behind : List Annot) (d first : LocalDecl) (ds : List LocalDecl) (s : Names) (start lo hi end : ℕ) (body : Body) (types : List Type_) (point : Point) → Scoped g s body.locals types body.made.free lo end → Stands g s body.locals point → s.next ≡ length body.locals
+      → hi ≤ end → LaidOut start lo hi (row (own_pieces d ++ further_pieces ds)) → AllOf (IsKnown g) (decl_parts d) → AllOf (IsKnown g) (together (parts.each decl_parts ds)) → is_written_type (with_annots before behind d).ty ≡ true → is_written_decl d ≡ true → each_true is_written_decl ds ≡ true
+      → is_readable_decl d ≡ true → each_true is_readable_decl ds ≡ true → Says g ((declared (with_annots before behind d)).notes s ++ (all_declared (map (further first) ds)).notes (after (declared (with_annots before behind d)) s))
+      → Makes (Tells g s (after (then_told (declared (with_annots before behind d)) (all_declared (map (further first) ds))) s) lo hi end end body types (decl_types g.site.names (d ∷ ds)) point) (statements.declarations (d ∷ ds) g.site end body)
+  declared_tells before behind d first [] s start lo hi end body types point scoped stands counted le laid known others wt wr wrs fine fines said =
       let q = split_maybe d.init start d.name.span.to hi [] laid.3 in
-      let n = parted ((declared d).notes s) [] said in
+      let n = parted ((declared (with_annots before behind d)).notes s) [] said in
       let w = and_parts (is_written_type d.ty) (maybe_true is_written_init d.init) wr in
       let up = q.3 in
       let a = laid.0 in
       let b = laid.1 in
       let c = q.1 in
-      subst (λ next. Makes (Tells g s next lo hi end end body types (decl_types g.site.names (d ∷ [])) point) (statements.declarations (d ∷ []) g.site end body)) (after_both (declared d) telling_nothing s)
-      (makes_then (Tells g s (after (declared d) s) lo q.0 end end body types (decl_types g.site.names (d ∷ [])) point) (Tells g s (after telling_nothing (after (declared d) s)) lo hi end end body types (decl_types g.site.names (d ∷ [])) point) (statements.declaration d g.site end body) _
-      (declaration_tells g ground d s lo q.0 end body types point scoped stands counted a b c (omega (arith, up, le)) n.0 w.0 start q.2 (decl_known d known) w.1 fine)
-      (λ second x. tells_both s (after (declared d) s) (after telling_nothing (after (declared d) s)) lo q.0 hi end body types (decl_types g.site.names (d ∷ [])) [] point second second x
-      (none_declared (after (declared d) s) q.0 hi end second (types ++ x.adds.added_types) x.adds.behind x.scoped x.stands x.counted up) (λ e. e) (omega (arith, a, b, c)) up))
-  declared_tells d (e ∷ ds) s start lo hi end body types point scoped stands counted le laid known others wr wrs fine fines said =
+      subst (λ next. Makes (Tells g s next lo hi end end body types (decl_types g.site.names (d ∷ [])) point) (statements.declarations (d ∷ []) g.site end body)) (after_both (declared (with_annots before behind d)) telling_nothing s)
+      (makes_then (Tells g s (after (declared (with_annots before behind d)) s) lo q.0 end end body types (decl_types g.site.names (d ∷ [])) point) (Tells g s (after telling_nothing (after (declared (with_annots before behind d)) s)) lo hi end end body types (decl_types g.site.names (d ∷ [])) point) (statements.declaration d g.site end body) _
+      (declaration_tells g ground (with_annots before behind d) s lo q.0 end body types point scoped stands counted a b c (omega (arith, up, le)) n.0 wt start q.2 (decl_known d known) w.1 fine)
+      (λ second x. tells_both s (after (declared (with_annots before behind d)) s) (after telling_nothing (after (declared (with_annots before behind d)) s)) lo q.0 hi end body types (decl_types g.site.names (d ∷ [])) [] point second second x
+      (none_declared (after (declared (with_annots before behind d)) s) q.0 hi end second (types ++ x.adds.added_types) x.adds.behind x.scoped x.stands x.counted up) (λ e. e) (omega (arith, a, b, c)) up))
+  declared_tells before behind d first (e ∷ ds) s start lo hi end body types point scoped stands counted le laid known others wt wr wrs fine fines said =
       let q = split_maybe d.init start d.name.span.to hi (further_pieces (e ∷ ds)) laid.3 in
       let skip = laid_parts start q.0 hi (placed.again (shared_pieces e)) (row (own_pieces e ++ further_pieces ds)) q.3 in
       let past = laid_up start q.0 skip.0 (placed.again (shared_pieces e)) skip.1 in
       let up = laid_up start skip.0 hi (row (own_pieces e ++ further_pieces ds)) skip.2 in
-      let n = parted ((declared d).notes s) ((all_declared (e ∷ ds)).notes (after (declared d) s)) said in
+      let n = parted ((declared (with_annots before behind d)).notes s) ((all_declared (map (further first) (e ∷ ds))).notes (after (declared (with_annots before behind d)) s)) said in
       let w = and_parts (is_written_type d.ty) (maybe_true is_written_init d.init) wr in
       let ws = and_parts (is_written_decl e) (each_true is_written_decl ds) wrs in
       let fs = and_parts (is_readable_decl e) (each_true is_readable_decl ds) fines in
@@ -348,27 +351,27 @@ module _ (g : Ground) (ground : IsGround g) where
       let a = laid.0 in
       let b = laid.1 in
       let c = q.1 in
-      subst (λ next. Makes (Tells g s next lo hi end end body types (decl_types g.site.names (d ∷ e ∷ ds)) point) (statements.declarations (d ∷ e ∷ ds) g.site end body)) (after_both (declared d) (all_declared (e ∷ ds)) s)
-      (makes_then (Tells g s (after (declared d) s) lo q.0 end end body types (decl_types g.site.names (d ∷ [])) point) (Tells g s (after (all_declared (e ∷ ds)) (after (declared d) s)) lo hi end end body types (decl_types g.site.names (d ∷ e ∷ ds)) point) (statements.declaration d g.site end body) _
-      (declaration_tells g ground d s lo q.0 end body types point scoped stands counted a b c (omega (arith, up, le, past)) n.0 w.0 start q.2 (decl_known d known) w.1 fine)
-      (λ second x. makes_more (Tells g (after (declared d) s) (after (all_declared (e ∷ ds)) (after (declared d) s)) skip.0 hi end end second (types ++ x.adds.added_types) (decl_types g.site.names (e ∷ ds)) x.adds.behind)
-      (Tells g s (after (all_declared (e ∷ ds)) (after (declared d) s)) lo hi end end body types (decl_types g.site.names (d ∷ e ∷ ds)) point)
-      (λ third y. tells_both s (after (declared d) s) (after (all_declared (e ∷ ds)) (after (declared d) s)) lo skip.0 hi end body types (decl_types g.site.names (d ∷ [])) (decl_types g.site.names (e ∷ ds)) point second third (tells_later s (after (declared d) s) lo q.0 skip.0 end body types (decl_types g.site.names (d ∷ [])) point second past x) y (λ e. e) (omega (arith, a, b, c, past)) up) (statements.declarations (e ∷ ds) g.site end second)
-      (declared_tells e ds (after (declared d) s) start skip.0 hi end second (types ++ x.adds.added_types) x.adds.behind (scoped_within g (after (declared d) s) second.locals (types ++ x.adds.added_types) second.made.free q.0 end skip.0 end past (omega arith) x.scoped)
-      x.stands x.counted le skip.2 k.0 k.1 ws.0 ws.1 fs.0 fs.1 n.1)))
+      subst (λ next. Makes (Tells g s next lo hi end end body types (decl_types g.site.names (d ∷ e ∷ ds)) point) (statements.declarations (d ∷ e ∷ ds) g.site end body)) (after_both (declared (with_annots before behind d)) (all_declared (map (further first) (e ∷ ds))) s)
+      (makes_then (Tells g s (after (declared (with_annots before behind d)) s) lo q.0 end end body types (decl_types g.site.names (d ∷ [])) point) (Tells g s (after (all_declared (map (further first) (e ∷ ds))) (after (declared (with_annots before behind d)) s)) lo hi end end body types (decl_types g.site.names (d ∷ e ∷ ds)) point) (statements.declaration d g.site end body) _
+      (declaration_tells g ground (with_annots before behind d) s lo q.0 end body types point scoped stands counted a b c (omega (arith, up, le, past)) n.0 wt start q.2 (decl_known d known) w.1 fine)
+      (λ second x. makes_more (Tells g (after (declared (with_annots before behind d)) s) (after (all_declared (map (further first) (e ∷ ds))) (after (declared (with_annots before behind d)) s)) skip.0 hi end end second (types ++ x.adds.added_types) (decl_types g.site.names (e ∷ ds)) x.adds.behind)
+      (Tells g s (after (all_declared (map (further first) (e ∷ ds))) (after (declared (with_annots before behind d)) s)) lo hi end end body types (decl_types g.site.names (d ∷ e ∷ ds)) point)
+      (λ third y. tells_both s (after (declared (with_annots before behind d)) s) (after (all_declared (map (further first) (e ∷ ds))) (after (declared (with_annots before behind d)) s)) lo skip.0 hi end body types (decl_types g.site.names (d ∷ [])) (decl_types g.site.names (e ∷ ds)) point second third (tells_later s (after (declared (with_annots before behind d)) s) lo q.0 skip.0 end body types (decl_types g.site.names (d ∷ [])) point second past x) y (λ e. e) (omega (arith, a, b, c, past)) up) (statements.declarations (e ∷ ds) g.site end second)
+      (declared_tells (counting first.mods.annots) (counting_behind first e) e first ds (after (declared (with_annots before behind d)) s) start skip.0 hi end second (types ++ x.adds.added_types) x.adds.behind (scoped_within g (after (declared (with_annots before behind d)) s) second.locals (types ++ x.adds.added_types) second.made.free q.0 end skip.0 end past (omega arith) x.scoped)
+      x.stands x.counted le skip.2 k.0 k.1 (further_written first e) ws.0 ws.1 fs.0 fs.1 n.1)))
 
   pub locals_tell : (ds : List LocalDecl) (s : Names) (lo hi end : ℕ) (body : Body) (types : List Type_) (point : Point) → Scoped g s body.locals types body.made.free lo end → Stands g s body.locals point → s.next ≡ length body.locals → hi ≤ end
-      → LaidOut lo lo hi (row (placed.locals_pieces ds)) → AllOf (IsKnown g) (together (parts.each decl_parts ds)) → each_true is_written_decl ds ≡ true → each_true is_readable_decl ds ≡ true → Says g ((all_declared ds).notes s)
-      → Makes (Tells g s (after (all_declared ds) s) lo hi end end body types (decl_types g.site.names ds) point) (statements.declarations ds g.site end body)
+      → LaidOut lo lo hi (row (placed.locals_pieces ds)) → AllOf (IsKnown g) (together (parts.each decl_parts ds)) → each_true is_written_decl ds ≡ true → each_true is_readable_decl ds ≡ true → Says g ((all_declared (declarators ds)).notes s)
+      → Makes (Tells g s (after (all_declared (declarators ds)) s) lo hi end end body types (decl_types g.site.names ds) point) (statements.declarations ds g.site end body)
   locals_tell [] s lo hi end body types point scoped stands counted le laid known wr fine said = none_declared s lo hi end body types point scoped stands counted laid
   locals_tell (d ∷ ds) s lo hi end body types point scoped stands counted le laid known wr fine said =
       let r = split_rows (shared_pieces d) (own_pieces d) lo lo hi (further_pieces ds) laid in
       let w = and_parts (is_written_decl d) (each_true is_written_decl ds) wr in
       let f = and_parts (is_readable_decl d) (each_true is_readable_decl ds) fine in
       let k = all_parted (IsKnown g) (decl_parts d) (together (parts.each decl_parts ds)) known in
-      makes_more (Tells g s (after (all_declared (d ∷ ds)) s) r.0 hi end end body types (decl_types g.site.names (d ∷ ds)) point) (Tells g s (after (all_declared (d ∷ ds)) s) lo hi end end body types (decl_types g.site.names (d ∷ ds)) point)
+      makes_more (Tells g s (after (all_declared (declarators (d ∷ ds))) s) r.0 hi end end body types (decl_types g.site.names (d ∷ ds)) point) (Tells g s (after (all_declared (declarators (d ∷ ds))) s) lo hi end end body types (decl_types g.site.names (d ∷ ds)) point)
       (λ third y. record { adds = adds_as g s r.0 hi end lo hi end body types point third r.1 (omega arith) (omega arith) y.adds; scoped = y.scoped; stands = y.stands; counted = y.counted; typed = y.typed }) (statements.declarations (d ∷ ds) g.site end body)
-      (declared_tells d ds s lo r.0 hi end body types point (scoped_within g s body.locals types body.made.free lo end r.0 end r.1 (omega arith) scoped) stands counted le r.2 k.0 k.1 w.0 w.1 f.0 f.1 said)
+      (declared_tells d.mods.annots d.ty.annots d d ds s lo r.0 hi end body types point (scoped_within g s body.locals types body.made.free lo end r.0 end r.1 (omega arith) scoped) stands counted le r.2 k.0 k.1 (and_parts (is_written_type d.ty) (maybe_true is_written_init d.init) w.0).0 w.0 w.1 f.0 f.1 said)
     where
       -- what stands behind the first pieces
       split_rows : (xs ys : List Layout) (start lo hi : ℕ) (zs : List Layout) → LaidOut start lo hi (row ((xs ++ ys) ++ zs)) → (mid : ℕ) × (lo ≤ mid) × LaidOut start mid hi (row (ys ++ zs))

@@ -18,7 +18,7 @@ use Rattle.ix_inputs.proofs.Pieces.{cut, inside, behind_first}
 
 -- ---- ints
 
-small : (n : ℤ) → IsInt n → mag n < 2 ^ 63
+pub small : (n : ℤ) → IsInt n → mag n < 2 ^ 63
 small (pos n) is = let high = is.to in omega (arith, ints, high)
 small (negsuc n) is = let low = is.from in omega (arith, ints, low)
 

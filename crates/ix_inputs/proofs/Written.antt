@@ -1,5 +1,5 @@
 -- Words and what they write.
-use Rattle.std.specs.Prelude.{◌≡◌, ℕ, suc, zero, ◌+◌, ◌<◌, ◌^◌, ℤ, pos, negsuc, List, [], ◌∷◌, ◌++◌, take, map, slice_get, Option, None, Some, refl}
+use Rattle.std.specs.Prelude.{◌≡◌, ℕ, suc, zero, ◌+◌, ℤ, List, [], ◌∷◌, ◌++◌, take, map, slice_get, Option, None, Some, refl}
 use Rattle.std.specs.Option.{MatchOption}
 use Rattle.std.specs.Borrow.{Bor}
 use Rattle.std.specs.Fmt.{signed_decimal}
@@ -15,15 +15,12 @@ use native.Mathlib.Numerals.{unary_clauses}
 use Rattle.ix_num.specs.Ints.{IsInt}
 use Rattle.ix_core.specs.Safe.{AreInts}
 use Rattle.ix_inputs.specs.Words.{WritesInt, WriteInts, IsWithin}
+use Rattle.ix_inputs.proofs.OneValue.{small}
 
 -- ---- ints
 
 pub fits : (n : ℤ) → IsInt n → FitsSigned w32 n
 fits n is = let a = is.from in let b = is.to in omega (arith, ints, a, b)
-
-small : (n : ℤ) → IsInt n → mag n < 2 ^ 63
-small (pos n) is = let b = is.to in omega (arith, ints, b)
-small (negsuc n) is = let a = is.from in omega (arith, ints, a)
 
 pub read_back : {E : Type 0} (n : ℤ) (word : List ℕ) (r : Result ℤ E) → IsInt n → word ≡ signed_decimal n → ParsesSigned w32 10 word r → r ≡ Ok n
 read_back n word r is e p = parse-signed_decimal w32 n word r (fits n is) (small n is) e p

@@ -18,12 +18,7 @@ use Rattle.ix_core.specs.declared.program.Program.{Program}
 use Rattle.ix_core.specs.Formed.{Formed, is_formed}
 use Rattle.ix_core.specs.Types.{is_type}
 use Rattle.ix_core.proofs.Programs.{span, int, int_array, block, does, does_with, calls, test, param, local, static_method, instance_method, constructor_of, field, class_of, program}
-
--- no types of locals for methods without locals
-never : (broken : Program) → is_formed broken [] ≡ false → ((all : _) → is_formed broken ([] ∷ all) ≡ false) → ((ty : Type_) (types : List Type_) (all : _) → is_formed broken ((ty ∷ types) ∷ all) ≡ false) → Formed broken → ⊥
-never broken none some other ([], formed) = false≢true (sym none ∙ formed)
-never broken none some other ([] ∷ all, formed) = false≢true (sym (some all) ∙ formed)
-never broken none some other ((ty ∷ types) ∷ all, formed) = false≢true (sym (other ty types all) ∙ formed)
+use Rattle.ix_core.proofs.BrokenRows.{never}
 
 -- a field that its class lists twice
 abbrev twice : Program

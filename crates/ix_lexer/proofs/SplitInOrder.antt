@@ -14,7 +14,7 @@ order_both lo hi (t ∷ ts) us (a, b, o) = let (mid, c, d, p, q) = order_both t.
 
 -- ---- a token that is left starts before the end
 
-some : (t : Token) (ts : List Token) → t ∷ ts ≡ [] → ⊥
+pub some : (t : Token) (ts : List Token) → t ∷ ts ≡ [] → ⊥
 some t ts h = cc
 
 starts_within : (from end : ℕ) (tokens later : List Token) (token : Token) → InOrder from end tokens → tokens ≡ token ∷ later → token.span.from < end

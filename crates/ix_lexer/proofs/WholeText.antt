@@ -14,7 +14,7 @@ use Rattle.ix_lexer.proofs.OneAnswer.{one_list, not_both, one_cause}
 abbrev pub Answer : Type 0
 Answer = Result (Vec Token Global) LexError
 
-same_text : (bytes : List ℕ) (text other : Text) → Spells text bytes → Spells other bytes → text ≡ other
+pub same_text : (bytes : List ℕ) (text other : Text) → Spells text bytes → Spells other bytes → text ≡ other
 same_text bytes text other a b = encodes_same text other (a.1 ∙ sym b.1)
 
 pub size_of : (bytes text : List ℕ) (n : ℕ) → IsUtf8 bytes → text ≡ chars bytes → length bytes < n → size text < n
@@ -31,7 +31,7 @@ without_escape : (escape : Option ℕ) (text : Text) (why : LexError) → escape
 without_escape None text why e s = s
 without_escape (Some place) text why e s = absurd (let h = e in cc)
 
-one_first : (escape : Option ℕ) (text : Text) (x y : LexError) → StopsFirst escape text x → StopsFirst escape text y → x ≡ y
+pub one_first : (escape : Option ℕ) (text : Text) (x y : LexError) → StopsFirst escape text x → StopsFirst escape text y → x ≡ y
 one_first None text x y a b = one_cause text x y a b
 one_first (Some place) text x y (inl a) (inl b) = one_cause text x y a.0 b.0
 one_first (Some place) text x y (inl a) (inr b) = absurd (b.1 x a.0 a.1)

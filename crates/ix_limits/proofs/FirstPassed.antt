@@ -10,6 +10,7 @@ use Rattle.ix_tree.specs.declared.stmt.Stmt.{Stmt}
 use Rattle.ix_annot.specs.Named.{or_else}
 use Rattle.ix_annot.specs.Table.{counted, most_claims}
 use Rattle.ix_meaning.specs.declared.note.Which.TheVariants as which
+use Rattle.ix_meaning.specs.Declarators.{members}
 use Rattle.ix_meaning.specs.Limits.{past_claims_in, past_claims, body_annots, stmt_annots, past_params, past_names, most_params, param_names, methods_of, all_methods, member_annots, all_annots, each_annots, result_annots}
 use Rattle.ix_limits.specs.Counted.{counted_on, all_statements, method_annots, annots_of}
 
@@ -45,8 +46,8 @@ body_together (s ∷ ss) = ap (λ l. stmt_annots s ++ l) (body_together ss)
 pub past_body : (s : Stmt) (ss : List Stmt) → past_claims (all_statements (s ∷ ss)) ≡ or_else (past_claims (stmt_annots s)) (past_claims (all_statements ss))
 past_body s ss = past_append (stmt_annots s) (all_statements ss)
 
-pub past_class : (c : ClassDecl) (cs : List ClassDecl) → past_claims (all_annots (c ∷ cs)) ≡ or_else (past_claims (member_annots c.members)) (past_claims (all_annots cs))
-past_class c cs = past_append (member_annots c.members) (all_annots cs)
+pub past_class : (c : ClassDecl) (cs : List ClassDecl) → past_claims (all_annots (c ∷ cs)) ≡ or_else (past_claims (member_annots (members c.members))) (past_claims (all_annots cs))
+past_class c cs = past_append (member_annots (members c.members)) (all_annots cs)
 
 pub past_member : (m : Member) (ms : List Member) → past_claims (member_annots (m ∷ ms)) ≡ or_else (past_claims (annots_of m)) (past_claims (member_annots ms))
 past_member (member.Field d) ms = past_append (annots_of (member.Field d)) (member_annots ms)

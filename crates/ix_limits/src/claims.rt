@@ -3,9 +3,10 @@
 ghost use Rattle.std.specs.Prelude.{List as Elements, ◌≡◌, ◌≤◌, ◌++◌, None, Some, option_map, IfOk, IfErr};
 ghost use Rattle.ix_tree.specs.declared.annot.Annot.{Annot};
 ghost use Rattle.ix_annot.specs.Table.{most_claims};
+ghost use Rattle.ix_meaning.specs.Declarators as joint;
 ghost use Rattle.ix_meaning.specs.Limits as spec;
 ghost use Rattle.ix_limits.specs.Counted as counts;
-ghost use Rattle.ix_limits.specs.Shown.{shown};
+ghost use Rattle.ix_limits.specs.Shown.{IsFine, shown};
 
 use crate::passed::Passed;
 use ix_annot::{MOST_CLAIMS, counted};
@@ -69,6 +70,17 @@ fn each_declared(decls: &[LocalDecl]) -> Option<Passed>
     None
 }
 
+/// The declarators of one declaration have its annotations jointly: the first tells for all.
+#[tactic(auto, using(crate::proofs::JointClaims::first_tells))]
+fn first_declared(decls: &[LocalDecl]) -> Option<Passed>
+    ensures { option_map shown result ≡ spec.past_claims (spec.each_annots (joint.declarators decls.now)) }
+{
+    match decls {
+        [] => None,
+        [decl, ..] => declared(decl),
+    }
+}
+
 /// The first of two: of the declarations before, and of those behind them.
 #[tactic(auto, using(crate::proofs::FirstPassed::past_append))]
 fn first(before: Option<Passed>, behind: Option<Passed>) -> Option<Passed>
@@ -87,7 +99,7 @@ fn statement(stmt: &Stmt) -> Option<Passed>
 {
     match &stmt.kind {
         StmtKind::Block(body) => statements(body.as_slice()),
-        StmtKind::Local(decls) => each_declared(decls.as_slice()),
+        StmtKind::Local(decls) => first_declared(decls.as_slice()),
         StmtKind::If(_, then, otherwise) => {
             first(statement(then.get()), statement_or_none(otherwise))
         }
@@ -139,22 +151,70 @@ fn method(method: &MethodDecl) -> Option<Passed>
     first(head, first(params, statements(method.body.as_slice())))
 }
 
-fn member(member: &Member) -> Option<Passed>
-    ensures { option_map shown result ≡ spec.past_claims (counts.annots_of member.now) }
+/// Whether the field is a further one of the declaration that began with that one: their types stand at one place.
+fn is_further(first: Option<&LocalDecl>, decl: &LocalDecl) -> bool
+    ensures { result ≡ joint.is_further (option_map (λ first. first.now) first.entry) decl.now }
+{
+    match first {
+        None => false,
+        Some(first) => {
+            let begun = first.ty.get().span;
+            let span = decl.ty.get().span;
+            begun.from == span.from && begun.to == span.to
+        }
+    }
+}
+
+/// A further field has no claims but those that were counted with the first.
+#[tactic(auto, using(crate::proofs::JointClaims::field_tells, crate::proofs::JointClaims::field_alone))]
+fn field(first: Option<&LocalDecl>, decl: &LocalDecl) -> Option<Passed>
+    requires { IsFine (option_map (λ first. first.now) first) }
+    ensures { option_map shown result ≡ spec.past_claims_in 0 (spec.declared_annots (joint.field_in (option_map (λ first. first.now) first.entry) decl.now)) }
+{
+    if is_further(first, decl) {
+        return None;
+    }
+    declared(decl)
+}
+
+/// A member behind a field whose declaration began with that one, or behind none.
+fn member(first: Option<&LocalDecl>, member: &Member) -> Option<Passed>
+    requires { IsFine (option_map (λ first. first.now) first) }
+    ensures { option_map shown result ≡ spec.past_claims (counts.annots_of (joint.member_in (option_map (λ first. first.now) first.entry) member.now)) }
 {
     match member {
-        Member::Field(decl) => declared(decl),
+        Member::Field(decl) => field(first, decl),
         Member::Method(decl) => method(decl),
     }
 }
 
-fn members(members: &[Member]) -> Option<Passed>
-    ensures { option_map shown result ≡ spec.past_claims (spec.member_annots members.now) }
+/// The field that began the declaration of which the next member may be a further field.
+fn first_behind<'a>(first: Option<&'a LocalDecl>, member: &'a Member) -> Option<&'a LocalDecl>
+    ensures { option_map (λ first. first.now) result ≡ joint.first_behind (option_map (λ first. first.now) first.entry) member.now }
 {
+    match member {
+        Member::Method(_) => None,
+        Member::Field(decl) => match first {
+            None => Some(decl),
+            Some(begun) => {
+                if is_further(first, decl) {
+                    return Some(begun);
+                }
+                Some(decl)
+            }
+        },
+    }
+}
+
+fn members(members: &[Member]) -> Option<Passed>
+    ensures { option_map shown result ≡ spec.past_claims (spec.member_annots (joint.members members.now)) }
+{
+    let mut first = None;
     for each in members {
-        if let Some(passed) = member(each) {
+        if let Some(passed) = member(first, each) {
             return Some(passed);
         }
+        first = first_behind(first, each);
     }
     None
 }

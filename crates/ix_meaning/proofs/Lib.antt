@@ -1,3 +1,4 @@
 pub mod Equations
 pub mod Rows
 pub mod SmallRows
+pub mod DeclaratorNumbers

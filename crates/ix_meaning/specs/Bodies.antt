@@ -16,6 +16,7 @@ use Rattle.ix_meaning.specs.declared.note.Note.{Note}
 use Rattle.ix_meaning.specs.declared.note.Note.TheVariants.{Declares}
 use Rattle.ix_meaning.specs.Types.{boolean, Need, never, printed, of}
 use Rattle.ix_meaning.specs.Annotated.{Declaration, variable}
+use Rattle.ix_meaning.specs.Declarators.{declarators}
 use Rattle.ix_meaning.specs.Scope.{Scope, Known, meant, annot_names}
 use Rattle.ix_meaning.specs.Rules.{duplicate_name, no_value, break_outside}
 use Rattle.ix_meaning.specs.Values.{reading, filling, check}
@@ -144,7 +145,7 @@ or_else t (Some u) = then_told t u
 abbrev pub stmt_kind_step : StmtKind-F (Span → Telling) Telling → Span → Telling
 stmt_kind_step (StmtKind-F.Block ts) p = closed (all_told ts)
 stmt_kind_step StmtKind-F.Empty p = nothing
-stmt_kind_step (StmtKind-F.Local ds) p = all_declared ds
+stmt_kind_step (StmtKind-F.Local ds) p = all_declared (declarators ds)
 stmt_kind_step (StmtKind-F.If c t e) p = noted_then (condition c) (or_else t e)
 stmt_kind_step (StmtKind-F.While c t) p = noted_then (condition c) (looped t)
 stmt_kind_step (StmtKind-F.Do t c) p = then_noted (looped t) (condition c)

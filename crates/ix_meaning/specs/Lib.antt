@@ -1,6 +1,7 @@
 pub mod Classes
 pub mod Types
 pub mod Annotated
+pub mod Declarators
 pub mod Members
 pub mod Scope
 pub mod Rules

@@ -15,6 +15,7 @@ use Rattle.ix_annot.specs.Table.{counted, most_claims}
 use Rattle.ix_meaning.specs.declared.note.Which.{Which}
 use Rattle.ix_meaning.specs.declared.note.Which.TheVariants as which
 use Rattle.ix_meaning.specs.Classes.{supers, parents}
+use Rattle.ix_meaning.specs.Declarators.{declarators, members}
 
 pub record Passed : Type 0 where
   pub which : Which
@@ -76,7 +77,7 @@ maybe (Some x) = x
 
 abbrev pub stmt_kind_step : StmtKind-F (List (List Annot)) (List (List Annot)) → List (List Annot)
 stmt_kind_step (StmtKind-F.Block body) = together body
-stmt_kind_step (StmtKind-F.Local ds) = each_annots ds
+stmt_kind_step (StmtKind-F.Local ds) = each_annots (declarators ds)
 stmt_kind_step (StmtKind-F.If c t e) = t ++ maybe e
 stmt_kind_step (StmtKind-F.While c t) = t
 stmt_kind_step (StmtKind-F.Do t c) = t
@@ -102,7 +103,7 @@ member_annots (member.Method m ∷ ms) =
 
 abbrev pub all_annots : List ClassDecl → List (List Annot)
 all_annots [] = []
-all_annots (c ∷ cs) = member_annots c.members ++ all_annots cs
+all_annots (c ∷ cs) = member_annots (members c.members) ++ all_annots cs
 
 -- ---- the first place past each limit
 

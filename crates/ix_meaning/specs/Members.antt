@@ -19,6 +19,7 @@ use Rattle.ix_meaning.specs.declared.note.Meaning.TheVariants.{FieldNamed, Const
 use Rattle.ix_meaning.specs.declared.members.Field.{Field}
 use Rattle.ix_meaning.specs.declared.members.Signature.{Signature}
 use Rattle.ix_meaning.specs.Classes.{class_named, parents, parent, supers}
+use Rattle.ix_meaning.specs.Declarators as declared
 use Rattle.ix_meaning.specs.Annotated.{written, element_claims, target_before, is_int_tree, of_result}
 
 -- ---- constants: `static final int` with a literal, optionally behind a minus
@@ -92,7 +93,7 @@ next_fields next (m ∷ ms) = next_fields (next_member next m) ms
 
 abbrev pub fields_from : ClassOf → ℕ → ℕ → List ClassDecl → List Field
 fields_from class c next [] = []
-fields_from class c next (k ∷ ks) = fields_in class c next k.members ++ fields_from class (c + 1) (next_fields next k.members) ks
+fields_from class c next (k ∷ ks) = fields_in class c next (declared.members k.members) ++ fields_from class (c + 1) (next_fields next k.members) ks
 
 abbrev pub fields : List ClassDecl → List Field
 fields classes = fields_from (class_named classes) 0 0 classes

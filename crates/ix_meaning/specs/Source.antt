@@ -23,6 +23,7 @@ use Rattle.ix_meaning.specs.declared.members.Field.{Field}
 use Rattle.ix_meaning.specs.declared.members.Signature.{Signature}
 use Rattle.ix_meaning.specs.Types.{Need, need_like, wrong_if}
 use Rattle.ix_meaning.specs.Classes.{first_or, is_cyclic, parents}
+use Rattle.ix_meaning.specs.Declarators as declared
 use Rattle.ix_meaning.specs.Annotated.{Given, given, aimed, Declaration, variable, static_field, of_method, of_result}
 pub use Rattle.ix_meaning.specs.Members.{next_member, next_fields}
 use Rattle.ix_meaning.specs.Members.{World, world, field_of, methods, signature, param_type, constructor_params}
@@ -248,7 +249,7 @@ head_notes w cyclic c k =
 abbrev pub class_notes : World → List (Option ℕ) → List Signature → ℕ → ℕ → ClassDecl → List Note
 class_notes w ps ms c next k =
     head_notes w (is_cyclic ps c) c k
-    ++ (member_notes (place w ms c k) (member_named k.members) 0 next k.members ++ default_notes_of w c k)
+    ++ (member_notes (place w ms c k) (member_named k.members) 0 next (declared.members k.members) ++ default_notes_of w c k)
 
 -- the classes from that number on
 abbrev pub notes_from : World → List (Option ℕ) → List Signature → ℕ → ℕ → List ClassDecl → List Note

@@ -10,7 +10,7 @@ mod members;
 mod note;
 
 pub use ix_annot::{
-    AnnotError, Found, Names, Naming, Target, expand, is_of_method, row_named, same_claim,
+    AnnotError, Found, Names, Naming, Target, counted, expand, is_of_method, row_named, same_claim,
 };
 pub use members::{Field, Signature};
 pub use note::{Declared, Meaning, NameError, NameErrors, Note, Rule, Which};

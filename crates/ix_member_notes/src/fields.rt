@@ -6,6 +6,7 @@ ghost use Rattle.ix_meaning.specs.Members as members;
 ghost use Rattle.ix_meaning.specs.Source as spec;
 ghost use Rattle.ix_scopes.specs.Here.{here};
 ghost use Rattle.ix_world.specs.World.{shown};
+ghost use Rattle.ix_written.specs.Begun.{annotated};
 ghost use Rattle.ix_member_notes.specs.Places.{at};
 ghost use Rattle.ix_member_notes.specs.Declarations as parts;
 
@@ -18,7 +19,7 @@ use ix_scopes::{InAnnotation, Scopes, note_declared, wrong_if};
 use ix_text::List;
 use ix_tree::{ClassDecl, Init, LocalDecl};
 use ix_world::{World, field_of};
-use ix_written::{Declaration, Part, static_field, variable};
+use ix_written::{Annotations, Declaration, static_field, variable};
 use std::alloc::{AllocError, Global};
 
 fn is_refused(field: &Field) -> bool
@@ -42,10 +43,11 @@ fn instance_declaration<'p>(
     scopes: &'p Scopes<'_>,
     notes: &mut List<Note>,
     number: u32,
+    own: &Annotations<'_>,
     decl: &LocalDecl,
 ) -> Result<Declaration, AllocError>
-    ensures claims { IfOk result (λ d. d.claims ≡ (parts.instance_declaration (here world.now scopes.now) number decl.now).claims) }
-    ensures notes { OnOk result (notes.new ≡ notes.old ++ (parts.instance_declaration (here world.now scopes.now) number decl.now).notes) }
+    ensures claims { IfOk result (λ d. d.claims ≡ (parts.instance_declaration (here world.now scopes.now) number (annotated own.now decl.now)).claims) }
+    ensures notes { OnOk result (notes.new ≡ notes.old ++ (parts.instance_declaration (here world.now scopes.now) number (annotated own.now decl.now)).notes) }
 {
     let names = InAnnotation {
         world,
@@ -53,14 +55,13 @@ fn instance_declaration<'p>(
         own: Some(Name::FieldNamed(number)),
         own_local: None,
     };
-    let before = decl.mods.get().annots.as_slice();
     variable(
         alloc,
         &world.table,
         notes,
         &names,
-        Part::All,
-        before,
+        own.before.as_slice(),
+        own.behind.as_slice(),
         decl.ty.get(),
     )
 }
@@ -72,13 +73,14 @@ fn declared_at(
     notes: &mut List<Note>,
     class: u32,
     number: u32,
+    own: &Annotations<'_>,
     decl: &LocalDecl,
 ) -> Result<Declaration, AllocError>
-    ensures claims { IfOk result (λ d. d.claims ≡ (parts.instance_declaration (parts.member_scope (shown world.now) class true) number decl.now).claims) }
-    ensures notes { OnOk result (notes.new ≡ notes.old ++ (parts.instance_declaration (parts.member_scope (shown world.now) class true) number decl.now).notes) }
+    ensures claims { IfOk result (λ d. d.claims ≡ (parts.instance_declaration (parts.member_scope (shown world.now) class true) number (annotated own.now decl.now)).claims) }
+    ensures notes { OnOk result (notes.new ≡ notes.old ++ (parts.instance_declaration (parts.member_scope (shown world.now) class true) number (annotated own.now decl.now)).notes) }
 {
     let scopes = member_scopes(alloc, class, true);
-    instance_declaration(alloc, world, &scopes, notes, number, decl)
+    instance_declaration(alloc, world, &scopes, notes, number, own, decl)
 }
 
 fn field_declaration(
@@ -88,14 +90,21 @@ fn field_declaration(
     number: u32,
     class: &ClassDecl,
     field: &Field,
+    own: &Annotations<'_>,
     decl: &LocalDecl,
 ) -> Result<Declaration, AllocError>
-    ensures claims { IfOk result (λ d. d.claims ≡ (spec.field_declaration (at world.now number class.now) field.now decl.now).claims) }
-    ensures notes { OnOk result (notes.new ≡ notes.old ++ (spec.field_declaration (at world.now number class.now) field.now decl.now).notes) }
+    ensures claims { IfOk result (λ d. d.claims ≡ (spec.field_declaration (at world.now number class.now) field.now (annotated own.now decl.now)).claims) }
+    ensures notes { OnOk result (notes.new ≡ notes.old ++ (spec.field_declaration (at world.now number class.now) field.now (annotated own.now decl.now)).notes) }
 {
     if field.is_static {
-        let before = decl.mods.get().annots.as_slice();
-        return static_field(alloc, &world.table, notes, before, decl.ty.get());
+        return static_field(
+            alloc,
+            &world.table,
+            notes,
+            own.before.as_slice(),
+            own.behind.as_slice(),
+            decl.ty.get(),
+        );
     }
     declared_at(
         alloc,
@@ -103,6 +112,7 @@ fn field_declaration(
         notes,
         number,
         field_number(field.meaning),
+        own,
         decl,
     )
 }
@@ -140,15 +150,16 @@ fn declared(
     number: u32,
     class: &ClassDecl,
     field: &Field,
+    own: &Annotations<'_>,
     decl: &LocalDecl,
 ) -> Result<(), AllocError>
-    ensures { OnOk result (notes.new ≡ notes.old ++ spec.field_notes (at world.now number class.now) field.now decl.now) }
+    ensures { OnOk result (notes.new ≡ notes.old ++ spec.field_notes (at world.now number class.now) field.now (annotated own.now decl.now)) }
 {
     let span = decl.name.span;
     wrong_if(notes, is_refused(field), Rule::NotStatic, span)?;
     wrong_if(notes, hides(world, field), Rule::DuplicateName, span)?;
     let Declaration { ty: _, claims } = field_declaration(
-        alloc, world, notes, number, class, field, decl,
+        alloc, world, notes, number, class, field, own, decl,
     )?;
     let claims = own_claims(alloc, field, claims);
     note_declared(alloc, notes, span, &field.ty, claims, false)?;
@@ -163,7 +174,7 @@ fn declared(
     )
 }
 
-/// Notes a field; `next` is the number of the next instance field.
+/// Notes a field with its annotations; `next` is the number of the next instance field.
 pub fn field(
     alloc: Global,
     world: &World,
@@ -171,10 +182,11 @@ pub fn field(
     number: u32,
     class: &ClassDecl,
     next: u32,
+    own: &Annotations<'_>,
     decl: &LocalDecl,
 ) -> Result<(), AllocError>
-    ensures { OnOk result (notes.new ≡ notes.old ++ spec.field_notes (at world.now number class.now) (members.field_of (shown world.now).class number next decl.now) decl.now) }
+    ensures { OnOk result (notes.new ≡ notes.old ++ spec.field_notes (at world.now number class.now) (members.field_of (shown world.now).class number next (annotated own.now decl.now)) (annotated own.now decl.now)) }
 {
-    let field = field_of(alloc, &world.table, number, next, decl)?;
-    declared(alloc, world, notes, number, class, &field, decl)
+    let field = field_of(alloc, &world.table, number, next, own, decl)?;
+    declared(alloc, world, notes, number, class, &field, own, decl)
 }

@@ -12,7 +12,7 @@ use ix_scopes::{InAnnotation, Scopes, note_declared};
 use ix_text::List;
 use ix_tree::{Annot, MethodDecl, TypeTree};
 use ix_world::World;
-use ix_written::{Declaration, Part, given, variable};
+use ix_written::{Declaration, Part, gathered, given, variable};
 use std::alloc::{AllocError, Global};
 
 /// The same names for an annotation on a method or constructor.
@@ -81,7 +81,8 @@ fn method_given<'p>(
         target: target(constructor),
     };
     let mut claims = List::new(alloc);
-    given(alloc, notes, &mut claims, &names, part(constructor), annots)
+    let annots = gathered(alloc, part(constructor), annots)?;
+    given(alloc, notes, &mut claims, &names, annots.as_slice())
 }
 
 /// Notes the annotations that speak of the result, and answers the claims on it.
@@ -102,20 +103,22 @@ fn result_of<'p>(
         own: None,
         own_local: None,
     };
+    let before = gathered(alloc, Part::OfResult, annots)?;
     match ty {
         None => {
             let mut claims = List::new(alloc);
-            given(alloc, notes, &mut claims, &names, Part::OfResult, annots)?;
+            given(alloc, notes, &mut claims, &names, before.as_slice())?;
             Ok(List::new(alloc))
         }
         Some(ty) => {
+            let behind = gathered(alloc, Part::All, ty.annots.as_slice())?;
             let Declaration { ty: _, claims } = variable(
                 alloc,
                 &world.table,
                 notes,
                 &names,
-                Part::OfResult,
-                annots,
+                before.as_slice(),
+                behind.as_slice(),
                 ty,
             )?;
             Ok(claims)

@@ -12,7 +12,7 @@ use ix_scopes::{InAnnotation, Param, Scopes, note_declared, wrong_if};
 use ix_text::List;
 use ix_tree::LocalDecl;
 use ix_world::{World, param_type};
-use ix_written::{Declaration, Part, variable};
+use ix_written::{Declaration, own_annotations, variable};
 use std::alloc::{AllocError, Global};
 
 /// The parameters in scope, in their order.
@@ -65,14 +65,14 @@ fn param_declaration<'p>(
         own: Some(Name::Param(number)),
         own_local: None,
     };
-    let before = decl.mods.get().annots.as_slice();
+    let own = own_annotations(alloc, decl)?;
     variable(
         alloc,
         &world.table,
         notes,
         &names,
-        Part::All,
-        before,
+        own.before.as_slice(),
+        own.behind.as_slice(),
         decl.ty.get(),
     )
 }

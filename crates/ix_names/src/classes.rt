@@ -1,11 +1,13 @@
 //! What a whole source says: of each class, and in it of each member.
 
-ghost use Rattle.std.specs.Prelude.{◌≡◌, ◌++◌, ◌+◌, ◌<◌, ◌≤◌, ◌^◌, ℕ, List as Elements, IfOk, OnOk, length};
+ghost use Rattle.std.specs.Prelude.{◌≡◌, ◌++◌, ◌+◌, ◌<◌, ◌≤◌, ◌^◌, ℕ, List as Elements, IfOk, OnOk, length, option_map};
 ghost use Rattle.std.specs.List.{All};
 ghost use Rattle.indexmap.specs.IndexMap.{get_by_text};
 ghost use Rattle.ix_counts.specs.Few.{DeclaresFew, DeclaresFewInClass};
 ghost use Rattle.ix_meaning.specs.Source as spec;
+ghost use Rattle.ix_meaning.specs.Declarators as declared;
 ghost use Rattle.ix_world.specs.World.{shown};
+ghost use Rattle.ix_written.specs.Begun.{AllBegin, first_shown};
 ghost use Rattle.ix_member_notes.specs.Places.{at};
 
 use indexmap::IndexMap;
@@ -16,6 +18,7 @@ use ix_text::List;
 use ix_tree::{ClassDecl, Ident, Member};
 use ix_types::{is_cyclic, note_first};
 use ix_world::World;
+use ix_written::{Begun, declaration_of, field_annotations};
 use std::alloc::{AllocError, Global};
 
 fn member_name(member: &Member) -> &Ident
@@ -96,26 +99,31 @@ fn head(
 }
 
 /// A field, a method or a constructor; `next` is the number of the next instance field.
-fn one_member(
+fn one_member<'a>(
     alloc: Global,
     world: &World,
     notes: &mut List<Note>,
     number: u32,
     class: &ClassDecl,
     next: u32,
-    member: &Member,
+    begun: &Option<Begun<'a>>,
+    member: &'a Member,
 ) -> Result<(), AllocError>
-    requires { DeclaresFew member.now }
-    ensures { OnOk result (notes.new ≡ notes.old ++ spec.one_member (at world.now number class.now) next member.now) }
+    requires few { DeclaresFew member.now }
+    requires begins { AllBegin begun.now }
+    ensures { OnOk result (notes.new ≡ notes.old ++ spec.one_member (at world.now number class.now) next (declared.member_in (option_map first_shown begun.now) member.now)) }
 {
     match member {
-        Member::Field(decl) => field(alloc, world, notes, number, class, next, decl),
+        Member::Field(decl) => {
+            let own = field_annotations(alloc, begun, decl)?;
+            field(alloc, world, notes, number, class, next, &own, decl)
+        }
         Member::Method(decl) => method(alloc, world, notes, number, class, decl),
     }
 }
 
 /// A member, and whether its name is taken.
-fn named_member(
+fn named_member<'a>(
     alloc: Global,
     world: &World,
     notes: &mut List<Note>,
@@ -124,15 +132,17 @@ fn named_member(
     table: &IndexMap<String, u32>,
     i: u32,
     next: u32,
-    member: &Member,
+    begun: &Option<Begun<'a>>,
+    member: &'a Member,
 ) -> Result<(), AllocError>
-    requires { DeclaresFew member.now }
-    ensures { OnOk result (notes.new ≡ notes.old ++ spec.named_member (at world.now number class.now) (get_by_text table.now) i next member.now) }
+    requires few { DeclaresFew member.now }
+    requires begins { AllBegin begun.now }
+    ensures { OnOk result (notes.new ≡ notes.old ++ spec.named_member (at world.now number class.now) (get_by_text table.now) i next (declared.member_in (option_map first_shown begun.now) member.now)) }
 {
     let name = member_name(member);
     let taken = is_taken(table.get(name.text.as_str()).copied(), i);
     wrong_if(notes, taken, Rule::DuplicateName, name.span)?;
-    one_member(alloc, world, notes, number, class, next, member)
+    one_member(alloc, world, notes, number, class, next, begun, member)
 }
 
 fn next_member(next: u32, member: &Member) -> u32
@@ -152,6 +162,22 @@ fn next_member(next: u32, member: &Member) -> u32
     }
 }
 
+/// The declaration of which the next member may be a further field.
+fn declaration_behind<'a>(
+    alloc: Global,
+    begun: Option<Begun<'a>>,
+    member: &'a Member,
+) -> Result<Option<Begun<'a>>, AllocError>
+    requires { AllBegin begun }
+    ensures begins { IfOk result AllBegin }
+    ensures first { IfOk result (λ next. option_map first_shown next ≡ declared.first_behind (option_map first_shown begun.entry) member.now) }
+{
+    match member {
+        Member::Field(decl) => declaration_of(alloc, begun, decl),
+        Member::Method(_) => Ok(None),
+    }
+}
+
 fn members(
     alloc: Global,
     world: &World,
@@ -166,14 +192,16 @@ fn members(
     requires each { All DeclaresFew members.now }
     ensures next { IfOk result (λ next. next ≡ spec.next_fields first members.now) }
     ensures few { IfOk result (λ next. next ≤ first + length members.now) }
-    ensures notes { OnOk result (notes.new ≡ notes.old ++ spec.member_notes (at world.now number class.now) (get_by_text table.now) 0 first members.now) }
+    ensures notes { OnOk result (notes.new ≡ notes.old ++ spec.member_notes (at world.now number class.now) (get_by_text table.now) 0 first (declared.members members.now)) }
 {
     let mut next = first;
+    let mut begun = None;
     for (i, member) in members.iter().enumerate() {
         named_member(
-            alloc, world, notes, number, class, table, i as u32, next, member,
+            alloc, world, notes, number, class, table, i as u32, next, &begun, member,
         )?;
         next = next_member(next, member);
+        begun = declaration_behind(alloc, begun, member)?;
     }
     Ok(next)
 }

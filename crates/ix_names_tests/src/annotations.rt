@@ -4,6 +4,22 @@ use crate::row::is_right;
 use std::alloc::Global;
 
 const ROWS: &[(&str, &str)] = &[
+    (
+        "class A { @X @Pure int a, b; @LTLengthOf(\"q\") int c, d; }",
+        "10-12 unknown.annotation;13-18 wrong.target;29-45 bad.name;",
+    ),
+    (
+        "class A { @NonNegative @LessThan(\"b\") int a, b; }",
+        "23-37 bad.name;",
+    ),
+    (
+        "class A { void m() { @X @LessThan(\"b\") @MinLen(-1) int a = 0, b = 0; } }",
+        "21-23 unknown.annotation;24-38 bad.name;39-50 bad.argument;",
+    ),
+    (
+        "class A { @X @SameLen(\"b\") int @MinLen(1) [] a, b; @Pure int[] c, d; }",
+        "10-12 unknown.annotation;13-26 wrong.target;51-56 wrong.target;",
+    ),
     ("class A { void m(@NonNegative int x) { } }", ""),
     (
         "class A { void m(@Foo int x) { } }",

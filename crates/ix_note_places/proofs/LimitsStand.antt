@@ -20,10 +20,12 @@ use Rattle.ix_tree.specs.Placed.{Layout, row, expr_piece, stmt_piece}
 use Rattle.ix_meaning.specs.declared.note.Which.{Which}
 use Rattle.ix_meaning.specs.declared.note.Which.TheVariants as which
 use Rattle.ix_meaning.specs.Classes.{supers, parents}
+use Rattle.ix_meaning.specs.Declarators.{declarators, members}
 use Rattle.ix_meaning.specs.Limits as limits
 use Rattle.ix_meaning.specs.Limits.{Passed, passed, past_names, past_params, past_claims_in, past_claims, past_inheritance, limit, inheritance_limit, class_names, methods_of, all_methods, method_names, param_names, declared_annots, each_annots, together, maybe, stmt_annots, body_annots, result_annots, member_annots, all_annots}
 use Rattle.ix_node_places.specs.EachNode.{InText, IfSome, TypeNodes, StmtNodes, DeclNodes, MethodNodes, MemberNodes, ClassNodes, SourceNodes}
 use Rattle.ix_node_places.proofs.PlacedNodes.{locals_nodes}
+use Rattle.ix_note_places.proofs.DeclaratorsStand.{declarators_nodes, members_nodes}
 use Rattle.ix_note_places.proofs.ListsJoin.{all_joined}
 use Rattle.ix_note_places.proofs.PiecesLie.{Lies, AllLie, row_lies, pieces_parted}
 use Rattle.ix_note_places.proofs.TypesStand.{AnnotsStand, type_stands}
@@ -130,7 +132,7 @@ module _ (end : ℕ) where
         → ListsStand (limits.stmt_kind_step (map-StmtKind StmtKind Stmt (List (List Annot)) (List (List Annot)) kind_annots stmt_annots layer))
     kind_layer (StmtKind-F.Block ss) whole h = all_stand ss h
     kind_layer StmtKind-F.Empty whole h = tt
-    kind_layer (StmtKind-F.Local ds) whole h = each_stand ds (locals_nodes (InText end) ds whole)
+    kind_layer (StmtKind-F.Local ds) whole h = each_stand (declarators ds) (declarators_nodes end ds (locals_nodes (InText end) ds whole))
     kind_layer (StmtKind-F.If c t None) whole h = lists_both (stmt_annots (stmt t)) [] (stmt_is t h.1.0) tt
     kind_layer (StmtKind-F.If c t (Some u)) whole h = lists_both (stmt_annots (stmt t)) (stmt_annots (stmt u)) (stmt_is t h.1.0) (stmt_is u h.1.1.0)
     kind_layer (StmtKind-F.While c t) whole h = stmt_is t h.1.0
@@ -188,7 +190,8 @@ module _ (end : ℕ) where
 
   all_annots_stand : (ks : List ClassDecl) → AllByRecursion (ClassNodes (InText end)) ks → ListsStand (all_annots ks)
   all_annots_stand [] h = tt
-  all_annots_stand (k ∷ ks) h = lists_both (member_annots k.members) (all_annots ks) (members_stand k.members h.0.members) (all_annots_stand ks h.1)
+  all_annots_stand (k ∷ ks) h =
+      lists_both (member_annots (members k.members)) (all_annots ks) (members_stand (members k.members) (members_nodes end None k.members tt h.0.members)) (all_annots_stand ks h.1)
 
   -- ---- all limits
 

@@ -21,6 +21,7 @@ use Rattle.ix_meaning.specs.declared.note.Meaning.TheVariants.{ClassNamed}
 use Rattle.ix_meaning.specs.declared.note.Rule.TheVariants as rule
 use Rattle.ix_meaning.specs.Annotated.{aimed, variable, static_field, names_nothing, target_before, of_method, of_result}
 use Rattle.ix_meaning.specs.Classes.{parents}
+use Rattle.ix_meaning.specs.Declarators as declared
 use Rattle.ix_meaning.specs.Members.{World, world, methods, field_of, signature, constructor_params}
 use Rattle.ix_meaning.specs.Scope.{Scope, annot_names}
 use Rattle.ix_meaning.specs.Source as source
@@ -30,6 +31,7 @@ use Rattle.ix_meaning.specs.Values.{reading, arguments, given_to}
 use Rattle.ix_node_places.specs.EachNode.{InText, IfSome, TypeNodes, DeclNodes, ArgsNodes, MethodNodes, MemberNodes, ClassNodes, SourceNodes}
 use Rattle.ix_note_places.proofs.ErrorsStand.{Stand, none, both, used, is_wrong, if_wrong}
 use Rattle.ix_note_places.proofs.TypesStand.{AnnotsStand, some_stand, given_stand, declaration_stands}
+use Rattle.ix_note_places.proofs.DeclaratorsStand.{members_nodes}
 use Rattle.ix_note_places.proofs.ExpressionsStand.{ReadingsStand, arguments_stand, given_to_stand, expression_stands}
 use Rattle.ix_note_places.proofs.StatementsStand.{declares_noted, init_stands, body_stands}
 
@@ -162,7 +164,7 @@ module _ (end : ℕ) where
   class_stands : (w : World) (ps : List (Option ℕ)) (ms : List Signature) (c next : ℕ) (k : ClassDecl) → ClassNodes (InText end) k → Stand end (source.class_notes w ps ms c next k)
   class_stands w ps ms c next k h =
       both (both (if_wrong _ rule.DuplicateName k.name.span h.name) (both (parent_stands w k.parent h.parent) (if_wrong _ rule.CyclicClass k.name.span h.name)))
-      (both (members_stand (source.place w ms c k) (source.member_named k.members) 0 next k.members h.members) (default_stands w c k h.name))
+      (both (members_stand (source.place w ms c k) (source.member_named k.members) 0 next (declared.members k.members) (members_nodes end None k.members tt h.members)) (default_stands w c k h.name))
 
   classes_stand : (w : World) (ps : List (Option ℕ)) (ms : List Signature) (c next : ℕ) (ks : List ClassDecl) → AllByRecursion (ClassNodes (InText end)) ks → Stand end (source.notes_from w ps ms c next ks)
   classes_stand w ps ms c next [] h = none

@@ -18,6 +18,7 @@ use Rattle.ix_meaning.specs.declared.note.Rule.TheVariants as rule
 use Rattle.ix_meaning.specs.Annotated.{target_before}
 use Rattle.ix_meaning.specs.Bodies as bodies
 use Rattle.ix_meaning.specs.Bodies.{Telling, telling, kind_telling, all_told, all_declared, declares_note, init_notes}
+use Rattle.ix_meaning.specs.Declarators.{declarators}
 use Rattle.ix_meaning.specs.Scope.{Scope}
 use Rattle.ix_meaning.specs.Types.{Need, boolean, of, printed}
 use Rattle.ix_meaning.specs.Values.{reading}
@@ -26,6 +27,7 @@ use Rattle.ix_node_places.proofs.PlacedNodes.{locals_nodes}
 use Rattle.ix_note_places.proofs.PiecesLie.{Lies, AllLie, row_lies, pieces_parted}
 use Rattle.ix_note_places.proofs.ErrorsStand.{Stand, none, both, if_wrong, without_value}
 use Rattle.ix_note_places.proofs.TypesStand.{declaration_stands}
+use Rattle.ix_note_places.proofs.DeclaratorsStand.{declarators_nodes}
 use Rattle.ix_note_places.proofs.ExpressionsStand.{check_stands, expression_stands, initialiser_stands}
 
 -- ---- declarations of variables
@@ -116,7 +118,7 @@ module _ (end : ℕ) where
         → TellsStand (bodies.stmt_kind_step (map-StmtKind StmtKind Stmt (Span → Telling) Telling kind_telling telling layer) span)
     kind_layer (StmtKind-F.Block ss) span at whole h s = all_stand ss h s
     kind_layer StmtKind-F.Empty span at whole h s = none
-    kind_layer (StmtKind-F.Local ds) span at whole h s = locals_stand ds (locals_nodes (InText end) ds whole) s
+    kind_layer (StmtKind-F.Local ds) span at whole h s = locals_stand (declarators ds) (declarators_nodes end ds (locals_nodes (InText end) ds whole)) s
     kind_layer (StmtKind-F.If c t None) span at whole h s = both (needed_stands c (of boolean) s h.0) (stmt_is t h.1.0 s)
     kind_layer (StmtKind-F.If c t (Some u)) span at whole h s =
         both (needed_stands c (of boolean) s h.0) (both (stmt_is t h.1.0 s) (stmt_is u h.1.1.0 (bodies.after (telling (stmt t)) s)))

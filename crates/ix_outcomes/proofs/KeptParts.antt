@@ -1,5 +1,5 @@
 -- Parts of bounds whose constants are kept are, as far as theirs are kept, those of all bounds.
-use Rattle.std.specs.Prelude.{◌≡◌, Bool, true, false, ℤ, int_lt, List, [], ◌∷◌, ◌++◌, refl}
+use Rattle.std.specs.Prelude.{◌≡◌, true, false, ℤ, int_lt, List, [], ◌∷◌, ◌++◌, refl}
 use Rattle.std.specs.Int.{int_min, int_max}
 use Rattle.std.proofs.Common.{ap, sym, ◌∙◌, arith}
 use Rattle.std.proofs.lemmas.Int.{ints, clamps}
@@ -14,11 +14,8 @@ use Rattle.ix_facts.specs.Closure.{kept, kept_fact}
 use Rattle.ix_facts.specs.Exact.{if_so, each}
 use Rattle.std.proofs.lemmas.List.{append_assoc}
 use Rattle.ix_exact.specs.KeptLaws.{kept_joined}
+use Rattle.ix_core.proofs.Cases.{by_test}
 use Rattle.ix_outcomes.specs.OverGroups as over
-
-by_test : {G : Type 0} (t : Bool) → (t ≡ true → G) → (t ≡ false → G) → G
-by_test true first second = first refl
-by_test false first second = second refl
 
 -- ---- a bound that is too small gives none that is kept
 

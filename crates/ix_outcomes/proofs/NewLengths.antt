@@ -18,13 +18,10 @@ use Rattle.ix_facts.proofs.FactLists.{in_left, in_right, in_either}
 use Rattle.ix_index.specs.OnPaths.{HasNamed, each_on, best_on}
 use Rattle.ix_exact.specs.BestLaws.{low_joined, high_joined}
 use Rattle.ix_facts.specs.SameFacts.{HasAll, AreSame}
+use Rattle.ix_core.proofs.Cases.{by_test}
 use Rattle.ix_outcomes.specs.OverGroups as over
 use Rattle.ix_outcomes.proofs.PathsRead.{reads_length, looks_low, looks_high}
 use Rattle.ix_outcomes.proofs.OverAll.{ranges_are}
-
-by_test : {G : Type 0} (t : Bool) → (t ≡ true → G) → (t ≡ false → G) → G
-by_test true first second = first refl
-by_test false first second = second refl
 
 -- ---- the best of two lists
 

@@ -1,38 +1,13 @@
 -- Which path each part reads: it gives nothing of a fact that does not name it.
-use Rattle.std.specs.Prelude.{◌≡◌, Bool, true, false, ◌||◌, ℤ, Option, None, List, [], refl}
-use Rattle.std.proofs.Common.{ap, sym, ◌∙◌, subst}
-use Rattle.std.proofs.lemmas.Bool.{false≢true}
+use Rattle.std.specs.Prelude.{ℤ, List, refl}
 use Rattle.ix_core.specs.declared.fact.Path.{Path}
 use Rattle.ix_core.specs.declared.fact.Fact.{Fact}
 use Rattle.ix_core.specs.declared.fact.Fact.TheVariants.{Rng, LenRng, Low, Same, IsLen, Less, Sum, Search, Neg, Upper}
-use Rattle.ix_facts.specs.Bounds.{is_path, when, own_low_by, range_high_by}
-use Rattle.ix_facts.specs.Exact.{if_so}
-use Rattle.ix_facts.specs.PathOrder.{path_itself, path_same}
+use Rattle.ix_facts.specs.Bounds.{is_path, own_low_by, range_high_by}
 use Rattle.ix_facts.specs.AfterTest.{below_by, above_by, bound_moved}
 use Rattle.ix_index.specs.OnPaths.{ReadsOnly, LooksOnly}
+use Rattle.ix_facts.proofs.Tests.{off, not_first, not_second, none_if, no_number}
 use Rattle.ix_outcomes.specs.OverGroups as over
-
-by_test : {G : Type 0} (t : Bool) → (t ≡ true → G) → (t ≡ false → G) → G
-by_test true first second = first refl
-by_test false first second = second refl
-
-off : (p q : Path) → is_path p q ≡ false → is_path q p ≡ false
-off p q n =
-    by_test (is_path q p) (λ t. absurd (false≢true (sym n ∙ subst (λ r. is_path r q ≡ true) (path_same q p t) (path_itself q)))) (λ t. t)
-
-not_first : (x y : Bool) → (x || y) ≡ false → x ≡ false
-not_first true y n = n
-not_first false y n = refl
-
-not_second : (x y : Bool) → (x || y) ≡ false → y ≡ false
-not_second true y n = absurd (false≢true (sym n))
-not_second false y n = n
-
-none_if : (t : Bool) (facts : List Fact) → t ≡ false → if_so t facts ≡ []
-none_if t facts n = ap (λ b. if_so b facts) n
-
-no_number : (t : Bool) (number : Option ℤ) → t ≡ false → when t number ≡ None
-no_number t number n = ap (λ b. when b number) n
 
 pub reads_below : (rule : Path → ℤ → List Fact) (p : Path) → ReadsOnly p (below_by rule p)
 reads_below rule p (Less r x c) n = none_if (is_path x p) _ (off p x (not_second (is_path p r) _ n))

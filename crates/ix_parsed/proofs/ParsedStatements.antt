@@ -1,6 +1,6 @@
 -- Types, declarations and statements of the grammar have the forms that lowering rests on.
 use Rattle.std.proofs.Common.{◌≡◌, Bool, true, false, List, [], ◌∷◌, ◌++◌, map, Option, Some, None, refl, sym, ap, subst, ◌∙◌}
-use Rattle.std.specs.Prelude.{nat_lt, ◌&&◌, ◌||◌, not}
+use Rattle.std.specs.Prelude.{nat_lt, ◌&&◌, not}
 use Rattle.ix_text.specs.declared.span.Span.{Span}
 use Rattle.ix_lexer.specs.declared.token.Token.{Token}
 use Rattle.ix_lexer.specs.declared.fixed.TheConstants.{ELSE, WHILE, COMMA, SEMICOLON, CLOSE_PAREN, CLOSE_BRACE, OPEN_PAREN}
@@ -36,6 +36,7 @@ use Rattle.ix_formed.specs.Readable.{Statement, stmt_shape, each_fine, is_part, 
 use Rattle.ix_formed.specs.Written as written
 use Rattle.ix_formed.specs.Written.{is_written_expr, is_written_init, is_written_type, is_written_decl, is_written_stmt, is_empty, all_true, each_true, maybe_true}
 use Rattle.ix_formed.proofs.NumberLists.{both_true, all_joined}
+use Rattle.ix_formed.proofs.AcceptedMembers.{or_later}
 use Rattle.ix_parsed.specs.IntTokens.{HaveInts}
 use Rattle.ix_parsed.proofs.FoldsOfForms as fold
 use Rattle.ix_parsed.proofs.ParsedExpressions.{IsFine, each_is, all_are, ints_split, some_pairs, expr_found, init_found}
@@ -57,10 +58,6 @@ module _ {A B : Type 0} (Item : List Token → A → Type 0) (tree : A → B) (S
       subst (AllOf So) (sym (adds items item)) (all_joined So (list items) (tree item ∷ []) (separated_found first starts before items r j.0) (found tokens item i j.1.1, tt))
 
 -- ---- types and declarations
-
-or_later : (a b : Bool) → b ≡ true → (a || b) ≡ true
-or_later true b e = refl
-or_later false b e = e
 
 pub type_found : (ts : List Token) (ty : FoundType) → IsType ts ty → is_written_type ty.ty ≡ true
 type_found _ _ (types.type b types.no_rest) = refl

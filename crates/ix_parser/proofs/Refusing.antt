@@ -17,6 +17,7 @@ use Rattle.ix_places.proofs.ClassLaid.{source_placed}
 use Rattle.ix_places.proofs.SourceHeights.{source_low}
 use Rattle.ix_places.proofs.SourcePlaces.{source_can_resolve}
 use Rattle.ix_descent.proofs.SourceLaws.{source_is, source_is_read}
+use Rattle.ix_lexer.proofs.SplitInOrder.{some}
 
 -- ---- what is too high is a token, and no rule wants memory
 
@@ -28,9 +29,6 @@ MetAt x = (x.0 ≡ stop.TooDeep → x.1 ≡ [] → ⊥) × (x.0 ≡ stop.Memory 
 abbrev Met : {A : Type 0} → Outcome A → Type 0
 Met (Ok p) = Unit {0}
 Met (Err x) = MetAt x
-
-some : (t : Token) (ts : List Token) → t ∷ ts ≡ [] → ⊥
-some t ts h = cc
 
 syntax_met : (us : List Token) → MetAt (stop.Syntax, us)
 syntax_met us = (λ h. cc, λ h. cc)

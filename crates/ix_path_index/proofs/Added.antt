@@ -7,8 +7,8 @@ use Rattle.ix_core.specs.declared.fact.Path.{Path}
 use Rattle.ix_core.specs.declared.fact.Fact.{Fact}
 use Rattle.ix_facts.specs.Bounds.{is_path}
 use Rattle.ix_facts.specs.PathOrder.{path_same}
-use Rattle.ix_facts.proofs.Tests.{by_test}
 use Rattle.ix_facts.specs.Forget.{names}
+use Rattle.ix_core.proofs.Cases.{by_test}
 use Rattle.ix_path_index.specs.ByPath.{Entries, Places, is_near, slot_number, at_paths, paths_in, facts_at, facts_in, about, beside, on_index, on_it, Adds}
 use Rattle.ix_path_index.proofs.EntriesAre.{about_app, if_named, fact_at, beside_is}
 

@@ -12,11 +12,8 @@ use Rattle.ix_core.specs.declared.fact.Fact.TheVariants.{Rng, LenRng, Low, Same,
 use Rattle.ix_facts.specs.Bounds.{is_path}
 use Rattle.ix_facts.specs.Forget.{names, offset_names}
 use Rattle.ix_facts.specs.PathOrder.{path_cmp, path_same}
+use Rattle.ix_core.proofs.Cases.{by_test}
 use Rattle.ix_path_index.specs.ByPath.{Entries, at_two, at_three, at_bound, at_paths, entries_of, paths_in, facts_in, about, beside, on_it, IsSorted}
-
-by_test : {G : Type 0} (t : Bool) → (t ≡ true → G) → (t ≡ false → G) → G
-by_test true first second = first refl
-by_test false first second = second refl
 
 pub about_app : (p : Path) (a b : Entries) → facts_in (about p (a ++ b)) ≡ facts_in (about p a) ++ facts_in (about p b)
 about_app p [] b = refl

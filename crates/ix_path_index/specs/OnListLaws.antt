@@ -5,8 +5,9 @@ use Rattle.ix_core.specs.declared.fact.Fact.{Fact}
 use Rattle.ix_facts.specs.Bounds.{is_path}
 use Rattle.ix_facts.specs.Facts.{IsIn}
 use Rattle.ix_facts.specs.Forget.{names}
+use Rattle.ix_core.proofs.Cases.{by_test}
 use Rattle.ix_path_index.specs.Grouped.{few, on_list}
-use Rattle.ix_path_index.specs.OnPathLaws.{by_test, on_it_named, on_it_only}
+use Rattle.ix_path_index.specs.OnPathLaws.{on_it_named, on_it_only}
 
 pub on_list_named : (p : Path) (facts : List Fact) → filter (names (is_path p)) (on_list facts p) ≡ filter (names (is_path p)) facts
 on_list_named p facts = by_test (nat_le (length facts) few) (λ t. rw t refl) (λ t. rw t (on_it_named p facts))

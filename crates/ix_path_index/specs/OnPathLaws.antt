@@ -1,16 +1,13 @@
 -- The facts that name a path are all that name it, in order, and no others than facts.
-use Rattle.std.specs.Prelude.{◌≡◌, Bool, true, false, List, [], ◌∷◌, filter, refl}
+use Rattle.std.specs.Prelude.{◌≡◌, Bool, List, [], ◌∷◌, filter, refl}
 use Rattle.std.proofs.Common.{inl, inr, ap, ⊎_elim}
 use Rattle.ix_core.specs.declared.fact.Path.{Path}
 use Rattle.ix_core.specs.declared.fact.Fact.{Fact}
 use Rattle.ix_facts.specs.Bounds.{is_path}
 use Rattle.ix_facts.specs.Facts.{IsIn}
 use Rattle.ix_facts.specs.Forget.{names}
+use Rattle.ix_core.proofs.Cases.{by_test}
 use Rattle.ix_path_index.specs.ByPath.{on_it}
-
-pub by_test : {G : Type 0} (t : Bool) → (t ≡ true → G) → (t ≡ false → G) → G
-by_test true first second = first refl
-by_test false first second = second refl
 
 filtered_twice : (is : Fact → Bool) (facts : List Fact) → filter is (filter is facts) ≡ filter is facts
 filtered_twice is [] = refl

@@ -34,6 +34,7 @@ use Rattle.ix_places.proofs.ListsLaid.{repeated_laid}
 use Rattle.ix_places.proofs.ExprLaid.{args_lie, args_laid}
 use Rattle.ix_places.proofs.DeclLaid.{HaveAll, head_laid, headed, mods_laid, first_behind, group_laid, params_laid}
 use Rattle.ix_places.proofs.StmtLaid.{block_stmt_laid}
+use Rattle.ix_places.proofs.ClassPlaces.{later_assoc}
 
 -- ---- bodies
 
@@ -170,10 +171,6 @@ begin_before lo mid (Some first) other name f a b = omega (arith, f.1, f.2, a)
 record MembersLaid (start lo hi : ℕ) (before : Option Span) (found : Members) : Type 0 where
   pub laid : Laid start lo hi (members_pieces before found.members)
   pub last : EndsBefore hi (last_type before found.members)
-
--- the last one further out
-later_assoc : (first second third last : List Token) → first ++ (second ++ (third ++ last)) ≡ (first ++ (second ++ third)) ++ last
-later_assoc first second third last = sym (append_assoc first (second ++ third) last ∙ ap (λ y. first ++ y) (append_assoc second third last))
 
 member_laid : (start lo hi : ℕ) (before : Option Span) (ts : List Token) (found : Members) → IsMember source_parts ts found → InOrder lo hi ts → start ≤ lo → EndsBefore lo before → MembersLaid start lo hi before found
 member_laid start lo hi before _ _ (g.some_fields {first} {second} {third} {mods} {ty} {decls = ds} end m t d) o le e =

@@ -83,7 +83,7 @@ field_count [] = refl
 field_count (d ∷ ds) = ap (λ n. suc n) (field_count ds)
 
 -- the last one further out
-later_assoc : (first second third last : List Token) → first ++ (second ++ (third ++ last)) ≡ (first ++ (second ++ third)) ++ last
+pub later_assoc : (first second third last : List Token) → first ++ (second ++ (third ++ last)) ≡ (first ++ (second ++ third)) ++ last
 later_assoc first second third last = sym (append_assoc first (second ++ third) last ∙ ap (λ y. first ++ y) (append_assoc second third last))
 
 abbrev MembersStand : ℕ → ℕ → ℕ → Members → Type 0

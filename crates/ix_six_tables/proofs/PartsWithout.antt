@@ -6,7 +6,7 @@ use Rattle.ix_core.specs.declared.fact.PathOff.TheVariants.{Nothing, Plus, Minus
 use Rattle.ix_core.specs.declared.fact.Fact.{Fact}
 use Rattle.ix_core.specs.declared.fact.Fact.TheVariants.{Rng, LenRng, Low, Same, IsLen, Less, Sum, Search, Neg, Upper}
 use Rattle.ix_facts.specs.Forget.{names, without}
-use Rattle.ix_facts.proofs.Tests.{by_test}
+use Rattle.ix_core.proofs.Cases.{by_test}
 
 without_app : (is : Path → Bool) (a b : List Fact) → without is (a ++ b) ≡ without is a ++ without is b
 without_app is [] b = refl

@@ -14,11 +14,7 @@ use Rattle.ix_facts.specs.Systems.{Merges, IsTable}
 use Rattle.ix_facts.specs.Systems as merges
 use Rattle.ix_facts.proofs.FactLists.{in_either}
 use Rattle.ix_fact_table.proofs.OneKind.{from_kind}
-use Rattle.ix_facts.proofs.SaidLaws.{in_orders_left, in_orders_right}
-
-by_test : {G : Type 0} (t : Bool) → (t ≡ true → G) → (t ≡ false → G) → G
-by_test true first second = first refl
-by_test false first second = second refl
+use Rattle.ix_core.proofs.Cases.{by_test}
 
 -- ---- a kind's facts
 
@@ -65,14 +61,6 @@ merges_more some facts k _ (merges.len_met a l h m n r s) = merges.len_met a l h
 merges_more some facts k _ (merges.turned a b r) = merges.turned a b (merges_more some facts k (Same a b) r)
 merges_more some facts k _ (merges.sum_turned t y z r) = merges.sum_turned t y z (merges_more some facts k (Sum t y z) r)
 merges_more some facts k _ (merges.upper_turned p a q c r) = merges.upper_turned p a q c (merges_more some facts k (Upper p a (Plus q) c) r)
-
--- ---- two lists, one behind the other
-
-said_left : (a b : List Fact) (f : Fact) → Said a f → Said (a ++ b) f
-said_left a b f s = ⊎_elim (λ d. inl d) (λ x. inr (x.0, in_orders_left x.0 a b x.1, x.2)) s
-
-said_right : (a b : List Fact) (f : Fact) → Said b f → Said (a ++ b) f
-said_right a b f s = ⊎_elim (λ d. inl d) (λ x. inr (x.0, in_orders_right x.0 a b x.1, x.2)) s
 
 -- ---- a table of one kind, and of the rest
 

@@ -1,43 +1,16 @@
 -- What two lists of six tables have in common is what their tables have in common, and one says all that the other says where its tables do.
-use Rattle.std.specs.Prelude.{◌≡◌, ◌⊎◌, Bool, true, List, ◌++◌, refl}
-use Rattle.std.proofs.Common.{inl, inr, ap, sym, ◌∙◌, subst, ⊎_elim}
-use Rattle.ix_core.specs.declared.fact.PathOff.TheVariants.{Nothing, Plus, Minus}
+use Rattle.std.specs.Prelude.{◌≡◌, ◌⊎◌, Bool, true, List, ◌++◌}
+use Rattle.std.proofs.Common.{inl, inr, sym, ◌∙◌, subst, ⊎_elim}
 use Rattle.ix_core.specs.declared.fact.Fact.{Fact}
-use Rattle.ix_core.specs.declared.fact.Fact.TheVariants.{Rng, LenRng, Low, Same, IsLen, Less, Sum, Search, Neg, Upper}
-use Rattle.ix_facts.specs.Facts.{IsIn, Covers, rng, len_rng, low, same, is_len, less, sum, search, neg, upper, orders}
+use Rattle.ix_facts.specs.Facts.{IsIn, same}
 use Rattle.ix_facts.specs.Closure.{Said, SaysAll, AllTell, IsCommon}
 use Rattle.ix_facts.specs.Kinds.{kind_of}
 use Rattle.ix_facts.specs.declared.kind.Kind.{Kind}
 use Rattle.ix_facts.proofs.FactLists.{in_either, from_in_orders}
 use Rattle.ix_facts.proofs.SaidLaws.{in_orders_left, in_orders_right, in_orders_either}
+use Rattle.ix_facts.proofs.SystemLaws.{covers_kind, order_kind}
 
 -- ---- kinds
-
-order_kind : (f x : Fact) → IsIn x (orders f) → kind_of x ≡ kind_of f
-order_kind (Same a b) x i = ⊎_elim (λ e. ap kind_of e) (λ j. ⊎_elim (λ e. ap kind_of e) (λ n. absurd n) j) i
-order_kind (Sum t y z) x i = ⊎_elim (λ e. ap kind_of e) (λ j. ⊎_elim (λ e. ap kind_of e) (λ n. absurd n) j) i
-order_kind (Upper p a (Plus q) c) x i = ⊎_elim (λ e. ap kind_of e) (λ j. ⊎_elim (λ e. ap kind_of e) (λ n. absurd n) j) i
-order_kind (Upper p a Nothing c) x i = ⊎_elim (λ e. ap kind_of e) (λ n. absurd n) i
-order_kind (Upper p a (Minus q) c) x i = ⊎_elim (λ e. ap kind_of e) (λ n. absurd n) i
-order_kind (Rng p l h) x i = ⊎_elim (λ e. ap kind_of e) (λ n. absurd n) i
-order_kind (LenRng p l h) x i = ⊎_elim (λ e. ap kind_of e) (λ n. absurd n) i
-order_kind (Low p c) x i = ⊎_elim (λ e. ap kind_of e) (λ n. absurd n) i
-order_kind (IsLen p a) x i = ⊎_elim (λ e. ap kind_of e) (λ n. absurd n) i
-order_kind (Less p q c) x i = ⊎_elim (λ e. ap kind_of e) (λ n. absurd n) i
-order_kind (Search p a) x i = ⊎_elim (λ e. ap kind_of e) (λ n. absurd n) i
-order_kind (Neg p a) x i = ⊎_elim (λ e. ap kind_of e) (λ n. absurd n) i
-
-covers_kind : (g f : Fact) → Covers g f → kind_of g ≡ kind_of f
-covers_kind _ _ (rng p l h m k x y) = refl
-covers_kind _ _ (len_rng a l h m k x y) = refl
-covers_kind _ _ (low p c d x) = refl
-covers_kind _ _ (same a b) = refl
-covers_kind _ _ (is_len p a) = refl
-covers_kind _ _ (less p q c d x) = refl
-covers_kind _ _ (sum t y z) = refl
-covers_kind _ _ (search p a) = refl
-covers_kind _ _ (neg p a) = refl
-covers_kind _ _ (upper p a o c d x) = refl
 
 -- all facts of the list are of these kinds
 abbrev pub AreOf : (Kind → Bool) → List Fact → Type 0
@@ -81,10 +54,10 @@ module _ (is other : Kind → Bool) (apart : AreApart is other) where
       (in_orders_either x.0 a b x.1))
       said
 
-said_left : (a b : List Fact) (f : Fact) → Said a f → Said (a ++ b) f
+pub said_left : (a b : List Fact) (f : Fact) → Said a f → Said (a ++ b) f
 said_left a b f s = ⊎_elim (λ d. inl d) (λ x. inr (x.0, in_orders_left x.0 a b x.1, x.2)) s
 
-said_right : (a b : List Fact) (f : Fact) → Said b f → Said (a ++ b) f
+pub said_right : (a b : List Fact) (f : Fact) → Said b f → Said (a ++ b) f
 said_right a b f s = ⊎_elim (λ d. inl d) (λ x. inr (x.0, in_orders_right x.0 a b x.1, x.2)) s
 
 -- ---- what two lists have in common, of some kinds

@@ -14,12 +14,12 @@ use Rattle.ix_core.specs.declared.op.CallOp.{CallOp}
 use Rattle.ix_core.specs.declared.program.Method.{Method}
 use Rattle.ix_core.specs.declared.program.Program.{Program}
 use Rattle.ix_core.specs.Formed.{is_formed}
-use Rattle.ix_core.specs.Heap.{Held, Num, Boolean, Null, At, Heap, ObjectOf, value_at, reading_of}
+use Rattle.ix_core.specs.Heap.{Held, Heap, ObjectOf, value_at, reading_of}
 use Rattle.ix_core.specs.Machine.{CallKind, Static, Instance, New, Super, call_values, call_heap, receiver_slot}
 use Rattle.ix_core.specs.Numbers.{Numbers, HasInts, numbers_of, field_of}
 use Rattle.ix_core.specs.Objects.{AllOn, Later}
 use Rattle.ix_core.specs.Tables.{method_at, param_slot}
-use Rattle.ix_core.specs.Waits.{MeetParams, param_readings, reading_through}
+use Rattle.ix_core.specs.Waits.{MeetParams, param_readings}
 use Rattle.ix_core.specs.World.{World, tables_in}
 use Rattle.ix_core.proofs.Entered.{reading_later}
 use Rattle.ix_core.proofs.Waiting.{later_refl, later_push}
@@ -27,6 +27,7 @@ use Rattle.ix_facts.specs.Stores.{Stored, Meets}
 use Rattle.ix_steps.specs.MachineSteps.{on_paths, reading_at}
 use Rattle.ix_method.specs.Names.{arg_slot, call_path}
 use Rattle.ix_method.specs.SignErrors.{Refuses, ArgumentClaim}
+use Rattle.ix_steps.proofs.MachineTests.{through_is}
 use Rattle.ix_sound.specs.Direct.{direct}
 use Rattle.ix_sound.specs.Known.{KindFits, call_of}
 use Rattle.ix_sound.proofs.ClaimTruths.{claims_true, none_fails}
@@ -64,12 +65,6 @@ grown_later program Static heap = later_refl heap
 grown_later program Instance heap = later_refl heap
 grown_later program (New class) heap = later_push heap (record { kind = ObjectOf class; cells = (direct program).fresh_fields class })
 grown_later program Super heap = later_refl heap
-
-pub through_is : (world : World) (heap : Heap) (held : Held) (field : ℕ) → reading_through world heap held field ≡ reading_of heap (field_of world.place heap field held)
-through_is world heap (At k) field = refl
-through_is world heap (Num n) field = refl
-through_is world heap (Boolean answer) field = refl
-through_is world heap Null field = refl
 
 pub arg_slot_is : (call : CallOp) (k : ℕ) (arg : Arg) → slice_get call.args k ≡ Some arg → arg_slot call k ≡ arg.slot
 arg_slot_is call k arg is = ap (λ (o : Option Arg). unwrap_or (option_map (λ (a : Arg). a.slot) o) 0) is

@@ -38,10 +38,11 @@ use Rattle.ix_steps.proofs.ReturnedCalls.{called_step}
 use Rattle.ix_method.specs.Names.{call_path}
 use Rattle.ix_method.specs.Signs.{CallGives, of_callee, received, claims_facts}
 use Rattle.ix_method.proofs.SignTruth.{signs_hold}
+use Rattle.ix_steps.proofs.MachineTests.{through_is}
 use Rattle.ix_sound.specs.Direct.{direct}
 use Rattle.ix_sound.specs.Known.{KindFits, call_of}
 use Rattle.ix_sound.specs.Stands.{StandsFor}
-use Rattle.ix_sound.proofs.ArgumentsMet.{there_at, argument_value, arg_slot_is, through_is}
+use Rattle.ix_sound.proofs.ArgumentsMet.{there_at, argument_value, arg_slot_is}
 use Rattle.ix_sound.proofs.ClaimTruths.{claims_hold}
 use Rattle.ix_sound.proofs.NamedClaims.{MayName, result_names}
 use Rattle.ix_sound.proofs.OperationsMeet.{KeepsThis}

@@ -1,19 +1,17 @@
 -- Claims that are true give the facts that the rules add, and claims that the rules show are true.
 use Rattle.std.specs.Prelude.{◌≡◌, ℕ, zero, suc, List, [], ◌∷◌, slice_get, Option, Some, unwrap_or, refl}
-use Rattle.std.proofs.Common.{arith, sym, ap, ◌∙◌, subst}
-use Rattle.std.proofs.lemmas.Int.{ints}
+use Rattle.std.proofs.Common.{sym, ap, subst}
 use Rattle.ix_text.specs.declared.span.Span.{Span}
 use Rattle.ix_core.specs.declared.claim.Claim.{Claim}
-use Rattle.ix_core.specs.declared.claim.Claim.TheVariants.{Range, Low, Length, Same, Less, Upper, Search, Negative}
 use Rattle.ix_core.specs.declared.claim.Name.{Name}
 use Rattle.ix_core.specs.declared.claim.Off.TheVariants as off
 use Rattle.ix_core.specs.declared.error.Error.{Error}
 use Rattle.ix_core.specs.declared.error.Subject.{Subject}
 use Rattle.ix_core.specs.declared.fact.Path.{Path}
-use Rattle.ix_core.specs.Claims.{True, AreTrue, offset_of}
+use Rattle.ix_core.specs.Claims.{True, AreTrue}
 use Rattle.ix_core.specs.Heap.{Reading}
 use Rattle.ix_core.specs.Numbers.{Numbers}
-use Rattle.ix_core.specs.Objects.{Names, claim_names, offset_names}
+use Rattle.ix_core.specs.Objects.{Names}
 use Rattle.ix_facts.specs.Assume.{ClaimHolds, claim_facts}
 use Rattle.ix_facts.specs.Facts.{AllHold}
 use Rattle.ix_facts.proofs.ClaimLaws.{claim_facts_hold}
@@ -22,26 +20,9 @@ use Rattle.ix_steps.specs.MachineSteps.{on_paths, reading_at}
 use Rattle.ix_steps.proofs.MachineTests.{claim_holds, claim_true}
 use Rattle.ix_method.specs.Signs.{claims_facts}
 use Rattle.ix_method.specs.SignErrors.{Unproved, unproved}
+use Rattle.ix_core.proofs.Stack.{claim_named}
 
 -- ---- claims, where the numbers that they name are the same
-
-offset_named : (o : _) (f g : Name → Reading) → ((name : Name) (at : ℕ) → slice_get (offset_names o) at ≡ Some name → f name ≡ g name) → offset_of f o ≡ offset_of g o
-offset_named off.Nothing f g same = refl
-offset_named (off.Plus name) f g same = ap (λ (r : Reading). r.int) (same name 0 refl)
-offset_named (off.Minus name) f g same = let e = ap (λ (r : Reading). r.int) (same name 0 refl) in omega (arith, ints)
-
-claim_named : (claim : Claim) (v : Reading) (f g : Name → Reading) → ((name : Name) (at : ℕ) → slice_get (claim_names claim) at ≡ Some name → f name ≡ g name) → True claim v f → True claim v g
-claim_named (Range low high) v f g same is = is
-claim_named (Low low) v f g same is = is
-claim_named (Length least) v f g same is = is
-claim_named (Same other) v f g same is = is ∙ ap (λ (r : Reading). r.size) (same other 0 refl)
-claim_named (Less name constant) v f g same is = let e = ap (λ (r : Reading). r.int) (same name 0 refl) in omega (arith, ints)
-claim_named (Upper array o constant) v f g same is =
-    let e = ap (λ (r : Reading). r.size) (same array 0 refl) in
-    let d = offset_named o f g (λ name at x. same name (suc at) x) in
-    omega (arith, ints)
-claim_named (Search array) v f g same is = let e = ap (λ (r : Reading). r.size) (same array 0 refl) in (omega (arith, ints), omega (arith, ints))
-claim_named (Negative array) v f g same is = let e = ap (λ (r : Reading). r.size) (same array 0 refl) in (omega (arith, ints), is.1)
 
 pub true_named : (claims : List Claim) (v w : Reading) (f g : Name → Reading) → v ≡ w → ((name : Name) → Names claims name → f name ≡ g name) → AreTrue claims v f → AreTrue claims w g
 true_named [] v w f g e same is = tt

@@ -1,5 +1,5 @@
 -- A method that overrides another without errors stands for it.
-use Rattle.std.specs.Prelude.{◌≡◌, ◌⊎◌, ℕ, suc, ◌+◌, ◌<◌, ◌==◌, Bool, true, false, not, ◌&&◌, ◌||◌, if◌then◌else◌, pos, List, [], ◌∷◌, ◌++◌, length, slice_get, Some, refl}
+use Rattle.std.specs.Prelude.{◌≡◌, ◌⊎◌, ℕ, suc, ◌+◌, ◌<◌, ◌==◌, Bool, true, false, not, ◌&&◌, if◌then◌else◌, pos, List, [], ◌∷◌, ◌++◌, length, slice_get, Some, refl}
 use Rattle.std.proofs.Common.{arith, sym, ap, ◌∙◌, subst, inl, inr, ⊎_elim}
 use Rattle.std.proofs.lemmas.Bool.{and_parts, false≢true}
 use Rattle.std.proofs.lemmas.Bool.Decides.{nat_tests}
@@ -42,10 +42,11 @@ use Rattle.ix_steps.specs.MachineSteps.{on_paths, own_path, reading_at, IsDeclar
 use Rattle.ix_steps.proofs.MachineTests.{parameter_is}
 use Rattle.ix_method.specs.Signs.{received, received_params, params_facts, claims_facts}
 use Rattle.ix_method.specs.SignErrors.{AllRefuse, OverrideErrors, of_run, HasRun, plain}
+use Rattle.ix_claim_facts.proofs.SignTruth.{adds_hold}
+use Rattle.ix_steps.proofs.ReturnedCalls.{or_parts}
 use Rattle.ix_sound.specs.Direct.{direct}
 use Rattle.ix_sound.specs.Stands.{StandsFor}
 use Rattle.ix_sound.proofs.ClaimTruths.{claims_hold, claims_true, none_fails}
-use Rattle.ix_sound.proofs.FieldsShown.{adds_hold}
 use Rattle.ix_sound.proofs.ResultSlots.{with_result, front_same, result_at, same_but, each_held, zero_int}
 use Rattle.ix_sound.proofs.NamedClaims.{MayName, param_names, result_names, count_params}
 use Rattle.ix_sound.proofs.Stable.{unrefused_by}
@@ -65,10 +66,6 @@ received_holds ty p v = by_array (is_array ty)
 pub received_all : (method : Method) (first : ℕ) (types : List Type_) (v : Numbers) → AllHold (received_params method first types) v
 received_all method first [] v = tt
 received_all method first (ty ∷ types) v = all_hold_app v (received ty (Slot (param_slot method first))) (received_params method (suc first) types) (received_holds ty (Slot (param_slot method first)) v) (received_all method (suc first) types v)
-
-or_parts : (a b : Bool) → (a || b) ≡ false → (a ≡ false) × (b ≡ false)
-or_parts true b e = absurd (false≢true (sym e))
-or_parts false b e = (refl, e)
 
 module _ (program : Program) (locals : List (List Type_)) (formed : is_formed program locals ≡ true) where
   abbrev world : World

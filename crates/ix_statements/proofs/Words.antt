@@ -1,6 +1,6 @@
 -- Which identifier comes next: one of a certain text, or another.
-use Rattle.std.proofs.Common.{◌≡◌, ◌≢◌, ℕ, Bool, true, false, cond, nat_eq, ◌&&◌, List, [], ◌∷◌, Option, Some, None, refl, ◌∙◌}
-use Rattle.std.proofs.lemmas.Bool.{eq-eqb, eqb-true}
+use Rattle.std.proofs.Common.{◌≡◌, ◌≢◌, ℕ, Bool, true, false, cond, ◌&&◌, List, [], ◌∷◌, Option, Some, None, refl, ◌∙◌}
+use Rattle.std.proofs.lemmas.Bool.{eq-eqb}
 use Rattle.ix_text.specs.declared.span.Span.{Span}
 use Rattle.ix_lexer.specs.declared.token.Token.{Token}
 use Rattle.ix_lexer.specs.declared.token.TokenKind.{TokenKind}
@@ -10,6 +10,7 @@ use Rattle.ix_grammar.specs.Patterns.{a_name, name_of}
 use Rattle.ix_descent.specs.Rule.{look}
 use Rattle.ix_grammar.specs.StmtGrammar.{same_text}
 use Rattle.ix_descent.specs.StmtRules.{a_word, word_of}
+use Rattle.ix_descent.proofs.StmtSound.{same_is}
 
 same_true : (xs : List ℕ) → same_text xs xs ≡ true
 same_true [] = refl
@@ -19,16 +20,6 @@ both : (a b : Bool) → (a && b) ≡ true → (a ≡ true) × (b ≡ true)
 both true true h = (refl, refl)
 both true false h = absurd (cc)
 both false b h = absurd (cc)
-
-same_is : (xs ys : List ℕ) → same_text xs ys ≡ true → xs ≡ ys
-same_is [] [] h = refl
-same_is [] (y ∷ ys) h = absurd (cc)
-same_is (x ∷ xs) [] h = absurd (cc)
-same_is (x ∷ xs) (y ∷ ys) h =
-    let w = both (nat_eq x y) (same_text xs ys) h in
-    let e : x ≡ y = eqb-true x y w.0 in
-    let es : xs ≡ ys = same_is xs ys w.1 in
-    rw (e, es) refl
 
 by_text : (b : Bool) (xs ys : List ℕ) → same_text xs ys ≡ b → xs ≢ ys → same_text xs ys ≡ false
 by_text true xs ys h ne = absurd (ne (same_is xs ys h))

@@ -1,5 +1,5 @@
 -- The numbers of the paths that a call and a write of a field leave as they were.
-use Rattle.std.specs.Prelude.{◌≡◌, ℕ, ◌==◌, ◌&&◌, ◌||◌, not, Bool, true, false, List, Option, Some, unwrap_or, refl}
+use Rattle.std.specs.Prelude.{◌≡◌, ℕ, ◌==◌, ◌&&◌, ◌||◌, not, Bool, true, false, List, Some, refl}
 use Rattle.std.proofs.Common.{arith, sym, ap, ◌∙◌, subst, ⊎_elim}
 use Rattle.std.proofs.lemmas.Bool.{false≢true, and_parts}
 use Rattle.std.proofs.lemmas.Bool.Decides.{nat_tests}
@@ -49,9 +49,6 @@ both_true a b = rw a (rw b refl)
 
 last_of : (a b c : Bool) → a ≡ false → b ≡ false → (a || (b || c)) ≡ true → c ≡ true
 last_of a b c x y e = subst (λ t. (t || c) ≡ true) y (subst (λ t. (t || (b || c)) ≡ true) x e)
-
-some_number : (a b : ℕ) → ◌≡◌ {A = Option ℕ} (Some a) (Some b) → a ≡ b
-some_number a b e = ap (λ (o : Option ℕ). unwrap_or o 0) e
 
 pub same_true : (n m : ℕ) → n ≡ m → (n == m) ≡ true
 same_true n m e = grind (arith, nat_tests)

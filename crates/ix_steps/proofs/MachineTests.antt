@@ -138,7 +138,7 @@ module _ (v : Numbers) (path : Name → Path) (p : Path) where
 
 -- ---- what names stand for
 
-through_is : (world : World) (heap : Heap) (held : Held) (field : ℕ) → reading_through world heap held field ≡ reading_of heap (field_of world.place heap field held)
+pub through_is : (world : World) (heap : Heap) (held : Held) (field : ℕ) → reading_through world heap held field ≡ reading_of heap (field_of world.place heap field held)
 through_is world heap (At number) field = refl
 through_is world heap (Num n) field = refl
 through_is world heap (Boolean answer) field = refl

@@ -47,7 +47,7 @@ returned_held place slots heap t (Some at) (Some x) is p e = kept_held place slo
 
 -- ---- what the call spares
 
-or_parts : (a b : Bool) → (a || b) ≡ false → (a ≡ false) × (b ≡ false)
+pub or_parts : (a b : Bool) → (a || b) ≡ false → (a ≡ false) × (b ≡ false)
 or_parts true b e = absurd (false≢true (sym e))
 or_parts false b e = (refl, e)
 

@@ -1,6 +1,6 @@
 -- A whole call: where an analysis keeps its laws, a call of a state that runs is a step of the rules when it has returned, however long the callee runs and
 -- whatever it calls. No frame of the call writes what the call may not change.
-use Rattle.std.specs.Prelude.{◌≡◌, ◌⊎◌, ℕ, zero, suc, ◌+◌, ◌<◌, ◌≤◌, ◌==◌, Bool, true, false, ◌||◌, if◌then◌else◌, List, [], ◌∷◌, ◌++◌, length, Option, Some, None, unwrap_or, refl}
+use Rattle.std.specs.Prelude.{◌≡◌, ◌⊎◌, ℕ, zero, suc, ◌+◌, ◌<◌, ◌≤◌, ◌==◌, Bool, true, false, ◌||◌, if◌then◌else◌, List, [], ◌∷◌, ◌++◌, length, Option, Some, None, refl}
 use Rattle.std.proofs.Common.{arith, sym, ap, ◌∙◌, subst, inl, ⊎_elim}
 use Rattle.std.proofs.lemmas.Bool.{false≢true}
 use Rattle.ix_core.specs.declared.fact.Profile.{Profile}
@@ -26,6 +26,7 @@ use Rattle.ix_core.proofs.LawsAreSafe.{good_next}
 use Rattle.ix_core.proofs.Waiting.{later_refl, later_push, own_or_not, super_parts}
 use Rattle.ix_facts.specs.FieldSteps.{IsCalled}
 use Rattle.ix_facts.specs.Forget.{SameBut, of_this, of_call}
+use Rattle.ix_core.proofs.Stack.{some_same}
 use Rattle.ix_steps.specs.CallEffects.{spared_in, HasReturned}
 use Rattle.ix_steps.proofs.CallStack.{step_is, caller_waits, has_entered, returns_to}
 use Rattle.ix_steps.proofs.ReturnedCalls.{since_entered, since_later, returned_call, returned_super}
@@ -58,9 +59,6 @@ super_makes world Static values slots began heap makes is = absurd (false≢true
 super_makes world Instance values slots began heap makes is = absurd (false≢true is)
 super_makes world (New class) values slots began heap makes is = absurd (false≢true is)
 super_makes world Super values slots began heap makes is = makes
-
-some_same : (a b : ℕ) → ◌≡◌ {A = Option ℕ} (Some a) (Some b) → a ≡ b
-some_same a b e = ap (λ (o : Option ℕ). unwrap_or o 0) e
 
 counted_wraps : (profile : Profile) (state : State) → state.wrapped ≡ true → Counts profile state → profile ≡ Int32
 counted_wraps Ideal state wrapped counts = absurd (false≢true (sym counts ∙ wrapped))

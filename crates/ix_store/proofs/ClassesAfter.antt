@@ -1,5 +1,5 @@
 -- What an int is at least in the facts behind a rule is -1, 0 or 1.
-use Rattle.std.specs.Prelude.{◌≡◌, Bool, true, false, not, ◌||◌, ℤ, pos, ◌+ℤ◌, ◌-ℤ◌, int_le, int_lt, List, [], ◌∷◌, ◌++◌, refl}
+use Rattle.std.specs.Prelude.{Bool, true, false, not, ◌||◌, ℤ, pos, ◌+ℤ◌, ◌-ℤ◌, int_le, int_lt, List, [], ◌∷◌, ◌++◌}
 use Rattle.std.proofs.Common.{sym, subst, ⊎_elim}
 use Rattle.ix_num.specs.Ints.{least_int, greatest_int}
 use Rattle.ix_core.specs.declared.fact.Path.{Path}
@@ -17,17 +17,11 @@ use Rattle.ix_facts.specs.Exact.{if_so, each}
 use Rattle.ix_facts.specs.Facts.{in_orders}
 use Rattle.ix_facts.specs.Stores.{with_outcome}
 use Rattle.ix_facts.specs.Systems.{HasClass, HaveClasses}
-use Rattle.ix_facts.proofs.ClassesStay.{claim_classes}
+use Rattle.ix_facts.proofs.ClassesStay.{claim_classes, app_have}
 use Rattle.ix_facts.proofs.ClosureLaws.{from_kept}
-use Rattle.ix_facts.proofs.FactLists.{in_right, in_either}
+use Rattle.ix_facts.proofs.FactLists.{in_right}
 use Rattle.ix_facts.proofs.SaidLaws.{from_each}
-
-by_test : {G : Type 0} (t : Bool) → (t ≡ true → G) → (t ≡ false → G) → G
-by_test true first second = first refl
-by_test false first second = second refl
-
-pub app_have : (a b : List Fact) → HaveClasses a → HaveClasses b → HaveClasses (a ++ b)
-app_have a b x y f i = ⊎_elim (λ j. x f j) (λ j. y f j) (in_either f a b i)
+use Rattle.ix_core.proofs.Cases.{by_test}
 
 pub right_have : (a b : List Fact) → HaveClasses (a ++ b) → HaveClasses b
 right_have a b have f i = have f (in_right f a b i)

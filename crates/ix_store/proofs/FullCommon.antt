@@ -1,5 +1,5 @@
 -- A range that both of two lists say isn't empty, where one of them has no empty range.
-use Rattle.std.specs.Prelude.{◌≡◌, Bool, true, false, int_lt, List, [], ◌∷◌, refl}
+use Rattle.std.specs.Prelude.{◌≡◌, false, int_lt, List, [], ◌∷◌, refl}
 use Rattle.std.proofs.Common.{arith, inl, inr, ◌∙◌, subst, ⊎_elim}
 use Rattle.std.proofs.lemmas.Int.{ints}
 use Rattle.ix_core.specs.declared.fact.Fact.{Fact}
@@ -10,10 +10,6 @@ use Rattle.ix_facts.proofs.FactLists.{from_in_orders}
 use Rattle.ix_six_tables.specs.EmptyRanges.{is_empty, some_empty}
 use Rattle.ix_store.specs.StoreLaws.{each_full}
 use Rattle.ix_store.proofs.StoresOf.{covers_rng, covers_len, range_order}
-
-by_test : {G : Type 0} (t : Bool) → (t ≡ true → G) → (t ≡ false → G) → G
-by_test true first second = first refl
-by_test false first second = second refl
 
 -- what a list without empty ranges says is no empty range
 said_full : (facts : List Fact) (f : Fact) → some_empty facts ≡ false → Said facts f → is_empty f ≡ false

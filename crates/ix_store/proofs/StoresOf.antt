@@ -1,5 +1,5 @@
 -- The tables of what follows from facts are the closed list of the facts, and where none of their ranges is empty the facts don't contradict each other.
-use Rattle.std.specs.Prelude.{◌≡◌, ◌⊎◌, Bool, true, false, ◌||◌, ℤ, ◌≤ℤ◌, ◌<ℤ◌, int_lt, List, [], ◌∷◌, ◌++◌, refl}
+use Rattle.std.specs.Prelude.{◌≡◌, ◌⊎◌, true, false, ◌||◌, ℤ, ◌≤ℤ◌, ◌<ℤ◌, int_lt, List, [], ◌∷◌, ◌++◌, refl}
 use Rattle.std.proofs.Common.{arith, inl, inr, sym, ◌∙◌, subst, ⊎_elim}
 use Rattle.std.proofs.lemmas.Bool.{false≢true}
 use Rattle.std.proofs.lemmas.Int.{ints}
@@ -15,6 +15,7 @@ use Rattle.ix_facts.proofs.FactLists.{in_left, in_either, from_in_orders}
 use Rattle.ix_closure.specs.Saturated.{IsSaturated}
 use Rattle.ix_closure.proofs.RangesMet.{merges_follow}
 use Rattle.ix_six_tables.specs.EmptyRanges.{is_empty, some_empty, HasEmpty}
+use Rattle.ix_core.proofs.Cases.{by_test}
 use Rattle.ix_store.specs.StoreLaws.{each_full}
 
 pub table_closed : (facts more table : List Fact) → IsSaturated facts more → IsTable more table → IsClosedOf facts table
@@ -75,10 +76,6 @@ contradicts_empty facts table is c =
     c.3
 
 -- ---- whether a range is empty
-
-by_test : {G : Type 0} (t : Bool) → (t ≡ true → G) → (t ≡ false → G) → G
-by_test true first second = first refl
-by_test false first second = second refl
 
 one_empty : (f : Fact) (facts : List Fact) → is_empty f ≡ true → IsIn f facts → HasEmpty facts
 one_empty (Rng p l h) facts t i = (p, l, h, inl i, grind (arith, ints, t))

@@ -16,7 +16,6 @@ use Rattle.ix_facts.specs.Kinds.{is_kind, is_of}
 use Rattle.ix_facts.specs.Closure.{SaysAll}
 use Rattle.ix_facts.specs.Stores.{Stored, IsBelow, IsJoined, left, right, both}
 use Rattle.ix_facts.proofs.StoreLaws.{below_itself, below_below, joined_least}
-use Rattle.ix_facts.proofs.Tests.{by_test}
 use Rattle.ix_closure.specs.FactTable.{FactTable}
 use Rattle.ix_closure.specs.FactOrder.{fact_cmp}
 use Rattle.ix_closure.specs.FactTables.{facts_of, table_kind, TableBelow, table_rank, low_within, high_within, numbers_rank, keyed}
@@ -25,6 +24,8 @@ use Rattle.ix_closure.specs.MeetLaws.{entry_parts, two_ends}
 use Rattle.ix_closure.specs.RisingLaws.{table_each}
 use Rattle.ix_closure.specs.TableLaws.{table_laws, all_own, above_left, above_right}
 use Rattle.ix_six_tables.specs.declared.tables.Tables.{Tables}
+use Rattle.ix_core.proofs.Cases.{by_test}
+use Rattle.ix_facts.proofs.Tests.{neither}
 use Rattle.ix_store.specs.declared.known.Known.{Known}
 use Rattle.ix_store.specs.declared.store.Store.{Store}
 use Rattle.ix_six_tables.specs.AllTables.{all_facts, AreOfKinds}
@@ -88,10 +89,6 @@ unseen_within eq limit (f ∷ facts) seen all =
 table_within : (table : FactTable) → ((f : Fact) → IsIn f (facts_of table) → is_empty f ≡ false) → table_rank table ≤ length (facts_of table) * (2 ^ 34)
 table_within table full =
     unseen_within (eq_by_cmp fact_cmp) (2 ^ 34) (facts_of table) (λ _. false) (λ f i. numbers_small f (entry_parts f (table_each table.kind (facts_of table) table.form f i).1).ends (full f i))
-
-neither : (s t : Bool) → (s || t) ≡ false → (s ≡ false) × (t ≡ false)
-neither true t h = absurd (false≢true (sym h))
-neither false t h = (refl, h)
 
 -- no range of a list without empty ranges is empty
 pub each_full : (facts : List Fact) (f : Fact) → some_empty facts ≡ false → IsIn f facts → is_empty f ≡ false

@@ -1,11 +1,11 @@
 -- The computed list is the list of errors, so there is one for all errors.
-use Rattle.std.proofs.Common.{zero, suc, length, slice_index_or, ◌≡◌, ◌≢◌, ℕ, ◌<◌, ◌==◌, ◌&&◌, ◌||◌, ◌⊎◌, inl, inr, Bool, true, false, nat_lt, if◌then◌else◌, List, [], ◌∷◌, refl, sym, ◌∙◌, ap, subst, arith}
-use Rattle.std.specs.List.{Contains, AllByRecursion}
+use Rattle.std.proofs.Common.{◌≡◌, ◌≢◌, ℕ, ◌<◌, ◌==◌, ◌&&◌, ◌||◌, ◌⊎◌, inl, inr, Bool, true, false, nat_lt, if◌then◌else◌, List, [], ◌∷◌, refl, sym, ap, subst, arith}
+use Rattle.std.specs.List.{AllByRecursion}
 use Rattle.std.proofs.lemmas.Bool.{cases_lt}
 use Rattle.std.proofs.lemmas.Bool.Decides.{nat_tests}
 use Rattle.ix_meaning.specs.declared.note.NameError.{NameError}
 use Rattle.ix_meaning.specs.Listed.{order, same_span, IsBefore, Rises, IsListed, is_same, goes_before, insert, listed}
-use Rattle.ix_table.proofs.SortedErrors.{same_error}
+use Rattle.ix_table.proofs.SortedErrors.{same_error, to_in, from_in, before_trans}
 
 -- ---- of two errors one goes before the other, or they are one
 
@@ -116,15 +116,6 @@ inserted e (y ∷ ys) = by (placed e y) (inserted e ys)
 
 -- ---- the list rises
 
-before_trans : (x y z : NameError) → IsBefore x y → IsBefore y z → IsBefore x z
-before_trans x y z (inl p) (inl q) = inl (omega (arith, p, q))
-before_trans x y z (inl p) (inr (e, q)) = inl (omega (arith, p, e))
-before_trans x y z (inr (e, p)) (inl q) = inl (omega (arith, e, q))
-before_trans x y z (inr (e, inl p)) (inr (f, inl q)) = inr (e ∙ f, inl (omega (arith, p, q)))
-before_trans x y z (inr (e, inl p)) (inr (f, inr (g, q))) = inr (e ∙ f, inl (omega (arith, p, g)))
-before_trans x y z (inr (e, inr (g, p))) (inr (f, inl q)) = inr (e ∙ f, inl (omega (arith, g, q)))
-before_trans x y z (inr (e, inr (g, p))) (inr (f, inr (h, q))) = inr (e ∙ f, inr (g ∙ h, omega (arith, p, q)))
-
 all_in : (P : NameError → Type 0) (xs : List NameError) → ((x : NameError) → In x xs → P x) → AllByRecursion P xs
 all_in P [] each = tt
 all_in P (x ∷ xs) each = (each x (inl refl), all_in P xs (λ y h. each y (inr h)))
@@ -163,19 +154,6 @@ has_all (e ∷ es) x (inr h) = (inserted e (listed es)).old x (has_all es x h)
 has_only : (es : List NameError) (x : NameError) → In x (listed es) → In x es
 has_only [] x h = h
 has_only (e ∷ es) x h = elim ((inserted e (listed es)).only x h) [ inl is ↦ inl is | inr is ↦ inr (has_only es x is) ]
-
-in_at : (xs : List NameError) (x : NameError) (k : ℕ) → k < length xs → slice_index_or xs k x ≡ x → In x xs
-in_at [] x k l e = absurd (omega (arith, l))
-in_at (y ∷ ys) x zero l e = inl (sym e)
-in_at (y ∷ ys) x (suc k) l e = inr (in_at ys x k (omega (arith, l)) e)
-
-to_in : (xs : List NameError) (x : NameError) → Contains xs x → In x xs
-to_in xs x c = in_at xs x c.0 c.1 c.2
-
-from_in : (xs : List NameError) (x : NameError) → In x xs → Contains xs x
-from_in [] x h = absurd h
-from_in (y ∷ ys) x (inl h) = (0, omega arith, sym h)
-from_in (y ∷ ys) x (inr h) = let c = from_in ys x h in (suc c.0, omega (arith, c.1), c.2)
 
 pub listed_is : (es : List NameError) → IsListed es (listed es)
 listed_is es = record {

@@ -75,7 +75,7 @@ not_after x y h = not_after_by y.span.from x.span.from (order y.rule) (order x.r
     (nat_cmp y.span.from x.span.from) (nat_cmp (order y.rule) (order x.rule)) (nat_cmp y.span.to x.span.to)
     (ranks y.span.from x.span.from) (ranks (order y.rule) (order x.rule)) (ranks y.span.to x.span.to) h
 
-before_trans : (x y z : NameError) → IsBefore x y → IsBefore y z → IsBefore x z
+pub before_trans : (x y z : NameError) → IsBefore x y → IsBefore y z → IsBefore x z
 before_trans x y z (inl p) (inl q) = inl (omega (arith, p, q))
 before_trans x y z (inl p) (inr (e, q)) = inl (omega (arith, p, e))
 before_trans x y z (inr (e, p)) (inl q) = inl (omega (arith, e, q))
@@ -213,19 +213,19 @@ later_is x (y ∷ ys) a s = step x y ys (same_key y x) refl a.0 (later_is x ys a
 
 -- ---- the list
 
-in_at : (xs : List NameError) (x : NameError) (k : ℕ) → k < length xs → slice_index_or xs k x ≡ x → In x xs
+pub in_at : (xs : List NameError) (x : NameError) (k : ℕ) → k < length xs → slice_index_or xs k x ≡ x → In x xs
 unfolding In
 in_at [] x k l e = absurd (omega arith)
 in_at (y ∷ ys) x zero l e = inl (sym e)
 in_at (y ∷ ys) x (suc k) l e = inr (in_at ys x k (omega arith) e)
 
-from_in : (xs : List NameError) (x : NameError) → In x xs → Contains xs x
+pub from_in : (xs : List NameError) (x : NameError) → In x xs → Contains xs x
 unfolding In
 from_in [] x h = absurd h
 from_in (y ∷ ys) x (inl h) = (0, omega arith, sym h)
 from_in (y ∷ ys) x (inr h) = let c = from_in ys x h in (suc c.0, omega arith, c.2)
 
-to_in : (xs : List NameError) (x : NameError) → Contains xs x → In x xs
+pub to_in : (xs : List NameError) (x : NameError) → Contains xs x → In x xs
 to_in xs x c = in_at xs x c.0 c.1 c.2
 
 once_listed : (sorted : List NameError) → Sorted sorted → IsListed sorted (dedup same_key sorted)

@@ -5,6 +5,7 @@ use Rattle.std.proofs.lemmas.Option.{slice_get_past}
 use Rattle.ix_tree.specs.declared.decl.ClassDecl.{ClassDecl}
 use Rattle.ix_tree.specs.declared.decl.Member.{Member}
 use Rattle.ix_tree.specs.declared.decl.Member.TheVariants as member
+use Rattle.ix_meaning.specs.Declarators.{members}
 use Rattle.ix_types.specs.Field.{Field}
 use Rattle.ix_types.specs.Signature.{Signature}
 use Rattle.ix_types.specs.Classes.{parents_by, parent, parent_in, onward, way_up, unseen, supers}
@@ -45,8 +46,8 @@ module _ (class : ClassOf) where
   all_fields_apart : (a c next : ℕ) (name : List ℕ) (ks : List ClassDecl) → a + length ks ≤ c → NonePass (is_field_named c name) (fields_from class a next ks)
   all_fields_apart a c next name [] le = tt
   all_fields_apart a c next name (k ∷ ks) le =
-      none_append (is_field_named c name) (fields_in class a next k.members) (fields_from class (a + 1) (next_fields next k.members) ks)
-      (fields_apart a c next name k.members (before a c (length ks) le))
+      none_append (is_field_named c name) (fields_in class a next (members k.members)) (fields_from class (a + 1) (next_fields next k.members) ks)
+      (fields_apart a c next name (members k.members) (before a c (length ks) le))
       (all_fields_apart (a + 1) c (next_fields next k.members) name ks (search rules))
 
   pub no_field_past : (c : ℕ) (name : List ℕ) (ks : List ClassDecl) → length ks ≤ c → own_field (fields_from class 0 0 ks) c name ≡ None

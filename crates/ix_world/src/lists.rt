@@ -1,9 +1,11 @@
 //! All fields, methods and constructors, in the order of the text. A method's number is its place; so is an instance field's, among its like.
 
-ghost use Rattle.std.specs.Prelude.{◌≡◌, ◌++◌, ◌+◌, ◌<◌, ◌≤◌, ◌^◌, length, map, IfOk, OnOk};
+ghost use Rattle.std.specs.Prelude.{◌≡◌, ◌++◌, ◌+◌, ◌<◌, ◌≤◌, ◌^◌, length, map, option_map, IfOk, OnOk};
 ghost use Rattle.indexmap.specs.IndexMap.{get_by_text};
 ghost use Rattle.ix_types.specs.Members as spec;
 ghost use Rattle.ix_types.specs.Source.{members_in};
+ghost use Rattle.ix_meaning.specs.Declarators as declared;
+ghost use Rattle.ix_written.specs.Begun.{AllBegin, annotated, first_shown};
 
 use crate::constant::constant;
 use indexmap::IndexMap;
@@ -11,22 +13,26 @@ use ix_core::Type_;
 use ix_text::{List, Text};
 use ix_tree::{ClassDecl, LocalDecl, Member, MethodDecl};
 use ix_types::{Field, Meaning, Signature};
-use ix_written::{Part, element_claims, target_before, written_type};
+use ix_written::{
+    Annotations, Begun, Part, declaration_of, element_claims, field_annotations, gathered,
+    target_before, written_type,
+};
 use std::alloc::{AllocError, Global};
 
 fn field_type(
     alloc: Global,
     classes: &IndexMap<String, u32>,
+    own: &Annotations<'_>,
     decl: &LocalDecl,
 ) -> Result<Option<Type_>, AllocError>
-    ensures { IfOk result (λ ty. ty ≡ spec.field_type (get_by_text classes.now) decl.now) }
+    ensures { IfOk result (λ ty. ty ≡ spec.field_type (get_by_text classes.now) (annotated own.now decl.now)) }
 {
     let ty = decl.ty.get();
     let mods = decl.mods.get();
     if mods.is_static {
         return Ok(written_type(classes, ty, List::new(alloc)));
     }
-    let element = element_claims(alloc, target_before(ty), Part::All, mods.annots.as_slice())?;
+    let element = element_claims(alloc, target_before(ty), own.before.as_slice())?;
     Ok(written_type(classes, ty, element))
 }
 
@@ -42,17 +48,18 @@ fn field_meaning(next: u32, decl: &LocalDecl) -> Option<Meaning>
     }
 }
 
-/// A field of the class. If it is an instance field, its number is `next`.
+/// A field of the class, with these annotations. If it is an instance field, its number is `next`.
 pub fn field_of(
     alloc: Global,
     classes: &IndexMap<String, u32>,
     class: u32,
     next: u32,
+    own: &Annotations<'_>,
     decl: &LocalDecl,
 ) -> Result<Field, AllocError>
-    ensures { IfOk result (λ field. field ≡ spec.field_of (get_by_text classes.now) class next decl.now) }
+    ensures { IfOk result (λ field. field ≡ spec.field_of (get_by_text classes.now) class next (annotated own.now decl.now)) }
 {
-    let ty = field_type(alloc, classes, decl)?;
+    let ty = field_type(alloc, classes, own, decl)?;
     let name = Text::from_str(alloc, decl.name.text.as_str())?;
     let mods = decl.mods.get();
     Ok(Field {
@@ -66,6 +73,22 @@ pub fn field_of(
     })
 }
 
+/// A field behind one of a declaration that began so, or behind none.
+fn next_field_of<'a>(
+    alloc: Global,
+    classes: &IndexMap<String, u32>,
+    class: u32,
+    next: u32,
+    begun: &Option<Begun<'a>>,
+    decl: &'a LocalDecl,
+) -> Result<Field, AllocError>
+    requires { AllBegin begun.now }
+    ensures { IfOk result (λ field. field ≡ spec.field_of (get_by_text classes.now) class next (declared.field_in (option_map first_shown begun.now) decl.now)) }
+{
+    let own = field_annotations(alloc, begun, decl)?;
+    field_of(alloc, classes, class, next, &own, decl)
+}
+
 /// Adds the fields of a class, and answers the number of the next instance field.
 fn push_fields(
     alloc: Global,
@@ -76,17 +99,24 @@ fn push_fields(
     fields: &mut List<Field>,
 ) -> Result<u32, AllocError>
     requires { first + length members.now < 2 ^ 32 }
-    ensures fields { OnOk result (fields.new ≡ fields.old ++ spec.fields_in (get_by_text classes.now) class first members.now) }
+    ensures fields { OnOk result (fields.new ≡ fields.old ++ spec.fields_in (get_by_text classes.now) class first (declared.members members.now)) }
     ensures next { IfOk result (λ next. next ≡ spec.next_fields first members.now) }
     ensures few { IfOk result (λ next. next ≤ first + length members.now) }
 {
     let mut next = first;
+    let mut begun = None;
     for (i, member) in members.iter().enumerate() {
-        if let Member::Field(decl) = member {
-            let field = field_of(alloc, classes, class, next, decl)?;
-            fields.push(field)?;
-            if !decl.mods.get().is_static {
-                next += 1;
+        match member {
+            Member::Field(decl) => {
+                let field = next_field_of(alloc, classes, class, next, &begun, decl)?;
+                fields.push(field)?;
+                if !decl.mods.get().is_static {
+                    next += 1;
+                }
+                begun = declaration_of(alloc, begun, decl)?;
+            }
+            Member::Method(_) => {
+                begun = None;
             }
         }
     }
@@ -127,8 +157,8 @@ pub fn param_type(
     ensures { IfOk result (λ ty. ty ≡ spec.param_type (get_by_text classes.now) decl.now) }
 {
     let ty = decl.ty.get();
-    let before = decl.mods.get().annots.as_slice();
-    let element = element_claims(alloc, target_before(ty), Part::All, before)?;
+    let before = gathered(alloc, Part::All, decl.mods.get().annots.as_slice())?;
+    let element = element_claims(alloc, target_before(ty), before.as_slice())?;
     Ok(written_type(classes, ty, element))
 }
 
@@ -157,8 +187,8 @@ fn result_type(
     match &decl.result {
         None => Ok(Some(Type_::Void)),
         Some(ty) => {
-            let before = decl.mods.annots.as_slice();
-            let element = element_claims(alloc, target_before(ty), Part::OfResult, before)?;
+            let before = gathered(alloc, Part::OfResult, decl.mods.annots.as_slice())?;
+            let element = element_claims(alloc, target_before(ty), before.as_slice())?;
             Ok(written_type(classes, ty, element))
         }
     }

@@ -1,3 +1,4 @@
 pub mod Parts
 pub mod ClassTypes
 pub mod Seen
+pub mod Begun

@@ -1,14 +1,12 @@
 //! What annotations give together.
 
-ghost use Rattle.std.specs.Prelude.{◌≡◌, ◌∷◌, ◌++◌, ◌||◌, IfOk, OnOk, List as Elements};
+ghost use Rattle.std.specs.Prelude.{◌≡◌, ◌∷◌, ◌++◌, ◌||◌, map, IfOk, OnOk, List as Elements};
 ghost use Rattle.ix_core.specs.declared.claim.Claim.{Claim};
 ghost use Rattle.ix_core.specs.SameClaims.{distinct};
 ghost use Rattle.ix_meaning.specs.Expansion.{expanded};
 ghost use Rattle.ix_meaning.specs.Annotated as spec;
-ghost use Rattle.ix_written.specs.Parts.{chosen};
 ghost use Rattle.ix_written.specs.Seen.{seen, unseen};
 
-use crate::part::{Part, is_chosen};
 use ix_core::{Claim, Name};
 use ix_meaning::{
     AnnotError, Found, NameError, Names, Naming, Note, Rule, Target, expand, same_claim,
@@ -94,19 +92,16 @@ pub fn given<N: Names>(
     notes: &mut List<Note>,
     claims: &mut List<Claim>,
     names: &N,
-    part: Part,
-    annots: &[Annot],
+    annots: &[&Annot],
 ) -> Result<bool, AllocError>
-    ensures claims { OnOk result (claims.new ≡ claims.old ++ (spec.given (N.names names.now) (chosen part annots.now)).claims) }
-    ensures effect_free { IfOk result (λ free. free ≡ (spec.given (N.names names.now) (chosen part annots.now)).effect_free) }
-    ensures notes { OnOk result (notes.new ≡ notes.old ++ (spec.given (N.names names.now) (chosen part annots.now)).notes) }
+    ensures claims { OnOk result (claims.new ≡ claims.old ++ (spec.given (N.names names.now) (map (λ annot. annot.now) annots.now)).claims) }
+    ensures effect_free { IfOk result (λ free. free ≡ (spec.given (N.names names.now) (map (λ annot. annot.now) annots.now)).effect_free) }
+    ensures notes { OnOk result (notes.new ≡ notes.old ++ (spec.given (N.names names.now) (map (λ annot. annot.now) annots.now)).notes) }
 {
     let mut effect_free = false;
     for annot in annots {
-        if is_chosen(part, annot) {
-            let free = one_given(alloc, notes, claims, names, annot)?;
-            effect_free = effect_free || free;
-        }
+        let free = one_given(alloc, notes, claims, names, annot)?;
+        effect_free = effect_free || free;
     }
     Ok(effect_free)
 }

@@ -1,13 +1,13 @@
 //! A declaration: its type and its claims.
 
-ghost use Rattle.std.specs.Prelude.{◌≡◌, ◌++◌, IfOk, OnOk};
+ghost use Rattle.std.specs.Prelude.{◌≡◌, ◌++◌, map, IfOk, OnOk};
 ghost use Rattle.indexmap.specs.IndexMap.{get_by_text};
 ghost use Rattle.ix_meaning.specs.Annotated as spec;
 ghost use Rattle.ix_meaning.specs.Values.{created_in, created_target};
-ghost use Rattle.ix_written.specs.Parts.{chosen};
+ghost use Rattle.ix_written.specs.Parts.{behind_base};
 
 use crate::claims::{Nowhere, distinct, given};
-use crate::part::Part;
+use crate::part::{Part, gathered};
 use crate::types::{note_class_use, target_before, written_type};
 use indexmap::IndexMap;
 use ix_core::{Claim, Name, Type_};
@@ -60,10 +60,9 @@ fn is_element(target: Target) -> bool
 pub fn element_claims(
     alloc: Global,
     first: Target,
-    part: Part,
-    before: &[Annot],
+    before: &[&Annot],
 ) -> Result<List<Claim>, AllocError>
-    ensures { IfOk result (λ claims. claims ≡ spec.element_claims first (chosen part before.now)) }
+    ensures { IfOk result (λ claims. claims ≡ spec.element_claims first (map (λ annot. annot.now) before.now)) }
 {
     let mut claims = List::new(alloc);
     if !is_element(first) {
@@ -71,7 +70,7 @@ pub fn element_claims(
     }
     let mut notes = List::new(alloc);
     let nowhere = Nowhere { target: first };
-    given(alloc, &mut notes, &mut claims, &nowhere, part, before)?;
+    given(alloc, &mut notes, &mut claims, &nowhere, before)?;
     distinct(alloc, claims.as_slice())
 }
 
@@ -81,18 +80,17 @@ fn claims_before<N: Names>(
     notes: &mut List<Note>,
     names: &N,
     first: Target,
-    part: Part,
-    before: &[Annot],
+    before: &[&Annot],
 ) -> Result<List<Claim>, AllocError>
-    ensures claims { IfOk result (λ claims. claims ≡ spec.unless (spec.is_element first) (spec.given (spec.aimed (N.names names.now) first) (chosen part before.now)).claims) }
-    ensures notes { OnOk result (notes.new ≡ notes.old ++ (spec.given (spec.aimed (N.names names.now) first) (chosen part before.now)).notes) }
+    ensures claims { IfOk result (λ claims. claims ≡ spec.unless (spec.is_element first) (spec.given (spec.aimed (N.names names.now) first) (map (λ annot. annot.now) before.now)).claims) }
+    ensures notes { OnOk result (notes.new ≡ notes.old ++ (spec.given (spec.aimed (N.names names.now) first) (map (λ annot. annot.now) before.now)).notes) }
 {
     let mut claims = List::new(alloc);
     let aimed = Aimed {
         names,
         target: first,
     };
-    given(alloc, notes, &mut claims, &aimed, part, before)?;
+    given(alloc, notes, &mut claims, &aimed, before)?;
     if is_element(first) {
         return Ok(List::new(alloc));
     }
@@ -107,30 +105,23 @@ fn declared_on<N: Names>(
     names: &N,
     first: Target,
     second: Target,
-    part: Part,
-    before: &[Annot],
+    before: &[&Annot],
+    behind: &[&Annot],
     ty: &TypeTree,
 ) -> Result<Declaration, AllocError>
-    ensures ty { IfOk result (λ d. d.ty ≡ (spec.declaration (get_by_text classes.now) (N.names names.now) first second (chosen part before.now) ty.now).ty) }
-    ensures claims { IfOk result (λ d. d.claims ≡ (spec.declaration (get_by_text classes.now) (N.names names.now) first second (chosen part before.now) ty.now).claims) }
-    ensures notes { OnOk result (notes.new ≡ notes.old ++ (spec.declaration (get_by_text classes.now) (N.names names.now) first second (chosen part before.now) ty.now).notes) }
+    ensures ty { IfOk result (λ d. d.ty ≡ (spec.declaration (get_by_text classes.now) (N.names names.now) first second (map (λ annot. annot.now) before.now) (behind_base (map (λ annot. annot.now) behind.now) ty.now)).ty) }
+    ensures claims { IfOk result (λ d. d.claims ≡ (spec.declaration (get_by_text classes.now) (N.names names.now) first second (map (λ annot. annot.now) before.now) (behind_base (map (λ annot. annot.now) behind.now) ty.now)).claims) }
+    ensures notes { OnOk result (notes.new ≡ notes.old ++ (spec.declaration (get_by_text classes.now) (N.names names.now) first second (map (λ annot. annot.now) before.now) (behind_base (map (λ annot. annot.now) behind.now) ty.now)).notes) }
 {
     note_class_use(classes, notes, ty)?;
-    let mut claims = claims_before(alloc, notes, names, first, part, before)?;
+    let mut claims = claims_before(alloc, notes, names, first, before)?;
     let aimed = Aimed {
         names,
         target: second,
     };
-    given(
-        alloc,
-        notes,
-        &mut claims,
-        &aimed,
-        Part::All,
-        ty.annots.as_slice(),
-    )?;
+    given(alloc, notes, &mut claims, &aimed, behind)?;
     let claims = distinct(alloc, claims.as_slice())?;
-    let element = element_claims(alloc, first, part, before)?;
+    let element = element_claims(alloc, first, before)?;
     let ty = written_type(classes, ty, element);
     Ok(Declaration { ty, claims })
 }
@@ -141,13 +132,13 @@ pub fn variable<N: Names>(
     classes: &IndexMap<String, u32>,
     notes: &mut List<Note>,
     names: &N,
-    part: Part,
-    before: &[Annot],
+    before: &[&Annot],
+    behind: &[&Annot],
     ty: &TypeTree,
 ) -> Result<Declaration, AllocError>
-    ensures ty { IfOk result (λ d. d.ty ≡ (spec.variable (get_by_text classes.now) (N.names names.now) (chosen part before.now) ty.now).ty) }
-    ensures claims { IfOk result (λ d. d.claims ≡ (spec.variable (get_by_text classes.now) (N.names names.now) (chosen part before.now) ty.now).claims) }
-    ensures notes { OnOk result (notes.new ≡ notes.old ++ (spec.variable (get_by_text classes.now) (N.names names.now) (chosen part before.now) ty.now).notes) }
+    ensures ty { IfOk result (λ d. d.ty ≡ (spec.variable (get_by_text classes.now) (N.names names.now) (map (λ annot. annot.now) before.now) (behind_base (map (λ annot. annot.now) behind.now) ty.now)).ty) }
+    ensures claims { IfOk result (λ d. d.claims ≡ (spec.variable (get_by_text classes.now) (N.names names.now) (map (λ annot. annot.now) before.now) (behind_base (map (λ annot. annot.now) behind.now) ty.now)).claims) }
+    ensures notes { OnOk result (notes.new ≡ notes.old ++ (spec.variable (get_by_text classes.now) (N.names names.now) (map (λ annot. annot.now) before.now) (behind_base (map (λ annot. annot.now) behind.now) ty.now)).notes) }
 {
     let first = target_before(ty);
     declared_on(
@@ -157,8 +148,8 @@ pub fn variable<N: Names>(
         names,
         first,
         Target::Array,
-        part,
         before,
+        behind,
         ty,
     )
 }
@@ -168,25 +159,18 @@ pub fn static_field(
     alloc: Global,
     classes: &IndexMap<String, u32>,
     notes: &mut List<Note>,
-    before: &[Annot],
+    before: &[&Annot],
+    behind: &[&Annot],
     ty: &TypeTree,
 ) -> Result<Declaration, AllocError>
-    ensures ty { IfOk result (λ d. d.ty ≡ (spec.static_field (get_by_text classes.now) before.now ty.now).ty) }
-    ensures claims { IfOk result (λ d. d.claims ≡ (spec.static_field (get_by_text classes.now) before.now ty.now).claims) }
-    ensures notes { OnOk result (notes.new ≡ notes.old ++ (spec.static_field (get_by_text classes.now) before.now ty.now).notes) }
+    ensures ty { IfOk result (λ d. d.ty ≡ (spec.static_field (get_by_text classes.now) (map (λ annot. annot.now) before.now) (behind_base (map (λ annot. annot.now) behind.now) ty.now)).ty) }
+    ensures claims { IfOk result (λ d. d.claims ≡ (spec.static_field (get_by_text classes.now) (map (λ annot. annot.now) before.now) (behind_base (map (λ annot. annot.now) behind.now) ty.now)).claims) }
+    ensures notes { OnOk result (notes.new ≡ notes.old ++ (spec.static_field (get_by_text classes.now) (map (λ annot. annot.now) before.now) (behind_base (map (λ annot. annot.now) behind.now) ty.now)).notes) }
 {
     let other = Target::Other;
     let nowhere = Nowhere { target: other };
     declared_on(
-        alloc,
-        classes,
-        notes,
-        &nowhere,
-        other,
-        other,
-        Part::All,
-        before,
-        ty,
+        alloc, classes, notes, &nowhere, other, other, before, behind, ty,
     )
 }
 
@@ -215,14 +199,8 @@ pub fn created(
     let nowhere = Nowhere {
         target: created_target(ty),
     };
-    given(
-        alloc,
-        notes,
-        &mut claims,
-        &nowhere,
-        Part::All,
-        ty.annots.as_slice(),
-    )?;
+    let annots = gathered(alloc, Part::All, ty.annots.as_slice())?;
+    given(alloc, notes, &mut claims, &nowhere, annots.as_slice())?;
     let element = distinct(alloc, claims.as_slice())?;
     Ok(written_type(classes, ty, element))
 }

@@ -8,10 +8,15 @@
 
 mod claims;
 mod declaration;
+mod declarators;
 mod part;
 mod types;
 
 pub use claims::{Nowhere, distinct, given};
 pub use declaration::{Declaration, created, element_claims, static_field, variable};
-pub use part::{Part, is_of_method};
+pub use declarators::{
+    Annotations, Begun, begin_with, declaration_of, field_annotations, further_annotations,
+    own_annotations,
+};
+pub use part::{Part, gathered, is_of_method};
 pub use types::{note_class_use, target_before, written_type};

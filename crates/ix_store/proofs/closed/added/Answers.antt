@@ -3,7 +3,7 @@ use Rattle.std.proofs.lemmas.List.{append_assoc}
 use Rattle.ix_facts.specs.Systems.{HaveClasses}
 use Rattle.ix_closure.specs.Saturated.{IsSaturated}
 use Rattle.ix_six_tables.specs.AllTables.{all_facts}
-use Rattle.ix_store.proofs.ClassesAfter.{app_have}
+use Rattle.ix_facts.proofs.ClassesStay.{app_have}
 use Rattle.ix_store.proofs.SmallNumbers.{all_classes}
 use Rattle.ix_store.proofs.closed.added.Goals as goal
 

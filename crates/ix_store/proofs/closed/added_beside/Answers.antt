@@ -7,8 +7,8 @@ use Rattle.ix_closure.specs.Beside.{AreBeside}
 use Rattle.ix_closure.specs.Saturated.{IsSaturated}
 use Rattle.ix_closure.specs.FactTables.{facts_of}
 use Rattle.ix_six_tables.specs.AllTables.{all_facts}
-use Rattle.ix_store.proofs.ClassesAfter.{app_have}
 use Rattle.ix_six_tables.proofs.OwnFacts.{range_app}
+use Rattle.ix_facts.proofs.ClassesStay.{app_have}
 use Rattle.ix_store.proofs.BesideTables.{are_beside}
 use Rattle.ix_store.proofs.closed.added_beside.Goals as goal
 

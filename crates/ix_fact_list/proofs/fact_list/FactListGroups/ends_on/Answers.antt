@@ -2,7 +2,8 @@ use Rattle.std.proofs.Common.{All, sym, subst, ◌∙◌}
 use Rattle.ix_facts.specs.Facts.{in_orders}
 use Rattle.ix_facts.specs.Small.{HasSmallNumbers}
 use Rattle.ix_bounds.specs.Ends.{ends_in}
-use Rattle.ix_fact_list.proofs.SmallFacts.{in_orders_small, on_list_small, ends_small}
+use Rattle.ix_bounds.proofs.BoundSteps.{in_orders_small}
+use Rattle.ix_fact_list.proofs.SmallFacts.{on_list_small, ends_small}
 use Rattle.ix_fact_list.proofs.fact_list.FactListGroups.ends_on.Goals as goal
 
 pub returns-clause-small : goal.returns-clause-small
