@@ -17,7 +17,7 @@ use Rattle.ix_index.specs.PathOrder.{path_itself, path_same}
 use Rattle.ix_index.proofs.FactLists.{in_left, in_right, in_either}
 use Rattle.ix_index.specs.OnPaths.{HasNamed}
 use Rattle.ix_core.proofs.Cases.{by_test}
-use Rattle.ix_facts.proofs.Tests.{or_first, or_second}
+use Rattle.ix_index.proofs.Tests.{or_first, or_second}
 use Rattle.ix_bounds.specs.OnArrays.{alike_on}
 use Rattle.ix_bounds.proofs.BestOfParts.{joined, Counts, same_greatest, greatest_of_both}
 

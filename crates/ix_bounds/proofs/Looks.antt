@@ -12,7 +12,7 @@ use Rattle.ix_index.specs.Assume.{has, is_length, is_search, is_negative}
 use Rattle.ix_index.specs.Forget.{names}
 use Rattle.ix_index.specs.OnPaths.{LooksOnly, HasNamed}
 use Rattle.ix_core.proofs.Cases.{by_test}
-use Rattle.ix_facts.proofs.Tests.{off, not_first, not_second, no_number}
+use Rattle.ix_index.proofs.Tests.{off, not_first, not_second, no_number}
 
 both_first : (x y : Bool) → x ≡ false → (x && y) ≡ false
 both_first x y n = ap (λ b. b && y) n

@@ -24,7 +24,7 @@ use Rattle.ix_claim_facts.specs.Names.{is_built}
 use Rattle.ix_claim_facts.specs.Signs.{Adds, Forgets, Copies, entry_facts, read_facts, write_facts}
 use Rattle.ix_claim_facts.specs.SignLaws.{SignsHold}
 
-pub adds_hold : (new : List Fact) (s t : Stored) (v : Numbers) → AllHold new v → Adds new s t → Meets s v → Meets t v
+adds_hold : (new : List Fact) (s t : Stored) (v : Numbers) → AllHold new v → Adds new s t → Meets s v → Meets t v
 adds_hold new s t v n = gives_meets (with_facts new) v v (λ facts h. all_hold_app v facts (kept new) h (kept_hold v new n)) s t
 
 unnamed_hold : (is : Path → Bool) (v w : Numbers) → SameBut is v w → (facts : List Fact) → AllHold facts v → AllHold (without is facts) w

@@ -1,12 +1,15 @@
 -- Rules that read no fact but those that name a path give the same of the facts on it as of all facts.
-use Rattle.std.specs.Prelude.{◌≡◌, false, ℤ, Option, None, List, [], ◌∷◌, ◌++◌, filter, refl}
+use Rattle.std.specs.Prelude.{◌≡◌, Bool, true, false, ℤ, Option, None, List, [], ◌∷◌, ◌++◌, filter, refl}
 use Rattle.std.proofs.Common.{ap, sym, ◌∙◌}
 use Rattle.ix_facts.specs.Path.{Path}
 use Rattle.ix_facts.specs.Fact.{Fact}
 use Rattle.ix_facts.specs.Bounds.{is_path, best, best_of}
 use Rattle.ix_facts.specs.Exact.{each}
 use Rattle.ix_facts.specs.Forget.{names}
-use Rattle.ix_core.proofs.Cases.{by_test}
+
+by_test : {G : Type 0} (t : Bool) → (t ≡ true → G) → (t ≡ false → G) → G
+by_test true first second = first refl
+by_test false first second = second refl
 
 -- The rule gives nothing of a fact that does not name the path.
 abbrev pub ReadsOnly : Path → (Fact → List Fact) → Type 0

@@ -32,10 +32,9 @@ use Rattle.ix_steps.proofs.KeptNumbers.{same_true}
 use Rattle.ix_method.specs.Names.{written_path, is_built, names_field}
 use Rattle.ix_method.specs.Signs.{Adds, write_facts}
 use Rattle.ix_method.specs.SignErrors.{AllRefuse, FieldClaim, FieldDependent}
-use Rattle.ix_claim_facts.proofs.SignTruth.{adds_hold}
 use Rattle.ix_sound.specs.Direct.{direct}
 use Rattle.ix_sound.proofs.ClaimTruths.{true_named, none_fails}
-use Rattle.ix_sound.proofs.FieldsShown.{each_are, are_each, named_field, built_of, write_holds}
+use Rattle.ix_sound.proofs.FieldsShown.{adds_hold, each_are, are_each, named_field, built_of, write_holds}
 use Rattle.ix_sound.proofs.NamedClaims.{field_names}
 use Rattle.ix_sound.proofs.Stable.{unrefused_by}
 

@@ -21,17 +21,25 @@ use Rattle.ix_core.specs.Objects.{HasField, MeetsField, field_readings, IsFree, 
 use Rattle.ix_core.specs.Tables.{no_field, method_at, field_at}
 use Rattle.ix_core.specs.World.{World}
 use Rattle.ix_core.proofs.Cases.{by_test, equal}
+use Rattle.ix_facts.specs.Closure.{kept}
 use Rattle.ix_facts.specs.Exact.{if_so}
 use Rattle.ix_facts.specs.Facts.{AllHold}
+use Rattle.ix_facts.specs.Stores.{Stored, Meets, with_facts}
+use Rattle.ix_facts.proofs.ClosureLaws.{kept_hold}
 use Rattle.ix_facts.proofs.FactLists.{all_hold_app}
+use Rattle.ix_facts.proofs.StepLaws.{gives_meets}
 use Rattle.ix_steps.specs.MachineSteps.{reading_at, own_slot}
 use Rattle.ix_steps.proofs.MachineTests.{field_is}
 use Rattle.ix_method.specs.Names.{object_path, is_built, names_field, is_field, some_field}
-use Rattle.ix_method.specs.Signs.{claims_facts, read_facts, write_facts, dependent_facts}
+use Rattle.ix_method.specs.Signs.{Adds, claims_facts, read_facts, write_facts, dependent_facts}
 use Rattle.ix_sound.specs.Direct.{direct}
 use Rattle.ix_sound.proofs.ClaimTruths.{claims_hold}
 use Rattle.ix_sound.proofs.FieldPlaces.{has_same}
 use Rattle.ix_sound.proofs.NamedClaims.{field_names}
+
+-- facts that hold may be added
+pub adds_hold : (new : List Fact) (s t : Stored) (v : Numbers) → AllHold new v → Adds new s t → Meets s v → Meets t v
+adds_hold new s t v n gives meets = gives_meets (with_facts new) v v (λ facts h. all_hold_app v facts (kept new) h (kept_hold v new n)) s t gives meets
 
 -- claims that are true one by one
 pub each_are : (claims : List Claim) (r : Reading) (names : Name → Reading) → ((k : ℕ) (c : Claim) → slice_get claims k ≡ Some c → True c r names) → AreTrue claims r names

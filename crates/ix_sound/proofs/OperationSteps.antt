@@ -29,13 +29,12 @@ use Rattle.ix_steps.proofs.MachineSteps.{of_through}
 use Rattle.ix_method.proofs.SignTruth.{signs_hold}
 use Rattle.ix_method.specs.SignErrors.{part}
 use Rattle.ix_method.specs.MethodRules.{KindGives, copied_claims}
-use Rattle.ix_claim_facts.proofs.SignTruth.{adds_hold}
 use Rattle.ix_sound.specs.Direct.{direct}
 use Rattle.ix_sound.specs.Errors.{NoKindErrors}
 use Rattle.ix_sound.specs.Shown.{Takes}
 use Rattle.ix_sound.specs.Sound.{LocalsApart}
 use Rattle.ix_sound.proofs.CopiesShown.{copied_hold}
-use Rattle.ix_sound.proofs.FieldsShown.{read_holds, write_holds, not_own}
+use Rattle.ix_sound.proofs.FieldsShown.{adds_hold, read_holds, write_holds, not_own}
 use Rattle.ix_sound.proofs.OperationShown.{not_final}
 use Rattle.ix_sound.proofs.OperationsKeep.{IsNoCall, MayWrap}
 use Rattle.ix_sound.proofs.OperationsMeet.{KeepsThis, IsNoCallOrField, done_is, wrapped_is, step_meets, read_is, write_is, step_keeps, target_none, read_keeps, write_keeps}

@@ -42,7 +42,7 @@ use Rattle.ix_steps.specs.MachineSteps.{on_paths, own_path, reading_at, IsDeclar
 use Rattle.ix_steps.proofs.MachineTests.{parameter_is}
 use Rattle.ix_method.specs.Signs.{received, received_params, params_facts, claims_facts}
 use Rattle.ix_method.specs.SignErrors.{AllRefuse, OverrideErrors, of_run, HasRun, plain}
-use Rattle.ix_claim_facts.proofs.SignTruth.{adds_hold}
+use Rattle.ix_sound.proofs.FieldsShown.{adds_hold}
 use Rattle.ix_steps.proofs.ReturnedCalls.{or_parts}
 use Rattle.ix_sound.specs.Direct.{direct}
 use Rattle.ix_sound.specs.Stands.{StandsFor}
