@@ -5,7 +5,7 @@ use Rattle.std.proofs.lemmas.Bool.{cases_lt}
 use Rattle.std.proofs.lemmas.Bool.Decides.{nat_tests}
 use Rattle.ix_meaning.specs.declared.note.NameError.{NameError}
 use Rattle.ix_meaning.specs.Listed.{order, same_span, IsBefore, Rises, IsListed, is_same, goes_before, insert, listed}
-use Rattle.ix_table.proofs.SortedErrors.{same_error, to_in, from_in, before_trans}
+use Rattle.ix_table.proofs.SortedErrors.{In, same_error, to_in, from_in, before_trans}
 
 -- ---- of two errors one goes before the other, or they are one
 
@@ -68,10 +68,6 @@ module _ (e y : NameError) where
   placed = by_start (compared e.span.from y.span.from)
 
 -- ---- what is in a list with one error more
-
-abbrev In : NameError → List NameError → Type 0
-In x [] = ⊥
-In x (y ∷ ys) = (x ≡ y) ⊎ In x ys
 
 -- the first of a list in which the error is inserted, with what is known of the rest
 record Inserted (e : NameError) (ys zs : List NameError) : Type 0 where

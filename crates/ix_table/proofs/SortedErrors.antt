@@ -159,7 +159,7 @@ alike x y h =
     (y.span.from == x.span.from) (order y.rule == order x.rule) (y.span.to == x.span.to) refl refl refl h)
 
 -- x is an element of xs, by recursion
-In : NameError → List NameError → Type 0
+abbrev pub In : NameError → List NameError → Type 0
 In x [] = ⊥
 In x (y ∷ ys) = (x ≡ y) ⊎ In x ys
 
