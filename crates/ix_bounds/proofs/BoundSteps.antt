@@ -7,7 +7,7 @@ use Rattle.ix_core.specs.declared.fact.Path.{Path}
 use Rattle.ix_core.specs.declared.fact.PathOff.TheVariants.{Nothing, Plus, Minus}
 use Rattle.ix_core.specs.declared.fact.Fact.{Fact}
 use Rattle.ix_core.specs.declared.fact.Fact.TheVariants.{Rng, LenRng, Low, Same, IsLen, Less, Sum, Search, Neg, Upper}
-use Rattle.ix_index.proofs.Tests.{by_test}
+use Rattle.ix_core.proofs.Cases.{by_test}
 use Rattle.ix_index.specs.Facts.{orders, is_default, in_orders}
 use Rattle.ix_index.specs.Small.{HasSmallNumbers}
 use Rattle.ix_index.specs.Bounds
