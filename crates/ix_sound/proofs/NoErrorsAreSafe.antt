@@ -98,14 +98,13 @@ module _ (program : Program) (locals : List (List Type_)) (formed : is_formed pr
       not_there : nat_lt number (length program.methods) ≡ false → ⊥
       not_there f = grind (arith, nat_tests)
   body_from number true e lt =
-      let flow = (errors number e).flow in
-      let fine = λ (last : Option Op). Finishing last flow.1 flow.4 in record {
+      let flow = (errors number e).flow in record {
         labels = (errors number e).labels;
         last = None;
         flowing = code_flowing (method_rules program (method_at program number) profile) (NoErrors program (method_at program number) number) (errors number e).labels (λ (done : Op). IsClean program (method_at program number) done.kind)
             None (body_of (method_at program number)) Empty flow.0 flow.1 flow.1 flow.1 flow.3
             (each_clean program (method_at program number) (body_of (method_at program number)) (λ error rank x. (errors number e).text error rank (inr x)))
-            (record { ends = fine (last_done None (body_of (method_at program number))); jumps = fine None; turns = fine None });
+            (record { ends = Finishing (last_done None (body_of (method_at program number))) flow.1 flow.4; jumps = Finishing None flow.1 flow.4; turns = Finishing None flow.1 flow.4 });
         stage_fits = entry_fits program locals formed profile number lt;
       }
 
