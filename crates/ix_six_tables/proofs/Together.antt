@@ -15,6 +15,7 @@ use Rattle.ix_facts.specs.Systems as merges
 use Rattle.ix_facts.proofs.FactLists.{in_either}
 use Rattle.ix_fact_table.proofs.OneKind.{from_kind}
 use Rattle.ix_core.proofs.Cases.{by_test}
+use Rattle.ix_six_tables.specs.CommonParts.{said_left, said_right}
 
 -- ---- a kind's facts
 
