@@ -65,8 +65,8 @@ module _ (program : Program) (method : Method) (number : ℕ) (profile : Profile
   avoid all (NodePart at (Tells code slot) ∷ parts) first numbered same none = avoid all parts (suc first) numbered.1 (later_is all (kinds_of parts) (Tells code slot) first same) none
   avoid all (NodePart at Joins ∷ parts) first numbered same none = avoid all parts (suc first) numbered.1 (later_is all (kinds_of parts) Joins first same) none
   avoid all (NodePart at (Heads loop scope) ∷ parts) first numbered same none = avoid all parts (suc first) numbered.1 (later_is all (kinds_of parts) (Heads loop scope) first same) none
-  avoid all (NodePart at (Returns value span) ∷ parts) first numbered same none =
-      (none at (Returns value span) (here_is all (kinds_of parts) (Returns value span) first at numbered.0 same), avoid all parts (suc first) numbered.1 (later_is all (kinds_of parts) (Returns value span) first same) none)
+  avoid all (NodePart at (Returns value known span) ∷ parts) first numbered same none =
+      (none at (Returns value known span) (here_is all (kinds_of parts) (Returns value known span) first at numbered.0 same), avoid all parts (suc first) numbered.1 (later_is all (kinds_of parts) (Returns value known span) first same) none)
   avoid all (NodePart at Ends ∷ parts) first numbered same none =
       (none at Ends (here_is all (kinds_of parts) Ends first at numbered.0 same), avoid all parts (suc first) numbered.1 (later_is all (kinds_of parts) Ends first same) none)
   avoid all (EdgePart node pass target ∷ parts) first numbered same none = avoid all parts first numbered same none
@@ -89,10 +89,10 @@ module _ (program : Program) (method : Method) (number : ℕ) (profile : Profile
   refused (NodePart n Joins ∷ parts) first (suc k) at kind numbered is there avoided gives = refused parts (suc first) k at kind numbered.1 (omega (arith, is)) there avoided gives
   refused (NodePart n (Heads loop scope) ∷ parts) first zero at kind numbered is there avoided gives = subst (λ j. LabelGives program method number j (label_at R stores at) error rank) (let e : kind ≡ Heads loop scope = cc in e) gives
   refused (NodePart n (Heads loop scope) ∷ parts) first (suc k) at kind numbered is there avoided gives = refused parts (suc first) k at kind numbered.1 (omega (arith, is)) there avoided gives
-  refused (NodePart n (Returns value span) ∷ parts) first zero at kind numbered is there avoided gives =
+  refused (NodePart n (Returns value known span) ∷ parts) first zero at kind numbered is there avoided gives =
       let e : at ≡ n = omega (arith, is, numbered.0) in
-      avoided.0 (subst (λ m. LabelGives program method number (Returns value span) (label_at R stores m) error rank) e (subst (λ j. LabelGives program method number j (label_at R stores at) error rank) (let i : kind ≡ Returns value span = cc in i) gives))
-  refused (NodePart n (Returns value span) ∷ parts) first (suc k) at kind numbered is there avoided gives = refused parts (suc first) k at kind numbered.1 (omega (arith, is)) there avoided.1 gives
+      avoided.0 (subst (λ m. LabelGives program method number (Returns value known span) (label_at R stores m) error rank) e (subst (λ j. LabelGives program method number j (label_at R stores at) error rank) (let i : kind ≡ Returns value known span = cc in i) gives))
+  refused (NodePart n (Returns value known span) ∷ parts) first (suc k) at kind numbered is there avoided gives = refused parts (suc first) k at kind numbered.1 (omega (arith, is)) there avoided.1 gives
   refused (NodePart n Ends ∷ parts) first zero at kind numbered is there avoided gives =
       let e : at ≡ n = omega (arith, is, numbered.0) in
       avoided.0 (subst (λ m. LabelGives program method number Ends (label_at R stores m) error rank) e (subst (λ j. LabelGives program method number j (label_at R stores at) error rank) (let i : kind ≡ Ends = cc in i) gives))
@@ -108,7 +108,7 @@ module _ (program : Program) (method : Method) (number : ℕ) (profile : Profile
   here_text (Tells code slot) here = here
   here_text Joins here = here
   here_text (Heads loop scope) here = here
-  here_text (Returns value span) here = here
+  here_text (Returns value known span) here = here
   here_text Ends here = here
 
   text_here : (kind : Kind) → TextGives program method kind error rank → Here (λ done. OpText program method done error rank) (λ test. TestEscapes method test error rank) kind
@@ -118,7 +118,7 @@ module _ (program : Program) (method : Method) (number : ℕ) (profile : Profile
   text_here (Tells code slot) here = here
   text_here Joins here = here
   text_here (Heads loop scope) here = here
-  text_here (Returns value span) here = here
+  text_here (Returns value known span) here = here
   text_here Ends here = here
 
   abbrev pub InText : List Kind → Type 0
@@ -144,6 +144,6 @@ together program method number profile stores (NodePart at (Compares test) ∷ p
 together program method number profile stores (NodePart at (Tells code slot) ∷ parts) avoided = together program method number profile stores parts avoided
 together program method number profile stores (NodePart at Joins ∷ parts) avoided = together program method number profile stores parts avoided
 together program method number profile stores (NodePart at (Heads loop scope) ∷ parts) avoided = together program method number profile stores parts avoided
-together program method number profile stores (NodePart at (Returns value span) ∷ parts) avoided = (λ error rank. (avoided error rank).0, together program method number profile stores parts (λ error rank. (avoided error rank).1))
+together program method number profile stores (NodePart at (Returns value known span) ∷ parts) avoided = (λ error rank. (avoided error rank).0, together program method number profile stores parts (λ error rank. (avoided error rank).1))
 together program method number profile stores (NodePart at Ends ∷ parts) avoided = (λ error rank. (avoided error rank).0, together program method number profile stores parts (λ error rank. (avoided error rank).1))
 together program method number profile stores (EdgePart node pass target ∷ parts) avoided = together program method number profile stores parts avoided

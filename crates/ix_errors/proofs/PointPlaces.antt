@@ -79,7 +79,7 @@ module _ (P : Span → Type 0) where
 
   pub point_place : (program : Program) (method : Method) (number : ℕ) (point : Point) (store : Stored) (error : Error) (rank : ℕ) → P method.span → PointPlaces P point → PointErrors program method number point store error rank → P error.span
   point_place program method number (Doing done) store error rank m o error_is = kind_place program method number done done.kind store error rank o o.2 error_is
-  point_place program method number (Returning value span) store error rank m p either = elim either [
+  point_place program method number (Returning value known span) store error rank m p either = elim either [
     | inl returned ↦ unproved_place _ _ 6 span _ error rank returned.of p
     | inr constructor ↦ unproved_place _ _ 9 method.span _ error rank constructor.of m
   ]

@@ -15,7 +15,7 @@ use Rattle.ix_labels.specs.StoredFacts.{stored}
 -- by the label of a node
 abbrev pub LabelGives : Program → Method → ℕ → Kind → Stored → Error → ℕ → Type 0
 LabelGives program method number (Does done) store error rank = PointErrors program method number (Doing done) store error rank
-LabelGives program method number (Returns value span) store error rank = PointErrors program method number (Returning value span) store error rank
+LabelGives program method number (Returns value known span) store error rank = PointErrors program method number (Returning value known span) store error rank
 LabelGives program method number Ends store error rank = PointErrors program method number Ending store error rank
 LabelGives program method number _ store error rank = ⊥
 

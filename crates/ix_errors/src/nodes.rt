@@ -33,7 +33,7 @@ fn push_of_label(
 {
     match kind {
         NodeKind::Do(done) => push_op_errors(alloc, out, label, program, within, number, done),
-        NodeKind::Return(value, span) => {
+        NodeKind::Return(value, _, span) => {
             push_return_errors(out, label, within, number, *value, *span)?;
             push_constructor_errors(alloc, out, label, program, within)
         }

@@ -1,2 +1,4 @@
+-- The operation that was done last.
+pub mod LastDone
 -- The flow of a method, over any stores.
 pub mod Flow

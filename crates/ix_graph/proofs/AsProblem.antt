@@ -1,9 +1,10 @@
 -- The graph of a method as a problem: what is asked of labels is monotone and depends on what is read, and the least label of a node.
 use Rattle.std.specs.Prelude.{if◌then◌else◌, Contains, slice_index_or}
 use Rattle.std.specs.List.{AllZip}
-use Rattle.std.proofs.Common.{◌≡◌, ◌⊎◌, inl, inr, ◌<◌, ℕ, zero, suc, List, [], ◌∷◌, Some, length, slice_get, unwrap_or, arith, refl, sym, ap, subst}
+use Rattle.std.proofs.Common.{◌≡◌, ◌⊎◌, inl, inr, ◌<◌, ℕ, zero, suc, List, [], ◌∷◌, None, Some, length, slice_get, unwrap_or, arith, refl, sym, ap, subst}
 use Rattle.ix_solve.specs.Solutions.{IsLeastOf, IsMonotone}
 use Rattle.ix_solve.specs.Readers.{DependsOnRead, AgreeWhereRead}
+use Rattle.ix_flow.specs.LastDone.{last_done}
 use Rattle.ix_flow.specs.Flow.{Rules, RulesLaws, Anything}
 use Rattle.ix_graph.specs.declared.node.Edge.{Edge}
 use Rattle.ix_graph.specs.Built.{edges_of, edges_to, targets_from, edge_of}
@@ -72,7 +73,7 @@ module _ (R : Rules) (L : RulesLaws R) where
   carries_down one other Onward s t u below carries = L.transitive s t u below carries
   carries_down one other (Through op) s t u below carries = L.after op s t u u below carries (L.reflexive u)
   carries_down one other (Testing answer test) s t u below carries = L.tested answer test s t u u below carries (L.reflexive u)
-  carries_down one other (Telling answer code slot) s t u below carries = L.told answer code slot s t u u below carries (L.reflexive u)
+  carries_down one other (Telling answer code slot) s t u below carries = L.told answer (last_done None code) slot s t u u below carries (L.reflexive u)
 
   module _ (kinds : ℕ → Kind) where
     bring_down : (a b : List R.Store) (joined : R.Store) (froms : List (ℕ × Edge)) → AllZip R.Below a b → AllBring R kinds b froms joined → AllBring R kinds a froms joined
@@ -92,7 +93,7 @@ module _ (R : Rules) (L : RulesLaws R) where
       settles_up (Tells code slot) joined v w settles up = L.transitive joined v w settles up
       settles_up Joins joined v w settles up = L.transitive joined v w settles up
       settles_up (Heads number scope) joined v w settles up = (L.rounded scope joined joined v w (L.reflexive joined) settles.0 up, refl)
-      settles_up (Returns value span) joined v w settles up = (L.transitive joined v w settles.0 up, tt)
+      settles_up (Returns value known span) joined v w settles up = (L.transitive joined v w settles.0 up, tt)
       settles_up Ends joined v w settles up = (L.transitive joined v w settles.0 up, tt)
 
       pub gathers_monotone : (edges : ℕ → List (ℕ × Edge)) → IsMonotone R.Below (Gathers R kinds edges)
@@ -127,7 +128,7 @@ module _ (R : Rules) (L : RulesLaws R) where
   settled (Tells code slot) joined label is = subst (λ s. R.Below joined s) (sym is) (L.reflexive joined)
   settled Joins joined label is = subst (λ s. R.Below joined s) (sym is) (L.reflexive joined)
   settled (Heads number scope) joined label is = (is.0, refl)
-  settled (Returns value span) joined label is = (subst (λ s. R.Below joined s) (sym is) (L.reflexive joined), tt)
+  settled (Returns value known span) joined label is = (subst (λ s. R.Below joined s) (sym is) (L.reflexive joined), tt)
   settled Ends joined label is = (subst (λ s. R.Below joined s) (sym is) (L.reflexive joined), tt)
 
   settled_below : (kind : Kind) (joined label above other : R.Store) → IsSettled R kind joined label → R.Below joined above → Settles R (Anything R) (λ number. other) kind above other → R.Below label other
@@ -137,7 +138,7 @@ module _ (R : Rules) (L : RulesLaws R) where
   settled_below (Tells code slot) joined label above other is up settles = subst (λ s. R.Below s other) (sym is) (L.transitive joined above other up settles)
   settled_below Joins joined label above other is up settles = subst (λ s. R.Below s other) (sym is) (L.transitive joined above other up settles)
   settled_below (Heads number scope) joined label above other is up settles = is.1 other (L.rounded scope joined above other other up settles.0 (L.reflexive other))
-  settled_below (Returns value span) joined label above other is up settles = subst (λ s. R.Below s other) (sym is) (L.transitive joined above other up settles.0)
+  settled_below (Returns value known span) joined label above other is up settles = subst (λ s. R.Below s other) (sym is) (L.transitive joined above other up settles.0)
   settled_below Ends joined label above other is up settles = subst (λ s. R.Below s other) (sym is) (L.transitive joined above other up settles.0)
 
   pub gathers_least : (kinds : ℕ → Kind) (edges : ℕ → List (ℕ × Edge)) (at : ℕ) (labels : List R.Store) (joined label : R.Store) → IsLeastOf R.Below (AllBring R kinds labels (edges at)) joined

@@ -9,7 +9,6 @@ use Rattle.ix_core.proofs.Cases.{by_test, differ, equal}
 use Rattle.ix_solve.proofs.NodeLists.{slice_get-set_same, slice_get-set_other}
 use Rattle.ix_core.specs.Code.{Code}
 use Rattle.ix_graph.specs.declared.node.Edge.{Edge}
-use Rattle.ix_graph.specs.declared.node.Edge.TheVariants.{Next}
 use Rattle.ix_graph.specs.declared.node.Node.{Node}
 use Rattle.ix_graph.specs.declared.node.NodeKind.{NodeKind}
 use Rattle.ix_graph.specs.Graph.{Kind, Starts, Ends, Part, NodePart, EdgePart, From, Onward, behind_code, code_parts, method_parts, AreBelow}
@@ -187,7 +186,7 @@ pub record IsWhole (body : Code) (made : Made) : Type 0 where
   pub within : AreWithin (length made.kinds) made.edges
 
 pub whole : (body : Code) (entry end : ℕ) (m0 m1 m2 m3 : Made) → m0 ≡ record { kinds = []; edges = [] } → entry ≡ size m0 → m1 ≡ with_node m0 Starts → end ≡ size m1 → m2 ≡ with_node m1 Ends
-    → MakesCode body (Some (entry, Next)) end end end m2 m3 → IsWhole body m3
+    → MakesCode body (From entry Onward) end end end m2 m3 → IsWhole body m3
 whole body entry end m0 m1 m2 m3 none first starts last ends makes =
     let empty : Made = record { kinds = []; edges = [] } in
     let zeroth : size m0 ≡ 0 = ap size none in
@@ -195,12 +194,13 @@ whole body entry end m0 m1 m2 m3 none first starts last ends makes =
     let s2 = node_size m1 m2 Ends ends in
     let two : 2 ≡ size m2 = omega (arith, zeroth, s1, s2) in
     let one : end ≡ 1 = omega (arith, zeroth, s1, last) in
-    let zero_is : 0 ≡ entry = omega (arith, zeroth, first) in
+    let zero_is : entry ≡ 0 = omega (arith, zeroth, first) in
     let begun : with_node (with_node empty Starts) Ends ≡ m2 = ap (λ m. with_node (with_node m Starts) Ends) (sym none) ∙ (ap (λ m. with_node m Ends) (sym starts) ∙ sym ends) in
-    let makes1 : MakesCode body (Some (entry, Next)) 1 1 1 m2 m3 = subst (λ n. MakesCode body (Some (entry, Next)) n n n m2 m3) one makes in
+    let makes1 : MakesCode body (From 0 Onward) 1 1 1 m2 m3 =
+    subst (λ n. MakesCode body (From n Onward) 1 1 1 m2 m3) zero_is (subst (λ n. MakesCode body (From entry Onward) n n n m2 m3) one makes) in
     let count : behind_code body 2 ≡ size m3 = makes1.numbers 2 two in
     let all : with_parts empty (method_parts body) ≡ m3 =
-    ap (λ m. with_parts m (code_parts body 2 (From 0 Onward) 1 1 1 [])) begun ∙ makes1.parts 2 (From 0 Onward) [] two (ap (λ n. Some (n, Next)) zero_is) in
+    ap (λ m. with_parts m (code_parts body 2 (From 0 Onward) 1 1 1 [])) begun ∙ makes1.parts 2 [] two in
     let are = parts_are empty (method_parts body) in
     let kinds : m3.kinds ≡ kinds_of (method_parts body) = sym (are.0 ∙ ap (λ (m : Made). m.kinds) all) in
     let edges : m3.edges ≡ edges_of (method_parts body) = sym (are.1 ∙ ap (λ (m : Made). m.edges) all) in

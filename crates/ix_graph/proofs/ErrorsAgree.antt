@@ -18,7 +18,7 @@ module _ (R : Rules) (L : RulesLaws R) where
     with_points (NodePart at (Tells code slot) ∷ parts) kept fine = (kept.0, with_points parts kept.1 fine)
     with_points (NodePart at Joins ∷ parts) kept fine = (kept.0, with_points parts kept.1 fine)
     with_points (NodePart at (Heads number scope) ∷ parts) kept fine = (kept.0, with_points parts kept.1 fine)
-    with_points (NodePart at (Returns value span) ∷ parts) kept fine = ((kept.0.0, fine.0), with_points parts kept.1 fine.1)
+    with_points (NodePart at (Returns value known span) ∷ parts) kept fine = ((kept.0.0, fine.0), with_points parts kept.1 fine.1)
     with_points (NodePart at Ends ∷ parts) kept fine = ((kept.0.0, fine.0), with_points parts kept.1 fine.1)
     with_points (EdgePart node pass target ∷ parts) kept fine = (kept.0, with_points parts kept.1 fine)
 
@@ -31,7 +31,7 @@ module _ (R : Rules) (L : RulesLaws R) where
     points_of (NodePart at (Tells code slot) ∷ parts) kept = let r = points_of parts kept.1 in ((kept.0, r.0), r.1)
     points_of (NodePart at Joins ∷ parts) kept = let r = points_of parts kept.1 in ((kept.0, r.0), r.1)
     points_of (NodePart at (Heads number scope) ∷ parts) kept = let r = points_of parts kept.1 in ((kept.0, r.0), r.1)
-    points_of (NodePart at (Returns value span) ∷ parts) kept = let r = points_of parts kept.1 in (((kept.0.0, tt), r.0), (kept.0.1, r.1))
+    points_of (NodePart at (Returns value known span) ∷ parts) kept = let r = points_of parts kept.1 in (((kept.0.0, tt), r.0), (kept.0.1, r.1))
     points_of (NodePart at Ends ∷ parts) kept = let r = points_of parts kept.1 in (((kept.0.0, tt), r.0), (kept.0.1, r.1))
     points_of (EdgePart node pass target ∷ parts) kept = let r = points_of parts kept.1 in ((kept.0, r.0), r.1)
 
@@ -44,7 +44,7 @@ module _ (R : Rules) (L : RulesLaws R) where
     points_below M N (NodePart at (Tells code slot) ∷ parts) below fine = points_below M N parts below.1 fine
     points_below M N (NodePart at Joins ∷ parts) below fine = points_below M N parts below.1 fine
     points_below M N (NodePart at (Heads number scope) ∷ parts) below fine = points_below M N parts below.1 fine
-    points_below M N (NodePart at (Returns value span) ∷ parts) below fine = (finer (Returning value span) (M at) (N at) below.0 fine.0, points_below M N parts below.1 fine.1)
+    points_below M N (NodePart at (Returns value known span) ∷ parts) below fine = (finer (Returning value known span) (M at) (N at) below.0 fine.0, points_below M N parts below.1 fine.1)
     points_below M N (NodePart at Ends ∷ parts) below fine = (finer Ending (M at) (N at) below.0 fine.0, points_below M N parts below.1 fine.1)
     points_below M N (EdgePart node pass target ∷ parts) below fine = points_below M N parts below fine
 

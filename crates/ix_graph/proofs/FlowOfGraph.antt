@@ -1,8 +1,9 @@
 -- The labels of the heads in a solution of the graph are a solution of the flow.
-use Rattle.std.proofs.Common.{ℕ, suc, true, false, ◌≡◌, sym, subst, List, []}
+use Rattle.std.proofs.Common.{ℕ, suc, true, false, ◌≡◌, sym, subst, List, [], None}
 use Rattle.ix_core.specs.Code.{Code, End, Do, If, Break, Continue, Return, Throw, Loop, Condition, Known, Compare, Truth, Both, Either, Opposite}
+use Rattle.ix_flow.specs.LastDone.{last_done}
 use Rattle.ix_flow.specs.Flow.{Point, Ending, Rules, RulesLaws, Flows, Asks, IsFlow}
-use Rattle.ix_graph.specs.Graph.{Pass, Onward, Through, Testing, Telling, Part, Source, Unreached, From, leads, behind_code, behind_condition, code_parts, condition_parts, method_parts}
+use Rattle.ix_graph.specs.Graph.{done_at, Pass, Onward, Through, Testing, Telling, Part, Source, Unreached, From, leads, behind_code, behind_condition, code_parts, condition_parts, method_parts}
 use Rattle.ix_graph.specs.GraphSolutions.{Carries, AllKeep}
 use Rattle.ix_flow.proofs.FlowWeaker.{flows_weaker, asks_weaker}
 
@@ -20,7 +21,7 @@ module _ (R : Rules) (L : RulesLaws R) (Fine : Point → R.Store → Type 0) (fi
   carries_up Onward s t u carries below = L.transitive s t u carries below
   carries_up (Through op) s t u carries below = L.after op s s t u (L.reflexive s) carries below
   carries_up (Testing answer test) s t u carries below = L.tested answer test s s t u (L.reflexive s) carries below
-  carries_up (Telling answer code slot) s t u carries below = L.told answer code slot s s t u (L.reflexive s) carries below
+  carries_up (Telling answer code slot) s t u carries below = L.told answer (last_done None code) slot s s t u (L.reflexive s) carries below
 
   pub comes_up : (source : Source) (s t : R.Store) → Comes source s → R.Below s t → Comes source t
   comes_up Unreached s t comes below = tt
@@ -32,35 +33,35 @@ module _ (R : Rules) (L : RulesLaws R) (Fine : Point → R.Store → Type 0) (fi
 
   -- from some store to which the source leads the code flows, and the other parts are kept
   abbrev FlowFrom : Code → Source → ℕ → ℕ → ℕ → List Part → Type 0
-  FlowFrom code source end break continue parts = ((s : R.Store) × Comes source s × Flows R Fine labels code s (J end) (J break) (J continue)) × Kept parts
+  FlowFrom code source end break continue parts = ((s : R.Store) × Comes source s × Flows R Fine labels (done_at source) code s (J end) (J break) (J continue)) × Kept parts
 
   abbrev AskFrom : Condition → Source → ℕ → ℕ → ℕ → ℕ → List Part → Type 0
-  AskFrom asked source holds fails break continue parts = ((s : R.Store) × Comes source s × Asks R Fine labels asked s (J holds) (J fails) (J break) (J continue)) × Kept parts
+  AskFrom asked source holds fails break continue parts = ((s : R.Store) × Comes source s × Asks R Fine labels (done_at source) asked s (J holds) (J fails) (J break) (J continue)) × Kept parts
 
   -- the same from the store of a join
-  from_join : (code : Code) (at end break continue : ℕ) → R.Below (J at) (M at) → (s : R.Store) × Comes (From at Onward) s × Flows R Fine labels code s (J end) (J break) (J continue)
-      → Flows R Fine labels code (J at) (J end) (J break) (J continue)
+  from_join : (code : Code) (at end break continue : ℕ) → R.Below (J at) (M at) → (s : R.Store) × Comes (From at Onward) s × Flows R Fine labels None code s (J end) (J break) (J continue)
+      → Flows R Fine labels None code (J at) (J end) (J break) (J continue)
   from_join code at end break continue settled (s, comes, flow) =
-      flows_weaker R L Fine finer labels code (J at) s (J end) (J break) (J continue) (L.transitive (J at) (M at) s settled comes) flow
+      flows_weaker R L Fine finer labels None code (J at) s (J end) (J break) (J continue) (L.transitive (J at) (M at) s settled comes) flow
 
-  ask_join : (asked : Condition) (at holds fails break continue : ℕ) → R.Below (J at) (M at) → (s : R.Store) × Comes (From at Onward) s × Asks R Fine labels asked s (J holds) (J fails) (J break) (J continue)
-      → Asks R Fine labels asked (J at) (J holds) (J fails) (J break) (J continue)
+  ask_join : (asked : Condition) (at holds fails break continue : ℕ) → R.Below (J at) (M at) → (s : R.Store) × Comes (From at Onward) s × Asks R Fine labels None asked s (J holds) (J fails) (J break) (J continue)
+      → Asks R Fine labels None asked (J at) (J holds) (J fails) (J break) (J continue)
   ask_join asked at holds fails break continue settled (s, comes, asks) =
-      asks_weaker R L Fine finer labels asked (J at) s (J holds) (J fails) (J break) (J continue) (L.transitive (J at) (M at) s settled comes) asks
+      asks_weaker R L Fine finer labels None asked (J at) s (J holds) (J fails) (J break) (J continue) (L.transitive (J at) (M at) s settled comes) asks
 
   -- the same from the label of a head
-  from_head : (code : Code) (at number end break continue : ℕ) → labels number ≡ M at → (s : R.Store) × Comes (From at Onward) s × Flows R Fine labels code s (J end) (J break) (J continue)
-      → Flows R Fine labels code (labels number) (J end) (J break) (J continue)
+  from_head : (code : Code) (at number end break continue : ℕ) → labels number ≡ M at → (s : R.Store) × Comes (From at Onward) s × Flows R Fine labels None code s (J end) (J break) (J continue)
+      → Flows R Fine labels None code (labels number) (J end) (J break) (J continue)
   from_head code at number end break continue is (s, comes, flow) =
-      flows_weaker R L Fine finer labels code (labels number) s (J end) (J break) (J continue) (subst (λ label. R.Below label s) (sym is) comes) flow
+      flows_weaker R L Fine finer labels None code (labels number) s (J end) (J break) (J continue) (subst (λ label. R.Below label s) (sym is) comes) flow
 
-  ask_head : (asked : Condition) (at number holds fails break continue : ℕ) → labels number ≡ M at → (s : R.Store) × Comes (From at Onward) s × Asks R Fine labels asked s (J holds) (J fails) (J break) (J continue)
-      → Asks R Fine labels asked (labels number) (J holds) (J fails) (J break) (J continue)
+  ask_head : (asked : Condition) (at number holds fails break continue : ℕ) → labels number ≡ M at → (s : R.Store) × Comes (From at Onward) s × Asks R Fine labels None asked s (J holds) (J fails) (J break) (J continue)
+      → Asks R Fine labels None asked (labels number) (J holds) (J fails) (J break) (J continue)
   ask_head asked at number holds fails break continue is (s, comes, asks) =
-      asks_weaker R L Fine finer labels asked (labels number) s (J holds) (J fails) (J break) (J continue) (subst (λ label. R.Below label s) (sym is) comes) asks
+      asks_weaker R L Fine finer labels None asked (labels number) s (J holds) (J fails) (J break) (J continue) (subst (λ label. R.Below label s) (sym is) comes) asks
 
-  dead : (code : Code) (end break continue : ℕ) → (s : R.Store) × Comes Unreached s × Flows R Fine labels code s (J end) (J break) (J continue) → Flows R Fine labels code R.nowhere (J end) (J break) (J continue)
-  dead code end break continue (s, comes, flow) = flows_weaker R L Fine finer labels code R.nowhere s (J end) (J break) (J continue) (L.nowhere_below s) flow
+  dead : (code : Code) (end break continue : ℕ) → (s : R.Store) × Comes Unreached s × Flows R Fine labels None code s (J end) (J break) (J continue) → Flows R Fine labels None code R.nowhere (J end) (J break) (J continue)
+  dead code end break continue (s, comes, flow) = flows_weaker R L Fine finer labels None code R.nowhere s (J end) (J break) (J continue) (L.nowhere_below s) flow
 
   mutual
     pub code_flows : (code : Code) (at : ℕ) (source : Source) (end break continue : ℕ) (parts : List Part)
@@ -189,7 +190,7 @@ module _ (R : Rules) (L : RulesLaws R) (Fine : Point → R.Store → Type 0) (fi
         ((r.0.0, r.0.1, (J at, r.0.2, L.tested true test (J at) (M at) (J holds) (J holds) node so (L.reflexive (J holds)), L.tested false test (J at) (M at) (J fails) (J fails) node fail (L.reflexive (J fails)))), r.1)
     condition_flows (Truth code slot) at source holds fails break continue parts (node, (so, (fail, kept))) =
         let r = code_flows code (suc at) source at break continue parts kept in
-        ((r.0.0, r.0.1, (J at, r.0.2, L.told true code slot (J at) (M at) (J holds) (J holds) node so (L.reflexive (J holds)), L.told false code slot (J at) (M at) (J fails) (J fails) node fail (L.reflexive (J fails)))), r.1)
+        ((r.0.0, r.0.1, (J at, r.0.2, L.told true (last_done None code) slot (J at) (M at) (J holds) (J holds) node so (L.reflexive (J holds)), L.told false (last_done None code) slot (J at) (M at) (J fails) (J fails) node fail (L.reflexive (J fails)))), r.1)
     condition_flows (Both asked later) at source holds fails break continue parts (node, kept) =
         let rest = condition_parts later (behind_condition asked (suc at)) (From at Onward) holds fails break continue parts in
         let a = condition_flows asked (suc at) source at fails break continue rest kept in
@@ -209,6 +210,6 @@ module _ (R : Rules) (L : RulesLaws R) (Fine : Point → R.Store → Type 0) (fi
         M 0,
         J 1,
         start,
-        flows_weaker R L Fine finer labels body (M 0) r.0.0 (J 1) (J 1) (J 1) r.0.1 r.0.2,
+        flows_weaker R L Fine finer labels None body (M 0) r.0.0 (J 1) (J 1) (J 1) r.0.1 r.0.2,
         finer Ending (J 1) (M 1) ends.0 ends.1,
       )

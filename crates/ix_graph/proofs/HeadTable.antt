@@ -22,7 +22,7 @@ heads_found all (NodePart at (Heads number scope) ∷ parts) first order same = 
   (let e : first + 0 ≡ number = omega (arith, order.0) in ap (λ o. unwrap_or o 0) (ap (slice_get (heads_in all)) (sym e) ∙ sym (same 0))),
   heads_found all parts (suc first) order.1 (λ k. same (suc k) ∙ (let e : first + suc k ≡ suc first + k = omega arith in ap (slice_get (heads_in all)) e)),
 )
-heads_found all (NodePart at (Returns value span) ∷ parts) first order same = heads_found all parts first order same
+heads_found all (NodePart at (Returns value known span) ∷ parts) first order same = heads_found all parts first order same
 heads_found all (NodePart at Ends ∷ parts) first order same = heads_found all parts first order same
 heads_found all (EdgePart node pass target ∷ parts) first order same = heads_found all parts first order same
 

@@ -1,10 +1,11 @@
 -- What is asked of a node's label by what its edges bring.
 use Rattle.std.specs.Prelude.{if◌then◌else◌, ◌==◌}
 use Rattle.std.proofs.lemmas.Bool.{cases_Bool, eqb-true, eqb-false}
-use Rattle.std.proofs.Common.{◌≡◌, ◌⊎◌, inl, inr, ◌+◌, ◌<◌, ℕ, zero, suc, true, false, List, [], ◌∷◌, ◌++◌, length, arith, sym, ap, subst, ◌∙◌}
+use Rattle.std.proofs.Common.{◌≡◌, ◌⊎◌, inl, inr, ◌+◌, ◌<◌, ℕ, zero, suc, true, false, List, [], ◌∷◌, ◌++◌, length, None, arith, sym, ap, subst, ◌∙◌}
 use Rattle.ix_core.specs.Code.{Code}
 use Rattle.ix_lattice.specs.Lattice.{IsJoin}
 use Rattle.ix_solve.specs.Solutions.{IsLeastOf}
+use Rattle.ix_flow.specs.LastDone.{last_done}
 use Rattle.ix_flow.specs.Flow.{Rules, RulesLaws, Anything}
 use Rattle.ix_graph.specs.declared.node.Edge.{Edge}
 use Rattle.ix_graph.specs.Built.{kinds_of, edges_of, edges_to, edge_of}
@@ -32,7 +33,7 @@ module _ (R : Rules) (L : RulesLaws R) (labels : List R.Store) where
   carries_up one other Onward s t u carries up = L.transitive s t u carries up
   carries_up one other (Through op) s t u carries up = L.after op s s t u (L.reflexive s) carries up
   carries_up one other (Testing answer test) s t u carries up = L.tested answer test s s t u (L.reflexive s) carries up
-  carries_up one other (Telling answer code slot) s t u carries up = L.told answer code slot s s t u (L.reflexive s) carries up
+  carries_up one other (Telling answer code slot) s t u carries up = L.told answer (last_done None code) slot s s t u (L.reflexive s) carries up
 
   -- ---- what some edges bring
 
@@ -116,7 +117,7 @@ module _ (R : Rules) (L : RulesLaws R) (labels : List R.Store) where
   settles_as one other (Tells code slot) joined label same settles = settles
   settles_as one other Joins joined label same settles = settles
   settles_as one other (Heads number scope) joined label same settles = (settles.0, sym (same number) ∙ settles.1)
-  settles_as one other (Returns value span) joined label same settles = settles
+  settles_as one other (Returns value known span) joined label same settles = settles
   settles_as one other Ends joined label same settles = settles
 
   module _ (body : Code) (at : ℕ) where

@@ -24,7 +24,7 @@ module _ (R : Rules) (L : RulesLaws R) where
   heads_later P at (Tells code slot) parts heads = heads
   heads_later P at Joins parts heads = heads
   heads_later P at (Heads number scope) parts heads = heads.1
-  heads_later P at (Returns value span) parts heads = heads
+  heads_later P at (Returns value known span) parts heads = heads
   heads_later P at Ends parts heads = heads
 
   -- what a node makes of a store doesn't depend on the labels by loops, where the head's label is that of its loop
@@ -36,7 +36,7 @@ module _ (R : Rules) (L : RulesLaws R) where
   settles_with labels P at (Tells code slot) parts joined label named heads settles = settles
   settles_with labels P at Joins parts joined label named heads settles = settles
   settles_with labels P at (Heads number scope) parts joined label named heads settles = (settles.0, named number heads.0)
-  settles_with labels P at (Returns value span) parts joined label named heads settles = settles
+  settles_with labels P at (Returns value known span) parts joined label named heads settles = settles
   settles_with labels P at Ends parts joined label named heads settles = settles
 
   settles_alone : (labels : ℕ → R.Store) (kind : Kind) (joined label : R.Store) → Settles R (Anything R) labels kind joined label → Settles R (Anything R) (λ number. label) kind joined label
@@ -46,7 +46,7 @@ module _ (R : Rules) (L : RulesLaws R) where
   settles_alone labels (Tells code slot) joined label settles = settles
   settles_alone labels Joins joined label settles = settles
   settles_alone labels (Heads number scope) joined label settles = (settles.0, refl)
-  settles_alone labels (Returns value span) joined label settles = settles
+  settles_alone labels (Returns value known span) joined label settles = settles
   settles_alone labels Ends joined label settles = settles
 
   carries_any : (one other : ℕ → R.Store) (pass : Pass) (s t : R.Store) → Carries R (Anything R) one pass s t → Carries R (Anything R) other pass s t
@@ -169,7 +169,7 @@ module _ (R : Rules) (L : RulesLaws R) where
   at_loop P loop (NodePart at Joins ∷ parts) all has = at_loop P loop parts all has
   at_loop P loop (NodePart at (Heads number scope) ∷ parts) all (inl is) = subst P is all.0
   at_loop P loop (NodePart at (Heads number scope) ∷ parts) all (inr has) = at_loop P loop parts all.1 has
-  at_loop P loop (NodePart at (Returns value span) ∷ parts) all has = at_loop P loop parts all has
+  at_loop P loop (NodePart at (Returns value known span) ∷ parts) all has = at_loop P loop parts all has
   at_loop P loop (NodePart at Ends ∷ parts) all has = at_loop P loop parts all has
   at_loop P loop (EdgePart node pass target ∷ parts) all has = at_loop P loop parts all has
 

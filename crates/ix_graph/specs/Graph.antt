@@ -1,10 +1,11 @@
 -- The flow graph of a method: its nodes with their numbers, and its edges. A node's label is the store before what it stands for; an edge carries
 -- what comes of that label on its way. Sections of statements and conditions are those of JLS 8.
-use Rattle.std.specs.Prelude.{◌≡◌, ◌<◌, ℕ, suc, Bool, true, false, List, [], ◌∷◌, Option}
+use Rattle.std.specs.Prelude.{◌≡◌, ◌<◌, ℕ, suc, Bool, true, false, List, [], ◌∷◌, Option, None, Some}
 use Rattle.ix_text.specs.declared.span.Span.{Span}
 use Rattle.ix_core.specs.declared.op.Op.{Op}
 use Rattle.ix_core.specs.declared.op.Test.{Test}
 use Rattle.ix_core.specs.Code.{Code, End, Do, If, Break, Continue, Return, Throw, Loop, Condition, Known, Compare, Truth, Both, Either, Opposite}
+use Rattle.ix_flow.specs.LastDone.{written_answer}
 
 -- What a node stands for: the entry, an operation, a comparison, the reading of a slot behind the code that computed it, a place where ways meet, the
 -- head of a loop, a `return`, the end of the body.
@@ -16,7 +17,8 @@ pub data Kind : Type 0 where
   Joins : Kind
   -- the loop's number, its scope
   Heads : ℕ → ℕ → Kind
-  Returns : Option ℕ → Span → Kind
+  -- the slot of the value, the answer that is written out there, the place
+  Returns : Option ℕ → Option Bool → Span → Kind
   Ends : Kind
 
 -- What an edge carries: the label itself, what an operation gives of it, or what it is where a test or a boolean slot has this answer.
@@ -35,6 +37,11 @@ pub data Part : Type 0 where
 pub data Source : Type 0 where
   Unreached : Source
   From : ℕ → Pass → Source
+
+-- the operation that control comes from directly
+abbrev pub done_at : Source → Option Op
+done_at (From node (Through op)) = Some op
+done_at _ = None
 
 -- that edge, where there is one, to its target
 abbrev pub leads : Source → ℕ → List Part → List Part
@@ -82,7 +89,7 @@ abbrev mutual
   code_parts (Break code) at source end break continue parts = leads source break (code_parts code at Unreached end break continue parts)
   code_parts (Continue code) at source end break continue parts = leads source continue (code_parts code at Unreached end break continue parts)
   code_parts (Return value span code) at source end break continue parts =
-      NodePart at (Returns value span) ∷ leads source at (code_parts code (suc at) Unreached end break continue parts)
+      NodePart at (Returns value (written_answer (done_at source) value) span) ∷ leads source at (code_parts code (suc at) Unreached end break continue parts)
   code_parts (Throw name span code) at source end break continue parts = NodePart at Joins ∷ leads source at (code_parts code (suc at) Unreached end break continue parts)
   code_parts (Loop true asked body next number scope code) at source end break continue parts =
       let turn = suc at in

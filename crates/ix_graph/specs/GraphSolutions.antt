@@ -1,5 +1,6 @@
 -- What a solution of a flow graph is: stores at its nodes, above what its edges carry to them.
-use Rattle.std.specs.Prelude.{◌≡◌, ◌⊎◌, slice_get, unwrap_or, ℕ, List, [], ◌∷◌}
+use Rattle.std.specs.Prelude.{◌≡◌, ◌⊎◌, slice_get, unwrap_or, ℕ, List, [], ◌∷◌, None}
+use Rattle.ix_flow.specs.LastDone.{last_done}
 use Rattle.ix_flow.specs.Flow.{Point, Doing, Returning, Ending, Rules}
 use Rattle.ix_graph.specs.Graph.{Kind, Starts, Does, Heads, Returns, Ends, Pass, Onward, Through, Testing, Telling, Part, NodePart, EdgePart}
 
@@ -9,14 +10,14 @@ module _ (R : Rules) (Fine : Point → R.Store → Type 0) (labels : ℕ → R.S
   Carries Onward s t = R.Below s t
   Carries (Through op) s t = R.After op s t
   Carries (Testing answer test) s t = R.Tested answer test s t
-  Carries (Telling answer code slot) s t = R.Told answer code slot s t
+  Carries (Telling answer code slot) s t = R.Told answer (last_done None code) slot s t
 
   -- the label of a node is above what the node makes of the join of its edges
   abbrev pub Settles : Kind → R.Store → R.Store → Type 0
   Settles Starts joined label = R.Entry label
   Settles (Does op) joined label = R.Below joined label × Fine (Doing op) label
   Settles (Heads number scope) joined label = R.Rounded scope joined label × (labels number ≡ label)
-  Settles (Returns value span) joined label = R.Below joined label × Fine (Returning value span) label
+  Settles (Returns value known span) joined label = R.Below joined label × Fine (Returning value known span) label
   Settles Ends joined label = R.Below joined label × Fine Ending label
   Settles _ joined label = R.Below joined label
 
@@ -52,7 +53,7 @@ HasHead loop (EdgePart node pass target ∷ parts) = HasHead loop parts
 abbrev pub AllPoints : (ℕ → Point → Type 0) → List Part → Type 0
 AllPoints P [] = Unit {0}
 AllPoints P (NodePart at (Does op) ∷ parts) = P at (Doing op) × AllPoints P parts
-AllPoints P (NodePart at (Returns value span) ∷ parts) = P at (Returning value span) × AllPoints P parts
+AllPoints P (NodePart at (Returns value known span) ∷ parts) = P at (Returning value known span) × AllPoints P parts
 AllPoints P (NodePart at Ends ∷ parts) = P at Ending × AllPoints P parts
 AllPoints P (NodePart at _ ∷ parts) = AllPoints P parts
 AllPoints P (EdgePart node pass target ∷ parts) = AllPoints P parts

@@ -2,9 +2,10 @@
 
 ghost use Rattle.std.specs.Prelude.{◌≡◌, [], IfOk};
 ghost use Rattle.ix_core.specs.Code.{block_code, item_code, cond_code};
-ghost use Rattle.ix_graph.specs.Built.{made_of, with_node, led, size, kind_of, branched, ordered, AddsTurns, MakesCode, MakesItem, MakesCondition};
+ghost use Rattle.ix_graph.specs.Built.{made_of, source_of, with_node, led, size, kind_of, branched, ordered, AddsTurns, MakesCode, MakesItem, MakesCondition};
 
 use crate::node::{Edge, NodeKind};
+use crate::source::Source;
 use ix_core::{Block, Cond, Item};
 use std::alloc::{AllocError, Global};
 
@@ -104,11 +105,14 @@ impl<'a> Builder<'a> {
     }
 
     /// Leads what comes from the source to a node.
-    fn lead(&mut self, source: Option<(usize, Edge)>, target: usize) -> Result<(), AllocError>
-        ensures led { IfOk result (λ _. made_of self.new ≡ led (made_of self.old) source target) }
+    fn lead(&mut self, source: Source<'a>, target: usize) -> Result<(), AllocError>
+        ensures led { IfOk result (λ _. made_of self.new ≡ led (made_of self.old) (source_of source.entry) target) }
     {
-        if let Some((node, edge)) = source {
-            self.edges.push((node, edge, target))?;
+        match source {
+            Source::Unreached => {}
+            Source::Onward(node) | Source::Through(node, _) => {
+                self.edges.push((node, Edge::Next, target))?;
+            }
         }
         Ok(())
     }
@@ -118,9 +122,9 @@ impl<'a> Builder<'a> {
         &mut self,
         test_first: bool,
         head_kind: NodeKind<'a>,
-        source: Option<(usize, Edge)>,
+        source: Source<'a>,
     ) -> Result<Turns, AllocError>
-        ensures made { IfOk result (λ turns. AddsTurns (made_of self.old) (made_of self.new) (kind_of head_kind.entry) source test_first turns) }
+        ensures made { IfOk result (λ turns. AddsTurns (made_of self.old) (made_of self.new) (kind_of head_kind.entry) (source_of source.entry) test_first turns) }
     {
         let head = self.add(head_kind)?;
         let turn = self.add(NodeKind::Join)?;
@@ -141,11 +145,11 @@ impl<'a> Builder<'a> {
     pub fn block(
         &mut self,
         block: &'a Block,
-        source: Option<(usize, Edge)>,
+        source: Source<'a>,
         end: usize,
         jumps: Jumps,
     ) -> Result<(), AllocError>
-        ensures made { IfOk result (λ _. MakesCode (block_code block.now) source end jumps.leave jumps.again (made_of self.old) (made_of self.new)) }
+        ensures made { IfOk result (λ _. MakesCode (block_code block.now) (source_of source.entry) end jumps.leave jumps.again (made_of self.old) (made_of self.new)) }
     {
         let mut last = source;
         for item in block.items.as_slice() {
@@ -159,43 +163,44 @@ impl<'a> Builder<'a> {
     fn item(
         &mut self,
         item: &'a Item,
-        source: Option<(usize, Edge)>,
+        source: Source<'a>,
         jumps: Jumps,
-    ) -> Result<Option<(usize, Edge)>, AllocError>
-        ensures made { IfOk result (λ last. MakesItem (item_code item.now) source last jumps.leave jumps.again (made_of self.old) (made_of self.new)) }
+    ) -> Result<Source<'a>, AllocError>
+        ensures made { IfOk result (λ last. MakesItem (item_code item.now) (source_of source.entry) (source_of last) jumps.leave jumps.again (made_of self.old) (made_of self.new)) }
     {
         match item {
             Item::Do(op) => {
                 let at = self.add(NodeKind::Do(op))?;
                 self.lead(source, at)?;
-                Ok(Some((at, Edge::Next)))
+                Ok(Source::Through(at, op))
             }
             Item::If(cond, first, second) => {
                 let holds = self.add(NodeKind::Join)?;
                 let fails = self.add(NodeKind::Join)?;
                 let behind = self.add(NodeKind::Join)?;
                 self.cond(cond, source, Ways { holds, fails }, jumps)?;
-                self.block(first, Some((holds, Edge::Next)), behind, jumps)?;
-                self.block(second, Some((fails, Edge::Next)), behind, jumps)?;
-                Ok(Some((behind, Edge::Next)))
+                self.block(first, Source::Onward(holds), behind, jumps)?;
+                self.block(second, Source::Onward(fails), behind, jumps)?;
+                Ok(Source::Onward(behind))
             }
             Item::Break => {
                 self.lead(source, jumps.leave)?;
-                Ok(None)
+                Ok(Source::Unreached)
             }
             Item::Continue => {
                 self.lead(source, jumps.again)?;
-                Ok(None)
+                Ok(Source::Unreached)
             }
             Item::Return(value, span) => {
-                let at = self.add(NodeKind::Return(*value, *span))?;
+                let known = source.written_answer(*value);
+                let at = self.add(NodeKind::Return(*value, known, *span))?;
                 self.lead(source, at)?;
-                Ok(None)
+                Ok(Source::Unreached)
             }
             Item::Throw(_, _) => {
                 let at = self.add(NodeKind::Join)?;
                 self.lead(source, at)?;
-                Ok(None)
+                Ok(Source::Unreached)
             }
             Item::Loop {
                 test_first,
@@ -208,10 +213,10 @@ impl<'a> Builder<'a> {
                 let turns = self.turns(*test_first, NodeKind::Head(*number, *scope), source)?;
                 let around = jumps.leaving(turns.out);
                 let within = around.going_on(turns.again);
-                self.cond(cond, Some((turns.tested, Edge::Next)), turns.ways(), around)?;
-                self.block(body, Some((turns.begun, Edge::Next)), turns.again, within)?;
-                self.block(next, Some((turns.again, Edge::Next)), turns.tested, around)?;
-                Ok(Some((turns.out, Edge::Next)))
+                self.cond(cond, Source::Onward(turns.tested), turns.ways(), around)?;
+                self.block(body, Source::Onward(turns.begun), turns.again, within)?;
+                self.block(next, Source::Onward(turns.again), turns.tested, around)?;
+                Ok(Source::Onward(turns.out))
             }
         }
     }
@@ -221,11 +226,11 @@ impl<'a> Builder<'a> {
     fn cond(
         &mut self,
         cond: &'a Cond,
-        source: Option<(usize, Edge)>,
+        source: Source<'a>,
         ways: Ways,
         jumps: Jumps,
     ) -> Result<(), AllocError>
-        ensures made { IfOk result (λ _. MakesCondition (cond_code cond.now) source ways.holds ways.fails jumps.leave jumps.again (made_of self.old) (made_of self.new)) }
+        ensures made { IfOk result (λ _. MakesCondition (cond_code cond.now) (source_of source.entry) ways.holds ways.fails jumps.leave jumps.again (made_of self.old) (made_of self.new)) }
     {
         match cond {
             Cond::Known(true) => self.lead(source, ways.holds),
@@ -244,13 +249,13 @@ impl<'a> Builder<'a> {
                 let holds = self.add(NodeKind::Join)?;
                 let fails = ways.fails;
                 self.cond(first.get(), source, Ways { holds, fails }, jumps)?;
-                self.cond(second.get(), Some((holds, Edge::Next)), ways, jumps)
+                self.cond(second.get(), Source::Onward(holds), ways, jumps)
             }
             Cond::Either(first, second) => {
                 let fails = self.add(NodeKind::Join)?;
                 let holds = ways.holds;
                 self.cond(first.get(), source, Ways { holds, fails }, jumps)?;
-                self.cond(second.get(), Some((fails, Edge::Next)), ways, jumps)
+                self.cond(second.get(), Source::Onward(fails), ways, jumps)
             }
             Cond::Opposite(asked) => {
                 let ways = Ways {
@@ -266,7 +271,8 @@ impl<'a> Builder<'a> {
     fn branch(&mut self, node: usize, holds: usize, fails: usize) -> Result<(), AllocError>
         ensures led { IfOk result (λ _. made_of self.new ≡ branched (made_of self.old) node holds fails) }
     {
-        self.lead(Some((node, Edge::WhenTrue)), holds)?;
-        self.lead(Some((node, Edge::WhenFalse)), fails)
+        self.edges.push((node, Edge::WhenTrue, holds))?;
+        self.edges.push((node, Edge::WhenFalse, fails))?;
+        Ok(())
     }
 }

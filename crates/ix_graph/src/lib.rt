@@ -11,6 +11,7 @@
 mod builder;
 mod links;
 mod node;
+mod source;
 mod sweep;
 
 pub use links::graph;

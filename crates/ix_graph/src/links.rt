@@ -8,6 +8,7 @@ ghost use Rattle.ix_graph.specs.Linked.{kinds_in, Attaches, HaveEdges, AreWithin
 
 use crate::builder::{Builder, Jumps};
 use crate::node::{Edge, Graph, Node, NodeKind};
+use crate::source::Source;
 use ix_core::Method;
 use std::alloc::{AllocError, Global};
 
@@ -70,6 +71,6 @@ pub fn graph<'a>(alloc: Global, method: &'a Method) -> Result<Graph<'a>, AllocEr
         leave: end,
         again: end,
     };
-    builder.block(&method.body, Some((entry, Edge::Next)), end, outside)?;
+    builder.block(&method.body, Source::Onward(entry), end, outside)?;
     linked(alloc, &builder.nodes, &builder.edges)
 }

@@ -24,8 +24,8 @@ pub enum NodeKind<'a> {
     Join,
     /// The head of a loop: its number in the method, and its scope.
     Head(u32, u32),
-    /// A `return`: the slot of the value, if there is one, and the place.
-    Return(Option<u32>, Span),
+    /// A `return`: the slot of the value, if there is one, the answer that is written out directly before it, if one is, and the place.
+    Return(Option<u32>, Option<bool>, Span),
     /// The end of the body, node 1.
     End,
 }

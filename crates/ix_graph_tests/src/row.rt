@@ -11,7 +11,7 @@ use std::alloc::{AllocError, Global};
 use std::fmt::Write as _;
 
 /// A source, one of its methods, and the lines of its graph: of each node its number, what it stands for, and from where edges lead to it. Places are
-/// those where operations, returned values and left sides of comparisons begin.
+/// those where operations, returned values and left sides of comparisons begin. Behind a slot that is returned stands the answer that is written out there.
 #[derive(Clone, Copy)]
 pub struct Row {
     pub source: &'static str,
@@ -59,6 +59,15 @@ fn name_of(kind: &OpKind) -> &'static str {
     }
 }
 
+/// The answer that is written out before a `return`, behind the slot.
+fn text_of(known: Option<bool>) -> &'static str {
+    match known {
+        None => "",
+        Some(true) => " true",
+        Some(false) => " false",
+    }
+}
+
 fn add_kind(line: &mut String, kind: &NodeKind<'_>) -> Result<(), AllocError> {
     match *kind {
         NodeKind::Entry => line.push_str("entry")?,
@@ -74,13 +83,15 @@ fn add_kind(line: &mut String, kind: &NodeKind<'_>) -> Result<(), AllocError> {
         NodeKind::Truth(_, slot) => write!(line, "truth {slot}")?,
         NodeKind::Join => line.push_str("join")?,
         NodeKind::Head(number, scope) => write!(line, "head {number} scope {scope}")?,
-        NodeKind::Return(None, span) => {
+        NodeKind::Return(None, known, span) => {
+            let answer = text_of(known);
             let from = span.from;
-            write!(line, "return nothing @{from}")?
+            write!(line, "return nothing{answer} @{from}")?
         }
-        NodeKind::Return(Some(slot), span) => {
+        NodeKind::Return(Some(slot), known, span) => {
+            let answer = text_of(known);
             let from = span.from;
-            write!(line, "return {slot} @{from}")?
+            write!(line, "return {slot}{answer} @{from}")?
         }
         NodeKind::End => line.push_str("end")?,
     }

@@ -59,7 +59,7 @@ module _ (program : Program) (method : Method) (profile : Profile) (marks : List
   settled (Tells code slot) joined label settles = settles
   settled Joins joined label settles = settles
   settled (Heads number scope) joined label settles = ((marks, landmarks, settles.0), settles.1)
-  settled (Returns value span) joined label settles = settles
+  settled (Returns value known span) joined label settles = settles
   settled Ends joined label settles = settles
 
   settled_back : (kind : Kind) (joined label : Stored) → Settles M (Anything M) (λ number. label) kind joined label → Settles W (Anything W) (λ number. label) kind joined label
@@ -70,7 +70,7 @@ module _ (program : Program) (method : Method) (profile : Profile) (marks : List
   settled_back Joins joined label settles = settles
   settled_back (Heads number scope) joined label ((others, are, gives), same) =
       (subst (λ ms. Gives (rounded ms scope) joined label) (one_landmarks (method_numbers program method) others marks are landmarks) gives, same)
-  settled_back (Returns value span) joined label settles = settles
+  settled_back (Returns value known span) joined label settles = settles
   settled_back Ends joined label settles = settles
 
   module _ (body : Code) (kinds : ℕ → Kind) (are : (at : ℕ) → kinds at ≡ kind_at (method_parts body) at) where

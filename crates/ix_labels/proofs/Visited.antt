@@ -58,7 +58,7 @@ module _ (problem : Problem) where
   same_least (node.Truth block slot) WhenFalse label no_op asked = (below_itself label, λ other carries. carries)
   same_least node.Join edge label no_op asked = (below_itself label, λ other carries. carries)
   same_least (node.Head number scope) edge label no_op asked = (below_itself label, λ other carries. carries)
-  same_least (node.Return value span) edge label no_op asked = (below_itself label, λ other carries. carries)
+  same_least (node.Return value known span) edge label no_op asked = (below_itself label, λ other carries. carries)
   same_least node.End edge label no_op asked = (below_itself label, λ other carries. carries)
 
   pub entered : (joined label : Stored) → IsStoreOf (entry_facts problem.program.now problem.within.now) label → IsSettled (rules_of problem) Starts joined label
@@ -80,7 +80,7 @@ module _ (problem : Problem) where
   as_joined (node.Truth block slot) joined label no_entry no_head is = is
   as_joined node.Join joined label no_entry no_head is = is
   as_joined (node.Head number scope) joined label no_entry no_head is = absurd (no_head number scope refl)
-  as_joined (node.Return value span) joined label no_entry no_head is = is
+  as_joined (node.Return value known span) joined label no_entry no_head is = is
   as_joined node.End joined label no_entry no_head is = is
 
 -- the edges that were gone over, and the next

@@ -70,7 +70,7 @@ counts (NodePart at (Compares test) ∷ parts) (store ∷ stores) same = counts 
 counts (NodePart at (Tells code slot) ∷ parts) (store ∷ stores) same = counts parts stores (omega (arith, same))
 counts (NodePart at Joins ∷ parts) (store ∷ stores) same = counts parts stores (omega (arith, same))
 counts (NodePart at (Heads number scope) ∷ parts) (store ∷ stores) same = let later = counts parts stores (omega (arith, same)) in omega (arith, later)
-counts (NodePart at (Returns value span) ∷ parts) (store ∷ stores) same = counts parts stores (omega (arith, same))
+counts (NodePart at (Returns value known span) ∷ parts) (store ∷ stores) same = counts parts stores (omega (arith, same))
 counts (NodePart at Ends ∷ parts) (store ∷ stores) same = counts parts stores (omega (arith, same))
 counts (EdgePart node pass target ∷ parts) stores same = counts parts stores same
 
@@ -90,7 +90,7 @@ at_number (NodePart at Joins ∷ parts) first (store ∷ stores) all numbered sa
 at_number (NodePart at (Heads loop scope) ∷ parts) first (store ∷ stores) all numbered same are zero within = are 0 ∙ (let e : first + 0 ≡ at = omega (arith, numbered.0) in ap (slice_get all) e)
 at_number (NodePart at (Heads loop scope) ∷ parts) first (store ∷ stores) all numbered same are (suc number) within =
     at_number parts (suc first) stores all numbered.1 (omega (arith, same)) (later_is stores all store first are) number (omega (arith, within))
-at_number (NodePart at (Returns value span) ∷ parts) first (store ∷ stores) all numbered same are number within = at_number parts (suc first) stores all numbered.1 (omega (arith, same)) (later_is stores all store first are) number within
+at_number (NodePart at (Returns value known span) ∷ parts) first (store ∷ stores) all numbered same are number within = at_number parts (suc first) stores all numbered.1 (omega (arith, same)) (later_is stores all store first are) number within
 at_number (NodePart at Ends ∷ parts) first (store ∷ stores) all numbered same are number within = at_number parts (suc first) stores all numbered.1 (omega (arith, same)) (later_is stores all store first are) number within
 at_number (EdgePart node pass target ∷ parts) first stores all numbered same are number within = at_number parts first stores all numbered same are number within
 
@@ -104,7 +104,7 @@ has_head (NodePart at Joins ∷ parts) first number order within = has_head part
 has_head (NodePart at (Heads loop scope) ∷ parts) first zero order within = inl (omega (arith, order.0))
 has_head (NodePart at (Heads loop scope) ∷ parts) first (suc number) order within =
     inr (let e : suc first + number ≡ first + suc number = omega arith in subst (λ n. HasHead n parts) e (has_head parts (suc first) number order.1 (omega (arith, within))))
-has_head (NodePart at (Returns value span) ∷ parts) first number order within = has_head parts first number order within
+has_head (NodePart at (Returns value known span) ∷ parts) first number order within = has_head parts first number order within
 has_head (NodePart at Ends ∷ parts) first number order within = has_head parts first number order within
 has_head (EdgePart node pass target ∷ parts) first number order within = has_head parts first number order within
 

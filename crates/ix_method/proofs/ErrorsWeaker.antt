@@ -117,7 +117,7 @@ module _ (s t : Stored) (below : IsBelow s t) where
 
     pub errors_weaker : (point : Point) → PointErrors program method number point s error rank → PointErrors program method number point t error rank
     errors_weaker (Doing done) d = kind_more done done.kind d
-    errors_weaker (Returning value span) d =
+    errors_weaker (Returning value known span) d =
         ⊎_elim
         (λ x. inl (record { slot = x.slot; returned = x.returned; of = unproved_more _ _ method.result_claims 6 span (Result number) error rank (λ claim. refuses_more (on_paths (own_path method) claim) (Slot x.slot)) x.of }))
         (λ x. inr (constructor_more program method error rank x))

@@ -55,6 +55,6 @@ method_rules program method profile = record {
   Entry = EntryGives program method;
   After = AfterGives program method profile;
   Tested = λ answer test. OutcomesGive (outcomes_of answer test);
-  Told = λ answer code slot. IsBelow;
+  Told = λ answer last slot. IsBelow;
   Rounded = RoundedGives program method;
 }

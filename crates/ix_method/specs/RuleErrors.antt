@@ -188,7 +188,7 @@ KindErrors program method number done _ store error rank = ⊥
 -- at a `return`, and at the end
 abbrev pub PointErrors : Program → Method → ℕ → Point → Stored → Error → ℕ → Type 0
 PointErrors program method number (Doing done) store error rank = KindErrors program method number done done.kind store error rank
-PointErrors program method number (Returning value span) store error rank = ReturnClaim method number value span store error rank ⊎ ConstructorClaim program method store error rank
+PointErrors program method number (Returning value known span) store error rank = ReturnClaim method number value span store error rank ⊎ ConstructorClaim program method store error rank
 PointErrors program method number Ending store error rank = ConstructorClaim program method store error rank ⊎ MissingReturn method store error rank
 
 -- of an operation and of a test by the text alone

@@ -66,7 +66,7 @@ module _ (program : Program) (locals : List (List Type_)) (formed : is_formed pr
   module _ (done : Op) (rest : Code) (below : Tasks) (fits : OperationFits program locals formed (record { now = frame number (Run (Do done rest) below) slots; below = []; heap = heap; wrapped = false; ended = None }) done)
       (stage : Stage) (stage_fits : StageFits program (types_in program locals formed) number (Run (Do done rest) below) stage) (s t : Stored) (here : MeetsHere program profile (types_in program locals formed) stage s slots heap)
       (none : NoKindErrors program method number done done.kind s) (clean : IsClean program method done.kind) (gives : KindGives program method profile done.kind done.span.from s t)
-      (labels : ℕ → Stored) (flowing : Flowing (method_rules program method profile) (NoErrors program method number) labels (λ (d : Op). IsClean program method d.kind) (code_then rest below) t) where
+      (labels : ℕ → Stored) (flowing : Flowing (method_rules program method profile) (NoErrors program method number) labels (λ (d : Op). IsClean program method d.kind) (Some done) (code_then rest below) t) where
     -- what formedness and the text say of the call
     pub record CallParts (kind : CallKind) (call : CallOp) : Type 0 where
       pub has : CallHas program locals formed number lt slots heap fits.types fits.size fits.typed call
@@ -157,7 +157,7 @@ module _ (program : Program) (locals : List (List Type_)) (formed : is_formed pr
         fits = parts.call_fits;
         met = params_met program locals formed slots heap on before s (here before).0 kind call call.method parts.has.there parts.kinds parts.has.args no_claim;
         fresh = fresh;
-        fine = λ there. record { well = well; after = t; gives = behind; types = types; fine = record { labels = labels; flowing = flowing; stage_fits = fine } };
+        fine = λ there. record { well = well; after = t; gives = behind; types = types; fine = record { labels = labels; last = Some done; flowing = flowing; stage_fits = fine } };
       }
 
     -- before the parent's constructor runs the object is as new

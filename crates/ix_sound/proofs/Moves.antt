@@ -36,11 +36,12 @@ use Rattle.ix_facts.proofs.FactLists.{stronger_hold}
 use Rattle.ix_facts.proofs.RoundLaws.{rounded_weaker}
 use Rattle.ix_facts.proofs.StepLaws.{gives_meets, outcomes_meet}
 use Rattle.ix_facts.proofs.StoreLaws.{below_meets}
+use Rattle.ix_flow.specs.LastDone.{last_done}
 use Rattle.ix_flow.specs.Flow.{Rules, Doing, Flows}
 use Rattle.ix_steps.proofs.MachineSteps.{printed_stays}
 use Rattle.ix_steps.proofs.MachineTests.{told_true, told_false}
 use Rattle.ix_method.specs.MethodRules.{method_rules, KindGives}
-use Rattle.ix_sound.specs.Chain.{Passes, Same, Weaker, Rounding, Flowing, Finishing, Running, Asking, Comparing, Telling, Turning, Returning, Leaving, Passing, Each}
+use Rattle.ix_sound.specs.Chain.{Passes, Same, Weaker, Rounding, Flowing, Finishing, Running, Asking, Comparing, Telling, Turning, Returning, Leaving, Passing, Forgetting, Each}
 use Rattle.ix_sound.specs.Clean.{IsClean}
 use Rattle.ix_sound.specs.Direct.{direct}
 use Rattle.ix_sound.specs.Errors.{NoErrors}
@@ -73,8 +74,8 @@ module _ (program : Program) (locals : List (List Type_)) (formed : is_formed pr
   abbrev Okay : Op → Type 0
   Okay done = IsClean program method done.kind
 
-  abbrev Chain : Tasks → Stored → Type 0
-  Chain tasks s = Flowing rules (NoErrors program method number) labels Okay tasks s
+  abbrev Chain : Option Op → Tasks → Stored → Type 0
+  Chain last tasks s = Flowing rules (NoErrors program method number) labels Okay last tasks s
 
   abbrev Met : Stage → Stored → Type 0
   Met stage s = MeetsHere program profile (types_in program locals formed) stage s slots heap
@@ -90,14 +91,14 @@ module _ (program : Program) (locals : List (List Type_)) (formed : is_formed pr
 
   -- ---- moves that change nothing but the tasks
 
-  goes : (stage : Stage) (s : Stored) (tasks : Tasks) → Met stage s → StageStays program (types_in program locals formed) number stage (Go tasks slots heap) → Chain tasks s → Show (Go tasks slots heap)
-  goes stage s tasks here stays flowing = (
+  goes : {last : Option Op} (stage : Stage) (s : Stored) (tasks : Tasks) → Met stage s → StageStays program (types_in program locals formed) number stage (Go tasks slots heap) → Chain last tasks s → Show (Go tasks slots heap)
+  goes {last} stage s tasks here stays flowing = (
     idle program locals formed tables apart profile entries limits building number lt slots heap keeps frame_keeps kept_ints,
     kept_ints,
     record {
       store = Here (with_types stage stays.0) s;
       holds = λ ints. ((here ints).0, stage_kept world stage stays.0 (numbers_of world.place slots heap ints) (numbers_of world.place slots heap ints) (λ field. (refl, refl)) (here ints).1);
-      fine = λ there. record { labels = labels; flowing = flowing; stage_fits = stays.1 };
+      fine = λ there. record { labels = labels; last = last; flowing = flowing; stage_fits = stays.1 };
     },
   )
 
@@ -116,7 +117,7 @@ module _ (program : Program) (locals : List (List Type_)) (formed : is_formed pr
   -- ---- operations
 
   module _ (done : Op) (rest : Code) (below : Tasks) (stage : Stage) (s t : Stored) (typed : NowTyped program (types_in program locals formed) number (Run (Do done rest) below) slots heap) (stage_fits : Fits (Run (Do done rest) below) stage) (here : Met stage s)
-      (none : NoErrors program method number (Doing done) s) (clean : IsClean program method done.kind) (gives : KindGives program method profile done.kind done.span.from s t) (flowing : Chain (code_then rest below) t) where
+      (none : NoErrors program method number (Doing done) s) (clean : IsClean program method done.kind) (gives : KindGives program method profile done.kind done.span.from s t) (flowing : Chain (Some done) (code_then rest below) t) where
     fits : OperationFits program locals formed (record { now = frame number (Run (Do done rest) below) slots; below = []; heap = heap; wrapped = false; ended = None }) done
     fits = next_fits program locals formed (record { now = frame number (Run (Do done rest) below) slots; below = []; heap = heap; wrapped = false; ended = None }) done rest below (record { heap = typed.heap_typed; now = typed.frame_typed; below = tt }) refl
 
@@ -137,7 +138,7 @@ module _ (program : Program) (locals : List (List Type_)) (formed : is_formed pr
                 (λ facts. after_hold profile (op.Print value) facts (numbers_of world.place slots heap ints) (numbers_of world.place slots heap ints) tt (printed_stays profile value (numbers_of world.place slots heap ints))) s t told (here ints).0,
             stage_kept world stage after.0 (numbers_of world.place slots heap ints) (numbers_of world.place slots heap ints) (λ field. (refl, refl)) (here ints).1,
           );
-          fine = λ there. record { labels = labels; flowing = flowing; stage_fits = after.1 };
+          fine = λ there. record { labels = labels; last = Some done; flowing = flowing; stage_fits = after.1 };
         }
 
     do_shown : (kind : OpKind) → done.kind ≡ kind → Shown done.kind
@@ -166,34 +167,34 @@ module _ (program : Program) (locals : List (List Type_)) (formed : is_formed pr
 
   -- ---- statements
 
-  code_shown : (code : Code) (tasks : Tasks) (s end breaks continues : Stored) → Flows rules (NoErrors program method number) labels code s end breaks continues → Each Okay code
-      → Chain tasks end → Chain (behind_loop tasks) breaks → Chain (next_turn tasks) continues → (stage : Stage) → Fits (Run code tasks) stage → Met stage s → NowTyped program (types_in program locals formed) number (Run code tasks) slots heap
+  code_shown : (last : Option Op) (code : Code) (tasks : Tasks) (s end breaks continues : Stored) → Flows rules (NoErrors program method number) labels last code s end breaks continues → Each Okay code
+      → Chain (last_done last code) tasks end → Chain None (behind_loop tasks) breaks → Chain None (next_turn tasks) continues → (stage : Stage) → Fits (Run code tasks) stage → Met stage s → NowTyped program (types_in program locals formed) number (Run code tasks) slots heap
       → Show (step_code limits (tables_in world) slots heap code tasks)
-  code_shown End tasks s end breaks continues flows okay ends jumps turns stage stage_fits here typed =
+  code_shown last End tasks s end breaks continues flows okay ends jumps turns stage stage_fits here typed =
       goes stage end tasks (met_by stage s end (λ v. below_meets s end v flows) here) (stage_stays program locals formed number lt stage (Run End tasks) limits (tables_in world) slots heap tt stage_fits) ends
-  code_shown (Do done rest) tasks s end breaks continues (fine, t, gives, flows) okay ends jumps turns stage stage_fits here typed =
-      do_shown done rest tasks stage s t typed stage_fits here fine okay.0 gives (code_flowing rules (NoErrors program method number) labels Okay rest tasks t end breaks continues flows okay.1 (record { ends = ends; jumps = jumps; turns = turns })) done.kind refl
-  code_shown (If asked first second rest) tasks s end breaks continues flows okay ends jumps turns stage stage_fits here typed =
+  code_shown last (Do done rest) tasks s end breaks continues (fine, t, gives, flows) okay ends jumps turns stage stage_fits here typed =
+      do_shown done rest tasks stage s t typed stage_fits here fine okay.0 gives (code_flowing rules (NoErrors program method number) labels Okay (Some done) rest tasks t end breaks continues flows okay.1 (record { ends = ends; jumps = jumps; turns = turns })) done.kind refl
+  code_shown last (If asked first second rest) tasks s end breaks continues flows okay ends jumps turns stage stage_fits here typed =
       goes stage s (Ask asked (code_then first Empty) (code_then second Empty) (code_then rest tasks)) here (stage_stays program locals formed number lt stage (Run (If asked first second rest) tasks) limits (tables_in world) slots heap tt stage_fits)
-      (if_flowing rules (NoErrors program method number) labels Okay asked first second rest tasks s end breaks continues flows okay (record { ends = ends; jumps = jumps; turns = turns }))
-  code_shown (Break rest) tasks s end breaks continues (jump, flows) okay ends jumps turns stage stage_fits here typed =
+      (if_flowing rules (NoErrors program method number) labels Okay last asked first second rest tasks s end breaks continues flows okay (record { ends = ends; jumps = jumps; turns = turns }))
+  code_shown last (Break rest) tasks s end breaks continues (jump, flows) okay ends jumps turns stage stage_fits here typed =
       goes stage breaks (behind_loop tasks) (met_by stage s breaks (λ v. below_meets s breaks v jump) here) (stage_stays program locals formed number lt stage (Run (Break rest) tasks) limits (tables_in world) slots heap tt stage_fits) jumps
-  code_shown (Continue rest) tasks s end breaks continues (jump, flows) okay ends jumps turns stage stage_fits here typed =
+  code_shown last (Continue rest) tasks s end breaks continues (jump, flows) okay ends jumps turns stage stage_fits here typed =
       goes stage continues (next_turn tasks) (met_by stage s continues (λ v. below_meets s continues v jump) here) (stage_stays program locals formed number lt stage (Run (Continue rest) tasks) limits (tables_in world) slots heap tt stage_fits) turns
-  code_shown (Return value span rest) tasks s end breaks continues (fine, flows) okay ends jumps turns stage stage_fits here typed =
+  code_shown last (Return value span rest) tasks s end breaks continues (fine, flows) okay ends jumps turns stage stage_fits here typed =
       let fits = return_typed value span rest tasks typed.frame_typed.types typed.frame_typed.fits in
       returns_shown program locals formed profile know number lt slots heap building frame_keeps before s (here before).0 fits.0 value span fits.1 (λ error rank x. fine error rank (inl x)) (λ error rank x. fine error rank (inr x))
-  code_shown (Throw thrown span rest) tasks s end breaks continues flows okay ends jumps turns stage stage_fits here typed = λ bad. bad
-  code_shown (Loop true asked body next label scope rest) tasks s end breaks continues flows okay ends jumps turns stage stage_fits here typed =
+  code_shown last (Throw thrown span rest) tasks s end breaks continues flows okay ends jumps turns stage stage_fits here typed = λ bad. bad
+  code_shown last (Loop true asked body next label scope rest) tasks s end breaks continues flows okay ends jumps turns stage stage_fits here typed =
       goes stage s (Head asked body next (Out (code_then rest tasks))) here (stage_stays program locals formed number lt stage (Run (Loop true asked body next label scope rest) tasks) limits (tables_in world) slots heap tt stage_fits)
-      (loop_flowing rules (NoErrors program method number) labels Okay true asked body next label scope rest tasks s end breaks continues flows okay (record { ends = ends; jumps = jumps; turns = turns }))
-  code_shown (Loop false asked body next label scope rest) tasks s end breaks continues flows okay ends jumps turns stage stage_fits here typed =
+      (loop_flowing rules (NoErrors program method number) labels Okay last true asked body next label scope rest tasks s end breaks continues flows okay (record { ends = ends; jumps = jumps; turns = turns }))
+  code_shown last (Loop false asked body next label scope rest) tasks s end breaks continues flows okay ends jumps turns stage stage_fits here typed =
       goes stage s (code_then body (Again asked body next (Out (code_then rest tasks)))) here (stage_stays program locals formed number lt stage (Run (Loop false asked body next label scope rest) tasks) limits (tables_in world) slots heap tt stage_fits)
-      (loop_flowing rules (NoErrors program method number) labels Okay false asked body next label scope rest tasks s end breaks continues flows okay (record { ends = ends; jumps = jumps; turns = turns }))
+      (loop_flowing rules (NoErrors program method number) labels Okay last false asked body next label scope rest tasks s end breaks continues flows okay (record { ends = ends; jumps = jumps; turns = turns }))
 
   -- ---- tests
 
-  decided : (answer : Bool) (first second tasks : Tasks) (stage : Stage) (holds fails : Stored) → (answer ≡ true → Met stage holds) → (answer ≡ false → Met stage fails) → Chain (followed_by first tasks) holds → Chain (followed_by second tasks) fails
+  decided : (answer : Bool) (first second tasks : Tasks) (stage : Stage) (holds fails : Stored) → (answer ≡ true → Met stage holds) → (answer ≡ false → Met stage fails) → Chain None (followed_by first tasks) holds → Chain None (followed_by second tasks) fails
       → StageStays program (types_in program locals formed) number stage (Go (followed_by (if answer then first else second) tasks) slots heap) → Show (Go (followed_by (if answer then first else second) tasks) slots heap)
   decided true first second tasks stage holds fails one two yes_chain no_chain stays = goes stage holds (followed_by first tasks) (one refl) stays yes_chain
   decided false first second tasks stage holds fails one two yes_chain no_chain stays = goes stage fails (followed_by second tasks) (two refl) stays no_chain
@@ -210,26 +211,27 @@ module _ (program : Program) (locals : List (List Type_)) (formed : is_formed pr
 
   -- ---- every move
 
-  pub shown : (tasks : Tasks) (s : Stored) → Chain tasks s → (stage : Stage) → Fits tasks stage → Met stage s → NowTyped program (types_in program locals formed) number tasks slots heap → Show (step_tasks limits (tables_in world) slots heap tasks)
-  shown Empty s (Finishing _ fine) stage stage_fits here typed =
+  pub shown : (last : Option Op) (tasks : Tasks) (s : Stored) → Chain last tasks s → (stage : Stage) → Fits tasks stage → Met stage s → NowTyped program (types_in program locals formed) number tasks slots heap → Show (step_tasks limits (tables_in world) slots heap tasks)
+  shown last Empty s (Finishing _ _ fine) stage stage_fits here typed =
       ends_shown program locals formed profile know number lt slots heap building frame_keeps before s (here before).0 (λ error rank x. fine error rank (inl x)) (λ error rank x. fine error rank (inr x))
-  shown (Run code tasks) s (Running _ _ _ end breaks continues flows okay ends jumps turns) stage stage_fits here typed = code_shown code tasks s end breaks continues flows okay ends jumps turns stage stage_fits here typed
-  shown (Ask asked first second tasks) s (Asking _ _ _ _ _ holds fails breaks continues asks okay one two jumps turns) stage stage_fits here typed =
+  shown last (Run code tasks) s (Running _ _ _ _ end breaks continues flows okay ends jumps turns) stage stage_fits here typed = code_shown last code tasks s end breaks continues flows okay ends jumps turns stage stage_fits here typed
+  shown last (Ask asked first second tasks) s (Asking _ _ _ _ _ _ holds fails breaks continues asks okay one two jumps turns) stage stage_fits here typed =
       goes stage s _ here (stage_stays program locals formed number lt stage (Ask asked first second tasks) limits (tables_in world) slots heap tt stage_fits)
-      (condition_flowing rules (NoErrors program method number) labels Okay asked first second tasks s holds fails breaks continues asks okay one two jumps turns)
-  shown (Decide test first second tasks) s (Comparing _ _ _ _ _ holds fails when_true when_false one two) stage stage_fits here typed =
+      (condition_flowing rules (NoErrors program method number) labels Okay last asked first second tasks s holds fails breaks continues asks okay one two jumps turns)
+  shown last (Decide test first second tasks) s (Comparing _ _ _ _ _ _ holds fails when_true when_false one two) stage stage_fits here typed =
       decided (test_of test.ty test.rel (value_at slots test.left) (value_at slots test.right)) first second tasks stage holds fails
       (λ is. tested true test stage s holds when_true is here) (λ is. tested false test stage s fails when_false is here) one two
       (stage_stays program locals formed number lt stage (Decide test first second tasks) limits (tables_in world) slots heap tt stage_fits)
-  shown (DecideTruth slot first second tasks) s (Telling code _ _ _ _ _ holds fails when_true when_false one two) stage stage_fits here typed =
+  shown last (DecideTruth slot first second tasks) s (Telling _ _ _ _ _ _ holds fails when_true when_false one two) stage stage_fits here typed =
       decided (is_true (value_at slots slot)) first second tasks stage holds fails
       (λ is. met_by stage s holds (λ v. below_meets s holds v when_true) here) (λ is. met_by stage s fails (λ v. below_meets s fails v when_false) here) one two
       (stage_stays program locals formed number lt stage (DecideTruth slot first second tasks) limits (tables_in world) slots heap tt stage_fits)
-  shown (Head asked body next tasks) s (Turning _ _ _ _ _ start again out continues turns rest behind turn) stage stage_fits here typed =
+  shown last (Head asked body next tasks) s (Turning _ _ _ _ _ _ start again out continues turns rest behind turn) stage stage_fits here typed =
       goes stage s _ here (stage_stays program locals formed number lt stage (Head asked body next tasks) limits (tables_in world) slots heap tt stage_fits)
       (head_flowing rules (NoErrors program method number) labels Okay asked body next tasks s start again out continues turns rest behind turn)
-  shown (Again asked body next tasks) s (Returning _ _ _ _ head start _ out continues turns rest behind turn) stage stage_fits here typed =
+  shown last (Again asked body next tasks) s (Returning _ _ _ _ _ head start _ out continues turns rest behind turn) stage stage_fits here typed =
       goes stage s _ here (stage_stays program locals formed number lt stage (Again asked body next tasks) limits (tables_in world) slots heap tt stage_fits)
       (again_flowing rules (NoErrors program method number) labels Okay asked body next tasks head start s out continues turns rest behind turn)
-  shown (Out tasks) s (Leaving _ _ flowing) stage stage_fits here typed = goes stage s tasks here (stage_stays program locals formed number lt stage (Out tasks) limits (tables_in world) slots heap tt stage_fits) flowing
-  shown tasks s (Passing _ _ t passes flowing) stage stage_fits here typed = shown tasks t flowing stage stage_fits (passes_met stage s t passes here) typed
+  shown last (Out tasks) s (Leaving _ _ _ flowing) stage stage_fits here typed = goes stage s tasks here (stage_stays program locals formed number lt stage (Out tasks) limits (tables_in world) slots heap tt stage_fits) flowing
+  shown last tasks s (Passing _ _ _ t passes flowing) stage stage_fits here typed = shown last tasks t flowing stage stage_fits (passes_met stage s t passes here) typed
+  shown last tasks s (Forgetting _ _ _ flowing) stage stage_fits here typed = shown None tasks s flowing stage stage_fits here typed

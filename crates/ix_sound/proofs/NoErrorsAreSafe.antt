@@ -1,5 +1,5 @@
 -- A formed program in which the rules derive no error is safe.
-use Rattle.std.specs.Prelude.{◌≡◌, ℕ, ◌<◌, ◌≤◌, nat_lt, Bool, true, false, List, length, Option, unwrap_or, refl}
+use Rattle.std.specs.Prelude.{◌≡◌, ℕ, ◌<◌, ◌≤◌, nat_lt, Bool, true, false, List, length, Option, None, unwrap_or, refl}
 use Rattle.std.proofs.Common.{arith, sym, ap, subst, inr}
 use Rattle.std.proofs.lemmas.Bool.Decides.{nat_tests}
 use Rattle.std.proofs.lemmas.Option.{slice_get_past}
@@ -26,6 +26,7 @@ use Rattle.ix_core.proofs.TypedCalls.{method_has}
 use Rattle.ix_core.proofs.TypedRuns.{step_typed}
 use Rattle.ix_core.proofs.TypedStarts.{start_typed}
 use Rattle.ix_facts.specs.Stores.{Stored}
+use Rattle.ix_flow.specs.LastDone.{last_done}
 use Rattle.ix_method.specs.MethodRules.{method_rules}
 use Rattle.ix_sound.specs.Chain.{Finishing}
 use Rattle.ix_sound.specs.Clean.{IsClean}
@@ -97,13 +98,13 @@ module _ (program : Program) (locals : List (List Type_)) (formed : is_formed pr
       not_there : nat_lt number (length program.methods) ≡ false → ⊥
       not_there f = grind (arith, nat_tests)
   body_from number true e lt =
-      let flow = (errors number e).flow in
-      let fine = Finishing flow.1 flow.4 in record {
+      let flow = (errors number e).flow in record {
         labels = (errors number e).labels;
+        last = None;
         flowing = code_flowing (method_rules program (method_at program number) profile) (NoErrors program (method_at program number) number) (errors number e).labels (λ (done : Op). IsClean program (method_at program number) done.kind)
-            (body_of (method_at program number)) Empty flow.0 flow.1 flow.1 flow.1 flow.3
+            None (body_of (method_at program number)) Empty flow.0 flow.1 flow.1 flow.1 flow.3
             (each_clean program (method_at program number) (body_of (method_at program number)) (λ error rank x. (errors number e).text error rank (inr x)))
-            (record { ends = fine; jumps = fine; turns = fine });
+            (record { ends = Finishing (last_done None (body_of (method_at program number))) flow.1 flow.4; jumps = Finishing None flow.1 flow.4; turns = Finishing None flow.1 flow.4 });
         stage_fits = entry_fits program locals formed profile number lt;
       }
 
@@ -114,11 +115,11 @@ module _ (program : Program) (locals : List (List Type_)) (formed : is_formed pr
       → Shows profile world know building number slots heap (step_tasks limits (tables_in world) slots heap tasks)
   step_from limits building number tasks Anything slots heap typed keeps frame kept holds fine = absurd fine
   step_from limits building number tasks (Here stage s) slots heap typed keeps frame kept holds fine =
-      shown program locals formed tables apart profile entries limits building number typed.frame_typed.slots.there slots heap keeps frame kept fine.labels tasks s fine.flowing stage fine.stage_fits holds typed
+      shown program locals formed tables apart profile entries limits building number typed.frame_typed.slots.there slots heap keeps frame kept fine.labels fine.last tasks s fine.flowing stage fine.stage_fits holds typed
   step_from limits building number tasks (Behind caller callee kind call Anything) slots heap typed keeps frame kept holds fine = absurd fine
   step_from limits building number tasks (Behind caller callee kind call (Behind other named kind_ call_ known)) slots heap typed keeps frame kept holds fine = absurd fine
   step_from limits building number tasks (Behind caller callee kind call (Here stage s)) slots heap typed keeps frame kept holds fine =
-      shown program locals formed tables apart profile entries limits building number typed.frame_typed.slots.there slots heap keeps frame kept fine.fine.labels tasks fine.after fine.fine.flowing (stage_behind kind stage fine.types) fine.fine.stage_fits
+      shown program locals formed tables apart profile entries limits building number typed.frame_typed.slots.there slots heap keeps frame kept fine.fine.labels fine.fine.last tasks fine.after fine.fine.flowing (stage_behind kind stage fine.types) fine.fine.stage_fits
       (holds fine.well fine.after fine.gives fine.types) typed
 
   pub no_errors_keep_laws : Laws profile world (NowTyped program (types_in program locals formed)) know

@@ -90,7 +90,7 @@ module _ (program : Program) (locals : List (List Type_)) (formed : is_formed pr
   module _ (done : Op) (rest : Code) (below : Tasks) (plain : IsNoCall done.kind) (fits : OperationFits program locals formed (record { now = frame number (Run (Do done rest) below) slots; below = []; heap = heap; wrapped = false; ended = None }) done)
       (stage : Stage) (stage_fits : StageFits program (types_in program locals formed) number (Run (Do done rest) below) stage) (s t : Stored) (here : MeetsHere program profile (types_in program locals formed) stage s slots heap)
       (none : NoKindErrors program method number done done.kind s) (clean : IsClean program method done.kind) (gives : KindGives program method profile done.kind done.span.from s t)
-      (labels : ℕ → Stored) (flowing : Flowing (method_rules program method profile) (NoErrors program method number) labels (λ (d : Op). IsClean program method d.kind) (code_then rest below) t) where
+      (labels : ℕ → Stored) (flowing : Flowing (method_rules program method profile) (NoErrors program method number) labels (λ (d : Op). IsClean program method d.kind) (Some done) (code_then rest below) t) where
     may : Takes world method slots heap done.kind
     may = takes program locals formed number lt slots heap fits.types fits.size fits.typed done done.kind fits.fits clean
 
@@ -127,7 +127,7 @@ module _ (program : Program) (locals : List (List Type_)) (formed : is_formed pr
     after_stage = operation_stays program locals formed number lt done rest below stage (not_super done.kind plain) stage_fits
 
     fine : FineHere program profile (types_in program locals formed) number (code_then rest below) (with_types stage after_stage.0) t
-    fine = record { labels = labels; flowing = flowing; stage_fits = after_stage.1 }
+    fine = record { labels = labels; last = Some done; flowing = flowing; stage_fits = after_stage.1 }
 
     -- the stage holds on, where the object's fields are kept
     stage_on : (w : Numbers) → ((made : method.constructor ≡ true) → ((o f x : ℕ) → done.kind ≡ op.WriteField o f x → (o == 0) ≡ false) → KeepsThis v w) → StageHolds world (with_types stage after_stage.0) w

@@ -1,6 +1,6 @@
 -- What is known of a frame, as the knowledge that the laws of an analysis speak of: a store of the rules, and how far a constructor is. Behind a call it is each
 -- store that the rule of the call gives, of a method that the called one is or overrides.
-use Rattle.std.specs.Prelude.{◌≡◌, ℕ, ◌<◌, ◌==◌, nat_lt, Bool, true, false, List, length, Some, refl}
+use Rattle.std.specs.Prelude.{◌≡◌, ℕ, ◌<◌, ◌==◌, nat_lt, Bool, true, false, List, length, Option, Some, refl}
 use Rattle.ix_core.specs.declared.claim.Type_.{Type_}
 use Rattle.ix_core.specs.declared.error.Error.{Error}
 use Rattle.ix_core.specs.declared.fact.Profile.{Profile}
@@ -81,10 +81,11 @@ module _ (program : Program) (profile : Profile) (locals : ℕ → List Type_) w
   MeetsHere stage store slots heap = (ints : HasInts (direct program).place slots heap)
       → Meets store (numbers_of (direct program).place slots heap ints) × StageHolds (direct program) stage (numbers_of (direct program).place slots heap ints)
 
-  -- from the store on the tasks have no error, and they fit the stage
+  -- from the store on the tasks have no error, behind what was done last, and they fit the stage
   pub record FineHere (number : ℕ) (tasks : Tasks) (stage : Stage) (store : Stored) : Type 0 where
     pub labels : ℕ → Stored
-    pub flowing : Flowing (method_rules program (method_at program number) profile) (NoErrors program (method_at program number) number) labels (λ (done : Op). IsClean program (method_at program number) done.kind) tasks store
+    pub last : Option Op
+    pub flowing : Flowing (method_rules program (method_at program number) profile) (NoErrors program (method_at program number) number) labels (λ (done : Op). IsClean program (method_at program number) done.kind) last tasks store
     pub stage_fits : StageFits program locals number tasks stage
 
   pub record FineBehind (number : ℕ) (tasks : Tasks) (caller callee : Method) (kind : CallKind) (call : CallOp) (stage : Stage) (store : Stored) : Type 0 where

@@ -14,7 +14,7 @@ cond-returns-in_ok-branch-in-Compare t c = record {
       let code = ap cond_code c.in-Compare.is ∙ cond_code-Compare c.in-Compare.block c.in-Compare.test in
       ask_as (sym code)
       (read_makes _ (Compares c.in-Compare.test) (Testing true c.in-Compare.test) (Testing false c.in-Compare.test) (block_code c.in-Compare.block) _ _ _ _ _ _ _ _ _ _
-      (λ at. refl) (λ at source more. refl) refl refl c.in_ok-at-in-Compare.ensures.number c.in_ok-at-in-Compare.ensures.added c.in_ok-branch-in-Compare.ensures.led makes))
+      (λ at. refl) (λ at more. refl) refl refl c.in_ok-at-in-Compare.ensures.number c.in_ok-at-in-Compare.ensures.added c.in_ok-branch-in-Compare.ensures.led makes))
       c.block.ensures.made;
 }
 
@@ -26,7 +26,7 @@ cond-returns-in_ok-branch-in-Truth t c = record {
       ask_as (sym code)
       (read_makes _ (Tells (block_code c.in-Truth.block) c.in-Truth.slot) (Telling true (block_code c.in-Truth.block) c.in-Truth.slot) (Telling false (block_code c.in-Truth.block) c.in-Truth.slot)
       (block_code c.in-Truth.block) _ _ _ _ _ _ _ _ _ _
-      (λ at. refl) (λ at source more. refl) refl refl c.in_ok-at-in-Truth.ensures.number c.in_ok-at-in-Truth.ensures.added c.in_ok-branch-in-Truth.ensures.led makes))
+      (λ at. refl) (λ at more. refl) refl refl c.in_ok-at-in-Truth.ensures.number c.in_ok-at-in-Truth.ensures.added c.in_ok-branch-in-Truth.ensures.led makes))
       c.block-in-Truth.ensures.made;
 }
 
