@@ -33,6 +33,7 @@ impl<'p> Stack<'p> {
     }
 
     /// Opens a place inside the others.
+    #[inline(always)]
     pub fn put(&mut self, place: Place<'p>)
         requires { IsFree (length self.old.places.items) self.old.room place }
         ensures tasks { tasks_open self.new.places.items ≡ tasks_of (place.entry ∷ reverse self.old.places.items) }
@@ -43,6 +44,7 @@ impl<'p> Stack<'p> {
     }
 
     /// Closes the innermost place.
+    #[inline(always)]
     fn pop(&mut self) -> Option<Place<'p>>
         ensures items { MatchOption result (self.old.places.items ≡ []) (λ place. self.old.places.items ≡ self.new.places.items ++ place ∷ []) }
         ensures none { IfNone result (self.new.places.items ≡ []) }
@@ -153,6 +155,7 @@ impl<'p> Stack<'p> {
     }
 
     /// Goes on behind the innermost loop (JLS 14.15).
+    #[inline(never)]
     pub fn leave_loop(&mut self)
         ensures tasks { tasks_open self.new.places.items ≡ behind_loop (tasks_open self.old.places.items) }
         ensures room { self.new.room ≡ self.old.room }
@@ -165,6 +168,7 @@ impl<'p> Stack<'p> {
     }
 
     /// Goes on at the innermost loop's way back (JLS 14.16).
+    #[inline(never)]
     pub fn turn_on(&mut self)
         ensures tasks { tasks_open self.new.places.items ≡ next_turn (tasks_open self.old.places.items) }
         ensures room { self.new.room ≡ self.old.room }
@@ -252,6 +256,7 @@ impl<'p> Stack<'p> {
 }
 
 /// Adds a place.
+#[inline(always)]
 fn push_place<'p>(places: &mut Vec<Place<'p>>, place: Place<'p>)
     requires { vec_len places.old < vec_capacity places.old }
     ensures items { places.new.items ≡ places.old.items ++ place.entry ∷ [] }
@@ -261,6 +266,7 @@ fn push_place<'p>(places: &mut Vec<Place<'p>>, place: Place<'p>)
 }
 
 /// Takes the last place away.
+#[inline(always)]
 fn pop_place<'p>(places: &mut Vec<Place<'p>>) -> Option<Place<'p>>
     ensures items { MatchOption result ((places.old.items ≡ []) × (places.new.items ≡ [])) (λ place. places.old.items ≡ places.new.items ++ place ∷ []) }
     ensures room { vec_capacity places.old ≤ vec_capacity places.new }

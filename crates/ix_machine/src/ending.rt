@@ -73,6 +73,7 @@ fn shown<'p>(heap: &Heap<'p>, value: Option<Held>) -> Value
 }
 
 /// Ends the frame that runs, with the value of that slot, and goes on with the last that waits, or ends the run.
+#[inline(never)]
 pub fn leave<'p>(
     program: &Program,
     frame: &mut Frame<'p>,

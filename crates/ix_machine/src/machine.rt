@@ -137,6 +137,7 @@ impl<'p> Machine<'p> {
     }
 
     /// One step of a run that has not ended; it takes no memory.
+    #[inline(always)]
     pub fn step(&mut self) -> Event
         requires { (state_of self.old).ended ≡ None }
         ensures state { state_of self.new ≡ model.step (limits_of self.old) (tables_of self.old.rows.program.now) (state_of self.old) }

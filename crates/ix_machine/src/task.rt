@@ -275,6 +275,7 @@ fn run_items<'p>(
 }
 
 /// Does the innermost task of the frame.
+#[inline(always)]
 pub fn advance<'p>(rows: &Rows<'p>, frame: &mut Frame<'p>, heap: &mut Heap<'p>) -> Move<'p>
     ensures moved { (frames : ℕ) → step_tasks (with_limits heap.old.most frames) (tables_of rows.now.program.now) (slots_of frame.old) (heap_of heap.old) (tasks_open frame.old.stack.places.items)
         ≡ move_of result (tasks_open frame.new.stack.places.items) (slots_of frame.new) (heap_of heap.new) }

@@ -24,6 +24,7 @@ use ix_heap::Heap;
 use ix_operations::{Call, Done, Rows};
 
 /// Begins a call, or stops the run, and then the frame has its items again.
+#[inline(never)]
 fn begin_call<'p>(
     rows: &Rows<'p>,
     frame: &mut Frame<'p>,
@@ -64,6 +65,7 @@ fn begin_call<'p>(
 }
 
 /// One step of a run that has not ended.
+#[inline(always)]
 pub fn turn<'p>(
     rows: &Rows<'p>,
     frame: &mut Frame<'p>,

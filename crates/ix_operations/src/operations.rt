@@ -267,6 +267,7 @@ fn write_field<'p>(
 }
 
 /// Makes an array of default cells (JLS 15.10.2).
+#[inline(never)]
 fn new_array<'p>(
     frame: &mut Frame<'p>,
     heap: &mut Heap<'p>,
@@ -298,6 +299,7 @@ fn new_array<'p>(
 }
 
 /// Makes an array of these entries (JLS 10.6).
+#[inline(never)]
 fn fill<'p>(
     frame: &mut Frame<'p>,
     heap: &mut Heap<'p>,

@@ -26,6 +26,7 @@ pub enum RunEnd {
 }
 
 /// Makes a step, and writes the value that it prints. After an error the sink took a prefix of its line.
+#[inline(always)]
 fn step<K: Sink>(alloc: Global, machine: &mut Machine<'_>, out: &mut K) -> Result<(), WriteError>
     requires { (state_of machine.old).ended ≡ None }
     ensures state { state_of machine.new ≡ model.step (limits_of machine.old) (tables_of machine.old.rows.program.now) (state_of machine.old) }
