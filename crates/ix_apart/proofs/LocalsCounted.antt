@@ -19,7 +19,6 @@ use Rattle.ix_tree.specs.declared.stmt.StmtKind.{StmtKind, StmtKind-F, map-StmtK
 use Rattle.ix_meaning.specs.declared.note.Which.TheVariants as which
 use Rattle.ix_meaning.specs.Bodies as bodies
 use Rattle.ix_meaning.specs.Bodies.{Telling, telling, kind_telling, all_told, all_declared}
-use Rattle.ix_meaning.proofs.DeclaratorNumbers.{declarators_number}
 use Rattle.ix_plain.specs.declared.body.Body.{Body}
 use Rattle.ix_plain.specs.declared.made.Spot.TheVariants as spot
 use Rattle.ix_plain.specs.Assigned.{assigns, all_assign}
@@ -33,7 +32,6 @@ use Rattle.ix_plain.specs.Statements.{Running, Run, Inside, Evaluated, Tested, b
 use Rattle.ix_plain.specs.Values.{lowering, filling, arguments_from, calling}
 use Rattle.ix_formed.specs.Additions.{Makes}
 use Rattle.ix_formed.proofs.PlainItems.{makes_more, makes_then}
-use Rattle.ix_formed.proofs.FormsOfStatements.{grows_as, then_grows}
 
 -- so many more locals at most, or the same ones
 abbrev pub Grows : Body → ℕ → Body → Type 0
@@ -51,6 +49,14 @@ same_length body after kept = ap (λ (ls : List (Local × Span)). length ls) kep
 
 keeps_grows : (body : Body) (r : Within Body) → Makes (Keeps body) r → Makes (Grows body 0) r
 keeps_grows body r kept = makes_more (Keeps body) (Grows body 0) (λ after k. let e = same_length body after k in omega (arith, e)) r kept
+
+grows_as : (body : Body) (n m : ℕ) (r : Within Body) → n ≤ m → Makes (Grows body n) r → Makes (Grows body m) r
+grows_as body n m r le g = makes_more (Grows body n) (Grows body m) (λ after a. omega (arith, a, le)) r g
+
+then_grows : (body : Body) (n m : ℕ) (r : Within Body) (next : Body → Within Body) → Makes (Grows body n) r → ((second : Body) → Makes (Grows second m) (next second)) → Makes (Grows body (n + m)) (r >>= next)
+then_grows body n m r next first second =
+    makes_then (Grows body n) (Grows body (n + m)) r next first
+    (λ middle a. makes_more (Grows middle m) (Grows body (n + m)) (λ third b. omega (arith, a, b)) (next middle) (second middle))
 
 then_keeps : (body : Body) (r : Within Body) (next : Body → Within Body) → Makes (Keeps body) r → ((second : Body) → Makes (Keeps second) (next second)) → Makes (Keeps body) (r >>= next)
 then_keeps body r next first second =
@@ -217,7 +223,7 @@ module _ {K S : Type 0} (kind : K → StmtKind) (stmt : S → Stmt) (stmt_runs :
       let n = (all_told (map telling (map stmt ss))).declares in
       makes_then (Grows body n) (Grows body n) (statements.each (map statements.statement (map stmt ss)) site span.to body) _ (all_run ss site span.to body) (λ inner g. g)
   run_layer StmtKind-F.Empty span site end body = omega arith
-  run_layer (StmtKind-F.Local ds) span site end body = subst (λ (n : ℕ). Makes (Grows body n) (statements.declarations ds site end body)) (sym (declarators_number ds)) (declarations_grow ds site end body)
+  run_layer (StmtKind-F.Local ds) span site end body = declarations_grow ds site end body
   run_layer (StmtKind-F.If condition first None) span site end body =
       grows_as body ((telling (stmt first)).declares + 0) _ _ (omega arith) (chosen_grows condition (statements.statement (stmt first)) None (telling (stmt first)).declares 0 (stmt_runs first) tt site body)
   run_layer (StmtKind-F.If condition first (Some second)) span site end body =
