@@ -1,14 +1,16 @@
 -- Bytes have one list of tokens or one cause for which they have none, and never both.
 use Rattle.std.proofs.Common.{◌≡◌, ℕ, ◌≤◌, List, length, Option, Some, None, refl, sym, ap, subst, ◌∙◌, ◌⊎◌, inl, inr}
 use Rattle.std.specs.Str.{IsUtf8, IsValidUpTo}
-use Rattle.std.proofs.lemmas.Str.{utf8_valid_len-IsValidUpTo}
+use Rattle.std.proofs.lemmas.Str.{encodes_same, utf8_valid_len-IsValidUpTo}
 use Rattle.ix_lexer.specs.declared.token.Token.{Token}
 use Rattle.ix_lexer.specs.declared.token.LexError.{LexError}
 use Rattle.ix_lexer.specs.declared.token.LexError.TheVariants as error
 use Rattle.ix_lexer.specs.Characters.{Text}
 use Rattle.ix_lexer.specs.Tokens.{most_tokens, first_escape, StopsFirst, Spells, Complete, Stopped, Tokens, Fails}
 use Rattle.ix_lexer.proofs.OneAnswer as one
-use Rattle.ix_lexer.proofs.WholeText.{same_text, one_first}
+
+same_text : (bytes : List ℕ) (text other : Text) → Spells text bytes → Spells other bytes → text ≡ other
+same_text bytes text other a b = encodes_same text other (a.1 ∙ sym b.1)
 
 -- ---- the cause
 
@@ -25,6 +27,13 @@ cause bytes (error.OpenString k) f = inr f
 cause bytes (error.BadNumber k) f = inr f
 cause bytes (error.TooMany k) f = inr f
 cause bytes error.Memory f = inr f
+
+one_first : (escape : Option ℕ) (text : Text) (x y : LexError) → StopsFirst escape text x → StopsFirst escape text y → x ≡ y
+one_first None text x y a b = one.one_cause text x y a b
+one_first (Some place) text x y (inl a) (inl b) = one.one_cause text x y a.0 b.0
+one_first (Some place) text x y (inl a) (inr b) = absurd (b.1 x a.0 a.1)
+one_first (Some place) text x y (inr a) (inl b) = absurd (a.1 y b.0 b.1)
+one_first (Some place) text x y (inr a) (inr b) = a.0 ∙ sym b.0
 
 causes : (bytes : List ℕ) (x y : LexError) → Cause bytes x → Cause bytes y → x ≡ y
 causes bytes x y (inl a) (inl b) = a.1 ∙ ap error.BadUtf8 (sym (utf8_valid_len-IsValidUpTo bytes a.0 a.3) ∙ utf8_valid_len-IsValidUpTo bytes b.0 b.3) ∙ sym b.1
