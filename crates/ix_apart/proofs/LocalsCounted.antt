@@ -27,6 +27,7 @@ use Rattle.ix_plain.specs.Parts.{Within, ◌>>=◌, Value, Asked, empty, done, c
 use Rattle.ix_plain.specs.Program as program
 use Rattle.ix_plain.specs.Program.{Home, start, args_or_none}
 use Rattle.ix_plain.specs.Scope.{Site, declared_type, declared_claims, constructor_at}
+use Rattle.ix_meaning.proofs.DeclaratorNumbers.{declarators_number}
 use Rattle.ix_plain.specs.Statements as statements
 use Rattle.ix_plain.specs.Statements.{Running, Run, Inside, Evaluated, Tested, behind, with_last, behind_value, evaluated, init_evaluated, ran, all_ran, tested, tested_if, with_free, inside, in_loop, most_loops, scope_for, with_local, no_block}
 use Rattle.ix_plain.specs.Values.{lowering, filling, arguments_from, calling}
@@ -223,7 +224,9 @@ module _ {K S : Type 0} (kind : K → StmtKind) (stmt : S → Stmt) (stmt_runs :
       let n = (all_told (map telling (map stmt ss))).declares in
       makes_then (Grows body n) (Grows body n) (statements.each (map statements.statement (map stmt ss)) site span.to body) _ (all_run ss site span.to body) (λ inner g. g)
   run_layer StmtKind-F.Empty span site end body = omega arith
-  run_layer (StmtKind-F.Local ds) span site end body = declarations_grow ds site end body
+  run_layer (StmtKind-F.Local ds) span site end body =
+      let e = declarators_number ds in
+      grows_as body (all_declared ds).declares _ _ (omega (arith, e)) (declarations_grow ds site end body)
   run_layer (StmtKind-F.If condition first None) span site end body =
       grows_as body ((telling (stmt first)).declares + 0) _ _ (omega arith) (chosen_grows condition (statements.statement (stmt first)) None (telling (stmt first)).declares 0 (stmt_runs first) tt site body)
   run_layer (StmtKind-F.If condition first (Some second)) span site end body =
