@@ -1,5 +1,5 @@
 -- A bound through a difference is one of the array or of one of its length: so the facts on these arrays give what all facts give.
-use Rattle.std.specs.Prelude.{◌≡◌, Bool, true, false, ◌||◌, ℤ, negsuc, Option, List, [], ◌∷◌, ◌++◌, filter, refl}
+use Rattle.std.specs.Prelude.{◌≡◌, Bool, true, ◌||◌, ℤ, negsuc, Option, List, [], ◌∷◌, ◌++◌, filter, refl}
 use Rattle.std.specs.Int.{int_max}
 use Rattle.std.proofs.Common.{inl, inr, ap, sym, ◌∙◌, subst, ⊎_elim}
 use Rattle.std.proofs.lemmas.Bool.{false≢true, and_parts}

@@ -7,7 +7,7 @@ use Rattle.ix_core.specs.declared.fact.Path.{Path}
 use Rattle.ix_core.specs.declared.fact.PathOff.{PathOff}
 use Rattle.ix_core.specs.declared.fact.Fact.{Fact}
 use Rattle.ix_index.specs.Bounds
-use Rattle.ix_index.specs.Bounds.{at_least, at_most, greatest, least, best, length_low_by, length_high_by, range_low_by, range_high_by, fact_less_by}
+use Rattle.ix_index.specs.Bounds.{at_least, at_most, greatest, least, length_low_by, length_high_by, range_low_by, range_high_by}
 use Rattle.ix_index.specs.OnPaths.{HasNamed, best_on}
 use Rattle.ix_bounds.proofs.Looks.{looks_length_low, looks_length_high, looks_range_low, looks_range_high, looks_limit, looks_stored_upper, looks_upper}
 

@@ -1,5 +1,5 @@
 -- The ends of ranges by ranges and classes alone, and differences by differences and lengths alone, are those by all facts.
-use Rattle.std.specs.Prelude.{◌≡◌, Bool, true, false, ℤ, pos, Option, None, List, [], ◌∷◌, filter, refl}
+use Rattle.std.specs.Prelude.{◌≡◌, Bool, false, ℤ, pos, Option, None, List, [], ◌∷◌, filter, refl}
 use Rattle.std.specs.Int.{int_min, int_max}
 use Rattle.std.proofs.Common.{ap, sym, ◌∙◌}
 use Rattle.std.proofs.lemmas.Bool.{false≢true}
@@ -75,19 +75,27 @@ looks_range_high p (Search q b) n = refl
 looks_range_high p (Neg q b) n = refl
 looks_range_high p (Upper q b o c) n = refl
 
--- The part has the ranges and classes of all facts that name the path.
+-- Of the ranges and classes that name the path, the part has all.
 module _ (part all : List Fact) where
-  pub length_low_of : (a : Path) → HasNamed a part (ends_in all) → Bounds.length_low part a ≡ Bounds.length_low all a
-  length_low_of a n = length_low_is part (ends_in all) a n ∙ ap (at_least (pos 0)) (best_part int_max is_end (length_low_by a) (looks_length_low a) all)
+  pub length_low_of : (a : Path) → HasNamed a (ends_in part) (ends_in all) → Bounds.length_low part a ≡ Bounds.length_low all a
+  length_low_of a n =
+      sym (ap (at_least (pos 0)) (best_part int_max is_end (length_low_by a) (looks_length_low a) part))
+      ∙ (length_low_is (ends_in part) (ends_in all) a n ∙ ap (at_least (pos 0)) (best_part int_max is_end (length_low_by a) (looks_length_low a) all))
 
-  pub length_high_of : (a : Path) → HasNamed a part (ends_in all) → Bounds.length_high part a ≡ Bounds.length_high all a
-  length_high_of a n = length_high_is part (ends_in all) a n ∙ ap (at_most greatest_int) (best_part int_min is_end (length_high_by a) (looks_length_high a) all)
+  pub length_high_of : (a : Path) → HasNamed a (ends_in part) (ends_in all) → Bounds.length_high part a ≡ Bounds.length_high all a
+  length_high_of a n =
+      sym (ap (at_most greatest_int) (best_part int_min is_end (length_high_by a) (looks_length_high a) part))
+      ∙ (length_high_is (ends_in part) (ends_in all) a n ∙ ap (at_most greatest_int) (best_part int_min is_end (length_high_by a) (looks_length_high a) all))
 
-  pub range_low_of : (p : Path) → HasNamed p part (ends_in all) → Bounds.range_low part p ≡ Bounds.range_low all p
-  range_low_of p n = range_low_is part (ends_in all) p n ∙ ap (at_least least_int) (best_part int_max is_end (range_low_by p) (looks_range_low p) all)
+  pub range_low_of : (p : Path) → HasNamed p (ends_in part) (ends_in all) → Bounds.range_low part p ≡ Bounds.range_low all p
+  range_low_of p n =
+      sym (ap (at_least least_int) (best_part int_max is_end (range_low_by p) (looks_range_low p) part))
+      ∙ (range_low_is (ends_in part) (ends_in all) p n ∙ ap (at_least least_int) (best_part int_max is_end (range_low_by p) (looks_range_low p) all))
 
-  pub range_high_of : (p : Path) → HasNamed p part (ends_in all) → Bounds.range_high part p ≡ Bounds.range_high all p
-  range_high_of p n = range_high_is part (ends_in all) p n ∙ ap (at_most greatest_int) (best_part int_min is_end (range_high_by p) (looks_range_high p) all)
+  pub range_high_of : (p : Path) → HasNamed p (ends_in part) (ends_in all) → Bounds.range_high part p ≡ Bounds.range_high all p
+  range_high_of p n =
+      sym (ap (at_most greatest_int) (best_part int_min is_end (range_high_by p) (looks_range_high p) part))
+      ∙ (range_high_is (ends_in part) (ends_in all) p n ∙ ap (at_most greatest_int) (best_part int_min is_end (range_high_by p) (looks_range_high p) all))
 
 -- ---- differences
 
@@ -127,14 +135,19 @@ links_fact p q (Search p1 a1) n = refl
 links_fact p q (Neg p1 a1) n = refl
 links_fact p q (Upper p1 a1 o1 c1) n = refl
 
--- The part has the differences and lengths of all facts that name the path.
+-- Of the differences and lengths that name the path, the part has all.
 module _ (part all : List Fact) where
-  pub lower_of : (p : Path) → HasNamed p part (links_in all) → at_least (Bounds.range_low all p) (greatest (Bounds.lower_by all p) part) ≡ Bounds.lower_bound all p
+  pub lower_of : (p : Path) → HasNamed p (links_in part) (links_in all) → at_least (Bounds.range_low all p) (greatest (Bounds.lower_by all p) part) ≡ Bounds.lower_bound all p
   lower_of p n =
-      ap (at_least (Bounds.range_low all p)) (best_on int_max p (Bounds.lower_by all p) part (links_in all) (looks_lower all p) n ∙ best_part int_max is_link (Bounds.lower_by all p) (links_lower all p) all)
+      let alone = best_part int_max is_link (Bounds.lower_by all p) (links_lower all p) in
+      ap (at_least (Bounds.range_low all p)) (sym (alone part) ∙ (best_on int_max p (Bounds.lower_by all p) (links_in part) (links_in all) (looks_lower all p) n ∙ alone all))
 
-  pub stored_less_of : (p q : Path) → HasNamed q part (links_in all) → least (Bounds.stored_less_by all p q) part ≡ Bounds.stored_less all p q
-  stored_less_of p q n = best_on int_min q (Bounds.stored_less_by all p q) part (links_in all) (looks_stored_less all p q) n ∙ best_part int_min is_link (Bounds.stored_less_by all p q) (links_stored all p q) all
+  pub stored_less_of : (p q : Path) → HasNamed q (links_in part) (links_in all) → least (Bounds.stored_less_by all p q) part ≡ Bounds.stored_less all p q
+  stored_less_of p q n =
+      let alone = best_part int_min is_link (Bounds.stored_less_by all p q) (links_stored all p q) in
+      sym (alone part) ∙ (best_on int_min q (Bounds.stored_less_by all p q) (links_in part) (links_in all) (looks_stored_less all p q) n ∙ alone all)
 
-  pub fact_less_of : (p q : Path) → HasNamed p part (links_in all) → least (fact_less_by p q) part ≡ Bounds.fact_less all p q
-  fact_less_of p q n = best_on int_min p (fact_less_by p q) part (links_in all) (looks_fact_less p q) n ∙ best_part int_min is_link (fact_less_by p q) (links_fact p q) all
+  pub fact_less_of : (p q : Path) → HasNamed p (links_in part) (links_in all) → least (fact_less_by p q) part ≡ Bounds.fact_less all p q
+  fact_less_of p q n =
+      let alone = best_part int_min is_link (fact_less_by p q) (links_fact p q) in
+      sym (alone part) ∙ (best_on int_min p (fact_less_by p q) (links_in part) (links_in all) (looks_fact_less p q) n ∙ alone all)

@@ -25,7 +25,7 @@ pub trait Groups {
         ensures facts { result.now ≡ group self.now p.now }
         ensures small { All HasSmallNumbers result.now };
 
-    /// The ranges on a path, and the class of the int there: all of them, and maybe others.
+    /// The ranges on a path, and the class of the int there: all of them, and maybe other facts.
     ghost ends: { Self → Path → List Fact };
 
     /// The ranges on the path, and the class of the int there: few, where many facts name the path.
@@ -33,7 +33,7 @@ pub trait Groups {
         ensures facts { result.now ≡ ends self.now p.now }
         ensures small { All HasSmallNumbers result.now };
 
-    /// The differences and lengths on a path: all of them, and maybe others.
+    /// The differences and lengths on a path: all of them, and maybe other facts.
     ghost links: { Self → Path → List Fact };
 
     /// The differences on the path, and which lengths are the int there.
@@ -44,10 +44,10 @@ pub trait Groups {
     ghost named: { (facts : Self) (p : Path) → filter (names (is_path p)) (group facts p) ≡ filter (names (is_path p)) (all facts) };
 
     /// All ranges and classes that name the path are among those on it, in order.
-    ghost named_ends: { (facts : Self) (p : Path) → filter (names (is_path p)) (ends facts p) ≡ filter (names (is_path p)) (ends_in (all facts)) };
+    ghost named_ends: { (facts : Self) (p : Path) → filter (names (is_path p)) (ends_in (ends facts p)) ≡ filter (names (is_path p)) (ends_in (all facts)) };
 
     /// All differences and lengths that name the path are among those on it, in order.
-    ghost named_links: { (facts : Self) (p : Path) → filter (names (is_path p)) (links facts p) ≡ filter (names (is_path p)) (links_in (all facts)) };
+    ghost named_links: { (facts : Self) (p : Path) → filter (names (is_path p)) (links_in (links facts p)) ≡ filter (names (is_path p)) (links_in (all facts)) };
 
     /// There are no others than facts on it.
     ghost only: { (facts : Self) (p : Path) (f : Fact) → IsIn f (group facts p) → IsIn f (all facts) };

@@ -1,2 +1,3 @@
 mod KnownFacts
 mod SmallFacts
+mod PartsTaken

@@ -1,3 +1,4 @@
+pub mod GroupLaws
 -- Passed on from ix_path_index.
 pub use Rattle.ix_path_index.specs.ByPath
 pub use Rattle.ix_path_index.specs.PutLaws

@@ -1,6 +1,6 @@
-//! Ranges and classes among facts, and differences and lengths.
+//! Ranges and classes among facts, and differences and lengths; and where they stand.
 
-ghost use Rattle.std.specs.Prelude.{◌≡◌, IfOk};
+ghost use Rattle.std.specs.Prelude.{◌≡◌, ◌≤◌, true, false, IfOk, length, take, drop};
 ghost use Rattle.ix_bounds.specs.Ends.{is_end, ends_in};
 ghost use Rattle.ix_bounds.specs.Links.{is_link, links_in};
 
@@ -47,4 +47,41 @@ pub(crate) fn ends_and_links(
         }
     }
     Ok((ends, links))
+}
+
+/// How many facts stand up to this one, if it is a range or a class, and else up to the last one before it.
+fn up_to_end(fact: &Fact, seen: usize, last: usize) -> usize
+    ensures here { is_end fact.now ≡ true → result ≡ seen }
+    ensures before { is_end fact.now ≡ false → result ≡ last }
+{
+    if is_end(fact) { seen } else { last }
+}
+
+/// How many facts stand up to the last range or class.
+pub fn up_to_ends(facts: &[Fact]) -> usize
+    ensures within { result ≤ length facts.now }
+    ensures ends { ends_in (take result facts.now) ≡ ends_in facts.now }
+{
+    let mut seen = 0;
+    let mut last = 0;
+    for fact in facts {
+        seen += 1;
+        last = up_to_end(fact, seen, last);
+    }
+    last
+}
+
+/// How many facts stand before the first difference or length.
+pub fn before_links(facts: &[Fact]) -> usize
+    ensures within { result ≤ length facts.now }
+    ensures links { links_in (drop result facts.now) ≡ links_in facts.now }
+{
+    let mut seen = 0;
+    for fact in facts {
+        if is_link(fact) {
+            return seen;
+        }
+        seen += 1;
+    }
+    seen
 }

@@ -187,6 +187,7 @@ impl Groups for FactList {
     ghost use Rattle.ix_bounds.specs.Links.{links_in};
     ghost use Rattle.ix_path_index.specs.Grouped.{on_list};
     ghost use Rattle.ix_path_index.specs.OnListLaws.{on_list_named, on_list_only};
+    ghost use Rattle.ix_fact_list.specs.GroupLaws.{ends_named, links_named};
 
     ghost all = { λ list. in_orders list };
 
@@ -210,9 +211,9 @@ impl Groups for FactList {
 
     ghost named = { λ list p. on_list_named p (in_orders list) };
 
-    ghost named_ends = { λ list p. on_list_named p (ends_in (in_orders list)) };
+    ghost named_ends = { λ list p. ends_named p (in_orders list) };
 
-    ghost named_links = { λ list p. on_list_named p (links_in (in_orders list)) };
+    ghost named_links = { λ list p. links_named p (in_orders list) };
 
     ghost only = { λ list p. on_list_only p (in_orders list) };
 }

@@ -9,4 +9,6 @@
 mod ends;
 mod fact_list;
 
+pub use ends::{before_links, up_to_ends};
 pub use fact_list::FactList;
+pub use ix_path_index::{in_all_orders, ints_and_arrays};

@@ -31,8 +31,8 @@ fn labels_of(alloc: Global, source: &str, method: u32, profile: Profile) -> Opti
 /// The facts of a store as a text, `unreachable` where it has none.
 fn text_of(alloc: Global, store: &Store) -> Result<String, AllocError> {
     let mut text = String::new(alloc);
-    match store.facts() {
-        Some(facts) => add_lines(alloc, &mut text, facts)?,
+    match store.facts(alloc)? {
+        Some(facts) => add_lines(alloc, &mut text, &facts)?,
         None => text.push_str("unreachable")?,
     }
     Ok(text)

@@ -2,3 +2,4 @@ pub mod Together
 pub mod OwnFacts
 pub mod PartsWithout
 pub mod WeakerCommon
+pub mod Numbered

@@ -2,7 +2,7 @@
 use Rattle.std.specs.Prelude.{◌≡◌, ◌⊎◌, Bool, true, List, ◌++◌}
 use Rattle.std.proofs.Common.{inl, inr, sym, ◌∙◌, subst, ⊎_elim}
 use Rattle.ix_core.specs.declared.fact.Fact.{Fact}
-use Rattle.ix_facts.specs.Facts.{IsIn, same}
+use Rattle.ix_facts.specs.Facts.{IsIn}
 use Rattle.ix_facts.specs.Closure.{Said, SaysAll, AllTell, IsCommon}
 use Rattle.ix_facts.specs.Kinds.{kind_of}
 use Rattle.ix_facts.specs.declared.kind.Kind.{Kind}

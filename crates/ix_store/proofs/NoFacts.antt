@@ -7,7 +7,6 @@ use Rattle.ix_core.specs.declared.fact.Fact.{Fact}
 use Rattle.ix_core.specs.declared.fact.Fact.TheVariants.{Rng, LenRng}
 use Rattle.ix_facts.specs.Facts.{IsIn, is_default}
 use Rattle.ix_facts.specs.Closure.{Default, Contradicts}
-use Rattle.ix_facts.specs.Closure as closure
 use Rattle.ix_facts.specs.Stores.{Stored, IsStoreOf, unreachable, reached, Reached}
 use Rattle.ix_facts.proofs.SaidLaws.{default_is}
 use Rattle.ix_facts.proofs.StoreSamples.{nothing_follows}

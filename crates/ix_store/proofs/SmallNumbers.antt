@@ -118,7 +118,7 @@ module _ (tables : Tables) where
   all_classes f i = (may f i).class
 
 module _ (tables : Tables) (kinds : AreOfKinds tables) (full : some_empty (facts_of tables.ranges) ≡ false) where
-  small : (f : Fact) → IsIn f (all_facts tables) → HasSmallNumbers f
+  pub small : (f : Fact) → IsIn f (all_facts tables) → HasSmallNumbers f
   small f i =
       small_one f (may tables f i)
       (⊎_elim (λ j. each_full (facts_of tables.ranges) f full j) (λ j. not_empty f (no_ranges tables kinds f j)) (in_either f (facts_of tables.ranges) (rest_facts tables) i))

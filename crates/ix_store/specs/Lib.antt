@@ -1,5 +1,6 @@
 pub mod ClosedFacts
 pub mod StoredFacts
+pub mod KnownParts
 pub mod SeenFacts
 pub mod StoreOrder
 pub mod StoreLaws

@@ -1,6 +1,6 @@
 //! Closed facts that don't contradict each other, their order and what two of them have in common.
 
-ghost use Rattle.std.specs.Prelude.{◌≡◌, ◌↔◌, ◌++◌, List, true, IsTrue, IfOk};
+ghost use Rattle.std.specs.Prelude.{◌≡◌, ◌↔◌, ◌++◌, List, true, false, IsTrue, IfOk};
 ghost use Rattle.ix_core.specs.declared.fact.Fact.{Fact};
 ghost use Rattle.ix_facts.specs.declared.kind.Kind.TheVariants as kind;
 ghost use Rattle.ix_facts.specs.Kinds.{of_kind};
@@ -12,12 +12,13 @@ ghost use Rattle.ix_closure.specs.Saturated.{IsSaturated};
 ghost use Rattle.ix_closure.specs.FactTables.{facts_of};
 ghost use Rattle.ix_six_tables.specs.AllTables as spec;
 ghost use Rattle.ix_six_tables.specs.AllTables.{AreOfKinds};
+ghost use Rattle.ix_six_tables.specs.EmptyRanges.{some_empty};
 ghost use Rattle.ix_store.specs.StoredFacts.{facts_in, stored_in};
 
-use crate::known::Known;
+use crate::known::{FEW, Known};
 use ix_closure::{more_beside, more_that_follows};
 use ix_core::Fact;
-use ix_fact_list::FactList;
+use ix_fact_list::{before_links, in_all_orders, ints_and_arrays, up_to_ends};
 use ix_six_tables::{self, Tables, all_facts, has_empty, ranges_with, tables_with};
 use std::alloc::{AllocError, Global};
 
@@ -65,7 +66,42 @@ fn added_beside(
     Ok(added)
 }
 
+/// The facts in no more room than they take, unless they are few.
+fn trimmed(alloc: Global, facts: Vec<Fact>) -> Result<Vec<Fact>, AllocError>
+    ensures { IfOk result (λ trimmed. trimmed.items ≡ facts.items) }
+{
+    if facts.len() <= FEW {
+        return Ok(facts);
+    }
+    let mut trimmed = Vec::with_capacity(alloc, facts.len())?;
+    trimmed.extend_from_slice(&facts)?;
+    Ok(trimmed)
+}
+
 impl Known {
+    /// Closed tables of which no range is empty, with the lists beside them. The only error is want of memory.
+    fn with_lists(alloc: Global, tables: Tables) -> Result<Known, AllocError>
+        requires kinds { AreOfKinds tables }
+        requires closed { Closed (spec.all_facts tables) }
+        requires full { some_empty (facts_of tables.ranges) ≡ false }
+        ensures tables { IfOk result (λ known. known.tables ≡ tables) }
+    {
+        let all = all_facts(alloc, &tables)?;
+        let _count = all.len();
+        let ordered = trimmed(alloc, in_all_orders(alloc, &all)?)?;
+        let (ints, arrays) = ints_and_arrays(alloc, &ordered)?;
+        let ends = up_to_ends(&ordered);
+        let from_links = before_links(&ordered);
+        Ok(Known {
+            tables,
+            ordered,
+            ends,
+            from_links,
+            ints,
+            arrays,
+        })
+    }
+
     /// The facts of tables that are closed, or none where a range is empty. The only error is want of memory.
     fn of_tables(alloc: Global, tables: Tables) -> Result<Option<Known>, AllocError>
         requires kinds { AreOfKinds tables }
@@ -75,10 +111,8 @@ impl Known {
         if has_empty(tables.ranges.get().as_slice()) {
             return Ok(None);
         }
-        let all = all_facts(alloc, &tables)?;
-        let _count = all.len();
-        let list = FactList::new(alloc, all)?;
-        Ok(Some(Known { tables, list }))
+        let known = Known::with_lists(alloc, tables)?;
+        Ok(Some(known))
     }
 
     /// The closed facts of tables and of new facts, or none where an empty range follows. The only error is want of memory.
@@ -117,23 +151,13 @@ impl Known {
         Ok(known)
     }
 
-    /// The facts, by the paths that they name.
-    pub(crate) fn list(&self) -> &FactList
-        ensures facts { result.now ≡ facts_in self.now }
-        ensures classes { HaveClasses (facts_in self.now) }
-    {
-        &self.list
-    }
-
     /// What both say. The only error is want of memory.
     pub(crate) fn common(&self, alloc: Global, other: &Known) -> Result<Known, AllocError>
         ensures common { IfOk result (λ known. IsCommon (facts_in self.now) (facts_in other.now) (facts_in known)) }
     {
         let tables = ix_six_tables::common(alloc, &self.tables, &other.tables)?;
-        let all = all_facts(alloc, &tables)?;
-        let _count = all.len();
-        let list = FactList::new(alloc, all)?;
-        Ok(Known { tables, list })
+        let known = Known::with_lists(alloc, tables)?;
+        Ok(known)
     }
 
     /// Whether these facts say all that the others say.

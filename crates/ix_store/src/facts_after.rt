@@ -1,26 +1,26 @@
 //! The new facts behind each rule, before they are closed.
 
-ghost use Rattle.std.specs.Prelude.{◌≡◌, ◌++◌, ◌∷◌, [], IfOk, OnOk};
+ghost use Rattle.std.specs.Prelude.{◌≡◌, ◌++◌, ◌∷◌, [], false, IsTrue, IfOk, OnOk};
 ghost use Rattle.ix_facts.specs.Assume as claims;
 ghost use Rattle.ix_facts.specs.Closure.{kept};
-ghost use Rattle.ix_facts.specs.Facts.{in_orders};
 ghost use Rattle.ix_facts.specs.After.{of_target};
 ghost use Rattle.ix_facts.specs.Forget.{of_path, without};
 ghost use Rattle.ix_facts.specs.Round.{rounded};
 ghost use Rattle.ix_facts.specs.Stores.{operated, with_copy, with_outcome};
 ghost use Rattle.ix_facts.specs.Systems.{HaveClasses};
 ghost use Rattle.ix_facts.specs.SameFacts.{AreSame};
+ghost use Rattle.ix_six_tables.specs.ChangedPaths.{is_changed};
+ghost use Rattle.ix_six_tables.specs.Spared.{some_named};
 ghost use Rattle.ix_store.specs.StoredFacts.{facts_in};
 ghost use Rattle.ix_outcomes.specs.OverGroups.{outcome_of};
 
-use crate::known::Known;
+use crate::known::{FEW, Known};
 use ix_after::{facts_after, facts_of_copy, push_claim};
-use ix_claims::is_proved;
 use ix_core::{Fact, OpKind, Path, PathClaim, Profile, Type_};
 use ix_exact::{push_fact, push_less, push_upper};
 use ix_fact_list::FactList;
 use ix_outcomes::{Outcome, facts_of_outcome};
-use ix_six_tables::{Changed, rounded_facts, unchanged};
+use ix_six_tables::{Changed, all_facts, rounded_facts, some_changes, tables_beside};
 use std::alloc::{AllocError, Global};
 
 fn push_kept(out: &mut Vec<Fact>, fact: &Fact) -> Result<(), AllocError>
@@ -45,6 +45,28 @@ pub(crate) fn kept_facts(alloc: Global, facts: &[Fact]) -> Result<Vec<Fact>, All
 }
 
 impl Known {
+    /// The facts that name no changed path. The only error is want of memory.
+    fn unchanged(&self, alloc: Global, changed: &Changed) -> Result<Vec<Fact>, AllocError>
+        ensures facts { IfOk result (λ facts. facts.items ≡ without (is_changed changed.now) (facts_in self.now)) }
+    {
+        let tables = tables_beside(alloc, &self.tables, changed)?;
+        all_facts(alloc, &tables)
+    }
+
+    /// The same, by the paths that they name: an index for one step, which goes with it. The only error is want of memory.
+    fn beside(&self, alloc: Global, changed: &Changed) -> Result<FactList, AllocError>
+        ensures facts { IfOk result (λ list. list ≡ without (is_changed changed.now) (facts_in self.now)) }
+    {
+        FactList::new(alloc, self.unchanged(alloc, changed)?)
+    }
+
+    /// Whether a step can read the facts as they stand: few are read as fast as by their paths. It is for speed alone.
+    fn can_be_read(&self, changed: &Changed) -> bool
+        ensures unchanged { IsTrue result → some_named (is_changed changed.now) (facts_in self.now) ≡ false }
+    {
+        self.ordered.len() <= FEW && !some_changes(&self.tables, changed)
+    }
+
     /// The new facts behind an operation.
     pub(crate) fn after(
         &self,
@@ -55,13 +77,13 @@ impl Known {
         ensures facts { IfOk result (λ new. AreSame (without (of_target kind.now) (facts_in self.now) ++ new.items) (operated profile kind.now (facts_in self.now))) }
         ensures classes { IfOk result (λ new. HaveClasses new.items) }
     {
-        let list = self.list();
-        if !list.names_target(kind) {
-            let new = facts_after(alloc, list, profile, kind)?;
+        let changed = Changed::Target(kind);
+        if self.can_be_read(&changed) {
+            let new = facts_after(alloc, self, profile, kind)?;
             return Ok(new);
         }
-        let beside = FactList::beside_target(alloc, list, kind)?;
-        let new = facts_after(alloc, &beside, profile, kind)?;
+        let list = self.beside(alloc, &changed)?;
+        let new = facts_after(alloc, &list, profile, kind)?;
         Ok(new)
     }
 
@@ -76,13 +98,13 @@ impl Known {
         ensures facts { IfOk result (λ new. AreSame (without (of_path target.now) (facts_in self.now) ++ new.items) (with_copy ty.now target.now source.now (facts_in self.now))) }
         ensures classes { IfOk result (λ new. HaveClasses new.items) }
     {
-        let list = self.list();
-        if !list.names_path(target) {
-            let new = facts_of_copy(alloc, list, ty, target, source)?;
+        let changed = Changed::At(*target);
+        if self.can_be_read(&changed) {
+            let new = facts_of_copy(alloc, self, ty, target, source)?;
             return Ok(new);
         }
-        let beside = FactList::beside_path(alloc, list, target)?;
-        let new = facts_of_copy(alloc, &beside, ty, target, source)?;
+        let list = self.beside(alloc, &changed)?;
+        let new = facts_of_copy(alloc, &list, ty, target, source)?;
         Ok(new)
     }
 
@@ -91,14 +113,13 @@ impl Known {
         ensures facts { IfOk result (λ new. AreSame (facts_in self.now ++ new.items) (with_outcome (outcome_of outcome.now) (facts_in self.now))) }
         ensures classes { IfOk result (λ new. HaveClasses new.items) }
     {
-        let new = facts_of_outcome(alloc, self.list(), outcome)?;
+        if self.can_be_read(&Changed::Nothing) {
+            let new = facts_of_outcome(alloc, self, outcome)?;
+            return Ok(new);
+        }
+        let list = self.beside(alloc, &Changed::Nothing)?;
+        let new = facts_of_outcome(alloc, &list, outcome)?;
         Ok(new)
-    }
-
-    pub(crate) fn proves(&self, claim: &PathClaim, at: &Path) -> bool
-        ensures proved { result ≡ claims.proves (in_orders (facts_in self.now)) claim.now at.now }
-    {
-        is_proved(self.list(), claim, at)
     }
 
     /// The facts of a loop's label, before they are closed.
@@ -111,8 +132,8 @@ impl Known {
         ensures facts { IfOk result (λ facts. facts.items ≡ rounded marks.now scope (facts_in self.now)) }
         ensures classes { IfOk result (λ facts. HaveClasses facts.items) }
     {
-        let within = unchanged(alloc, self.list().as_slice(), &Changed::From(scope))?;
-        let facts = rounded_facts(alloc, within.as_slice(), marks)?;
+        let within = self.unchanged(alloc, &Changed::From(scope))?;
+        let facts = rounded_facts(alloc, &within, marks)?;
         Ok(facts)
     }
 }

@@ -27,119 +27,119 @@ impl Know for Store {
     fn facts(&self) -> u128 {
         match &self.known {
             None => 0,
-            Some(known) => known.get().list().facts(),
+            Some(known) => known.get().facts(),
         }
     }
 
     fn fact(&self, k: u128) -> Fact {
         match &self.known {
             None => unreachable!(),
-            Some(known) => known.get().list().fact(k),
+            Some(known) => known.get().fact(k),
         }
     }
 
     fn lo(&self, p: &Path) -> i64 {
         match &self.known {
             None => ix_bounds::lower_bound(&NoFacts, p),
-            Some(known) => known.get().list().lo(p),
+            Some(known) => known.get().lo(p),
         }
     }
 
     fn hi(&self, p: &Path) -> i64 {
         match &self.known {
             None => ix_bounds::upper_limit(&NoFacts, p),
-            Some(known) => known.get().list().hi(p),
+            Some(known) => known.get().hi(p),
         }
     }
 
     fn len_lo(&self, a: &Path) -> i64 {
         match &self.known {
             None => ix_bounds::length_low(&NoFacts, a),
-            Some(known) => known.get().list().len_lo(a),
+            Some(known) => known.get().len_lo(a),
         }
     }
 
     fn len_hi(&self, a: &Path) -> i64 {
         match &self.known {
             None => ix_bounds::length_high(&NoFacts, a),
-            Some(known) => known.get().list().len_hi(a),
+            Some(known) => known.get().len_hi(a),
         }
     }
 
     fn upper(&self, p: &Path, a: &Path, offset: &PathOff) -> Option<i64> {
         match &self.known {
             None => ix_bounds::upper_bound(&NoFacts, p, a, offset),
-            Some(known) => known.get().list().upper(p, a, offset),
+            Some(known) => known.get().upper(p, a, offset),
         }
     }
 
     fn less(&self, p: &Path, q: &Path) -> Option<i64> {
         match &self.known {
             None => Some(ix_bounds::less_bound(&NoFacts, p, q)),
-            Some(known) => known.get().list().less(p, q),
+            Some(known) => known.get().less(p, q),
         }
     }
 
     fn difference(&self, p: &Path, q: &Path) -> Option<i64> {
         match &self.known {
             None => None,
-            Some(known) => known.get().list().difference(p, q),
+            Some(known) => known.get().difference(p, q),
         }
     }
 
     fn same(&self, a: &Path, b: &Path) -> bool {
         match &self.known {
             None => false,
-            Some(known) => known.get().list().same(a, b),
+            Some(known) => known.get().same(a, b),
         }
     }
 
     fn is_len(&self, p: &Path, a: &Path) -> bool {
         match &self.known {
             None => false,
-            Some(known) => known.get().list().is_len(p, a),
+            Some(known) => known.get().is_len(p, a),
         }
     }
 
     fn search(&self, p: &Path, a: &Path) -> bool {
         match &self.known {
             None => false,
-            Some(known) => known.get().list().search(p, a),
+            Some(known) => known.get().search(p, a),
         }
     }
 
     fn negative(&self, p: &Path, a: &Path) -> bool {
         match &self.known {
             None => false,
-            Some(known) => known.get().list().negative(p, a),
+            Some(known) => known.get().negative(p, a),
         }
     }
 
     fn ints(&self) -> u128 {
         match &self.known {
             None => 0,
-            Some(known) => known.get().list().ints(),
+            Some(known) => known.get().ints(),
         }
     }
 
     fn int(&self, k: u128) -> Path {
         match &self.known {
             None => unreachable!(),
-            Some(known) => known.get().list().int(k),
+            Some(known) => known.get().int(k),
         }
     }
 
     fn arrays(&self) -> u128 {
         match &self.known {
             None => 0,
-            Some(known) => known.get().list().arrays(),
+            Some(known) => known.get().arrays(),
         }
     }
 
     fn array(&self, k: u128) -> Path {
         match &self.known {
             None => unreachable!(),
-            Some(known) => known.get().list().array(k),
+            Some(known) => known.get().array(k),
         }
     }
 }

@@ -10,6 +10,7 @@ mod closed;
 mod facts_after;
 mod know;
 mod known;
+mod known_bounds;
 mod lattice;
 mod nothing;
 mod rules;

@@ -14,11 +14,12 @@ ghost use Rattle.ix_outcomes.specs.OverGroups.{outcome_of};
 use crate::facts_after::{assumed, kept_facts};
 use crate::known::Known;
 use crate::store::Store;
+use ix_claims::is_proved;
 use ix_closure::are_plain;
 use ix_core::{Fact, OpKind, Path, PathClaim, Profile, Program, Type_};
 use ix_facts::Landmarks;
 use ix_outcomes::Outcome;
-use ix_six_tables::{Changed, Tables, no_tables, some_name_changed, tables_beside};
+use ix_six_tables::{Changed, Tables, no_tables, some_changes, tables_beside};
 use ix_text::Joint;
 use std::alloc::{AllocError, Global};
 
@@ -73,7 +74,7 @@ fn behind(
     requires classes { HaveClasses new.items }
     ensures store { IfOk result (λ store. IsStoreOf (without (is_changed changed.now) (facts_in known.now) ++ new.items) (stored store)) }
 {
-    if is_none(&new) && !some_name_changed(known.get().list().as_slice(), changed) {
+    if is_none(&new) && !some_changes(&known.get().tables, changed) {
         let known = known.join()?;
         return Ok(Store { known: Some(known) });
     }
@@ -273,7 +274,7 @@ impl Store {
     {
         match &self.known {
             None => true,
-            Some(known) => known.get().proves(claim, at),
+            Some(known) => is_proved(known.get(), claim, at),
         }
     }
 }

@@ -6,6 +6,7 @@ ghost use Rattle.ix_store.specs.StoredFacts.{stored};
 
 use crate::store::Store;
 use ix_core::Fact;
+use ix_six_tables::all_facts;
 use std::alloc::{AllocError, Global};
 
 impl Store {
@@ -17,15 +18,16 @@ impl Store {
         Ok(store)
     }
 
-    /// The closed facts that are known at the place, none where no state is there. A fact that may be turned round stands in one of its orders. It takes no
-    /// memory.
-    pub fn facts(&self) -> Option<&[Fact]>
-        ensures unreachable { IsNone result ↔ (stored self.now ≡ Unreachable) }
-        ensures reached { IfSome result (λ facts. stored self.now ≡ Reached facts.now) }
+    /// The closed facts that are known at the place, none where no state is there. A fact that may be turned round stands in one of its orders. The only error is
+    /// want of memory.
+    pub fn facts(&self, alloc: Global) -> Result<Option<Vec<Fact>>, AllocError>
+        ensures unreachable { IfOk result (λ facts. IsNone facts ↔ (stored self.now ≡ Unreachable)) }
+        ensures reached { IfOk result (λ facts. IfSome facts (λ facts. stored self.now ≡ Reached facts.items)) }
     {
-        match &self.known {
-            None => None,
-            Some(known) => Some(known.get().list().as_slice()),
-        }
+        let Some(known) = &self.known else {
+            return Ok(None);
+        };
+        let facts = all_facts(alloc, &known.get().tables)?;
+        Ok(Some(facts))
     }
 }

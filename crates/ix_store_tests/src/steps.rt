@@ -223,8 +223,8 @@ fn take<'a>(alloc: Global, walk: &mut Walk<'a>, profile: Profile, words: &[&'a s
 fn text_of(alloc: Global, walk: Walk) -> Option<String> {
     let Walk { store, answers, .. } = walk;
     let mut text = answers;
-    match store.facts() {
-        Some(facts) => add_lines(alloc, &mut text, facts).ok()?,
+    match store.facts(alloc).ok()? {
+        Some(facts) => add_lines(alloc, &mut text, &facts).ok()?,
         None => {
             if !text.is_empty() {
                 text.push_str("; ").ok()?;

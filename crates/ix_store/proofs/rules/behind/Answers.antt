@@ -12,13 +12,12 @@ use Rattle.ix_store.proofs.ClosedTests.{closed_of_test}
 use Rattle.ix_store.proofs.KnownStores.{known_store}
 use Rattle.ix_store.proofs.rules.behind.Goals as goal
 
-pub returns-then-not-some_name_changed : goal.returns-then-not-some_name_changed
-returns-then-not-some_name_changed c =
+pub returns-then-not-some_changes : goal.returns-then-not-some_changes
+returns-then-not-some_changes c =
     let is = is_changed c.args.changed.now in
     let known = c.args.known.now in
     let same : c.in_ok-known.known ≡ known = c.in_ok-known.ensures in
-    let list : c.as_slice.result.now ≡ facts_in known = c.as_slice.ensures.facts ∙ (c.list.ensures.facts ∙ ap facts_in c.get.ensures) in
-    let all : without is (facts_in known) ≡ facts_in known = spared is (facts_in known) (ap (some_named is) (sym list) ∙ (sym c.some_name_changed.ensures ∙ c.if-not-some_name_changed.true)) in
+    let all : without is (facts_in known) ≡ facts_in known = spared is (facts_in known) (ap (λ k. some_named is (facts_in k)) (sym c.get.ensures) ∙ (sym c.some_changes.ensures ∙ c.if-not-some_changes.true)) in
     let none : c.args.new.items ≡ [] = sym c.deref.ensures.value ∙ c.is_none.ensures.0 c.if-is_none.true in
     let facts : without is (facts_in known) ++ c.args.new.items ≡ facts_in known = ap (λ l. without is (facts_in known) ++ l) none ∙ (append-nil (without is (facts_in known)) ∙ all) in
     record { store = subst (λ k. IsStoreOf (without is (facts_in known) ++ c.args.new.items) (Reached (facts_in k))) (sym same) (subst (λ l. IsStoreOf l (Reached (facts_in known))) (sym facts) (known_store known)) }

@@ -11,5 +11,5 @@ pub returns-in-Some-clause-bound : goal.returns-in-Some-clause-bound
 returns-in-Some-clause-bound c =
     let i = c.in-Some.is in
     let is : stored c.args.self.now ≡ Reached (facts_in c.in-Some.known) = cc in
-    let same : c.list.result.now ≡ facts_seen c.args.self.now = c.list.ensures.facts ∙ (ap facts_in c.get.ensures ∙ sym (ap facts_or_none is)) in
+    let same : facts_in c.get.result.now ≡ facts_seen c.args.self.now = ap facts_in c.get.ensures ∙ sym (ap facts_or_none is) in
     to_z-of_z w64 c.hi.result (search rules) ∙ (c.hi.ensures.bound ∙ ap (λ l. upper_limit (in_orders l) c.args.p.now) same)

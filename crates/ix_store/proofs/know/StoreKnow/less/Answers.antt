@@ -10,5 +10,5 @@ pub returns-in-Some-clause-bound : goal.returns-in-Some-clause-bound
 returns-in-Some-clause-bound c =
     let i = c.in-Some.is in
     let is : stored c.args.self.now ≡ Reached (facts_in c.in-Some.known) = cc in
-    let same : c.list.result.now ≡ facts_seen c.args.self.now = c.list.ensures.facts ∙ (ap facts_in c.get.ensures ∙ sym (ap facts_or_none is)) in
+    let same : facts_in c.get.result.now ≡ facts_seen c.args.self.now = ap facts_in c.get.ensures ∙ sym (ap facts_or_none is) in
     c.less.ensures.bound ∙ ap (λ l. Some (less_bound (in_orders l) c.args.p.now c.args.q.now)) same

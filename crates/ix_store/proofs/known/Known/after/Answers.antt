@@ -1,42 +1,41 @@
-use Rattle.std.proofs.Common.{◌≡◌, ◌++◌, ap, sym, ◌∙◌}
+use Rattle.std.proofs.Common.{◌≡◌, ◌++◌, ap, sym}
 use Rattle.ix_facts.specs.Forget.{without}
 use Rattle.ix_facts.specs.After.{of_target}
 use Rattle.ix_six_tables.specs.Spared.{spared}
 use Rattle.ix_store.proofs.BehindRules.{after_is, after_have}
 use Rattle.ix_store.proofs.ClassesAfter.{right_have}
+use Rattle.ix_store.proofs.SmallNumbers.{all_classes}
 use Rattle.ix_store.specs.StoredFacts.{facts_in}
 use Rattle.ix_store.proofs.known.Known.after.Goals as goal
 
 -- Where no fact names the target, all facts are beside it.
-same-then : goal.returns-then-not-names_target-clause-facts
+same-then : goal.returns-then-can_be_read-clause-facts
 same-then c =
     let known = facts_in c.args.self.now in
     let kind = c.args.kind.now in
-    let list = c.list-list.result.now in
     let new = c.in_ok-new.new.items in
-    let rest : list ≡ without (of_target kind) known =
-    sym (spared (of_target kind) list (sym c.names_target.ensures.named ∙ c.if-not-names_target.true)) ∙ ap (without (of_target kind)) c.list-list.ensures.facts in
-    after_is known list new (without (of_target kind) known ++ new) c.args.profile kind rest c.in_ok-new.ensures.facts (ap (λ l. l ++ new) (sym rest))
+    let rest : known ≡ without (of_target kind) known = sym (spared (of_target kind) known (c.can_be_read.ensures.unchanged c.if-can_be_read.true)) in
+    after_is known known new (without (of_target kind) known ++ new) c.args.profile kind rest c.in_ok-new.ensures.facts (ap (λ l. l ++ new) (sym rest))
 
-pub returns-then-not-names_target-clause-facts : goal.returns-then-not-names_target-clause-facts
-returns-then-not-names_target-clause-facts = same-then
+pub returns-then-can_be_read-clause-facts : goal.returns-then-can_be_read-clause-facts
+returns-then-can_be_read-clause-facts = same-then
 
-pub returns-then-not-names_target-clause-classes : goal.returns-then-not-names_target-clause-classes
-returns-then-not-names_target-clause-classes c =
+pub returns-then-can_be_read-clause-classes : goal.returns-then-can_be_read-clause-classes
+returns-then-can_be_read-clause-classes c =
     let known = facts_in c.args.self.now in
     let kind = c.args.kind.now in
     let rest = without (of_target kind) known in
     let new = c.in_ok-new.new.items in
-    right_have rest new (after_have known (rest ++ new) c.args.profile kind (same-then c) c.list-list.ensures.classes)
+    right_have rest new (after_have known (rest ++ new) c.args.profile kind (same-then c) (all_classes c.args.self.now.tables))
 
 same : goal.returns-clause-facts
 same c =
     let known = facts_in c.args.self.now in
     let kind = c.args.kind.now in
-    let beside = c.in_ok-beside.beside in
+    let list = c.in_ok-list.list in
     let new = c.in_ok-new-2.new.items in
-    let rest : beside ≡ without (of_target kind) known = c.in_ok-beside.ensures.facts ∙ ap (without (of_target kind)) c.list-list.ensures.facts in
-    after_is known beside new (without (of_target kind) known ++ new) c.args.profile kind rest c.in_ok-new-2.ensures.facts (ap (λ l. l ++ new) (sym rest))
+    let rest : list ≡ without (of_target kind) known = c.in_ok-list.ensures.facts in
+    after_is known list new (without (of_target kind) known ++ new) c.args.profile kind rest c.in_ok-new-2.ensures.facts (ap (λ l. l ++ new) (sym rest))
 
 pub returns-clause-facts : goal.returns-clause-facts
 returns-clause-facts = same
@@ -47,4 +46,4 @@ returns-clause-classes c =
     let kind = c.args.kind.now in
     let rest = without (of_target kind) known in
     let new = c.in_ok-new-2.new.items in
-    right_have rest new (after_have known (rest ++ new) c.args.profile kind (same c) c.list-list.ensures.classes)
+    right_have rest new (after_have known (rest ++ new) c.args.profile kind (same c) (all_classes c.args.self.now.tables))

@@ -1,0 +1,33 @@
+-- Of the ranges and classes that name a path, and of the differences and lengths, those on it are all.
+use Rattle.std.specs.Prelude.{◌≡◌, Bool, nat_le, List, [], ◌∷◌, length, filter, refl}
+use Rattle.std.proofs.Common.{ap, ◌∙◌}
+use Rattle.ix_core.specs.declared.fact.Path.{Path}
+use Rattle.ix_core.specs.declared.fact.Fact.{Fact}
+use Rattle.ix_core.proofs.Cases.{by_test}
+use Rattle.ix_facts.specs.Bounds.{is_path}
+use Rattle.ix_facts.specs.Forget.{names}
+use Rattle.ix_bounds.specs.Ends.{is_end, ends_in}
+use Rattle.ix_bounds.specs.Links.{is_link, links_in}
+use Rattle.ix_path_index.specs.Grouped.{few, on_list}
+use Rattle.ix_path_index.specs.OnListLaws.{on_list_named}
+
+-- what two tests let through, one after the other, the first lets through
+filtered_twice : (is other : Fact → Bool) (facts : List Fact) → filter is (filter other (filter is facts)) ≡ filter other (filter is facts)
+filtered_twice is other [] = refl
+filtered_twice is other (fact ∷ facts) =
+    by_test (is fact)
+    (λ t. rw t (by_test (other fact) (λ u. rw u (rw t (ap (λ l. fact ∷ l) (filtered_twice is other facts)))) (λ u. rw u (filtered_twice is other facts))))
+    (λ t. rw t (filtered_twice is other facts))
+
+filtered_once : (is : Fact → Bool) (facts : List Fact) → filter is (filter is facts) ≡ filter is facts
+filtered_once is [] = refl
+filtered_once is (fact ∷ facts) = by_test (is fact) (λ t. rw t (rw t (ap (λ l. fact ∷ l) (filtered_once is facts)))) (λ t. rw t (filtered_once is facts))
+
+such_on : (is : Fact → Bool) (p : Path) (facts : List Fact) → filter is (on_list (filter is facts) p) ≡ on_list (filter is facts) p
+such_on is p facts = by_test (nat_le (length (filter is facts)) few) (λ t. rw t (filtered_once is facts)) (λ t. rw t (filtered_twice is (names (is_path p)) facts))
+
+pub ends_named : (p : Path) (facts : List Fact) → filter (names (is_path p)) (ends_in (on_list (ends_in facts) p)) ≡ filter (names (is_path p)) (ends_in facts)
+ends_named p facts = ap (filter (names (is_path p))) (such_on is_end p facts) ∙ on_list_named p (ends_in facts)
+
+pub links_named : (p : Path) (facts : List Fact) → filter (names (is_path p)) (links_in (on_list (links_in facts) p)) ≡ filter (names (is_path p)) (links_in facts)
+links_named p facts = ap (filter (names (is_path p))) (such_on is_link p facts) ∙ on_list_named p (links_in facts)

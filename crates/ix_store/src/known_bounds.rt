@@ -1,0 +1,153 @@
+//! The bounds that closed facts give, each by all facts in all their orders.
+
+use crate::known::Known;
+use ix_bounds::{self, Groups, Indexed};
+use ix_core::{Fact, Path, PathOff};
+use ix_facts::Know;
+use ix_six_tables::{count_facts, fact_at};
+
+impl Groups for Known {
+    ghost use Rattle.std.specs.Prelude.{refl, take, drop};
+    ghost use Rattle.ix_facts.specs.Facts.{in_orders};
+    ghost use Rattle.ix_store.specs.StoredFacts.{facts_in};
+    ghost use Rattle.ix_store.specs.KnownParts.{ends_named, links_named};
+
+    ghost all = { λ known. in_orders (facts_in known) };
+
+    ghost group = { λ known p. in_orders (facts_in known) };
+
+    fn on_path(&self, _p: &Path) -> &[Fact] {
+        &self.ordered
+    }
+
+    ghost ends = { λ known p. take known.ends known.ordered.items };
+
+    fn ends_on(&self, _p: &Path) -> &[Fact] {
+        let (ends, _) = self.ordered.split_at(self.ends);
+        ends
+    }
+
+    ghost links = { λ known p. drop known.from_links known.ordered.items };
+
+    fn links_on(&self, _p: &Path) -> &[Fact] {
+        let (_, links) = self.ordered.split_at(self.from_links);
+        links
+    }
+
+    ghost named = { λ known p. refl };
+
+    ghost named_ends = { ends_named };
+
+    ghost named_links = { links_named };
+
+    ghost only = { λ known p f i. i };
+}
+
+impl Know for Known {
+    ghost use Rattle.std.specs.Prelude.{[]};
+    ghost use Rattle.ix_facts.specs.Facts.{in_orders};
+    ghost use Rattle.ix_facts.specs.Exact.{named_ints, named_arrays};
+    ghost use Rattle.ix_fact_list.specs.ByPath.{put_all};
+    ghost use Rattle.ix_fact_list.specs.PutLaws.{put_once};
+    ghost use Rattle.ix_store.specs.StoredFacts.{facts_in};
+
+    ghost known = { facts_in };
+
+    ghost int_paths = { λ known. put_all [] (named_ints (in_orders (facts_in known))) };
+
+    ghost each_int = { λ known. put_once (named_ints (in_orders (facts_in known))) };
+
+    ghost array_paths = { λ known. put_all [] (named_arrays (in_orders (facts_in known))) };
+
+    ghost each_array = { λ known. put_once (named_arrays (in_orders (facts_in known))) };
+
+    fn facts(&self) -> u128 {
+        count_facts(&self.tables)
+    }
+
+    fn fact(&self, k: u128) -> Fact {
+        fact_at(&self.tables, k)
+    }
+
+    fn lo(&self, p: &Path) -> i64 {
+        ix_bounds::lower_bound(self, p)
+    }
+
+    fn hi(&self, p: &Path) -> i64 {
+        ix_bounds::upper_limit(self, p)
+    }
+
+    fn len_lo(&self, a: &Path) -> i64 {
+        ix_bounds::length_low(self, a)
+    }
+
+    fn len_hi(&self, a: &Path) -> i64 {
+        ix_bounds::length_high(self, a)
+    }
+
+    fn upper(&self, p: &Path, a: &Path, offset: &PathOff) -> Option<i64> {
+        ix_bounds::upper_bound(self, p, a, offset)
+    }
+
+    fn less(&self, p: &Path, q: &Path) -> Option<i64> {
+        Some(ix_bounds::less_bound(self, p, q))
+    }
+
+    fn difference(&self, p: &Path, q: &Path) -> Option<i64> {
+        ix_bounds::fact_less(self, p, q)
+    }
+
+    fn same(&self, a: &Path, b: &Path) -> bool {
+        ix_bounds::stored_same(self, a, b)
+    }
+
+    fn is_len(&self, p: &Path, a: &Path) -> bool {
+        ix_bounds::has_length(self, p, a)
+    }
+
+    fn search(&self, p: &Path, a: &Path) -> bool {
+        ix_bounds::has_search(self, p, a)
+    }
+
+    fn negative(&self, p: &Path, a: &Path) -> bool {
+        ix_bounds::has_negative(self, p, a)
+    }
+
+    fn ints(&self) -> u128 {
+        self.ints.len() as u128
+    }
+
+    fn int(&self, k: u128) -> Path {
+        self.ints[k as usize]
+    }
+
+    fn arrays(&self) -> u128 {
+        self.arrays.len() as u128
+    }
+
+    fn array(&self, k: u128) -> Path {
+        self.arrays[k as usize]
+    }
+}
+
+impl Indexed for Known {
+    ghost use Rattle.std.specs.Prelude.{refl};
+    ghost use Rattle.ix_facts.specs.Facts.{in_orders};
+    ghost use Rattle.ix_store.specs.StoredFacts.{facts_in};
+
+    ghost on_path = { λ known p. in_orders (facts_in known) };
+
+    fn on(&self, _p: &Path) -> &[Fact] {
+        &self.ordered
+    }
+
+    fn int_list(&self) -> &[Path] {
+        &self.ints
+    }
+
+    fn array_list(&self) -> &[Path] {
+        &self.arrays
+    }
+
+    ghost each_named = { λ known p. refl };
+}
