@@ -10,7 +10,7 @@ ghost use Rattle.ix_limits.specs.Shown.{IsFine, shown};
 
 use crate::passed::Passed;
 use ix_annot::{MOST_CLAIMS, counted};
-use ix_meaning::Which;
+use ix_meaning::{Which, same_span};
 use ix_text::Boxed;
 use ix_tree::{Annot, ClassDecl, LocalDecl, Member, MethodDecl, Stmt, StmtKind, TypeTree};
 
@@ -157,11 +157,7 @@ fn is_further(first: Option<&LocalDecl>, decl: &LocalDecl) -> bool
 {
     match first {
         None => false,
-        Some(first) => {
-            let begun = first.ty.get().span;
-            let span = decl.ty.get().span;
-            begun.from == span.from && begun.to == span.to
-        }
+        Some(first) => same_span(first.ty.get().span, decl.ty.get().span),
     }
 }
 

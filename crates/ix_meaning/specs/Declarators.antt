@@ -1,11 +1,11 @@
 -- The declarators of one declaration (JLS 8.3, 14.4): its annotations stand for all of them.
-use Rattle.std.specs.Prelude.{ℕ, ◌==◌, nat_lt, Bool, false, ◌&&◌, if◌then◌else◌, Option, Some, None, List, [], ◌∷◌, map, filter}
-use Rattle.ix_text.specs.declared.span.Span.{Span}
+use Rattle.std.specs.Prelude.{ℕ, nat_lt, Bool, false, if◌then◌else◌, Option, Some, None, List, [], ◌∷◌, map, filter}
 use Rattle.ix_annot.specs.Annot.{Annot}
 use Rattle.ix_annot.specs.LocalDecl.{LocalDecl}
 use Rattle.ix_annot.specs.Member.{Member}
 use Rattle.ix_annot.specs.Member.TheVariants as member
 use Rattle.ix_annot.specs.Table.{counted}
+use Rattle.ix_meaning.specs.Listed.{same_span}
 
 -- An annotation that counts no claim claims nothing, whatever it stands on, and what is wrong with it depends on no name.
 abbrev pub counting : List Annot → List Annot
@@ -29,13 +29,10 @@ declarators (d ∷ ds) = d ∷ map (further d) ds
 
 -- ---- fields: a declaration gives one for each declarator, and these have one type, at one place
 
-abbrev pub is_same_place : Span → Span → Bool
-is_same_place a b = a.from == b.from && a.to == b.to
-
 -- whether a field is a further one of the declaration that began with this one
 abbrev pub is_further : Option LocalDecl → LocalDecl → Bool
 is_further None d = false
-is_further (Some first) d = is_same_place first.ty.span d.ty.span
+is_further (Some first) d = same_span first.ty.span d.ty.span
 
 abbrev pub annots_before : Option LocalDecl → LocalDecl → List Annot
 annots_before None d = d.mods.annots

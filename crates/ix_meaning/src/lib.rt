@@ -8,9 +8,11 @@
 
 mod members;
 mod note;
+mod span;
 
 pub use ix_annot::{
     AnnotError, Found, Names, Naming, Target, counted, expand, is_of_method, row_named, same_claim,
 };
 pub use members::{Field, Signature};
 pub use note::{Declared, Meaning, NameError, NameErrors, Note, Rule, Which};
+pub use span::same_span;

@@ -5,7 +5,8 @@ ghost use Rattle.ix_meaning.specs.Declarators as spec;
 ghost use Rattle.ix_written.specs.Begun.{Begins, AllBegin, first_shown};
 
 use crate::part::{Part, gathered};
-use ix_text::{List, Span};
+use ix_meaning::same_span;
+use ix_text::List;
 use ix_tree::{Annot, LocalDecl};
 use std::alloc::{AllocError, Global};
 
@@ -80,12 +81,6 @@ pub fn further_annotations<'a>(
     Ok(Annotations { before, behind })
 }
 
-fn is_same_place(a: Span, b: Span) -> bool
-    ensures { result ≡ spec.is_same_place a b }
-{
-    a.from == b.from && a.to == b.to
-}
-
 /// Those of a field behind one of a declaration that began so, or behind none.
 pub fn field_annotations<'a>(
     alloc: Global,
@@ -99,7 +94,7 @@ pub fn field_annotations<'a>(
     match begun {
         None => own_annotations(alloc, decl),
         Some(begun) => {
-            if is_same_place(begun.first.ty.get().span, decl.ty.get().span) {
+            if same_span(begun.first.ty.get().span, decl.ty.get().span) {
                 return further_annotations(alloc, begun, decl);
             }
             own_annotations(alloc, decl)
@@ -120,7 +115,7 @@ pub fn declaration_of<'a>(
     match begun {
         None => Ok(Some(begin_with(alloc, decl)?)),
         Some(begun) => {
-            if is_same_place(begun.first.ty.get().span, decl.ty.get().span) {
+            if same_span(begun.first.ty.get().span, decl.ty.get().span) {
                 return Ok(Some(begun));
             }
             Ok(Some(begin_with(alloc, decl)?))
