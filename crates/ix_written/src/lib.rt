@@ -1,7 +1,8 @@
 //! Types and claims as declarations write them.
 //!
-//! What goes in: the annotations and the type of a declaration. What comes out: its type and its claims, and what is noted of them.
-//! The contract: `Annotated` of `ix_meaning`.
+//! What goes in: the declarators of a declaration, its annotations and its type. What comes out: which annotations each declarator has, its
+//! type and its claims, and what is noted of them.
+//! The contract: `Declarators` of `ix_meaning`, kept by `declarators.rt`, and `Annotated`, kept by the other files.
 //! It stands on the annotations of `ix_annot` and on the definitions of `ix_meaning`.
 //! It never looks at a member or at a body.
 #![tactic(auto)]
