@@ -2,3 +2,4 @@ pub mod Equations
 pub mod Rows
 pub mod SmallRows
 pub mod DeclaratorNumbers
+pub mod ErrorLists

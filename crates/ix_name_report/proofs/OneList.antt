@@ -1,32 +1,8 @@
 -- Of the errors on names one list alone is listed.
-use Rattle.std.proofs.Common.{zero, suc, length, slice_index_or, ◌≡◌, ℕ, ◌<◌, ◌⊎◌, inl, inr, List, [], ◌∷◌, refl, sym, ◌∙◌, ap, subst, arith}
-use Rattle.std.specs.List.{Contains, AllByRecursion}
+use Rattle.std.proofs.Common.{length, ◌≡◌, inl, inr, List, [], ◌∷◌, refl, sym, ◌∙◌, ap, subst, arith}
 use Rattle.ix_meaning.specs.declared.note.NameError.{NameError}
 use Rattle.ix_meaning.specs.Listed.{IsBefore, Rises, IsListed}
-
--- ---- members
-
-abbrev In : NameError → List NameError → Type 0
-In x [] = ⊥
-In x (y ∷ ys) = (x ≡ y) ⊎ In x ys
-
-in_at : (xs : List NameError) (x : NameError) (k : ℕ) → k < length xs → slice_index_or xs k x ≡ x → In x xs
-in_at [] x k l e = absurd (omega arith)
-in_at (y ∷ ys) x zero l e = inl (sym e)
-in_at (y ∷ ys) x (suc k) l e = inr (in_at ys x k (omega arith) e)
-
-to_in : (xs : List NameError) (x : NameError) → Contains xs x → In x xs
-to_in xs x c = in_at xs x c.0 c.1 c.2
-
-from_in : (xs : List NameError) (x : NameError) → In x xs → Contains xs x
-from_in [] x h = absurd h
-from_in (y ∷ ys) x (inl h) = (0, omega arith, sym h)
-from_in (y ∷ ys) x (inr h) = let c = from_in ys x h in (suc c.0, omega arith, c.2)
-
-all_in : (P : NameError → Type 0) (xs : List NameError) (x : NameError) → AllByRecursion P xs → In x xs → P x
-all_in P [] x all h = absurd h
-all_in P (y ∷ ys) x all (inl h) = subst P (sym h) all.0
-all_in P (y ∷ ys) x all (inr h) = all_in P ys x all.1 h
+use Rattle.ix_meaning.proofs.ErrorLists.{In, to_in, from_in, of_all}
 
 -- ---- the order
 
@@ -50,13 +26,13 @@ same_rising (x ∷ xs) [] rx ry there back = absurd (there x (inl refl))
 same_rising (x ∷ xs) (y ∷ ys) rx ry there back =
     let same = heads (there x (inl refl)) (back y (inl refl)) in
     cons same (same_rising xs ys rx.1 ry.1
-    (λ w h. later y ys w (subst (λ v. IsBefore v w) same (all_in (IsBefore x) xs w rx.0 h)) (there w (inr h)))
-    (λ w h. later x xs w (subst (λ v. IsBefore v w) (sym same) (all_in (IsBefore y) ys w ry.0 h)) (back w (inr h))))
+    (λ w h. later y ys w (subst (λ v. IsBefore v w) same (of_all (IsBefore x) xs w rx.0 h)) (there w (inr h)))
+    (λ w h. later x xs w (subst (λ v. IsBefore v w) (sym same) (of_all (IsBefore y) ys w ry.0 h)) (back w (inr h))))
   where
     heads : In x (y ∷ ys) → In y (x ∷ xs) → x ≡ y
     heads (inl h) k = h
     heads (inr h) (inl k) = sym k
-    heads (inr h) (inr k) = absurd (not_both x y (all_in (IsBefore x) xs y rx.0 k) (all_in (IsBefore y) ys x ry.0 h))
+    heads (inr h) (inr k) = absurd (not_both x y (of_all (IsBefore x) xs y rx.0 k) (of_all (IsBefore y) ys x ry.0 h))
 
     apart : (v w : NameError) → IsBefore v w → w ≡ v → ⊥
     apart v w before same = not_before_itself v (subst (IsBefore v) same before)

@@ -5,7 +5,8 @@ use Rattle.std.proofs.lemmas.Bool.{cases_lt}
 use Rattle.std.proofs.lemmas.Bool.Decides.{nat_tests}
 use Rattle.ix_meaning.specs.declared.note.NameError.{NameError}
 use Rattle.ix_meaning.specs.Listed.{order, same_span, IsBefore, Rises, IsListed, is_same, goes_before, insert, listed}
-use Rattle.ix_table.proofs.SortedErrors.{In, same_error, to_in, from_in, before_trans}
+use Rattle.ix_meaning.proofs.ErrorLists.{In, to_in, from_in, of_all}
+use Rattle.ix_table.proofs.SortedErrors.{same_error, before_trans}
 
 -- ---- of two errors one goes before the other, or they are one
 
@@ -115,11 +116,6 @@ inserted e (y ∷ ys) = by (placed e y) (inserted e ys)
 all_in : (P : NameError → Type 0) (xs : List NameError) → ((x : NameError) → In x xs → P x) → AllByRecursion P xs
 all_in P [] each = tt
 all_in P (x ∷ xs) each = (each x (inl refl), all_in P xs (λ y h. each y (inr h)))
-
-of_all : (P : NameError → Type 0) (xs : List NameError) (x : NameError) → AllByRecursion P xs → In x xs → P x
-of_all P [] x all h = absurd h
-of_all P (y ∷ ys) x all (inl h) = subst P (sym h) all.0
-of_all P (y ∷ ys) x all (inr h) = of_all P ys x all.1 h
 
 all_behind : (e y : NameError) (ys : List NameError) → IsBefore e y → AllByRecursion (IsBefore y) ys → AllByRecursion (IsBefore e) ys
 all_behind e y ys first all = all_in (IsBefore e) ys (λ x h. before_trans e y x first (of_all (IsBefore y) ys x all h))

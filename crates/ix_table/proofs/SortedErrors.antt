@@ -1,5 +1,5 @@
 -- Errors that are sorted by start, rule and end are listed once each run of equal ones has only its first.
-use Rattle.std.proofs.Common.{zero, suc, length, slice_index_or, ◌≡◌, ℕ, ◌+◌, ◌<◌, ◌==◌, ◌&&◌, ◌⊎◌, inl, inr, Bool, true, false, cond, Some, List, [], ◌∷◌, refl, sym, ◌∙◌, ap, subst, arith, slice_get}
+use Rattle.std.proofs.Common.{suc, length, slice_index_or, ◌≡◌, ℕ, ◌+◌, ◌<◌, ◌==◌, ◌&&◌, ◌⊎◌, inl, inr, Bool, true, false, cond, Some, List, [], ◌∷◌, refl, sym, ◌∙◌, ap, subst, arith, slice_get}
 use Rattle.std.specs.List.{Contains, AllByRecursion, dedup, dedup_from}
 use Rattle.std.specs.List.Sorted.{IsPermutation, IsSortedBy}
 use Rattle.std.specs.Ordering.{nat_cmp, ordering_then, MatchOrdering, is_lt}
@@ -12,6 +12,7 @@ use Rattle.ix_meaning.specs.declared.note.NameError.{NameError}
 use Rattle.ix_meaning.specs.declared.note.Rule.{Rule}
 use Rattle.ix_meaning.specs.declared.note.Rule.TheVariants as rule
 use Rattle.ix_meaning.specs.Listed.{order, IsBefore, Rises, IsListed}
+use Rattle.ix_meaning.proofs.ErrorLists.{In, to_in, from_in}
 
 -- ---- the order of the rules tells them apart
 
@@ -158,11 +159,6 @@ alike x y h =
     same_error y x (keys_same y.span.from x.span.from (order y.rule) (order x.rule) y.span.to x.span.to
     (y.span.from == x.span.from) (order y.rule == order x.rule) (y.span.to == x.span.to) refl refl refl h)
 
--- x is an element of xs, by recursion
-abbrev pub In : NameError → List NameError → Type 0
-In x [] = ⊥
-In x (y ∷ ys) = (x ≡ y) ⊎ In x ys
-
 record Later (x : NameError) (zs ys : List NameError) : Type 0 where
   above : AllByRecursion (IsBefore x) ys
   rises : Rises ys
@@ -170,7 +166,6 @@ record Later (x : NameError) (zs ys : List NameError) : Type 0 where
   has_all : (e : NameError) → In e zs → In e (x ∷ ys)
 
 drop_one : (x y : NameError) (ys : List NameError) → same_key y x ≡ true → Later x ys (later x ys) → Later x (y ∷ ys) (later x ys)
-unfolding In
 drop_one x y ys b l = record {
   above = l.above;
   rises = l.rises;
@@ -183,7 +178,6 @@ drop_one x y ys b l = record {
     has_too e (inr h) = l.has_all e h
 
 keep_one : (x y : NameError) (ys : List NameError) → same_key y x ≡ false → NotAfter x y → Later y ys (later y ys) → Later x (y ∷ ys) (y ∷ later y ys)
-unfolding In
 keep_one x y ys b lt m =
     let before : IsBefore x y = apart x y b lt in
     record {
@@ -207,29 +201,14 @@ step x y ys true b lt l m = drop_one x y ys b l
 step x y ys false b lt l m = keep_one x y ys b lt m
 
 later_is : (x : NameError) (zs : List NameError) → AllByRecursion (NotAfter x) zs → Sorted zs → Later x zs (later x zs)
-unfolding Sorted In later
+unfolding Sorted later
 later_is x [] a s = record { above = tt; rises = tt; found = λ y h. h; has_all = λ e h. absurd h }
 later_is x (y ∷ ys) a s = step x y ys (same_key y x) refl a.0 (later_is x ys a.1 s.1) (later_is y ys s.0 s.1)
 
 -- ---- the list
 
-pub in_at : (xs : List NameError) (x : NameError) (k : ℕ) → k < length xs → slice_index_or xs k x ≡ x → In x xs
-unfolding In
-in_at [] x k l e = absurd (omega arith)
-in_at (y ∷ ys) x zero l e = inl (sym e)
-in_at (y ∷ ys) x (suc k) l e = inr (in_at ys x k (omega arith) e)
-
-pub from_in : (xs : List NameError) (x : NameError) → In x xs → Contains xs x
-unfolding In
-from_in [] x h = absurd h
-from_in (y ∷ ys) x (inl h) = (0, omega arith, sym h)
-from_in (y ∷ ys) x (inr h) = let c = from_in ys x h in (suc c.0, omega arith, c.2)
-
-pub to_in : (xs : List NameError) (x : NameError) → Contains xs x → In x xs
-to_in xs x c = in_at xs x c.0 c.1 c.2
-
 once_listed : (sorted : List NameError) → Sorted sorted → IsListed sorted (dedup same_key sorted)
-unfolding Sorted In
+unfolding Sorted
 once_listed [] s = record { rises = tt; found = λ y h. h; all = λ e h. h }
 once_listed (x ∷ zs) s =
     let l = later_is x zs s.0 s.1 in
