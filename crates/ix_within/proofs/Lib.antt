@@ -1,0 +1,16 @@
+mod Paths
+mod Lists
+mod Operations
+mod Stored
+mod After
+mod Tests
+mod Closing
+mod Cut
+mod Fitting
+mod Mapped
+mod Typed
+mod Claims
+mod Inside
+mod Declared
+mod LabelsWithin
+mod Rows

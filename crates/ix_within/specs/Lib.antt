@@ -1,0 +1,2 @@
+-- Stores that speak of certain paths alone.
+pub mod Within
