@@ -2,3 +2,4 @@ pub mod Reach
 pub mod Opened
 pub mod Free
 pub mod Rooms
+pub mod Outer

@@ -31,8 +31,8 @@ popped stack places None is = (omega (arith, ap (reach 0) is.1), omega (arith, a
 popped stack places (Some place) is =
     (omega (arith, stack.fits, ap (reach 0) is, reach-snoc 0 places.items place), omega (arith, stack.passes, ap most_values is, values-snoc places.items place))
 
-pub popped_free : (stack : Stack) (places : Vec Place Global) (place : Place) → stack.places.items ≡ places.items ++ place ∷ [] → IsFree (length places.items) stack.room place
+pub popped_free : (stack : Stack) (places : List Place) (place : Place) → stack.places.items ≡ places ++ place ∷ [] → IsFree (length places) stack.room place
 popped_free stack places place is = record {
-  above = omega (arith, stack.fits, ap (reach 0) is, reach-snoc 0 places.items place);
-  values = omega (arith, stack.passes, ap most_values is, values-snoc places.items place);
+  above = omega (arith, stack.fits, ap (reach 0) is, reach-snoc 0 places place);
+  values = omega (arith, stack.passes, ap most_values is, values-snoc places place);
 }

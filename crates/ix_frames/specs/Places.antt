@@ -1,5 +1,5 @@
 -- What open places in the code stand for.
-use Rattle.std.specs.Prelude.{◌<◌, List, length, [], ◌∷◌, reverse, Bool, if◌then◌else◌}
+use Rattle.std.specs.Prelude.{ℕ, ◌-◌, ◌<◌, List, length, [], ◌∷◌, reverse, take, Bool, if◌then◌else◌}
 use Rattle.ix_core.specs.Code.{Code, Condition, items_code, cond_code}
 use Rattle.ix_core.specs.Tasks.{Tasks, Empty, Ask, Decide, DecideTruth, Head, Again, Out, code_then}
 use Rattle.ix_frames.specs.declared.places.Turn.{Turn}
@@ -70,3 +70,16 @@ IsTask (place.BothLeft cond) = ⊥
 IsTask (place.EitherLeft cond) = ⊥
 IsTask place.Not = ⊥
 IsTask _ = Unit {0}
+
+-- the places outside the innermost
+abbrev pub outer : List Place → List Place
+outer places = take (length places - 1) places
+
+-- The places outside of one that is done, of those that are open then: what is left of a block stays open.
+abbrev pub around : Place → List Place → List Place
+around (place.Rest items) places = outer places
+around _ places = places
+
+abbrev pub StaysOpen : Place → ℕ → Type 0
+StaysOpen (place.Rest items) count = 0 < count
+StaysOpen _ count = Unit {0}

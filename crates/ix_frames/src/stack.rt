@@ -4,7 +4,7 @@ ghost use Rattle.ix_core.specs.Code.{cond_code, items_code, End, If, Loop};
 ghost use Rattle.ix_core.specs.Machine.{step_condition};
 ghost use Rattle.ix_core.specs.Tasks.{Empty, Ask, code_then, behind_loop, next_turn, followed_by};
 ghost use Rattle.ix_frames.specs.declared.places.Place.TheVariants as place;
-ghost use Rattle.ix_frames.specs.Places.{IsTask, tasks_open, tasks_of, branches_of, loop_tasks, again_of, head_of};
+ghost use Rattle.ix_frames.specs.Places.{IsTask, StaysOpen, around, outer, tasks_open, tasks_of, branches_of, loop_tasks, again_of, head_of};
 ghost use Rattle.ix_frames.specs.Fits.{reach, most_values, IsFree, IsFreeFor, turn_above, turn_values};
 
 use crate::places::{Place, Turn};
@@ -43,7 +43,7 @@ impl<'p> Stack<'p> {
         push_place(&mut self.places, place);
     }
 
-    /// Closes the innermost place.
+    /// Takes the innermost place away.
     #[inline(always)]
     fn pop(&mut self) -> Option<Place<'p>>
         ensures items { MatchOption result (self.old.places.items ≡ []) (λ place. self.old.places.items ≡ self.new.places.items ++ place ∷ []) }
@@ -67,32 +67,70 @@ impl<'p> Stack<'p> {
         self.put(Place::Rest(body));
     }
 
-    /// The innermost task, which is closed; none where nothing is left to do.
-    pub fn next(&mut self) -> Option<Place<'p>>
-        ensures tasks { MatchOption result (tasks_open self.old.places.items ≡ Empty)
-            (λ place. IsTask place × (tasks_open self.old.places.items ≡ tasks_of (place ∷ reverse self.new.places.items))) }
-        ensures none { IfNone result (self.new.places.items ≡ []) }
-        ensures free { IfSome result (λ place. IsFree (length self.new.places.items) self.new.room place) }
+    /// The innermost place, if there is one.
+    #[inline(always)]
+    fn innermost(&self) -> Option<Place<'p>>
+        ensures items { MatchOption result (self.now.places.items ≡ []) (λ place. self.now.places.items ≡ outer self.now.places.items ++ place ∷ []) }
+        ensures free { IfSome result (λ place. IsFree (length (outer self.now.places.items)) self.now.room place) }
+    {
+        match last_of(&self.places) {
+            Some(place) => Some(place),
+            None => None,
+        }
+    }
+
+    /// Closes the innermost place, if there is one.
+    #[inline(always)]
+    pub fn close(&mut self)
+        ensures items { self.new.places.items ≡ outer self.old.places.items }
         ensures room { self.new.room ≡ self.old.room }
     {
-        while let Some(place) = self.pop() {
+        pop_place(&mut self.places);
+    }
+
+    /// Goes on with the rest of a block in place of the innermost place.
+    #[inline(always)]
+    pub fn go_on(&mut self, rest: &'p [Item])
+        requires some { 0 < length self.old.places.items }
+        requires free { IsFree (length (outer self.old.places.items)) self.old.room (place.Rest rest) }
+        ensures tasks { tasks_open self.new.places.items ≡ code_then (items_code rest.now) (tasks_open (outer self.old.places.items)) }
+        ensures room { self.new.room ≡ self.old.room }
+    {
+        replace_last(&mut self.places, Place::Rest(rest));
+    }
+
+    /// The innermost task, which is closed, but for what is left of a block; none where nothing is left to do.
+    #[inline(always)]
+    pub fn next(&mut self) -> Option<Place<'p>>
+        ensures tasks { MatchOption result (tasks_open self.old.places.items ≡ Empty)
+            (λ place. IsTask place × (tasks_open self.old.places.items ≡ tasks_of (place ∷ reverse (around place self.new.places.items)))) }
+        ensures none { IfNone result (self.new.places.items ≡ []) }
+        ensures open { IfSome result (λ place. StaysOpen place (length self.new.places.items)) }
+        ensures free { IfSome result (λ place. IsFree (length (around place self.new.places.items)) self.new.room place) }
+        ensures room { self.new.room ≡ self.old.room }
+    {
+        while let Some(place) = self.innermost() {
             match place {
                 Place::Rest(items) => {
                     if !items.is_empty() {
                         return Some(place);
                     }
+                    self.close();
                 }
                 Place::Ask(_)
                 | Place::Decide(_)
                 | Place::DecideTruth(_)
                 | Place::Head(_)
                 | Place::Again(_)
-                | Place::Out => return Some(place),
+                | Place::Out => {
+                    self.close();
+                    return Some(place);
+                }
                 Place::Branch(_, _)
                 | Place::Enter(_)
                 | Place::BothLeft(_)
                 | Place::EitherLeft(_)
-                | Place::Not => {}
+                | Place::Not => self.close(),
             }
         }
         None
@@ -269,7 +307,31 @@ fn push_place<'p>(places: &mut Vec<Place<'p>>, place: Place<'p>)
 #[inline(always)]
 fn pop_place<'p>(places: &mut Vec<Place<'p>>) -> Option<Place<'p>>
     ensures items { MatchOption result ((places.old.items ≡ []) × (places.new.items ≡ [])) (λ place. places.old.items ≡ places.new.items ++ place ∷ []) }
+    ensures rest { places.new.items ≡ outer places.old.items }
     ensures room { vec_capacity places.old ≤ vec_capacity places.new }
 {
     places.pop()
+}
+
+/// The last place, if there is one.
+#[inline(always)]
+fn last_of<'p>(places: &Vec<Place<'p>>) -> Option<Place<'p>>
+    ensures items { MatchOption result (places.now.items ≡ []) (λ place. places.now.items ≡ outer places.now.items ++ place ∷ []) }
+{
+    let count = places.len();
+    if count == 0 {
+        return None;
+    }
+    Some(places[count - 1])
+}
+
+/// Puts a place in the last one's stead.
+#[inline(always)]
+fn replace_last<'p>(places: &mut Vec<Place<'p>>, place: Place<'p>)
+    requires { 0 < length places.old.items }
+    ensures items { places.new.items ≡ outer places.old.items ++ place.entry ∷ [] }
+    ensures room { vec_capacity places.old ≤ vec_capacity places.new }
+{
+    let last = places.len() - 1;
+    places[last] = place;
 }

@@ -1,5 +1,5 @@
 -- What the machine's step is at a choice and at a loop, and the room that these need.
-use Rattle.std.proofs.Common.{◌≡◌, ℕ, ◌+◌, ◌≤◌, Bool, true, false, List, if◌then◌else◌, refl, ap, sym, ◌∙◌, subst}
+use Rattle.std.proofs.Common.{◌≡◌, ℕ, ◌+◌, ◌≤◌, Bool, true, false, List, if◌then◌else◌, refl, ap, sym, ◌∙◌, subst, arith}
 use Rattle.std.specs.Borrow.{Bor}
 use Rattle.ix_core.specs.declared.code.Block.{Block}
 use Rattle.ix_core.specs.declared.code.Cond.{Cond}
@@ -21,6 +21,13 @@ pub free_for : {below : ℕ} {room : Room} {items : Bor (List Item)} {code : Cod
 free_for {below} {room} {items} {code} free is = record {
   above = subst (λ (c : Code). below + 1 + code_above c ≤ room.places) is free.above;
   values = subst (λ (c : Code). code_values c ≤ room.values) is free.values;
+}
+
+-- the same room, as many places below
+pub free_for_at : {below more : ℕ} {room new : Room} {code : Code} → IsFreeFor below room code → new ≡ room → more ≡ below → IsFreeFor more new code
+free_for_at {below} {more} {room} {new} {code} free is count = record {
+  above = omega (arith, free.above, count, ap (λ (r : Room). r.places) is);
+  values = omega (arith, free.values, ap (λ (r : Room). r.values) is);
 }
 
 pub if_code : (items : Code) (statement : Item) (asked : Cond) (first second : Block) (rest : Code) → items ≡ item_code statement rest → statement ≡ item.If asked first second

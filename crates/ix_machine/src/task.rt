@@ -12,7 +12,7 @@ ghost use Rattle.ix_heap.specs.Rows.{held_of};
 ghost use Rattle.ix_heap.specs.View.{heap_of};
 ghost use Rattle.ix_frames.specs.Frames.{slots_of};
 ghost use Rattle.ix_frames.specs.Fits.{IsFree, IsFreeFor};
-ghost use Rattle.ix_frames.specs.Places.{tasks_open, loop_tasks};
+ghost use Rattle.ix_frames.specs.Places.{outer, tasks_open, loop_tasks};
 ghost use Rattle.ix_frames.specs.declared.places.Place.TheVariants as place;
 ghost use Rattle.ix_machine.specs.Moves.{move_of, KeepsValues, IsBack, IsCall};
 
@@ -120,36 +120,38 @@ fn do_op<'p>(
     items: &'p [Item],
     rest: &'p [Item],
 ) -> Move<'p>
-    requires free { IsFree (length frame.old.stack.places.items) frame.old.stack.room (place.Rest items) }
-    requires left { IsFree (length frame.old.stack.places.items) frame.old.stack.room (place.Rest rest) }
+    requires open { 0 < length frame.old.stack.places.items }
+    requires free { IsFree (length (outer frame.old.stack.places.items)) frame.old.stack.room (place.Rest items) }
+    requires left { IsFree (length (outer frame.old.stack.places.items)) frame.old.stack.room (place.Rest rest) }
     requires first { items_code items.now ≡ Do op.now (items_code rest.now) }
-    ensures moved { (frames : ℕ) → step_code (with_limits heap.old.most frames) (tables_of rows.now.program.now) (slots_of frame.old) (heap_of heap.old) (Do op.now (items_code rest.now)) (tasks_open frame.old.stack.places.items)
+    ensures moved { (frames : ℕ) → step_code (with_limits heap.old.most frames) (tables_of rows.now.program.now) (slots_of frame.old) (heap_of heap.old) (Do op.now (items_code rest.now)) (tasks_open (outer frame.old.stack.places.items))
         ≡ move_of result (tasks_open frame.new.stack.places.items) (slots_of frame.new) (heap_of heap.new) }
     ensures values { KeepsValues result → (slots_of frame.new ≡ slots_of frame.old) × (heap_of heap.new ≡ heap_of heap.old) }
-    ensures back { IsBack result → tasks_open frame.new.stack.places.items ≡ code_then (items_code items.now) (tasks_open frame.old.stack.places.items) }
-    ensures call { IsCall result frame.new.stack.room (tasks_open frame.new.stack.places.items) (code_then (items_code items.now) (tasks_open frame.old.stack.places.items)) (length frame.new.stack.places.items) }
+    ensures back { IsBack result → tasks_open frame.new.stack.places.items ≡ code_then (items_code items.now) (tasks_open (outer frame.old.stack.places.items)) }
+    ensures call { IsCall result frame.new.stack.room (tasks_open frame.new.stack.places.items) (code_then (items_code items.now) (tasks_open (outer frame.old.stack.places.items))) (length frame.new.stack.places.items) }
     ensures method { frame.new.method ≡ frame.old.method }
     ensures room { frame.new.stack.room ≡ frame.old.stack.room }
     ensures most { heap.new.most ≡ heap.old.most }
 {
     if let Some(call) = call_in(&op.kind) {
+        frame.stack.close();
         return Move::Enter(call, op.span.from, items, rest);
     }
     match operate(rows, frame, heap, op) {
         Done::Done => {
-            frame.stack.put(Place::Rest(rest));
+            frame.stack.go_on(rest);
             Move::Went
         }
         Done::Wrapped => {
-            frame.stack.put(Place::Rest(rest));
+            frame.stack.go_on(rest);
             Move::Wrapped
         }
         Done::Printed(value) => {
-            frame.stack.put(Place::Rest(rest));
+            frame.stack.go_on(rest);
             Move::Printed(value)
         }
         Done::Stopped(outcome) => {
-            frame.stack.put(Place::Rest(items));
+            frame.stack.go_on(items);
             Move::Stopped(outcome)
         }
     }
@@ -204,13 +206,14 @@ fn run_item<'p>(
     items: &'p [Item],
     rest: &'p [Item],
 ) -> Move<'p>
-    requires free { IsFree (length frame.old.stack.places.items) frame.old.stack.room (place.Rest items) }
+    requires open { 0 < length frame.old.stack.places.items }
+    requires free { IsFree (length (outer frame.old.stack.places.items)) frame.old.stack.room (place.Rest items) }
     requires first { items_code items.now ≡ item_code item.now (items_code rest.now) }
-    ensures moved { (frames : ℕ) → step_tasks (with_limits heap.old.most frames) (tables_of rows.now.program.now) (slots_of frame.old) (heap_of heap.old) (code_then (items_code items.now) (tasks_open frame.old.stack.places.items))
+    ensures moved { (frames : ℕ) → step_tasks (with_limits heap.old.most frames) (tables_of rows.now.program.now) (slots_of frame.old) (heap_of heap.old) (code_then (items_code items.now) (tasks_open (outer frame.old.stack.places.items)))
         ≡ move_of result (tasks_open frame.new.stack.places.items) (slots_of frame.new) (heap_of heap.new) }
     ensures values { KeepsValues result → (slots_of frame.new ≡ slots_of frame.old) × (heap_of heap.new ≡ heap_of heap.old) }
-    ensures back { IsBack result → tasks_open frame.new.stack.places.items ≡ code_then (items_code items.now) (tasks_open frame.old.stack.places.items) }
-    ensures call { IsCall result frame.new.stack.room (tasks_open frame.new.stack.places.items) (code_then (items_code items.now) (tasks_open frame.old.stack.places.items)) (length frame.new.stack.places.items) }
+    ensures back { IsBack result → tasks_open frame.new.stack.places.items ≡ code_then (items_code items.now) (tasks_open (outer frame.old.stack.places.items)) }
+    ensures call { IsCall result frame.new.stack.room (tasks_open frame.new.stack.places.items) (code_then (items_code items.now) (tasks_open (outer frame.old.stack.places.items))) (length frame.new.stack.places.items) }
     ensures method { frame.new.method ≡ frame.old.method }
     ensures room { frame.new.stack.room ≡ frame.old.stack.room }
     ensures most { heap.new.most ≡ heap.old.most }
@@ -218,23 +221,26 @@ fn run_item<'p>(
     match item {
         Item::Do(op) => do_op(rows, frame, heap, op, items, rest),
         Item::If(cond, first, second) => {
+            frame.stack.close();
             choose(frame, cond, first, second, rest);
             Move::Went
         }
         Item::Break => {
+            frame.stack.close();
             frame.stack.leave_loop();
             Move::Went
         }
         Item::Continue => {
+            frame.stack.close();
             frame.stack.turn_on();
             Move::Went
         }
         Item::Return(slot, _) => {
-            frame.stack.put(Place::Rest(items));
+            frame.stack.go_on(items);
             Move::Left(*slot)
         }
         Item::Throw(name, span) => {
-            frame.stack.put(Place::Rest(items));
+            frame.stack.go_on(items);
             Move::Stopped(Outcome::Thrown(name, span.from))
         }
         Item::Loop {
@@ -244,6 +250,7 @@ fn run_item<'p>(
             next,
             ..
         } => {
+            frame.stack.close();
             begin_loop(frame, *test_first, cond, body, next, rest);
             Move::Went
         }
@@ -257,13 +264,14 @@ fn run_items<'p>(
     heap: &mut Heap<'p>,
     items: &'p [Item],
 ) -> Move<'p>
-    requires free { IsFree (length frame.old.stack.places.items) frame.old.stack.room (place.Rest items) }
+    requires open { 0 < length frame.old.stack.places.items }
+    requires free { IsFree (length (outer frame.old.stack.places.items)) frame.old.stack.room (place.Rest items) }
     requires some { 0 < length items.now }
-    ensures moved { (frames : ℕ) → step_tasks (with_limits heap.old.most frames) (tables_of rows.now.program.now) (slots_of frame.old) (heap_of heap.old) (code_then (items_code items.now) (tasks_open frame.old.stack.places.items))
+    ensures moved { (frames : ℕ) → step_tasks (with_limits heap.old.most frames) (tables_of rows.now.program.now) (slots_of frame.old) (heap_of heap.old) (code_then (items_code items.now) (tasks_open (outer frame.old.stack.places.items)))
         ≡ move_of result (tasks_open frame.new.stack.places.items) (slots_of frame.new) (heap_of heap.new) }
     ensures values { KeepsValues result → (slots_of frame.new ≡ slots_of frame.old) × (heap_of heap.new ≡ heap_of heap.old) }
-    ensures back { IsBack result → tasks_open frame.new.stack.places.items ≡ code_then (items_code items.now) (tasks_open frame.old.stack.places.items) }
-    ensures call { IsCall result frame.new.stack.room (tasks_open frame.new.stack.places.items) (code_then (items_code items.now) (tasks_open frame.old.stack.places.items)) (length frame.new.stack.places.items) }
+    ensures back { IsBack result → tasks_open frame.new.stack.places.items ≡ code_then (items_code items.now) (tasks_open (outer frame.old.stack.places.items)) }
+    ensures call { IsCall result frame.new.stack.room (tasks_open frame.new.stack.places.items) (code_then (items_code items.now) (tasks_open (outer frame.old.stack.places.items))) (length frame.new.stack.places.items) }
     ensures method { frame.new.method ≡ frame.old.method }
     ensures room { frame.new.stack.room ≡ frame.old.stack.room }
     ensures most { heap.new.most ≡ heap.old.most }

@@ -12,4 +12,4 @@ invariant_of-self c =
     }
 
 pub returns-in-Some-clause-free : goal.returns-in-Some-clause-free
-returns-in-Some-clause-free c = popped_free c.args.self.now c.pop_place.new.places c.in-Some.place c.in-Some.ensures.items
+returns-in-Some-clause-free c = popped_free c.args.self.now c.pop_place.new.places.items c.in-Some.place c.in-Some.ensures.items
