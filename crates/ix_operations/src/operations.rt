@@ -1,9 +1,9 @@
 //! The operations that are no calls.
-ghost use Rattle.std.specs.Prelude.{◌≡◌, ◌+◌, ◌<◌, ◌≤◌, ◌^◌, ℕ, pos, length, map, Some, None, IfSome, IfNone};
+ghost use Rattle.std.specs.Prelude.{◌≡◌, true, ◌+◌, ◌<◌, ◌≤◌, ◌^◌, ℕ, pos, length, map, Some, None, IfSome, IfNone};
 ghost use Rattle.ix_num.specs.Arithmetic.{exact_of};
 ghost use Rattle.ix_core.specs.Heap as cells;
 ghost use Rattle.ix_core.specs.Heap.{value_at, array_at, object_at, place_in, write_at};
-ghost use Rattle.ix_core.specs.Machine.{Limits, assign, assign_int, assign_result, at_array, at_index, at_field, unary_of, int_at, with_limits, literal_value, new_array, allocate};
+ghost use Rattle.ix_core.specs.Machine.{Limits, assign, assign_int, assign_result, at_array, at_index, at_field, unary_of, int_at, is_int, with_limits, literal_value, new_array, allocate};
 ghost use Rattle.ix_core.specs.Machine as model;
 ghost use Rattle.ix_core.specs.Tables.{Tables, tables_of};
 ghost use Rattle.ix_heap.specs.Rows.{held_of};
@@ -57,13 +57,17 @@ fn keep<'p>(frame: &mut Frame<'p>, target: u32, exact: &i128) -> Done<'p>
     }
 }
 
-/// The exact result of an operator on the ints of two slots; none at a zero divisor.
-fn exact_num<'p>(frame: &Frame<'p>, arith: Arith, left: u32, right: u32) -> Option<i128>
-    ensures { result ≡ exact_of arith (int_at (slots_of frame.now) left) (int_at (slots_of frame.now) right) }
+/// The exact result of `+`, `-` or `*` where it is an int, as it mostly is: found without a wider number.
+fn int_result(arith: Arith, x: i32, y: i32) -> Option<i32>
+    ensures exact { IfSome result (λ int. exact_of arith x y ≡ Some int) }
+    ensures int { IfSome result (λ int. is_int int ≡ true) }
 {
-    let x = int_in(frame, left);
-    let y = int_in(frame, right);
-    exact(arith, x, y)
+    match arith {
+        Arith::Add => x.checked_add(y),
+        Arith::Sub => x.checked_sub(y),
+        Arith::Mul => x.checked_mul(y),
+        _ => None,
+    }
 }
 
 /// Arithmetic on two ints (JLS 15.17 to 15.19, 15.22.1).
@@ -82,7 +86,13 @@ fn num<'p>(
     ensures method { frame.new.method ≡ frame.old.method }
     ensures stack { frame.new.stack ≡ frame.old.stack }
 {
-    match exact_num(frame, arith, left, right) {
+    let x = int_in(frame, left);
+    let y = int_in(frame, right);
+    if let Some(int) = int_result(arith, x, y) {
+        frame.set(target, Held::Int(int));
+        return Done::Done;
+    }
+    match exact(arith, x, y) {
         Some(exact) => keep(frame, target, &exact),
         None => Done::Stopped(Outcome::ZeroDivisor(place)),
     }
