@@ -1,4 +1,5 @@
 //! The open places of a frame: a stack of what is still to be done, the innermost last.
+//! What every step does with a place is inlined: as a call it would hand a copy of the place through memory. What is rare isn't, so that a step stays short.
 ghost use Rattle.std.specs.Prelude.{◌≡◌, ◌+◌, ◌<◌, ◌≤◌, reverse, [], ◌∷◌, ◌++◌, if◌then◌else◌, IfOk, IfNone, IfSome, MatchOption, length, vec_len, vec_capacity};
 ghost use Rattle.ix_core.specs.Code.{cond_code, items_code, End, If, Loop};
 ghost use Rattle.ix_core.specs.Machine.{step_condition};
@@ -300,7 +301,7 @@ fn push_place<'p>(places: &mut Vec<Place<'p>>, place: Place<'p>)
     ensures items { places.new.items ≡ places.old.items ++ place.entry ∷ [] }
     ensures room { vec_capacity places.old ≤ vec_capacity places.new }
 {
-    places.push(place).unwrap()
+    places.push_reserved(place)
 }
 
 /// Takes the last place away.
