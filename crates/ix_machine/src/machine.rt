@@ -1,4 +1,5 @@
 //! A machine that runs a program.
+//! The step is inlined where steps are made, so that a run's loop has no call in it.
 ghost use Rattle.std.specs.Prelude.{◌≡◌, ◌≤◌, ◌<◌, ◌^◌, [], length, map, Option, option_map, None, Some, Ok, Err, false, Bool, IfOk, IfErr};
 ghost use Rattle.ix_core.specs.Machine as model;
 ghost use Rattle.ix_core.specs.Machine.{frame, slots_with};

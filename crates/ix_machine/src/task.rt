@@ -1,4 +1,5 @@
 //! A step of one frame: its innermost task.
+//! The step is inlined where steps are made, so that a run's loop has no call in it.
 ghost use Rattle.std.specs.Prelude.{◌≡◌, ◌+◌, ◌<◌, ◌≤◌, ◌++◌, ◌∷◌, [], ℕ, Bool, if◌then◌else◌, length, reverse, Option, Some, None};
 ghost use Rattle.ix_core.specs.Code.{Do, If, Loop, items_code, item_code, cond_code, block_code};
 ghost use Rattle.ix_core.specs.Heap as cells;

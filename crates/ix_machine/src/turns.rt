@@ -1,4 +1,5 @@
 //! One step of a run.
+//! The step is inlined where steps are made; a call takes long beside it, and isn't.
 ghost use Rattle.std.specs.Prelude.{◌≡◌, ◌≤◌, ◌+◌, List, length, Option, Some, None, Bool};
 ghost use Rattle.ix_core.specs.Code.{items_code};
 ghost use Rattle.ix_core.specs.Machine as model;

@@ -1,4 +1,5 @@
 //! The operations that are no calls.
+//! What makes an array takes longer than a call does, and isn't inlined among the short operations.
 ghost use Rattle.std.specs.Prelude.{◌≡◌, true, ◌+◌, ◌<◌, ◌≤◌, ◌^◌, ℕ, pos, length, map, Some, None, IfSome, IfNone};
 ghost use Rattle.ix_num.specs.Arithmetic.{exact_of};
 ghost use Rattle.ix_core.specs.Heap as cells;

@@ -1,4 +1,5 @@
 //! Runs of at most a stated number of steps.
+//! The step is inlined in the loop of a run.
 ghost use Rattle.std.specs.Prelude.{◌≡◌, ◌≤◌, length, None, IfOk, OnOk, IsErrOf, string_bytes};
 ghost use Rattle.ix_code_places.specs.EndingPlaces.{EndPlace};
 ghost use Rattle.ix_core.specs.Machine as model;
