@@ -100,6 +100,19 @@ impl<'p> Stack<'p> {
         replace_last(&mut self.places, Place::Rest(rest));
     }
 
+    /// What is left of a block, where that is the innermost place.
+    #[inline(always)]
+    pub fn block(&self) -> Option<&'p [Item]>
+        ensures tasks { IfSome result (λ items. tasks_open self.now.places.items ≡ code_then (items_code items.now) (tasks_open (outer self.now.places.items))) }
+        ensures some { IfSome result (λ items. 0 < length self.now.places.items) }
+        ensures free { IfSome result (λ items. IsFree (length (outer self.now.places.items)) self.now.room (place.Rest items)) }
+    {
+        match self.innermost() {
+            Some(Place::Rest(items)) => Some(items),
+            _ => None,
+        }
+    }
+
     /// The innermost task, which is closed, but for what is left of a block; none where nothing is left to do.
     #[inline(always)]
     pub fn next(&mut self) -> Option<Place<'p>>

@@ -5,3 +5,5 @@ pub mod Starting
 pub mod Entered
 pub mod OneStart
 pub mod SomeStart
+pub mod ManySteps
+pub mod Leading

@@ -4,4 +4,5 @@ pub mod Turns
 pub mod Fit
 pub mod State
 pub mod Events
+pub mod Quiet
 pub mod Starts

@@ -1,5 +1,5 @@
 //! Ends of frames.
-//! An end of a frame is rare beside other steps, and isn't inlined among them.
+//! An end of a frame is rare beside steps, and so not inlined among them.
 ghost use Rattle.std.specs.Prelude.{◌≡◌, ◌∷◌, ◌++◌, List, length, option_map, Option, Some, None, Bool};
 ghost use Rattle.ix_core.specs.Heap.{value_at};
 ghost use Rattle.ix_core.specs.Machine as model;

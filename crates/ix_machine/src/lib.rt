@@ -11,13 +11,15 @@ mod ending;
 mod machine;
 mod needs;
 mod start;
+mod straight;
 mod task;
 mod turns;
 
 pub use call::{enter, method_of};
 pub use ending::leave;
-pub use machine::{Event, Machine};
+pub use machine::{Event, Machine, Steps};
 pub use needs::program_room;
 pub use start::{Entry, Limits, StartError, entry_with, unmet_in, values_of};
+pub use straight::{Ran, do_operations};
 pub use task::{Move, advance};
 pub use turns::turn;

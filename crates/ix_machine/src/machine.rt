@@ -1,8 +1,8 @@
 //! A machine that runs a program.
-//! The step is inlined where steps are made, so that a run's loop has no call in it.
+//! Steps are inlined where they are made, so that a run's loop has no call in it.
 ghost use Rattle.std.specs.Prelude.{◌≡◌, ◌≤◌, ◌<◌, ◌^◌, [], length, map, Option, option_map, None, Some, Ok, Err, false, Bool, IfOk, IfErr};
 ghost use Rattle.ix_core.specs.Machine as model;
-ghost use Rattle.ix_core.specs.Machine.{frame, slots_with};
+ghost use Rattle.ix_core.specs.Machine.{frame, slots_with, event_values};
 ghost use Rattle.ix_core.specs.Tables.{tables_of, method_at, body_of};
 ghost use Rattle.ix_core.specs.Tasks.{Empty, code_then};
 ghost use Rattle.ix_heap.specs.Rows.{held_of};
@@ -15,6 +15,7 @@ ghost use Rattle.ix_machine.specs.Turns.{state_with};
 
 use crate::needs::program_room;
 use crate::start::{Limits, StartError, entry_with, unmet_in, values_of};
+use crate::straight::do_operations;
 use crate::turns::turn;
 use ix_core::{Outcome, Program};
 use ix_frames::{Frame, Pool};
@@ -28,6 +29,13 @@ pub enum Event {
     Went,
     Printed(Held),
     Stopped,
+}
+
+/// How many steps were made, and what the last of them tells.
+#[derive(Clone, Copy)]
+pub struct Steps {
+    pub made: u32,
+    pub event: Event,
 }
 
 /// A run of a program: its frames, its heap, whether a result wrapped, and how it ended, if it did.
@@ -157,6 +165,38 @@ impl<'p> Machine<'p> {
                 self.ended = Some(outcome);
                 Event::Stopped
             }
+        }
+    }
+
+    /// Steps of a run that has not ended: at least one and at most so many, of which only the last may print or stop the run; they take no memory.
+    #[inline(always)]
+    pub fn steps(&mut self, most: u32) -> Steps
+        requires goes { (state_of self.old).ended ≡ None }
+        requires some { 0 < most }
+        ensures state { state_of self.new ≡ model.run (limits_of self.old) (tables_of self.old.rows.program.now) result.made (state_of self.old) }
+        ensures printed { event_values (event_of result.event) ≡ model.printed (limits_of self.old) (tables_of self.old.rows.program.now) result.made (state_of self.old) }
+        ensures some { 0 < result.made }
+        ensures most { result.made ≤ most }
+        ensures limits { limits_of self.new ≡ limits_of self.old }
+        ensures program { self.new.rows ≡ self.old.rows }
+    {
+        let made = do_operations(
+            &self.rows,
+            &mut self.frame,
+            &mut self.heap,
+            most,
+            &mut self.wrapped,
+        );
+        if made == most {
+            return Steps {
+                made,
+                event: Event::Went,
+            };
+        }
+        let event = self.step();
+        Steps {
+            made: made + 1,
+            event,
         }
     }
 }

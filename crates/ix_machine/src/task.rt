@@ -1,5 +1,5 @@
 //! A step of one frame: its innermost task.
-//! The step is inlined where steps are made, so that a run's loop has no call in it.
+//! The step itself is inlined where steps are made; an operation alone isn't, since most are done in a row (`straight`).
 ghost use Rattle.std.specs.Prelude.{◌≡◌, ◌+◌, ◌<◌, ◌≤◌, ◌++◌, ◌∷◌, [], ℕ, Bool, if◌then◌else◌, length, reverse, Option, Some, None};
 ghost use Rattle.ix_core.specs.Code.{Do, If, Loop, items_code, item_code, cond_code, block_code};
 ghost use Rattle.ix_core.specs.Heap as cells;
@@ -113,6 +113,7 @@ fn is_truth(value: Held) -> bool
 }
 
 /// Does an operation that is the first of these items, or says which call it is.
+#[inline(never)]
 fn do_op<'p>(
     rows: &Rows<'p>,
     frame: &mut Frame<'p>,

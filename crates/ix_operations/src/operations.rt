@@ -1,5 +1,5 @@
 //! The operations that are no calls.
-//! What makes an array takes longer than a call does, and isn't inlined among the short operations.
+//! Operations are inlined where they are done in a row, so that none is a call; those that make an array take longer than a call does, and aren't.
 ghost use Rattle.std.specs.Prelude.{◌≡◌, true, ◌+◌, ◌<◌, ◌≤◌, ◌^◌, ℕ, pos, length, map, Some, None, IfSome, IfNone};
 ghost use Rattle.ix_num.specs.Arithmetic.{exact_of};
 ghost use Rattle.ix_core.specs.Heap as cells;
@@ -72,6 +72,7 @@ fn int_result(arith: Arith, x: i32, y: i32) -> Option<i32>
 }
 
 /// Arithmetic on two ints (JLS 15.17 to 15.19, 15.22.1).
+#[inline(always)]
 fn num<'p>(
     frame: &mut Frame<'p>,
     place: u32,
@@ -348,6 +349,7 @@ fn literal_held(value: &Literal) -> Held
 }
 
 /// Does an operation that is no call.
+#[inline(always)]
 pub fn operate<'p>(
     rows: &Rows<'p>,
     frame: &mut Frame<'p>,
