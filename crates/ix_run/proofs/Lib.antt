@@ -2,3 +2,4 @@ mod Parts
 mod RunPrefixes
 mod Steps
 pub mod StartedRuns
+mod Told

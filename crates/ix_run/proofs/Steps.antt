@@ -1,50 +1,33 @@
--- Many steps, one at a time.
-use Rattle.std.proofs.Common.{◌≡◌, ℕ, zero, suc, List, [], ◌∷◌, ◌++◌, append_assoc, append-nil, Option, None, Some, option_map, is_none, false, refl, ap, sym, ◌∙◌}
+-- Many steps, some at a time.
+use Rattle.std.proofs.Common.{◌≡◌, ℕ, ◌+◌, List, [], ◌∷◌, ◌++◌, append_assoc, append-nil, Option, None, Some, option_map, is_none, false, refl, ap, sym, ◌∙◌}
 use Rattle.ix_core.specs.Heap.{Held}
-use Rattle.ix_core.specs.Machine.{Limits, State, Ending, step, step_event, run, printed, printed_from, event_values}
+use Rattle.ix_core.specs.Machine.{Limits, State, Ending, run, printed}
 use Rattle.ix_core.specs.Tables.{Tables}
-use Rattle.ix_run.specs.Texts.{value_line, value_lines, step_lines, printed_lines}
+use Rattle.ix_machine.proofs.ManySteps.{final_is_quiet, run_more, printed_more}
+use Rattle.ix_run.specs.Texts.{value_line, value_lines, printed_lines}
 
--- ---- final states
-
-final_steps : (limits : Limits) (tables : Tables) (state : State) (ended : Option Ending) (how : Ending) → state.ended ≡ ended → ended ≡ Some how → step limits tables state ≡ state
-final_steps limits tables state None how is final = absurd (cc)
-final_steps limits tables state (Some other) how is final = rw is refl
-
--- a final state stays
-pub final_stays : (limits : Limits) (tables : Tables) (steps : ℕ) (state : State) (how : Ending) → state.ended ≡ Some how → run limits tables steps state ≡ state
-final_stays limits tables zero state how is = refl
-final_stays limits tables (suc steps) state how is =
-    ap (run limits tables steps) (final_steps limits tables state (Some how) how is refl) ∙ final_stays limits tables steps state how is
-
-final_from : (limits : Limits) (tables : Tables) (steps : ℕ) (state : State) (how : Ending) → printed_from limits tables steps state (Some how) ≡ []
-final_from limits tables zero state how = refl
-final_from limits tables (suc steps) state how = refl
-
--- and prints nothing
+-- a final state prints nothing
 pub final_prints : (limits : Limits) (tables : Tables) (steps : ℕ) (state : State) (how : Ending) → state.ended ≡ Some how → printed_lines limits tables steps state ≡ []
-final_prints limits tables steps state how is = ap value_lines (ap (printed_from limits tables steps state) is ∙ final_from limits tables steps state how)
+final_prints limits tables steps state how is = ap value_lines (final_is_quiet limits tables steps state how is)
 
--- ---- one step
+-- ---- some steps
 
 lines_append : (first second : List Held) → value_lines (first ++ second) ≡ value_lines first ++ value_lines second
 lines_append [] second = refl
 lines_append (value ∷ values) second = ap (λ rest. value_line value ++ rest) (lines_append values second) ∙ sym (append_assoc (value_line value) (value_lines values) (value_lines second))
 
--- what the next step prints, and then the others
-pub printed_step : (limits : Limits) (tables : Tables) (steps : ℕ) (state : State) → state.ended ≡ None
-    → printed_lines limits tables (suc steps) state ≡ step_lines limits tables state ++ printed_lines limits tables steps (step limits tables state)
-printed_step limits tables steps state is =
-    ap value_lines (ap (printed_from limits tables (suc steps) state) is) ∙ lines_append (event_values (step_event limits tables state)) (printed limits tables steps (step limits tables state))
+-- what the next of the steps that are left print, and then the others
+pub printed_next : (limits : Limits) (tables : Tables) (left made less : ℕ) (state next : State) → left ≡ made + less → next ≡ run limits tables made state
+    → printed_lines limits tables left state ≡ printed_lines limits tables made state ++ printed_lines limits tables less next
+printed_next limits tables left made less state next is went =
+    ap (λ n. printed_lines limits tables n state) is ∙ (ap value_lines (printed_more limits tables made less state)
+    ∙ (lines_append (printed limits tables made state) (printed limits tables less (run limits tables made state))
+    ∙ ap (λ s. printed_lines limits tables made state ++ printed_lines limits tables less s) (sym went)))
 
--- the same where that many steps are left, of which one is made
-pub printed_next : (limits : Limits) (tables : Tables) (left less : ℕ) (state next : State) → left ≡ suc less → state.ended ≡ None → next ≡ step limits tables state
-    → printed_lines limits tables left state ≡ step_lines limits tables state ++ printed_lines limits tables less next
-printed_next limits tables left less state next is goes stepped =
-    ap (λ n. printed_lines limits tables n state) is ∙ printed_step limits tables less state goes ∙ ap (λ s. step_lines limits tables state ++ printed_lines limits tables less s) (sym stepped)
-
-pub run_next : (limits : Limits) (tables : Tables) (left less : ℕ) (state next : State) → left ≡ suc less → next ≡ step limits tables state → run limits tables less next ≡ run limits tables left state
-run_next limits tables left less state next is stepped = ap (run limits tables less) stepped ∙ sym (ap (λ n. run limits tables n state) is)
+pub run_next : (limits : Limits) (tables : Tables) (left made less : ℕ) (state next : State) → left ≡ made + less → next ≡ run limits tables made state
+    → run limits tables less next ≡ run limits tables left state
+run_next limits tables left made less state next is went =
+    ap (run limits tables less) went ∙ (sym (run_more limits tables made less state) ∙ sym (ap (λ n. run limits tables n state) is))
 
 pub line_alone : (value : Held) → value_lines (value ∷ []) ≡ value_line value
 line_alone value = append-nil (value_line value)

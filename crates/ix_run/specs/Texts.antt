@@ -2,7 +2,7 @@
 use Rattle.std.specs.Prelude.{ℕ, List, [], ◌∷◌, ◌++◌}
 use Rattle.ix_core.specs.declared.program.Program.{Program}
 use Rattle.ix_core.specs.Heap.{Held, Num, Boolean, Null, At}
-use Rattle.ix_core.specs.Machine.{State, Limits, step_event, event_values, run, printed}
+use Rattle.ix_core.specs.Machine.{State, Limits, run, printed}
 use Rattle.ix_core.specs.Tables.{Tables, tables_of}
 use Rattle.ix_report.specs.Outcomes.{last_line}
 use Rattle.ix_report.specs.Runs.{printed_int, printed_bool}
@@ -17,10 +17,6 @@ value_line (At number) = []
 abbrev pub value_lines : List Held → List ℕ
 value_lines [] = []
 value_lines (value ∷ values) = value_line value ++ value_lines values
-
--- the line of the value that a step prints; nothing where it prints none
-abbrev pub step_lines : Limits → Tables → State → List ℕ
-step_lines limits tables state = value_lines (event_values (step_event limits tables state))
 
 -- the lines of the values that so many steps print
 abbrev pub printed_lines : Limits → Tables → ℕ → State → List ℕ

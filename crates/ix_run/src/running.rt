@@ -1,6 +1,6 @@
 //! Runs of at most a stated number of steps.
-//! The step is inlined in the loop of a run.
-ghost use Rattle.std.specs.Prelude.{◌≡◌, ◌≤◌, length, None, IfOk, OnOk, IsErrOf, string_bytes};
+//! Steps are inlined in the loop of a run.
+ghost use Rattle.std.specs.Prelude.{◌≡◌, ◌<◌, ◌≤◌, length, None, IfOk, OnOk, IsErrOf, string_bytes};
 ghost use Rattle.ix_code_places.specs.EndingPlaces.{EndPlace};
 ghost use Rattle.ix_core.specs.Machine as model;
 ghost use Rattle.ix_core.specs.Tables.{tables_of};
@@ -8,7 +8,7 @@ ghost use Rattle.ix_machine.specs.State.{state_of, limits_of};
 ghost use Rattle.ix_outside.specs.Outside.{Rose, Took, TookPrefix};
 ghost use Rattle.ix_report.specs.Outcomes.{last_line};
 ghost use Rattle.ix_run.specs.Ends.{end_of, RunWithin};
-ghost use Rattle.ix_run.specs.Texts.{step_lines, printed_lines, run_text};
+ghost use Rattle.ix_run.specs.Texts.{printed_lines, run_text};
 
 use crate::lines::write_value;
 use ix_core::{Outcome, Program};
@@ -26,23 +26,35 @@ pub enum RunEnd {
     StepsSpent,
 }
 
-/// Makes a step, and writes the value that it prints. After an error the sink took a prefix of its line.
+/// Makes steps, at least one and at most so many, and writes the value that the last of them prints, if it prints one; answers how many they were. After an error
+/// the sink took a prefix of that value's line.
 #[inline(always)]
-fn step<K: Sink>(alloc: Global, machine: &mut Machine<'_>, out: &mut K) -> Result<(), WriteError>
-    requires { (state_of machine.old).ended ≡ None }
-    ensures state { state_of machine.new ≡ model.step (limits_of machine.old) (tables_of machine.old.rows.program.now) (state_of machine.old) }
+fn go_on<K: Sink>(
+    alloc: Global,
+    machine: &mut Machine<'_>,
+    most: u32,
+    out: &mut K,
+) -> Result<u32, WriteError>
+    requires goes { (state_of machine.old).ended ≡ None }
+    requires some { 0 < most }
+    ensures state { IfOk result (λ made. state_of machine.new ≡ model.run (limits_of machine.old) (tables_of machine.old.rows.program.now) made (state_of machine.old)) }
+    ensures made { IfOk result (λ made. (0 < made) × (made ≤ most)) }
     ensures limits { limits_of machine.new ≡ limits_of machine.old }
     ensures program { machine.new.rows ≡ machine.old.rows }
-    ensures taken { OnOk result (Took (step_lines (limits_of machine.old) (tables_of machine.old.rows.program.now) (state_of machine.old)) (K.taken out.old) (K.taken out.new)) }
-    ensures prefix { TookPrefix (step_lines (limits_of machine.old) (tables_of machine.old.rows.program.now) (state_of machine.old)) (K.taken out.old) (K.taken out.new) }
+    ensures taken { IfOk result (λ made. Took (printed_lines (limits_of machine.old) (tables_of machine.old.rows.program.now) made (state_of machine.old)) (K.taken out.old) (K.taken out.new)) }
+    ensures prefix { TookPrefix (printed_lines (limits_of machine.old) (tables_of machine.old.rows.program.now) most (state_of machine.old)) (K.taken out.old) (K.taken out.new) }
     ensures falls { K.faults out.old ≤ K.faults out.new }
     ensures rose { IsErrOf result WriteError.Failed → Rose (K.faults out.old) (K.faults out.new) }
     ensures ok { OnOk result (K.faults out.new ≡ K.faults out.old) }
 {
-    match machine.step() {
-        Event::Printed(value) => write_value(alloc, value, out),
-        Event::Went => Ok(()),
-        Event::Stopped => Ok(()),
+    let went = machine.steps(most);
+    match went.event {
+        Event::Printed(value) => {
+            write_value(alloc, value, out)?;
+            Ok(went.made)
+        }
+        Event::Went => Ok(went.made),
+        Event::Stopped => Ok(went.made),
     }
 }
 
@@ -62,8 +74,8 @@ fn write_printed<K: Sink>(
 {
     let mut left = steps;
     while left > 0 && machine.outcome().is_none() {
-        step(alloc, machine, out)?;
-        left -= 1;
+        let made = go_on(alloc, machine, left, out)?;
+        left -= made;
     }
     Ok(())
 }

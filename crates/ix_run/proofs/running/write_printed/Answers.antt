@@ -1,38 +1,38 @@
-use Rattle.std.proofs.Common.{rules, ◌-◌, sym, ap, ◌∙◌}
-use Rattle.ix_core.specs.Machine.{step}
+use Rattle.std.proofs.Common.{rules, ◌-◌, ◌+◌, ◌≡◌, append-nil, arith, sym, ap, ◌∙◌}
+use Rattle.ix_core.specs.Machine.{run}
 use Rattle.ix_core.specs.Tables.{tables_of}
 use Rattle.ix_machine.specs.State.{state_of, limits_of}
-use Rattle.ix_run.specs.Texts.{step_lines}
+use Rattle.ix_machine.proofs.ManySteps.{final_stays}
+use Rattle.ix_run.specs.Texts.{printed_lines}
 use Rattle.ix_run.proofs.Parts.{written_more, written_all, written_prefix, written_so_far}
-use Rattle.ix_run.proofs.Steps.{final_stays, final_prints, printed_next, run_next, told_final}
+use Rattle.ix_run.proofs.Steps.{final_prints, printed_next, run_next, told_final}
 use Rattle.ix_run.proofs.running.write_printed.Goals as goal
 
 pub loop-left-preserved : goal.loop-left-preserved
 loop-left-preserved g c =
     let inv = c.loop-left.invariant in
     let tables = ap (λ r. tables_of r.program.now) inv.rows in
-    let stepped = c.step.ensures.state ∙ ap (λ l. step l (tables_of c.loop-left.machine.rows.program.now) (state_of c.loop-left.machine)) inv.limits
-    ∙ ap (λ t. step (limits_of c.args.machine.now) t (state_of c.loop-left.machine)) tables in
-    let lines = ap (λ l. step_lines l (tables_of c.loop-left.machine.rows.program.now) (state_of c.loop-left.machine)) inv.limits
-    ∙ ap (λ t. step_lines (limits_of c.args.machine.now) t (state_of c.loop-left.machine)) tables in
+    let made = c.in_ok-made.made in
+    let went = c.in_ok-made.ensures.state ∙ ap (λ l. run l (tables_of c.loop-left.machine.rows.program.now) made (state_of c.loop-left.machine)) inv.limits
+    ∙ ap (λ t. run (limits_of c.args.machine.now) t made (state_of c.loop-left.machine)) tables in
+    let lines = ap (λ l. printed_lines l (tables_of c.loop-left.machine.rows.program.now) made (state_of c.loop-left.machine)) inv.limits
+    ∙ ap (λ t. printed_lines (limits_of c.args.machine.now) t made (state_of c.loop-left.machine)) tables in
+    let parts : c.loop-left.left ≡ made + (c.loop-left.left - made) = omega (arith, c.in_ok-made.ensures.made.1) in
     record {
-      state = run_next (limits_of c.args.machine.now) (tables_of c.args.machine.now.rows.program.now) c.loop-left.left (c.loop-left.left - 1) _ _ (search rules) stepped ∙ inv.state;
-      written = written_more _ _ _ _ _ _ _ inv.written (rw lines at c.in_ok-step.ensures.taken) (printed_next (limits_of c.args.machine.now) (tables_of c.args.machine.now.rows.program.now) c.loop-left.left (c.loop-left.left - 1) _ _ (search rules) (search rules) stepped);
-      limits = c.step.ensures.limits ∙ inv.limits;
-      rows = c.step.ensures.program ∙ inv.rows;
+      state = run_next (limits_of c.args.machine.now) (tables_of c.args.machine.now.rows.program.now) c.loop-left.left made (c.loop-left.left - made) _ _ parts went ∙ inv.state;
+      written = written_more _ _ _ _ _ _ _ inv.written (rw lines at c.in_ok-made.ensures.taken) (printed_next (limits_of c.args.machine.now) (tables_of c.args.machine.now.rows.program.now) c.loop-left.left made (c.loop-left.left - made) _ _ parts went);
+      limits = c.go_on.ensures.limits ∙ inv.limits;
+      rows = c.go_on.ensures.program ∙ inv.rows;
       faults = search rules;
     }
 
-pub returns-in_err-step-clause-prefix : goal.returns-in_err-step-clause-prefix
-returns-in_err-step-clause-prefix g c =
+pub returns-in_err-made-clause-prefix : goal.returns-in_err-made-clause-prefix
+returns-in_err-made-clause-prefix g c =
     let inv = c.loop-left.invariant in
     let tables = ap (λ r. tables_of r.program.now) inv.rows in
-    let stepped = c.step.ensures.state ∙ ap (λ l. step l (tables_of c.loop-left.machine.rows.program.now) (state_of c.loop-left.machine)) inv.limits
-    ∙ ap (λ t. step (limits_of c.args.machine.now) t (state_of c.loop-left.machine)) tables in
-    let lines = ap (λ l. step_lines l (tables_of c.loop-left.machine.rows.program.now) (state_of c.loop-left.machine)) inv.limits
-    ∙ ap (λ t. step_lines (limits_of c.args.machine.now) t (state_of c.loop-left.machine)) tables in
-    written_prefix _ _ _ _ _ _ _ inv.written (rw lines at c.step.ensures.prefix)
-    (printed_next (limits_of c.args.machine.now) (tables_of c.args.machine.now.rows.program.now) c.loop-left.left (c.loop-left.left - 1) _ _ (search rules) (search rules) stepped)
+    let lines = ap (λ l. printed_lines l (tables_of c.loop-left.machine.rows.program.now) c.loop-left.left (state_of c.loop-left.machine)) inv.limits
+    ∙ ap (λ t. printed_lines (limits_of c.args.machine.now) t c.loop-left.left (state_of c.loop-left.machine)) tables in
+    written_prefix _ _ _ _ _ _ _ inv.written (rw lines at c.go_on.ensures.prefix) (sym (append-nil _))
 
 pub returns-else-is_none-clause-state : goal.returns-else-is_none-clause-state
 returns-else-is_none-clause-state g c =
