@@ -1,2 +1,3 @@
 pub mod Decimals
 pub mod WithOthers
+pub mod Products

@@ -4,17 +4,18 @@ use Rattle.std.specs.Option.{option_and_then}
 use Rattle.std.specs.Str.{chars}
 use Rattle.ix_tree.specs.declared.annot.AnnotArg.{AnnotArg}
 use Rattle.ix_tree.specs.declared.annot.AnnotValue.{AnnotValue}
-use Rattle.ix_tree.specs.declared.annot.AnnotValue.TheVariants.{Number, Texts}
+use Rattle.ix_tree.specs.declared.annot.AnnotValue.TheVariants.{Number, Texts, Truth}
 use Rattle.ix_core.specs.declared.claim.Claim.{Claim}
 use Rattle.ix_core.specs.declared.claim.Claim.TheVariants.{Range, Low, Length}
 use Rattle.ix_annot.specs.declared.texts.Naming.{Naming}
 use Rattle.ix_annot.specs.declared.texts.Offset.{Offset}
 use Rattle.ix_annot.specs.declared.texts.Offset.TheVariants.{Constant}
 use Rattle.ix_annot.specs.declared.table.Says.{Says}
-use Rattle.ix_annot.specs.declared.table.Says.TheVariants.{Nothing, EffectFree, AtLeast, Between, LengthAtLeast, Arrays, Offsets, Bounds}
+use Rattle.ix_annot.specs.declared.table.Says.TheVariants.{Nothing, EffectFree, AtLeast, Between, LengthAtLeast, Arrays, Offsets, Bounds, Ensures, EnsuresIf}
 use Rattle.ix_annot.specs.declared.arguments.Written.{Written}
 use Rattle.ix_annot.specs.declared.arguments.Written.TheVariants.{OfArray, Upper, Less}
 use Rattle.ix_annot.specs.declared.arguments.Plan.{Plan}
+use Rattle.ix_annot.specs.declared.arguments.Promise.{Promise}
 use Rattle.ix_annot.specs.Texts.{array_text, bound_text, offset_text}
 use Rattle.ix_annot.specs.Table.{arg_name, argument}
 
@@ -29,6 +30,8 @@ takes LengthAtLeast name = bytes_eq name (codes "value")
 takes (Arrays least each) name = bytes_eq name (codes "value")
 takes Offsets name = bytes_eq name (codes "value") || bytes_eq name (codes "offset")
 takes Bounds name = bytes_eq name (codes "value")
+takes Ensures name = bytes_eq name (codes "value") || (bytes_eq name (codes "targetValue") || bytes_eq name (codes "offset"))
+takes EnsuresIf name = bytes_eq name (codes "expression") || (bytes_eq name (codes "result") || (bytes_eq name (codes "targetValue") || bytes_eq name (codes "offset")))
 takes _ name = false
 
 abbrev pub are_taken : Says → List AnnotArg → Bool
@@ -87,6 +90,8 @@ upper _ _ = None
 abbrev pub written : Says → Text → List Text → Option Written
 written (Arrays least each) entry offsets = option_map (λ array. OfArray each array) (array_text (chars entry))
 written Offsets entry offsets = upper (array_text (chars entry)) (first_offset offsets)
+written Ensures entry offsets = upper (array_text (chars entry)) (first_offset offsets)
+written EnsuresIf entry offsets = upper (array_text (chars entry)) (first_offset offsets)
 written _ entry offsets = option_map (λ bound. Less bound.0 bound.1) (bound_text (chars entry))
 
 -- one and the others, where there are all of them
@@ -105,14 +110,35 @@ all_written says (entry ∷ entries) offsets = with_others (written says entry o
 abbrev pub matched : Says → List Text → List Text → Option (List Written)
 matched says entries offsets = if length offsets == 0 || length offsets == length entries then all_written says entries offsets else None
 
+-- the argument that lists the arrays or the bounds
+abbrev pub listed_in : Says → Text
+listed_in Ensures = codes "targetValue"
+listed_in EnsuresIf = codes "targetValue"
+listed_in _ = codes "value"
+
 abbrev pub claims_written : Says → List AnnotArg → Option (List Written)
 claims_written says args =
-    option_and_then (λ entries. option_and_then (matched says entries) (texts_or_none (argument (codes "offset") args))) (texts (argument (codes "value") args))
+    option_and_then (λ entries. option_and_then (matched says entries) (texts_or_none (argument (codes "offset") args))) (texts (argument (listed_in says) args))
+
+-- ---- RULE bad.argument: an answer is missing, or no truth value
+
+abbrev pub truth : Option AnnotValue → Option Bool
+truth (Some (Truth answer)) = Some answer
+truth _ = None
+
+-- ---- what a method's claims are promised of
+
+abbrev pub all_named : List Text → Option (List Naming)
+all_named [] = Some []
+all_named (entry ∷ entries) = with_others (array_text (chars entry)) (all_named entries)
+
+abbrev pub promised_on : Text → List AnnotArg → Option (List Naming)
+promised_on name args = option_and_then all_named (texts (argument name args))
 
 -- ---- the whole
 
 abbrev pub plan_with : Bool → List Claim → List Written → Plan
-plan_with effect_free first written = record { first = first; written = written; effect_free = effect_free }
+plan_with effect_free first written = record { first = first; written = written; effect_free = effect_free; promise = None }
 
 abbrev pub one_claim : Claim → Plan
 one_claim claim = plan_with false (claim ∷ []) []
@@ -121,6 +147,14 @@ abbrev pub lowest : Option ℤ → List Claim
 lowest None = []
 lowest (Some least) = Low least ∷ []
 
+abbrev pub promised : Option Bool → Option (List Naming) → Option (List Written) → Option Plan
+promised when (Some on) (Some claims) = Some (record { first = []; written = claims; effect_free = false; promise = Some (record { when = when; on = on }) })
+promised when _ _ = None
+
+abbrev pub promised_if : Option Bool → Option (List Naming) → Option (List Written) → Option Plan
+promised_if None on claims = None
+promised_if (Some answer) on claims = promised (Some answer) on claims
+
 abbrev pub plan_of : Says → List AnnotArg → Option Plan
 plan_of Nothing args = Some (plan_with false [] [])
 plan_of EffectFree args = Some (plan_with true [] [])
@@ -128,6 +162,8 @@ plan_of (AtLeast least) args = Some (one_claim (Low least))
 plan_of Between args = option_map one_claim (range_of args)
 plan_of LengthAtLeast args = option_map one_claim (length_of args)
 plan_of (Arrays least each) args = option_map (plan_with false (lowest least)) (claims_written (Arrays least each) args)
+plan_of Ensures args = promised None (promised_on (codes "value") args) (claims_written Ensures args)
+plan_of EnsuresIf args = promised_if (truth (argument (codes "result") args)) (promised_on (codes "expression") args) (claims_written EnsuresIf args)
 plan_of says args = option_map (plan_with false []) (claims_written says args)
 
 -- None where an argument is bad.

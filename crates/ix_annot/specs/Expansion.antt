@@ -1,6 +1,6 @@
 -- An annotation as its claims, or the one error that it has. The errors are tested in this order: unknown.annotation, too many claims,
 -- bad.argument, wrong.target, bad.name, inherited.name.
-use Rattle.std.specs.Prelude.{nat_lt, ℤ, Bool, true, false, ◌&&◌, ◌||◌, if◌then◌else◌, Option, Some, None, option_map, Result, Ok, Err, List, [], ◌∷◌, ◌++◌}
+use Rattle.std.specs.Prelude.{nat_lt, ℤ, Bool, true, false, ◌&&◌, ◌||◌, if◌then◌else◌, Option, Some, None, option_map, Result, Ok, Err, List, [], ◌∷◌, ◌++◌, map}
 use Rattle.std.specs.List.{list_any}
 use Rattle.ix_tree.specs.declared.annot.Annot.{Annot}
 use Rattle.ix_core.specs.declared.claim.Name.{Name}
@@ -9,6 +9,7 @@ use Rattle.ix_core.specs.declared.claim.Off.{Off}
 use Rattle.ix_core.specs.declared.claim.Off.TheVariants as off
 use Rattle.ix_core.specs.declared.claim.Claim.{Claim}
 use Rattle.ix_core.specs.declared.claim.Claim.TheVariants as claim
+use Rattle.ix_core.specs.declared.claim.Post.{Post}
 use Rattle.ix_annot.specs.declared.texts.Offset.{Offset}
 use Rattle.ix_annot.specs.declared.texts.Offset.TheVariants.{Constant, Plus, Minus}
 use Rattle.ix_annot.specs.declared.table.Targets.{Targets}
@@ -18,6 +19,8 @@ use Rattle.ix_annot.specs.declared.table.EachArray.TheVariants.{Below, SameLengt
 use Rattle.ix_annot.specs.declared.arguments.Written.{Written}
 use Rattle.ix_annot.specs.declared.arguments.Written.TheVariants.{OfArray, Upper, Less}
 use Rattle.ix_annot.specs.declared.arguments.Plan.{Plan}
+use Rattle.ix_annot.specs.declared.arguments.Promise.{Promise}
+use Rattle.ix_annot.specs.declared.texts.Naming.{Naming}
 use Rattle.ix_annot.specs.declared.scope.Scope.{Scope}
 use Rattle.ix_annot.specs.declared.scope.Holds.TheVariants.{Int, Array}
 use Rattle.ix_annot.specs.declared.scope.Found.{Found}
@@ -26,7 +29,7 @@ use Rattle.ix_annot.specs.declared.scope.AnnotError.{AnnotError}
 use Rattle.ix_annot.specs.declared.scope.AnnotError.TheVariants.{Unknown, TooMany, BadArgument, WrongTarget, BadName, InheritedName}
 use Rattle.ix_annot.specs.Named.{Names, names_in, named}
 use Rattle.ix_annot.specs.Table.{row_named, fits, counted, most_claims}
-use Rattle.ix_annot.specs.Arguments.{with_others, plan}
+use Rattle.ix_annot.specs.Arguments.{with_others, preceded_by, plan}
 
 -- ---- the claims, with what their names mean: none where a name is bad
 
@@ -74,13 +77,35 @@ abbrev pub is_field : Option Name → Bool
 is_field (Some (FieldNamed number)) = true
 is_field _ = false
 
+-- ---- what a method promises where it returns: each claim of each that is named
+
+abbrev pub posts_on : Option Bool → List Claim → Name → List Post
+posts_on when claims on = map (λ claim. record { when = when; on = on; claim = claim }) claims
+
+abbrev pub posts_of_first : Option Bool → List Claim → Option Name → Option (List Post) → Option (List Post)
+posts_of_first when claims None others = None
+posts_of_first when claims (Some name) others = preceded_by (posts_on when claims name) others
+
+-- None where a name is bad.
+abbrev pub posts_of : Names → Option Bool → List Claim → List Naming → Option (List Post)
+posts_of names when claims [] = Some []
+posts_of names when claims (one ∷ others) = posts_of_first when claims (named names Int one) (posts_of names when claims others)
+
+abbrev pub given : Names → Bool → Option Promise → List Claim → Option Claims
+given names effect_free None claims = Some (record { list = claims; effect_free = effect_free; posts = [] })
+given names effect_free (Some promise) claims = option_map (λ posts. record { list = []; effect_free = effect_free; posts = posts }) (posts_of names promise.when claims promise.on)
+
 -- ---- the whole
+
+abbrev pub or_bad_name : Option Claims → Result Claims AnnotError
+or_bad_name None = Err BadName
+or_bad_name (Some claims) = Ok claims
 
 abbrev pub with_claims : Names → Plan → Option (List Claim) → Result Claims AnnotError
 with_claims names plan None = Err BadName
 with_claims names plan (Some claims) =
     if is_field names.own && list_any (names_inherited names) plan.written then Err InheritedName
-    else Ok (record { list = plan.first ++ claims; effect_free = plan.effect_free })
+    else or_bad_name (given names plan.effect_free plan.promise (plan.first ++ claims))
 
 abbrev pub with_plan : Names → Targets → Option Plan → Result Claims AnnotError
 with_plan names targets None = Err BadArgument

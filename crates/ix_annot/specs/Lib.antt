@@ -4,10 +4,12 @@ pub mod Named
 pub mod Arguments
 pub mod Expansion
 -- Passed on from ix_core.
+pub use Rattle.ix_core.specs.Posts
 pub use Rattle.ix_core.specs.SameClaims
 pub use Rattle.ix_core.specs.declared.claim.Base
 pub use Rattle.ix_core.specs.declared.claim.Claim
 pub use Rattle.ix_core.specs.declared.claim.Name
+pub use Rattle.ix_core.specs.declared.claim.Post
 pub use Rattle.ix_core.specs.declared.claim.Type_
 -- Passed on from ix_tree.
 pub use Rattle.ix_tree.specs.declared.annot.Annot

@@ -1,8 +1,9 @@
 //! What an annotation claims, with the names as they are written.
 
-ghost use Rattle.std.specs.Prelude.{◌≡◌, [], false, option_map, drop, IfOk};
+ghost use Rattle.std.specs.Prelude.{◌≡◌, [], false, codes, option_map, drop, IfOk};
 ghost use Rattle.std.specs.Str.{chars};
 ghost use Rattle.ix_annot.specs.Texts.{array_text};
+ghost use Rattle.ix_annot.specs.Table as table;
 ghost use Rattle.ix_annot.specs.Table.{arg_name};
 ghost use Rattle.ix_annot.specs.Arguments as spec;
 
@@ -30,6 +31,15 @@ pub struct Plan {
     pub first: List<Claim>,
     pub written: List<Written>,
     pub effect_free: bool,
+    /// Where the claims aren't of what the annotation stands on, but promised of others.
+    pub promise: Option<Promise>,
+}
+
+/// What a method promises claims of where it returns: always, or where it returns this answer.
+#[derive(Drop)]
+pub struct Promise {
+    pub when: Option<bool>,
+    pub on: List<Naming>,
 }
 
 fn takes(says: Says, name: &str) -> bool
@@ -39,6 +49,10 @@ fn takes(says: Says, name: &str) -> bool
         Says::Between => name == "from" || name == "to",
         Says::Offsets => name == "value" || name == "offset",
         Says::LengthAtLeast | Says::Arrays(_, _) | Says::Bounds => name == "value",
+        Says::Ensures => name == "value" || name == "targetValue" || name == "offset",
+        Says::EnsuresIf => {
+            name == "expression" || name == "result" || name == "targetValue" || name == "offset"
+        }
         Says::Nothing | Says::EffectFree | Says::AtLeast(_) => false,
     }
 }
@@ -162,7 +176,7 @@ fn one_written(
             None => Ok(None),
             Some(array) => Ok(Some(Written::OfArray(each, array))),
         },
-        Says::Offsets => upper_written(alloc, entry, offsets),
+        Says::Offsets | Says::Ensures | Says::EnsuresIf => upper_written(alloc, entry, offsets),
         _ => match bound_text(alloc, entry)? {
             None => Ok(None),
             Some((naming, c)) => Ok(Some(Written::Less(naming, c))),
@@ -200,6 +214,16 @@ fn all_written(
     Ok(Some(all))
 }
 
+/// The name of the argument that lists the arrays or the bounds.
+fn listed_in(says: Says) -> &'static str
+    ensures { result.now ≡ spec.listed_in says }
+{
+    match says {
+        Says::Ensures | Says::EnsuresIf => "targetValue",
+        _ => "value",
+    }
+}
+
 fn claims_written(
     alloc: Global,
     says: Says,
@@ -207,7 +231,7 @@ fn claims_written(
 ) -> Result<Option<List<Written>>, AllocError>
     ensures { IfOk result (λ written. written ≡ spec.claims_written says args.now) }
 {
-    let Some(entries) = texts(argument("value", args)) else {
+    let Some(entries) = texts(argument(listed_in(says), args)) else {
         return Ok(None);
     };
     let Some(offsets) = texts_or_none(argument("offset", args)) else {
@@ -229,6 +253,7 @@ fn one_claim(alloc: Global, claim: Claim) -> Result<Plan, AllocError>
         first,
         written: List::new(alloc),
         effect_free: false,
+        promise: None,
     })
 }
 
@@ -248,6 +273,7 @@ fn no_claims(alloc: Global, effect_free: bool) -> Plan
         first: List::new(alloc),
         written: List::new(alloc),
         effect_free,
+        promise: None,
     }
 }
 
@@ -275,7 +301,79 @@ fn claims_behind(
             first,
             written,
             effect_free: false,
+            promise: None,
         })),
+    }
+}
+
+fn truth(value: Option<&AnnotValue>) -> Option<bool>
+    ensures { result ≡ spec.truth (option_map (λ value. value.now) value.entry) }
+{
+    match value {
+        Some(AnnotValue::Truth(answer)) => Some(*answer),
+        _ => None,
+    }
+}
+
+#[tactic(auto, using(crate::proofs::WithOthers::one_more))]
+fn all_named(alloc: Global, mut entries: &[Text]) -> Result<Option<List<Naming>>, AllocError>
+    ensures { IfOk result (λ named. named ≡ spec.all_named entries.entry.now) }
+{
+    let mut all = List::new(alloc);
+    while let [entry, others @ ..] = entries {
+        let Some(naming) = array_text(alloc, entry)? else {
+            return Ok(None);
+        };
+        all.push(naming)?;
+        entries = others;
+    }
+    Ok(Some(all))
+}
+
+/// What the claims are promised of, in the argument of that name.
+fn promised_on(
+    alloc: Global,
+    name: &str,
+    args: &[AnnotArg],
+) -> Result<Option<List<Naming>>, AllocError>
+    ensures { IfOk result (λ on. on ≡ spec.promised_on name.now args.now) }
+{
+    match texts(argument(name, args)) {
+        None => Ok(None),
+        Some(entries) => all_named(alloc, entries),
+    }
+}
+
+fn promised(
+    alloc: Global,
+    when: Option<bool>,
+    name: &str,
+    says: Says,
+    args: &[AnnotArg],
+) -> Result<Option<Plan>, AllocError>
+    ensures { IfOk result (λ plan. plan ≡ spec.promised when (spec.promised_on name.now args.now) (spec.claims_written says args.now)) }
+{
+    let Some(on) = promised_on(alloc, name, args)? else {
+        return Ok(None);
+    };
+    let Some(written) = claims_written(alloc, says, args)? else {
+        return Ok(None);
+    };
+    Ok(Some(Plan {
+        first: List::new(alloc),
+        written,
+        effect_free: false,
+        promise: Some(Promise { when, on }),
+    }))
+}
+
+/// What is promised where the method returns an answer; none where that is none.
+fn promised_if(alloc: Global, says: Says, args: &[AnnotArg]) -> Result<Option<Plan>, AllocError>
+    ensures { IfOk result (λ plan. plan ≡ spec.promised_if (spec.truth (table.argument (codes "result") args.now)) (spec.promised_on (codes "expression") args.now) (spec.claims_written says args.now)) }
+{
+    match truth(argument("result", args)) {
+        None => Ok(None),
+        Some(answer) => promised(alloc, Some(answer), "expression", says, args),
     }
 }
 
@@ -290,6 +388,8 @@ fn plan_of(alloc: Global, says: Says, args: &[AnnotArg]) -> Result<Option<Plan>,
         Says::LengthAtLeast => one_claim_or_none(alloc, length_of(args)),
         Says::Arrays(least, _) => claims_behind(alloc, lowest(alloc, least)?, says, args),
         Says::Offsets | Says::Bounds => claims_behind(alloc, List::new(alloc), says, args),
+        Says::Ensures => promised(alloc, None, "value", says, args),
+        Says::EnsuresIf => promised_if(alloc, says, args),
     }
 }
 

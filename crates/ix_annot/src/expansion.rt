@@ -1,17 +1,17 @@
 //! An annotation as its claims.
 
-ghost use Rattle.std.specs.Prelude.{◌≡◌, ◌≢◌, ◌<◌, ◌^◌, length, IfOk, IfErr, Ok as Good, Err as Bad};
+ghost use Rattle.std.specs.Prelude.{◌≡◌, ◌≢◌, ◌<◌, ◌^◌, ◌++◌, length, IfOk, IfErr, OnOk, Ok as Good, Err as Bad};
 ghost use Rattle.std.specs.List.{list_any};
 ghost use Rattle.ix_annot.specs.Expansion as spec;
 ghost use Rattle.ix_annot.specs.Arguments.{preceded_by};
 ghost use Rattle.ix_annot.specs.declared.scope.AnnotError.TheVariants as error;
 
-use crate::arguments::{Plan, Written, planned};
+use crate::arguments::{Plan, Promise, Written, planned};
 use crate::naming::{InScope, Names, named};
 use crate::scope::{AnnotError, Claims, Holds, Scope};
 use crate::table::{EachArray, counted, fits, row_named};
 use crate::texts::{Naming, Offset};
-use ix_core::{Claim, Name, Off};
+use ix_core::{Claim, Name, Off, Post};
 use ix_text::List;
 use ix_tree::Annot;
 use std::alloc::{AllocError, Global};
@@ -127,7 +127,81 @@ fn is_field(own: Option<Name>) -> bool
     matches!(own, Some(Name::FieldNamed(_)))
 }
 
-fn with_plan<N: Names>(names: &N, plan: Plan) -> Result<Claims, AnnotError>
+/// Puts behind the others what is promised of one.
+fn push_posts(
+    posts: &mut List<Post>,
+    when: Option<bool>,
+    on: Name,
+    claims: &[Claim],
+) -> Result<(), AllocError>
+    ensures { OnOk result (posts.new ≡ posts.old ++ spec.posts_on when claims.now on) }
+{
+    for claim in claims {
+        posts.push(Post {
+            when,
+            on,
+            claim: *claim,
+        })?;
+    }
+    Ok(())
+}
+
+/// What is promised; none where a name is bad.
+#[tactic(auto, using(crate::proofs::WithOthers::some_more))]
+fn posts_of<N: Names>(
+    alloc: Global,
+    names: &N,
+    when: Option<bool>,
+    claims: &[Claim],
+    mut on: &[Naming],
+) -> Result<Option<List<Post>>, AllocError>
+    ensures { IfOk result (λ posts. posts ≡ spec.posts_of (N.names names.now) when claims.now on.entry.now) }
+{
+    let mut posts = List::new(alloc);
+    while let [one, others @ ..] = on {
+        let Some(name) = named(names, Holds::Int, one) else {
+            return Ok(None);
+        };
+        push_posts(&mut posts, when, name, claims)?;
+        on = others;
+    }
+    Ok(Some(posts))
+}
+
+/// What an annotation gives with these claims; none where a name is bad.
+fn given<N: Names>(
+    alloc: Global,
+    names: &N,
+    effect_free: bool,
+    promise: Option<Promise>,
+    claims: List<Claim>,
+) -> Result<Option<Claims>, AllocError>
+    ensures { IfOk result (λ given. given ≡ spec.given (N.names names.now) effect_free promise claims) }
+{
+    let Some(promise) = promise else {
+        return Ok(Some(Claims {
+            list: claims,
+            effect_free,
+            posts: List::new(alloc),
+        }));
+    };
+    match posts_of(
+        alloc,
+        names,
+        promise.when,
+        claims.as_slice(),
+        promise.on.as_slice(),
+    )? {
+        None => Ok(None),
+        Some(posts) => Ok(Some(Claims {
+            list: List::new(alloc),
+            effect_free,
+            posts,
+        })),
+    }
+}
+
+fn with_plan<N: Names>(alloc: Global, names: &N, plan: Plan) -> Result<Claims, AnnotError>
     ensures claims { IfOk result (λ claims. spec.with_claims (N.names names.now) plan (spec.claims_of (N.names names.now) plan.written) ≡ Good claims) }
     ensures error { IfErr result (λ e. e ≢ error.Memory → spec.with_claims (N.names names.now) plan (spec.claims_of (N.names names.now) plan.written) ≡ Bad e) }
 {
@@ -135,6 +209,7 @@ fn with_plan<N: Names>(names: &N, plan: Plan) -> Result<Claims, AnnotError>
         first,
         written,
         effect_free,
+        promise,
     } = plan;
     let Some(list) = claims_behind(first, names, written.as_slice())? else {
         return Err(AnnotError::BadName);
@@ -142,7 +217,10 @@ fn with_plan<N: Names>(names: &N, plan: Plan) -> Result<Claims, AnnotError>
     if is_field(names.own()) && some_inherited(names, written.as_slice()) {
         return Err(AnnotError::InheritedName);
     }
-    Ok(Claims { list, effect_free })
+    match given(alloc, names, effect_free, promise, list)? {
+        None => Err(AnnotError::BadName),
+        Some(claims) => Ok(claims),
+    }
 }
 
 /// The claims of an annotation, or its one error, with no regard to how many claims it counts.
@@ -158,7 +236,7 @@ pub fn expand<N: Names>(alloc: Global, annot: &Annot, names: &N) -> Result<Claim
         return Err(AnnotError::BadArgument);
     };
     if fits(targets, names.target()) {
-        with_plan(names, plan)
+        with_plan(alloc, names, plan)
     } else {
         Err(AnnotError::WrongTarget)
     }
@@ -171,7 +249,7 @@ pub fn claims(alloc: Global, annot: &Annot, scope: &Scope) -> Result<Claims, Ann
     ensures claims { IfOk result (λ claims. spec.expansion annot.now scope.now ≡ Good claims) }
     ensures error { IfErr result (λ e. e ≢ error.Memory → spec.expansion annot.now scope.now ≡ Bad e) }
 {
-    if counted(annot) > MOST_CLAIMS {
+    if counted(annot) > MOST_CLAIMS as u128 {
         Err(AnnotError::TooMany)
     } else {
         expand(alloc, annot, &InScope { scope })

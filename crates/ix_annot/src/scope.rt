@@ -1,6 +1,6 @@
 //! What an annotation may name, what it stands on, and what it gives.
 
-use ix_core::{Claim, Name, Type_};
+use ix_core::{Claim, Name, Post, Type_};
 use ix_text::{List, Text};
 use std::alloc::AllocError;
 
@@ -11,7 +11,9 @@ pub enum Target {
     /// The ints in the innermost cells of an array.
     Element,
     Array,
+    /// A method whose result isn't boolean.
     Method,
+    BooleanMethod,
     Constructor,
     /// What no annotation fits.
     Other,
@@ -54,6 +56,8 @@ pub struct Claims {
     pub list: List<Claim>,
     /// Whether its method or constructor is side-effect-free.
     pub effect_free: bool,
+    /// What its method promises where it returns.
+    pub posts: List<Post>,
 }
 
 /// Why an annotation gives nothing.

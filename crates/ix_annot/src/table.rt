@@ -17,6 +17,8 @@ pub enum Targets {
     /// A method or a constructor.
     Callable,
     Method,
+    /// A method whose result is boolean.
+    BooleanMethod,
 }
 
 /// What is said of a value `v` and an array.
@@ -50,9 +52,13 @@ pub enum Says {
     Offsets,
     /// `v < bound`, of each bound in `value`.
     Bounds,
+    /// Where its method returns, of each `v` in `value`: `v + offset < array.length`, of each array in `targetValue` and its entry in `offset`.
+    Ensures,
+    /// The same of each `v` in `expression`, where its method returns the answer in `result`.
+    EnsuresIf,
 }
 
-const TABLE: [(&str, Targets, Says); 18] = [
+const TABLE: [(&str, Targets, Says); 20] = [
     ("NonNegative", Targets::IntOrElement, Says::AtLeast(0)),
     ("Positive", Targets::IntOrElement, Says::AtLeast(1)),
     ("GTENegativeOne", Targets::IntOrElement, Says::AtLeast(-1)),
@@ -103,6 +109,12 @@ const TABLE: [(&str, Targets, Says); 18] = [
     ("SideEffectFree", Targets::Callable, Says::EffectFree),
     ("Pure", Targets::Callable, Says::EffectFree),
     ("Override", Targets::Method, Says::Nothing),
+    ("EnsuresLTLengthOf", Targets::Method, Says::Ensures),
+    (
+        "EnsuresLTLengthOfIf",
+        Targets::BooleanMethod,
+        Says::EnsuresIf,
+    ),
 ];
 
 fn row_in(mut rows: &[(&str, Targets, Says)], name: &str) -> Option<(Targets, Says)>
@@ -133,8 +145,12 @@ pub fn fits(targets: Targets, target: Target) -> bool
         Targets::IntOrElement => matches!(target, Target::Int | Target::Element),
         Targets::Int => matches!(target, Target::Int),
         Targets::Array => matches!(target, Target::Array),
-        Targets::Callable => matches!(target, Target::Method | Target::Constructor),
-        Targets::Method => matches!(target, Target::Method),
+        Targets::Callable => matches!(
+            target,
+            Target::Method | Target::BooleanMethod | Target::Constructor
+        ),
+        Targets::Method => matches!(target, Target::Method | Target::BooleanMethod),
+        Targets::BooleanMethod => matches!(target, Target::BooleanMethod),
     }
 }
 
@@ -142,7 +158,10 @@ pub fn fits(targets: Targets, target: Target) -> bool
 pub fn is_of_method(targets: Targets) -> bool
     ensures { result ≡ spec.is_of_method targets }
 {
-    matches!(targets, Targets::Callable | Targets::Method)
+    matches!(
+        targets,
+        Targets::Callable | Targets::Method | Targets::BooleanMethod
+    )
 }
 
 fn is_named(arg: &AnnotArg, name: &str) -> bool
@@ -166,28 +185,39 @@ pub fn argument<'a>(name: &str, args: &'a [AnnotArg]) -> Option<&'a AnnotValue>
     None
 }
 
-fn entries_in(value: Option<&AnnotValue>) -> usize
+fn entries_in(value: Option<&AnnotValue>) -> u128
     ensures value { result ≡ spec.entries_in (option_map (λ value. value.now) value.entry) }
     ensures fits { result < 2 ^ 63 }
 {
     match value {
-        Some(AnnotValue::Texts(texts)) => texts.as_slice().len(),
+        Some(AnnotValue::Texts(texts)) => texts.as_slice().len() as u128,
         _ => 0,
     }
 }
 
+/// How many texts the argument of that name lists.
+fn entries(name: &str, args: &[AnnotArg]) -> u128
+    ensures value { result ≡ spec.entries args.now name.now }
+    ensures fits { result < 2 ^ 63 }
+{
+    entries_in(argument(name, args))
+}
+
 /// How many claims the annotation counts, before anything of it is tested.
-pub fn counted(annot: &Annot) -> usize
+#[tactic(auto, using(crate::proofs::Products::product_fits))]
+pub fn counted(annot: &Annot) -> u128
     ensures { result ≡ spec.counted annot.now }
 {
     let Some((_, says)) = row_named(&annot.name.text) else {
         return 0;
     };
-    let entries = entries_in(argument("value", annot.args.as_slice()));
+    let args = annot.args.as_slice();
     match says {
         Says::Nothing | Says::EffectFree => 0,
         Says::AtLeast(_) | Says::Between | Says::LengthAtLeast => 1,
-        Says::Arrays(Some(_), _) => 1 + entries,
-        Says::Arrays(None, _) | Says::Offsets | Says::Bounds => entries,
+        Says::Arrays(Some(_), _) => 1 + entries("value", args),
+        Says::Arrays(None, _) | Says::Offsets | Says::Bounds => entries("value", args),
+        Says::Ensures => entries("value", args) * entries("targetValue", args),
+        Says::EnsuresIf => entries("expression", args) * entries("targetValue", args),
     }
 }

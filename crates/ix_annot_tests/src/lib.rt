@@ -8,6 +8,8 @@ mod arguments;
 #[cfg(test)]
 mod names;
 #[cfg(test)]
+mod posts;
+#[cfg(test)]
 mod row;
 #[cfg(test)]
 mod table;

@@ -1,7 +1,7 @@
 //! An annotation, what it stands on, and what it gives.
 
-use ix_annot::{AnnotError, Claims, Scope, Target, claims, same_claim};
-use ix_core::{Base, Claim, Name, Type_};
+use ix_annot::{AnnotError, Claims, Scope, Target, claims, same_claim, same_name};
+use ix_core::{Base, Claim, Name, Post, Type_};
 use ix_text::{List, Span, Text};
 use ix_tree::{Annot, AnnotArg, AnnotValue, Ident};
 use std::alloc::{AllocError, Global};
@@ -20,6 +20,7 @@ pub type Arg = (&'static str, Value);
 #[derive(Clone, Copy)]
 pub enum Want {
     Claims(&'static [Claim], bool),
+    Posts(&'static [Post]),
     Error(u8),
 }
 
@@ -182,10 +183,33 @@ fn are_same(found: &[Claim], wanted: &[Claim]) -> bool {
     true
 }
 
+fn is_same_post(a: &Post, b: &Post) -> bool {
+    a.when == b.when && same_name(a.on, b.on) && same_claim(&a.claim, &b.claim)
+}
+
+fn are_same_posts(found: &[Post], wanted: &[Post]) -> bool {
+    if found.len() != wanted.len() {
+        return false;
+    }
+    for (a, b) in found.iter().zip(wanted) {
+        if !is_same_post(a, b) {
+            return false;
+        }
+    }
+    true
+}
+
 fn is_wanted(found: &Result<Claims, AnnotError>, want: Want) -> bool {
     match (found, want) {
         (Ok(found), Want::Claims(list, effect_free)) => {
-            are_same(found.list.as_slice(), list) && found.effect_free == effect_free
+            are_same(found.list.as_slice(), list)
+                && found.effect_free == effect_free
+                && found.posts.as_slice().is_empty()
+        }
+        (Ok(found), Want::Posts(posts)) => {
+            found.list.as_slice().is_empty()
+                && !found.effect_free
+                && are_same_posts(found.posts.as_slice(), posts)
         }
         (Err(error), Want::Error(n)) => number(*error) == n,
         _ => false,

@@ -22,7 +22,7 @@ use Rattle.ix_counts.proofs.FewDeclarations.{few_members, each_member_few, few_i
 use Rattle.ix_plain.specs.declared.body.Body.{Body}
 use Rattle.ix_plain.specs.declared.numbers.Next.{Next}
 use Rattle.ix_plain.specs.Members.{next_behind, first_numbers, is_static, slot_behind}
-use Rattle.ix_plain.specs.Program.{Tables, Home, site, home, start, tables, written_head, first_param, written_body, constructor_start}
+use Rattle.ix_plain.specs.Program.{Tables, Home, site, home, start, tables, written_head, default_head, first_param, written_body, constructor_start}
 use Rattle.ix_formed.specs.Additions.{AllOf}
 use Rattle.ix_formed.specs.Shape.{IsMethod, IsDefault, AreMethods, AreAllMethods, AreDefaults, IfElse, IsOneDefault, HasMethods, fields_of, fields_of_class, all_field_count}
 use Rattle.ix_formed.proofs.AllMethods.{program_has}
@@ -47,7 +47,7 @@ module _ (t : Tables) where
   method_few : (at : Home) (d : MethodDecl) (method : Method) → DeclaresFew (member.Method d) → IsMethod t at d method → HasFewLocals method
   method_few at d method few is =
       let free = slot_behind (first_param (is_static d)) d.params in
-      let s = site t at (written_head t at d).params in
+      let s = site t at (written_head t at d) in
       let counted = made_is (λ (body : Body). length body.locals ≤ (all_told (map telling d.body)).declares) (written_body s at d free) is.body (written_body_counted s at d free) is.made in
       let same = locals_are method is.body (ap (λ (m : Method). m.locals) is.same) in
       let declares = few_in_body d few in
@@ -55,7 +55,7 @@ module _ (t : Tables) where
 
   default_few : (at : Home) (span : Span) (method : Method) → IsDefault t at span method → HasFewLocals method
   default_few at span method is =
-      let s = site t at [] in
+      let s = site t at (default_head at span) in
       let kept = made_is (Keeps (start 1)) (constructor_start s at [] span (start 1)) is.body (constructor_keeps s at [] span (start 1)) is.made in
       let same = ap (λ (ls : List (Local × Span)). length ls) (ap (λ (m : Method). m.locals) is.same ∙ kept) in
       omega (arith, same)

@@ -23,7 +23,7 @@ use Rattle.ix_plain.specs.declared.body.Body.{Body}
 use Rattle.ix_plain.specs.declared.made.Spot.TheVariants as spot
 use Rattle.ix_plain.specs.Assigned.{assigns, all_assign}
 use Rattle.ix_plain.specs.Members.{next_field}
-use Rattle.ix_plain.specs.Parts.{Within, ◌>>=◌, Value, Asked, empty, done, computed, write, default, most_slots}
+use Rattle.ix_plain.specs.Parts.{Within, ◌>>=◌, Value, Asked, empty, done, taking, computed, write, default, most_slots}
 use Rattle.ix_plain.specs.Program as program
 use Rattle.ix_plain.specs.Program.{Home, start, args_or_none}
 use Rattle.ix_plain.specs.Scope.{Site, declared_type, declared_claims, constructor_at}
@@ -199,7 +199,16 @@ declarations_grow (d ∷ ds) site end body =
 
 returned_keeps : (value : Option Expr) (span : Span) (site : Site) (body : Body) → Makes (Keeps body) (statements.returned value span site body)
 returned_keeps None span site body = refl
-returned_keeps (Some e) span site body = used_keeps body (evaluated site e body) (λ v. item.Return (Some v.slot) e.span) (behind_keeps body _)
+returned_keeps (Some e) span site body = answers_or_not site.answers
+  where
+    answers_or_not : (answers : Bool) → Makes (Keeps body) (if answers then statements.answered site e body else statements.used site e (λ slot. item.Return (Some slot) e.span) body)
+    answers_or_not true =
+        let asked = (lowering e).condition (scope_for site body (assigns e).inside) body.made.free in
+        makes_then (λ (a : Asked). Unit {0}) (Keeps body) asked _ (makes_any asked)
+        (λ a any.
+        let taken = taking (record { items = body.made.items; free = a.free }) (statements.answer_item a.cond a.free e.span) in
+        makes_then (λ (v : Value). Unit {0}) (Keeps body) taken _ (makes_any taken) (λ v any. refl))
+    answers_or_not false = used_keeps body (evaluated site e body) (λ v. item.Return (Some v.slot) e.span) (behind_keeps body _)
 
 abbrev kind_run : StmtKind → Span → Run
 kind_run = fold-StmtKind (Span → Run) Running statements.kind_step statements.stmt_step

@@ -15,7 +15,7 @@ use ix_text::List;
 use ix_tree::{Init, LocalDecl};
 use ix_values::{InAnnotation, Local, Scopes, fill, note_declared, wrong_if};
 use ix_world::World;
-use ix_written::{Annotations, Declaration, variable};
+use ix_written::{Annotations, Declaration, of_variable, variable};
 use std::alloc::{AllocError, Global};
 
 /// What fills a variable of that type.
@@ -122,7 +122,8 @@ pub fn declare<'a>(
         Rule::DuplicateName,
         span,
     )?;
-    note_declared(alloc, notes, span, &ty, claims, false)?;
+    let claims = of_variable(alloc, claims);
+    note_declared(alloc, notes, span, &ty, claims)?;
     let outside = scopes.pending;
     scopes.pending = Some(name);
     initialiser(alloc, world, scopes, notes, &decl.init, &ty)?;

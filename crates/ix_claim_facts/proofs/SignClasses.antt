@@ -1,18 +1,23 @@
 -- What an int is at least is -1, 0 or 1 in all facts that the rules add.
-use Rattle.std.specs.Prelude.{ℕ, suc, pos, Bool, true, false, filter, List, [], ◌∷◌, ◌++◌}
+use Rattle.std.specs.Prelude.{ℕ, suc, pos, Bool, true, false, filter, List, [], ◌∷◌, ◌++◌, Option, None, Some}
 use Rattle.std.proofs.Common.{⊎_elim, subst, sym}
 use Rattle.ix_core.specs.declared.claim.Claim.{Claim}
 use Rattle.ix_core.specs.declared.claim.Name.{Name}
+use Rattle.ix_core.specs.declared.claim.Post.{Post}
 use Rattle.ix_core.specs.declared.claim.Type_.{Type_}
 use Rattle.ix_core.specs.declared.fact.Path.{Path}
 use Rattle.ix_core.specs.declared.fact.Path.TheVariants.{Slot, FieldOf}
 use Rattle.ix_core.specs.declared.fact.Fact.{Fact}
 use Rattle.ix_core.specs.declared.fact.Fact.TheVariants.{Rng, LenRng, Same}
 use Rattle.ix_core.specs.declared.op.CallOp.{CallOp}
+use Rattle.ix_core.specs.declared.op.Op.{Op}
+use Rattle.ix_core.specs.declared.op.OpKind.{OpKind}
+use Rattle.ix_core.specs.declared.op.OpKind.TheVariants as op
 use Rattle.ix_core.specs.declared.program.Field.{Field}
 use Rattle.ix_core.specs.declared.program.Local.{Local as Variable}
 use Rattle.ix_core.specs.declared.program.Method.{Method}
 use Rattle.ix_core.specs.declared.program.Program.{Program}
+use Rattle.ix_core.specs.Posts.{same_when}
 use Rattle.ix_core.specs.Tables.{field_at, method_at, param_slot}
 use Rattle.ix_facts.specs.AfterOperation.{is_int, is_array}
 use Rattle.ix_facts.specs.Assume.{claim_facts}
@@ -22,7 +27,7 @@ use Rattle.ix_facts.proofs.ClassesStay.{claim_classes}
 use Rattle.ix_facts.proofs.FactLists.{in_either}
 use Rattle.ix_steps.specs.MachineSteps.{on_paths, own_path}
 use Rattle.ix_claim_facts.specs.Names.{call_path, object_path, names_field}
-use Rattle.ix_claim_facts.specs.Signs.{claims_facts, params_facts, received, received_params, zero_facts, zero_fields, fields_facts, dependent_facts, read_facts, write_facts, entry_facts, own_fields, result_facts}
+use Rattle.ix_claim_facts.specs.Signs.{claims_facts, params_facts, received, received_params, zero_facts, zero_fields, fields_facts, dependent_facts, read_facts, write_facts, entry_facts, own_fields, posts_facts, result_facts, answer_facts, told_by_call, told_by, told_facts}
 
 none_have : HaveClasses []
 none_have f i = absurd i
@@ -40,6 +45,12 @@ if_have false facts have = none_have
 pub claims_have : (path : Name → Path) (p : Path) (claims : List Claim) → HaveClasses (claims_facts path p claims)
 claims_have path p [] = none_have
 claims_have path p (claim ∷ claims) = both_have (claim_facts (on_paths path claim) p) (claims_facts path p claims) (claim_classes (on_paths path claim) p) (claims_have path p claims)
+
+pub posts_have : (path : Name → Path) (wanted : Option Bool) (posts : List Post) → HaveClasses (posts_facts path wanted posts)
+posts_have path wanted [] = none_have
+posts_have path wanted (post ∷ posts) =
+    both_have (if_so (same_when post.when wanted) (claim_facts (on_paths path post.claim) (path post.on))) (posts_facts path wanted posts)
+    (if_have (same_when post.when wanted) (claim_facts (on_paths path post.claim) (path post.on)) (claim_classes (on_paths path post.claim) (path post.on))) (posts_have path wanted posts)
 
 pub params_have : (method : Method) (number : ℕ) (params : List Variable) → HaveClasses (params_facts method number params)
 params_have method number [] = none_have
@@ -88,7 +99,34 @@ write_have program object field = both_have (read_facts program object field) (d
 
 pub result_have : (program : Program) (call : CallOp) → HaveClasses (result_facts program call)
 result_have program call =
-    both_have (received (method_at program call.method).result (Slot call.target)) _ (received_has (method_at program call.method).result (Slot call.target)) (claims_have (call_path call) (Slot call.target) (method_at program call.method).result_claims)
+    both_have (received (method_at program call.method).result (Slot call.target)) _ (received_has (method_at program call.method).result (Slot call.target))
+    (both_have (claims_facts (call_path call) (Slot call.target) (method_at program call.method).result_claims) (posts_facts (call_path call) None (method_at program call.method).posts)
+    (claims_have (call_path call) (Slot call.target) (method_at program call.method).result_claims) (posts_have (call_path call) None (method_at program call.method).posts))
+
+told_by_call_have : (program : Program) (call : CallOp) (slot : ℕ) (answer : Bool) → HaveClasses (told_by_call program call slot answer)
+told_by_call_have program call slot answer = if_have _ (answer_facts program call answer) (posts_have (call_path call) (Some answer) (method_at program call.method).posts)
+
+told_by_have : (program : Program) (kind : OpKind) (slot : ℕ) (answer : Bool) → HaveClasses (told_by program kind slot answer)
+told_by_have program (op.StaticCall call) slot answer = told_by_call_have program call slot answer
+told_by_have program (op.InstanceCall call) slot answer = told_by_call_have program call slot answer
+told_by_have program (op.Const t value) slot answer = none_have
+told_by_have program (op.Copy t s ty) slot answer = none_have
+told_by_have program (op.Num t arith left right) slot answer = none_have
+told_by_have program (op.Unary t unary operand) slot answer = none_have
+told_by_have program (op.Length t array) slot answer = none_have
+told_by_have program (op.NewArray t ty size) slot answer = none_have
+told_by_have program (op.Fill t ty entries) slot answer = none_have
+told_by_have program (op.Load t array index ty) slot answer = none_have
+told_by_have program (op.Store array index value ty) slot answer = none_have
+told_by_have program (op.ReadField t object field) slot answer = none_have
+told_by_have program (op.WriteField object field value) slot answer = none_have
+told_by_have program (op.NewObject call) slot answer = none_have
+told_by_have program (op.SuperCall call) slot answer = none_have
+told_by_have program (op.Print value) slot answer = none_have
+
+pub told_have : (program : Program) (last : Option Op) (slot : ℕ) (answer : Bool) → HaveClasses (told_facts program last slot answer)
+told_have program None slot answer = none_have
+told_have program (Some done) slot answer = told_by_have program done.kind slot answer
 
 pub super_have : (program : Program) (own inherited : List ℕ) → HaveClasses (zero_fields program own ++ fields_facts program inherited)
 super_have program own inherited = both_have (zero_fields program own) (fields_facts program inherited) (zeros_have program own) (fields_have program inherited)

@@ -17,7 +17,7 @@ use Rattle.ix_facts.proofs.SaidRules.{without_mono, with_copy_mono}
 use Rattle.ix_facts.proofs.StepLaws.{gives_step, then_step}
 use Rattle.ix_steps.specs.FieldAccess.{spared_by}
 use Rattle.ix_claim_facts.specs.Names.{is_built}
-use Rattle.ix_claim_facts.specs.Signs.{Adds, Forgets, Copies, read_facts, write_facts, of_callee, result_facts, zero_fields, own_fields, fields_facts, inherited_fields}
+use Rattle.ix_claim_facts.specs.Signs.{Adds, Forgets, Copies, read_facts, write_facts, of_callee, result_facts, told_facts, zero_fields, own_fields, fields_facts, inherited_fields}
 use Rattle.ix_claim_facts.specs.SignLaws.{SignsMonotone}
 
 adds_monotone : (new : List Fact) → IsMonotone (with_facts new)
@@ -47,6 +47,7 @@ signs_monotone program method = record {
   call = λ call.
       let changed : Path → Bool = of_callee program method call in
       then_step (Forgets changed) (Adds (result_facts program call)) (forgets_step changed) (adds_step (result_facts program call));
+  told = λ last slot answer. adds_step (told_facts program last slot answer);
   super = λ call.
       let changed : Path → Bool = λ p. of_callee program method call p || of_this p in
       let new : List Fact = zero_fields program (own_fields program method) ++ fields_facts program (inherited_fields program method) in

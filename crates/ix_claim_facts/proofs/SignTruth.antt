@@ -56,6 +56,7 @@ signs_hold program method = record {
   call = λ call s t v w same result m gives.
       let one = forgets_hold _ s gives.0 v w same gives.1 m in
       adds_hold _ gives.0 t w result gives.2 one;
+  told = λ last slot answer s t v told m gives. adds_hold _ s t v told gives m;
   super = λ call s t v w same zero inherited m gives.
       let one = forgets_hold _ s gives.0 v w same gives.1 m in
       adds_hold _ gives.0 t w (all_hold_app w _ _ zero inherited) gives.2 one;

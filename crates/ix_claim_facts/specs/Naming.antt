@@ -4,12 +4,13 @@ use Rattle.ix_text.specs.declared.span.Span.{Span}
 use Rattle.ix_core.specs.declared.claim.Claim.{Claim}
 use Rattle.ix_core.specs.declared.claim.Name.{Name}
 use Rattle.ix_core.specs.declared.claim.Name.TheVariants.{Param}
+use Rattle.ix_core.specs.declared.claim.Post.{Post}
 use Rattle.ix_core.specs.declared.fact.Path.{Path}
 use Rattle.ix_core.specs.declared.program.Field.{Field}
 use Rattle.ix_core.specs.declared.program.Local.{Local as Variable}
 use Rattle.ix_core.specs.declared.program.Method.{Method}
 use Rattle.ix_core.specs.declared.program.Program.{Program}
-use Rattle.ix_core.specs.Objects.{claim_names}
+use Rattle.ix_core.specs.Objects.{claim_names, post_names}
 use Rattle.ix_core.specs.Tables.{method_at, field_at}
 use Rattle.ix_steps.specs.MachineSteps.{own_path}
 use Rattle.ix_claim_facts.specs.declared.naming.Naming.{Naming}
@@ -35,18 +36,23 @@ abbrev pub AreSmallClaims : List Claim → Type 0
 AreSmallClaims [] = Unit {0}
 AreSmallClaims (claim ∷ claims) = AreSmallNames (claim_names claim) × AreSmallClaims claims
 
+abbrev pub AreSmallPosts : List Post → Type 0
+AreSmallPosts [] = Unit {0}
+AreSmallPosts (post ∷ posts) = AreSmallNames (post_names post) × AreSmallPosts posts
+
 abbrev pub AreSmallParams : List Variable → Type 0
 AreSmallParams params = (number : ℕ) (param : Variable) → slice_get params number ≡ Some param → AreSmallClaims param.claims
 
 abbrev pub AreSmallLocals : List (Variable × Span) → Type 0
 AreSmallLocals locals = (number : ℕ) (local : Variable × Span) → slice_get locals number ≡ Some local → AreSmallClaims local.0.claims
 
--- a method has fewer parameters and locals than that, and its claims name no parameter beyond
+-- a method has fewer parameters and locals than that, and its claims and posts name no parameter beyond
 pub record HasSmallNames (method : Method) : Type 0 where
   pub few : length method.params + 1 < 2 ^ 32
   pub types : length method.param_types + 1 < 2 ^ 32
   pub params : AreSmallParams method.params
   pub result : AreSmallClaims method.result_claims
+  pub posts : AreSmallPosts method.posts
   pub few_locals : length method.locals < 2 ^ 32
   pub locals : AreSmallLocals method.locals
 

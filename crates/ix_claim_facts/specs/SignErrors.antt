@@ -1,12 +1,15 @@
 -- The errors of signatures and objects: each with its place, its subject and its claim. The number beside an error is the claim's place in its
 -- declaration, by which errors of one place, rule and subject are ordered. A claim that isn't proved is an error (Checker Framework manual, "How the
 -- checker framework works": an assignment, an argument, a result whose annotation isn't met).
-use Rattle.std.specs.Prelude.{◌≡◌, ◌⊎◌, ℕ, Bool, true, false, not, ◌&&◌, ◌||◌, ◌==◌, List, slice_get, unwrap_or, Option, Some, ◌++◌}
+use Rattle.std.specs.Prelude.{◌≡◌, ◌⊎◌, ℕ, Bool, true, false, not, ◌&&◌, ◌||◌, ◌==◌, List, slice_get, unwrap_or, Option, None, Some, ◌++◌}
 use Rattle.ix_text.specs.declared.span.Span.{Span}
 use Rattle.ix_core.specs.declared.claim.Claim.{Claim}
+use Rattle.ix_core.specs.declared.claim.Name.{Name}
+use Rattle.ix_core.specs.declared.claim.Name.TheVariants as name
+use Rattle.ix_core.specs.declared.claim.Post.{Post}
 use Rattle.ix_core.specs.declared.error.Error.{Error}
 use Rattle.ix_core.specs.declared.error.Subject.{Subject}
-use Rattle.ix_core.specs.declared.error.Subject.TheVariants.{Param, FieldNamed, Result}
+use Rattle.ix_core.specs.declared.error.Subject.TheVariants.{Element, Param, FieldNamed, Result, PostField}
 use Rattle.ix_core.specs.declared.error.Detail.TheVariants as detail
 use Rattle.ix_core.specs.declared.fact.Path.{Path}
 use Rattle.ix_core.specs.declared.fact.Path.TheVariants.{Slot, FieldOf}
@@ -19,6 +22,7 @@ use Rattle.ix_core.specs.declared.op.OpKind.TheVariants as op
 use Rattle.ix_core.specs.declared.program.Local.{Local as Variable}
 use Rattle.ix_core.specs.declared.program.Method.{Method}
 use Rattle.ix_core.specs.declared.program.Program.{Program}
+use Rattle.ix_core.specs.Posts.{same_answer}
 use Rattle.ix_core.specs.Types.{is_void}
 use Rattle.ix_core.specs.Tables.{method_at, field_at, all_fields, param_slot, param_slots}
 use Rattle.ix_facts.specs.Forget.{of_slot, of_call}
@@ -74,6 +78,33 @@ pub record ReturnClaim (method : Method) (number : ℕ) (value : Option ℕ) (sp
   pub slot : ℕ
   pub returned : value ≡ Some slot
   pub of : Unproved (λ claim. Refuses store (on_paths (own_path method) claim) (Slot slot)) method.result_claims 6 span (Result number) error rank
+
+-- A post of every return counts wherever the method leaves; one of one answer at each `return` of a value, but where the other answer is written out.
+abbrev pub counts_at : Option Bool → Option ℕ → Option Bool → Bool
+counts_at None value known = true
+counts_at (Some answer) None known = false
+counts_at (Some answer) (Some slot) None = true
+counts_at (Some answer) (Some slot) (Some written) = same_answer answer written
+
+-- the value, or the method's name where there is none
+abbrev pub value_place : Method → Option ℕ → Span → Span
+value_place method None span = method.span
+value_place method (Some slot) span = span
+
+-- The parameter or the field that a post is on; a post is on nothing else.
+abbrev pub post_subject : ℕ → Name → Subject
+post_subject method (name.Param number) = Param method number
+post_subject method (name.FieldNamed field) = PostField method field
+post_subject method (name.Local number) = Element
+
+-- post.claim: where a method returns or ends, a post isn't proved of its own variables. `known` is the answer that is written out there. Place: the
+-- value, or the method's name where there is none.
+pub record PostClaim (method : Method) (number : ℕ) (value : Option ℕ) (known : Option Bool) (span : Span) (store : Stored) (error : Error) (rank : ℕ) : Type 0 where
+  pub post : Post
+  pub promised : slice_get method.posts rank ≡ Some post
+  pub counts : counts_at post.when value known ≡ true
+  pub refused : Refuses store (on_paths (own_path method) post.claim) (own_path method post.on)
+  pub is : error ≡ unproved 18 (value_place method value span) (post_subject number post.on) post.claim
 
 -- field.claim: a value that is written to a built object's field isn't proved to meet a claim of the field. It is tried on the store in which what the
 -- object's claims say is known. Place: the value.

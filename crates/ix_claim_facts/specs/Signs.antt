@@ -3,17 +3,23 @@
 use Rattle.std.specs.Prelude.{ℕ, suc, pos, Bool, true, false, not, ◌&&◌, ◌||◌, ◌==◌, List, [], ◌∷◌, ◌++◌, filter, Option, None, Some}
 use Rattle.ix_core.specs.declared.claim.Claim.{Claim}
 use Rattle.ix_core.specs.declared.claim.Name.{Name}
+use Rattle.ix_core.specs.declared.claim.Post.{Post}
 use Rattle.ix_core.specs.declared.claim.Type_.{Type_}
 use Rattle.ix_core.specs.declared.fact.Path.{Path}
 use Rattle.ix_core.specs.declared.fact.Path.TheVariants.{Slot, FieldOf}
 use Rattle.ix_core.specs.declared.fact.Fact.{Fact}
 use Rattle.ix_core.specs.declared.fact.Fact.TheVariants.{Rng, LenRng, Same}
 use Rattle.ix_core.specs.declared.op.CallOp.{CallOp}
+use Rattle.ix_core.specs.declared.op.Op.{Op}
+use Rattle.ix_core.specs.declared.op.OpKind.{OpKind}
+use Rattle.ix_core.specs.declared.op.OpKind.TheVariants as op
 use Rattle.ix_core.specs.declared.program.Field.{Field}
 use Rattle.ix_core.specs.declared.program.Local.{Local as Variable}
 use Rattle.ix_core.specs.declared.program.Method.{Method}
 use Rattle.ix_core.specs.declared.program.Program.{Program}
+use Rattle.ix_core.specs.Posts.{same_when}
 use Rattle.ix_core.specs.Tables.{method_at, class_at, field_at, all_fields, param_slot}
+use Rattle.ix_core.specs.Types.{is_void}
 use Rattle.ix_facts.specs.AfterOperation.{is_int, is_array}
 use Rattle.ix_facts.specs.Assume.{claim_facts}
 use Rattle.ix_facts.specs.Exact.{if_so}
@@ -142,15 +148,40 @@ abbrev pub of_callee : Program → Method → CallOp → Path → Bool
 of_callee program method call p =
     of_slot call.target p || (not (method_at program call.method).effect_free && of_call (λ field. (field_at program field).is_final) (own_slot method) p)
 
--- What is known of a call's result: an array has its own length, and the claims of the named method hold, with the arguments for its parameters.
+-- What the posts of this answer add, or those of every return, where names stand for these paths.
+abbrev pub posts_facts : (Name → Path) → Option Bool → List Post → List Fact
+posts_facts path wanted [] = []
+posts_facts path wanted (post ∷ posts) = if_so (same_when post.when wanted) (claim_facts (on_paths path post.claim) (path post.on)) ++ posts_facts path wanted posts
+
+-- What is known of a call's result: an array has its own length, and the claims of the named method hold, with the arguments for its parameters. So do its
+-- posts of every return, of the arguments and of the receiver's fields.
 abbrev pub result_facts : Program → CallOp → List Fact
 result_facts program call =
     received (method_at program call.method).result (Slot call.target)
-    ++ claims_facts (call_path call) (Slot call.target) (method_at program call.method).result_claims
+    ++ (claims_facts (call_path call) (Slot call.target) (method_at program call.method).result_claims
+    ++ posts_facts (call_path call) None (method_at program call.method).posts)
 
 -- A call, `new` included (JLS 15.9.4, 15.12.4).
 abbrev pub CallGives : Program → Method → CallOp → Stored → Stored → Type 0
 CallGives program method call = Then (Forgets (of_callee program method call)) (Adds (result_facts program call))
+
+-- What the answer of a call tells: the named method's posts of this answer.
+abbrev pub answer_facts : Program → CallOp → Bool → List Fact
+answer_facts program call answer = posts_facts (call_path call) (Some answer) (method_at program call.method).posts
+
+-- What a boolean slot tells behind an operation: something only where that is a call of a method with a result, which the slot has.
+abbrev pub told_by_call : Program → CallOp → ℕ → Bool → List Fact
+told_by_call program call slot answer = if_so (call.target == slot && not (is_void (method_at program call.method).result)) (answer_facts program call answer)
+
+abbrev pub told_by : Program → OpKind → ℕ → Bool → List Fact
+told_by program (op.StaticCall call) slot answer = told_by_call program call slot answer
+told_by program (op.InstanceCall call) slot answer = told_by_call program call slot answer
+told_by program _ slot answer = []
+
+-- What it tells behind the operation that was done last.
+abbrev pub told_facts : Program → Option Op → ℕ → Bool → List Fact
+told_facts program None slot answer = []
+told_facts program (Some done) slot answer = told_by program done.kind slot answer
 
 -- `super(..)`: as a call, and nothing stays known of `this`; then the own fields are 0 or null, and the claims of inherited fields hold (JLS 8.8.7.1,
 -- 12.5).

@@ -14,8 +14,9 @@ mod fields;
 mod naming;
 mod overriding;
 mod paths;
+mod posts;
 
-pub use calls::{facts_of_this, is_effect_free, result_facts};
+pub use calls::{facts_of_this, is_effect_free, result_facts, told_facts};
 pub use dependent::{names_field, push_dependents};
 pub use entry::entry_facts;
 pub use facts::{

@@ -79,7 +79,8 @@ fn written_path(object: u32, field: u32, value: u32, name: &Name) -> Path
 }
 
 impl Naming<'_> {
-    fn path(&self, name: &Name) -> Path
+    /// The path that the name stands for.
+    pub fn path(&self, name: &Name) -> Path
         requires { IsSmallName name.now }
         ensures { result ≡ path_by self.now name.now }
     {

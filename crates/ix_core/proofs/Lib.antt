@@ -39,3 +39,5 @@ mod Unsafe
 mod FormedRows
 pub mod BrokenRows
 mod InputRows
+-- Programs with posts.
+pub mod PostRows

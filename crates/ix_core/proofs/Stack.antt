@@ -9,6 +9,7 @@ use Rattle.ix_core.specs.declared.claim.Base.TheVariants as base
 use Rattle.ix_core.specs.declared.claim.Claim.{Claim}
 use Rattle.ix_core.specs.declared.claim.Claim.TheVariants.{Range, Low, Length, Same, Less, Upper, Search, Negative}
 use Rattle.ix_core.specs.declared.claim.Name.{Name}
+use Rattle.ix_core.specs.declared.claim.Post.{Post}
 use Rattle.ix_core.specs.declared.claim.Name.TheVariants.{Param, Local, FieldNamed}
 use Rattle.ix_core.specs.declared.claim.Off.TheVariants as off
 use Rattle.ix_core.specs.declared.claim.Type_.{Type_}
@@ -21,7 +22,8 @@ use Rattle.ix_core.specs.declared.program.Method.{Method}
 use Rattle.ix_core.specs.Claims.{True, AreTrue, offset_of}
 use Rattle.ix_core.specs.Heap.{Held, Reading, Num, Boolean, Null, At, Heap, Object, Kind, ObjectOf, ArrayOf, value_at, object_at, reading_of}
 use Rattle.ix_core.specs.Machine.{CallKind, Static, Instance, New, Super, Frame, Waiting, State, Limits, is_past, frame, call_values, call_heap, slots_with, receiver_slot, found_at, found_for, callee_of, target_of, set_target, returned_or, result_of, result_shown, resumed, entered, stopped, called, lacks_cells, moved, next_move, step, step_from, Move, Go, Wrap, Tell, Enter, Leave, Stop, Ending, Ended, NullUsed, HeapFull, FrameFull}
-use Rattle.ix_core.specs.Objects.{IsOn, IsIntHeld, KeepsInts, Later, IsKept, IsSame, HasField, MeetsField, IsFree, HeapKeeps, FrameKeeps, IsOwn, IsInput, This, Named, Names, StepKeeps, claim_names, offset_names}
+use Rattle.ix_core.specs.Posts.{PostsHold}
+use Rattle.ix_core.specs.Objects.{PostsName, Promised, IsOn, IsIntHeld, KeepsInts, Later, IsKept, IsSame, HasField, MeetsField, IsFree, HeapKeeps, FrameKeeps, IsOwn, IsInput, This, Named, Names, StepKeeps, claim_names, offset_names}
 use Rattle.ix_core.specs.Safe.{Counts, IsBad}
 use Rattle.ix_core.specs.Tasks.{Tasks, Empty, code_then}
 use Rattle.ix_core.specs.Waits.{Knowledge, AreNotOwn, FitsKind, FitsCall, MeetParams, param_readings, reading_through, Since, Stays, Reason, NoEffect, Final, Hidden, Constructs, Makes, is_super, AreFresh, Running, Uncounted, Runs, Ends}
@@ -54,6 +56,14 @@ claim_named (Upper array o constant) v f g same is =
     omega (arith, ints)
 claim_named (Search array) v f g same is = let e = ap (λ (r : Reading). r.size) (same array 0 refl) in (omega (arith, ints), omega (arith, ints))
 claim_named (Negative array) v f g same is = let e = ap (λ (r : Reading). r.size) (same array 0 refl) in (omega (arith, ints), is.1)
+
+-- posts are true where the names in them have the same readings
+posts_renamed : (posts : List Post) (f g : Name → Reading) (value : Option Held) → ((name : Name) → PostsName posts name → f name ≡ g name) → PostsHold posts f value → PostsHold posts g value
+posts_renamed [] f g value same is = tt
+posts_renamed (post ∷ posts) f g value same is = (
+  λ speaks. subst (λ r. True post.claim r g) (same post.on (0, 0, post, refl, refl)) (claim_named post.claim (f post.on) f g (λ name at e. same name (0, suc at, post, refl, e)) (is.0 speaks)),
+  posts_renamed posts f g value (λ name n. same name (suc n.0, n.1, n.2, n.3, n.4)) is.1,
+)
 
 true_named : (claims : List Claim) (v : Reading) (f g : Name → Reading) → ((name : Name) → Names claims name → f name ≡ g name) → AreTrue claims v f → AreTrue claims v g
 true_named [] v f g same is = tt
@@ -560,8 +570,11 @@ module _ (profile : Profile) (world : World) (Typed : ℕ → Tasks → List Hel
         (frame_without world know building n waiter w.frame.slots heap (λ c at. not_gone waiter.class (record { constructor = c; this = at; of = refl })) wait.frame_keeps)
         (λ at to. subst (IsFree (without building n) heap) (sym this) (kept.on, λ is. is.1 refl))
         (int.held 0) tt
-        (subst (λ (x : Method). AreTrue x.result_claims (reading_of heap (value_at state.now.slots 0)) (param_readings world x given heap)) (sym same)
-        (subst (λ claims. AreTrue claims (reading_of heap (value_at state.now.slots 0)) (param_readings world ends given heap)) (sym (laws.tables.no_result state.now.method fits.0)) tt))
+        (subst (λ (x : Method). Results world x given heap (Some (value_at state.now.slots 0))) (sym same)
+        (record {
+          claims = subst (λ claims. AreTrue claims (reading_of heap (value_at state.now.slots 0)) (param_readings world ends given heap)) (sym (laws.tables.no_result state.now.method fits.0)) tt;
+          posts = subst (λ posts. PostsHold posts (param_readings world ends given heap) (Some (value_at state.now.slots 0))) (sym (laws.tables.no_posts state.now.method fits.0)) tt;
+        }))
         (λ q. subst (λ (x : Method). x.effect_free ≡ true) same q)
         (λ s. same)
         (λ s. not_super (New class) e refl s)
@@ -573,6 +586,12 @@ module _ (profile : Profile) (world : World) (Typed : ℕ → Tasks → List Hel
     named_same same (Local number) is = absurd (laws.tables.no_locals state.now.method number is)
     named_same same (FieldNamed field) is = ap (λ held. reading_through world state.heap held field) (same 0 (This (laws.tables.named state.now.method field is)))
 
+    posts_same : ((slot : ℕ) → IsInput ends slot → value_at state.now.slots slot ≡ value_at given slot) → (name : Name) → PostsName ends.posts name
+        → param_readings world ends state.now.slots state.heap name ≡ param_readings world ends given state.heap name
+    posts_same same (Param number) is = ap (reading_of state.heap) (same (param_slot ends number) (Promised number is))
+    posts_same same (Local number) is = absurd (laws.tables.posts_no_locals state.now.method number is)
+    posts_same same (FieldNamed field) is = ap (λ held. reading_through world state.heap held field) (same 0 (This (laws.tables.posts_named state.now.method field is)))
+
     -- what the result's claims name is as it was in the values that were given
     result_named : (value : Held) → ((slot : ℕ) → IsInput ends slot → value_at state.now.slots slot ≡ value_at given slot)
         → AreTrue ends.result_claims (reading_of state.heap value) (param_readings world ends state.now.slots state.heap) → AreTrue ends.result_claims (reading_of state.heap value) (param_readings world ends given state.heap)
@@ -581,18 +600,20 @@ module _ (profile : Profile) (world : World) (Typed : ℕ → Tasks → List Hel
 
     results_of : (value : Option Held) → Results world ends state.now.slots state.heap value
         → ((x : Held) → AreTrue ends.result_claims (reading_of state.heap x) (param_readings world ends given state.heap) → AreTrue named.result_claims (reading_of state.heap x) (param_readings world named given state.heap))
+        → ((o : Option Held) → PostsHold ends.posts (param_readings world ends given state.heap) o → PostsHold named.posts (param_readings world named given state.heap) o)
         → Results world named given state.heap value
-    results_of None is stands = tt
-    results_of (Some x) is stands = stands x (result_named x all.0.inputs is)
+    results_of None is stands keeps_posts = record { claims = tt; posts = keeps_posts None (posts_renamed ends.posts _ _ None (posts_same all.0.inputs) is.posts) }
+    results_of (Some x) is stands keeps_posts = record { claims = stands x (result_named x all.0.inputs is.claims); posts = keeps_posts (Some x) (posts_renamed ends.posts _ _ (Some x) (posts_same all.0.inputs) is.posts) }
 
     -- a method ends
     leave_plain : (kind : CallKind) (value : Option Held) → all.0.kind ≡ kind → is_super kind ≡ false → ends.constructor ≡ false → IsIntIf value → FillsTarget value (target_of (tables_in world) kind all.0.call)
         → ((x : Held) → AreTrue ends.result_claims (reading_of state.heap x) (param_readings world ends given state.heap) → AreTrue named.result_claims (reading_of state.heap x) (param_readings world named given state.heap))
+        → ((o : Option Held) → PostsHold ends.posts (param_readings world ends given state.heap) o → PostsHold named.posts (param_readings world named given state.heap) o)
         → (named.effect_free ≡ true → ends.effect_free ≡ true)
         → Leaves profile world know building ends state.now.slots state.heap value
         → Running world know (resumed value state (w ∷ below))
-    leave_plain kind value e isnt plain is_int is_given stands effect leaving =
-        leave_with building value keeps all.0.frame_keeps (λ at to. leaving.free plain) is_int (subst (λ k. FillsTarget value (target_of (tables_in world) k all.0.call)) (sym e) is_given) (results_of value (leaving.results plain) stands)
+    leave_plain kind value e isnt plain is_int is_given stands keeps_posts effect leaving =
+        leave_with building value keeps all.0.frame_keeps (λ at to. leaving.free plain) is_int (subst (λ k. FillsTarget value (target_of (tables_in world) k all.0.call)) (sym e) is_given) (results_of value (leaving.results plain) stands keeps_posts)
         effect (λ s. not_super kind e isnt s) (λ s. not_super kind e isnt s)
         all.1
 
@@ -607,8 +628,11 @@ module _ (profile : Profile) (world : World) (Typed : ℕ → Tasks → List Hel
         leave_with building (Some (value_at state.now.slots 0)) keeps wait.frame_keeps
         (λ at to. none_some at (sym none ∙ to))
         (int.held 0) tt
-        (subst (λ (x : Method). AreTrue x.result_claims (reading_of heap (value_at state.now.slots 0)) (param_readings world x given heap)) (sym same)
-        (subst (λ claims. AreTrue claims (reading_of heap (value_at state.now.slots 0)) (param_readings world ends given heap)) (sym (laws.tables.no_result state.now.method fits.1)) tt))
+        (subst (λ (x : Method). Results world x given heap (Some (value_at state.now.slots 0))) (sym same)
+        (record {
+          claims = subst (λ claims. AreTrue claims (reading_of heap (value_at state.now.slots 0)) (param_readings world ends given heap)) (sym (laws.tables.no_result state.now.method fits.1)) tt;
+          posts = subst (λ posts. PostsHold posts (param_readings world ends given heap) (Some (value_at state.now.slots 0))) (sym (laws.tables.no_posts state.now.method fits.1)) tt;
+        }))
         (λ q. subst (λ (x : Method). x.effect_free ≡ true) same q)
         (λ s. same)
         (λ s object at field has. leaving.built fits.1 object field (this ∙ at) (subst (λ (x : Method). HasField world (ObjectOf x.class) field) same has))
@@ -633,6 +657,7 @@ module _ (profile : Profile) (world : World) (Typed : ℕ → Tasks → List Hel
     leave_by Static returned e fits runs met inputs makes leaving =
         let same : named ≡ ends = ap world.methods (some_same all.0.call.method state.now.method runs) in
         (leave_plain Static (result returned) e refl fits (is_int_result returned) (result_given named ends all.0.call.target state.now.slots returned fits (ap (λ (m : Method). m.result) same)) (λ x is. subst (λ (m : Method). AreTrue m.result_claims (reading_of state.heap x) (param_readings world m given state.heap)) (sym same) is)
+        (λ o is. subst (λ (m : Method). PostsHold m.posts (param_readings world m given state.heap) o) (sym same) is)
         (λ q. subst (λ (m : Method). m.effect_free ≡ true) same q) leaving)
     leave_by Instance returned e fits runs met inputs makes leaving =
         let wait = all.0 in
@@ -647,6 +672,7 @@ module _ (profile : Profile) (world : World) (Typed : ℕ → Tasks → List Hel
         (stands.promises (call_values Instance wait.call (length wait.began) w.frame.slots) wait.began state.heap x on wait.since.later
         (λ q object field lt. wait.quiet q (ap is_super e) object field lt) met
         (subst (λ values. AreTrue ends.result_claims (reading_of state.heap x) (param_readings world ends values state.heap)) (sym is_given) is)))
+        (λ o is. stands.posts given state.heap o is)
         stands.effect leaving)
     leave_by (New class) returned e fits runs met inputs makes leaving =
         let same : named ≡ ends = ap world.methods (some_same all.0.call.method state.now.method runs) in

@@ -9,6 +9,7 @@ pub mod Safe
 pub mod Inputs
 pub mod World
 pub mod Objects
+pub mod Posts
 pub mod Waits
 pub mod Analysis
 pub mod Numbers

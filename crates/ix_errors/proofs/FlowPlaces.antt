@@ -3,7 +3,7 @@ use Rattle.std.proofs.Common.{ℕ, true, false, Option, None, Some}
 use Rattle.ix_text.specs.declared.span.Span.{Span}
 use Rattle.ix_core.specs.declared.op.Op.{Op}
 use Rattle.ix_core.specs.Code.{Code, End, Do, If, Break, Continue, Return, Throw, Loop, Condition, Known, Compare, Truth, Both, Either, Opposite}
-use Rattle.ix_flow.specs.LastDone.{written_answer}
+use Rattle.ix_core.specs.Posts.{written_answer}
 use Rattle.ix_flow.specs.Flow.{Point, Doing, Returning, Ending, Rules, Flows, Asks, IsFlow}
 use Rattle.ix_code_places.specs.CodePlaces.{OpPlaces, CodePlaces, AskedPlaces}
 

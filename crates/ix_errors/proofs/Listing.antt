@@ -13,7 +13,7 @@ use Rattle.ix_core.specs.declared.claim.Off.TheVariants as off
 use Rattle.ix_core.specs.declared.error.Detail.{Detail}
 use Rattle.ix_core.specs.declared.error.Detail.TheVariants as detail
 use Rattle.ix_core.specs.declared.error.Subject.{Subject}
-use Rattle.ix_core.specs.declared.error.Subject.TheVariants.{Element, Param, Local, FieldNamed, Result}
+use Rattle.ix_core.specs.declared.error.Subject.TheVariants.{Element, Param, Local, FieldNamed, Result, PostField}
 use Rattle.ix_core.specs.SameClaims.{same_name, same_offset, same_claim}
 use Rattle.ix_core.proofs.RepeatedClaims.{same_claims}
 use Rattle.ix_method_errors.specs.Ranked.{Ranked}
@@ -78,6 +78,7 @@ subject_code (Param method number) = (1, (method, number))
 subject_code (Local method number) = (2, (method, number))
 subject_code (FieldNamed field) = (3, (field, 0))
 subject_code (Result method) = (4, (method, 0))
+subject_code (PostField method field) = (5, (method, field))
 
 abbrev subject_of : ℕ × (ℕ × ℕ) → Subject
 subject_of (kind, (first, second)) =
@@ -85,7 +86,8 @@ subject_of (kind, (first, second)) =
     else if kind == 1 then Param first second
     else if kind == 2 then Local first second
     else if kind == 3 then FieldNamed first
-    else Result first
+    else if kind == 4 then Result first
+    else PostField first second
 
 subject_back : (s : Subject) → subject_of (subject_code s) ≡ s
 subject_back Element = refl
@@ -93,6 +95,7 @@ subject_back (Param method number) = refl
 subject_back (Local method number) = refl
 subject_back (FieldNamed field) = refl
 subject_back (Result method) = refl
+subject_back (PostField method field) = refl
 
 told_subjects : (s t : Subject) → Told s t
 told_subjects s t =

@@ -1,5 +1,5 @@
 -- An error that a store gives at a point has a place that the point names, or that of the method.
-use Rattle.std.proofs.Common.{◌≡◌, inl, inr, ℕ, zero, suc, List, [], ◌∷◌, Option, Some, None, slice_get, unwrap_or, sym, subst}
+use Rattle.std.proofs.Common.{◌≡◌, inl, inr, ℕ, zero, suc, Bool, List, [], ◌∷◌, Option, Some, None, slice_get, unwrap_or, sym, subst}
 use Rattle.std.specs.List.{AllByRecursion}
 use Rattle.ix_text.specs.declared.span.Span.{Span}
 use Rattle.ix_core.specs.declared.claim.Claim.{Claim}
@@ -15,7 +15,7 @@ use Rattle.ix_core.specs.declared.program.Program.{Program}
 use Rattle.ix_facts.specs.Stores.{Stored}
 use Rattle.ix_flow.specs.Flow.{Point, Doing, Returning, Ending}
 use Rattle.ix_labels.specs.RuleErrors.{AssignClaim, KindErrors, PointErrors}
-use Rattle.ix_labels.specs.SignErrors.{Unproved, plain, part, ArgumentClaim}
+use Rattle.ix_labels.specs.SignErrors.{Unproved, plain, part, value_place, ArgumentClaim, PostClaim}
 use Rattle.ix_code_places.specs.CodePlaces.{ArgPlaces, CallPlaces, OpPlaces, KindPlaces}
 use Rattle.ix_errors.proofs.FlowPlaces.{PointPlaces}
 
@@ -77,13 +77,22 @@ module _ (P : Span → Type 0) where
   kind_place program method number done (op.ReadField target object field) store error rank o k none = absurd none
   kind_place program method number done (op.Print value) store error rank o k none = absurd none
 
+  value_placed : (method : Method) (value : Option ℕ) (span : Span) → P method.span → P span → P (value_place method value span)
+  value_placed method None span m p = m
+  value_placed method (Some slot) span m p = p
+
+  post_place : (method : Method) (number : ℕ) (value : Option ℕ) (known : Option Bool) (span : Span) (store : Stored) (error : Error) (rank : ℕ) → P method.span → P span → PostClaim method number value known span store error rank → P error.span
+  post_place method number value known span store error rank m p post = subst (λ (e : Error). P e.span) (sym post.is) (value_placed method value span m p)
+
   pub point_place : (program : Program) (method : Method) (number : ℕ) (point : Point) (store : Stored) (error : Error) (rank : ℕ) → P method.span → PointPlaces P point → PointErrors program method number point store error rank → P error.span
   point_place program method number (Doing done) store error rank m o error_is = kind_place program method number done done.kind store error rank o o.2 error_is
   point_place program method number (Returning value known span) store error rank m p either = elim either [
     | inl returned ↦ unproved_place _ _ 6 span _ error rank returned.of p
-    | inr constructor ↦ unproved_place _ _ 9 method.span _ error rank constructor.of m
+    | inr (inl constructor) ↦ unproved_place _ _ 9 method.span _ error rank constructor.of m
+    | inr (inr post) ↦ post_place method number value known span store error rank m p post
   ]
   point_place program method number Ending store error rank m p either = elim either [
     | inl constructor ↦ unproved_place _ _ 9 method.span _ error rank constructor.of m
-    | inr missing ↦ plain_place error 17 method.span missing.is m
+    | inr (inl missing) ↦ plain_place error 17 method.span missing.is m
+    | inr (inr post) ↦ post_place method number None None method.span store error rank m m post
   ]

@@ -12,7 +12,8 @@ use ix_graph::{Node, NodeKind};
 use ix_labels::Store;
 use ix_method_errors::push_op_errors;
 use ix_method_errors::signs::{
-    Ranked, push_constructor_errors, push_effect_error, push_missing_return, push_return_errors,
+    Ranked, push_constructor_errors, push_effect_error, push_missing_return, push_post_errors,
+    push_return_errors,
 };
 use ix_uses::{push_assigned_parameter, push_escapes_in, push_escapes_of};
 use std::alloc::{AllocError, Global};
@@ -33,13 +34,15 @@ fn push_of_label(
 {
     match kind {
         NodeKind::Do(done) => push_op_errors(alloc, out, label, program, within, number, done),
-        NodeKind::Return(value, _, span) => {
+        NodeKind::Return(value, known, span) => {
             push_return_errors(out, label, within, number, *value, *span)?;
-            push_constructor_errors(alloc, out, label, program, within)
+            push_constructor_errors(alloc, out, label, program, within)?;
+            push_post_errors(out, label, within, number, *value, *known, *span)
         }
         NodeKind::End => {
             push_constructor_errors(alloc, out, label, program, within)?;
-            push_missing_return(out, label, within)
+            push_missing_return(out, label, within)?;
+            push_post_errors(out, label, within, number, None, None, within.span)
         }
         _ => Ok(()),
     }

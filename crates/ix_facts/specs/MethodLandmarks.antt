@@ -2,6 +2,7 @@
 use Rattle.std.specs.Prelude.{ℕ, ℤ, if◌then◌else◌, List, [], ◌∷◌, ◌++◌}
 use Rattle.ix_core.specs.declared.claim.Claim.{Claim}
 use Rattle.ix_core.specs.declared.claim.Claim.TheVariants as claim
+use Rattle.ix_core.specs.declared.claim.Post.{Post}
 use Rattle.ix_core.specs.declared.claim.Type_.{Type_}
 use Rattle.ix_core.specs.declared.op.Literal.TheVariants as literal
 use Rattle.ix_core.specs.declared.op.OpKind.{OpKind}
@@ -40,10 +41,15 @@ abbrev pub variables_numbers : List Variable → List ℤ
 variables_numbers [] = []
 variables_numbers (variable ∷ variables) = claims_numbers variable.claims ++ variables_numbers variables
 
--- of the parameters and the result of a method
+abbrev pub posts_numbers : List Post → List ℤ
+posts_numbers [] = []
+posts_numbers (post ∷ posts) = claim_numbers post.claim ++ posts_numbers posts
+
+-- of the parameters, the result and the posts of a method
 abbrev pub declared_numbers : Method → List ℤ
 declared_numbers method =
-    variables_numbers method.params ++ (types_numbers method.param_types ++ (claims_numbers method.result_claims ++ type_numbers method.result))
+    variables_numbers method.params
+    ++ (types_numbers method.param_types ++ (claims_numbers method.result_claims ++ (type_numbers method.result ++ posts_numbers method.posts)))
 
 abbrev pub field_numbers : Field → List ℤ
 field_numbers field = claims_numbers field.claims ++ type_numbers field.ty

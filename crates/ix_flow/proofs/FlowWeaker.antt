@@ -2,7 +2,7 @@
 use Rattle.std.proofs.Common.{ℕ, true, false, Option}
 use Rattle.ix_core.specs.declared.op.Op.{Op}
 use Rattle.ix_core.specs.Code.{Code, End, Do, If, Break, Continue, Return, Throw, Loop, Condition, Known, Compare, Truth, Both, Either, Opposite}
-use Rattle.ix_flow.specs.LastDone.{written_answer}
+use Rattle.ix_core.specs.Posts.{written_answer}
 use Rattle.ix_flow.specs.Flow.{Point, Doing, Returning, Rules, RulesLaws, Flows, Asks}
 
 module _ (R : Rules) (L : RulesLaws R) (Fine : Point → R.Store → Type 0) (finer : (point : Point) (s t : R.Store) → R.Below s t → Fine point t → Fine point s) (labels : ℕ → R.Store) where

@@ -7,7 +7,7 @@ use Rattle.ix_text.specs.declared.span.Span.{Span}
 use Rattle.ix_core.specs.declared.op.Op.{Op}
 use Rattle.ix_core.specs.declared.op.Test.{Test}
 use Rattle.ix_core.specs.Code.{Code, End, Do, If, Break, Continue, Return, Throw, Loop, Condition, Known, Compare, Truth, Both, Either, Opposite}
-use Rattle.ix_flow.specs.LastDone.{last_done, written_answer}
+use Rattle.ix_core.specs.Posts.{last_done, written_answer}
 
 -- Where a rule may derive an error: before an operation, at a `return`, and at the end of the body.
 pub data Point : Type 0 where

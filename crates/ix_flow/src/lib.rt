@@ -2,8 +2,7 @@
 //!
 //! What goes in and what comes out: nothing; these are a definition and laws over it.
 //! The contract: `IsFlow`, labels of the loops with which a whole body flows; `IsLeastFlow`, the least such; `IsDerived`, the errors that no flow
-//! of a body avoids. `flows_weaker`: what flows from a store flows from each that says more. `last_done`: the operation that was done last, by which a
-//! `return` says which answer it writes out.
-//! It stands on `ix_core` for code, operations and tests.
+//! of a body avoids. `flows_weaker`: what flows from a store flows from each that says more.
+//! It stands on `ix_core` for code, operations and tests, and for what was done last, by which a `return` says which answer it writes out.
 //! It never looks at what a store says, at a rule of the checker, or at how labels are found.
 #![tactic(auto)]

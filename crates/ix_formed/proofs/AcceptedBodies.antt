@@ -12,6 +12,7 @@ use Rattle.ix_core.specs.declared.program.Local.{Local}
 use Rattle.ix_core.specs.declared.program.Method.{Method}
 use Rattle.ix_core.specs.declared.program.Program.{Program}
 use Rattle.ix_core.specs.Formed.{claim_fits, others, local_named_type, in_scope_type, starts_within, at_most}
+use Rattle.ix_core.specs.Types.{bool_type}
 use Rattle.ix_core.specs.Tables.{field_at, all_fields, is_among, param_slot}
 use Rattle.ix_tree.specs.declared.decl.LocalDecl.{LocalDecl}
 use Rattle.ix_tree.specs.declared.decl.Unit.{Unit as Source}
@@ -128,13 +129,14 @@ module _ (unit : Source) (p : Program) (is : IsAccepted unit p) where
           ty typed)
 
     -- What a body stands in, where its site has the numbers of the source's methods.
-    pub is_ground : site.heads ≡ heads unit.classes → site.constructors ≡ constructors unit.classes → site.class ≡ class → (method.constructor ≡ true → 1 ≤ param_slot method 0) → IsGround ground
-    is_ground same_heads same_constructors same_class with_this = record {
+    pub is_ground : site.heads ≡ heads unit.classes → site.constructors ≡ constructors unit.classes → site.class ≡ class → (method.constructor ≡ true → 1 ≤ param_slot method 0) → (site.answers ≡ true → method.result ≡ bool_type) → IsGround ground
+    is_ground same_heads same_constructors same_class with_this answers = record {
       members = has_members site same_heads same_constructors;
       class = same_class;
       class_there = class_is unit p is class there;
       method_class = own_class;
       with_this = with_this;
+      answers = answers;
       declared_types = λ tree annots ty e. declared_is_type p (world unit.classes).class (names_classes unit p is) tree annots ty e;
       declared_claims = λ s d ls ts free lo end at scoped counted wr from within begins ty typed. claims_fit s d ls ts free lo end at scoped from begins within wr ty typed;
     }

@@ -48,13 +48,13 @@ limited_has statements r head = limited_or_not (nat_lt most_loops (loops stateme
 written_is : (t : Tables) (at : Home) (decl : MethodDecl) → Makes (IsMethod t at decl) (program.written_method t at decl)
 written_is t at decl =
     let head = written_head t at decl in
-    let r = written_body (site t at head.params) at decl (slot_behind (first_param (is_static decl)) decl.params) in
+    let r = written_body (site t at head) at decl (slot_behind (first_param (is_static decl)) decl.params) in
     makes_more (HasBody head r) (IsMethod t at decl) (λ method h. record { body = h.0; same = h.1; made = h.2; few = h.3 }) (program.written_method t at decl) (limited_has decl.body r head)
 
 default_is : (t : Tables) (at : Home) (span : Span) → Makes (IsDefault t at span) (program.default t at span)
 default_is t at span =
     let head = default_head at span in
-    let r = constructor_start (site t at []) at [] span (start 1) in
+    let r = constructor_start (site t at (default_head at span)) at [] span (start 1) in
     makes_more (HasBody head r) (IsDefault t at span) (λ method h. record { body = h.0; same = h.1; made = h.2; few = h.3 }) (program.default t at span) (limited_has [] r head)
 
 placed_makes : {A : Type 0} (P : A → Type 0) (span : Span) (r : Within A) → Makes P r → Makes P (placed span r)

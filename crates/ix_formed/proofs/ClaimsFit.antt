@@ -1,5 +1,5 @@
--- The claims that annotations give fit the type of their declaration and the types of what they name.
-use Rattle.std.proofs.Common.{◌≡◌, ℕ, ℤ, Bool, true, false, List, [], ◌∷◌, ◌++◌, Option, Some, None, Result, Ok, Err, refl, sym, ap, subst, ◌∙◌}
+-- The claims and posts that annotations give fit the type of their declaration and the types of what they name.
+use Rattle.std.proofs.Common.{◌≡◌, ℕ, ℤ, Bool, true, false, List, [], ◌∷◌, ◌++◌, Option, Some, None, Result, Err, refl, sym, ap, subst, ◌∙◌}
 use Rattle.std.specs.Prelude.{if◌then◌else◌, ◌&&◌, ◌||◌, not, option_map, int_le, pos, length, drop, codes, bytes_eq, filter, ◌==◌}
 use Rattle.std.specs.Option.{option_and_then}
 use Rattle.std.specs.Str.{chars}
@@ -10,9 +10,11 @@ use Rattle.ix_core.specs.declared.claim.Claim.TheVariants as claim
 use Rattle.ix_core.specs.declared.claim.Name.{Name}
 use Rattle.ix_core.specs.declared.claim.Off.{Off}
 use Rattle.ix_core.specs.declared.claim.Off.TheVariants as off
+use Rattle.ix_core.specs.declared.claim.Post.{Post}
 use Rattle.ix_core.specs.declared.claim.Type_.{Type_}
 use Rattle.ix_core.specs.Formed.{claim_fits, offset_fits, is_int_of, is_array_of}
-use Rattle.ix_core.specs.Types.{is_int_type, is_array_type, is_element_claim}
+use Rattle.ix_core.specs.Types.{int_type, is_int_type, is_array_type, is_element_claim}
+use Rattle.ix_core.specs.Posts.{is_answer, is_conditional, same_post}
 use Rattle.ix_core.specs.SameClaims.{distinct, same_claim}
 use Rattle.ix_tree.specs.declared.annot.Annot.{Annot}
 use Rattle.ix_tree.specs.declared.annot.AnnotArg.{AnnotArg}
@@ -20,14 +22,15 @@ use Rattle.ix_annot.specs.declared.texts.Naming.{Naming}
 use Rattle.ix_annot.specs.declared.texts.Offset.{Offset}
 use Rattle.ix_annot.specs.declared.texts.Offset.TheVariants.{Constant, Plus, Minus}
 use Rattle.ix_annot.specs.declared.table.Targets.{Targets}
-use Rattle.ix_annot.specs.declared.table.Targets.TheVariants.{IntOrElement, Int, Array, Callable, Method}
+use Rattle.ix_annot.specs.declared.table.Targets.TheVariants.{IntOrElement, Int, Array, Callable, Method, BooleanMethod}
 use Rattle.ix_annot.specs.declared.table.EachArray.{EachArray}
 use Rattle.ix_annot.specs.declared.table.EachArray.TheVariants.{Below, SameLength, SearchResult, NotFound}
 use Rattle.ix_annot.specs.declared.table.Says.{Says}
-use Rattle.ix_annot.specs.declared.table.Says.TheVariants.{Nothing, EffectFree, AtLeast, Between, LengthAtLeast, Arrays, Offsets, Bounds}
+use Rattle.ix_annot.specs.declared.table.Says.TheVariants.{Nothing, EffectFree, AtLeast, Between, LengthAtLeast, Arrays, Offsets, Bounds, Ensures, EnsuresIf}
 use Rattle.ix_annot.specs.declared.arguments.Written.{Written}
 use Rattle.ix_annot.specs.declared.arguments.Written.TheVariants.{OfArray, Upper, Less}
 use Rattle.ix_annot.specs.declared.arguments.Plan.{Plan}
+use Rattle.ix_annot.specs.declared.arguments.Promise.{Promise}
 use Rattle.ix_annot.specs.declared.scope.Target.{Target}
 use Rattle.ix_annot.specs.declared.scope.Target.TheVariants as on
 use Rattle.ix_annot.specs.declared.scope.Holds.TheVariants as holds
@@ -36,10 +39,10 @@ use Rattle.ix_annot.specs.declared.scope.AnnotError.{AnnotError}
 use Rattle.ix_annot.specs.declared.scope.AnnotError.TheVariants.{WrongTarget, InheritedName}
 use Rattle.ix_annot.specs.Named.{Names, named}
 use Rattle.ix_annot.specs.Table.{table, row_in, row_named, fits, argument}
-use Rattle.ix_annot.specs.Arguments.{plan, plan_of, plan_with, one_claim, lowest, range, range_of, length_from, length_of, written, upper, first_offset, all_written, matched, claims_written, with_others, texts, texts_or_none, int_or, are_taken, greatest_int, least_int}
+use Rattle.ix_annot.specs.Arguments.{plan, plan_of, plan_with, one_claim, lowest, range, range_of, length_from, length_of, written, upper, first_offset, all_written, matched, claims_written, listed_in, truth, promised_on, promised, promised_if, with_others, texts, texts_or_none, int_or, are_taken, greatest_int, least_int}
 use Rattle.ix_annot.specs.Texts.{array_text, bound_text}
-use Rattle.ix_annot.specs.Expansion.{expanded, claim_of, claims_of, array_claim, upper_claim, offset_named, with_claims, with_plan, with_row, is_field, names_inherited, may_change, offset_may_change}
-use Rattle.ix_meaning.specs.Annotated.{claims_from}
+use Rattle.ix_annot.specs.Expansion.{expanded, claim_of, claims_of, array_claim, upper_claim, offset_named, given, posts_on, posts_of_first, posts_of, or_bad_name, with_claims, with_plan, with_row, is_field, names_inherited, may_change, offset_may_change}
+use Rattle.ix_meaning.specs.Annotated.{claims_from, posts_from, distinct_posts}
 use Rattle.ix_formed.specs.Additions.{AllOf}
 use Rattle.ix_formed.proofs.NumberLists.{all_joined, all_so, both_true}
 
@@ -61,6 +64,10 @@ pub distinct_so : (P : Claim → Type 0) (claims : List Claim) → AllOf P claim
 distinct_so P [] all = tt
 distinct_so P (c ∷ claims) all = (all.0, filtered P (λ other. not (same_claim c other)) (distinct claims) (distinct_so P claims all.1))
 
+pub distinct_posts_so : (P : Post → Type 0) (posts : List Post) → AllOf P posts → AllOf P (distinct_posts posts)
+distinct_posts_so P [] all = tt
+distinct_posts_so P (post ∷ posts) all = (all.0, filtered P (λ other. not (same_post post other)) (distinct_posts posts) (distinct_posts_so P posts all.1))
+
 -- ---- the table
 
 abbrev FitsSays : Targets → Says → Type 0
@@ -75,10 +82,12 @@ FitsSays Array (Arrays None SameLength) = Unit {0}
 FitsSays Array LengthAtLeast = Unit {0}
 FitsSays Callable EffectFree = Unit {0}
 FitsSays Method Nothing = Unit {0}
+FitsSays Method Ensures = Unit {0}
+FitsSays BooleanMethod EnsuresIf = Unit {0}
 FitsSays _ _ = ⊥
 
 table_fits : AllOf (λ (row : List ℕ × Targets × Says). FitsSays row.1 row.2) table
-table_fits = (tt, (tt, (tt, (tt, (tt, (tt, (tt, (tt, (tt, (tt, (tt, (tt, (tt, (tt, (tt, (tt, (tt, (tt, tt))))))))))))))))))
+table_fits = (tt, (tt, (tt, (tt, (tt, (tt, (tt, (tt, (tt, (tt, (tt, (tt, (tt, (tt, (tt, (tt, (tt, (tt, (tt, (tt, tt))))))))))))))))))))
 
 row_fits : (rows : List (List ℕ × Targets × Says)) (name : List ℕ) (row : Targets × Says) → AllOf (λ (row : List ℕ × Targets × Says). FitsSays row.1 row.2) rows → row_in rows name ≡ Some row → FitsSays row.0 row.1
 row_fits [] name row all e = absurd cc
@@ -123,14 +132,35 @@ IsFirst Between c = is_element_claim c ≡ true
 IsFirst (Arrays (Some least) each) c = is_element_claim c ≡ true
 IsFirst _ c = ⊥
 
+abbrev IsUpper : Written → Type 0
+IsUpper w = (array : Naming) × (offset : Offset) × (w ≡ Upper array offset)
+
 abbrev IsWritten : Says → Written → Type 0
 IsWritten (Arrays least each) w = (array : Naming) × (w ≡ OfArray each array)
-IsWritten Offsets w = (array : Naming) × (offset : Offset) × (w ≡ Upper array offset)
+IsWritten Offsets w = IsUpper w
+IsWritten Ensures w = IsUpper w
+IsWritten EnsuresIf w = IsUpper w
 IsWritten Bounds w = (bound : Naming) × (c : ℤ) × (w ≡ Less bound c)
 IsWritten _ w = ⊥
 
+-- the annotation promises something of its method
+abbrev IsPromise : Says → Bool
+IsPromise Ensures = true
+IsPromise EnsuresIf = true
+IsPromise _ = false
+
+abbrev HasPromise : Bool → Option Promise → Type 0
+HasPromise true (Some promise) = Unit {0}
+HasPromise false None = Unit {0}
+HasPromise _ _ = ⊥
+
+-- only one of them speaks of one answer
+abbrev Speaks : Says → Option Promise → Type 0
+Speaks Ensures (Some promise) = promise.when ≡ None
+Speaks _ _ = Unit {0}
+
 abbrev IsPlan : Says → Plan → Type 0
-IsPlan says p = AllOf (IsFirst says) p.first × AllOf (IsWritten says) p.written
+IsPlan says p = AllOf (IsFirst says) p.first × AllOf (IsWritten says) p.written × HasPromise (IsPromise says) p.promise × Speaks says p.promise
 
 range_is : (low high : ℤ) → Whenever (IsFirst Between) (range low high)
 range_is low high = less_or_not (int_le low high)
@@ -146,7 +176,7 @@ length_is least = less_or_not (int_le (pos 0) least)
     less_or_not true = tt
     less_or_not false = tt
 
-upper_is : (array : Option Naming) (offset : Option Offset) → Whenever (IsWritten Offsets) (upper array offset)
+upper_is : (array : Option Naming) (offset : Option Offset) → Whenever IsUpper (upper array offset)
 upper_is None offset = tt
 upper_is (Some array) None = tt
 upper_is (Some array) (Some offset) = (array, offset, refl)
@@ -155,11 +185,15 @@ abbrev TakesTexts : Says → Type 0
 TakesTexts (Arrays least each) = Unit {0}
 TakesTexts Offsets = Unit {0}
 TakesTexts Bounds = Unit {0}
+TakesTexts Ensures = Unit {0}
+TakesTexts EnsuresIf = Unit {0}
 TakesTexts _ = ⊥
 
 written_is : (says : Says) → TakesTexts says → (entry : List ℕ) (offsets : List (List ℕ)) → Whenever (IsWritten says) (written says entry offsets)
 written_is (Arrays least each) takes entry offsets = whenever_map (λ x. Unit {0}) (IsWritten (Arrays least each)) (λ array. OfArray each array) (array_text (chars entry)) (λ array h. (array, refl)) (any_is (array_text (chars entry)))
 written_is Offsets takes entry offsets = upper_is (array_text (chars entry)) (first_offset offsets)
+written_is Ensures takes entry offsets = upper_is (array_text (chars entry)) (first_offset offsets)
+written_is EnsuresIf takes entry offsets = upper_is (array_text (chars entry)) (first_offset offsets)
 written_is Bounds takes entry offsets = whenever_map (λ x. Unit {0}) (IsWritten Bounds) (λ (bound : Naming × ℤ). Less bound.0 bound.1) (bound_text (chars entry)) (λ bound h. (bound.0, bound.1, refl)) (any_is (bound_text (chars entry)))
 written_is Nothing takes entry offsets = absurd takes
 written_is EffectFree takes entry offsets = absurd takes
@@ -186,28 +220,44 @@ matched_are says takes entries offsets = many_or_not (length offsets == 0 || len
 
 texts_are : (says : Says) → TakesTexts says → (args : List AnnotArg) → Whenever (AllOf (IsWritten says)) (claims_written says args)
 texts_are says takes args =
-    whenever_then (AllOf (IsWritten says)) (λ entries. option_and_then (matched says entries) (texts_or_none (argument (codes "offset") args))) (texts (argument (codes "value") args))
+    whenever_then (AllOf (IsWritten says)) (λ entries. option_and_then (matched says entries) (texts_or_none (argument (codes "offset") args))) (texts (argument (listed_in says) args))
     (λ entries. whenever_then (AllOf (IsWritten says)) (matched says entries) (texts_or_none (argument (codes "offset") args)) (λ offsets. matched_are says takes entries offsets))
 
 lowest_are : (least : Option ℤ) (each : EachArray) → AllOf (IsFirst (Arrays least each)) (lowest least)
 lowest_are None each = tt
 lowest_are (Some least) each = (refl, tt)
 
+abbrev promising : Option Bool → List Naming → List Written → Plan
+promising when on ws = record { first = []; written = ws; effect_free = false; promise = Some (record { when = when; on = on }) }
+
+promised_is : (says : Says) (when : Option Bool) (on : Option (List Naming)) (ws : Option (List Written))
+    → ((on : List Naming) (ws : List Written) → AllOf (IsWritten says) ws → IsPlan says (promising when on ws)) → Whenever (AllOf (IsWritten says)) ws → Whenever (IsPlan says) (promised when on ws)
+promised_is says when None ws is h = tt
+promised_is says when (Some on) None is h = tt
+promised_is says when (Some on) (Some ws) is h = is on ws h
+
+promised_if_is : (answer : Option Bool) (on : Option (List Naming)) (ws : Option (List Written)) → Whenever (AllOf (IsWritten EnsuresIf)) ws → Whenever (IsPlan EnsuresIf) (promised_if answer on ws)
+promised_if_is None on ws h = tt
+promised_if_is (Some answer) on ws h = promised_is EnsuresIf (Some answer) on ws (λ on ws h. (tt, h, tt, tt)) h
+
 plan_of_is : (says : Says) (args : List AnnotArg) → Whenever (IsPlan says) (plan_of says args)
-plan_of_is Nothing args = (tt, tt)
-plan_of_is EffectFree args = (tt, tt)
-plan_of_is (AtLeast least) args = ((refl, tt), tt)
+plan_of_is Nothing args = (tt, tt, tt, tt)
+plan_of_is EffectFree args = (tt, tt, tt, tt)
+plan_of_is (AtLeast least) args = ((refl, tt), tt, tt, tt)
 plan_of_is Between args =
-    whenever_map (IsFirst Between) (IsPlan Between) one_claim (range_of args) (λ c h. ((h, tt), tt))
+    whenever_map (IsFirst Between) (IsPlan Between) one_claim (range_of args) (λ c h. ((h, tt), tt, tt, tt))
     (whenever_then (IsFirst Between) (λ low. option_and_then (range low) (int_or greatest_int (argument (codes "to") args))) (int_or least_int (argument (codes "from") args))
     (λ low. whenever_then (IsFirst Between) (range low) (int_or greatest_int (argument (codes "to") args)) (λ high. range_is low high)))
 plan_of_is LengthAtLeast args =
-    whenever_map (IsFirst LengthAtLeast) (IsPlan LengthAtLeast) one_claim (length_of args) (λ c h. ((h, tt), tt))
+    whenever_map (IsFirst LengthAtLeast) (IsPlan LengthAtLeast) one_claim (length_of args) (λ c h. ((h, tt), tt, tt, tt))
     (whenever_then (IsFirst LengthAtLeast) length_from (int_or (pos 0) (argument (codes "value") args)) (λ least. length_is least))
 plan_of_is (Arrays least each) args =
-    whenever_map (AllOf (IsWritten (Arrays least each))) (IsPlan (Arrays least each)) (plan_with false (lowest least)) (claims_written (Arrays least each) args) (λ ws h. (lowest_are least each, h)) (texts_are (Arrays least each) tt args)
-plan_of_is Offsets args = whenever_map (AllOf (IsWritten Offsets)) (IsPlan Offsets) (plan_with false []) (claims_written Offsets args) (λ ws h. (tt, h)) (texts_are Offsets tt args)
-plan_of_is Bounds args = whenever_map (AllOf (IsWritten Bounds)) (IsPlan Bounds) (plan_with false []) (claims_written Bounds args) (λ ws h. (tt, h)) (texts_are Bounds tt args)
+    whenever_map (AllOf (IsWritten (Arrays least each))) (IsPlan (Arrays least each)) (plan_with false (lowest least)) (claims_written (Arrays least each) args) (λ ws h. (lowest_are least each, h, tt, tt)) (texts_are (Arrays least each) tt args)
+plan_of_is Offsets args = whenever_map (AllOf (IsWritten Offsets)) (IsPlan Offsets) (plan_with false []) (claims_written Offsets args) (λ ws h. (tt, h, tt, tt)) (texts_are Offsets tt args)
+plan_of_is Bounds args = whenever_map (AllOf (IsWritten Bounds)) (IsPlan Bounds) (plan_with false []) (claims_written Bounds args) (λ ws h. (tt, h, tt, tt)) (texts_are Bounds tt args)
+plan_of_is Ensures args = promised_is Ensures None (promised_on (codes "value") args) (claims_written Ensures args) (λ on ws h. (tt, h, tt, refl)) (texts_are Ensures tt args)
+plan_of_is EnsuresIf args =
+    promised_if_is (truth (argument (codes "result") args)) (promised_on (codes "expression") args) (claims_written EnsuresIf args) (texts_are EnsuresIf tt args)
 
 plan_is : (says : Says) (args : List AnnotArg) → Whenever (IsPlan says) (plan says args)
 unfolding plan
@@ -269,44 +319,53 @@ module _ (names : Names) (ty : Type_) (types : Name → Option Type_) (knows : K
   int_array_fits int least NotFound row name a = both_true (is_int_type ty) (is_array_of (types name)) int a
   int_array_fits int least SameLength row name a = absurd row
 
+  -- an upper bound
+  pub upper_of_fits : is_int_type ty ≡ true → (w : Written) → IsUpper w → Free (names_inherited names w) → Whenever Fits (claim_of names w)
+  upper_of_fits int w is free = subst (λ w. Free (names_inherited names w) → Whenever Fits (claim_of names w)) (sym is.2)
+      (λ free. upper_fits int (named names holds.Array is.0) (offset_named names is.1) (knows.arrays is.0 (free_parts (may_change (names.found is.0)) (offset_may_change names is.1) free).0) (offset_is is.1 (free_parts (may_change (names.found is.0)) (offset_may_change names is.1) free).1)) free
+
   -- a claim with names
-  claim_of_fits : (targets : Targets) (says : Says) → FitsSays targets says → (IsIntRow targets ≡ true → is_int_type ty ≡ true) → (targets ≡ Array → is_array_type ty ≡ true) → (w : Written) → IsWritten says w → Free (names_inherited names w)
+  claim_of_fits : (targets : Targets) (says : Says) → FitsSays targets says → (IsIntRow targets ≡ true → is_int_type ty ≡ true) → (targets ≡ Array → is_array_type ty ≡ true) → (IsPromise says ≡ true → is_int_type ty ≡ true) → (w : Written) → IsWritten says w → Free (names_inherited names w)
       → Whenever Fits (claim_of names w)
-  claim_of_fits Int (Arrays least (Below c)) row int array w is free = subst (λ w. Free (names_inherited names w) → Whenever Fits (claim_of names w)) (sym is.1)
+  claim_of_fits Int (Arrays least (Below c)) row int array post w is free = subst (λ w. Free (names_inherited names w) → Whenever Fits (claim_of names w)) (sym is.1)
       (λ free. whenever_map (λ name. is_array_of (types name) ≡ true) Fits (array_claim (Below c)) (named names holds.Array is.0) (λ name h. int_array_fits (int refl) least (Below c) row name h) (knows.arrays is.0 free)) free
-  claim_of_fits Int (Arrays least SearchResult) row int array w is free = subst (λ w. Free (names_inherited names w) → Whenever Fits (claim_of names w)) (sym is.1)
+  claim_of_fits Int (Arrays least SearchResult) row int array post w is free = subst (λ w. Free (names_inherited names w) → Whenever Fits (claim_of names w)) (sym is.1)
       (λ free. whenever_map (λ name. is_array_of (types name) ≡ true) Fits (array_claim SearchResult) (named names holds.Array is.0) (λ name h. int_array_fits (int refl) least SearchResult row name h) (knows.arrays is.0 free)) free
-  claim_of_fits Int (Arrays least NotFound) row int array w is free = subst (λ w. Free (names_inherited names w) → Whenever Fits (claim_of names w)) (sym is.1)
+  claim_of_fits Int (Arrays least NotFound) row int array post w is free = subst (λ w. Free (names_inherited names w) → Whenever Fits (claim_of names w)) (sym is.1)
       (λ free. whenever_map (λ name. is_array_of (types name) ≡ true) Fits (array_claim NotFound) (named names holds.Array is.0) (λ name h. int_array_fits (int refl) least NotFound row name h) (knows.arrays is.0 free)) free
-  claim_of_fits Int Offsets row int array w is free = subst (λ w. Free (names_inherited names w) → Whenever Fits (claim_of names w)) (sym is.2)
-      (λ free. upper_fits (int refl) (named names holds.Array is.0) (offset_named names is.1) (knows.arrays is.0 (free_parts (may_change (names.found is.0)) (offset_may_change names is.1) free).0) (offset_is is.1 (free_parts (may_change (names.found is.0)) (offset_may_change names is.1) free).1)) free
-  claim_of_fits Int Bounds row int array w is free = subst (λ w. Free (names_inherited names w) → Whenever Fits (claim_of names w)) (sym is.2)
+  claim_of_fits Int Offsets row int array post w is free = upper_of_fits (int refl) w is free
+  claim_of_fits Int Bounds row int array post w is free = subst (λ w. Free (names_inherited names w) → Whenever Fits (claim_of names w)) (sym is.2)
       (λ free. whenever_map (λ name. is_int_of (types name) ≡ true) Fits (λ name. claim.Less name is.1) (named names holds.Int is.0)
       (λ name h. both_true (is_int_type ty) (is_int_of (types name)) (int refl) h) (knows.ints is.0 free)) free
-  claim_of_fits Array (Arrays None SameLength) row int array w is free = subst (λ w. Free (names_inherited names w) → Whenever Fits (claim_of names w)) (sym is.1)
+  claim_of_fits Array (Arrays None SameLength) row int array post w is free = subst (λ w. Free (names_inherited names w) → Whenever Fits (claim_of names w)) (sym is.1)
       (λ free. whenever_map (λ name. is_array_of (types name) ≡ true) Fits (array_claim SameLength) (named names holds.Array is.0)
       (λ name h. both_true (is_array_type ty) (is_array_of (types name)) (array refl) h) (knows.arrays is.0 free)) free
-  claim_of_fits Int (Arrays least SameLength) row int array w is free = absurd row
-  claim_of_fits Array (Arrays (Some least) each) row int array w is free = absurd row
-  claim_of_fits Array (Arrays None (Below c)) row int array w is free = absurd row
-  claim_of_fits Array (Arrays None SearchResult) row int array w is free = absurd row
-  claim_of_fits Array (Arrays None NotFound) row int array w is free = absurd row
-  claim_of_fits Array Offsets row int array w is free = absurd row
-  claim_of_fits Array Bounds row int array w is free = absurd row
-  claim_of_fits IntOrElement (Arrays least each) row int array w is free = absurd row
-  claim_of_fits IntOrElement Offsets row int array w is free = absurd row
-  claim_of_fits IntOrElement Bounds row int array w is free = absurd row
-  claim_of_fits Callable (Arrays least each) row int array w is free = absurd row
-  claim_of_fits Callable Offsets row int array w is free = absurd row
-  claim_of_fits Callable Bounds row int array w is free = absurd row
-  claim_of_fits Method (Arrays least each) row int array w is free = absurd row
-  claim_of_fits Method Offsets row int array w is free = absurd row
-  claim_of_fits Method Bounds row int array w is free = absurd row
-  claim_of_fits targets Nothing row int array w is free = absurd is
-  claim_of_fits targets EffectFree row int array w is free = absurd is
-  claim_of_fits targets (AtLeast least) row int array w is free = absurd is
-  claim_of_fits targets Between row int array w is free = absurd is
-  claim_of_fits targets LengthAtLeast row int array w is free = absurd is
+  claim_of_fits Int (Arrays least SameLength) row int array post w is free = absurd row
+  claim_of_fits Array (Arrays (Some least) each) row int array post w is free = absurd row
+  claim_of_fits Array (Arrays None (Below c)) row int array post w is free = absurd row
+  claim_of_fits Array (Arrays None SearchResult) row int array post w is free = absurd row
+  claim_of_fits Array (Arrays None NotFound) row int array post w is free = absurd row
+  claim_of_fits Array Offsets row int array post w is free = absurd row
+  claim_of_fits Array Bounds row int array post w is free = absurd row
+  claim_of_fits IntOrElement (Arrays least each) row int array post w is free = absurd row
+  claim_of_fits IntOrElement Offsets row int array post w is free = absurd row
+  claim_of_fits IntOrElement Bounds row int array post w is free = absurd row
+  claim_of_fits Callable (Arrays least each) row int array post w is free = absurd row
+  claim_of_fits Callable Offsets row int array post w is free = absurd row
+  claim_of_fits Callable Bounds row int array post w is free = absurd row
+  claim_of_fits Method (Arrays least each) row int array post w is free = absurd row
+  claim_of_fits Method Offsets row int array post w is free = absurd row
+  claim_of_fits Method Bounds row int array post w is free = absurd row
+  claim_of_fits BooleanMethod (Arrays least each) row int array post w is free = absurd row
+  claim_of_fits BooleanMethod Offsets row int array post w is free = absurd row
+  claim_of_fits BooleanMethod Bounds row int array post w is free = absurd row
+  claim_of_fits targets Nothing row int array post w is free = absurd is
+  claim_of_fits targets EffectFree row int array post w is free = absurd is
+  claim_of_fits targets (AtLeast least) row int array post w is free = absurd is
+  claim_of_fits targets Between row int array post w is free = absurd is
+  claim_of_fits targets LengthAtLeast row int array post w is free = absurd is
+  claim_of_fits targets Ensures row int array post w is free = upper_of_fits (post refl) w is free
+  claim_of_fits targets EnsuresIf row int array post w is free = upper_of_fits (post refl) w is free
 
   -- a claim without names
   element_fits : is_int_type ty ≡ true → (c : Claim) → is_element_claim c ≡ true → Fits c
@@ -338,22 +397,28 @@ module _ (names : Names) (ty : Type_) (types : Name → Option Type_) (knows : K
   first_fits IntOrElement (Arrays (Some least) each) row int array c is = absurd row
   first_fits Callable (Arrays (Some least) each) row int array c is = absurd row
   first_fits Method (Arrays (Some least) each) row int array c is = absurd row
+  first_fits BooleanMethod (Arrays (Some least) each) row int array c is = absurd row
   first_fits Int (AtLeast least) row int array c is = absurd row
   first_fits Int Between row int array c is = absurd row
   first_fits Int LengthAtLeast row int array c is = absurd row
   first_fits IntOrElement LengthAtLeast row int array c is = absurd row
   first_fits Callable LengthAtLeast row int array c is = absurd row
   first_fits Method LengthAtLeast row int array c is = absurd row
+  first_fits BooleanMethod LengthAtLeast row int array c is = absurd row
   first_fits Array (AtLeast least) row int array c is = absurd row
   first_fits Array Between row int array c is = absurd row
   first_fits Callable (AtLeast least) row int array c is = absurd row
   first_fits Callable Between row int array c is = absurd row
   first_fits Method (AtLeast least) row int array c is = absurd row
   first_fits Method Between row int array c is = absurd row
+  first_fits BooleanMethod (AtLeast least) row int array c is = absurd row
+  first_fits BooleanMethod Between row int array c is = absurd row
   first_fits targets Nothing row int array c is = absurd is
   first_fits targets EffectFree row int array c is = absurd is
   first_fits targets Offsets row int array c is = absurd is
   first_fits targets Bounds row int array c is = absurd is
+  first_fits targets Ensures row int array c is = absurd is
+  first_fits targets EnsuresIf row int array c is = absurd is
   first_fits targets (Arrays None each) row int array c is = absurd is
 
   -- where the annotation may stand the type is as it needs
@@ -362,45 +427,61 @@ module _ (names : Names) (ty : Type_) (types : Name → Option Type_) (knows : K
   row_int IntOrElement on.Element f stands e = stands
   row_int IntOrElement on.Array f stands e = absurd (false≢true f)
   row_int IntOrElement on.Method f stands e = absurd (false≢true f)
+  row_int IntOrElement on.BooleanMethod f stands e = absurd (false≢true f)
   row_int IntOrElement on.Constructor f stands e = absurd (false≢true f)
   row_int IntOrElement on.Other f stands e = absurd (false≢true f)
   row_int Int on.Int f stands e = stands
   row_int Int on.Element f stands e = absurd (false≢true f)
   row_int Int on.Array f stands e = absurd (false≢true f)
   row_int Int on.Method f stands e = absurd (false≢true f)
+  row_int Int on.BooleanMethod f stands e = absurd (false≢true f)
   row_int Int on.Constructor f stands e = absurd (false≢true f)
   row_int Int on.Other f stands e = absurd (false≢true f)
   row_int Array target f stands e = absurd (false≢true e)
   row_int Callable target f stands e = absurd (false≢true e)
   row_int Method target f stands e = absurd (false≢true e)
+  row_int BooleanMethod target f stands e = absurd (false≢true e)
 
   row_array : (target : Target) → fits Array target ≡ true → StandsOn target ty → is_array_type ty ≡ true
   row_array on.Array f stands = stands
   row_array on.Int f stands = absurd (false≢true f)
   row_array on.Element f stands = absurd (false≢true f)
   row_array on.Method f stands = absurd (false≢true f)
+  row_array on.BooleanMethod f stands = absurd (false≢true f)
   row_array on.Constructor f stands = absurd (false≢true f)
   row_array on.Other f stands = absurd (false≢true f)
 
   -- ---- whole annotations
 
-  claims_of_fit : (targets : Targets) (says : Says) → FitsSays targets says → (IsIntRow targets ≡ true → is_int_type ty ≡ true) → (targets ≡ Array → is_array_type ty ≡ true) → (ws : List Written) → AllOf (IsWritten says) ws
+  claims_of_fit : (targets : Targets) (says : Says) → FitsSays targets says → (IsIntRow targets ≡ true → is_int_type ty ≡ true) → (targets ≡ Array → is_array_type ty ≡ true) → (IsPromise says ≡ true → is_int_type ty ≡ true) → (ws : List Written) → AllOf (IsWritten says) ws
       → Free (list_any (names_inherited names) ws) → Whenever (AllOf Fits) (claims_of names ws)
-  claims_of_fit targets says row int array [] all free = tt
-  claims_of_fit targets says row int array (w ∷ ws) all free =
+  claims_of_fit targets says row int array post [] all free = tt
+  claims_of_fit targets says row int array post (w ∷ ws) all free =
       let parts = free_parts (names_inherited names w) (list_any (names_inherited names) ws) free in
-      others_are Fits (claim_of names w) (claims_of names ws) (claim_of_fits targets says row int array w all.0 parts.0) (claims_of_fit targets says row int array ws all.1 parts.1)
+      others_are Fits (claim_of names w) (claims_of names ws) (claim_of_fits targets says row int array post w all.0 parts.0) (claims_of_fit targets says row int array post ws all.1 parts.1)
 
   abbrev ResultFits : Result Claims AnnotError → Type 0
   ResultFits r = AllOf Fits (claims_from r)
 
-  with_claims_fit : (p : Plan) (claims : Option (List Claim)) → AllOf Fits p.first → (Free (list_any (names_inherited names) p.written) → Whenever (AllOf Fits) claims) → ResultFits (with_claims names p claims)
-  with_claims_fit p None first all = tt
-  with_claims_fit p (Some claims) first all = inherited_or_not (is_field names.own && list_any (names_inherited names) p.written) refl
+  with_claims_fit : (promises : Bool) (p : Plan) (claims : Option (List Claim)) → HasPromise promises p.promise → AllOf Fits p.first → (promises ≡ false → Free (list_any (names_inherited names) p.written) → Whenever (AllOf Fits) claims)
+      → ResultFits (with_claims names p claims)
+  with_claims_fit promises p None has first all = tt
+  with_claims_fit promises p (Some claims) has first all = inherited_or_not (is_field names.own && list_any (names_inherited names) p.written) refl
     where
-      inherited_or_not : (b : Bool) → (is_field names.own && list_any (names_inherited names) p.written) ≡ b → ResultFits (if b then Err InheritedName else Ok (record { list = p.first ++ claims; effect_free = p.effect_free }))
+      posts_or_none : (o : Option (List Post)) → ResultFits (or_bad_name (option_map (λ posts. record { list = []; effect_free = p.effect_free; posts = posts }) o))
+      posts_or_none None = tt
+      posts_or_none (Some posts) = tt
+
+      by_promise : (b : Bool) (promise : Option Promise) → HasPromise b promise → (b ≡ false → AllOf Fits claims) → ResultFits (or_bad_name (given names p.effect_free promise (p.first ++ claims)))
+      by_promise false None has fit = all_joined Fits p.first claims first (fit refl)
+      by_promise true (Some promise) has fit = posts_or_none (posts_of names promise.when (p.first ++ claims) promise.on)
+      by_promise true None has fit = absurd has
+      by_promise false (Some promise) has fit = absurd has
+
+      inherited_or_not : (b : Bool) → (is_field names.own && list_any (names_inherited names) p.written) ≡ b
+          → ResultFits (if b then Err InheritedName else or_bad_name (given names p.effect_free p.promise (p.first ++ claims)))
       inherited_or_not true e = tt
-      inherited_or_not false e = all_joined Fits p.first claims first (all e)
+      inherited_or_not false e = by_promise promises p.promise has (λ f. all f e)
 
   all_first : (targets : Targets) (says : Says) → FitsSays targets says → (IsIntRow targets ≡ true → is_int_type ty ≡ true) → (targets ≡ Array → is_array_type ty ≡ true) → (cs : List Claim) → AllOf (IsFirst says) cs → AllOf Fits cs
   all_first targets says row int array cs all = all_so (IsFirst says) Fits (λ c is. first_fits targets says row int array c is) cs all
@@ -413,7 +494,8 @@ module _ (names : Names) (ty : Type_) (types : Name → Option Type_) (knows : K
       fits_or_not true e =
           let int = row_int targets names.target e stands in
           let array : targets ≡ Array → is_array_type ty ≡ true = λ same. row_array names.target (subst (λ (t : Targets). fits t names.target ≡ true) same e) stands in
-          with_claims_fit p (claims_of names p.written) (all_first targets says row int array p.first is.0) (λ free. claims_of_fit targets says row int array p.written is.1 free)
+          with_claims_fit (IsPromise says) p (claims_of names p.written) is.2 (all_first targets says row int array p.first is.0)
+          (λ f free. claims_of_fit targets says row int array (λ h. absurd (false≢true (sym f ∙ h))) p.written is.1 free)
       fits_or_not false e = tt
 
   with_row_fit : (annot : Annot) (row : Option (Targets × Says)) → Whenever (λ (row : Targets × Says). FitsSays row.0 row.1) row → StandsOn names.target ty → ResultFits (with_row annot names row)
@@ -429,6 +511,199 @@ module _ (names : Names) (ty : Type_) (types : Name → Option Type_) (knows : K
   unfolding expanded row_named
   expanded_fits annot stands = with_row_fit annot (row_in table annot.name.text) (row_whenever annot.name.text (row_in table annot.name.text) refl) stands
 
+-- ---- posts
+
+module _ (names : Names) (types : Name → Option Type_) (knows : Knows names types) (own : is_field names.own ≡ false) where
+  abbrev Said : Claim → Type 0
+  Said c = claim_fits int_type types c ≡ true
+
+  -- on an int, with a claim on an int; one of one answer stands on a method that has a boolean one
+  pub record PostSaid (post : Post) : Type 0 where
+    pub fits : (is_int_of (types post.on) && claim_fits int_type types post.claim) ≡ true
+    pub answers : is_conditional post ≡ true → names.target ≡ on.BooleanMethod
+
+  all_free : (b : Bool) → (is_field names.own && b) ≡ false
+  all_free b = ap (λ a. a && b) own
+
+  -- a post of one answer needs this
+  abbrev Answers : Option Bool → Type 0
+  Answers when = is_answer when ≡ true → names.target ≡ on.BooleanMethod
+
+  posts_on_said : (when : Option Bool) (claims : List Claim) (name : Name) → Answers when → is_int_of (types name) ≡ true → AllOf Said claims → AllOf PostSaid (posts_on when claims name)
+  posts_on_said when [] name answers int all = tt
+  posts_on_said when (c ∷ claims) name answers int all =
+      (record { fits = both_true (is_int_of (types name)) (claim_fits int_type types c) int all.0; answers = answers }, posts_on_said when claims name answers int all.1)
+
+  posts_of_said : (when : Option Bool) (claims : List Claim) (ons : List Naming) → Answers when → AllOf Said claims → Whenever (AllOf PostSaid) (posts_of names when claims ons)
+  posts_of_said when claims [] answers all = tt
+  posts_of_said when claims (one ∷ ons) answers all = first (named names holds.Int one) (posts_of names when claims ons) (knows.ints one (all_free (may_change (names.found one)))) (posts_of_said when claims ons answers all)
+    where
+      first : (o : Option Name) (rest : Option (List Post)) → Whenever (λ name. is_int_of (types name) ≡ true) o → Whenever (AllOf PostSaid) rest → Whenever (AllOf PostSaid) (posts_of_first when claims o rest)
+      first None rest int h = tt
+      first (Some name) None int h = tt
+      first (Some name) (Some rest) int h = all_joined PostSaid (posts_on when claims name) rest (posts_on_said when claims name answers int all) h
+
+  abbrev PostsSaid : Result Claims AnnotError → Type 0
+  PostsSaid r = AllOf PostSaid (posts_from r)
+
+  none_posts : (effect_free : Bool) (o : Option (List Post)) → Whenever (AllOf PostSaid) o → PostsSaid (or_bad_name (option_map (λ posts. record { list = []; effect_free = effect_free; posts = posts }) o))
+  none_posts effect_free None h = tt
+  none_posts effect_free (Some posts) h = h
+
+  with_claims_said : (says : Says) (p : Plan) (claims : Option (List Claim)) → HasPromise (IsPromise says) p.promise → Speaks says p.promise → (EnsuresIf ≡ says → names.target ≡ on.BooleanMethod)
+      → (IsPromise says ≡ true → AllOf Said p.first) → (IsPromise says ≡ true → Whenever (AllOf Said) claims) → PostsSaid (with_claims names p claims)
+  with_claims_said says p None has speaks target first all = tt
+  with_claims_said says p (Some claims) has speaks target first all = inherited_or_not (is_field names.own && list_any (names_inherited names) p.written)
+    where
+      when_answers : (says : Says) (promise : Promise) → IsPromise says ≡ true → Speaks says (Some promise) → (EnsuresIf ≡ says → names.target ≡ on.BooleanMethod) → Answers promise.when
+      when_answers Ensures promise e speaks target answer = absurd (false≢true (sym (ap is_answer speaks) ∙ answer))
+      when_answers EnsuresIf promise e speaks target answer = target refl
+      when_answers Nothing promise e speaks target answer = absurd (false≢true e)
+      when_answers EffectFree promise e speaks target answer = absurd (false≢true e)
+      when_answers (AtLeast least) promise e speaks target answer = absurd (false≢true e)
+      when_answers Between promise e speaks target answer = absurd (false≢true e)
+      when_answers LengthAtLeast promise e speaks target answer = absurd (false≢true e)
+      when_answers (Arrays least each) promise e speaks target answer = absurd (false≢true e)
+      when_answers Offsets promise e speaks target answer = absurd (false≢true e)
+      when_answers Bounds promise e speaks target answer = absurd (false≢true e)
+
+      by_promise : (b : Bool) (promise : Option Promise) → b ≡ IsPromise says → HasPromise b promise → Speaks says promise → PostsSaid (or_bad_name (given names p.effect_free promise (p.first ++ claims)))
+      by_promise false None e has speaks = tt
+      by_promise true (Some promise) e has speaks =
+          none_posts p.effect_free (posts_of names promise.when (p.first ++ claims) promise.on)
+          (posts_of_said promise.when (p.first ++ claims) promise.on (when_answers says promise (sym e) speaks target) (all_joined Said p.first claims (first (sym e)) (all (sym e))))
+      by_promise true None e has speaks = absurd has
+      by_promise false (Some promise) e has speaks = absurd has
+
+      inherited_or_not : (b : Bool) → PostsSaid (if b then Err InheritedName else or_bad_name (given names p.effect_free p.promise (p.first ++ claims)))
+      inherited_or_not true = tt
+      inherited_or_not false = by_promise (IsPromise says) p.promise refl has speaks
+
+  -- an annotation that promises something claims nothing without names
+  promised_first : (says : Says) → IsPromise says ≡ true → (cs : List Claim) → AllOf (IsFirst says) cs → AllOf Said cs
+  promised_first Ensures e cs all = all_so (IsFirst Ensures) Said (λ c is. absurd is) cs all
+  promised_first EnsuresIf e cs all = all_so (IsFirst EnsuresIf) Said (λ c is. absurd is) cs all
+  promised_first Nothing e cs all = absurd (false≢true e)
+  promised_first EffectFree e cs all = absurd (false≢true e)
+  promised_first (AtLeast least) e cs all = absurd (false≢true e)
+  promised_first Between e cs all = absurd (false≢true e)
+  promised_first LengthAtLeast e cs all = absurd (false≢true e)
+  promised_first (Arrays least each) e cs all = absurd (false≢true e)
+  promised_first Offsets e cs all = absurd (false≢true e)
+  promised_first Bounds e cs all = absurd (false≢true e)
+
+  upper_claims_said : (ws : List Written) → AllOf IsUpper ws → Whenever (AllOf Said) (claims_of names ws)
+  upper_claims_said [] all = tt
+  upper_claims_said (w ∷ ws) all =
+      others_are Said (claim_of names w) (claims_of names ws) (upper_of_fits names int_type types knows refl w all.0 (all_free (names_inherited names w))) (upper_claims_said ws all.1)
+
+  promised_claims : (says : Says) → IsPromise says ≡ true → (ws : List Written) → AllOf (IsWritten says) ws → Whenever (AllOf Said) (claims_of names ws)
+  promised_claims Ensures e ws all = upper_claims_said ws all
+  promised_claims EnsuresIf e ws all = upper_claims_said ws all
+  promised_claims Nothing e ws all = absurd (false≢true e)
+  promised_claims EffectFree e ws all = absurd (false≢true e)
+  promised_claims (AtLeast least) e ws all = absurd (false≢true e)
+  promised_claims Between e ws all = absurd (false≢true e)
+  promised_claims LengthAtLeast e ws all = absurd (false≢true e)
+  promised_claims (Arrays least each) e ws all = absurd (false≢true e)
+  promised_claims Offsets e ws all = absurd (false≢true e)
+  promised_claims Bounds e ws all = absurd (false≢true e)
+
+  -- what speaks of one answer stands on a method with a boolean one
+  stands_on : (targets : Targets) (says : Says) → FitsSays targets says → fits targets names.target ≡ true → EnsuresIf ≡ says → names.target ≡ on.BooleanMethod
+  stands_on targets says row e same = by_targets targets (subst (λ (says : Says). FitsSays targets says) (sym same) row) e
+    where
+      by_target : (target : Target) → fits BooleanMethod target ≡ true → target ≡ on.BooleanMethod
+      by_target on.BooleanMethod e = refl
+      by_target on.Int e = absurd (false≢true e)
+      by_target on.Element e = absurd (false≢true e)
+      by_target on.Array e = absurd (false≢true e)
+      by_target on.Method e = absurd (false≢true e)
+      by_target on.Constructor e = absurd (false≢true e)
+      by_target on.Other e = absurd (false≢true e)
+
+      by_targets : (targets : Targets) → FitsSays targets EnsuresIf → fits targets names.target ≡ true → names.target ≡ on.BooleanMethod
+      by_targets BooleanMethod row e = by_target names.target e
+      by_targets IntOrElement row e = absurd row
+      by_targets Int row e = absurd row
+      by_targets Array row e = absurd row
+      by_targets Callable row e = absurd row
+      by_targets Method row e = absurd row
+
+  with_plan_said : (targets : Targets) (says : Says) → FitsSays targets says → (p : Option Plan) → Whenever (IsPlan says) p → PostsSaid (with_plan names targets p)
+  with_plan_said targets says row None is = tt
+  with_plan_said targets says row (Some p) is = fits_or_not (fits targets names.target) refl
+    where
+      fits_or_not : (b : Bool) → fits targets names.target ≡ b → PostsSaid (if b then with_claims names p (claims_of names p.written) else Err WrongTarget)
+      fits_or_not true e =
+          with_claims_said says p (claims_of names p.written) is.2 is.3 (stands_on targets says row e) (λ h. promised_first says h p.first is.0) (λ h. promised_claims says h p.written is.1)
+      fits_or_not false e = tt
+
+  with_row_said : (annot : Annot) (row : Option (Targets × Says)) → Whenever (λ (row : Targets × Says). FitsSays row.0 row.1) row → PostsSaid (with_row annot names row)
+  with_row_said annot None is = tt
+  with_row_said annot (Some row) is = with_plan_said row.0 row.1 is (plan row.1 annot.args) (plan_is row.1 annot.args)
+
+  row_there : (name : List ℕ) (o : Option (Targets × Says)) → row_in table name ≡ o → Whenever (λ (row : Targets × Says). FitsSays row.0 row.1) o
+  row_there name None e = tt
+  row_there name (Some row) e = row_fits table name row table_fits e
+
+  -- The posts of an annotation are so.
+  pub expanded_said : (annot : Annot) → PostsSaid (expanded annot names)
+  unfolding expanded row_named
+  expanded_said annot = with_row_said annot (row_in table annot.name.text) (row_there annot.name.text (row_in table annot.name.text) refl)
+
+-- a constructor promises nothing
+posts_without : (names : Names) (says : Says) (p : Plan) (claims : Option (List Claim)) → IsPromise says ≡ false → HasPromise (IsPromise says) p.promise → posts_from (with_claims names p claims) ≡ []
+posts_without names says p None none has = refl
+posts_without names says p (Some claims) none has = inherited_or_not (is_field names.own && list_any (names_inherited names) p.written)
+  where
+    by_promise : (promise : Option Promise) → HasPromise false promise → posts_from (or_bad_name (given names p.effect_free promise (p.first ++ claims))) ≡ []
+    by_promise None has = refl
+    by_promise (Some promise) has = absurd has
+
+    inherited_or_not : (b : Bool) → posts_from (if b then Err InheritedName else or_bad_name (given names p.effect_free p.promise (p.first ++ claims))) ≡ []
+    inherited_or_not true = refl
+    inherited_or_not false = by_promise p.promise (subst (λ b. HasPromise b p.promise) none has)
+
+with_row_constructor : (names : Names) (annot : Annot) (row : Option (Targets × Says)) → Whenever (λ (row : Targets × Says). FitsSays row.0 row.1) row → names.target ≡ on.Constructor → posts_from (with_row annot names row) ≡ []
+with_row_constructor names annot None is e = refl
+with_row_constructor names annot (Some row) is e = planned row.0 row.1 is (plan row.1 annot.args) (plan_is row.1 annot.args)
+  where
+    unfit : (targets : Targets) (p : Plan) → fits targets on.Constructor ≡ false → posts_from (with_plan names targets (Some p)) ≡ []
+    unfit targets p f =
+        ap (λ (t : Target). posts_from (if fits targets t then with_claims names p (claims_of names p.written) else Err WrongTarget)) e
+        ∙ ap (λ b. posts_from (if b then with_claims names p (claims_of names p.written) else Err WrongTarget)) f
+
+    callable : (says : Says) (p : Plan) → IsPromise says ≡ false → HasPromise (IsPromise says) p.promise → (b : Bool) → posts_from (if b then with_claims names p (claims_of names p.written) else Err WrongTarget) ≡ []
+    callable says p none has true = posts_without names says p (claims_of names p.written) none has
+    callable says p none has false = refl
+
+    planned : (targets : Targets) (says : Says) → FitsSays targets says → (p : Option Plan) → Whenever (IsPlan says) p → posts_from (with_plan names targets p) ≡ []
+    planned targets says row None is = refl
+    planned IntOrElement says row (Some p) is = unfit IntOrElement p refl
+    planned Int says row (Some p) is = unfit Int p refl
+    planned Array says row (Some p) is = unfit Array p refl
+    planned Method says row (Some p) is = unfit Method p refl
+    planned BooleanMethod says row (Some p) is = unfit BooleanMethod p refl
+    planned Callable EffectFree row (Some p) is = callable EffectFree p refl is.2 (fits Callable names.target)
+    planned Callable Nothing row (Some p) is = absurd row
+    planned Callable (AtLeast least) row (Some p) is = absurd row
+    planned Callable Between row (Some p) is = absurd row
+    planned Callable LengthAtLeast row (Some p) is = absurd row
+    planned Callable (Arrays least each) row (Some p) is = absurd row
+    planned Callable Offsets row (Some p) is = absurd row
+    planned Callable Bounds row (Some p) is = absurd row
+    planned Callable Ensures row (Some p) is = absurd row
+    planned Callable EnsuresIf row (Some p) is = absurd row
+
+pub expanded_constructor : (names : Names) (annot : Annot) → names.target ≡ on.Constructor → posts_from (expanded annot names) ≡ []
+unfolding expanded row_named
+expanded_constructor names annot e = with_row_constructor names annot (row_in table annot.name.text) (row_found annot.name.text (row_in table annot.name.text) refl) e
+  where
+    row_found : (name : List ℕ) (o : Option (Targets × Says)) → row_in table name ≡ o → Whenever (λ (row : Targets × Says). FitsSays row.0 row.1) o
+    row_found name None e = tt
+    row_found name (Some row) e = row_fits table name row table_fits e
+
 -- ---- claims on elements
 
 with_plan_elements : (names : Names) (targets : Targets) (says : Says) → FitsSays targets says → names.target ≡ on.Element → (p : Option Plan) → Whenever (IsPlan says) p
@@ -442,9 +717,17 @@ with_plan_elements names targets says row e (Some p) is =
     inherited None b first all = tt
     inherited (Some claims) b first all = either (is_field names.own && list_any (names_inherited names) p.written)
       where
-        either : (b : Bool) → AllOf (λ c. is_element_claim c ≡ true) (claims_from (if b then Err InheritedName else Ok (record { list = p.first ++ claims; effect_free = p.effect_free })))
+        posts_or_none : (o : Option (List Post)) → AllOf (λ c. is_element_claim c ≡ true) (claims_from (or_bad_name (option_map (λ posts. record { list = []; effect_free = p.effect_free; posts = posts }) o)))
+        posts_or_none None = tt
+        posts_or_none (Some posts) = tt
+
+        by_promise : (promise : Option Promise) → AllOf (λ c. is_element_claim c ≡ true) (claims_from (or_bad_name (given names p.effect_free promise (p.first ++ claims))))
+        by_promise None = all_joined (λ c. is_element_claim c ≡ true) p.first claims first all
+        by_promise (Some promise) = posts_or_none (posts_of names promise.when (p.first ++ claims) promise.on)
+
+        either : (b : Bool) → AllOf (λ c. is_element_claim c ≡ true) (claims_from (if b then Err InheritedName else or_bad_name (given names p.effect_free p.promise (p.first ++ claims))))
         either true = tt
-        either false = all_joined (λ c. is_element_claim c ≡ true) p.first claims first all
+        either false = by_promise p.promise
 
     none_written : (ws : List Written) → AllOf (λ w. ⊥) ws → Whenever (AllOf (λ c. is_element_claim c ≡ true)) (claims_of names ws)
     none_written [] all = tt
@@ -460,10 +743,13 @@ with_plan_elements names targets says row e (Some p) is =
     by_row IntOrElement (Arrays least each) row is = absurd row
     by_row IntOrElement Offsets row is = absurd row
     by_row IntOrElement Bounds row is = absurd row
+    by_row IntOrElement Ensures row is = absurd row
+    by_row IntOrElement EnsuresIf row is = absurd row
     by_row Int says row is = tt
     by_row Array says row is = tt
     by_row Callable says row is = tt
     by_row Method says row is = tt
+    by_row BooleanMethod says row is = tt
 
 with_row_elements : (names : Names) (annot : Annot) (row : Option (Targets × Says)) → Whenever (λ (row : Targets × Says). FitsSays row.0 row.1) row → names.target ≡ on.Element
     → AllOf (λ c. is_element_claim c ≡ true) (claims_from (with_row annot names row))
@@ -489,6 +775,7 @@ with_row_other names annot (Some row) e = planned (plan row.1 annot.args)
     never_fits Array = refl
     never_fits Callable = refl
     never_fits Method = refl
+    never_fits BooleanMethod = refl
 
     planned : (p : Option Plan) → claims_from (with_plan names row.0 p) ≡ []
     planned None = refl

@@ -102,7 +102,7 @@ module _ (unit : Source) (p : Program) (is : IsAccepted unit p) where
   abbrev t : Tables
   t = tables (names unit) unit.classes
 
-  abbrev total : ℕ
+  abbrev pub total : ℕ
   total = length (all_methods unit.classes)
 
   pub methods_have : HasMethods (tables (names unit) unit.classes) (first_numbers unit.classes) unit.classes p.methods
@@ -134,7 +134,7 @@ module _ (unit : Source) (p : Program) (is : IsAccepted unit p) where
   abbrev OverNamed : Method → Type 0
   OverNamed method = (over : ℕ) → method.overrides ≡ Some over → (over < total) × ((method_at p over).name ≡ method.name)
 
-  signatures_few : (class : List ℕ → Option ℕ) (c : ℕ) (ks : List ClassDecl) → length (members.methods_from class c ks) ≡ length (all_methods ks)
+  pub signatures_few : (class : List ℕ → Option ℕ) (c : ℕ) (ks : List ClassDecl) → length (members.methods_from class c ks) ≡ length (all_methods ks)
   signatures_few class c [] = refl
   signatures_few class c (k ∷ ks) =
       let a = length-append (members.methods_in class c k.members) (members.methods_from class (c + 1) ks) in
@@ -146,7 +146,7 @@ module _ (unit : Source) (p : Program) (is : IsAccepted unit p) where
       own_few (member.Field d ∷ ms) = own_few ms
       own_few (member.Method d ∷ ms) = let e = own_few ms in omega (arith, e)
 
-  callable_few : (so : Signature → Bool) (k : ℕ) (ms : List Signature) → Whenever (λ (c : Callee). c.number < k + length ms) (members.callable_if so k ms)
+  pub callable_few : (so : Signature → Bool) (k : ℕ) (ms : List Signature) → Whenever (λ (c : Callee). c.number < k + length ms) (members.callable_if so k ms)
   callable_few so k [] = tt
   callable_few so k (m ∷ ms) = this_or_later (so m) (callable_few so (k + 1) ms)
     where

@@ -21,7 +21,7 @@ use Rattle.ix_meaning.specs.declared.note.Meaning.TheVariants.{FieldNamed, Const
 use Rattle.ix_meaning.specs.declared.note.Note.{Note}
 use Rattle.ix_meaning.specs.declared.note.NameError.{NameError}
 use Rattle.ix_meaning.specs.declared.note.Rule.TheVariants as rule
-use Rattle.ix_meaning.specs.Annotated.{written, element_claims, target_before}
+use Rattle.ix_meaning.specs.Annotated.{written, element_claims, target_before, of_variable}
 use Rattle.ix_meaning.specs.Bodies.{declares_note}
 use Rattle.ix_meaning.specs.Inheritance.{hides}
 use Rattle.ix_meaning.specs.Members as members
@@ -65,13 +65,13 @@ module _ (names : Names) (parts : List Part) where
 
   -- what the notes of a field say of its type and its meaning
   pub field_typed : (l : Place) (f : Known) (d : LocalDecl) (ty : Type_) → f.ty ≡ Some ty → Says (source.field_notes l f d)
-      → names.declared d.name.span ≡ Some (record { ty = ty; claims = record { list = if f.is_static then [] else (source.field_declaration l f d).claims; effect_free = false } })
+      → names.declared d.name.span ≡ Some (record { ty = ty; claims = of_variable (if f.is_static then [] else (source.field_declaration l f d).claims) })
   field_typed l f d ty e said =
       let a = said_parts (Agrees names parts) (wrong_if (source.is_refused f) rule.NotStatic d.name.span) _ said in
       let b = said_parts (Agrees names parts) (duplicate_name (hides l.world f) d.name.span) _ a.1 in
       let c = said_parts (Agrees names parts) (source.field_declaration l f d).notes _ b.1 in
-      let g = said_parts (Agrees names parts) (declares_note d.name.span f.ty (if f.is_static then [] else (source.field_declaration l f d).claims) false) _ c.1 in
-      (subst (λ (o : Option Type_). Says (declares_note d.name.span o (if f.is_static then [] else (source.field_declaration l f d).claims) false)) e g.0).0
+      let g = said_parts (Agrees names parts) (declares_note d.name.span f.ty (of_variable (if f.is_static then [] else (source.field_declaration l f d).claims))) _ c.1 in
+      (subst (λ (o : Option Type_). Says (declares_note d.name.span o (of_variable (if f.is_static then [] else (source.field_declaration l f d).claims)))) e g.0).0
 
   -- the type of a field that has no error is known
   pub field_has_type : (l : Place) (c next : ℕ) (d : LocalDecl) → Says (source.field_notes l (members.field_of l.world.class c next d) d) → (ty : Type_) × (field_type l.world.class d ≡ Some ty)

@@ -11,7 +11,7 @@ use Rattle.ix_tree.specs.Parts.{Part}
 use Rattle.ix_meaning.specs.declared.members.Signature.{Signature}
 use Rattle.ix_meaning.specs.declared.note.Note.{Note}
 use Rattle.ix_meaning.specs.declared.note.NameError.{NameError}
-use Rattle.ix_meaning.specs.Annotated.{Declaration, variable, written, element_claims, target_before, given}
+use Rattle.ix_meaning.specs.Annotated.{Declaration, variable, written, element_claims, target_before, given, of_variable, marked}
 use Rattle.ix_meaning.specs.Bodies.{declares_note, all_told, telling}
 use Rattle.ix_meaning.specs.Members.{signature, param_type, result_type}
 use Rattle.ix_meaning.specs.Resolved.{Names}
@@ -40,7 +40,7 @@ module _ (names : Names) (parts : List Part) where
     pub inherited : Told (source.inherited_notes l m)
     pub result : Told (source.result_given l (source.head_scope l m d) m d).notes
     pub marks : Told (source.method_given l (source.head_scope l m d) m d.mods.annots).notes
-    pub declares : Told (declares_note d.name.span m.result (source.result_given l (source.head_scope l m d) m d).claims (source.method_given l (source.head_scope l m d) m d.mods.annots).effect_free)
+    pub declares : Told (declares_note d.name.span m.result (marked (source.result_given l (source.head_scope l m d) m d).claims (source.method_given l (source.head_scope l m d) m d.mods.annots)))
     pub params : Told (source.param_notes l (source.head_scope l m d) [] 0 d.params)
     pub supers : Told (source.super_notes l (source.body_scope l m d) d)
     pub body : Told ((all_told (map telling d.body)).notes (source.body_scope l m d))
@@ -52,7 +52,7 @@ module _ (names : Names) (parts : List Part) where
       let b = said_parts So (source.inherited_notes l m) _ a.1 in
       let c = said_parts So (source.result_given l (source.head_scope l m d) m d).notes _ b.1 in
       let e = said_parts So (source.method_given l (source.head_scope l m d) m d.mods.annots).notes _ c.1 in
-      let f = said_parts So (declares_note d.name.span m.result (source.result_given l (source.head_scope l m d) m d).claims (source.method_given l (source.head_scope l m d) m d.mods.annots).effect_free) _ e.1 in
+      let f = said_parts So (declares_note d.name.span m.result (marked (source.result_given l (source.head_scope l m d) m d).claims (source.method_given l (source.head_scope l m d) m d.mods.annots))) _ e.1 in
       let g = said_parts So (source.param_notes l (source.head_scope l m d) [] 0 d.params) _ f.1 in
       let h = said_parts So (source.super_notes l (source.body_scope l m d) d) _ g.1 in
       record { constructor = a.0; inherited = b.0; result = c.0; marks = e.0; declares = f.0; params = g.0; supers = h.0; body = h.1 }
@@ -63,7 +63,7 @@ module _ (names : Names) (parts : List Part) where
   pub record ParamSays (l : Place) (s : Scope) (k : ℕ) (d : LocalDecl) : Type 0 where
     pub ty : Type_
     pub typed : param_type l.world.class d ≡ Some ty
-    pub table : names.declared d.name.span ≡ Some (record { ty = ty; claims = record { list = (source.param_declaration l s k d).claims; effect_free = false } })
+    pub table : names.declared d.name.span ≡ Some (record { ty = ty; claims = of_variable (source.param_declaration l s k d).claims })
 
   abbrev pub ParamsSay : Place → Scope → ℕ → List LocalDecl → Type 0
   ParamsSay l s k [] = Unit {0}
@@ -76,9 +76,9 @@ module _ (names : Names) (parts : List Part) where
       let own = source.param_declaration l s k d in
       let a = said_parts So (duplicate_name (source.is_named_in before d.name.text) d.name.span) _ said in
       let b = said_parts So own.notes _ a.1 in
-      let c = said_parts So (declares_note d.name.span own.ty own.claims false) _ b.1 in
+      let c = said_parts So (declares_note d.name.span own.ty (of_variable own.claims)) _ b.1 in
       let known = type_known So none_wrong l.world.class d.ty (element_claims (target_before d.ty) d.mods.annots) (said_parts So (written l.world.class d.ty []).notes _ b.0).0 in (
-        record { ty = known.0; typed = known.1; table = (subst (λ (o : Option Type_). Told (declares_note d.name.span o own.claims false)) known.1 c.0).0 },
+        record { ty = known.0; typed = known.1; table = (subst (λ (o : Option Type_). Told (declares_note d.name.span o (of_variable own.claims))) known.1 c.0).0 },
         params_say l s (before ++ d ∷ []) (k + 1) ds c.1,
       )
 
@@ -94,13 +94,7 @@ module _ (names : Names) (parts : List Part) where
   pub record ResultSays (l : Place) (m : Signature) (d : MethodDecl) : Type 0 where
     pub ty : Type_
     pub typed : m.result ≡ Some ty
-    pub table : names.declared d.name.span ≡ Some (record {
-      ty = ty;
-      claims = record {
-        list = (source.result_given l (source.head_scope l m d) m d).claims;
-        effect_free = (source.method_given l (source.head_scope l m d) m d.mods.annots).effect_free;
-      };
-    })
+    pub table : names.declared d.name.span ≡ Some (record { ty = ty; claims = marked (source.result_given l (source.head_scope l m d) m d).claims (source.method_given l (source.head_scope l m d) m d.mods.annots) })
 
   pub result_says : (l : Place) (d : MethodDecl) → is_written_method d ≡ true → MethodSays l (signature l.world.class l.class d) d → ResultSays l (signature l.world.class l.class d) d
   result_says l d w says =
@@ -109,7 +103,7 @@ module _ (names : Names) (parts : List Part) where
       record {
         ty = known.0;
         typed = known.1;
-        table = (subst (λ (o : Option Type_). Told (declares_note d.name.span o (source.result_given l (source.head_scope l m d) m d).claims (source.method_given l (source.head_scope l m d) m d.mods.annots).effect_free)) known.1 says.declares).0;
+        table = (subst (λ (o : Option Type_). Told (declares_note d.name.span o (marked (source.result_given l (source.head_scope l m d) m d).claims (source.method_given l (source.head_scope l m d) m d.mods.annots)))) known.1 says.declares).0;
       }
     where
       typed : (result : Option TypeTree) → result ≡ d.result → (not d.constructor || has_no_result d.result) ≡ true

@@ -146,7 +146,7 @@ array_is class ty claims t lt is = by_base ty.base is
     by_base tree.Boolean is = let same : shaped base.Bool ty.depth claims ≡ t = cc in subst (λ t. is_array_type t ≡ true) same (shape base.Bool)
     by_base (tree.Named name) is = by_class (class name.text) name.span is
 
-knows_aimed : (names : Names) (target : Target) (types : Name → Option Type_) → Knows names types → Knows (aimed names target) types
+pub knows_aimed : (names : Names) (target : Target) (types : Name → Option Type_) → Knows names types → Knows (aimed names target) types
 knows_aimed names target types k = record { ints = k.ints; arrays = k.arrays }
 
 -- Each claim of a variable's, a field's or a result's declaration fits its type.
@@ -163,6 +163,7 @@ variable_fits class names annots ty types is_written knows t e =
     before on.Int same = given_fit (aimed names on.Int) t types (knows_aimed names on.Int types knows) (int_is class ty (element_claims (target_before ty) annots) t same e) annots
     before on.Other same = given_fit (aimed names on.Other) t types (knows_aimed names on.Other types knows) tt annots
     before on.Method same = given_fit (aimed names on.Method) t types (knows_aimed names on.Method types knows) tt annots
+    before on.BooleanMethod same = given_fit (aimed names on.BooleanMethod) t types (knows_aimed names on.BooleanMethod types knows) tt annots
     before on.Constructor same = given_fit (aimed names on.Constructor) t types (knows_aimed names on.Constructor types knows) tt annots
     before on.Array same = absurd (never ty.base same)
       where

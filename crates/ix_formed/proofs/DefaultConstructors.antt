@@ -61,7 +61,7 @@ module _ (unit : Source) (p : Program) (is : IsAccepted unit p) where
     l = place (world unit.classes) ss c k
 
     abbrev own_site : Site
-    own_site = program.site t at []
+    own_site = program.site t at (program.default_head at k.name.span)
 
     constructor : method.constructor ≡ true
     constructor = ap (λ (m : Method). m.constructor) default.same
@@ -82,7 +82,7 @@ module _ (unit : Source) (p : Program) (is : IsAccepted unit p) where
     g = ground unit p is method [] own_site c there of_class
 
     grounded : IsGround g
-    grounded = is_ground unit p is method [] own_site c there of_class refl refl number (λ e. let f = first_slot in omega (arith, f))
+    grounded = is_ground unit p is method [] own_site c there of_class refl refl number (λ e. let f = first_slot in omega (arith, f)) (λ e. absurd (false≢true e))
 
     abbrev entry : Point
     entry = Some (entry_type p method)

@@ -16,6 +16,7 @@ use Rattle.ix_tree.specs.declared.expr.Init.{Init}
 use Rattle.ix_tree.specs.Parts.{Part, unit_parts}
 use Rattle.ix_meaning.specs.declared.note.Meaning.TheVariants.{FieldNamed, Constant}
 use Rattle.ix_meaning.specs.declared.note.Rule.TheVariants as rule
+use Rattle.ix_meaning.specs.Annotated.{of_variable}
 use Rattle.ix_meaning.specs.Bodies.{declares_note, init_notes}
 use Rattle.ix_meaning.specs.Inheritance.{hides}
 use Rattle.ix_meaning.specs.Members as members
@@ -75,7 +76,7 @@ module _ (unit : Source) (p : Program) (is : IsAccepted unit p) where
       let a = said_parts (Agrees table all) (wrong_if (source.is_refused f) rule.NotStatic d.name.span) _ said in
       let b = said_parts (Agrees table all) (duplicate_name (hides l.world f) d.name.span) _ a.1 in
       let g = said_parts (Agrees table all) (source.field_declaration l f d).notes _ b.1 in
-      let own = said_parts (Agrees table all) (declares_note d.name.span f.ty claims false) _ g.1 in
+      let own = said_parts (Agrees table all) (declares_note d.name.span f.ty (of_variable claims)) _ g.1 in
       let told = subst (λ o. Says table all (init_notes o (source.member_scope l (not d.mods.is_static)) f.ty)) init own.1 in
       let instance = subst (λ b. Says table all (reading.filling i (source.member_scope l (not b)) f.ty)) static told in
       record {

@@ -98,7 +98,7 @@ module _ (unit : Source) (p : Program) (is : IsAccepted unit p) where
   pub parents_there : (class above : ℕ) → parent (parents unit.classes) class ≡ Some above → above < length (parents unit.classes)
   parents_there class above e = let lt = parent_within unit.classes class above e in let c = parent_count in omega (arith, lt, c)
 
-  few_above : (class : ℕ) → class < length (parents unit.classes) → 1 + length (supers (parents unit.classes) class) ≤ most_on_way
+  pub few_above : (class : ℕ) → class < length (parents unit.classes) → 1 + length (supers (parents unit.classes) class) ≤ most_on_way
   few_above class lt = few_supers unit is.accepts class (let c = parent_count in omega (arith, lt, c))
 
   -- a class, or one of its superclasses

@@ -1,13 +1,14 @@
 -- The program of an accepted source is formed, where the bodies and the locals of its constructors fit.
-use Rattle.std.proofs.Common.{◌≡◌, ◌≤◌, ℕ, zero, suc, Bool, true, false, List, [], ◌∷◌, length, refl, sym, ap, subst, ◌∙◌, arith}
-use Rattle.std.specs.Prelude.{if◌then◌else◌, ◌||◌, not, nat_lt, count_by, slice_get, unwrap_or}
-use Rattle.std.proofs.lemmas.Bool.{and_parts}
+use Rattle.std.proofs.Common.{◌≡◌, ◌≤◌, ℕ, zero, suc, Bool, true, false, List, [], ◌∷◌, None, length, refl, sym, ap, subst, ◌∙◌, arith}
+use Rattle.std.specs.Prelude.{if◌then◌else◌, ◌&&◌, ◌||◌, not, nat_lt, count_by, slice_get, unwrap_or}
+use Rattle.std.proofs.lemmas.Bool.{false≢true, and_parts}
 use Rattle.ix_text.specs.declared.span.Span.{Span}
 use Rattle.ix_core.specs.declared.claim.Type_.{Type_}
 use Rattle.ix_core.specs.declared.program.Local.{Local}
 use Rattle.ix_core.specs.declared.program.Method.{Method}
 use Rattle.ix_core.specs.declared.program.Program.{Program}
-use Rattle.ix_core.specs.Formed.{at_most, classes_fit, fields_fit, params_fit, locals_fit, body_fits, result_fits, constructor_fits, overrides_fit, super_calls_fit, method_fits, methods_fit, Formed, same_numbers, loop_numbers, numbers_from, code_size}
+use Rattle.ix_core.specs.Formed.{at_most, classes_fit, fields_fit, params_fit, locals_fit, body_fits, result_fits, constructor_fits, overrides_fit, super_calls_fit, method_fits, posts_fit, methods_fit, Formed, same_numbers, loop_numbers, numbers_from, code_size}
+use Rattle.ix_core.specs.Posts.{some_conditional, writes_answers}
 use Rattle.ix_core.specs.Tables.{param_slots, body_of, no_method}
 use Rattle.ix_core.specs.Types.{is_class}
 use Rattle.ix_core.proofs.Cases.{by_test}
@@ -32,7 +33,8 @@ use Rattle.ix_formed.proofs.HeadsAre.{IsWritten, head_matches}
 use Rattle.ix_formed.proofs.HeadsFit.{all_params_say, params_do_fit, result_does_fit, constructor_does_fit}
 use Rattle.ix_formed.proofs.NumberLists.{both_true, all_joined, all_split}
 use Rattle.ix_formed.proofs.Overrides.{overrides_do_fit}
-use Rattle.ix_formed.proofs.PlainMethods.{own_types, plain_body_fits, plain_locals_fit, plain_locals_own}
+use Rattle.ix_formed.proofs.PlainMethods.{own_types, plain_body_fits, plain_answers, plain_locals_fit, plain_locals_own}
+use Rattle.ix_formed.proofs.PostsFit.{constructor_none, posts_do_fit, default_posts_fit}
 use Rattle.ix_formed.proofs.ProgramsHaveShape.{params_behind}
 use Rattle.ix_formed.proofs.SizesFit.{IsSmallBody, sizes_do_fit}
 use Rattle.ix_formed.proofs.ClassFields.{IsMember, members_are}
@@ -77,9 +79,15 @@ module _ (p : Program) where
   types_of_all [] all = []
   types_of_all (method ∷ methods) all = all.0.0 ∷ types_of_all methods all.1
 
-  methods_do_fit : (methods : List Method) (all : AllOf Fits methods) → methods_fit p methods (types_of_all methods all) ≡ true
-  methods_do_fit [] all = refl
-  methods_do_fit (method ∷ methods) all = both_true (method_fits p method all.0.0) (methods_fit p methods (types_of_all methods all.1)) all.0.1 (methods_do_fit methods all.1)
+  -- what a method promises fits
+  abbrev PostsFit : Method → Type 0
+  PostsFit method = posts_fit p method ≡ true
+
+  methods_do_fit : (methods : List Method) (all : AllOf Fits methods) → AllOf PostsFit methods → methods_fit p methods (types_of_all methods all) ≡ true
+  methods_do_fit [] all posts = refl
+  methods_do_fit (method ∷ methods) all posts =
+      both_true (method_fits p method all.0.0) (posts_fit p method && methods_fit p methods (types_of_all methods all.1)) all.0.1
+      (both_true (posts_fit p method) (methods_fit p methods (types_of_all methods all.1)) posts.0 (methods_do_fit methods all.1 posts.1))
 
   all_fit : (methods : List Method) → AllOf HasGoodHead methods → AllOf (MethodHasShape p) methods → AllOf IsSmallBody methods → AllOf FitsInside methods → AllOf Fits methods
   all_fit [] heads shapes small inside = tt
@@ -150,6 +158,28 @@ module _ (unit : Source) (p : Program) (is : IsAccepted unit p) where
   written_heads_fit [] ws has = tt
   written_heads_fit (method ∷ methods) ws has = (written_head_fits (IsMember unit p) method ws.0 ws.0.fine.sound.few has.0, written_heads_fit methods ws.1 has.1)
 
+  -- ---- posts
+
+  written_posts_fit : (method : Method) → IsWritten unit p is (IsMember unit p) t method → PostsFit p method
+  written_posts_fit method w = posts_do_fit unit p is (IsMember unit p) method w (by_constructor w.decl.constructor refl)
+    where
+      by_constructor : (b : Bool) → w.decl.constructor ≡ b → some_conditional method.posts ≡ true → writes_answers None (body_of method) ≡ true
+      by_constructor true c e = absurd (false≢true (sym (ap some_conditional (constructor_none unit p is (IsMember unit p) method w (w.head.constructor ∙ c))) ∙ e))
+      by_constructor false plain e = plain_answers unit p is method w plain e
+
+  all_posts_written : (methods : List Method) → AllOf (IsWritten unit p is (IsMember unit p) t) methods → AllOf (PostsFit p) methods
+  all_posts_written [] ws = tt
+  all_posts_written (method ∷ methods) ws = (written_posts_fit method ws.0, all_posts_written methods ws.1)
+
+  all_posts_default : (next : Next) (ks : List ClassDecl) (methods : List Method) → AreDefaults t next ks methods → AllOf (PostsFit p) methods
+  all_posts_default next [] methods are = subst (AllOf (PostsFit p)) (sym are) tt
+  all_posts_default next (k ∷ ks) methods are = one_or_none (has_constructor k.members) are (λ others rest. all_posts_default (next_behind next k) ks others rest)
+    where
+      one_or_none : (b : Bool) → IfElse b (AreDefaults t (next_behind next k) ks methods) (IsOneDefault (AreDefaults t (next_behind next k) ks) t (home t next k) k.name.span methods)
+          → ((others : List Method) → AreDefaults t (next_behind next k) ks others → AllOf (PostsFit p) others) → AllOf (PostsFit p) methods
+      one_or_none true are rest = rest methods are
+      one_or_none false are rest = subst (AllOf (PostsFit p)) (sym are.2) (default_posts_fit unit p is (home t next k) k.name.span are.0 are.3, rest are.1 are.4)
+
   all_inside_written : (methods : List Method) → AllOf (IsWritten unit p is (IsMember unit p) t) methods → AllOf (MethodHasShape p) methods → AllOf WhereConstructor methods → AllOf (FitsInside p) methods
   all_inside_written [] ws has constructors = tt
   all_inside_written (method ∷ methods) ws has constructors = (inside_written method ws.0 has.0 constructors.0, all_inside_written methods ws.1 has.1 constructors.1)
@@ -189,9 +219,10 @@ module _ (unit : Source) (p : Program) (is : IsAccepted unit p) where
       (all_joined (HasGoodHead p) have.written have.default (written_heads_fit have.written ws s.0) (default_heads_fit (first_numbers unit.classes) unit.classes have.default have.are_default)) in
       let inside = all_inside end placed readable constructors in
       let small = sizes_do_fit unit is.can t (first_numbers unit.classes) p.methods have in
-      let all = all_fit p p.methods heads each.each small inside in (
+      let all = all_fit p p.methods heads each.each small inside in
+      let posts = subst (AllOf (PostsFit p)) (sym have.same) (all_joined (PostsFit p) have.written have.default (all_posts_written have.written ws) (all_posts_default (first_numbers unit.classes) unit.classes have.default have.are_default)) in (
         types_of_all p p.methods all,
         both_true (classes_fit p 0 p.classes) _ (classes_do_fit unit p is)
             (both_true (fields_fit p 0 p.fields) _ (fields_do_fit unit p is)
-            (both_true (at_most (count_by (λ (method : Method). method.written) p.methods) 4096) (methods_fit p p.methods (types_of_all p p.methods all)) each.written (methods_do_fit p p.methods all))),
+            (both_true (at_most (count_by (λ (method : Method). method.written) p.methods) 4096) (methods_fit p p.methods (types_of_all p p.methods all)) each.written (methods_do_fit p p.methods all posts))),
       )

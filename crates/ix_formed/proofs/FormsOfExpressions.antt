@@ -45,10 +45,10 @@ use Rattle.ix_formed.specs.Weights.{total}
 use Rattle.ix_tree.specs.Parts as parts
 use Rattle.ix_tree.specs.Parts.{Part, expression, statement, elsewhere, together, listed, type_parts, expr_parts, init_parts}
 
--- two for each expression and each statement
+-- two for each expression, and three for each statement
 abbrev pub part_forms : Part → ℕ
 part_forms (expression span) = 2
-part_forms (statement span) = 2
+part_forms (statement span) = 3
 part_forms _ = 0
 
 abbrev pub parts_forms : List Part → ℕ
@@ -90,7 +90,7 @@ taken : (made : Made) (first : Item) (n : ℕ) → code_forms (item_code first E
 taken made first n le true = let e = forms_append made.items (first ∷ []) in omega (arith, e, le)
 taken made first n le false = tt
 
-taking_adds : (made : Made) (first : Item) (n : ℕ) → code_forms (item_code first End) ≤ n → ValueAdds made n (taking made first)
+pub taking_adds : (made : Made) (first : Item) (n : ℕ) → code_forms (item_code first End) ≤ n → ValueAdds made n (taking made first)
 taking_adds made first n le = taken made first n le (nat_lt made.free most_slots)
 
 pub computed_adds : (made : Made) (kind : OpKind) (span : Span) → ValueAdds made 0 (computed made kind span)

@@ -1,4 +1,4 @@
--- A statement gives few items besides its operations: two for each statement and each expression in it.
+-- A statement gives few items besides its operations: three for each statement and two for each expression in it.
 use Rattle.std.proofs.Common.{◌≡◌, ◌≤◌, ℕ, ◌+◌, max, Bool, true, false, List, [], ◌∷◌, ◌++◌, map, Option, Some, None, Ok, Err, refl, sym, ap, subst, ◌∙◌, arith}
 use Rattle.std.specs.Prelude.{if◌then◌else◌, nat_lt}
 use Rattle.ix_text.specs.declared.span.Span.{Span}
@@ -38,7 +38,7 @@ use Rattle.ix_formed.specs.Additions.{Makes}
 use Rattle.ix_formed.specs.Sizes.{code_forms, condition_forms, item_forms}
 use Rattle.ix_formed.proofs.CodeSizes.{forms_append, forms_of_items}
 use Rattle.ix_formed.proofs.ExpressionNotes.{total_append}
-use Rattle.ix_formed.proofs.FormsOfExpressions.{Adds, part_forms, parts_forms, AllForms, sum, expression_forms, initialiser_forms, computed_adds, calling_adds, arguments_add}
+use Rattle.ix_formed.proofs.FormsOfExpressions.{Adds, part_forms, parts_forms, AllForms, sum, expression_forms, initialiser_forms, computed_adds, taking_adds, calling_adds, arguments_add}
 use Rattle.ix_formed.proofs.PlainItems.{makes_more, makes_then}
 
 abbrev pub body_forms : Body → ℕ
@@ -246,11 +246,28 @@ declarations_grow ds site end body = makes_more (Grows body (parts_forms (togeth
 
 -- ---- all forms
 
-returned_grows : (value : Option Expr) (span : Span) (site : Site) (body : Body) → Makes (Grows body (2 + parts_forms (parts.maybe expr_parts value))) (statements.returned value span site body)
-returned_grows None span site body = last_grows body (item.Return None span) 2 (omega arith)
-returned_grows (Some e) span site body =
-    grows_as body (parts_forms (expr_parts e) + 1) (2 + parts_forms (expr_parts e)) _ (omega arith)
-    (used_grows body (parts_forms (expr_parts e)) 1 (evaluated site e body) (λ v. item.Return (Some v.slot) e.span) (evaluated_grows site e body) (λ v. omega arith))
+-- both answers, each with its return
+answer_few : (asked : Cond) (slot : ℕ) (span : Span) (n : ℕ) → condition_forms (cond_code asked) ≤ n → code_forms (item_code (statements.answer_item asked slot span) End) ≤ 3 + n
+answer_few asked slot span n le =
+    let e = ap code_forms (item_code-If asked (statements.answer true slot span) (statements.answer false slot span) End) in omega (arith, e, le)
+
+answered_grows : (site : Site) (e : Expr) (body : Body) → Makes (Grows body (3 + parts_forms (expr_parts e))) (statements.answered site e body)
+answered_grows site e body =
+    makes_then (λ (a : Asked). condition_forms (cond_code a.cond) ≤ parts_forms (expr_parts e)) (Grows body (3 + parts_forms (expr_parts e)))
+    ((lowering e).condition (scope_for site body (assigns e).inside) body.made.free) _ ((expression_forms e).condition (scope_for site body (assigns e).inside) body.made.free)
+    (λ asked le. makes_then (λ (v : Value). Adds body.made (3 + parts_forms (expr_parts e)) v.made) (Grows body (3 + parts_forms (expr_parts e))) _ _
+    (taking_adds (record { items = body.made.items; free = asked.free }) (statements.answer_item asked.cond asked.free e.span) (3 + parts_forms (expr_parts e)) (answer_few asked.cond asked.free e.span (parts_forms (expr_parts e)) le))
+    (λ v a. a))
+
+returned_grows : (value : Option Expr) (span : Span) (site : Site) (body : Body) → Makes (Grows body (3 + parts_forms (parts.maybe expr_parts value))) (statements.returned value span site body)
+returned_grows None span site body = last_grows body (item.Return None span) 3 (omega arith)
+returned_grows (Some e) span site body = answers_or_not site.answers
+  where
+    answers_or_not : (b : Bool) → Makes (Grows body (3 + parts_forms (expr_parts e))) (if b then statements.answered site e body else used site e (λ slot. item.Return (Some slot) e.span) body)
+    answers_or_not true = answered_grows site e body
+    answers_or_not false =
+        grows_as body (parts_forms (expr_parts e) + 1) (3 + parts_forms (expr_parts e)) _ (omega arith)
+        (used_grows body (parts_forms (expr_parts e)) 1 (evaluated site e body) (λ v. item.Return (Some v.slot) e.span) (evaluated_grows site e body) (λ v. omega arith))
 
 abbrev kind_run : StmtKind → Span → Run
 kind_run = fold-StmtKind (Span → Run) Running statements.kind_step statements.stmt_step
@@ -259,7 +276,7 @@ abbrev kind_parts : StmtKind → List Part
 kind_parts = fold-StmtKind (List Part) (List Part) parts.stmt_kind_step parts.stmt_step
 
 abbrev KindRuns : StmtKind → Type 0
-KindRuns k = (span : Span) (site : Site) (end : ℕ) (body : Body) → Makes (Grows body (2 + parts_forms (kind_parts k))) (kind_run k span site end body)
+KindRuns k = (span : Span) (site : Site) (end : ℕ) (body : Body) → Makes (Grows body (3 + parts_forms (kind_parts k))) (kind_run k span site end body)
 
 abbrev StmtRuns : Stmt → Type 0
 StmtRuns s = Runs (statements.statement s) (parts_forms (stmt_parts s))
@@ -277,11 +294,11 @@ module _ {K S : Type 0} (kind : K → StmtKind) (stmt : S → Stmt) (stmt_runs :
       together_sum (s ∷ ss) = let a = together_sum ss in let b = total_append part_forms (stmt_parts (stmt s)) (together (map stmt_parts (map stmt ss))) in omega (arith, a, b)
 
   run_layer : (y : StmtKind-F K S) (span : Span) (site : Site) (end : ℕ) (body : Body)
-      → Makes (Grows body (2 + parts_forms (parts.stmt_kind_step (map-StmtKind StmtKind Stmt (List Part) (List Part) kind_parts stmt_parts (map-StmtKind K S StmtKind Stmt kind stmt y)))))
+      → Makes (Grows body (3 + parts_forms (parts.stmt_kind_step (map-StmtKind StmtKind Stmt (List Part) (List Part) kind_parts stmt_parts (map-StmtKind K S StmtKind Stmt kind stmt y)))))
       (statements.kind_step (map-StmtKind StmtKind Stmt (Span → Run) Running kind_run statements.statement (map-StmtKind K S StmtKind Stmt kind stmt y)) span site end body)
   run_layer (StmtKind-F.Block ss) span site end body =
       let le = all_sum ss in
-      makes_then (Grows body (sum (map (λ (s : S). parts_forms (stmt_parts (stmt s))) ss))) (Grows body (2 + parts_forms (listed (map stmt_parts (map stmt ss))))) (statements.each (map statements.statement (map stmt ss)) site span.to body) _
+      makes_then (Grows body (sum (map (λ (s : S). parts_forms (stmt_parts (stmt s))) ss))) (Grows body (3 + parts_forms (listed (map stmt_parts (map stmt ss))))) (statements.each (map statements.statement (map stmt ss)) site span.to body) _
       (each_grows (map statements.statement (map stmt ss)) (map (λ (s : S). parts_forms (stmt_parts (stmt s))) ss) (all_run ss) site span.to body) (λ inner x. omega (arith, x, le))
   run_layer StmtKind-F.Empty span site end body = omega arith
   run_layer (StmtKind-F.Local decls) span site end body = grows_as body (parts_forms (listed (parts.each decl_parts decls))) _ _ (omega arith) (declarations_grow decls site end body)
@@ -309,10 +326,10 @@ module _ {K S : Type 0} (kind : K → StmtKind) (stmt : S → Stmt) (stmt_runs :
       let c = total_append part_forms updates (stmt_parts (stmt turn)) in
       grows_as body (sum ns + (1 + ((1 + parts_forms (parts.maybe expr_parts condition)) + (parts_forms (stmt_parts (stmt turn)) + parts_forms updates)))) _ _ (omega (arith, le, a, b, c))
       (for_grows (map statements.statement (map stmt first)) ns condition update (statements.statement (stmt turn)) (parts_forms (stmt_parts (stmt turn))) (all_run first) (stmt_runs turn) span.to site body)
-  run_layer StmtKind-F.Break span site end body = last_grows body item.Break 2 (omega arith)
-  run_layer StmtKind-F.Continue span site end body = last_grows body item.Continue 2 (omega arith)
+  run_layer StmtKind-F.Break span site end body = last_grows body item.Break 3 (omega arith)
+  run_layer StmtKind-F.Continue span site end body = last_grows body item.Continue 3 (omega arith)
   run_layer (StmtKind-F.Return value) span site end body = returned_grows value span site body
-  run_layer (StmtKind-F.Throw name) span site end body = last_grows body (item.Throw name.text span) 2 (omega arith)
+  run_layer (StmtKind-F.Throw name) span site end body = last_grows body (item.Throw name.text span) 3 (omega arith)
   run_layer (StmtKind-F.Print value) span site end body =
       grows_as body (parts_forms (expr_parts value) + 0) _ _ (omega arith)
       (used_grows body (parts_forms (expr_parts value)) 0 (evaluated site value body) (λ v. done (op.Print v.slot) value.span []) (evaluated_grows site value body) (λ v. omega arith))
@@ -323,8 +340,8 @@ module _ {K S : Type 0} (kind : K → StmtKind) (stmt : S → Stmt) (stmt_runs :
       let layer = map-StmtKind K S StmtKind Stmt kind stmt y in
       let a = fold-roll-StmtKind (Span → Run) Running statements.kind_step statements.stmt_step layer in
       let b = fold-roll-StmtKind (List Part) (List Part) parts.stmt_kind_step parts.stmt_step layer in
-      subst (λ (ps : List Part). Makes (Grows body (2 + parts_forms ps)) (kind_run (roll-StmtKind layer) span site end body)) (sym b)
-      (subst (λ (f : Span → Run). Makes (Grows body (2 + parts_forms (parts.stmt_kind_step (map-StmtKind StmtKind Stmt (List Part) (List Part) kind_parts stmt_parts layer)))) (f span site end body)) (sym a) (run_layer y span site end body))
+      subst (λ (ps : List Part). Makes (Grows body (3 + parts_forms ps)) (kind_run (roll-StmtKind layer) span site end body)) (sym b)
+      (subst (λ (f : Span → Run). Makes (Grows body (3 + parts_forms (parts.stmt_kind_step (map-StmtKind StmtKind Stmt (List Part) (List Part) kind_parts stmt_parts layer)))) (f span site end body)) (sym a) (run_layer y span site end body))
 
   stmt_rolled : ((k : K) → KindRuns (kind k)) → (y : Stmt-F K S) → StmtRuns (roll-Stmt (map-Stmt K S StmtKind Stmt kind stmt y))
   stmt_rolled kind_runs y =
@@ -332,7 +349,7 @@ module _ {K S : Type 0} (kind : K → StmtKind) (stmt : S → Stmt) (stmt_runs :
       let a = fold-roll-Stmt (Span → Run) Running statements.kind_step statements.stmt_step layer in
       let b = fold-roll-Stmt (List Part) (List Part) parts.stmt_kind_step parts.stmt_step layer in
       subst (λ (ps : List Part). Runs (statements.statement (roll-Stmt layer)) (parts_forms ps)) (sym b)
-      (subst (λ (r : Running). Runs r (2 + parts_forms (kind_parts (kind y.kind)))) (sym a) (λ site end body. kind_runs y.kind y.span site end body))
+      (subst (λ (r : Running). Runs r (3 + parts_forms (kind_parts (kind y.kind)))) (sym a) (λ site end body. kind_runs y.kind y.span site end body))
 
 statement_grows : (s : Stmt) → StmtRuns s
 statement_grows = ind-Stmt KindRuns StmtRuns

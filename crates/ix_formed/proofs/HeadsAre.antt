@@ -38,6 +38,7 @@ module _ (unit : Source) (p : Program) (is : IsAccepted unit p) where
   -- The program's method has what the signature says.
   pub record Matches (method : Method) (m : Signature) : Type 0 where
     pub name : method.name ≡ m.name
+    pub span : method.span ≡ m.span
     pub class : method.class ≡ m.class
     pub static : method.is_static ≡ m.is_static
     pub constructor : method.constructor ≡ m.constructor
@@ -66,6 +67,7 @@ module _ (unit : Source) (p : Program) (is : IsAccepted unit p) where
       let said = result_said unit p is l d method head in
       record {
         name = head.name;
+        span = head.span;
         class = head.class;
         static = head.static;
         constructor = head.constructor;
@@ -92,6 +94,7 @@ module _ (unit : Source) (p : Program) (is : IsAccepted unit p) where
       there = there;
       written = wr;
       name = ap (λ (x : Method). x.name) m.same;
+      span = ap (λ (x : Method). x.span) m.same;
       class = ap (λ (x : Method). x.class) m.same ∙ class;
       static = ap (λ (x : Method). x.is_static) m.same;
       constructor = ap (λ (x : Method). x.constructor) m.same;

@@ -59,6 +59,7 @@ module _ (unit : Source) (p : Program) (is : IsAccepted unit p) where
     pub world : l.world ≡ members.world unit.classes
     pub there : l.class < length unit.classes
     pub name : method.name ≡ d.name.text
+    pub span : method.span ≡ d.name.span
     pub class : method.class ≡ l.class
     pub static : method.is_static ≡ is_static d
     pub constructor : method.constructor ≡ d.constructor
@@ -104,7 +105,7 @@ module _ (unit : Source) (p : Program) (is : IsAccepted unit p) where
         beside own (named_type p method) (name.FieldNamed k) other
         ∙ ap (λ b. if b then Some (field_at p k).ty else None) (both_true (has_this p method) (is_among (all_fields p method.class) k) may (ap (λ n. is_among (all_fields p n) k) head.class ∙ among))
 
-    head_knows : (own : Option Name) → Knows (annot_names s own None) (besides own (named_type p method))
+    pub head_knows : (own : Option Name) → Knows (annot_names s own None) (besides own (named_type p method))
     head_knows own =
         scope_knows own (besides own (named_type p method)) s None
         (params_known own (types_of (names unit) d.params) 0 d.params all_params_say (λ j. let e : 0 + j ≡ j = omega arith in ap (slice_get (types_of (names unit) d.params)) e)

@@ -66,6 +66,8 @@ pub mod MethodEntries
 pub mod SourceMethods
 pub mod PlainMethods
 pub mod FormedPrograms
+pub mod WrittenAnswers
+pub mod PostsFit
 pub mod ConstructorCalls
 pub mod ConstructorFields
 pub mod ConstructorBodies

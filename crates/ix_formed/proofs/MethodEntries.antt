@@ -89,7 +89,7 @@ module _ (unit : Source) (p : Program) (is : IsAccepted unit p) (l : Place) (d :
   t = tables (names unit) unit.classes
 
   abbrev pub own_site : Site
-  own_site = program.site t at (written_head t at d).params
+  own_site = program.site t at (written_head t at d)
 
   abbrev pub own_ground : Ground
   own_ground = ground unit p is method locals own_site l.class head.there head.class

@@ -125,7 +125,7 @@ module _ (unit : Source) (p : Program) (is : IsAccepted unit p) where
     abbrev pub IsInstance : List ℕ → ℕ → Callee → Type 0
     IsInstance name a callee = IsCallee (is_method_named a name) callee × (callee.signature.is_static ≡ false)
 
-    instance_is : (name : List ℕ) (a : ℕ) → Whenever (IsInstance name a) (if_instance ((world unit.classes).method a name))
+    pub instance_is : (name : List ℕ) (a : ℕ) → Whenever (IsInstance name a) (if_instance ((world unit.classes).method a name))
     instance_is name a = only_instance ((world unit.classes).method a name) (callees (is_method_named a name) 0 (members.methods unit.classes) match)
       where
         static_or_not : (m : Callee) → IsCallee (is_method_named a name) m → (b : Bool) → m.signature.is_static ≡ b → Whenever (IsInstance name a) (if b then None else Some m)

@@ -1,5 +1,5 @@
 -- The body and the locals of a written method that is no constructor fit.
-use Rattle.std.proofs.Common.{◌≡◌, ◌≤◌, ℕ, ◌+◌, Bool, true, false, List, [], ◌∷◌, map, Some, Ok, refl, sym, ap, ◌∙◌, arith}
+use Rattle.std.proofs.Common.{◌≡◌, ◌≤◌, ℕ, ◌+◌, Bool, true, false, List, [], ◌∷◌, map, Some, None, Ok, refl, sym, ap, ◌∙◌, arith}
 use Rattle.std.specs.Prelude.{if◌then◌else◌, ◌&&◌, ◌||◌, not}
 use Rattle.std.proofs.lemmas.Bool.{false≢true, and_parts}
 use Rattle.ix_text.specs.declared.span.Span.{Span}
@@ -7,8 +7,10 @@ use Rattle.ix_core.specs.declared.claim.Type_.{Type_}
 use Rattle.ix_core.specs.declared.program.Local.{Local}
 use Rattle.ix_core.specs.declared.program.Method.{Method}
 use Rattle.ix_core.specs.declared.program.Program.{Program}
-use Rattle.ix_core.specs.Code.{items_code}
+use Rattle.ix_core.specs.Code.{items_code, block_code}
 use Rattle.ix_core.specs.Formed.{entry_type, has_parent, code_ways, locals_fit, body_fits, is_target}
+use Rattle.ix_core.specs.Posts.{some_conditional, writes_answers}
+use Rattle.ix_core.specs.Tables.{body_of}
 use Rattle.ix_tree.specs.declared.decl.MethodDecl.{MethodDecl}
 use Rattle.ix_tree.specs.declared.decl.Unit.{Unit as Source}
 use Rattle.ix_tree.specs.declared.stmt.Stmt.{Stmt}
@@ -34,9 +36,11 @@ use Rattle.ix_formed.proofs.HeadsAre.{IsWritten}
 use Rattle.ix_formed.proofs.MethodEntries.{own_site, own_ground, entry_scope, first_free, entry_scoped, entry_stands}
 use Rattle.ix_formed.proofs.NumberLists.{all_so}
 use Rattle.ix_formed.proofs.PlainItems.{made_is}
+use Rattle.ix_formed.proofs.PostsFit.{result_answers}
 use Rattle.ix_formed.proofs.ClassFields.{IsMember}
 use Rattle.ix_formed.proofs.SourceMethods.{IsAmong}
 use Rattle.ix_formed.proofs.TypedMethods.{whole_fits, whole_locals_fit, whole_locals_own, body_tells}
+use Rattle.ix_formed.proofs.WrittenAnswers.{answered_block}
 
 pub each_written : (xs : List Stmt) → each_true is_written_stmt xs ≡ true → all_true (map is_written_stmt xs) ≡ true
 each_written [] e = refl
@@ -95,6 +99,7 @@ module _ (unit : Source) (p : Program) (is : IsAccepted unit p) where
     pub grounded : IsGround g
     grounded = is_ground unit p is method own_types (own_site unit p is l d method w.head w.at w.same w.fine.sound.few own_types) l.class w.head.there w.head.class refl refl w.class
         (λ e. let f = ap (λ b. if b then 0 else 0 + 1) (w.head.static ∙ instance_of d.mods.is_static d.constructor (sym w.head.constructor ∙ e)) in omega (arith, f))
+        (λ e. result_answers unit p is (IsMember unit p) method w (ap (λ (m : Method). some_conditional m.posts) w.same.same ∙ e))
 
     abbrev body : Body
     body = w.same.body
@@ -125,6 +130,13 @@ module _ (unit : Source) (p : Program) (is : IsAccepted unit p) where
         let most : body.most ≤ method.slots = (let e = ap (λ (m : Method). m.slots) w.same.same in omega (arith, e)) in
         ap (λ (m : Method). (code_ways p method own_types false (items_code m.body.items) (Some (entry_type p method))).fits) w.same.same
         ∙ whole_fits g grounded s (after (all_told (map telling d.body)) s) w.fine.sound.from d.span.to d.span.to (start free) (Some (entry_type p method)) body told.adds refl refl locals_same (sym told.typed) most refl
+
+    -- its answers are written out, where one of them is spoken of,
+    pub plain_answers : d.constructor ≡ false → some_conditional method.posts ≡ true → writes_answers None (body_of method) ≡ true
+    plain_answers plain e =
+        let told = tells plain in
+        ap (λ (m : Method). writes_answers None (block_code m.body)) w.same.same
+        ∙ answered_block body.made told.adds.items (told.adds.answered (sym (ap (λ (m : Method). some_conditional m.posts) w.same.same) ∙ e)) told.adds.appended None
 
     -- and the locals do.
     pub plain_locals_fit : d.constructor ≡ false → AllOf (λ (local : Local × Span). is_target p method local.0.slot ≡ true) method.locals → locals_fit p method own_types 0 method.locals own_types ≡ true

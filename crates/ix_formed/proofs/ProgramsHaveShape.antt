@@ -150,7 +150,7 @@ module _ (p : Program) where
       let stands : method.is_static ≡ static = ap (λ (m : Method). m.is_static) is.same in
       let class : method.class ≡ at.class = ap (λ (m : Method). m.class) is.same in
       let constructor : method.constructor ≡ decl.constructor = ap (λ (m : Method). m.constructor) is.same in
-      let body = made_is (IsBody free (calls_in decl.constructor at.parent)) (written_body (site t at head.params) at decl free) is.body (written_body_is (site t at head.params) at decl free (omega (arith, behind, few_slots))) is.made in
+      let body = made_is (IsBody free (calls_in decl.constructor at.parent)) (written_body (site t at head) at decl free) is.body (written_body_is (site t at head) at decl free (omega (arith, behind, few_slots))) is.made in
       let zero : first_param static ≡ first_param static + 0 = omega arith in
       body_shape method free (calls_in decl.constructor at.parent) is.body body (ap (λ (m : Method). m.locals) is.same) (ap (λ (m : Method). m.slots) is.same) (ap (λ (m : Method). m.body) is.same)
       (first_slot static method (length method.params) stands ∙ ap (λ n. first_param static + n) count ∙ sym behind)
@@ -168,7 +168,7 @@ module _ (p : Program) where
       let stands : method.is_static ≡ false = ap (λ (m : Method). m.is_static) is.same in
       let params : method.params ≡ [] = ap (λ (m : Method). m.params) is.same in
       let types : method.param_types ≡ [] = ap (λ (m : Method). m.param_types) is.same in
-      let body = made_is (IsBody 1 (calls_of at.parent)) (constructor_start (site t at []) at [] span (start 1)) is.body (default_body_is (site t at []) at span) is.made in
+      let body = made_is (IsBody 1 (calls_of at.parent)) (constructor_start (site t at (default_head at span)) at [] span (start 1)) is.body (default_body_is (site t at (default_head at span)) at span) is.made in
       body_shape method 1 (calls_of at.parent) is.body body (ap (λ (m : Method). m.locals) is.same) (ap (λ (m : Method). m.slots) is.same) (ap (λ (m : Method). m.body) is.same)
       (first_slot false method (length method.params) stands ∙ (let e = ap (λ (l : List Local). length l) params in omega (arith, e)))
       (less_is method.class (length p.classes) (let h = here.class in omega (arith, h, class)))

@@ -26,7 +26,7 @@ use Rattle.ix_formed.proofs.NumberLists.{both_true, is_itself}
 same_int : (n : ℤ) → int_eq n n ≡ true
 same_int n = int_eq_equiv.refl n
 
-name_itself : (n : Name) → same_name n n ≡ true
+pub name_itself : (n : Name) → same_name n n ≡ true
 name_itself (name.Param k) = is_itself k
 name_itself (name.Local k) = is_itself k
 name_itself (name.FieldNamed k) = is_itself k
@@ -36,7 +36,7 @@ offset_itself off.Nothing = refl
 offset_itself (off.Plus n) = name_itself n
 offset_itself (off.Minus n) = name_itself n
 
-claim_itself : (c : Claim) → same_claim c c ≡ true
+pub claim_itself : (c : Claim) → same_claim c c ≡ true
 claim_itself (claim.Range a b) = both_true (int_eq a a) (int_eq b b) (same_int a) (same_int b)
 claim_itself (claim.Low a) = same_int a
 claim_itself (claim.Length a) = same_int a

@@ -2,7 +2,7 @@
 use Rattle.std.proofs.Common.{◌≡◌, ◌≤◌, ℕ, ◌+◌, Bool, true, false, List, [], ◌∷◌, ◌++◌, map, Option, Some, None, refl, sym, subst, arith}
 use Rattle.std.specs.Prelude.{if◌then◌else◌, not, bytes_eq}
 use Rattle.ix_text.specs.declared.span.Span.{Span}
-use Rattle.ix_core.specs.declared.claim.Claim.{Claim}
+use Rattle.ix_annot.specs.declared.scope.Claims.{Claims}
 use Rattle.ix_core.specs.declared.claim.Name.TheVariants as name
 use Rattle.ix_core.specs.declared.claim.Type_.{Type_}
 use Rattle.ix_annot.specs.Named.{Names}
@@ -29,7 +29,7 @@ use Rattle.ix_meaning.specs.declared.note.Meaning.TheVariants.{ClassNamed}
 use Rattle.ix_meaning.specs.declared.note.Note.{Note}
 use Rattle.ix_meaning.specs.declared.note.Rule.TheVariants as rule
 use Rattle.ix_meaning.specs.Annotated as annotated
-use Rattle.ix_meaning.specs.Annotated.{given, aimed, written, variable, static_field, of_method, of_result}
+use Rattle.ix_meaning.specs.Annotated.{given, aimed, written, variable, static_field, of_variable, marked, of_method, of_result}
 use Rattle.ix_meaning.specs.Bodies as bodies
 use Rattle.ix_meaning.specs.Declarators as joint
 use Rattle.ix_meaning.specs.Declarators.{with_annots, counting, counting_behind, further, declarators, annots_before, annots_behind, field_in, first_of, members_behind}
@@ -58,9 +58,9 @@ module _ (note : Note → ℕ) (part : Part → ℕ) (weighed : IsWeighed note p
 
   -- ---- declarations
 
-  declares_weighs : (d : Ident) (ty : Option Type_) (claims : List Claim) (free : Bool) → N (declares_note d.span ty claims free) ≤ part (elsewhere d)
-  declares_weighs d None claims free = omega arith
-  declares_weighs d (Some ty) claims free = let e = weighed.declared d (record { ty = ty; claims = record { list = claims; effect_free = free } }) in omega (arith, e)
+  declares_weighs : (d : Ident) (ty : Option Type_) (claims : Claims) → N (declares_note d.span ty claims) ≤ part (elsewhere d)
+  declares_weighs d None claims = omega arith
+  declares_weighs d (Some ty) claims = let e = weighed.declared d (record { ty = ty; claims = claims }) in omega (arith, e)
 
   declaration_weighs : (class : List ℕ → Option ℕ) (names : Names) (first second : Target) (before behind : List Annot) (ty : TypeTree)
       → N (annotated.declaration class names first second before (record ty { annots = behind })).notes ≤ P (type_parts ty)
@@ -88,11 +88,11 @@ module _ (note : Note → ℕ) (part : Part → ℕ) (weighed : IsWeighed note p
   declared_tells before behind d s =
       let l = bodies.local_declaration (with_annots before behind d) s in
       let a = declaration_weighs s.world.class (bodies.own_names d s) (annotated.target_before d.ty) on.Array before behind d.ty in
-      let c = both (declares_note d.name.span l.ty l.claims false) (init_notes d.init (bodies.pending d s) l.ty) (part (elsewhere d.name)) (P (parts.maybe init_parts d.init))
-      (declares_weighs d.name l.ty l.claims false) (init_weighs d.init (bodies.pending d s) l.ty) in
-      let b = both (rules.duplicate_name (bodies.is_taken s d.name) d.name.span) (declares_note d.name.span l.ty l.claims false ++ init_notes d.init (bodies.pending d s) l.ty) 0
+      let c = both (declares_note d.name.span l.ty (of_variable l.claims)) (init_notes d.init (bodies.pending d s) l.ty) (part (elsewhere d.name)) (P (parts.maybe init_parts d.init))
+      (declares_weighs d.name l.ty (of_variable l.claims)) (init_weighs d.init (bodies.pending d s) l.ty) in
+      let b = both (rules.duplicate_name (bodies.is_taken s d.name) d.name.span) (declares_note d.name.span l.ty (of_variable l.claims) ++ init_notes d.init (bodies.pending d s) l.ty) 0
       (part (elsewhere d.name) + P (parts.maybe init_parts d.init)) (broken_weighs note part weighed _ rule.DuplicateName d.name.span) c in
-      let e = both l.notes (rules.duplicate_name (bodies.is_taken s d.name) d.name.span ++ (declares_note d.name.span l.ty l.claims false ++ init_notes d.init (bodies.pending d s) l.ty)) (P (type_parts d.ty))
+      let e = both l.notes (rules.duplicate_name (bodies.is_taken s d.name) d.name.span ++ (declares_note d.name.span l.ty (of_variable l.claims) ++ init_notes d.init (bodies.pending d s) l.ty)) (P (type_parts d.ty))
       (0 + (part (elsewhere d.name) + P (parts.maybe init_parts d.init))) a b in
       let h = decl_has d in omega (arith, e, h)
 
@@ -242,8 +242,8 @@ module _ (note : Note → ℕ) (part : Part → ℕ) (weighed : IsWeighed note p
   field_weighs l f before behind d =
       let own = source.field_declaration l f (with_annots before behind d) in
       let init = init_notes d.init (source.member_scope l (not f.is_static)) f.ty in
-      let declares = declares_note d.name.span f.ty (if f.is_static then [] else own.claims) false in
-      let a = both declares init (part (elsewhere d.name)) (P (parts.maybe init_parts d.init)) (declares_weighs d.name f.ty (if f.is_static then [] else own.claims) false)
+      let declares = declares_note d.name.span f.ty (of_variable (if f.is_static then [] else own.claims)) in
+      let a = both declares init (part (elsewhere d.name)) (P (parts.maybe init_parts d.init)) (declares_weighs d.name f.ty (of_variable (if f.is_static then [] else own.claims)))
       (init_weighs d.init (source.member_scope l (not f.is_static)) f.ty) in
       let b = both own.notes (declares ++ init) (P (type_parts d.ty)) (part (elsewhere d.name) + P (parts.maybe init_parts d.init)) (field_declaration_weighs l f before behind d) a in
       let c = both (rules.duplicate_name (hides l.world f) d.name.span) (own.notes ++ (declares ++ init)) 0
@@ -259,11 +259,11 @@ module _ (note : Note → ℕ) (part : Part → ℕ) (weighed : IsWeighed note p
   params_weigh l s before k (d ∷ ds) =
       let own = source.param_declaration l s k d in
       let rest = source.param_notes l s (before ++ d ∷ []) (k + 1) ds in
-      let a = both (declares_note d.name.span own.ty own.claims false) rest (part (elsewhere d.name)) (P (together (parts.each decl_parts ds))) (declares_weighs d.name own.ty own.claims false)
+      let a = both (declares_note d.name.span own.ty (of_variable own.claims)) rest (part (elsewhere d.name)) (P (together (parts.each decl_parts ds))) (declares_weighs d.name own.ty (of_variable own.claims))
       (params_weigh l s (before ++ d ∷ []) (k + 1) ds) in
-      let b = both own.notes (declares_note d.name.span own.ty own.claims false ++ rest) (P (type_parts d.ty)) (part (elsewhere d.name) + P (together (parts.each decl_parts ds)))
+      let b = both own.notes (declares_note d.name.span own.ty (of_variable own.claims) ++ rest) (P (type_parts d.ty)) (part (elsewhere d.name) + P (together (parts.each decl_parts ds)))
       (declaration_weighs l.world.class (annot_names s (Some (name.Param k)) None) (annotated.target_before d.ty) on.Array d.mods.annots d.ty.annots d.ty) a in
-      let c = both (rules.duplicate_name (source.is_named_in before d.name.text) d.name.span) (own.notes ++ (declares_note d.name.span own.ty own.claims false ++ rest)) 0
+      let c = both (rules.duplicate_name (source.is_named_in before d.name.text) d.name.span) (own.notes ++ (declares_note d.name.span own.ty (of_variable own.claims) ++ rest)) 0
       (P (type_parts d.ty) + (part (elsewhere d.name) + P (together (parts.each decl_parts ds)))) (broken_weighs note part weighed _ rule.DuplicateName d.name.span) b in
       let h = decl_has d in
       let t = total_append part (decl_parts d) (together (parts.each decl_parts ds)) in omega (arith, c, h, t)
@@ -337,7 +337,7 @@ module _ (note : Note → ℕ) (part : Part → ℕ) (weighed : IsWeighed note p
       let body = source.body_scope l m d in
       let result = source.result_given l head m d in
       let marks = source.method_given l head m d.mods.annots in
-      let declares = declares_note d.name.span m.result result.claims marks.effect_free in
+      let declares = declares_note d.name.span m.result (marked result.claims marks) in
       let params = source.param_notes l head [] 0 d.params in
       let supers = source.super_notes l body d in
       let told = (all_told (map telling d.body)).notes body in
@@ -347,7 +347,7 @@ module _ (note : Note → ℕ) (part : Part → ℕ) (weighed : IsWeighed note p
       let statements = P (listed (parts.each stmt_parts d.body)) in
       let a = both supers told args statements (super_weighs l body d) (body_tells d.body body) in
       let b = both params (supers ++ told) heads (args + statements) (params_weigh l head [] 0 d.params) a in
-      let c = both declares (params ++ (supers ++ told)) (part (elsewhere d.name)) (heads + (args + statements)) (declares_weighs d.name m.result result.claims marks.effect_free) b in
+      let c = both declares (params ++ (supers ++ told)) (part (elsewhere d.name)) (heads + (args + statements)) (declares_weighs d.name m.result (marked result.claims marks)) b in
       let e = both marks.notes (declares ++ (params ++ (supers ++ told))) 0 (part (elsewhere d.name) + (heads + (args + statements))) (method_given_weighs l head m d.mods.annots) c in
       let f = both result.notes (marks.notes ++ (declares ++ (params ++ (supers ++ told)))) types (0 + (part (elsewhere d.name) + (heads + (args + statements)))) (result_given_weighs l head m d) e in
       let g = both (source.inherited_notes l m) (result.notes ++ (marks.notes ++ (declares ++ (params ++ (supers ++ told))))) 0 (types + (0 + (part (elsewhere d.name) + (heads + (args + statements))))) (inherited_weighs l m) f in

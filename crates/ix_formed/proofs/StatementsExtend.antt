@@ -9,6 +9,7 @@ use Rattle.ix_core.specs.declared.code.Block.{Block}
 use Rattle.ix_core.specs.declared.code.Cond.{Cond}
 use Rattle.ix_core.specs.declared.code.Item.{Item}
 use Rattle.ix_core.specs.declared.code.Item.TheVariants as item
+use Rattle.ix_core.specs.declared.op.Literal.TheVariants as literal
 use Rattle.ix_core.specs.declared.op.OpKind.TheVariants as op
 use Rattle.ix_core.specs.Code.{Code, End, items_code, block_code, item_code}
 use Rattle.ix_core.specs.Formed.{loop_numbers, numbers_from, super_calls, own_super_calls}
@@ -24,7 +25,7 @@ use Rattle.ix_plain.specs.declared.body.Body.{Body}
 use Rattle.ix_plain.specs.declared.made.Made.{Made}
 use Rattle.ix_plain.specs.declared.made.Spot.TheVariants as spot
 use Rattle.ix_plain.specs.Scope.{Site, declared_type, declared_claims}
-use Rattle.ix_plain.specs.Parts.{Within, ◌>>=◌, Value, empty, done, computed, write, default, most_slots}
+use Rattle.ix_plain.specs.Parts.{Within, ◌>>=◌, Value, Asked, empty, done, computed, write, default, most_slots}
 use Rattle.ix_plain.specs.Assigned.{assigns, init_assigns}
 use Rattle.ix_plain.specs.Values.{lowering, filling}
 use Rattle.ix_plain.specs.Statements as statements
@@ -473,10 +474,41 @@ jump_numbered : (first : ℕ) (last : Item) → ((rest : Code) → loop_numbers 
     → ((rest : Code) → own_super_calls (item_code last rest) ≡ own_super_calls rest) → IsNumbered first 0 (last ∷ [])
 jump_numbered first last loops supers own = record { loops = loops; supers = supers; own_supers = own }
 
+answer_block_numbered : (first : ℕ) (holds : Bool) (slot : ℕ) (span : Span) → IsNumbered first 0 (statements.answer holds slot span).items
+answer_block_numbered first holds slot span =
+    numbered_both first 0 0 (done (op.Const slot (literal.Bool holds)) span [] ∷ []) (item.Return (Some slot) span ∷ [])
+    (plain_numbered first (done (op.Const slot (literal.Bool holds)) span [] ∷ []) (plain_op (record { kind = op.Const slot (literal.Bool holds); span = span; parts = [] }) refl))
+    (jump_numbered (first + 0) (item.Return (Some slot) span) (λ rest. refl) (λ rest. refl) (λ rest. refl))
+
+answer_numbered : (first : ℕ) (asked : Cond) (slot : ℕ) (span : Span) → IsPlainCondition asked → IsNumbered first 0 (statements.answer_item asked slot span ∷ [])
+answer_numbered first asked slot span plain =
+    if_numbered first 0 0 asked (statements.answer true slot span) (statements.answer false slot span) plain (answer_block_numbered first true slot span) (answer_block_numbered (first + 0) false slot span)
+
+answered_extends : (site : Site) (e : Expr) (body : Body) → Makes (Extends body) (statements.answered site e body)
+answered_extends site e body =
+    makes_then (Asks body.made.free) (Extends body) ((lowering e).condition (scope_for site body (assigns e).inside) body.made.free) _ ((expression_adds e).condition (scope_for site body (assigns e).inside) body.made.free)
+    (λ asked a. taken asked a (nat_lt asked.free most_slots) refl)
+  where
+    taken : (asked : Asked) → Asks body.made.free asked → (b : Bool) → nat_lt asked.free most_slots ≡ b
+        → Makes (Extends body) ((if b then Ok (record { made = record { items = body.made.items ++ statements.answer_item asked.cond asked.free e.span ∷ []; free = asked.free + 1 }; slot = asked.free }) else Err which.Slots)
+        >>= (λ (value : Value). Ok (behind body value.made.items value.made.free)))
+    taken asked a true lt = record {
+      count = 0;
+      moves = behind_moves body (body.made.items ++ statements.answer_item asked.cond asked.free e.span ∷ []) (asked.free + 1) (record { up = (let u = a.slots.up in omega (arith, u)); few = λ le. grind (arith, nat_tests) });
+      items = statements.answer_item asked.cond asked.free e.span ∷ [];
+      appended = refl;
+      numbered = answer_numbered body.loops asked.cond asked.free e.span a.plain;
+    }
+    taken asked a false lt = tt
+
 returned_extends : (value : Option Expr) (span : Span) (site : Site) (body : Body) → Makes (Extends body) (statements.returned value span site body)
 returned_extends None span site body = last_extends body (item.Return None span) (jump_numbered body.loops (item.Return None span) (λ rest. refl) (λ rest. refl) (λ rest. refl))
-returned_extends (Some e) span site body = used_extends body (evaluated site e body) (λ v. item.Return (Some v.slot) e.span) (evaluated_computes site e body)
-    (λ v first. jump_numbered first (item.Return (Some v.slot) e.span) (λ rest. refl) (λ rest. refl) (λ rest. refl))
+returned_extends (Some e) span site body = answers_or_not site.answers
+  where
+    answers_or_not : (b : Bool) → Makes (Extends body) (if b then statements.answered site e body else used site e (λ slot. item.Return (Some slot) e.span) body)
+    answers_or_not true = answered_extends site e body
+    answers_or_not false = used_extends body (evaluated site e body) (λ v. item.Return (Some v.slot) e.span) (evaluated_computes site e body)
+        (λ v first. jump_numbered first (item.Return (Some v.slot) e.span) (λ rest. refl) (λ rest. refl) (λ rest. refl))
 
 computes_makes : (body : Body) (r : Within Body) → Makes (Computes body) r → Makes (Extends body) r
 computes_makes body r c = makes_more (Computes body) (Extends body) (λ after x. computes_extends body after x) r c

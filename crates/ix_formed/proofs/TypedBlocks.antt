@@ -27,12 +27,13 @@ use Rattle.ix_formed.specs.Additions.{Makes, AllOf, code_before}
 use Rattle.ix_formed.specs.Points.{Keeps, Decides}
 use Rattle.ix_formed.specs.Readable.{Statement, is_part}
 use Rattle.ix_formed.specs.TypedParts.{until, IsStatement}
-use Rattle.ix_formed.specs.TypedStatements.{Ground, IsGround, Says, IsKnown, Begins, IsDeclared, DoFit, Scoped, Stands, ways, Passes, Leaves, Adds, Tells}
+use Rattle.ix_formed.specs.TypedStatements.{Ground, IsGround, Says, IsKnown, Begins, IsDeclared, DoFit, Scoped, Stands, ways, Passes, Leaves, Adds, Tells, WriteAnswers}
 use Rattle.ix_formed.proofs.NumberLists.{both_true, all_so}
 use Rattle.ix_formed.proofs.PlainItems.{items_before, makes_then}
 use Rattle.ix_formed.proofs.SameTypes.{same_itself}
 use Rattle.ix_formed.proofs.ScopedLocals.{scoped_more, scoped_within, scoped_for, stands_for, stands_more, has_first, ended_outside}
 use Rattle.ix_formed.proofs.TypedPoints.{keeps_none, keeps_both, meeting_keeps}
+use Rattle.ix_formed.proofs.WrittenAnswers.{BlockAnswers, answered_none, answered_block}
 
 module _ (g : Ground) where
   -- ---- what was made in a block of its own
@@ -74,6 +75,7 @@ module _ (g : Ground) where
     pub breaks : Point
     pub turns : Point
     pub block : Begins g made.body.locals (types ++ added_types) hi → made.body.most ≤ g.method.slots → (in_loop : Bool) → (s.in_loop ≡ true → in_loop ≡ true) → BlockFits in_loop (block_code made.block) point ends breaks turns
+    pub answered : g.site.answers ≡ true → BlockAnswers made.block
     pub keeps : Keeps body.made.free point ends
     pub keeps_breaks : Keeps body.made.free point breaks
     pub keeps_turns : Keeps body.made.free point turns
@@ -111,6 +113,7 @@ module _ (g : Ground) where
         turns = x.adds.turns_by None;
         block = λ begins few in_loop loops.
             block_fits in_loop inner.made x.adds.items point x.adds.behind x.adds.breaks_by x.adds.turns_by x.adds.appended (x.adds.leaves (earlier inner.locals (types ++ x.adds.added_types) r.span.to hi b begins) few in_loop loops);
+        answered = λ asked. answered_block inner.made x.adds.items (x.adds.answered asked) x.adds.appended;
         keeps = x.adds.keeps;
         keeps_breaks = x.adds.keeps_breaks body.made.free point None (omega arith) (keeps_none body.made.free point) (none_known body.made.free point);
         keeps_turns = x.adds.keeps_turns body.made.free point None (omega arith) (keeps_none body.made.free point) (none_known body.made.free point);
@@ -251,10 +254,10 @@ module _ (g : Ground) where
   -- ---- one item behind parts that made none
 
   abbrev pub closed_adds : (s : Names) (from to until : ℕ) (body : Body) (types : List Type_) (point q behind : Point) (breaks turns : Point → Point) (middle : Body) (last : Item) (a : Adds g s from to until body types q middle) → middle.made ≡ body.made → Keeps body.made.free point behind → Passes body.made.free point breaks
-      → Passes body.made.free point turns
+      → Passes body.made.free point turns → (g.site.answers ≡ true → WriteAnswers (last ∷ []))
       → (Begins g middle.locals (types ++ a.added_types) to → middle.most ≤ g.method.slots → (in_loop : Bool) → (s.in_loop ≡ true → in_loop ≡ true) → Leaves g in_loop (last ∷ []) point behind breaks turns)
       → Adds g s from to until body types point (with_last middle last)
-  closed_adds s from to until body types point q behind breaks turns middle last a same keeps passes_breaks passes_turns leaves = record {
+  closed_adds s from to until body types point q behind breaks turns middle last a same keeps passes_breaks passes_turns answered leaves = record {
     added = a.added;
     added_types = a.added_types;
     grown = a.grown;
@@ -269,6 +272,7 @@ module _ (g : Ground) where
     breaks_by = breaks;
     turns_by = turns;
     leaves = leaves;
+    answered = answered;
     keeps = keeps;
     keeps_breaks = passes_breaks;
     keeps_turns = passes_turns;
@@ -291,6 +295,7 @@ module _ (g : Ground) where
     breaks_by = λ x. x;
     turns_by = λ x. x;
     leaves = λ begins few in_loop loops. Rattle.ix_formed.proofs.TypedItems.leaves_none g in_loop q;
+    answered = λ asked. answered_none;
     keeps = keeps_none body.made.free q;
     keeps_breaks = Rattle.ix_formed.proofs.TypedItems.none_passes g body.made.free q;
     keeps_turns = Rattle.ix_formed.proofs.TypedItems.none_passes g body.made.free q;

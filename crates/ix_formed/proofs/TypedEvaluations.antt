@@ -97,10 +97,14 @@ module _ (g : Ground) (ground : IsGround g) where
         pub keeps_holds : Keeps body.made.free point holds
         pub keeps_fails : Keeps body.made.free point fails
 
+      pub condition_asks : Says g (check (reading.reading e) s (of bool_type)).notes
+          → Makes (Tests g.program g.method g.locals (Begins g body.locals types_now hi) body.made.free point) ((lowering e).condition (scope_for g.site body (assigns e).inside) body.made.free)
+      condition_asks said = condition_fits z set (lowering e) (reading.reading e) fit said body.made.free point (omega arith) ready
+
       pub condition_tested : Says g (check (reading.reading e) s (of bool_type)).notes → Makes TestGives (tested g.site e body)
       condition_tested said =
           makes_then (Tests g.program g.method g.locals (Begins g body.locals types_now hi) body.made.free point) TestGives ((lowering e).condition (scope_for g.site body (assigns e).inside) body.made.free) _
-          (condition_fits z set (lowering e) (reading.reading e) fit said body.made.free point (omega arith) ready)
+          (condition_asks said)
           (λ asked t. record {
             holds = t.holds;
             fails = t.fails;

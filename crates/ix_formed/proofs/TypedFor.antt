@@ -43,6 +43,7 @@ use Rattle.ix_formed.proofs.TypedForms.{parted, after_both, tells_both, none_dec
 use Rattle.ix_formed.proofs.TypedItems.{Evaluates, adds_both, adds_as, leads_leave, none_passes, no_jump, begins_as}
 use Rattle.ix_formed.proofs.TypedLoops.{Asks, asks_if, read_there, below_stands, keeps_stands, earlier, begins_back, nest_on, same_free, adds_from, adds_to}
 use Rattle.ix_formed.proofs.TypedPoints.{keeps_none, keeps_both, meeting_keeps, leads_none, leads_both}
+use Rattle.ix_formed.proofs.WrittenAnswers.{answered_loop}
 
 module _ (g : Ground) (ground : IsGround g) where
   -- ---- one statement behind the other
@@ -190,6 +191,7 @@ module _ (g : Ground) (ground : IsGround g) where
     breaks_by = a.breaks_by;
     turns_by = a.turns_by;
     leaves = a.leaves;
+    answered = a.answered;
     keeps = a.keeps;
     keeps_breaks = a.keeps_breaks;
     keeps_turns = a.keeps_turns;
@@ -308,6 +310,7 @@ module _ (g : Ground) (ground : IsGround g) where
               let keeps_v : Keeps free kept v.behind = subst (λ k. Keeps k kept v.behind) free_same v.keeps in
               let all_items = closed_adds g s1 u.0 w.0 w.0 first types1 x.adds.behind x.adds.behind ends (λ k. k) (λ k. k) next.body loop third (v.made ∙ y.1)
               (keeps_both free free x.adds.behind kept ends (omega arith) below (meeting_keeps free kept a.fails y.0.breaks a.keeps_fails (on_holds y.0.breaks y.0.keeps_breaks))) (none_passes g free x.adds.behind) (none_passes g free x.adds.behind)
+              (λ answers. answered_loop true asked.cond inner.block next.block first.loops free (y.0.answered answers))
               (λ begins few in_loop loops.
               let here = begins_as g next.body.locals inner.body.locals types2 types2 w.0 v.locals refl begins in
               let few_inner : inner.body.most ≤ g.method.slots = (let k = v.most in omega (arith, few, k)) in

@@ -1,6 +1,6 @@
 -- Every form of statement tells what it says.
 use Rattle.std.proofs.Common.{◌≡◌, ◌≤◌, ◌<◌, ℕ, ◌+◌, Bool, true, false, List, [], ◌∷◌, ◌++◌, length, map, Option, Some, None, refl, sym, ap, subst, ◌∙◌, arith, append_assoc}
-use Rattle.std.specs.Prelude.{if◌then◌else◌, ◌||◌, not}
+use Rattle.std.specs.Prelude.{if◌then◌else◌, ◌||◌, not, max, nat_lt, Ok, Err}
 use Rattle.std.proofs.lemmas.Bool.{false≢true, and_parts}
 use Rattle.std.proofs.lemmas.List.{append-nil}
 use Rattle.ix_text.specs.declared.span.Span.{Span}
@@ -10,9 +10,13 @@ use Rattle.ix_core.specs.declared.claim.Type_.{Type_}
 use Rattle.ix_core.specs.declared.claim.Type_.TheVariants as type
 use Rattle.ix_core.specs.declared.code.Item.{Item}
 use Rattle.ix_core.specs.declared.code.Item.TheVariants as item
+use Rattle.ix_core.specs.declared.op.Literal.TheVariants as literal
+use Rattle.ix_core.specs.declared.op.Op.{Op}
 use Rattle.ix_core.specs.declared.op.OpKind.TheVariants as op
 use Rattle.ix_core.specs.declared.program.Local.{Local}
-use Rattle.ix_core.specs.Formed.{is_printed, reads, return_fits}
+use Rattle.ix_core.specs.Code.{Code, block_code}
+use Rattle.ix_core.specs.Formed.{assigned, is_printed, is_target, op_fits, reads, return_fits}
+use Rattle.ix_core.specs.Posts.{writes_answers}
 use Rattle.ix_core.specs.Types.{Point, int_type, bool_type, meeting, is_type, is_of, is_void}
 use Rattle.ix_tree.specs.declared.decl.LocalDecl.{LocalDecl}
 use Rattle.ix_tree.specs.declared.expr.Expr.{Expr}
@@ -34,15 +38,19 @@ use Rattle.ix_meaning.specs.Types.{Need, never, printed, of, unknown}
 use Rattle.ix_meaning.specs.Values as reading
 use Rattle.ix_meaning.specs.Values.{Reading, check, fitted, null_at}
 use Rattle.ix_plain.specs.declared.body.Body.{Body}
-use Rattle.ix_plain.specs.Parts.{done}
+use Rattle.ix_meaning.specs.declared.note.Which.TheVariants as which
+use Rattle.ix_plain.specs.Assigned.{assigns}
+use Rattle.ix_plain.specs.Parts.{◌>>=◌, Value, Asked, done, most_slots}
+use Rattle.ix_plain.specs.Values.{lowering}
 use Rattle.ix_plain.specs.Statements as statements
-use Rattle.ix_plain.specs.Statements.{Evaluated, evaluated, with_last, used, ran}
+use Rattle.ix_plain.specs.Statements.{Evaluated, evaluated, behind, scope_for, with_last, used, ran}
 use Rattle.ix_formed.specs.Additions.{Makes, AllOf}
 use Rattle.ix_formed.specs.LocalTypes.{decl_types}
 use Rattle.ix_formed.specs.NoErrors.{Agrees}
 use Rattle.ix_formed.specs.Points.{Known, Keeps}
+use Rattle.ix_formed.specs.Typed.{Tests}
 use Rattle.ix_formed.specs.Readable.{shape, is_readable_decl}
-use Rattle.ix_formed.specs.TypedStatements.{Ground, IsGround, Says, IsKnown, Scoped, Stands, Begins, IsDeclared, ways, Passes, Leaves, Adds, Tells}
+use Rattle.ix_formed.specs.TypedStatements.{Ground, IsGround, Says, IsKnown, Scoped, Stands, Begins, IsDeclared, ways, Passes, Leaves, WriteAnswers, Adds, Tells}
 use Rattle.ix_formed.specs.Written.{is_written_expr, is_written_decl, is_written_type, is_written_init, maybe_true, each_true}
 use Rattle.ix_formed.proofs.EachMember.{said_parts, not_broken}
 use Rattle.ix_formed.proofs.LayoutSpans.{laid_parts, laid_up, expr_spans}
@@ -50,12 +58,14 @@ use Rattle.ix_formed.proofs.NumberLists.{both_true}
 use Rattle.ix_formed.proofs.PlainItems.{makes_more, makes_then}
 use Rattle.ix_formed.proofs.SameTypes.{primitive_real}
 use Rattle.ix_formed.proofs.ScopedLocals.{scoped_within}
-use Rattle.ix_formed.proofs.TypedBlocks.{closed_scope, closed_stands}
-use Rattle.ix_formed.proofs.TypedEvaluations.{IsRead, value_checked, value_judged}
+use Rattle.ix_formed.proofs.TypedBlocks.{BlockFits, block_fits, if_leaves, either_jump, either_passes, closed_scope, closed_stands}
+use Rattle.ix_formed.proofs.TypedEvaluations.{IsRead, value_checked, value_judged, condition_asks}
 use Rattle.ix_formed.proofs.TypedExpressions.{all_parted}
-use Rattle.ix_formed.proofs.TypedItems.{Evaluates, evaluated_adds, last_adds, adds_none, adds_both, adds_as, leads_leave, no_jump, none_passes}
+use Rattle.ix_formed.proofs.TypedItems.{Evaluates, evaluated_adds, last_adds, adds_none, adds_both, adds_as, begins_as, leads_leave, leaves_both, no_jump, none_passes}
 use Rattle.ix_formed.proofs.TypedLocals.{declaration_tells}
-use Rattle.ix_formed.proofs.TypedPoints.{keeps_none, meeting_keeps, reads_known, op_leads}
+use Rattle.ix_formed.proofs.TypedPoints.{keeps_none, meeting_keeps, assigned_known, reads_known, op_leads}
+use Rattle.ix_formed.proofs.TypedSteps.{target_is}
+use Rattle.ix_formed.proofs.WrittenAnswers.{answered_op, answered_if, answer_writes}
 
 module _ (g : Ground) (ground : IsGround g) where
   no_error : (error : NameError) → Agrees g.site.names g.parts (Wrong error) → ⊥
@@ -121,25 +131,29 @@ module _ (g : Ground) (ground : IsGround g) where
     empty_tells = plain_tells t s span.from span.to end body types point body scoped stands counted names no_locals (omega (arith, some)) (adds_none g s span.from span.to span.to body types point) refl refl refl
 
     jump_tells : (last : Item) (breaks turns : Point → Point) → Passes body.made.free point breaks → Passes body.made.free point turns
-        → ((in_loop : Bool) → (s.in_loop ≡ true → in_loop ≡ true) → Leaves g in_loop (last ∷ []) point None breaks turns) → Result (with_last body last)
-    jump_tells last breaks turns passes_breaks passes_turns leaves = plain_tells t s span.from span.to end body types point (with_last body last) scoped stands counted names no_locals (omega (arith, some))
-        (last_adds g s span.from span.to span.to body types point None breaks turns last (none_known body.made.free point) passes_breaks passes_turns (λ begins few. leaves)) refl refl refl
+        → (g.site.answers ≡ true → WriteAnswers (last ∷ [])) → ((in_loop : Bool) → (s.in_loop ≡ true → in_loop ≡ true) → Leaves g in_loop (last ∷ []) point None breaks turns) → Result (with_last body last)
+    jump_tells last breaks turns passes_breaks passes_turns answered leaves = plain_tells t s span.from span.to end body types point (with_last body last) scoped stands counted names no_locals (omega (arith, some))
+        (last_adds g s span.from span.to span.to body types point None breaks turns last (none_known body.made.free point) passes_breaks passes_turns answered (λ begins few. leaves)) refl refl refl
 
     outside_not : (b : Bool) → not b ≡ false → b ≡ true
     outside_not true e = refl
     outside_not false e = absurd (false≢true (sym e))
 
+    jump_answers : g.site.answers ≡ true → (last : Option Op) (rest : Code) → ((before : Option Op) → writes_answers before rest ≡ true) → writes_answers None rest ≡ true
+    jump_answers answers last rest h = h None
+
     pub break_tells : (place : Span) → Says g (rules.break_outside s place) → Result (with_last body item.Break)
-    break_tells place said = jump_tells item.Break (a_jump point) (no_jump g) (jump_passes body.made.free point) (none_passes g body.made.free point) (λ in_loop loops. break_leaves in_loop point (loops (outside_not s.in_loop (not_broken (λ note. Agrees g.site.names g.parts note) no_error (not s.in_loop) rule.BreakOutside place said))))
+    break_tells place said = jump_tells item.Break (a_jump point) (no_jump g) (jump_passes body.made.free point) (none_passes g body.made.free point) jump_answers (λ in_loop loops. break_leaves in_loop point (loops (outside_not s.in_loop (not_broken (λ note. Agrees g.site.names g.parts note) no_error (not s.in_loop) rule.BreakOutside place said))))
 
     pub continue_tells : (place : Span) → Says g (rules.break_outside s place) → Result (with_last body item.Continue)
-    continue_tells place said = jump_tells item.Continue (no_jump g) (a_jump point) (none_passes g body.made.free point) (jump_passes body.made.free point) (λ in_loop loops. continue_leaves in_loop point (loops (outside_not s.in_loop (not_broken (λ note. Agrees g.site.names g.parts note) no_error (not s.in_loop) rule.BreakOutside place said))))
+    continue_tells place said = jump_tells item.Continue (no_jump g) (a_jump point) (none_passes g body.made.free point) (jump_passes body.made.free point) jump_answers (λ in_loop loops. continue_leaves in_loop point (loops (outside_not s.in_loop (not_broken (λ note. Agrees g.site.names g.parts note) no_error (not s.in_loop) rule.BreakOutside place said))))
 
     pub throw_tells : (text : List ℕ) → Result (with_last body (item.Throw text span))
-    throw_tells text = jump_tells (item.Throw text span) (no_jump g) (no_jump g) (none_passes g body.made.free point) (none_passes g body.made.free point) (λ in_loop loops. throw_leaves in_loop point text span)
+    throw_tells text = jump_tells (item.Throw text span) (no_jump g) (no_jump g) (none_passes g body.made.free point) (none_passes g body.made.free point) jump_answers (λ in_loop loops. throw_leaves in_loop point text span)
 
     pub return_tells : (place : Span) → Says g (rules.no_value s.result place) → Result (with_last body (item.Return None span))
-    return_tells place said = jump_tells (item.Return None span) (no_jump g) (no_jump g) (none_passes g body.made.free point) (none_passes g body.made.free point) (λ in_loop loops. return_leaves in_loop point None span (no_result s.result scoped.result said))
+    return_tells place said = jump_tells (item.Return None span) (no_jump g) (no_jump g) (none_passes g body.made.free point) (none_passes g body.made.free point)
+        (λ answers. absurd (false≢true (sym (ap is_void (ground.answers answers)) ∙ no_result s.result scoped.result said))) (λ in_loop loops. return_leaves in_loop point None span (no_result s.result scoped.result said))
       where
         no_result : (o : Option Need) → Rattle.ix_formed.specs.TypedStatements.IsResult g o → Says g (rules.no_value o place) → is_void g.method.result ≡ true
         no_result None is said = is
@@ -179,13 +193,13 @@ module _ (g : Ground) (ground : IsGround g) where
       used_tells : (ty : Type_) (last : ℕ → Item) → Makes (Evaluates g span.to [] body types point ty) (evaluated g.site e body)
           → ((ev : Evaluated) (x : Evaluates g span.to [] body types point ty ev) → (behind : Point) × Keeps ev.body.made.free x.behind behind
           × (ev.body.most ≤ g.method.slots → (in_loop : Bool) → Leaves g in_loop (last ev.slot ∷ []) x.behind behind (no_jump g) (no_jump g)))
-          → Makes Result (used g.site e last body)
-      used_tells ty last evaluates uses =
+          → ((slot : ℕ) → g.site.answers ≡ true → WriteAnswers (last slot ∷ [])) → Makes Result (used g.site e last body)
+      used_tells ty last evaluates uses answered =
           makes_then (Evaluates g span.to [] body types point ty) Result (evaluated g.site e body) _ evaluates
           (λ ev x.
           let u = uses ev x in
           let a = evaluated_adds g s span.from span.to span.to span.to [] body types point ty ev (omega arith) x in
-          let b = last_adds g s span.to span.to span.to ev.body (types ++ []) x.behind u.0 (no_jump g) (no_jump g) (last ev.slot) u.1 (none_passes g ev.body.made.free x.behind) (none_passes g ev.body.made.free x.behind) (λ begins few in_loop loops. u.2 few in_loop) in
+          let b = last_adds g s span.to span.to span.to ev.body (types ++ []) x.behind u.0 (no_jump g) (no_jump g) (last ev.slot) u.1 (none_passes g ev.body.made.free x.behind) (none_passes g ev.body.made.free x.behind) (answered ev.slot) (λ begins few in_loop loops. u.2 few in_loop) in
           plain_tells t s span.from span.to end body types point (with_last ev.body (last ev.slot)) scoped stands counted names no_locals (omega (arith, some))
           (adds_both g s s span.from span.to span.to span.to body types point ev.body (with_last ev.body (last ev.slot)) a b (λ e. e) (omega (arith, some)) (omega arith)) x.free x.locals refl)
 
@@ -221,14 +235,15 @@ module _ (g : Ground) (ground : IsGround g) where
               let primitive = not_false (kinds.is_primitive j.0) (not_broken (λ note. Agrees g.site.names g.parts note) no_error (not (kinds.is_primitive j.0)) rule.TypeMismatch (reading.reading e).span w) in
               let real = primitive_real g.program j.0 j.2 primitive in
               used_tells j.0 (λ slot. done (op.Print slot) e.span []) j.3 (λ ev x. (x.behind, keeps_none ev.body.made.free x.behind, (λ few in_loop. print_leaves j.0 primitive real ev x few in_loop)))
+              (λ slot answers. answered_op (record { kind = op.Print slot; span = e.span; parts = [] }))
             where
               not_false : (b : Bool) → not b ≡ false → b ≡ true
               not_false true e = refl
               not_false false e = absurd (false≢true (sym e))
 
       -- a value is given back
-      pub given_back_tells : Says g (bodies.needed e (bodies.result_need s.result) s) → Makes Result (used g.site e (λ slot. item.Return (Some slot) e.span) body)
-      given_back_tells said = by_result s.result scoped.result said
+      value_given_back : g.site.answers ≡ false → Says g (bodies.needed e (bodies.result_need s.result) s) → Makes Result (used g.site e (λ slot. item.Return (Some slot) e.span) body)
+      value_given_back none said = by_result s.result scoped.result said
         where
           never_said : (b : Bool) → Says g (if b then null_at never (reading.reading e).span else fitted s.world never (reading.reading e).span ((reading.reading e).judge s)).notes → ⊥
           never_said true said = said.0
@@ -260,6 +275,91 @@ module _ (g : Ground) (ground : IsGround g) where
               let c = value_checked g ground s body types point span.from span.to kept stands e read ty is.1 said in
               used_tells c.0 (λ slot. item.Return (Some slot) e.span) c.2
               (λ ev x. (None, none_known ev.body.made.free x.behind, (λ few in_loop. return_ways ty c.0 is.0 is.1 c.1.real c.1.fits ev x few in_loop)))
+              (λ slot answers. absurd (false≢true (sym none ∙ answers)))
+
+      -- each answer is given back by itself
+      module _ (asked : Asked) (x : Tests g.program g.method g.locals (Begins g body.locals types span.to) body.made.free point asked) where
+        abbrev both : Item
+        both = statements.answer_item asked.cond asked.free e.span
+
+        abbrev answer_op : Bool → Op
+        answer_op holds = record { kind = op.Const asked.free (literal.Bool holds); span = e.span; parts = [] }
+
+        slot_written : (holds : Bool) (at : Point) → asked.free < g.method.slots → op_fits g.program g.method g.locals at (answer_op holds) (op.Const asked.free (literal.Bool holds)) ≡ true
+        slot_written holds at lt =
+            let up = x.up in
+            let params = scoped.params in
+            both_true (is_target g.program g.method asked.free) true (target_is g.program g.method asked.free (omega (arith, up, params)) lt) refl
+
+        returned_fits : (at : Point) → g.method.result ≡ bool_type → asked.free < g.method.slots → return_fits g.program g.method (assigned asked.free bool_type at) (Some asked.free) ≡ true
+        returned_fits at boolean lt =
+            both_true (not (is_void g.method.result)) (reads g.program g.method (assigned asked.free bool_type at) asked.free g.method.result) (ap (λ t. not (is_void t)) boolean)
+            (ap (reads g.program g.method (assigned asked.free bool_type at) asked.free) boolean
+            ∙ reads_known g.program g.method g.locals (assigned asked.free bool_type at) asked.free bool_type bool_type lt (assigned_known asked.free bool_type at) refl)
+
+        answer_fits : (holds : Bool) (at : Point) (in_loop : Bool) → g.method.result ≡ bool_type → asked.free < g.method.slots → BlockFits g in_loop (block_code (statements.answer holds asked.free e.span)) at None None None
+        answer_fits holds at in_loop boolean lt =
+            block_fits g in_loop (record { items = (statements.answer holds asked.free e.span).items; free = 0 }) (statements.answer holds asked.free e.span).items at None (no_jump g) (no_jump g) refl
+            (leaves_both g in_loop (item.Do (answer_op holds) ∷ []) (item.Return (Some asked.free) e.span ∷ []) at (assigned asked.free bool_type at) None (no_jump g) (no_jump g) (no_jump g) (no_jump g)
+            (leads_leave g in_loop (item.Do (answer_op holds) ∷ []) at (assigned asked.free bool_type at) (op_leads g.program g.method g.locals (answer_op holds) at (slot_written holds at lt)))
+            (return_leaves in_loop (assigned asked.free bool_type at) (Some asked.free) e.span (returned_fits at boolean lt)))
+
+        answered_adds : g.method.result ≡ bool_type → Adds g s span.from span.to span.to body types point (behind body (body.made.items ++ both ∷ []) (asked.free + 1))
+        answered_adds boolean = record {
+          added = [];
+          added_types = [];
+          grown = sym (append-nil body.locals);
+          typed = refl;
+          places = tt;
+          do_fit = λ begins. tt;
+          most = omega arith;
+          up = omega arith;
+          items = both ∷ [];
+          appended = refl;
+          behind = None;
+          breaks_by = either_jump g None None;
+          turns_by = either_jump g None None;
+          leaves = λ begins few in_loop loops.
+              let lt : asked.free < g.method.slots = most_right body.most asked.free g.method.slots few in
+              if_leaves g in_loop asked.cond (statements.answer true asked.free e.span) (statements.answer false asked.free e.span) point x.holds x.fails None None None None None None
+              (x.decides (begins_as g body.locals body.locals (types ++ []) types span.to refl (append-nil types) begins) (omega (arith, lt)))
+              (answer_fits true x.holds in_loop boolean lt) (answer_fits false x.fails in_loop boolean lt);
+          answered = λ answers. answered_if asked.cond (statements.answer true asked.free e.span) (statements.answer false asked.free e.span) (answer_writes true asked.free e.span) (answer_writes false asked.free e.span);
+          keeps = none_known body.made.free point;
+          keeps_breaks = either_passes g body.made.free point None None (none_known body.made.free point) (none_known body.made.free point);
+          keeps_turns = either_passes g body.made.free point None None (none_known body.made.free point) (none_known body.made.free point);
+        }
+          where
+            most_right : (a b most : ℕ) → max a (b + 1) ≤ most → b < most
+            most_right a b most le = omega (arith, le)
+
+        answer_taken : g.method.result ≡ bool_type → (b : Bool)
+            → Makes Result ((if b then Ok (record { made = record { items = body.made.items ++ both ∷ []; free = asked.free + 1 }; slot = asked.free }) else Err which.Slots) >>= (λ (value : Value). Ok (behind body value.made.items value.made.free)))
+        unfolding answered_adds
+        answer_taken boolean true =
+            plain_tells t s span.from span.to end body types point (behind body (body.made.items ++ both ∷ []) (asked.free + 1)) scoped stands counted names no_locals (omega (arith, some)) (answered_adds boolean) refl refl refl
+        answer_taken boolean false = tt
+
+      answer_given_back : g.site.answers ≡ true → Says g (bodies.needed e (bodies.result_need s.result) s) → Makes Result (statements.answered g.site e body)
+      answer_given_back answers said = by_result s.result scoped.result said
+        where
+          by_result : (o : Option Need) → Rattle.ix_formed.specs.TypedStatements.IsResult g o → Says g (check (reading.reading e) s (bodies.result_need o)).notes → Makes Result (statements.answered g.site e body)
+          by_result None is said = absurd (false≢true (sym (ap is_void (ground.answers answers)) ∙ is))
+          by_result (Some unknown) is said = absurd is
+          by_result (Some never) is said = absurd is
+          by_result (Some printed) is said = absurd is
+          by_result (Some (of ty)) is said =
+              let told = subst (λ t. Says g (check (reading.reading e) s (of t)).notes) (is.0 ∙ ground.answers answers) said in
+              makes_then (Tests g.program g.method g.locals (Begins g body.locals types span.to) body.made.free point) Result ((lowering e).condition (scope_for g.site body (assigns e).inside) body.made.free) _
+              (condition_asks g ground s body types point span.from span.to kept stands e read told)
+              (λ asked x. answer_taken asked x (ground.answers answers) (nat_lt asked.free most_slots))
+
+      pub given_back_tells : Says g (bodies.needed e (bodies.result_need s.result) s) → Makes Result (statements.returned (Some e) span g.site body)
+      given_back_tells said = answers_or_not g.site.answers refl
+        where
+          answers_or_not : (b : Bool) → g.site.answers ≡ b → Makes Result (if b then statements.answered g.site e body else used g.site e (λ slot. item.Return (Some slot) e.span) body)
+          answers_or_not true answers = answer_given_back answers said
+          answers_or_not false none = value_given_back none said
 
   -- ---- one statement behind the other
 

@@ -16,11 +16,12 @@ use Rattle.ix_plain.specs.Statements.{Evaluated, behind, behind_value, with_last
 use Rattle.ix_formed.specs.Additions.{Makes, IsPlain, code_before}
 use Rattle.ix_formed.specs.Points.{Keeps, Leads}
 use Rattle.ix_formed.specs.Typed.{Gives, Holds}
-use Rattle.ix_formed.specs.TypedStatements.{Ground, Begins, IsDeclared, DoFit, ways, Passes, Leaves, Adds}
+use Rattle.ix_formed.specs.TypedStatements.{Ground, Begins, IsDeclared, DoFit, ways, Passes, Leaves, Adds, WriteAnswers}
 use Rattle.ix_formed.proofs.NumberLists.{all_so, all_joined}
 use Rattle.ix_formed.proofs.PlainItems.{before_append, makes_then}
 use Rattle.ix_formed.proofs.ScopedLocals.{begins_before}
 use Rattle.ix_formed.proofs.TypedPoints.{keeps_none, keeps_both}
+use Rattle.ix_formed.proofs.WrittenAnswers.{answered_none, answered_both, answered_plain}
 
 module _ (g : Ground) where
   -- ---- items
@@ -90,6 +91,7 @@ module _ (g : Ground) where
     breaks_by = no_jump;
     turns_by = no_jump;
     leaves = λ begins le in_loop loops. leaves_none in_loop point;
+    answered = λ asked. answered_none;
     keeps = keeps_none body.made.free point;
     keeps_breaks = none_passes body.made.free point;
     keeps_turns = none_passes body.made.free point;
@@ -120,6 +122,7 @@ module _ (g : Ground) where
             leaves_both in_loop a.items b.items point a.behind b.behind a.breaks_by a.turns_by b.breaks_by b.turns_by
             (a.leaves (begins_middle next from mid to until middle (types ++ a.added_types) a.behind after b up full) (let x = b.most in omega (arith, x, few)) in_loop loops)
             (b.leaves full few in_loop (λ e. loops (loop e)));
+        answered = λ asked. answered_both a.items b.items (a.answered asked) (b.answered asked);
         keeps = keeps_both body.made.free middle.made.free point a.behind b.behind a.up a.keeps b.keeps;
         keeps_breaks = passes_both body.made.free middle.made.free point a.behind a.breaks_by b.breaks_by a.up a.keeps a.keeps_breaks b.keeps_breaks;
         keeps_turns = passes_both body.made.free middle.made.free point a.behind a.turns_by b.turns_by a.up a.keeps a.keeps_turns b.keeps_turns;
@@ -143,6 +146,7 @@ module _ (g : Ground) where
     breaks_by = a.breaks_by;
     turns_by = a.turns_by;
     leaves = λ begins. a.leaves (earlier begins);
+    answered = a.answered;
     keeps = a.keeps;
     keeps_breaks = a.keeps_breaks;
     keeps_turns = a.keeps_turns;
@@ -216,6 +220,7 @@ module _ (g : Ground) where
     breaks_by = no_jump;
     turns_by = no_jump;
     leaves = λ begins few in_loop loops. leads_leave in_loop e.items point e.behind (e.leads (earlier (begins_as ev.body.locals body.locals (types ++ []) types to e.locals (append-nil types) begins)) few);
+    answered = λ asked. answered_plain e.items e.plain;
     keeps = e.keeps;
     keeps_breaks = none_passes body.made.free point;
     keeps_turns = none_passes body.made.free point;
@@ -226,9 +231,9 @@ module _ (g : Ground) where
 
   -- an item that declares nothing
   abbrev pub last_adds : (s : Names) (from to until : ℕ) (body : Body) (types : List Type_) (point behind : Point) (breaks turns : Point → Point) (last : Item) → Keeps body.made.free point behind → Passes body.made.free point breaks → Passes body.made.free point turns
-      → (Begins g body.locals types to → body.most ≤ g.method.slots → (in_loop : Bool) → (s.in_loop ≡ true → in_loop ≡ true) → Leaves g in_loop (last ∷ []) point behind breaks turns)
+      → (g.site.answers ≡ true → WriteAnswers (last ∷ [])) → (Begins g body.locals types to → body.most ≤ g.method.slots → (in_loop : Bool) → (s.in_loop ≡ true → in_loop ≡ true) → Leaves g in_loop (last ∷ []) point behind breaks turns)
       → Adds g s from to until body types point (with_last body last)
-  last_adds s from to until body types point behind breaks turns last keeps passes_breaks passes_turns leaves = record {
+  last_adds s from to until body types point behind breaks turns last keeps passes_breaks passes_turns answered leaves = record {
     added = [];
     added_types = [];
     grown = sym (append-nil body.locals);
@@ -243,6 +248,7 @@ module _ (g : Ground) where
     breaks_by = breaks;
     turns_by = turns;
     leaves = λ begins. leaves (begins_as body.locals body.locals (types ++ []) types to refl (append-nil types) begins);
+    answered = answered;
     keeps = keeps;
     keeps_breaks = passes_breaks;
     keeps_turns = passes_turns;

@@ -21,7 +21,7 @@ use Rattle.ix_meaning.specs.declared.note.Meaning.TheVariants as meaning
 use Rattle.ix_meaning.specs.declared.note.NameError.{NameError}
 use Rattle.ix_meaning.specs.declared.note.Note.TheVariants.{Wrong}
 use Rattle.ix_meaning.specs.declared.note.Rule.TheVariants as rule
-use Rattle.ix_meaning.specs.Annotated.{written, element_claims, target_before}
+use Rattle.ix_meaning.specs.Annotated.{written, element_claims, target_before, of_variable}
 use Rattle.ix_meaning.specs.Bodies.{after, declared, local_known, local_declaration, declares_note, is_taken, init_notes, pending}
 use Rattle.ix_meaning.specs.Rules.{duplicate_name}
 use Rattle.ix_meaning.specs.Scope.{Known as Variable, Scope as Names}
@@ -53,6 +53,7 @@ use Rattle.ix_formed.proofs.TypedItems.{leads_leave, none_passes, begins_as, Eva
 use Rattle.ix_formed.proofs.TypedPoints.{keeps_none, keeps_both, assigned_known, new_keeps, leads_both}
 use Rattle.ix_formed.proofs.TypedSettings.{Apart}
 use Rattle.ix_formed.proofs.TypedSteps.{target_is, op_gives}
+use Rattle.ix_formed.proofs.WrittenAnswers.{answered_both, answered_op, answered_plain}
 
 module _ (g : Ground) (ground : IsGround g) where
   no_error : (error : NameError) → Agrees g.site.names g.parts (Wrong error) → ⊥
@@ -78,9 +79,9 @@ module _ (g : Ground) (ground : IsGround g) where
         let x = local_declaration d s in
         let a = said_parts (λ note. Agrees g.site.names g.parts note) x.notes _ said in
         let b = said_parts (λ note. Agrees g.site.names g.parts note) (duplicate_name (is_taken s d.name) d.name.span) _ a.1 in
-        let c = said_parts (λ note. Agrees g.site.names g.parts note) (declares_note d.name.span x.ty x.claims false) _ b.1 in
+        let c = said_parts (λ note. Agrees g.site.names g.parts note) (declares_note d.name.span x.ty (of_variable x.claims)) _ b.1 in
         let known = type_known (λ note. Agrees g.site.names g.parts note) no_error s.world.class d.ty (element_claims (target_before d.ty) d.mods.annots) (said_parts (λ note. Agrees g.site.names g.parts note) (written s.world.class d.ty []).notes _ a.0).0 in
-        let table = (subst (λ (o : Option Type_). Says g (declares_note d.name.span o x.claims false)) known.1 c.0).0 in (
+        let table = (subst (λ (o : Option Type_). Says g (declares_note d.name.span o (of_variable x.claims))) known.1 c.0).0 in (
           known.0,
           record {
             typed = known.1;
@@ -151,6 +152,7 @@ module _ (g : Ground) (ground : IsGround g) where
                   (leads_both g.program g.method g.locals e.items (item.Do o ∷ []) point e.behind behind (e.leads b few)
                   (copy_leads g s body.locals types body.made.free lo end scoped local ty refl from refl mid mid (omega arith) up b o ev.slot given e.behind refl within two (omega (arith, few, m)) (omega (arith, few, low))
                   (apart_from body.made.free ev.slot e.apart) held.held held.known held.fits below));
+              answered = λ asked. answered_both e.items (item.Do o ∷ []) (answered_plain e.items e.plain) (answered_op o);
               keeps = keeps_all;
               keeps_breaks = none_passes g body.made.free point;
               keeps_turns = none_passes g body.made.free point;

@@ -37,6 +37,7 @@ use Rattle.ix_formed.proofs.TypedEvaluations.{IsRead, TestGives, condition_teste
 use Rattle.ix_formed.proofs.TypedForms.{parted, closed_tells}
 use Rattle.ix_formed.proofs.TypedItems.{adds_both, adds_as, none_passes, begins_as, begins_middle}
 use Rattle.ix_formed.proofs.TypedPoints.{keeps_none, keeps_both, meeting_keeps}
+use Rattle.ix_formed.proofs.WrittenAnswers.{no_block_answers, answered_if, answered_loop}
 
 module _ (g : Ground) (ground : IsGround g) where
   -- ---- an expression of a statement
@@ -69,6 +70,7 @@ module _ (g : Ground) (ground : IsGround g) where
     breaks_by = a.breaks_by;
     turns_by = a.turns_by;
     leaves = a.leaves;
+    answered = a.answered;
     keeps = subst (λ (m : Made). Keeps m.free point a.behind) made a.keeps;
     keeps_breaks = subst (λ (m : Made). Passes m.free point a.breaks_by) made a.keeps_breaks;
     keeps_turns = subst (λ (m : Made). Passes m.free point a.turns_by) made a.keeps_turns;
@@ -92,6 +94,7 @@ module _ (g : Ground) (ground : IsGround g) where
     breaks_by = a.breaks_by;
     turns_by = a.turns_by;
     leaves = λ begins few. a.leaves (begins_as g other.locals middle.locals (types ++ a.added_types) (types ++ a.added_types) to locals refl begins) (omega (arith, few, le));
+    answered = a.answered;
     keeps = a.keeps;
     keeps_breaks = a.keeps_breaks;
     keeps_turns = a.keeps_turns;
@@ -212,6 +215,7 @@ module _ (g : Ground) (ground : IsGround g) where
         (adds_as g s q.0 w.0 w.0 span.from span.to span.to body types point (with_last inner.body chosen) up last last
         (closed_adds g s q.0 w.0 w.0 body types point point ends (either_jump g x.0.breaks None) (either_jump g x.0.turns None) inner.body chosen first x.1
         (meeting_keeps body.made.free point x.0.ends a.fails keeps_ends a.keeps_fails) (either_passes g body.made.free point x.0.breaks None keeps_breaks nowhere) (either_passes g body.made.free point x.0.turns None keeps_turns nowhere)
+        (λ answers. answered_if asked.cond inner.block (record { items = [] }) (x.0.answered answers) (no_block_answers (record { items = [] }) refl))
         (λ begins few in_loop loops.
         if_leaves g in_loop asked.cond inner.block (record { items = [] }) point a.holds a.fails x.0.ends a.fails x.0.breaks None x.0.turns None
         (a.decides (begins_back s q.0 q.0 w.0 w.0 body types point inner.body first (omega arith) more begins) (let m = x.0.most in omega (arith, few, m)))
@@ -260,6 +264,7 @@ module _ (g : Ground) (ground : IsGround g) where
           (meeting_keeps body.made.free point x.0.ends y.0.ends (on_holds x.0.ends x.0.keeps) (on_fails y.0.ends y.0.keeps))
           (either_passes g body.made.free point x.0.breaks y.0.breaks (on_holds x.0.breaks x.0.keeps_breaks) (on_fails y.0.breaks y.0.keeps_breaks))
           (either_passes g body.made.free point x.0.turns y.0.turns (on_holds x.0.turns x.0.keeps_turns) (on_fails y.0.turns y.0.keeps_turns))
+          (λ answers. answered_if asked.cond inner.block other.block (x.0.answered answers) (y.0.answered answers))
           (λ begins few in_loop loops.
           let whole = begins_as g other.body.locals other.body.locals (types ++ (first.added_types ++ second.added_types)) ((types ++ first.added_types) ++ second.added_types) v.0 refl (sym (append_assoc types first.added_types second.added_types)) begins in
           let middle = begins_back s w.0 w.0 v.0 v.0 inner.body (types ++ first.added_types) point other.body second (omega arith) further whole in
@@ -306,6 +311,7 @@ module _ (g : Ground) (ground : IsGround g) where
             (adds_as g s q.0 w.0 w.0 span.from span.to span.to body types point (with_last inner.body loop) up last last
             (closed_adds g s q.0 w.0 w.0 body types point point ends (λ z. z) (λ z. z) inner.body loop first x.1
             (keeps_both free free point kept ends (omega arith) below (meeting_keeps free kept a.fails x.0.breaks a.keeps_fails (on_holds x.0.breaks x.0.keeps_breaks))) (none_passes g free point) (none_passes g free point)
+            (λ answers. answered_loop true asked.cond inner.block no_block body.loops free (x.0.answered answers))
             (λ begins few in_loop loops.
             let decides = a.decides (begins_back s q.0 q.0 w.0 w.0 body types point inner.body first (omega arith) more begins) (let m = x.0.most in omega (arith, few, m)) in
             loop_leaves g in_loop true asked.cond inner.block no_block body.loops free point a.holds a.fails x.0.ends x.0.breaks x.0.turns kept None None a.plain.straight refl decides a.keeps_holds
@@ -356,6 +362,7 @@ module _ (g : Ground) (ground : IsGround g) where
             (adds_as g s span.from q.0 w.0 span.from span.to span.to body types point (with_last asked.body loop) (omega arith) last (omega (arith, up, last))
             (closed_adds g s span.from q.0 w.0 body types point point ends (λ z. z) (λ z. z) asked.body loop (adds_as g s span.from w.0 w.0 span.from q.0 w.0 body types point asked.body (omega arith) up (omega arith) all) same
             (keeps_both free free point kept ends (omega arith) below (meeting_keeps free kept a.fails x.0.breaks (subst (λ (z : Made). Keeps z.free kept a.fails) x.1 a.keeps_fails) x.0.keeps_breaks)) (none_passes g free point) (none_passes g free point)
+            (λ answers. answered_loop false asked.cond inner.block no_block body.loops free (x.0.answered answers))
             (λ begins few in_loop loops.
             let b = begins_as g asked.body.locals inner.body.locals (types ++ first.added_types) (types ++ first.added_types) q.0 a.locals refl begins in
             let decides = a.decides b few in

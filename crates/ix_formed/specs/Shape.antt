@@ -38,14 +38,14 @@ pub record IsSmall (decls : List ClassDecl) : Type 0 where
 pub record IsMethod (tables : Tables) (at : Home) (decl : MethodDecl) (method : Method) : Type 0 where
   pub body : Body
   pub same : method ≡ record (written_head tables at decl) { locals = body.locals; slots = body.most; body = block body.made }
-  pub made : written_body (site tables at (written_head tables at decl).params) at decl (slot_behind (first_param (is_static decl)) decl.params) ≡ Ok body
+  pub made : written_body (site tables at (written_head tables at decl)) at decl (slot_behind (first_param (is_static decl)) decl.params) ≡ Ok body
   pub few : nat_lt most_operations (operations (block body.made) 0) ≡ false
 
 -- The method is the constructor of a class that has none written.
 pub record IsDefault (tables : Tables) (at : Home) (span : Span) (method : Method) : Type 0 where
   pub body : Body
   pub same : method ≡ record (default_head at span) { locals = body.locals; slots = body.most; body = block body.made }
-  pub made : constructor_start (site tables at []) at [] span (start 1) ≡ Ok body
+  pub made : constructor_start (site tables at (default_head at span)) at [] span (start 1) ≡ Ok body
   pub few : nat_lt most_operations (operations (block body.made) 0) ≡ false
 
 -- The methods of a class's members, in their order.

@@ -5,13 +5,15 @@ use Rattle.ix_text.specs.declared.span.Span.{Span}
 use Rattle.ix_core.specs.declared.claim.Name.TheVariants as name
 use Rattle.ix_core.specs.declared.claim.Type_.{Type_}
 use Rattle.ix_core.specs.declared.code.Item.{Item}
+use Rattle.ix_core.specs.declared.op.Op.{Op}
 use Rattle.ix_core.specs.declared.program.Local.{Local}
 use Rattle.ix_core.specs.declared.program.Method.{Method}
 use Rattle.ix_core.specs.declared.program.Program.{Program}
 use Rattle.ix_core.specs.Code.{Code}
 use Rattle.ix_core.specs.Formed.{Ways, code_ways, first_type, local_type_from, param_type_from, starts_within, claim_fits, others, local_named_type}
+use Rattle.ix_core.specs.Posts.{writes_answers}
 use Rattle.ix_core.specs.Tables.{param_slot, param_slots}
-use Rattle.ix_core.specs.Types.{Point, class_type, is_type, is_class, is_void}
+use Rattle.ix_core.specs.Types.{Point, bool_type, class_type, is_type, is_class, is_void}
 use Rattle.ix_tree.specs.declared.annot.Annot.{Annot}
 use Rattle.ix_tree.specs.declared.annot.TypeTree.{TypeTree}
 use Rattle.ix_tree.specs.declared.decl.LocalDecl.{LocalDecl}
@@ -139,6 +141,8 @@ pub record IsGround (g : Ground) : Type 0 where
   pub class_there : is_class g.program g.class ≡ true
   pub method_class : g.method.class ≡ g.class
   pub with_this : g.method.constructor ≡ true → 1 ≤ param_slot g.method 0
+  -- an answer is returned
+  pub answers : g.site.answers ≡ true → g.method.result ≡ bool_type
   -- the types of locals that are declared
   pub declared_types : (tree : TypeTree) (annots : List Annot) (ty : Type_) → (written g.world.class tree (element_claims (target_before tree) annots)).ty ≡ Some ty → is_type g.program ty ≡ true
   -- and their claims
@@ -162,6 +166,10 @@ pub record Leaves (g : Ground) (in_loop : Bool) (items : List Item) (before behi
   pub breaks : (rest : Code) → (ways g in_loop (code_before items rest) before).breaks ≡ breaks_by (ways g in_loop rest behind).breaks
   pub turns : (rest : Code) → (ways g in_loop (code_before items rest) before).turns ≡ turns_by (ways g in_loop rest behind).turns
 
+-- Each `return` among the items stands behind the operation that writes its answer, where it does so behind them.
+abbrev pub WriteAnswers : List Item → Type 0
+WriteAnswers items = (last : Option Op) (rest : Code) → ((before : Option Op) → writes_answers before rest ≡ true) → writes_answers last (code_before items rest) ≡ true
+
 -- What is made from a place to another adds items to a body and locals, whose scopes end at a third place at the latest.
 pub record Adds (g : Ground) (s : Names) (from to until : ℕ) (body : Body) (types : List Type_) (point : Point) (after : Body) : Type 0 where
   pub added : List (Local × Span)
@@ -178,6 +186,7 @@ pub record Adds (g : Ground) (s : Names) (from to until : ℕ) (body : Body) (ty
   pub breaks_by : Point → Point
   pub turns_by : Point → Point
   pub leaves : Begins g after.locals (types ++ added_types) to → after.most ≤ g.method.slots → (in_loop : Bool) → (s.in_loop ≡ true → in_loop ≡ true) → Leaves g in_loop items point behind breaks_by turns_by
+  pub answered : g.site.answers ≡ true → WriteAnswers items
   pub keeps : Keeps body.made.free point behind
   pub keeps_breaks : Passes body.made.free point breaks_by
   pub keeps_turns : Passes body.made.free point turns_by

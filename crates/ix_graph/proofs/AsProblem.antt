@@ -4,7 +4,7 @@ use Rattle.std.specs.List.{AllZip}
 use Rattle.std.proofs.Common.{◌≡◌, ◌⊎◌, inl, inr, ◌<◌, ℕ, zero, suc, List, [], ◌∷◌, None, Some, length, slice_get, unwrap_or, arith, refl, sym, ap, subst}
 use Rattle.ix_solve.specs.Solutions.{IsLeastOf, IsMonotone}
 use Rattle.ix_solve.specs.Readers.{DependsOnRead, AgreeWhereRead}
-use Rattle.ix_flow.specs.LastDone.{last_done}
+use Rattle.ix_core.specs.Posts.{last_done}
 use Rattle.ix_flow.specs.Flow.{Rules, RulesLaws, Anything}
 use Rattle.ix_graph.specs.declared.node.Edge.{Edge}
 use Rattle.ix_graph.specs.Built.{edges_of, edges_to, targets_from, edge_of}

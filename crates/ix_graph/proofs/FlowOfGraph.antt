@@ -1,7 +1,7 @@
 -- The labels of the heads in a solution of the graph are a solution of the flow.
 use Rattle.std.proofs.Common.{ℕ, suc, true, false, ◌≡◌, sym, subst, List, [], None}
 use Rattle.ix_core.specs.Code.{Code, End, Do, If, Break, Continue, Return, Throw, Loop, Condition, Known, Compare, Truth, Both, Either, Opposite}
-use Rattle.ix_flow.specs.LastDone.{last_done}
+use Rattle.ix_core.specs.Posts.{last_done}
 use Rattle.ix_flow.specs.Flow.{Point, Ending, Rules, RulesLaws, Flows, Asks, IsFlow}
 use Rattle.ix_graph.specs.Graph.{done_at, Pass, Onward, Through, Testing, Telling, Part, Source, Unreached, From, leads, behind_code, behind_condition, code_parts, condition_parts, method_parts}
 use Rattle.ix_graph.specs.GraphSolutions.{Carries, AllKeep}

@@ -2,7 +2,7 @@
 use Rattle.std.proofs.Common.{ℕ, suc, true, false, ◌≡◌, sym, subst, List, [], ◌∷◌, Option, None, Some}
 use Rattle.ix_core.specs.declared.op.Op.{Op}
 use Rattle.ix_core.specs.Code.{Code, End, Do, If, Break, Continue, Return, Throw, Loop, Condition, Known, Compare, Truth, Both, Either, Opposite}
-use Rattle.ix_flow.specs.LastDone.{last_done, written_answer}
+use Rattle.ix_core.specs.Posts.{last_done, written_answer}
 use Rattle.ix_flow.specs.Flow.{Point, Doing, Returning, Ending, Rules, RulesLaws, Flows, Asks, IsFlow}
 use Rattle.ix_graph.specs.Graph.{done_at, Onward, Through, Part, Source, Unreached, From, leads, behind_code, behind_condition, code_parts, condition_parts, method_parts}
 use Rattle.ix_graph.specs.GraphSolutions.{AllKeep}

@@ -17,3 +17,5 @@ pub mod EdgesFit
 pub mod NodesAsk
 pub mod AsProblem
 pub mod HeadTable
+-- What a block does last.
+mod LastItem

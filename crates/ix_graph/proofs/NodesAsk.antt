@@ -5,7 +5,7 @@ use Rattle.std.proofs.Common.{◌≡◌, ◌⊎◌, inl, inr, ◌+◌, ◌<◌, 
 use Rattle.ix_core.specs.Code.{Code}
 use Rattle.ix_lattice.specs.Lattice.{IsJoin}
 use Rattle.ix_solve.specs.Solutions.{IsLeastOf}
-use Rattle.ix_flow.specs.LastDone.{last_done}
+use Rattle.ix_core.specs.Posts.{last_done}
 use Rattle.ix_flow.specs.Flow.{Rules, RulesLaws, Anything}
 use Rattle.ix_graph.specs.declared.node.Edge.{Edge}
 use Rattle.ix_graph.specs.Built.{kinds_of, edges_of, edges_to, edge_of}

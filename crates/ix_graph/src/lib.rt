@@ -9,11 +9,13 @@
 #![tactic(auto)]
 
 mod builder;
+mod last;
 mod links;
 mod node;
 mod source;
 mod sweep;
 
+pub use last::last_op;
 pub use links::graph;
 pub use node::{Edge, Graph, Node, NodeKind};
 pub use sweep::sweep_parts;

@@ -1,7 +1,7 @@
 //! Where control comes from, while a graph is made.
 
 ghost use Rattle.std.specs.Prelude.{◌≡◌};
-ghost use Rattle.ix_flow.specs.LastDone.{answer_of, written_answer};
+ghost use Rattle.ix_core.specs.Posts.{answer_of, written_answer};
 ghost use Rattle.ix_graph.specs.Graph.{done_at};
 ghost use Rattle.ix_graph.specs.Built.{source_of};
 

@@ -10,7 +10,7 @@ use Rattle.ix_core.specs.Heap.{Held, Num, Boolean, Null, At, Heap, ObjectOf, no_
 use Rattle.ix_core.specs.Machine.{CallKind, Static, Instance, New, Super, set_target, target_of, call_values}
 use Rattle.ix_core.specs.Objects.{AllOn, HasField, MeetsField, field_readings}
 use Rattle.ix_core.specs.Tables.{Tables}
-use Rattle.ix_core.specs.Analysis.{FillsTarget, Results}
+use Rattle.ix_core.specs.Analysis.{FillsTarget, Results, ResultTrue}
 use Rattle.ix_core.specs.Waits.{FitsKind, FitsCall, AreFresh, is_super, Since, NoEffect, Hidden}
 use Rattle.ix_core.specs.World.{World, tables_in}
 use Rattle.ix_core.proofs.Entered.{none_some, reading_later}
@@ -61,7 +61,7 @@ module _ (world : World) (caller named : Method) (kind : CallKind) (call : CallO
 
   -- what the claims of the result say is true of the slot that got it
   result_true : (target : Option ℕ) (value : Option Held) (facts : List Fact) → length slots ≡ caller.slots → ((at : ℕ) → target ≡ Some at → at < caller.slots) → FillsTarget value target → (values : List Held)
-      → Results world named values heap value → AllTrue world facts (set_target target value slots) heap → AllTrue world (with_result target named.result_claims facts) (set_target target value slots) heap
+      → ResultTrue world named values heap value → AllTrue world facts (set_target target value slots) heap → AllTrue world (with_result target named.result_claims facts) (set_target target value slots) heap
   result_true None value facts size within given values results all = all
   result_true (Some at) None facts size within given values results all = absurd given
   result_true (Some at) (Some x) facts size within given values results all =
@@ -108,5 +108,5 @@ module _ (world : World) (caller named : Method) (kind : CallKind) (call : CallO
       → Results world named (call_values kind call (length began) slots) heap value → SuperShows → AllTrue world facts slots began → AllTrue world (facts_behind world fields caller named kind call facts) later heap
   behind_true fields facts fits size given results shows all =
       super_true fields kind refl fits shows _
-      (result_true (target_of (tables_in world) kind call) value (only (off_call named kind call.target) facts) size fits.within given (call_values kind call (length began) slots) results
+      (result_true (target_of (tables_in world) kind call) value (only (off_call named kind call.target) facts) size fits.within given (call_values kind call (length began) slots) results.claims
       (only_true world (off_call named kind call.target) slots began later heap call_stays facts all))

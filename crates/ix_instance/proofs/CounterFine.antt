@@ -6,6 +6,7 @@ use Rattle.std.proofs.lemmas.Int.{ints}
 use Rattle.ix_core.specs.declared.claim.Claim.{Claim}
 use Rattle.ix_core.specs.declared.claim.Claim.TheVariants.{Range, Low, Length, Same, Less, Upper, Search, Negative}
 use Rattle.ix_core.specs.declared.claim.Name.{Name}
+use Rattle.ix_core.specs.declared.claim.Post.{Post}
 use Rattle.ix_core.specs.declared.code.Cond.TheBlock.{hidden-the_row-Item-0, hidden-the_row-Cond-1}
 use Rattle.ix_core.specs.declared.fact.Path.TheVariants.{Slot, FieldOf}
 use Rattle.ix_core.specs.declared.program.Local.{Local as Variable}
@@ -16,7 +17,7 @@ use Rattle.ix_core.proofs.WorldTables.{IsThere, there}
 use Rattle.ix_core.proofs.Entered.{none_some}
 use Rattle.ix_core.specs.declared.program.Method.{Method}
 use Rattle.ix_core.specs.Machine.{Super, Instance, New}
-use Rattle.ix_core.specs.Objects.{IsInput, This, Named, Names, claim_names}
+use Rattle.ix_core.specs.Objects.{IsInput, This, Named, Promised, Names, PostsName, post_names, claim_names}
 use Rattle.ix_core.specs.Objects.{HasField}
 use Rattle.ix_core.specs.Heap.{ObjectOf}
 use Rattle.ix_core.specs.Tables.{body_of}
@@ -46,13 +47,17 @@ none_there k x e = absurd cc
 low_names_nothing : (claims : List Claim) (name : Name) → AreLow claims → Names claims name → ⊥
 low_names_nothing claims name low is = none_there is.1 name (subst (λ (names : List Name). slice_get names is.1 ≡ Some name) (low_claim claims is.0 is.2 low is.3) is.4)
 
--- a slot that isn't the first is no input, where the result's claims name nothing
-no_input : (method : Method) (slot : ℕ) → AreLow method.result_claims → (slot ≡ 0 → ⊥) → IsInput method slot → ⊥
-no_input method slot low apart (This static) = apart refl
-no_input method slot low apart (Named number names) = low_names_nothing method.result_claims (Param number) low names
+no_posts_name : (posts : List Post) (name : Name) → posts ≡ [] → PostsName posts name → ⊥
+no_posts_name posts name none is = none_there is.0 is.2 (subst (λ posts. slice_get posts is.0 ≡ Some is.2) none is.3)
 
-may_assign : (method : Method) (target : ℕ) → AreLow method.result_claims → (target ≡ 0 → ⊥) → target < method.slots → MayAssign method target
-may_assign method target low apart lt = record { within = lt; input = no_input method target low apart; own = λ own. apart own.1 }
+-- a slot that isn't the first is no input, where the result's claims name nothing and there are no posts
+no_input : (method : Method) (slot : ℕ) → AreLow method.result_claims → method.posts ≡ [] → (slot ≡ 0 → ⊥) → IsInput method slot → ⊥
+no_input method slot low silent apart (This static) = apart refl
+no_input method slot low silent apart (Named number names) = low_names_nothing method.result_claims (Param number) low names
+no_input method slot low silent apart (Promised number names) = no_posts_name method.posts (Param number) silent names
+
+may_assign : (method : Method) (target : ℕ) → AreLow method.result_claims → method.posts ≡ [] → (target ≡ 0 → ⊥) → target < method.slots → MayAssign method target
+may_assign method target low silent apart lt = record { within = lt; input = no_input method target low silent apart; own = λ own. apart own.1 }
 
 -- ---- calls
 
@@ -60,7 +65,7 @@ abbrev methods : ℕ → Method
 methods = counter_world.methods
 
 no_target : (target at : ℕ) → (target ≡ 0 → ⊥) → ◌≡◌ {A = Option ℕ} (Some target) (Some at) → IsInput (methods 2) at → ⊥
-no_target target at apart e is = no_input (methods 2) at tt (λ zero. apart (ap (λ (o : Option ℕ). unwrap_or o 0) e ∙ zero)) is
+no_target target at apart e is = no_input (methods 2) at tt refl (λ zero. apart (ap (λ (o : Option ℕ). unwrap_or o 0) e ∙ zero)) is
 
 abbrev new_counter : CallOp
 new_counter = calls 3 5 None [] 2 (span 261 274)
@@ -128,11 +133,11 @@ set_fine =
 get_fine : Fine counter_world counter_fields 1 (code_then (body_of (methods 1)) Empty) (facts_at_entry 1)
 unfolding hidden-the_row-Item-0 hidden-the_row-Cond-1 denote.Hole.Carrier.hidden
 get_fine =
-    does _ _ _ _ _ (read _ 1 0 0 (may_assign (methods 1) 1 tt (λ z. omega (arith, z)) (omega (arith))) (λ z. omega (arith, z)) (λ own. false≢true own.0))
+    does _ _ _ _ _ (read _ 1 0 0 (may_assign (methods 1) 1 tt refl (λ z. omega (arith, z)) (omega (arith))) (λ z. omega (arith, z)) (λ own. false≢true own.0))
     (returns _ 1 _ _ _ refl (omega (arith, ints), inl refl, tt))
 
 pick_assigns : (target : ℕ) → (target ≡ 0 → ⊥) → target < 7 → MayAssign (methods 2) target
-pick_assigns target apart lt = may_assign (methods 2) target tt apart lt
+pick_assigns target apart lt = may_assign (methods 2) target tt refl apart lt
 
 pick_fine : Fine counter_world counter_fields 2 (code_then (body_of (methods 2)) Empty) (facts_at_entry 2)
 unfolding hidden-the_row-Item-0 hidden-the_row-Cond-1 denote.Hole.Carrier.hidden

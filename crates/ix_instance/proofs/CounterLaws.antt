@@ -64,6 +64,7 @@ stands class named = subst (λ runs. Stands counter_world (counter_world.methods
   effect = λ e. e;
   demands = λ values heap met. met;
   promises = λ values began heap value on later quiet met is. is;
+  posts = λ values heap value is. is;
 })
 
 -- ---- entries
@@ -89,6 +90,15 @@ lows zero = tt
 lows (suc zero) = tt
 lows (suc (suc field)) = tt
 
+no_posts : (method : ℕ) → (method_at counter method).posts ≡ []
+no_posts zero = refl
+no_posts (suc zero) = refl
+no_posts (suc (suc zero)) = refl
+no_posts (suc (suc (suc zero))) = refl
+no_posts (suc (suc (suc (suc zero)))) = refl
+no_posts (suc (suc (suc (suc (suc zero))))) = refl
+no_posts (suc (suc (suc (suc (suc (suc method)))))) = refl
+
 -- ---- the laws
 
 tables : IsWorld counter_world
@@ -101,7 +111,7 @@ counter_keeps_laws profile = record {
   body = bodies_fine;
   entry = λ method slots heap met on int fresh. entries method slots heap met fresh;
   step = λ limits building method tasks store slots heap typed keeps frame int holds fine.
-      shown profile counter_world counter_fields facts_at_entry tables lows limits building method slots heap keeps frame int tasks store fine holds
+      shown profile counter_world counter_fields facts_at_entry tables lows limits building method slots heap keeps frame int (no_posts method) tasks store fine holds
       (stores_typed counter counter_formed.0 counter_formed.1 method slots heap tasks typed);
   after_call = λ caller named kind call store slots began heap value fits size on int holds since now is given results built. behind_true counter_world caller named kind call slots began heap value on since counter_fields store fits size given results built holds;
 }

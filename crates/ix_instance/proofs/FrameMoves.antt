@@ -1,5 +1,5 @@
 -- A frame's move shows what the laws ask of it.
-use Rattle.std.specs.Prelude.{◌≡◌, ℕ, ◌≤ℤ◌, ◌<ℤ◌, ℤ, pos, int_lt, Bool, true, false, if◌then◌else◌, List, ◌∷◌, length, slice_get, option_map, Option, Some, None, refl}
+use Rattle.std.specs.Prelude.{◌≡◌, ℕ, ◌≤ℤ◌, ◌<ℤ◌, ℤ, pos, int_lt, Bool, true, false, if◌then◌else◌, List, [], ◌∷◌, length, slice_get, option_map, Option, Some, None, refl}
 use Rattle.std.proofs.Common.{arith, sym, ap, ◌∙◌, subst, inl}
 use Rattle.std.proofs.lemmas.Bool.{false≢true}
 use Rattle.std.proofs.lemmas.Bool.Decides.{nat_tests}
@@ -15,14 +15,15 @@ use Rattle.ix_core.specs.declared.op.OpKind.{OpKind}
 use Rattle.ix_core.specs.declared.op.Test.{Test}
 use Rattle.ix_core.specs.declared.program.Local.{Local as Variable}
 use Rattle.ix_core.specs.declared.program.Method.{Method}
-use Rattle.ix_core.specs.Analysis.{IsWorld, Shows, Leaves, IsFreeIf, Results}
+use Rattle.ix_core.specs.Analysis.{IsWorld, Shows, Leaves, IsFreeIf, ResultTrue, Results}
 use Rattle.ix_core.specs.Code.{Code, Do}
 use Rattle.ix_core.specs.Heap.{Held, Heap, ObjectOf, Reading, no_reading, value_at, int_of, size_of, reading_of}
 use Rattle.ix_core.specs.Machine.{CallKind, Limits, Effect, Done, Stopped, Wrapped, Printed, Called, Go, effect_then, operate, step_tasks, result_of, test_of, int_test, call_values, call_heap}
+use Rattle.ix_core.specs.Posts.{PostsHold}
 use Rattle.ix_core.specs.Objects.{KeepsInts, IntsOnly, HasField, field_readings, HeapKeeps, FrameKeeps, StepKeeps}
 use Rattle.ix_core.specs.Tables.{routine_of, default_result}
 use Rattle.ix_core.specs.Tasks.{Tasks, Run, code_then, followed_by}
-use Rattle.ix_core.specs.Waits.{Knowledge, MeetParams}
+use Rattle.ix_core.specs.Waits.{Knowledge, MeetParams, param_readings}
 use Rattle.ix_core.specs.World.{World, tables_in}
 use Rattle.ix_core.proofs.Kept.{done_keeps}
 use Rattle.ix_core.proofs.Waiting.{later_refl}
@@ -48,7 +49,7 @@ lt_is : (a b : ℤ) → int_lt a b ≡ true → a <ℤ b
 lt_is a b e = grind (arith, ints, nat_tests)
 
 module _ (profile : Profile) (world : World) (fields : ℕ → List ℕ) (entry : ℕ → List Fact) (tables : IsWorld world) (lows : (field : ℕ) → AreLow (world.field_claims field)) (limits : Limits) (building : ℕ → Type 0) (number : ℕ) (slots : List Held)
-    (heap : Heap) (keeps : HeapKeeps world building heap) (frame : FrameKeeps building (world.methods number) slots heap) (kept_ints : KeepsInts slots heap) where
+    (heap : Heap) (keeps : HeapKeeps world building heap) (frame : FrameKeeps building (world.methods number) slots heap) (kept_ints : KeepsInts slots heap) (silent : (world.methods number).posts ≡ []) where
   abbrev method : Method
   method = world.methods number
 
@@ -105,11 +106,15 @@ module _ (profile : Profile) (world : World) (fields : ℕ → List ℕ) (entry 
   no_result : method.constructor ≡ false → method.result ≡ type.Void → result_of (routine_of method) slots None ≡ None
   no_result plain void = rw plain (rw void refl)
 
+  -- no post is promised
+  with_no_posts : (value : Option Held) → ResultTrue world method slots heap value → Results world method slots heap value
+  with_no_posts value claims = record { claims = claims; posts = subst (λ posts. PostsHold posts (param_readings world method slots heap) value) (sym silent) tt }
+
   ended : (facts : List Fact) → method.result ≡ type.Void → (method.constructor ≡ true → (field : ℕ) → HasField world (ObjectOf method.class) field → Proves facts (FieldOf 0 field) (world.field_claims field))
       → AllTrue world facts slots heap → Leaves profile world know building method slots heap (result_of (routine_of method) slots None)
   ended facts void built all = record {
     free = λ plain. subst (IsFreeIf building heap) (sym (no_result plain void)) tt;
-    results = λ plain. subst (Results world method slots heap) (sym (no_result plain void)) tt;
+    results = λ plain. subst (Results world method slots heap) (sym (no_result plain void)) (with_no_posts None tt);
     built = λ c object field at has.
         proves_true world (FieldOf 0 field) slots heap facts (world.field_claims field) _ (field_readings world heap object) (built c field has) (ap (λ held. int_of (held_through world heap held field)) (sym at)) all;
   }
@@ -125,7 +130,7 @@ module _ (profile : Profile) (world : World) (fields : ℕ → List ℕ) (entry 
   given_free slot None plain = tt
   given_free slot (Some of) plain = frame.free slot (λ own. false≢true (sym plain ∙ own.0))
 
-  given_met : (facts : List Fact) (slot : ℕ) (default : Option Held) → Proves facts (Slot slot) method.result_claims → AllTrue world facts slots heap → Results world method slots heap (given slot default)
+  given_met : (facts : List Fact) (slot : ℕ) (default : Option Held) → Proves facts (Slot slot) method.result_claims → AllTrue world facts slots heap → ResultTrue world method slots heap (given slot default)
   given_met facts slot None proves all = tt
   given_met facts slot (Some of) proves all = proves_true world (Slot slot) slots heap facts method.result_claims _ _ proves refl all
 
@@ -133,7 +138,7 @@ module _ (profile : Profile) (world : World) (fields : ℕ → List ℕ) (entry 
       → Leaves profile world know building method slots heap (result_of (routine_of method) slots (Some slot))
   returned facts slot plain proves all = record {
     free = λ e. subst (IsFreeIf building heap) (sym (the_result slot plain)) (given_free slot (default_result method.result) plain);
-    results = λ e. subst (Results world method slots heap) (sym (the_result slot plain)) (given_met facts slot (default_result method.result) proves all);
+    results = λ e. subst (Results world method slots heap) (sym (the_result slot plain)) (with_no_posts (given slot (default_result method.result)) (given_met facts slot (default_result method.result) proves all));
     built = λ c object field at has. absurd (false≢true (sym plain ∙ c));
   }
 

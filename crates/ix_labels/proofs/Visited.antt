@@ -1,29 +1,31 @@
 -- What a visit of a node finds.
 use Rattle.std.specs.Prelude.{slice_index_or}
-use Rattle.std.proofs.Common.{◌≡◌, ◌<◌, ◌≤◌, ◌+◌, ℕ, zero, suc, Bool, true, false, List, [], ◌∷◌, ◌++◌, Some, length, map, slice_get, get_or, take, take_all, unwrap_or, arith, refl, sym, ap, subst, ◌∙◌}
+use Rattle.std.proofs.Common.{◌≡◌, ◌<◌, ◌≤◌, ◌+◌, ℕ, zero, suc, Bool, true, false, List, [], ◌∷◌, ◌++◌, Some, None, length, map, slice_get, get_or, take, take_all, unwrap_or, arith, refl, sym, ap, subst, ◌∙◌}
 use Rattle.std.proofs.Math.Seq.{take-suc}
 use Rattle.ix_core.specs.declared.op.Op.{Op}
 use Rattle.ix_core.specs.declared.op.Test.{Test}
+use Rattle.ix_core.specs.Posts.{last_done}
 use Rattle.ix_facts.specs.Round.{rounded}
 use Rattle.ix_facts.specs.Stores.{Stored, IsBelow, IsStoreOf, IsJoined, IsTested, IsRounded, outcomes_of}
 use Rattle.ix_facts.proofs.StepLaws.{told_give, told_least, given_gives, given_least}
 use Rattle.ix_facts.proofs.StoreLaws.{below_itself, store_above, store_least, joined_least}
 use Rattle.ix_flow.specs.Flow.{Anything}
 use Rattle.ix_graph.specs.declared.node.Edge.{Edge}
-use Rattle.ix_graph.specs.declared.node.Edge.TheVariants.{Next, WhenTrue, WhenFalse}
+use Rattle.ix_graph.specs.declared.node.Edge.TheVariants.{Next}
 use Rattle.ix_graph.specs.declared.node.Node.{Node}
 use Rattle.ix_graph.specs.declared.node.NodeKind.{NodeKind}
 use Rattle.ix_graph.specs.declared.node.NodeKind.TheVariants as node
-use Rattle.ix_graph.specs.Graph.{Kind, Joins, Starts, Heads, Pass, Onward, Testing, behind_code}
+use Rattle.ix_graph.specs.Graph.{Kind, Joins, Starts, Heads, Pass, Onward, Testing, Telling, behind_code}
 use Rattle.ix_lattice.specs.Lattice.{IsJoin}
-use Rattle.ix_core.specs.Code.{block_code}
+use Rattle.ix_core.specs.Code.{Code, block_code}
 use Rattle.ix_graph.specs.GraphSolutions.{Carries, label_at}
 use Rattle.ix_graph.proofs.AsProblem.{LeadTo, AreUnder, all_lead, lead_within, targets_within}
 use Rattle.ix_graph.proofs.NodesAsk.{carries_as, one_more}
 use Rattle.ix_graph.proofs.Numbers.{method_below}
 use Rattle.ix_graph.specs.Brought.{pass_of, Brings, AllBring, IsSettled}
 use Rattle.ix_graph.specs.Built.{kind_of, edges_of, targets_from}
-use Rattle.ix_method.specs.Signs.{entry_facts}
+use Rattle.ix_method.specs.Signs as signs
+use Rattle.ix_method.specs.Signs.{Adds, entry_facts, told_facts}
 use Rattle.ix_solve.specs.Solutions.{IsLeastOf}
 use Rattle.ix_method.specs.Store.{Store}
 use Rattle.ix_method.specs.StoredFacts.{stored}
@@ -48,18 +50,20 @@ module _ (problem : Problem) where
     λ other carries. told_least (outcomes_of answer test) label after other tested carries,
   )
 
-  pub same_least : (kind : NodeKind) (edge : Edge) (label : Stored) → ((op : _) → kind ≡ node.Do op → ⊥) → ((test : _) → kind ≡ node.Compare test → edge ≡ Next) → IsCarried (pass_of (kind_of kind) edge) label label
-  same_least node.Entry edge label no_op asked = (below_itself label, λ other carries. carries)
-  same_least (node.Do op) edge label no_op asked = absurd (no_op op refl)
-  same_least (node.Compare test) edge label no_op asked =
+  pub tells_least : (answer : Bool) (code : Code) (slot : ℕ) (label after : Stored) → signs.IsLeastOf (Adds (told_facts problem.program.now (last_done None code) slot answer)) label after → IsCarried (Telling answer code slot) label after
+  tells_least answer code slot label after least = (least.above, least.least)
+
+  pub same_least : (kind : NodeKind) (edge : Edge) (label : Stored) → ((op : _) → kind ≡ node.Do op → ⊥) → ((test : _) → kind ≡ node.Compare test → edge ≡ Next) → ((block slot : _) → kind ≡ node.Truth block slot → edge ≡ Next) → IsCarried (pass_of (kind_of kind) edge) label label
+  same_least node.Entry edge label no_op asked told = (below_itself label, λ other carries. carries)
+  same_least (node.Do op) edge label no_op asked told = absurd (no_op op refl)
+  same_least (node.Compare test) edge label no_op asked told =
       subst (λ e. IsCarried (pass_of (kind_of (node.Compare test)) e) label label) (sym (asked test refl)) (below_itself label, λ other carries. carries)
-  same_least (node.Truth block slot) Next label no_op asked = (below_itself label, λ other carries. carries)
-  same_least (node.Truth block slot) WhenTrue label no_op asked = (below_itself label, λ other carries. carries)
-  same_least (node.Truth block slot) WhenFalse label no_op asked = (below_itself label, λ other carries. carries)
-  same_least node.Join edge label no_op asked = (below_itself label, λ other carries. carries)
-  same_least (node.Head number scope) edge label no_op asked = (below_itself label, λ other carries. carries)
-  same_least (node.Return value known span) edge label no_op asked = (below_itself label, λ other carries. carries)
-  same_least node.End edge label no_op asked = (below_itself label, λ other carries. carries)
+  same_least (node.Truth block slot) edge label no_op asked told =
+      subst (λ e. IsCarried (pass_of (kind_of (node.Truth block slot)) e) label label) (sym (told block slot refl)) (below_itself label, λ other carries. carries)
+  same_least node.Join edge label no_op asked told = (below_itself label, λ other carries. carries)
+  same_least (node.Head number scope) edge label no_op asked told = (below_itself label, λ other carries. carries)
+  same_least (node.Return value known span) edge label no_op asked told = (below_itself label, λ other carries. carries)
+  same_least node.End edge label no_op asked told = (below_itself label, λ other carries. carries)
 
   pub entered : (joined label : Stored) → IsStoreOf (entry_facts problem.program.now problem.within.now) label → IsSettled (rules_of problem) Starts joined label
   entered joined label is = (

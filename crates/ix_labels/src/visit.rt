@@ -10,9 +10,9 @@ ghost use Rattle.ix_method.specs.StoredFacts.{stored};
 ghost use Rattle.ix_labels.specs.Problem.{rules_of, kinds_at, edges_at};
 
 use crate::problem::Problem;
-use ix_graph::{Edge, NodeKind};
+use ix_graph::{Edge, NodeKind, last_op};
 use ix_lattice::Lattice;
-use ix_method::signs::enter;
+use ix_method::signs::{enter, tell};
 use ix_method::{Store, after};
 use ix_refine::branch;
 use ix_solve::{FlowProblem, Steps};
@@ -36,6 +36,12 @@ impl<'a> Problem<'a> {
             }
             (NodeKind::Compare(test), Edge::WhenTrue) => branch(alloc, label, test, true),
             (NodeKind::Compare(test), Edge::WhenFalse) => branch(alloc, label, test, false),
+            (NodeKind::Truth(block, slot), Edge::WhenTrue) => {
+                tell(alloc, label, self.program, last_op(block), *slot, true)
+            }
+            (NodeKind::Truth(block, slot), Edge::WhenFalse) => {
+                tell(alloc, label, self.program, last_op(block), *slot, false)
+            }
             _ => label.share(),
         }
     }

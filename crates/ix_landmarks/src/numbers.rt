@@ -6,7 +6,7 @@ ghost use Rattle.ix_core.specs.declared.program.Program.{Program};
 ghost use Rattle.ix_core.specs.Tables.{method_at, field_at};
 ghost use Rattle.ix_facts.specs.MethodLandmarks as numbers;
 
-use ix_core::{CallOp, Claim, Field, Literal, Local, Method, OpKind, Program, Type_};
+use ix_core::{CallOp, Claim, Field, Literal, Local, Method, OpKind, Post, Program, Type_};
 use ix_text::Span;
 use std::alloc::AllocError;
 
@@ -85,14 +85,24 @@ pub(crate) fn push_locals(out: &mut Vec<i32>, locals: &[(Local, Span)]) -> Resul
     Ok(())
 }
 
-/// Those of the parameters and the result of a method.
+fn push_posts(out: &mut Vec<i32>, posts: &[Post]) -> Result<(), AllocError>
+    ensures { OnOk result (out.new.items ≡ out.old.items ++ numbers.posts_numbers posts.now) }
+{
+    for post in posts {
+        push_claim(out, &post.claim)?;
+    }
+    Ok(())
+}
+
+/// Those of the parameters, the result and the posts of a method.
 pub(crate) fn push_declared(out: &mut Vec<i32>, method: &Method) -> Result<(), AllocError>
     ensures { OnOk result (out.new.items ≡ out.old.items ++ numbers.declared_numbers method.now) }
 {
     push_params(out, method.params.as_slice())?;
     push_types(out, method.param_types.as_slice())?;
     push_claims(out, method.result_claims.as_slice())?;
-    push_type(out, &method.result)
+    push_type(out, &method.result)?;
+    push_posts(out, method.posts.as_slice())
 }
 
 fn push_called(out: &mut Vec<i32>, program: &Program, call: &CallOp) -> Result<(), AllocError>

@@ -25,13 +25,13 @@ fn count_on(before: usize, annots: &[Annot]) -> Result<usize, Passed>
     let mut count = before;
     for annot in annots {
         let more = counted(annot);
-        if more > MOST_CLAIMS - count {
+        if more > (MOST_CLAIMS - count) as u128 {
             return Err(Passed {
                 which: Which::Claims,
                 place: annot.span.from,
             });
         }
-        count += more;
+        count += more as usize;
     }
     Ok(count)
 }

@@ -87,6 +87,7 @@ whom_long (detail.Claim (subject.Param m n) c) = refl
 whom_long (detail.Claim (subject.Local m n) c) = refl
 whom_long (detail.Claim (subject.FieldNamed f) c) = refl
 whom_long (detail.Claim (subject.Result m) c) = refl
+whom_long (detail.Claim (subject.PostField m f) c) = refl
 
 from_left : (a b c d e f : Ordering) → ordering_then (ordering_then (ordering_then (ordering_then (ordering_then a b) c) d) e) f ≡ ordering_then a (ordering_then b (ordering_then c (ordering_then d (ordering_then e f))))
 from_left Less b c d e f = refl

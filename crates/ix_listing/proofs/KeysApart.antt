@@ -50,6 +50,7 @@ same_subject (subject.Param m n) (subject.Param k l) h = cc
 same_subject (subject.Local m n) (subject.Local k l) h = cc
 same_subject (subject.FieldNamed m) (subject.FieldNamed k) h = cc
 same_subject (subject.Result m) (subject.Result k) h = cc
+same_subject (subject.PostField m f) (subject.PostField k g) h = cc
 same_subject x y h = cc
 
 same_name : (x y : Name) → name_kind x ≡ name_kind y → name_number x ≡ name_number y → x ≡ y

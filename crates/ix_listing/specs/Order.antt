@@ -13,13 +13,14 @@ use Rattle.ix_core.specs.declared.error.Error.{Error}
 use Rattle.ix_core.specs.declared.error.Subject.{Subject}
 use Rattle.ix_core.specs.declared.error.Subject.TheVariants as subject
 
--- subjects in the order of declaration: elements first, then parameters, locals, fields and results, each by their numbers
+-- subjects in the order of declaration: elements first, then parameters, locals, fields, results and fields of which a post speaks, each by their numbers
 abbrev pub subject_key : Subject → List ℤ
 subject_key subject.Element = pos 0 ∷ pos 0 ∷ pos 0 ∷ []
 subject_key (subject.Param method number) = pos 1 ∷ pos method ∷ pos number ∷ []
 subject_key (subject.Local method number) = pos 2 ∷ pos method ∷ pos number ∷ []
 subject_key (subject.FieldNamed field) = pos 3 ∷ pos field ∷ pos 0 ∷ []
 subject_key (subject.Result method) = pos 4 ∷ pos method ∷ pos 0 ∷ []
+subject_key (subject.PostField method field) = pos 5 ∷ pos method ∷ pos field ∷ []
 
 -- of whom an error speaks; one without a claim speaks of nobody
 abbrev pub whom_key : Detail → List ℤ

@@ -18,6 +18,7 @@ fn subject_key(subject: Subject) -> [i64; 3]
         Subject::Local(method, number) => [2, method as i64, number as i64],
         Subject::FieldNamed(field) => [3, field as i64, 0],
         Subject::Result(method) => [4, method as i64, 0],
+        Subject::PostField(method, field) => [5, method as i64, field as i64],
     }
 }
 

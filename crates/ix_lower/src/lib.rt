@@ -11,6 +11,7 @@ mod home;
 mod member;
 mod method;
 mod number;
+mod post;
 mod source;
 
 pub use source::{LowerError, lower};

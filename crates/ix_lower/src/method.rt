@@ -11,11 +11,12 @@ ghost use Rattle.ix_world.specs.World.{callee, shown as shown_world};
 ghost use Rattle.ix_lower.specs.Homes.{shown_tables, shown_home};
 
 use crate::constructor::begin_constructor;
-use crate::home::{Home, Tables, site};
+use crate::home::{Home, Tables};
 use crate::member::{
     claims_declared, is_effect_free, param_types, params, slot_behind, type_declared,
 };
 use crate::number::is_static;
+use crate::post::{posts, some_conditional};
 use ix_core::{Block, Method, Type_};
 use ix_lower_bodies::{MOST_LOOPS, copied_text, count_operations, each, loops};
 use ix_lower_values::{Site, empty};
@@ -196,6 +197,7 @@ fn written_head(
         param_types,
         result,
         result_claims,
+        posts: posts(alloc, tables, home.class, decl)?,
         locals: List::new(alloc),
         slots: 0,
         body: no_block(alloc),
@@ -219,6 +221,7 @@ fn default_head(alloc: Global, home: &Home<'_>, span: Span) -> Result<Method, Al
         param_types: List::new(alloc),
         result: Type_::Void,
         result_claims: List::new(alloc),
+        posts: List::new(alloc),
         locals: List::new(alloc),
         slots: 0,
         body: no_block(alloc),
@@ -251,6 +254,7 @@ pub fn written<'t>(
         constructors: tables.constructors,
         class: home.class,
         params: head.params.as_slice(),
+        answers: some_conditional(head.posts.as_slice()),
     };
     let body = written_body(alloc, &site, home, decl, free)?;
     let method = with_body(head, body)?;
@@ -268,7 +272,14 @@ pub fn default_constructor<'t>(
     ensures limit { (which : Which) → IsErrOf result (stop.Limit which) → spec.default (shown_tables tables.now) (shown_home home.now) span ≡ Err which }
 {
     let head = default_head(alloc, home, span)?;
-    let site = site(tables, home, &[]);
+    let site = Site {
+        table: tables.table,
+        heads: tables.heads,
+        constructors: tables.constructors,
+        class: home.class,
+        params: head.params.as_slice(),
+        answers: some_conditional(head.posts.as_slice()),
+    };
     let body = default_body(alloc, &site, home, span)?;
     with_body(head, body)
 }

@@ -6,10 +6,12 @@ ghost use Rattle.ix_plain.specs.Assigned.{assigns, init_assigns};
 ghost use Rattle.ix_plain.specs.Statements as spec;
 ghost use Rattle.ix_lower_values.specs.Shown.{shown_site};
 
-use ix_core::{Cond, Item, Type_};
-use ix_lower_values::{Scope, Site, add_assigned, add_init, condition, filling, push, value};
+use ix_core::{Block, Cond, Item, Literal, OpKind, Type_};
+use ix_lower_values::{
+    Scope, Site, add_assigned, add_init, condition, done, filling, push, take, value,
+};
 use ix_plain::{Body, Stop};
-use ix_text::{List, Text};
+use ix_text::{List, Span, Text};
 use ix_tree::{Expr, Init};
 use std::alloc::{AllocError, Global};
 
@@ -143,6 +145,50 @@ pub fn test_if(
         Some(expr) => test(alloc, site, expr, body),
         None => Ok(Cond::Known(true)),
     }
+}
+
+/// An answer that is written out and returned.
+fn answer(alloc: Global, holds: bool, slot: u32, span: Span) -> Result<Block, AllocError>
+    ensures { IfOk result (λ block. block ≡ spec.answer holds slot span) }
+{
+    let mut items = List::new(alloc);
+    let kind = OpKind::Const(slot, Literal::Bool(holds));
+    items.push(done(alloc, kind, span))?;
+    items.push(Item::Return(Some(slot), span))?;
+    Ok(Block { items })
+}
+
+fn answer_item(alloc: Global, asked: Cond, slot: u32, span: Span) -> Result<Item, AllocError>
+    ensures { IfOk result (λ item. item ≡ spec.answer_item asked slot span) }
+{
+    let holds = answer(alloc, true, slot, span)?;
+    let fails = answer(alloc, false, slot, span)?;
+    Ok(Item::If(asked, holds, fails))
+}
+
+/// Asks a full expression, and returns each answer by itself.
+pub fn return_answer(
+    alloc: Global,
+    site: &Site<'_>,
+    expr: &Expr,
+    body: &mut Body,
+) -> Result<(), Stop>
+    ensures body { OnOk result (spec.answered (shown_site site.now) expr.now body.old ≡ Ok body.new) }
+    ensures limit { (which : Which) → IsErrOf result (stop.Limit which) → spec.answered (shown_site site.now) expr.now body.old ≡ Err which }
+{
+    let assigned = assigned_by(alloc, site, expr, body)?;
+    let top = body.made.free;
+    let scope = Scope {
+        site: *site,
+        locals: body.locals.as_slice(),
+        assigned: assigned.as_slice(),
+    };
+    let cond = condition(alloc, &scope, expr, &mut body.made.free)?;
+    let item = answer_item(alloc, cond, body.made.free, expr.span)?;
+    take(&mut body.made, item)?;
+    body.most = body.most.max(body.made.free);
+    body.made.free = top;
+    Ok(())
 }
 
 /// Adds an item.

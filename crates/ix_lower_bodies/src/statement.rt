@@ -9,7 +9,7 @@ ghost use Rattle.ix_lower_bodies.specs.declared.statement.Form.TheVariants as fo
 ghost use Rattle.ix_lower_bodies.specs.Forms.{form_of};
 
 use crate::declare::declarations;
-use crate::full::{copied_text, evaluate, push_last, run, run_all, test, test_if};
+use crate::full::{copied_text, evaluate, push_last, return_answer, run, run_all, test, test_if};
 use ix_core::{Block, Item, OpKind};
 use ix_lower_values::{Site, done, empty};
 use ix_meaning::Which;
@@ -101,6 +101,9 @@ fn returned(
             Ok(())
         }
         Some(expr) => {
+            if site.answers {
+                return return_answer(alloc, site, expr, body);
+            }
             let slot = evaluate(alloc, site, expr, body)?;
             push_last(body, Item::Return(Some(slot), expr.span))?;
             Ok(())

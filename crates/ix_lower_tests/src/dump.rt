@@ -2,7 +2,7 @@
 
 use ix_core::{
     Base, CallOp, Claim, Class, Cond, Field, Item, Literal, Local, Method, Name, Off, Op, OpKind,
-    Program, Type_, UnaryNum,
+    Post, Program, Type_, UnaryNum,
 };
 use ix_num::{Arith, Rel};
 use ix_text::Span;
@@ -128,6 +128,18 @@ fn claims(out: &mut Line, claims: &[Claim]) {
         claim(out, *one);
         out.put(")");
     }
+}
+
+fn post(out: &mut Line, post: &Post) {
+    out.put(match post.when {
+        None => " post ",
+        Some(true) => " post true ",
+        Some(false) => " post false ",
+    });
+    name(out, post.on);
+    out.put(" (");
+    claim(out, post.claim);
+    out.put(")");
 }
 
 fn base(out: &mut Line, base: Base) {
@@ -465,6 +477,9 @@ fn head(out: &mut Line, method: &Method) {
     out.places(" @", method.span);
     ty(out, " result ", &method.result);
     claims(out, method.result_claims.as_slice());
+    for promised in method.posts.as_slice() {
+        post(out, promised);
+    }
     for (param, of) in method
         .params
         .as_slice()

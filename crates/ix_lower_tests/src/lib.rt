@@ -19,6 +19,8 @@ mod limits;
 #[cfg(test)]
 mod objects;
 #[cfg(test)]
+mod posts;
+#[cfg(test)]
 mod row;
 #[cfg(test)]
 mod statements;

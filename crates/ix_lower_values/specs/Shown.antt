@@ -27,6 +27,7 @@ shown_site site = record {
   constructors = site.constructors.now;
   class = site.class;
   params = site.params.now;
+  answers = site.answers;
 }
 
 abbrev pub shown_scope : Scope → spec.Scope

@@ -13,5 +13,5 @@ mod scope;
 
 pub use assigned::{add_all, add_assigned, add_init};
 pub use expression::{arguments, assign, call_op, condition, filling, value};
-pub use made::{MOST_SLOTS, compute, copied_claims, done, empty, push};
+pub use made::{MOST_SLOTS, compute, copied_claims, done, empty, push, take};
 pub use scope::{Scope, Site, constructor_at};

@@ -24,6 +24,8 @@ pub struct Site<'t> {
     pub class: u32,
     /// The parameters of the method, by their numbers.
     pub params: &'t [Local],
+    /// Whether it promises something of one answer, so that each answer is written out where it is returned.
+    pub answers: bool,
 }
 
 /// What a full expression stands in.

@@ -8,6 +8,8 @@ use Rattle.ix_annot.specs.TypeTree.{TypeTree}
 use Rattle.ix_annot.specs.Base.TheVariants.{Int, Bool as Boolean, Class}
 use Rattle.ix_annot.specs.Type_.{Type_ as Ty}
 use Rattle.ix_annot.specs.Claim.{Claim}
+use Rattle.ix_annot.specs.Post.{Post}
+use Rattle.ix_annot.specs.Posts.{same_post}
 use Rattle.ix_annot.specs.SameClaims.{distinct}
 use Rattle.ix_annot.specs.Named.{Names}
 use Rattle.ix_annot.specs.declared.scope.Claims.{Claims}
@@ -34,10 +36,11 @@ rule_of WrongTarget = rule.WrongTarget
 rule_of InheritedName = rule.InheritedName
 rule_of _ = rule.BadArgument
 
--- What annotations give: claims, the mark of a method, and errors.
+-- What annotations give: claims, the mark of a method, what it promises where it returns, and errors.
 pub record Given : Type 0 where
   pub claims : List Claim
   pub effect_free : Bool
+  pub posts : List Post
   pub notes : List Note
 
 abbrev pub claims_from : Result Claims AnnotError → List Claim
@@ -48,16 +51,21 @@ abbrev pub frees : Result Claims AnnotError → Bool
 frees (Ok c) = c.effect_free
 frees (Err e) = false
 
+abbrev pub posts_from : Result Claims AnnotError → List Post
+posts_from (Ok c) = c.posts
+posts_from (Err e) = []
+
 -- RULES unknown.annotation, bad.argument, bad.name, wrong.target, inherited.name, at the annotation
 abbrev pub errors_from : Result Claims AnnotError → Span → List Note
 errors_from (Ok c) p = []
 errors_from (Err e) p = WrongAnnot (record { rule = rule_of e; span = p }) ∷ []
 
 abbrev pub given : Names → List Annot → Given
-given names [] = record { claims = []; effect_free = false; notes = [] }
+given names [] = record { claims = []; effect_free = false; posts = []; notes = [] }
 given names (a ∷ annots) = record {
   claims = claims_from (expanded a names) ++ (given names annots).claims;
   effect_free = frees (expanded a names) || (given names annots).effect_free;
+  posts = posts_from (expanded a names) ++ (given names annots).posts;
   notes = errors_from (expanded a names) a.span ++ (given names annots).notes;
 }
 
@@ -124,6 +132,21 @@ variable class names before ty = declaration class names (target_before ty) on.A
 -- of a static field, on which no annotation may stand
 abbrev pub static_field : (List ℕ → Option ℕ) → List Annot → TypeTree → Declaration
 static_field class before ty = declaration class (names_nothing on.Other) on.Other on.Other before ty
+
+-- ---- what a name is declared with
+
+-- a variable
+abbrev pub of_variable : List Claim → Claims
+of_variable claims = record { list = claims; effect_free = false; posts = [] }
+
+-- each post once, at its first place
+abbrev pub distinct_posts : List Post → List Post
+distinct_posts [] = []
+distinct_posts (post ∷ posts) = post ∷ filter (λ other. not (same_post post other)) (distinct_posts posts)
+
+-- a method with these claims on its result, and marked so
+abbrev pub marked : List Claim → Given → Claims
+marked claims marks = record { list = claims; effect_free = marks.effect_free; posts = distinct_posts marks.posts }
 
 -- ---- annotations of a method
 

@@ -1,5 +1,5 @@
 -- What statements say, and which names are in scope behind them (JLS 14, 6.3).
-use Rattle.std.specs.Prelude.{ℕ, ◌+◌, nat_lt, Bool, true, false, ◌&&◌, if◌then◌else◌, Option, Some, None, is_some, List, [], ◌∷◌, ◌++◌}
+use Rattle.std.specs.Prelude.{ℕ, ◌+◌, nat_lt, Bool, true, ◌&&◌, if◌then◌else◌, Option, Some, None, is_some, List, [], ◌∷◌, ◌++◌}
 use Rattle.ix_text.specs.declared.span.Span.{Span}
 use Rattle.ix_annot.specs.Ident.{Ident}
 use Rattle.ix_annot.specs.LocalDecl.{LocalDecl}
@@ -7,15 +7,15 @@ use Rattle.ix_annot.specs.Expr.{Expr}
 use Rattle.ix_annot.specs.Init.{Init}
 use Rattle.ix_annot.specs.Stmt.{Stmt, Stmt-F, fold-Stmt}
 use Rattle.ix_annot.specs.StmtKind.{StmtKind, StmtKind-F, fold-StmtKind}
-use Rattle.ix_annot.specs.Claim.{Claim}
 use Rattle.ix_annot.specs.Name.TheVariants as name
 use Rattle.ix_annot.specs.Type_.{Type_ as Ty}
 use Rattle.ix_annot.specs.Named.{Names}
+use Rattle.ix_annot.specs.declared.scope.Claims.{Claims}
 use Rattle.ix_meaning.specs.declared.note.Meaning.TheVariants.{Local}
 use Rattle.ix_meaning.specs.declared.note.Note.{Note}
 use Rattle.ix_meaning.specs.declared.note.Note.TheVariants.{Declares}
 use Rattle.ix_meaning.specs.Types.{boolean, Need, never, printed, of}
-use Rattle.ix_meaning.specs.Annotated.{Declaration, variable}
+use Rattle.ix_meaning.specs.Annotated.{Declaration, variable, of_variable}
 use Rattle.ix_meaning.specs.Declarators.{declarators}
 use Rattle.ix_meaning.specs.Scope.{Scope, Known, meant, annot_names}
 use Rattle.ix_meaning.specs.Rules.{duplicate_name, no_value, break_outside}
@@ -74,9 +74,9 @@ own_names d s = annot_names s (Some (name.Local s.next)) (Some d.name.text)
 abbrev pub local_declaration : LocalDecl → Scope → Declaration
 local_declaration d s = variable s.world.class (own_names d s) d.mods.annots d.ty
 
-abbrev pub declares_note : Span → Option Ty → List Claim → Bool → List Note
-declares_note p None claims free = []
-declares_note p (Some t) claims free = Declares p (record { ty = t; claims = record { list = claims; effect_free = free } }) ∷ []
+abbrev pub declares_note : Span → Option Ty → Claims → List Note
+declares_note p None claims = []
+declares_note p (Some t) claims = Declares p (record { ty = t; claims = claims }) ∷ []
 
 abbrev pub is_taken : Scope → Ident → Bool
 is_taken s name = is_some (meant name.text s.names)
@@ -96,7 +96,7 @@ declared d = record {
   notes = λ s.
       (local_declaration d s).notes
       ++ (duplicate_name (is_taken s d.name) d.name.span
-      ++ (declares_note d.name.span (local_declaration d s).ty (local_declaration d s).claims false
+      ++ (declares_note d.name.span (local_declaration d s).ty (of_variable (local_declaration d s).claims)
       ++ init_notes d.init (pending d s) (local_declaration d s).ty));
 }
 

@@ -1,5 +1,5 @@
 -- The declarators of one declaration (JLS 8.3, 14.4): its annotations stand for all of them.
-use Rattle.std.specs.Prelude.{ℕ, nat_lt, Bool, false, if◌then◌else◌, Option, Some, None, List, [], ◌∷◌, map, filter}
+use Rattle.std.specs.Prelude.{nat_lt, Bool, false, if◌then◌else◌, Option, Some, None, List, [], ◌∷◌, map, filter}
 use Rattle.ix_annot.specs.Annot.{Annot}
 use Rattle.ix_annot.specs.LocalDecl.{LocalDecl}
 use Rattle.ix_annot.specs.Member.{Member}

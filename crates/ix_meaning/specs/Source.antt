@@ -13,6 +13,7 @@ use Rattle.ix_annot.specs.Member.TheVariants as member
 use Rattle.ix_annot.specs.Expr.{Expr}
 use Rattle.ix_annot.specs.Name.TheVariants as name
 use Rattle.ix_annot.specs.Type_.TheVariants.{Void}
+use Rattle.ix_annot.specs.declared.scope.Target.{Target}
 use Rattle.ix_annot.specs.declared.scope.Target.TheVariants as on
 use Rattle.ix_meaning.specs.declared.note.Meaning.{Meaning}
 use Rattle.ix_meaning.specs.declared.note.Meaning.TheVariants.{Param, FieldNamed, ClassNamed}
@@ -21,10 +22,10 @@ use Rattle.ix_meaning.specs.declared.note.Rule.TheVariants as rule
 use Rattle.ix_meaning.specs.declared.note.Note.TheVariants.{Use}
 use Rattle.ix_meaning.specs.declared.members.Field.{Field}
 use Rattle.ix_meaning.specs.declared.members.Signature.{Signature}
-use Rattle.ix_meaning.specs.Types.{Need, need_like, wrong_if}
+use Rattle.ix_meaning.specs.Types.{Need, is_boolean, need_like, wrong_if}
 use Rattle.ix_meaning.specs.Classes.{first_or, is_cyclic, parents}
 use Rattle.ix_meaning.specs.Declarators as declared
-use Rattle.ix_meaning.specs.Annotated.{Given, given, aimed, Declaration, variable, static_field, of_method, of_result}
+use Rattle.ix_meaning.specs.Annotated.{Given, given, aimed, Declaration, variable, static_field, of_variable, marked, of_method, of_result}
 pub use Rattle.ix_meaning.specs.Members.{next_member, next_fields}
 use Rattle.ix_meaning.specs.Members.{World, world, field_of, methods, signature, param_type, constructor_params}
 use Rattle.ix_meaning.specs.Scope.{Scope, Known, annot_names}
@@ -80,7 +81,7 @@ field_notes l f d =
     wrong_if (is_refused f) rule.NotStatic d.name.span
     ++ (duplicate_name (hides l.world f) d.name.span
     ++ ((field_declaration l f d).notes
-    ++ (declares_note d.name.span f.ty (if f.is_static then [] else (field_declaration l f d).claims) false
+    ++ (declares_note d.name.span f.ty (of_variable (if f.is_static then [] else (field_declaration l f d).claims))
     ++ init_notes d.init (member_scope l (not f.is_static)) f.ty)))
 
 -- ---- parameters (JLS 8.4.1)
@@ -103,7 +104,7 @@ param_notes l s before k [] = []
 param_notes l s before k (d ∷ ds) =
     duplicate_name (is_named_in before d.name.text) d.name.span
     ++ ((param_declaration l s k d).notes
-    ++ (declares_note d.name.span (param_declaration l s k d).ty (param_declaration l s k d).claims false
+    ++ (declares_note d.name.span (param_declaration l s k d).ty (of_variable (param_declaration l s k d).claims)
     ++ param_notes l s (before ++ d ∷ []) (k + 1) ds))
 
 -- ---- methods and constructors (JLS 8.4, 8.8)
@@ -132,8 +133,12 @@ abbrev pub result_of : Place → Scope → List Annot → Option TypeTree → De
 result_of l s annots None = record { ty = Some Void; claims = []; notes = (given (aimed (annot_names s None None) on.Other) annots).notes }
 result_of l s annots (Some ty) = variable l.world.class (annot_names s None None) annots ty
 
+-- what an annotation on a method or constructor stands on
+abbrev pub method_target : Signature → Target
+method_target m = if m.constructor then on.Constructor else if is_boolean m.result then on.BooleanMethod else on.Method
+
 abbrev pub method_given : Place → Scope → Signature → List Annot → Given
-method_given l s m annots = given (aimed (annot_names s None None) (if m.constructor then on.Constructor else on.Method)) (if m.constructor then annots else of_method annots)
+method_given l s m annots = given (aimed (annot_names s None None) (method_target m)) (if m.constructor then annots else of_method annots)
 
 abbrev pub result_given : Place → Scope → Signature → MethodDecl → Declaration
 result_given l s m d = if m.constructor then nothing_declared else result_of l s (of_result d.mods.annots) d.result
@@ -175,7 +180,7 @@ method_notes l m d =
     ++ (inherited_notes l m
     ++ ((result_given l (head_scope l m d) m d).notes
     ++ ((method_given l (head_scope l m d) m d.mods.annots).notes
-    ++ (declares_note d.name.span m.result (result_given l (head_scope l m d) m d).claims (method_given l (head_scope l m d) m d.mods.annots).effect_free
+    ++ (declares_note d.name.span m.result (marked (result_given l (head_scope l m d) m d).claims (method_given l (head_scope l m d) m d.mods.annots))
     ++ (param_notes l (head_scope l m d) [] 0 d.params
     ++ (super_notes l (body_scope l m d) d
     ++ (all_told (map telling d.body)).notes (body_scope l m d)))))))

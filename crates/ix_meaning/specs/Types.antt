@@ -48,6 +48,10 @@ is_primitive (Plain Int) = true
 is_primitive (Plain Boolean) = true
 is_primitive _ = false
 
+abbrev pub is_boolean : Option Ty → Bool
+is_boolean (Some (Plain Boolean)) = true
+is_boolean _ = false
+
 -- the type of an array's elements
 abbrev pub element : Ty → Option Ty
 element (Array b d cs) = if nat_lt 1 d then Some (Array b (d - 1) cs) else Some (Plain b)

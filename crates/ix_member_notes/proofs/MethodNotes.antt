@@ -9,7 +9,7 @@ use Rattle.ix_tree.specs.declared.decl.MethodDecl.{MethodDecl}
 use Rattle.ix_tree.specs.declared.expr.Expr.{Expr}
 use Rattle.ix_meaning.specs.declared.members.Signature.{Signature}
 use Rattle.ix_meaning.specs.declared.note.Note.{Note}
-use Rattle.ix_meaning.specs.Annotated.{Given, Declaration, of_result}
+use Rattle.ix_meaning.specs.Annotated.{Given, Declaration, of_variable, marked, of_result}
 use Rattle.ix_meaning.specs.Bodies.{all_told, telling, declares_note}
 use Rattle.ix_meaning.specs.Rules.{duplicate_name}
 use Rattle.ix_meaning.specs.Scope.{Scope, Known}
@@ -37,7 +37,7 @@ module _ (s : Scope) (ms : List Signature) (name : List ℕ) (extends : Bool) wh
       let l = placed s ms name extends in
       let taken = duplicate_name (source.is_named_in before d.name.text) d.name.span in
       let decl = source.param_declaration l s i d in
-      let says = declares_note d.name.span decl.ty decl.claims false in
+      let says = declares_note d.name.span decl.ty (of_variable decl.claims) in
       let rest = params_notes s (before ++ d ∷ []) (i + 1) ds in
       ap (λ ns. taken ++ (decl.notes ++ (says ++ ns))) (same_param_notes (before ++ d ∷ []) (i + 1) ds)
       ∙ sym (append_assoc taken (decl.notes ++ says) rest ∙ ap (λ ns. taken ++ ns) (append_assoc decl.notes says rest))
@@ -49,7 +49,7 @@ module _ (s : Scope) (ms : List Signature) (name : List ℕ) (extends : Bool) wh
   same_result : (m : Signature) (d : MethodDecl) → source.result_given (placed s ms name extends) s m d ≡ parts.result_given s m d
   same_result m d = ap (λ (x : Declaration). if m.constructor then nothing_declared else x) (same_result_of d.mods.annots d.result)
 
-  same_given_by : (m : Signature) (annots : List Annot) (b : Bool) → m.constructor ≡ b → source.method_given (placed s ms name extends) s m annots ≡ parts.method_given s m.constructor annots
+  same_given_by : (m : Signature) (annots : List Annot) (b : Bool) → m.constructor ≡ b → source.method_given (placed s ms name extends) s m annots ≡ parts.method_given s m annots
   same_given_by m annots true h = rw h refl
   same_given_by m annots false h = rw h refl
 
@@ -68,7 +68,7 @@ module _ (s : Scope) (ms : List Signature) (name : List ℕ) (extends : Bool) wh
   head_is : (m : Signature) (d : MethodDecl) (rest : List Note)
       → (source.result_given (placed s ms name extends) s m d).notes
       ++ ((source.method_given (placed s ms name extends) s m d.mods.annots).notes
-      ++ (declares_note d.name.span m.result (source.result_given (placed s ms name extends) s m d).claims (source.method_given (placed s ms name extends) s m d.mods.annots).effect_free
+      ++ (declares_note d.name.span m.result (marked (source.result_given (placed s ms name extends) s m d).claims (source.method_given (placed s ms name extends) s m d.mods.annots))
       ++ (source.param_notes (placed s ms name extends) s [] 0 d.params ++ rest)))
       ≡ parts.head_notes s m d ++ rest
   head_is m d rest =
@@ -76,11 +76,11 @@ module _ (s : Scope) (ms : List Signature) (name : List ℕ) (extends : Bool) wh
       let given = source.method_given l s m d.mods.annots in
       let params = source.param_notes l s [] 0 d.params in
       let result = parts.result_given s m d in
-      let here = parts.method_given s m.constructor d.mods.annots in
-      let says = declares_note d.name.span m.result result.claims here.effect_free in
+      let here = parts.method_given s m d.mods.annots in
+      let says = declares_note d.name.span m.result (marked result.claims here) in
       let own = params_notes s [] 0 d.params in
-      ap (λ (x : Declaration). x.notes ++ (given.notes ++ (declares_note d.name.span m.result x.claims given.effect_free ++ (params ++ rest)))) (same_result m d)
-      ∙ ap (λ (y : Given). result.notes ++ (y.notes ++ (declares_note d.name.span m.result result.claims y.effect_free ++ (params ++ rest)))) (same_given_by m d.mods.annots m.constructor refl)
+      ap (λ (x : Declaration). x.notes ++ (given.notes ++ (declares_note d.name.span m.result (marked x.claims given) ++ (params ++ rest)))) (same_result m d)
+      ∙ ap (λ (y : Given). result.notes ++ (y.notes ++ (declares_note d.name.span m.result (marked result.claims y) ++ (params ++ rest)))) (same_given_by m d.mods.annots m.constructor refl)
       ∙ ap (λ ps. result.notes ++ (here.notes ++ (says ++ (ps ++ rest)))) (same_param_notes [] 0 d.params)
       ∙ sym (append_assoc result.notes (here.notes ++ (says ++ own)) rest
       ∙ ap (λ ns. result.notes ++ ns) (append_assoc here.notes (says ++ own) rest ∙ ap (λ ns. here.notes ++ ns) (append_assoc says own rest)))
@@ -94,7 +94,7 @@ method_with l ps m d =
     ++ (source.inherited_notes l m
     ++ ((source.result_given l head m d).notes
     ++ ((source.method_given l head m d.mods.annots).notes
-    ++ (declares_note d.name.span m.result (source.result_given l head m d).claims (source.method_given l head m d.mods.annots).effect_free
+    ++ (declares_note d.name.span m.result (marked (source.result_given l head m d).claims (source.method_given l head m d.mods.annots))
     ++ (source.param_notes l head [] 0 d.params
     ++ (source.super_notes l body d
     ++ (all_told (map telling d.body)).notes body))))))

@@ -4,7 +4,7 @@ use Rattle.ix_tree.specs.declared.decl.LocalDecl.{LocalDecl}
 use Rattle.ix_core.specs.declared.claim.Name.TheVariants as name
 use Rattle.ix_meaning.specs.declared.note.Meaning.TheVariants.{Param}
 use Rattle.ix_meaning.specs.declared.note.Note.{Note}
-use Rattle.ix_meaning.specs.Annotated.{Declaration, variable}
+use Rattle.ix_meaning.specs.Annotated.{Declaration, variable, of_variable}
 use Rattle.ix_meaning.specs.Bodies.{declares_note}
 use Rattle.ix_meaning.specs.Members.{World, param_type}
 use Rattle.ix_meaning.specs.Rules.{duplicate_name}
@@ -44,7 +44,7 @@ abbrev pub param_notes : Scope → List LocalDecl → ℕ → LocalDecl → List
 param_notes s before k d =
     duplicate_name (is_named_in before d.name.text) d.name.span
     ++ ((param_declaration s k d).notes
-    ++ declares_note d.name.span (param_declaration s k d).ty (param_declaration s k d).claims false)
+    ++ declares_note d.name.span (param_declaration s k d).ty (of_variable (param_declaration s k d).claims))
 
 abbrev pub params_notes : Scope → List LocalDecl → ℕ → List LocalDecl → List Note
 params_notes s before k [] = []

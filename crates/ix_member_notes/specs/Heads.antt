@@ -3,30 +3,25 @@ use Rattle.std.specs.Prelude.{ℕ, Bool, not, ◌||◌, if◌then◌else◌, Opt
 use Rattle.ix_tree.specs.declared.annot.Annot.{Annot}
 use Rattle.ix_tree.specs.declared.annot.TypeTree.{TypeTree}
 use Rattle.ix_tree.specs.declared.decl.MethodDecl.{MethodDecl}
-use Rattle.ix_annot.specs.declared.scope.Target.{Target}
-use Rattle.ix_annot.specs.declared.scope.Target.TheVariants as on
 use Rattle.ix_core.specs.declared.claim.Type_.TheVariants.{Void}
 use Rattle.ix_meaning.specs.declared.members.Signature.{Signature}
 use Rattle.ix_meaning.specs.declared.note.Note.{Note}
-use Rattle.ix_meaning.specs.Annotated.{Given, given, aimed, Declaration, variable, of_result}
+use Rattle.ix_meaning.specs.Annotated.{Given, given, aimed, Declaration, variable, marked, of_result}
 use Rattle.ix_meaning.specs.Bodies.{all_told, telling, declares_note}
 use Rattle.ix_meaning.specs.Members.{World}
 use Rattle.ix_meaning.specs.Scope.{Scope, annot_names}
-use Rattle.ix_meaning.specs.Source.{nothing_declared, return_need, outside_object}
+use Rattle.ix_meaning.specs.Source.{method_target, nothing_declared, return_need, outside_object}
 use Rattle.ix_written.specs.declared.part.Part.{Part}
 use Rattle.ix_written.specs.declared.part.Part.TheVariants.{All, OfMethod}
 use Rattle.ix_written.specs.Parts.{chosen}
 use Rattle.ix_member_notes.specs.Declarations.{member_scope, params_from, params_notes}
 use Rattle.ix_member_notes.specs.Parents.{super_notes}
 
-abbrev pub target : Bool → Target
-target constructor = if constructor then on.Constructor else on.Method
-
 abbrev pub part : Bool → Part
 part constructor = if constructor then All else OfMethod
 
-abbrev pub method_given : Scope → Bool → List Annot → Given
-method_given s constructor annots = given (aimed (annot_names s None None) (target constructor)) (chosen (part constructor) annots)
+abbrev pub method_given : Scope → Signature → List Annot → Given
+method_given s m annots = given (aimed (annot_names s None None) (method_target m)) (chosen (part m.constructor) annots)
 
 abbrev pub result_of : Scope → List Annot → Option TypeTree → Declaration
 result_of s annots None = record { ty = Some Void; claims = []; notes = (given (annot_names s None None) (of_result annots)).notes }
@@ -38,8 +33,8 @@ result_given s m d = if m.constructor then nothing_declared else result_of s d.m
 abbrev pub head_notes : Scope → Signature → MethodDecl → List Note
 head_notes s m d =
     (result_given s m d).notes
-    ++ ((method_given s m.constructor d.mods.annots).notes
-    ++ (declares_note d.name.span m.result (result_given s m d).claims (method_given s m.constructor d.mods.annots).effect_free
+    ++ ((method_given s m d.mods.annots).notes
+    ++ (declares_note d.name.span m.result (marked (result_given s m d).claims (method_given s m d.mods.annots))
     ++ params_notes s [] 0 d.params))
 
 abbrev pub head_scope : World → ℕ → Signature → MethodDecl → Scope

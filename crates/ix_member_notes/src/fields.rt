@@ -19,7 +19,7 @@ use ix_scopes::{InAnnotation, Scopes, note_declared, wrong_if};
 use ix_text::List;
 use ix_tree::{ClassDecl, Init, LocalDecl};
 use ix_world::{World, field_of};
-use ix_written::{Annotations, Declaration, static_field, variable};
+use ix_written::{Annotations, Declaration, of_variable, static_field, variable};
 use std::alloc::{AllocError, Global};
 
 fn is_refused(field: &Field) -> bool
@@ -161,8 +161,8 @@ fn declared(
     let Declaration { ty: _, claims } = field_declaration(
         alloc, world, notes, number, class, field, own, decl,
     )?;
-    let claims = own_claims(alloc, field, claims);
-    note_declared(alloc, notes, span, &field.ty, claims, false)?;
+    let claims = of_variable(alloc, own_claims(alloc, field, claims));
+    note_declared(alloc, notes, span, &field.ty, claims)?;
     filled(
         alloc,
         world,

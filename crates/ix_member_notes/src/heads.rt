@@ -1,18 +1,21 @@
 //! The head of a method or constructor: its annotations, its result and its parameters (JLS 8.4, 8.8).
 
 ghost use Rattle.std.specs.Prelude.{◌≡◌, ◌++◌, ◌<◌, ◌^◌, length, IfOk, OnOk};
+ghost use Rattle.ix_meaning.specs.Annotated as annotated;
+ghost use Rattle.ix_meaning.specs.Source as source;
+ghost use Rattle.ix_meaning.specs.Types as types;
 ghost use Rattle.ix_scopes.specs.Here.{here};
 ghost use Rattle.ix_member_notes.specs.Heads as parts;
 
 use crate::params::note_params;
-use ix_annot::{Found, Names, Naming, Target};
-use ix_core::{Claim, Name};
+use ix_annot::{Claims, Found, Names, Naming, Target};
+use ix_core::{Base, Claim, Name, Type_};
 use ix_meaning::{Note, Signature};
 use ix_scopes::{InAnnotation, Scopes, note_declared};
 use ix_text::List;
 use ix_tree::{Annot, MethodDecl, TypeTree};
 use ix_world::World;
-use ix_written::{Declaration, Part, gathered, given, variable};
+use ix_written::{Declaration, Marks, Part, distinct_posts, gathered, given, variable};
 use std::alloc::{AllocError, Global};
 
 /// The same names for an annotation on a method or constructor.
@@ -23,9 +26,7 @@ struct OnCallable<'a, N: Names> {
 }
 
 impl<N: Names> Names for OnCallable<'_, N> {
-    ghost use Rattle.ix_meaning.specs.Annotated as spec;
-
-    ghost names = { λ place. spec.aimed (N.names place.names.now) place.target };
+    ghost names = { λ place. annotated.aimed (N.names place.names.now) place.target };
 
     fn found(&self, naming: &Naming) -> Option<Found> {
         self.names.found(naming)
@@ -40,11 +41,21 @@ impl<N: Names> Names for OnCallable<'_, N> {
     }
 }
 
-fn target(constructor: bool) -> Target
-    ensures { result ≡ parts.target constructor }
+fn is_boolean(ty: &Option<Type_>) -> bool
+    ensures { result ≡ types.is_boolean ty.now }
 {
-    if constructor {
+    matches!(ty, Some(Type_::Plain(Base::Bool)))
+}
+
+/// What an annotation on a method or constructor stands on.
+fn target(m: &Signature) -> Target
+    ensures { result ≡ source.method_target m.now }
+{
+    if m.constructor {
         return Target::Constructor;
+    }
+    if is_boolean(&m.result) {
+        return Target::BooleanMethod;
     }
     Target::Method
 }
@@ -58,17 +69,18 @@ fn part(constructor: bool) -> Part
     Part::OfMethod
 }
 
-/// Notes the annotations that speak of the method or constructor, and answers whether one says that it is side-effect-free.
+/// Notes the annotations that speak of the method or constructor, and answers what they say.
 fn method_given<'p>(
     alloc: Global,
     world: &'p World,
     scopes: &'p Scopes<'_>,
     notes: &mut List<Note>,
-    constructor: bool,
+    m: &Signature,
     annots: &[Annot],
-) -> Result<bool, AllocError>
-    ensures effect_free { IfOk result (λ free. free ≡ (parts.method_given (here world.now scopes.now) constructor annots.now).effect_free) }
-    ensures notes { OnOk result (notes.new ≡ notes.old ++ (parts.method_given (here world.now scopes.now) constructor annots.now).notes) }
+) -> Result<Marks, AllocError>
+    ensures effect_free { IfOk result (λ marks. marks.effect_free ≡ (parts.method_given (here world.now scopes.now) m.now annots.now).effect_free) }
+    ensures posts { IfOk result (λ marks. marks.posts ≡ (parts.method_given (here world.now scopes.now) m.now annots.now).posts) }
+    ensures notes { OnOk result (notes.new ≡ notes.old ++ (parts.method_given (here world.now scopes.now) m.now annots.now).notes) }
 {
     let names = InAnnotation {
         world,
@@ -78,10 +90,10 @@ fn method_given<'p>(
     };
     let names = OnCallable {
         names: &names,
-        target: target(constructor),
+        target: target(m),
     };
     let mut claims = List::new(alloc);
-    let annots = gathered(alloc, part(constructor), annots)?;
+    let annots = gathered(alloc, part(m.constructor), annots)?;
     given(alloc, notes, &mut claims, &names, annots.as_slice())
 }
 
@@ -144,6 +156,20 @@ fn result_given(
     result_of(alloc, world, scopes, notes, annots, &decl.result)
 }
 
+/// What a method with these claims on its result is declared with.
+fn marked(alloc: Global, list: List<Claim>, marks: &Marks) -> Result<Claims, AllocError>
+    ensures list { IfOk result (λ claims. claims.list ≡ list) }
+    ensures effect_free { IfOk result (λ claims. claims.effect_free ≡ marks.now.effect_free) }
+    ensures posts { IfOk result (λ claims. claims.posts ≡ annotated.distinct_posts marks.now.posts) }
+{
+    let posts = distinct_posts(alloc, marks.posts.as_slice())?;
+    Ok(Claims {
+        list,
+        effect_free: marks.effect_free,
+        posts,
+    })
+}
+
 /// Notes the annotations, the result and the parameters.
 pub fn head(
     alloc: Global,
@@ -158,7 +184,8 @@ pub fn head(
 {
     let claims = result_given(alloc, world, scopes, notes, m, decl)?;
     let annots = decl.mods.annots.as_slice();
-    let free = method_given(alloc, world, scopes, notes, m.constructor, annots)?;
-    note_declared(alloc, notes, decl.name.span, &m.result, claims, free)?;
+    let marks = method_given(alloc, world, scopes, notes, m, annots)?;
+    let claims = marked(alloc, claims, &marks)?;
+    note_declared(alloc, notes, decl.name.span, &m.result, claims)?;
     note_params(alloc, world, scopes, notes, decl.params.as_slice())
 }

@@ -12,7 +12,7 @@ use ix_scopes::{InAnnotation, Param, Scopes, note_declared, wrong_if};
 use ix_text::List;
 use ix_tree::LocalDecl;
 use ix_world::{World, param_type};
-use ix_written::{Declaration, own_annotations, variable};
+use ix_written::{Declaration, of_variable, own_annotations, variable};
 use std::alloc::{AllocError, Global};
 
 /// The parameters in scope, in their order.
@@ -92,7 +92,7 @@ fn param(
     let taken = is_named_in(before, decl.name.text.as_str());
     wrong_if(notes, taken, Rule::DuplicateName, span)?;
     let Declaration { ty, claims } = param_declaration(alloc, world, scopes, notes, number, decl)?;
-    note_declared(alloc, notes, span, &ty, claims, false)
+    note_declared(alloc, notes, span, &ty, of_variable(alloc, claims))
 }
 
 /// Notes the parameters.

@@ -1,5 +1,5 @@
 -- A weaker store has all errors of a stronger one.
-use Rattle.std.specs.Prelude.{ℕ, pos, List, Option, None, Some}
+use Rattle.std.specs.Prelude.{ℕ, Bool, pos, List, Option, None, Some}
 use Rattle.std.proofs.Common.{inl, inr, ⊎_elim}
 use Rattle.ix_text.specs.declared.span.Span.{Span}
 use Rattle.ix_core.specs.declared.claim.Claim.{Claim}
@@ -30,7 +30,7 @@ use Rattle.ix_facts.proofs.StoreLaws.{below_itself}
 use Rattle.ix_flow.specs.Flow.{Point, Doing, Returning, Ending}
 use Rattle.ix_sign.specs.Names.{variable_at, call_path, object_path, written_path}
 use Rattle.ix_sign.specs.Signs.{Adds, write_facts}
-use Rattle.ix_sign.specs.SignErrors.{Refuses, AllRefuse, IsReached, Unproved, part, ArgumentClaim, ConstructorClaim}
+use Rattle.ix_sign.specs.SignErrors.{Refuses, AllRefuse, IsReached, Unproved, part, ArgumentClaim, ConstructorClaim, PostClaim}
 use Rattle.ix_claim_facts.proofs.SignSteps.{adds_step}
 use Rattle.ix_method.specs.RuleErrors.{AccessLow, AccessHigh, AssignClaim, ElementClaim, KindErrors, PointErrors, subject_of, no_path}
 
@@ -78,6 +78,10 @@ module _ (s t : Stored) (below : IsBelow s t) where
     of = unproved_more _ _ (field_at program x.field).claims 9 method.span (FieldNamed x.field) error rank (λ claim. refuses_more (on_paths (object_path 0) claim) (FieldOf 0 x.field)) x.of;
   }
 
+  post_more : (method : Method) (number : ℕ) (value : Option ℕ) (known : Option Bool) (span : Span) (error : Error) (rank : ℕ) → PostClaim method number value known span s error rank → PostClaim method number value known span t error rank
+  post_more method number value known span error rank x =
+      record { post = x.post; promised = x.promised; counts = x.counts; refused = refuses_more (on_paths (own_path method) x.post.claim) (own_path method x.post.on) x.refused; is = x.is }
+
   reached_more : (a b : Stored) → IsBelow a b → IsReached a → IsReached b
   reached_more Unreachable b down reached = absurd reached
   reached_more (Reached facts) Unreachable down reached = absurd down
@@ -120,10 +124,13 @@ module _ (s t : Stored) (below : IsBelow s t) where
     errors_weaker (Returning value known span) d =
         ⊎_elim
         (λ x. inl (record { slot = x.slot; returned = x.returned; of = unproved_more _ _ method.result_claims 6 span (Result number) error rank (λ claim. refuses_more (on_paths (own_path method) claim) (Slot x.slot)) x.of }))
-        (λ x. inr (constructor_more program method error rank x))
+        (λ y. inr (⊎_elim (λ x. inl (constructor_more program method error rank x)) (λ x. inr (post_more method number value known span error rank x)) y))
         d
     errors_weaker Ending d =
         ⊎_elim
         (λ x. inl (constructor_more program method error rank x))
-        (λ x. inr (record { result = x.result; reached = reached_more s t below x.reached; is = x.is; first = x.first }))
+        (λ y. inr (⊎_elim
+        (λ x. inl (record { result = x.result; reached = reached_more s t below x.reached; is = x.is; first = x.first }))
+        (λ x. inr (post_more method number None None method.span error rank x))
+        y))
         d

@@ -45,6 +45,6 @@ module _ (program : Program) (method : Method) (profile : Profile) where
     nowhere_below = λ s. tt;
     after = λ done. kind_step done.kind done.span.from;
     tested = λ answer test. outcomes_step (outcomes_of answer test);
-    told = λ answer last slot s t u w a b c. below_below s u w (below_below s t u a b) c;
+    told = λ answer last slot. (signs_monotone program method).told last slot answer;
     rounded = λ scope s t u w a b c. (b.0, b.1, gives_step (rounded b.0 scope) (rounded_mono b.0 scope) s t u w a b.2 c);
   }

@@ -16,7 +16,7 @@ use Rattle.ix_facts.specs.Stores.{Stored, Unreachable, IsBelow, Gives, Then, Out
 use Rattle.ix_flow.specs.Flow.{Rules}
 use Rattle.ix_steps.specs.MachineSteps.{own_path}
 use Rattle.ix_sign.specs.Names.{variable_at}
-use Rattle.ix_sign.specs.Signs.{Adds, claims_facts, EntryGives, ReadGives, WriteGives, CallGives, SuperGives}
+use Rattle.ix_sign.specs.Signs.{Adds, claims_facts, EntryGives, ReadGives, WriteGives, CallGives, SuperGives, told_facts}
 
 -- the claims of the variable that a copy goes into
 abbrev pub variable_claims : Option (Name × List Claim) → List Claim
@@ -46,7 +46,7 @@ module _ (program : Program) (method : Method) (profile : Profile) where
 abbrev pub RoundedGives : Program → Method → ℕ → Stored → Stored → Type 0
 RoundedGives program method scope s t = (marks : List ℤ) × AreLandmarksOf program method marks × Gives (rounded marks scope) s t
 
--- The rules of a method. Of a boolean slot no fact speaks, so it tells nothing.
+-- The rules of a method. Of a boolean slot no fact speaks, so it tells nothing by itself; a call that has just answered it may.
 abbrev pub method_rules : Program → Method → Profile → Rules
 method_rules program method profile = record {
   Store = Stored;
@@ -55,6 +55,6 @@ method_rules program method profile = record {
   Entry = EntryGives program method;
   After = AfterGives program method profile;
   Tested = λ answer test. OutcomesGive (outcomes_of answer test);
-  Told = λ answer last slot. IsBelow;
+  Told = λ answer last slot. Adds (told_facts program last slot answer);
   Rounded = RoundedGives program method;
 }

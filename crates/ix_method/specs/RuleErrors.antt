@@ -22,14 +22,14 @@ use Rattle.ix_core.specs.declared.op.Test.{Test}
 use Rattle.ix_core.specs.declared.program.Method.{Method}
 use Rattle.ix_core.specs.declared.program.Program.{Program}
 use Rattle.ix_core.specs.Code.{Code, End, Do, If, Break, Continue, Return, Throw, Loop, Condition, Known, Compare, Truth, Both, Either, Opposite}
-use Rattle.ix_core.specs.Objects.{Names}
+use Rattle.ix_core.specs.Objects.{Names, PostsName}
 use Rattle.ix_core.specs.Tables.{body_of, param_slot}
 use Rattle.ix_facts.specs.AfterOperation.{loaded_claims}
 use Rattle.ix_facts.specs.Stores.{Stored}
 use Rattle.ix_flow.specs.Flow.{Point, Doing, Returning, Ending}
 use Rattle.ix_steps.specs.MachineSteps.{on_paths, own_path}
 use Rattle.ix_sign.specs.Names.{variable_at}
-use Rattle.ix_sign.specs.SignErrors.{Refuses, Unproved, plain, part, ArgumentClaim, ReturnClaim, FieldClaim, FieldDependent, ConstructorClaim, MissingReturn, OverrideErrors, EffectWrite}
+use Rattle.ix_sign.specs.SignErrors.{Refuses, Unproved, plain, part, ArgumentClaim, ReturnClaim, PostClaim, FieldClaim, FieldDependent, ConstructorClaim, MissingReturn, OverrideErrors, EffectWrite}
 
 -- ---- accesses
 
@@ -156,10 +156,10 @@ OpEscapes method done error rank = (method.constructor ≡ true) × EscapesAt (e
 abbrev pub TestEscapes : Method → Test → Error → ℕ → Type 0
 TestEscapes method test error rank = (method.constructor ≡ true) × EscapesAt (escapes_in test) error rank
 
--- named.parameter.assigned: a parameter that a claim of the result names is assigned. Place: the target.
+-- named.parameter.assigned: a parameter that a claim of the result or a post names is assigned. Place: the target.
 pub record AssignsNamed (method : Method) (done : Op) (error : Error) (rank : ℕ) : Type 0 where
   pub number : ℕ
-  pub named : Names method.result_claims (name.Param number)
+  pub named : Names method.result_claims (name.Param number) ⊎ PostsName method.posts (name.Param number)
   pub source : ℕ
   pub ty : Type_
   pub assigns : done.kind ≡ op.Copy (param_slot method number) source ty
@@ -188,8 +188,10 @@ KindErrors program method number done _ store error rank = ⊥
 -- at a `return`, and at the end
 abbrev pub PointErrors : Program → Method → ℕ → Point → Stored → Error → ℕ → Type 0
 PointErrors program method number (Doing done) store error rank = KindErrors program method number done done.kind store error rank
-PointErrors program method number (Returning value known span) store error rank = ReturnClaim method number value span store error rank ⊎ ConstructorClaim program method store error rank
-PointErrors program method number Ending store error rank = ConstructorClaim program method store error rank ⊎ MissingReturn method store error rank
+PointErrors program method number (Returning value known span) store error rank =
+    ReturnClaim method number value span store error rank ⊎ (ConstructorClaim program method store error rank ⊎ PostClaim method number value known span store error rank)
+PointErrors program method number Ending store error rank =
+    ConstructorClaim program method store error rank ⊎ (MissingReturn method store error rank ⊎ PostClaim method number None None method.span store error rank)
 
 -- of an operation and of a test by the text alone
 abbrev pub OpText : Program → Method → Op → Error → ℕ → Type 0

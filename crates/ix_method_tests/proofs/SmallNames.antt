@@ -16,6 +16,7 @@ no_name = record {
   types = omega arith;
   params = λ n p at. let none : None ≡ Some p = at in absurd cc;
   result = tt;
+  posts = tt;
   few_locals = omega arith;
   locals = λ n l at. let none : None ≡ Some l = at in absurd cc;
 }

@@ -117,6 +117,12 @@ fn add_error(text: &mut String, found: &Ranked) -> Result<(), AllocError> {
         Detail::Claim(Subject::Result(method), _) => {
             write!(text, "{rule} at {from} result {method} {rank}; ")?
         }
+        Detail::Claim(Subject::PostField(method, field), _) => {
+            write!(
+                text,
+                "{rule} at {from} post field {method}.{field} {rank}; "
+            )?
+        }
     }
     Ok(())
 }

@@ -1,11 +1,11 @@
 //! Whether the slots of all parameters that are named can be written down.
 
 ghost use Rattle.std.specs.Prelude.{◌≡◌, ◌+◌, ◌<◌, ◌^◌, ◌↔◌, IsTrue};
-ghost use Rattle.ix_core.specs.Objects.{claim_names, offset_names};
-ghost use Rattle.ix_sign.specs.Naming.{IsSmallName, AreSmallNames, AreSmallClaims, AreSmallParams, AreSmallLocals, HasSmallNames, HaveSmallNames};
+ghost use Rattle.ix_core.specs.Objects.{claim_names, offset_names, post_names};
+ghost use Rattle.ix_sign.specs.Naming.{IsSmallName, AreSmallNames, AreSmallClaims, AreSmallParams, AreSmallLocals, AreSmallPosts, HasSmallNames, HaveSmallNames};
 ghost use Rattle.ix_method_tests.specs.SmallLists.{AreSmallMethods, AreSmallFields};
 
-use ix_core::{Claim, Field, Local, Method, Name, Off, Program};
+use ix_core::{Claim, Field, Local, Method, Name, Off, Post, Program};
 use ix_text::Span;
 
 fn is_small(name: &Name) -> bool
@@ -54,6 +54,23 @@ fn are_small(claims: &[Claim]) -> bool
     true
 }
 
+fn post_small(post: &Post) -> bool
+    ensures { IsTrue result ↔ AreSmallNames (post_names post.now) }
+{
+    is_small(&post.on) && names_small(&post.claim)
+}
+
+fn posts_small(posts: &[Post]) -> bool
+    ensures { IsTrue result ↔ AreSmallPosts posts.now }
+{
+    for post in posts {
+        if !post_small(post) {
+            return false;
+        }
+    }
+    true
+}
+
 fn params_small(params: &[Local]) -> bool
     ensures { IsTrue result ↔ AreSmallParams params.now }
 {
@@ -83,6 +100,7 @@ fn is_small_method(method: &Method) -> bool
         && method.param_types.len() < u32::MAX as usize
         && params_small(method.params.as_slice())
         && are_small(method.result_claims.as_slice())
+        && posts_small(method.posts.as_slice())
         && method.locals.len() <= u32::MAX as usize
         && locals_small(method.locals.as_slice())
 }

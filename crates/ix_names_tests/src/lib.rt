@@ -16,6 +16,8 @@ mod members;
 #[cfg(test)]
 mod nested;
 #[cfg(test)]
+mod posts;
+#[cfg(test)]
 mod references;
 #[cfg(test)]
 mod row;

@@ -19,7 +19,7 @@ use Rattle.ix_meaning.specs.declared.members.Field.{Field}
 use Rattle.ix_meaning.specs.declared.members.Signature.{Signature}
 use Rattle.ix_meaning.specs.declared.note.Meaning.TheVariants.{ClassNamed}
 use Rattle.ix_meaning.specs.declared.note.Rule.TheVariants as rule
-use Rattle.ix_meaning.specs.Annotated.{aimed, variable, static_field, names_nothing, target_before, of_method, of_result}
+use Rattle.ix_meaning.specs.Annotated.{aimed, variable, static_field, names_nothing, target_before, of_variable, of_method, of_result}
 use Rattle.ix_meaning.specs.Classes.{parents}
 use Rattle.ix_meaning.specs.Declarators as declared
 use Rattle.ix_meaning.specs.Members.{World, world, methods, field_of, signature, constructor_params}
@@ -52,7 +52,7 @@ module _ (end : ℕ) where
       both (if_wrong _ rule.NotStatic d.name.span h.name)
       (both (if_wrong _ rule.DuplicateName d.name.span h.name)
       (both (field_declaration_stands l f d h)
-      (both (declares_noted d.name.span f.ty _ false) (init_stands end d.init _ f.ty h.init))))
+      (both (declares_noted d.name.span f.ty _) (init_stands end d.init _ f.ty h.init))))
 
   -- ---- methods
 
@@ -62,7 +62,7 @@ module _ (end : ℕ) where
       let own = source.param_declaration l s k d in
       both (if_wrong _ rule.DuplicateName d.name.span h.0.name)
       (both (declaration_stands l.world.class (annot_names s (Some (name.Param k)) None) (target_before d.ty) on.Array d.mods.annots d.ty h.0.annots h.0.ty)
-      (both (declares_noted d.name.span own.ty own.claims false) (params_stand l s (before ++ d ∷ []) (k + 1) ds h.1)))
+      (both (declares_noted d.name.span own.ty (of_variable own.claims)) (params_stand l s (before ++ d ∷ []) (k + 1) ds h.1)))
 
   result_stands : (l : Place) (s : Scope) (annots : List Annot) (ty : Option TypeTree) → AnnotsStand end annots → IfSome (TypeNodes (InText end)) ty → Stand end (source.result_of l s annots ty).notes
   result_stands l s annots None a h = given_stand (aimed (annot_names s None None) on.Other) annots a
@@ -126,7 +126,7 @@ module _ (end : ℕ) where
       (both (both (if_wrong _ rule.DuplicateName m.span at) (if_wrong _ rule.TypeMismatch m.span at))
       (both (result_given_stands l head m d h)
       (both (method_given_stands l head m d.mods.annots h.annots)
-      (both (declares_noted d.name.span m.result _ _)
+      (both (declares_noted d.name.span m.result _)
       (both (params_stand l head [] 0 d.params h.params)
       (both (super_stands l body d h) (body_stands end d.body h.body body)))))))
 

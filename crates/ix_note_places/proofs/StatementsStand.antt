@@ -4,8 +4,8 @@ use Rattle.std.proofs.lemmas.Bool.{ltb-true}
 use Rattle.std.specs.List.{AllByRecursion}
 use Rattle.std.specs.Prelude.{if◌then◌else◌, nat_lt}
 use Rattle.ix_text.specs.declared.span.Span.{Span}
-use Rattle.ix_core.specs.declared.claim.Claim.{Claim}
 use Rattle.ix_core.specs.declared.claim.Type_.{Type_}
+use Rattle.ix_annot.specs.declared.scope.Claims.{Claims}
 use Rattle.ix_annot.specs.declared.scope.Target.TheVariants as on
 use Rattle.ix_tree.specs.declared.decl.LocalDecl.{LocalDecl}
 use Rattle.ix_tree.specs.declared.expr.Expr.{Expr}
@@ -15,7 +15,7 @@ use Rattle.ix_tree.specs.declared.stmt.StmtKind.{StmtKind, StmtKind-F, map-StmtK
 use Rattle.ix_tree.specs.Placed as placed
 use Rattle.ix_tree.specs.Placed.{Layout, row, annot_piece, type_piece, expr_piece, init_piece, stmt_piece, shared_pieces, own_pieces, further_pieces}
 use Rattle.ix_meaning.specs.declared.note.Rule.TheVariants as rule
-use Rattle.ix_meaning.specs.Annotated.{target_before}
+use Rattle.ix_meaning.specs.Annotated.{target_before, of_variable}
 use Rattle.ix_meaning.specs.Bodies as bodies
 use Rattle.ix_meaning.specs.Bodies.{Telling, telling, kind_telling, all_told, all_declared, declares_note, init_notes}
 use Rattle.ix_meaning.specs.Declarators.{declarators}
@@ -32,9 +32,9 @@ use Rattle.ix_note_places.proofs.ExpressionsStand.{check_stands, expression_stan
 
 -- ---- declarations of variables
 
-pub declares_noted : {end : ℕ} (span : Span) (ty : Option Type_) (claims : List Claim) (free : Bool) → Stand end (declares_note span ty claims free)
-declares_noted span None claims free = none
-declares_noted span (Some ty) claims free = record { all = (tt, tt) }
+pub declares_noted : {end : ℕ} (span : Span) (ty : Option Type_) (claims : Claims) → Stand end (declares_note span ty claims)
+declares_noted span None claims = none
+declares_noted span (Some ty) claims = record { all = (tt, tt) }
 
 module _ (end : ℕ) where
   pub init_stands : (init : Option Init) (s : Scope) (ty : Option Type_) → IfSome (InitNodes (InText end)) init → Stand end (init_notes init s ty)
@@ -50,7 +50,7 @@ module _ (end : ℕ) where
   declared_stands d h s =
       let l = bodies.local_declaration d s in
       both (declaration_stands s.world.class (bodies.own_names d s) (target_before d.ty) on.Array d.mods.annots d.ty h.annots h.ty)
-      (both (if_wrong _ rule.DuplicateName d.name.span h.name) (both (declares_noted d.name.span l.ty l.claims false) (init_stands d.init (bodies.pending d s) l.ty h.init)))
+      (both (if_wrong _ rule.DuplicateName d.name.span h.name) (both (declares_noted d.name.span l.ty (of_variable l.claims)) (init_stands d.init (bodies.pending d s) l.ty h.init)))
 
   then_stand : (t u : Telling) → TellsStand t → TellsStand u → TellsStand (bodies.then_told t u)
   then_stand t u a b s = both (a s) (b (bodies.after t s))

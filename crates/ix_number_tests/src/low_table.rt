@@ -71,8 +71,9 @@ fn keys_of_rules(rt: HostRuntime) {
     let rows = &[
         (1, Some("access.low")),
         (17, Some("missing.return")),
+        (18, Some("post.claim")),
         (0, None),
-        (18, None),
+        (19, None),
     ];
     let table = key_table();
     for &(rule, key) in rows {

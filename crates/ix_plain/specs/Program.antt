@@ -1,11 +1,12 @@
 -- What a whole source becomes (JLS 8).
-use Rattle.std.specs.Prelude.{ℕ, Bool, true, false, if◌then◌else◌, List, [], ◌∷◌, ◌++◌, map, nat_lt, Option, Some, None, option_map, Result, Ok, Err}
+use Rattle.std.specs.Prelude.{ℕ, Bool, true, false, ◌||◌, if◌then◌else◌, List, [], ◌∷◌, ◌++◌, map, nat_lt, Option, Some, None, option_map, Result, Ok, Err}
 use Rattle.ix_text.specs.declared.span.Span.{Span}
+use Rattle.ix_core.specs.declared.claim.Post.{Post}
 use Rattle.ix_core.specs.declared.claim.Type_.TheVariants.{Void}
 use Rattle.ix_core.specs.declared.op.OpKind.TheVariants as op
-use Rattle.ix_core.specs.declared.program.Local.{Local}
 use Rattle.ix_core.specs.declared.program.Method.{Method}
 use Rattle.ix_core.specs.declared.program.Program.{Program}
+use Rattle.ix_core.specs.Posts.{some_conditional}
 use Rattle.ix_tree.specs.declared.decl.ClassDecl.{ClassDecl}
 use Rattle.ix_tree.specs.declared.decl.LocalDecl.{LocalDecl}
 use Rattle.ix_tree.specs.declared.decl.Member.{Member}
@@ -16,14 +17,14 @@ use Rattle.ix_tree.specs.declared.expr.Init.{Init}
 use Rattle.ix_tree.specs.declared.stmt.Stmt.{Stmt}
 use Rattle.ix_meaning.specs.declared.note.Which.TheVariants as which
 use Rattle.ix_meaning.specs.Classes.{parent}
-use Rattle.ix_meaning.specs.Inheritance.{overridden}
+use Rattle.ix_meaning.specs.Inheritance.{if_instance, overridden}
 use Rattle.ix_meaning.specs.Limits.{Passed}
 use Rattle.ix_meaning.specs.Members.{World, Callee, world, signature}
 use Rattle.ix_meaning.specs.Resolved.{Names}
 use Rattle.ix_meaning.specs.Source.{has_constructor}
 use Rattle.ix_plain.specs.declared.body.Body.{Body}
 use Rattle.ix_plain.specs.declared.body.Head.{Head}
-use Rattle.ix_plain.specs.Scope.{Site, constructor_at, declared_type, declared_claims, is_effect_free}
+use Rattle.ix_plain.specs.Scope.{Site, constructor_at, declared_type, declared_claims, declared_posts, is_effect_free}
 use Rattle.ix_plain.specs.Parts.{Within, ◌>>=◌, empty, block, done}
 use Rattle.ix_plain.specs.Assigned.{all_assign}
 use Rattle.ix_plain.specs.Values.{lowering, filling, arguments_from, calling}
@@ -51,8 +52,16 @@ pub record Home : Type 0 where
   -- the number of its first field
   pub field : ℕ
 
-abbrev pub site : Tables → Home → List Local → Site
-site tables home params = record { names = tables.names; heads = tables.heads; constructors = tables.constructors; class = home.class; params = params }
+-- what the body of a method with that head stands in
+abbrev pub site : Tables → Home → Method → Site
+site tables home head = record {
+  names = tables.names;
+  heads = tables.heads;
+  constructors = tables.constructors;
+  class = home.class;
+  params = head.params;
+  answers = some_conditional head.posts;
+}
 
 -- ---- what a constructor begins with (JLS 12.5)
 
@@ -126,6 +135,20 @@ number_of callee = option_map (λ callee. callee.number) callee
 abbrev pub overrides : World → ℕ → MethodDecl → Option ℕ
 overrides world class decl = number_of (overridden world (signature world.class class decl))
 
+-- what a method promises by itself
+abbrev pub posts_of : Names → Option Callee → List Post
+posts_of names None = []
+posts_of names (Some callee) = declared_posts (names.declared callee.signature.span)
+
+-- what the instance methods of that name in these classes promise
+abbrev pub posts_in : Tables → List ℕ → List ℕ → List Post
+posts_in tables name [] = []
+posts_in tables name (class ∷ classes) = posts_of tables.names (if_instance (tables.world.method class name)) ++ posts_in tables name classes
+
+-- what the methods promise that it overrides, the nearest first
+abbrev pub upper_posts : Tables → ℕ → MethodDecl → List Post
+upper_posts tables class decl = if decl.constructor || decl.mods.is_static then [] else posts_in tables decl.name.text (tables.world.supers class)
+
 -- a written method, without its body
 abbrev pub written_head : Tables → Home → MethodDecl → Method
 written_head tables home decl = record {
@@ -138,6 +161,7 @@ written_head tables home decl = record {
   param_types = param_types_from tables.names [] decl.params;
   result = declared_type (tables.names.declared decl.name.span);
   result_claims = declared_claims (tables.names.declared decl.name.span);
+  posts = declared_posts (tables.names.declared decl.name.span) ++ upper_posts tables home.class decl;
   locals = [];
   slots = 0;
   body = record { items = [] };
@@ -148,7 +172,7 @@ written_head tables home decl = record {
 
 abbrev pub written : Tables → Home → MethodDecl → Method → Within Method
 written tables home decl head =
-    limited decl.body (written_body (site tables home head.params) home decl (slot_behind (first_param (is_static decl)) decl.params)) head
+    limited decl.body (written_body (site tables home head) home decl (slot_behind (first_param (is_static decl)) decl.params)) head
 
 abbrev pub written_method : Tables → Home → MethodDecl → Within Method
 written_method tables home decl = written tables home decl (written_head tables home decl)
@@ -165,6 +189,7 @@ default_head home span = record {
   param_types = [];
   result = Void;
   result_claims = [];
+  posts = [];
   locals = [];
   slots = 0;
   body = record { items = [] };
@@ -174,7 +199,7 @@ default_head home span = record {
 }
 
 abbrev pub default : Tables → Home → Span → Within Method
-default tables home span = limited [] (constructor_start (site tables home []) home [] span (start 1)) (default_head home span)
+default tables home span = limited [] (constructor_start (site tables home (default_head home span)) home [] span (start 1)) (default_head home span)
 
 -- ---- all methods, each behind those before it; the first that passes a limit is refused at its place
 

@@ -3,6 +3,7 @@ use Rattle.std.specs.Prelude.{ℕ, ◌==◌, Bool, true, false, if◌then◌else
 use Rattle.ix_text.specs.declared.span.Span.{Span}
 use Rattle.ix_core.specs.declared.claim.Base.TheVariants.{Class}
 use Rattle.ix_core.specs.declared.claim.Claim.{Claim}
+use Rattle.ix_core.specs.declared.claim.Post.{Post}
 use Rattle.ix_core.specs.declared.claim.Type_.{Type_}
 use Rattle.ix_core.specs.declared.claim.Type_.TheVariants.{Void, Plain}
 use Rattle.ix_core.specs.declared.program.Local.{Local}
@@ -24,6 +25,8 @@ pub record Site : Type 0 where
   pub class : ℕ
   -- the parameters of the method, by their numbers
   pub params : List Local
+  -- whether it promises something of one answer, so that each answer is written out where it is returned
+  pub answers : Bool
 
 -- What a full expression stands in.
 pub record Scope : Type 0 where
@@ -87,6 +90,10 @@ declared_type (Some declared) = declared.ty
 abbrev pub declared_claims : Option Declared → List Claim
 declared_claims None = []
 declared_claims (Some declared) = declared.claims.list
+
+abbrev pub declared_posts : Option Declared → List Post
+declared_posts None = []
+declared_posts (Some declared) = declared.claims.posts
 
 abbrev pub is_effect_free : Option Declared → Bool
 is_effect_free None = false

@@ -1,11 +1,12 @@
 -- What statements become (JLS 14).
-use Rattle.std.specs.Prelude.{ℕ, ◌+◌, true, false, if◌then◌else◌, max, List, [], ◌∷◌, ◌++◌, nat_lt, Option, Some, None, Ok, Err}
+use Rattle.std.specs.Prelude.{ℕ, ◌+◌, Bool, true, false, if◌then◌else◌, max, List, [], ◌∷◌, ◌++◌, nat_lt, Option, Some, None, Ok, Err}
 use Rattle.ix_text.specs.declared.span.Span.{Span}
 use Rattle.ix_core.specs.declared.claim.Type_.{Type_}
 use Rattle.ix_core.specs.declared.code.Block.{Block}
 use Rattle.ix_core.specs.declared.code.Cond.{Cond}
 use Rattle.ix_core.specs.declared.code.Cond as cond
 use Rattle.ix_core.specs.declared.code.Item.{Item, If, Break, Continue, Return, Throw, Loop}
+use Rattle.ix_core.specs.declared.op.Literal.TheVariants as literal
 use Rattle.ix_core.specs.declared.op.OpKind.TheVariants as op
 use Rattle.ix_tree.specs.declared.annot.Ident.{Ident}
 use Rattle.ix_tree.specs.declared.decl.LocalDecl.{LocalDecl}
@@ -17,7 +18,7 @@ use Rattle.ix_meaning.specs.declared.note.Which.TheVariants as which
 use Rattle.ix_plain.specs.declared.body.Body.{Body}
 use Rattle.ix_plain.specs.declared.made.Spot.TheVariants as spot
 use Rattle.ix_plain.specs.Scope.{Site, Scope, declared_type, declared_claims}
-use Rattle.ix_plain.specs.Parts.{Within, ◌>>=◌, Value, empty, with_item, block, done, computed, write, default, most_slots}
+use Rattle.ix_plain.specs.Parts.{Within, ◌>>=◌, Value, empty, with_item, block, done, taking, computed, write, default, most_slots}
 use Rattle.ix_plain.specs.Assigned.{Adding, assigns, init_assigns}
 use Rattle.ix_plain.specs.Values.{lowering, filling}
 
@@ -196,10 +197,24 @@ counted first condition update turn end site body = do
 
 -- ---- all forms
 
+-- an answer that is written out and returned
+abbrev pub answer : Bool → ℕ → Span → Block
+answer holds slot span = record { items = done (op.Const slot (literal.Bool holds)) span [] ∷ Return (Some slot) span ∷ [] }
+
+abbrev pub answer_item : Cond → ℕ → Span → Item
+answer_item asked slot span = If asked (answer true slot span) (answer false slot span)
+
+-- Each answer is returned by itself, in the first slot that is free behind the condition.
+abbrev pub answered : Site → Expr → Body → Within Body
+answered site expr body = do
+  asked ← (lowering expr).condition (scope_for site body (assigns expr).inside) body.made.free
+  value ← taking (record { items = body.made.items; free = asked.free }) (answer_item asked.cond asked.free expr.span)
+  Ok (behind body value.made.items value.made.free)
+
 -- The place of a value's return is the value.
 abbrev pub returned : Option Expr → Span → Site → Body → Within Body
 returned None span site body = Ok (with_last body (Return None span))
-returned (Some expr) span site body = used site expr (λ slot. Return (Some slot) expr.span) body
+returned (Some expr) span site body = if site.answers then answered site expr body else used site expr (λ slot. Return (Some slot) expr.span) body
 
 abbrev pub printed : Expr → Site → Body → Within Body
 printed expr site body = used site expr (λ slot. done (op.Print slot) expr.span []) body

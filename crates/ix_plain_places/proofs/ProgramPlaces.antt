@@ -117,10 +117,10 @@ module _ (P : Span → Type 0) where
   written_made : (tables : Tables) (home : Home) (d : MethodDecl) → AllByRecursion (MemberNodes P) home.members → MethodNodes P d → Makes (MethodPlaces P) (program.written_method tables home d)
   written_made tables home d n m =
       let head = program.written_head tables home d in
-      method_made d.body _ head m.name (written_body (program.site tables home head.params) home d (slot_behind (first_param (is_static d)) d.params) n m)
+      method_made d.body _ head m.name (written_body (program.site tables home head) home d (slot_behind (first_param (is_static d)) d.params) n m)
 
   default_made : (tables : Tables) (home : Home) (span : Span) → AllByRecursion (MemberNodes P) home.members → P span → Makes (MethodPlaces P) (program.default tables home span)
-  default_made tables home span n p = method_made [] _ (program.default_head home span) p (constructor_made (program.site tables home []) home [] span (start 1) n tt p tt)
+  default_made tables home span n p = method_made [] _ (program.default_head home span) p (constructor_made (program.site tables home (program.default_head home span)) home [] span (start 1) n tt p tt)
 
   -- ---- all methods; what holds of a span holds so of where it starts
 

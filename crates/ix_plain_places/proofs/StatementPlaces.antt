@@ -6,6 +6,7 @@ use Rattle.ix_text.specs.declared.span.Span.{Span}
 use Rattle.ix_core.specs.declared.claim.Type_.{Type_}
 use Rattle.ix_core.specs.declared.code.Item.{Item}
 use Rattle.ix_core.specs.declared.code.Item.TheVariants as item
+use Rattle.ix_core.specs.declared.op.Literal.TheVariants as literal
 use Rattle.ix_core.specs.declared.op.OpKind.TheVariants as op
 use Rattle.ix_tree.specs.declared.annot.Ident.{Ident}
 use Rattle.ix_tree.specs.declared.decl.LocalDecl.{LocalDecl}
@@ -31,7 +32,7 @@ use Rattle.ix_node_places.specs.EachNode.{EachNode, IfSome, ExprNodes, InitNodes
 use Rattle.ix_node_places.proofs.LaidNodes.{nodes_first, nodes_rows, nodes_piece, nodes_alone, nodes_maybe, nodes_each}
 use Rattle.ix_node_places.proofs.PlacedNodes.{locals_nodes}
 use Rattle.ix_plain_places.proofs.ItemPlaces.{ItemPlaces, ItemsPlaces, CondPlaces, done_places, if_places, loop_places}
-use Rattle.ix_plain_places.proofs.ExpressionPlaces.{MadePlaces, ValuePlaces, item_made, computed_made, write_place, expression_places, initialiser_places}
+use Rattle.ix_plain_places.proofs.ExpressionPlaces.{MadePlaces, ValuePlaces, item_made, taking_made, computed_made, write_place, expression_places, initialiser_places}
 
 module _ (P : Span → Type 0) where
   abbrev pub BodyPlaces : Body → Type 0
@@ -189,9 +190,25 @@ module _ (P : Span → Type 0) where
 
   -- ---- all forms
 
+  answer_places : (holds : Bool) (slot : ℕ) (span : Span) → P span → ItemsPlaces P (statements.answer holds slot span).items
+  answer_places holds slot span p = (done_places P (op.Const slot (literal.Bool holds)) span [] p tt tt, ((p, tt), tt))
+
+  answered_made : (site : Site) (e : Expr) (body : Body) → ExprNodes P e → BodyPlaces body → Makes BodyPlaces (statements.answered site e body)
+  answered_made site e body n b =
+      makes_then (λ (a : Asked). CondPlaces P a.cond) BodyPlaces
+      ((lowering e).condition (scope_for site body (assigns e).inside) body.made.free) _ ((expression_places P e n).condition (scope_for site body (assigns e).inside) body.made.free)
+      (λ asked c. makes_then (ValuePlaces P) BodyPlaces _ _
+      (taking_made P (record { items = body.made.items; free = asked.free }) (statements.answer_item asked.cond asked.free e.span) b
+      (if_places P asked.cond (statements.answer true asked.free e.span) (statements.answer false asked.free e.span) c (answer_places true asked.free e.span (expr_own e n)) (answer_places false asked.free e.span (expr_own e n))))
+      (λ v m. m))
+
   returned_made : (value : Option Expr) (span : Span) (site : Site) (body : Body) → P span → IfSome (ExprNodes P) value → BodyPlaces body → Makes BodyPlaces (statements.returned value span site body)
   returned_made None span site body p n b = last_made body (item.Return None span) b (p, tt)
-  returned_made (Some e) span site body p n b = used_made (evaluated site e body) (λ v. item.Return (Some v.slot) e.span) (evaluated_made site e body n b) (λ v. (expr_own e n, tt))
+  returned_made (Some e) span site body p n b = answers_or_not site.answers
+    where
+      answers_or_not : (answers : Bool) → Makes BodyPlaces (if answers then statements.answered site e body else statements.used site e (λ slot. item.Return (Some slot) e.span) body)
+      answers_or_not true = answered_made site e body n b
+      answers_or_not false = used_made (evaluated site e body) (λ v. item.Return (Some v.slot) e.span) (evaluated_made site e body n b) (λ v. (expr_own e n, tt))
 
   abbrev kind_run : StmtKind → Span → Run
   kind_run = fold-StmtKind (Span → Run) Running statements.kind_step statements.stmt_step

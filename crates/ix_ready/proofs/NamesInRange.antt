@@ -1,5 +1,5 @@
 -- The claims of a formed program name parameters that are there.
-use Rattle.std.specs.Prelude.{◌≡◌, ℕ, zero, suc, ◌+◌, ◌≤◌, ◌<◌, ◌^◌, ◌==◌, Bool, true, false, ◌&&◌, if◌then◌else◌, List, [], ◌∷◌, length, slice_get, Option, None, Some, unwrap_or, refl}
+use Rattle.std.specs.Prelude.{◌≡◌, ℕ, zero, suc, ◌+◌, ◌≤◌, ◌<◌, ◌^◌, ◌==◌, Bool, true, false, not, ◌&&◌, ◌||◌, if◌then◌else◌, List, [], ◌∷◌, length, slice_get, Option, None, Some, unwrap_or, refl}
 use Rattle.std.specs.List.{list_all}
 use Rattle.std.proofs.Common.{arith, ap, subst}
 use Rattle.std.proofs.lemmas.Bool.{and_parts, false≢true}
@@ -12,18 +12,19 @@ use Rattle.ix_core.specs.declared.claim.Name.{Name}
 use Rattle.ix_core.specs.declared.claim.Name.TheVariants.{Param, Local, FieldNamed}
 use Rattle.ix_core.specs.declared.claim.Off.{Off}
 use Rattle.ix_core.specs.declared.claim.Off.TheVariants as off
+use Rattle.ix_core.specs.declared.claim.Post.{Post}
 use Rattle.ix_core.specs.declared.claim.Type_.{Type_}
 use Rattle.ix_core.specs.declared.program.Field.{Field}
 use Rattle.ix_core.specs.declared.program.Local.{Local as Variable}
 use Rattle.ix_core.specs.declared.program.Method.{Method}
 use Rattle.ix_core.specs.declared.program.Program.{Program}
-use Rattle.ix_core.specs.Formed.{at_most, is_int_of, is_array_of, claim_fits, offset_fits, others, named_type, local_named_type, params_fit, locals_fit, result_fits, fields_fit, field_type_of_name, is_target}
+use Rattle.ix_core.specs.Formed.{at_most, is_int_of, is_array_of, claim_fits, offset_fits, others, named_type, local_named_type, params_fit, locals_fit, result_fits, fields_fit, field_type_of_name, is_target, has_no_posts, post_fits, posts_fit}
 use Rattle.ix_core.specs.Objects.{claim_names, offset_names}
 use Rattle.ix_core.specs.SameClaims.{same_name}
 use Rattle.ix_core.specs.Tables.{no_field, param_slot, param_slots}
-use Rattle.ix_core.specs.Types.{is_class, is_type, is_empty, is_void, is_int_type, is_array_type}
+use Rattle.ix_core.specs.Types.{int_type, is_class, is_type, is_empty, is_void, is_int_type, is_array_type}
 use Rattle.ix_core.proofs.Cases.{by_test}
-use Rattle.ix_claim_facts.specs.Naming.{IsSmallName, AreSmallNames, AreSmallClaims, AreSmallParams, AreSmallLocals}
+use Rattle.ix_claim_facts.specs.Naming.{IsSmallName, AreSmallNames, AreSmallClaims, AreSmallParams, AreSmallLocals, AreSmallPosts}
 
 pub most_is : (count most : ℕ) → at_most count most ≡ true → count ≤ most
 most_is count most e = grind (arith, nat_tests)
@@ -138,6 +139,18 @@ module _ (program : Program) (method : Method) (few : length method.param_types 
       none_small : (claims : List Claim) → is_empty claims ≡ true → AreSmallClaims claims
       none_small [] e = tt
       none_small (claim ∷ claims) e = absurd (false≢true e)
+
+  posts_small : (posts : List Post) → list_all (post_fits program method) posts ≡ true → AreSmallPosts posts
+  posts_small [] fits = tt
+  posts_small (post ∷ posts) fits =
+      let one = and_parts (post_fits program method post) (list_all (post_fits program method) posts) fits in
+      let two = and_parts (is_int_of (named_type program method post.on)) (claim_fits int_type (named_type program method) post.claim) one.0 in
+      ((int_small (named_type program method) named_small post.on two.0, claim_small (named_type program method) named_small int_type post.claim two.1), posts_small posts one.1)
+
+  pub promises_small : posts_fit program method ≡ true → AreSmallPosts method.posts
+  promises_small fits =
+      let one = and_parts (not method.constructor || has_no_posts method.posts) _ fits in
+      posts_small method.posts (and_parts (list_all (post_fits program method) method.posts) _ one.1).0
 
 -- ---- how many parameters there are
 

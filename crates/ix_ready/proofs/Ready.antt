@@ -13,13 +13,13 @@ use Rattle.ix_core.specs.Formed.{Formed, at_most, params_fit, locals_fit, result
 use Rattle.ix_core.specs.Tables.{no_method, method_at, body_of, param_slots}
 use Rattle.ix_core.specs.Types.{is_class}
 use Rattle.ix_core.proofs.Cases.{by_test}
-use Rattle.ix_core.proofs.FormedParts.{locals_of, method_is, fields_all}
+use Rattle.ix_core.proofs.FormedParts.{locals_of, method_is, posts_are, fields_all}
 use Rattle.ix_graph.specs.Graph.{method_parts}
 use Rattle.ix_graph.specs.Heads.{AreInOrder}
 use Rattle.ix_claim_facts.specs.Naming.{HasSmallNames, HaveSmallNames}
 use Rattle.ix_ready.specs.Few.{HasFew}
 use Rattle.ix_ready.proofs.LoopsInOrder.{body_in_order}
-use Rattle.ix_ready.proofs.NamesInRange.{params_small, locals_small, result_small, as_many_types, few_params, fields_small}
+use Rattle.ix_ready.proofs.NamesInRange.{params_small, locals_small, result_small, promises_small, as_many_types, few_params, fields_small}
 
 module _ (program : Program) (formed : Formed program) where
   abbrev at : ℕ → Method
@@ -64,7 +64,7 @@ module _ (program : Program) (formed : Formed program) where
   past_method number le = ap (λ o. unwrap_or o no_method) (slice_get_past program.methods number le)
 
   no_names : HasSmallNames no_method
-  no_names = record { few = omega arith; types = omega arith; params = λ n p is. absurd cc; result = tt; few_locals = omega arith; locals = λ n l is. absurd cc }
+  no_names = record { few = omega arith; types = omega arith; params = λ n p is. absurd cc; result = tt; posts = tt; few_locals = omega arith; locals = λ n l is. absurd cc }
 
   method_small : (number : ℕ) → number < length program.methods → length (at number).locals < 2 ^ 32 → HasSmallNames (at number)
   method_small number lt few_locals =
@@ -78,6 +78,7 @@ module _ (program : Program) (formed : Formed program) where
         types = omega (arith, types_few);
         params = params_small program method types_few 0 method.params method.param_types has.params;
         result = result_small program method types_few has.result;
+        posts = promises_small program method types_few (posts_are program formed.0 formed.1 number lt);
         few_locals = few_locals;
         locals = locals_small program method types_few (types_at number) 0 method.locals (types_at number) has.locals;
       }

@@ -11,7 +11,7 @@ ghost use Rattle.ix_world.specs.World as tables;
 
 use crate::scope::Scopes;
 use ix_annot::Claims;
-use ix_core::{Base, Claim, Type_};
+use ix_core::{Base, Type_};
 use ix_meaning::{Declared, Field, Meaning, NameError, Note, Rule};
 use ix_text::{List, Span};
 use ix_types::{Need, copied, copied_option, is_among, is_primitive, is_reference, same_type};
@@ -77,13 +77,11 @@ pub fn note_declared(
     notes: &mut List<Note>,
     span: Span,
     ty: &Option<Type_>,
-    list: List<Claim>,
-    effect_free: bool,
+    claims: Claims,
 ) -> Result<(), AllocError>
-    ensures { OnOk result (notes.new ≡ notes.old ++ declares_note span ty.now list effect_free) }
+    ensures { OnOk result (notes.new ≡ notes.old ++ declares_note span ty.now claims) }
 {
     if let Some(ty) = copied_option(alloc, ty)? {
-        let claims = Claims { list, effect_free };
         notes.push(Note::Declares(span, Declared { ty, claims }))?;
     }
     Ok(())

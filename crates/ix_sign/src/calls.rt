@@ -12,8 +12,8 @@ use ix_core::{CallOp, Method, Program};
 use ix_store::Store;
 use std::alloc::{AllocError, Global};
 
-/// The store behind a call, `new` included: without what it may change, and with what the claims of the named method's result say (JLS 15.9.4, 15.12.4). The
-/// only error is want of memory.
+/// The store behind a call, `new` included: without what it may change, and with what the claims of the named method's result and its posts say (JLS 15.9.4,
+/// 15.12.4). The only error is want of memory.
 pub fn after_call(
     alloc: Global,
     store: &Store,

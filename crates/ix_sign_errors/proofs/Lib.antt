@@ -2,3 +2,4 @@
 pub mod Refused
 mod WritesRefused
 mod OverridesRefused
+mod PostsRefused

@@ -1,8 +1,9 @@
 -- The errors of claims as lists.
-use Rattle.std.specs.Prelude.{ℕ, suc, Bool, true, cond, not, ◌&&◌, ◌==◌, List, [], ◌∷◌, ◌++◌}
+use Rattle.std.specs.Prelude.{ℕ, suc, Bool, true, cond, not, ◌&&◌, ◌==◌, List, [], ◌∷◌, ◌++◌, Option}
 use Rattle.ix_text.specs.declared.span.Span.{Span}
 use Rattle.ix_core.specs.declared.claim.Claim.{Claim}
 use Rattle.ix_core.specs.declared.claim.Name.{Name}
+use Rattle.ix_core.specs.declared.claim.Post.{Post}
 use Rattle.ix_core.specs.declared.error.Subject.{Subject}
 use Rattle.ix_core.specs.declared.error.Subject.TheVariants.{Param, FieldNamed}
 use Rattle.ix_core.specs.declared.fact.Path.{Path}
@@ -21,7 +22,7 @@ use Rattle.ix_facts.specs.Stores.{Stored, Unreachable, Reached}
 use Rattle.ix_steps.specs.MachineSteps.{on_paths, own_path}
 use Rattle.ix_sign_errors.specs.declared.ranked.Ranked.{Ranked}
 use Rattle.ix_claim_facts.specs.Names.{call_path, object_path, written_path, names_field}
-use Rattle.ix_claim_facts.specs.SignErrors.{unproved}
+use Rattle.ix_claim_facts.specs.SignErrors.{unproved, counts_at, post_subject}
 
 -- `IsProved` as a test
 abbrev pub is_proved : PathClaim → Path → Stored → Bool
@@ -47,6 +48,17 @@ abbrev pub argument_refusals : Stored → CallOp → ℕ → List Variable → L
 argument_refusals store call number (param ∷ params) (arg ∷ args) =
     refusals (not_proved store (call_path call) (Slot arg.slot)) 5 arg.span (Param call.method number) 0 param.claims ++ argument_refusals store call (suc number) params args
 argument_refusals store call number _ _ = []
+
+-- a post fails that counts where this value is returned and isn't proved
+abbrev pub post_fails : Stored → Method → Option ℕ → Option Bool → Post → Bool
+post_fails store method value known post = counts_at post.when value known && not_proved store (own_path method) (own_path method post.on) post.claim
+
+-- the posts that fail, from one of this rank on
+abbrev pub post_refusals : Stored → Method → ℕ → Option ℕ → Option Bool → Span → ℕ → List Post → List Ranked
+post_refusals store method number value known span rank [] = []
+post_refusals store method number value known span rank (post ∷ posts) =
+    cond (post_fails store method value known post) (record { error = unproved 18 span (post_subject number post.on) post.claim; rank = rank } ∷ post_refusals store method number value known span (suc rank) posts)
+    (post_refusals store method number value known span (suc rank) posts)
 
 -- of the fields of `this`
 abbrev pub field_refusals : Program → Stored → Span → List ℕ → List Ranked

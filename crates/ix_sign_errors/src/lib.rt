@@ -1,4 +1,4 @@
-//! The errors of signatures and objects: which claims of arguments, results, fields and overridden methods aren't proved.
+//! The errors of signatures and objects: which claims of arguments, results, fields and overridden methods, and which posts, aren't proved.
 //!
 //! What goes in: a program, a method, an operation, and the store before it. What comes out: the errors, each with the place of its claim.
 //! The contract: each list has exactly the errors that the written rule derives.
@@ -10,6 +10,7 @@ mod call_errors;
 mod field_errors;
 mod leave;
 mod overriding;
+mod posts;
 mod ranked;
 mod unproved;
 mod write;
@@ -18,6 +19,7 @@ pub use call_errors::{push_argument_errors, push_effect_error};
 pub use field_errors::push_field_errors;
 pub use leave::{push_constructor_errors, push_missing_return, push_return_errors};
 pub use overriding::push_override_errors;
+pub use posts::push_post_errors;
 pub use ranked::Ranked;
 pub use unproved::{Report, push_unproved, refuses};
 pub use write::Write;

@@ -22,7 +22,7 @@ pub struct Report {
 }
 
 impl Report {
-    fn of(&self, claim: &Claim) -> Error
+    pub(crate) fn of(&self, claim: &Claim) -> Error
         ensures { result ≡ unproved self.now.rule self.now.span self.now.subject claim.now }
     {
         Error {

@@ -35,7 +35,7 @@ use Rattle.ix_sound.specs.Chain.{Flowing}
 use Rattle.ix_sound.specs.Clean.{IsClean}
 use Rattle.ix_sound.specs.Direct.{direct}
 use Rattle.ix_sound.specs.Errors.{NoErrors, NoKindErrors}
-use Rattle.ix_sound.specs.Known.{Here, KindFits, CallsWell, BehindGives, stage_behind, MeetsHere, Itself, knowledge}
+use Rattle.ix_sound.specs.Known.{Here, KindFits, CallsWell, call_op, BehindGives, stage_behind, MeetsHere, Itself, knowledge}
 use Rattle.ix_sound.specs.Making.{Stage, Plain, Making, with_types, MakingFits, StageFits, StageHolds}
 use Rattle.ix_sound.proofs.ArgumentsMet.{params_met}
 use Rattle.ix_sound.proofs.FormedCalls.{CallHas, call_has, static_fits_call, instance_fits_call, new_fits_call, super_fits_call, receiver_has, instance_named}
@@ -64,7 +64,7 @@ module _ (program : Program) (locals : List (List Type_)) (formed : is_formed pr
   on = all_on world building method slots heap keeps frame_keeps
 
   module _ (done : Op) (rest : Code) (below : Tasks) (fits : OperationFits program locals formed (record { now = frame number (Run (Do done rest) below) slots; below = []; heap = heap; wrapped = false; ended = None }) done)
-      (stage : Stage) (stage_fits : StageFits program (types_in program locals formed) number (Run (Do done rest) below) stage) (s t : Stored) (here : MeetsHere program profile (types_in program locals formed) stage s slots heap)
+      (stage : Stage) (stage_fits : StageFits program (types_in program locals formed) number (Run (Do done rest) below) stage) (last : Option Op) (s t : Stored) (here : MeetsHere program profile (types_in program locals formed) stage last s slots heap)
       (none : NoKindErrors program method number done done.kind s) (clean : IsClean program method done.kind) (gives : KindGives program method profile done.kind done.span.from s t)
       (labels : ℕ → Stored) (flowing : Flowing (method_rules program method profile) (NoErrors program method number) labels (λ (d : Op). IsClean program method d.kind) (Some done) (code_then rest below) t) where
     -- what formedness and the text say of the call
@@ -126,7 +126,7 @@ module _ (program : Program) (locals : List (List Type_)) (formed : is_formed pr
 
     -- ---- what the laws ask
 
-    module _ (kind : CallKind) (call : CallOp) (parts : CallParts kind call) (no_claim : (error : Error) (rank : ℕ) → ArgumentClaim program call s error rank → ⊥) (behind : BehindGives program method kind call s t) where
+    module _ (kind : CallKind) (call : CallOp) (is : done.kind ≡ call_op kind call) (parts : CallParts kind call) (no_claim : (error : Error) (rank : ℕ) → ArgumentClaim program call s error rank → ⊥) (behind : BehindGives program method kind call s t) where
       makes : (class : ℕ) (new : Bool) (types : Types) → stage ≡ Making class new types → (method.constructor ≡ true) × (class ≡ method.class)
       makes class new types is = let making = subst (StageFits program (types_in program locals formed) number (Run (Do done rest) below)) is stage_fits in (making.constructor, making.of)
 
@@ -152,12 +152,12 @@ module _ (program : Program) (locals : List (List Type_)) (formed : is_formed pr
           → Calls profile world know number kind call (code_then rest below) slots heap
       unfolding well
       calls_well types fine fresh = record {
-        store = Here stage s;
+        store = Here stage last s;
         holds = here;
         fits = parts.call_fits;
         met = params_met program locals formed slots heap on before s (here before).0 kind call call.method parts.has.there parts.kinds parts.has.args no_claim;
         fresh = fresh;
-        fine = λ there. record { well = well; after = t; gives = behind; types = types; fine = record { labels = labels; last = Some done; flowing = flowing; stage_fits = fine } };
+        fine = λ there. record { well = well; after = t; gives = behind; types = types; done = done; is = is; fine = record { labels = labels; flowing = flowing; stage_fits = fine } };
       }
 
     -- before the parent's constructor runs the object is as new
@@ -166,26 +166,26 @@ module _ (program : Program) (locals : List (List Type_)) (formed : is_formed pr
         let zero = holds field (subst (λ c. HasField world (ObjectOf c) field) (sym of) has) in
         field_is world slots heap before 0 object field at ∙ (λ i. record { int = zero.0 i; size = zero.1 i })
 
-    plain_calls : (kind : CallKind) (call : CallOp) → is_super kind ≡ false → is_super_call done.kind ≡ false → CallParts kind call → ((error : Error) (rank : ℕ) → ArgumentClaim program call s error rank → ⊥)
+    plain_calls : (kind : CallKind) (call : CallOp) → done.kind ≡ call_op kind call → is_super kind ≡ false → is_super_call done.kind ≡ false → CallParts kind call → ((error : Error) (rank : ℕ) → ArgumentClaim program call s error rank → ⊥)
         → BehindGives program method kind call s t → ((types : Types) → StageFits program (types_in program locals formed) number (code_then rest below) (with_types stage types) → StageFits program (types_in program locals formed) number (code_then rest below) (stage_behind kind stage types))
         → Calls profile world know number kind call (code_then rest below) slots heap
-    plain_calls kind call plain no_super parts no_claim behind same =
+    plain_calls kind call is plain no_super parts no_claim behind same =
         let after = operation_stays program locals formed number lt done rest below stage no_super stage_fits in
-        calls_well kind call parts no_claim behind after.0 (same after.0 after.1) (λ super. absurd (false≢true (sym plain ∙ super)))
+        calls_well kind call is parts no_claim behind after.0 (same after.0 after.1) (λ super. absurd (false≢true (sym plain ∙ super)))
 
     pub static_shown : (call : CallOp) → done.kind ≡ op.StaticCall call → Calls profile world know number Static call (code_then rest below) slots heap
     static_shown call is =
-        plain_calls Static call refl (ap is_super_call is) (static_parts call (subst (λ k. op_fits program method (locals_of program locals formed number) (Some fits.types) done k ≡ true) is fits.fits) (subst (IsClean program method) is clean)) (subst (λ k. NoKindErrors program method number done k s) is none)
+        plain_calls Static call is refl (ap is_super_call is) (static_parts call (subst (λ k. op_fits program method (locals_of program locals formed number) (Some fits.types) done k ≡ true) is fits.fits) (subst (IsClean program method) is clean)) (subst (λ k. NoKindErrors program method number done k s) is none)
         (subst (λ k. KindGives program method profile k done.span.from s t) is gives) (λ types f. f)
 
     pub instance_shown : (call : CallOp) → done.kind ≡ op.InstanceCall call → Calls profile world know number Instance call (code_then rest below) slots heap
     instance_shown call is =
-        plain_calls Instance call refl (ap is_super_call is) (instance_parts call (subst (λ k. op_fits program method (locals_of program locals formed number) (Some fits.types) done k ≡ true) is fits.fits) (subst (IsClean program method) is clean))
+        plain_calls Instance call is refl (ap is_super_call is) (instance_parts call (subst (λ k. op_fits program method (locals_of program locals formed number) (Some fits.types) done k ≡ true) is fits.fits) (subst (IsClean program method) is clean))
         (subst (λ k. NoKindErrors program method number done k s) is none) (subst (λ k. KindGives program method profile k done.span.from s t) is gives) (λ types f. f)
 
     pub new_shown : (call : CallOp) → done.kind ≡ op.NewObject call → Calls profile world know number (New call.class) call (code_then rest below) slots heap
     new_shown call is =
-        plain_calls (New call.class) call refl (ap is_super_call is) (new_parts call (subst (λ k. op_fits program method (locals_of program locals formed number) (Some fits.types) done k ≡ true) is fits.fits) (subst (IsClean program method) is clean))
+        plain_calls (New call.class) call is refl (ap is_super_call is) (new_parts call (subst (λ k. op_fits program method (locals_of program locals formed number) (Some fits.types) done k ≡ true) is fits.fits) (subst (IsClean program method) is clean))
         (subst (λ k. NoKindErrors program method number done k s) is none) (subst (λ k. KindGives program method profile k done.span.from s t) is gives) (λ types f. f)
 
     pub super_shown : (call : CallOp) → done.kind ≡ op.SuperCall call → Calls profile world know number Super call (code_then rest below) slots heap
@@ -206,5 +206,5 @@ module _ (program : Program) (locals : List (List Type_)) (formed : is_formed pr
             let making : MakingFits program (locals_of program locals formed number) method (Run (Do done rest) below) class new types = subst (StageFits program (types_in program locals formed) number (Run (Do done rest) below)) e stage_fits in
             let made = super_made program locals formed number lt done call rest below class new types is making in
             let holds = subst (λ x. StageHolds world x v) e (here before).1 in
-            calls_well Super call parts no_claim behind made.1 (subst (λ x. StageFits program (types_in program locals formed) number (code_then rest below) (stage_behind Super x made.1)) (sym e) made.2)
+            calls_well Super call is parts no_claim behind made.1 (subst (λ x. StageFits program (types_in program locals formed) number (code_then rest below) (stage_behind Super x made.1)) (sym e) made.2)
             (λ super object at. fresh_here class types making.of (subst (λ b. StageHolds world (Making class b types) v) made.0 holds) object at)

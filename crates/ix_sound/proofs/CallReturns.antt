@@ -13,10 +13,10 @@ use Rattle.ix_core.specs.declared.op.Arg.{Arg}
 use Rattle.ix_core.specs.declared.op.CallOp.{CallOp}
 use Rattle.ix_core.specs.declared.program.Method.{Method}
 use Rattle.ix_core.specs.declared.program.Program.{Program}
-use Rattle.ix_core.specs.Analysis.{IsIntIf, FillsTarget, Results}
+use Rattle.ix_core.specs.Analysis.{IsIntIf, FillsTarget, ResultTrue, Results}
 use Rattle.ix_core.specs.Claims.{AreTrue}
 use Rattle.ix_core.specs.Formed.{is_formed, is_argument}
-use Rattle.ix_core.specs.Heap.{Held, Num, At, Heap, value_at, reading_of}
+use Rattle.ix_core.specs.Heap.{Held, Num, Boolean, At, Heap, value_at, reading_of}
 use Rattle.ix_core.specs.Machine.{CallKind, Static, Instance, New, Super, call_values, set_target, target_of, receiver_slot, call_heap}
 use Rattle.ix_core.specs.Numbers.{Numbers, HasInts, numbers_of, field_of}
 use Rattle.ix_core.specs.Objects.{IsOn, AllOn, IsIntHeld, KeepsInts}
@@ -36,7 +36,7 @@ use Rattle.ix_steps.specs.CallEffects.{spared_in}
 use Rattle.ix_steps.specs.MachineSteps.{own_slot, reading_at}
 use Rattle.ix_steps.proofs.ReturnedCalls.{called_step}
 use Rattle.ix_method.specs.Names.{call_path}
-use Rattle.ix_method.specs.Signs.{CallGives, of_callee, received, claims_facts}
+use Rattle.ix_method.specs.Signs.{CallGives, of_callee, received, claims_facts, posts_facts, answer_facts}
 use Rattle.ix_method.proofs.SignTruth.{signs_hold}
 use Rattle.ix_steps.proofs.MachineTests.{through_is}
 use Rattle.ix_sound.specs.Direct.{direct}
@@ -44,7 +44,8 @@ use Rattle.ix_sound.specs.Known.{KindFits, call_of}
 use Rattle.ix_sound.specs.Stands.{StandsFor}
 use Rattle.ix_sound.proofs.ArgumentsMet.{there_at, argument_value, arg_slot_is}
 use Rattle.ix_sound.proofs.ClaimTruths.{claims_hold}
-use Rattle.ix_sound.proofs.NamedClaims.{MayName, result_names}
+use Rattle.ix_sound.proofs.NamedClaims.{MayName, result_names, promised_names}
+use Rattle.ix_sound.proofs.Promises.{Agrees, posts_hold}
 use Rattle.ix_sound.proofs.OperationsMeet.{KeepsThis}
 use Rattle.ix_sound.proofs.Overriding.{received_holds}
 use Rattle.ix_sound.proofs.FormedCalls.{target_is}
@@ -220,7 +221,7 @@ module _ (program : Program) (locals : List (List Type_)) (formed : is_formed pr
         let x = filled target value to given in
         claims_hold (call_path (call_of call n)) (Slot call.target) named.result_claims w (reading_of heap x.0) (param_readings world named values heap) (ap (reading_of heap) (sym (value_set_at x.0 x.1 to)))
         (λ name named_. name_read name (result_names program locals formed n lt name named_))
-        (promised x.0 (subst IsIntIf x.1 int) which same_heap (subst (Results world callee values heap) x.1 results))
+        (promised x.0 (subst IsIntIf x.1 int) which same_heap (subst (ResultTrue world callee values heap) x.1 results.claims))
 
     -- a result that there is has a target
     to_target : is_void named.result ≡ false → option_map (λ (d : Held). call.target) (default_result (method_at program call.method).result) ≡ Some call.target
@@ -244,10 +245,24 @@ module _ (program : Program) (locals : List (List Type_)) (formed : is_formed pr
         by_kind (New class) e = no_claims_hold (made_claims n lt (subst (λ k. KindFits k call named) e kinds).1)
         by_kind Super e = absurd (false≢true (sym plain ∙ ap is_super e))
 
+    -- the posts of the named method, where they are asked for
+    posts_of_call : (wanted : Option Bool) → Agrees wanted value → AllHold (posts_facts (call_path (call_of call n)) wanted named.posts) w
+    posts_of_call wanted agrees =
+        posts_hold (call_path (call_of call n)) wanted named.posts w (param_readings world named values heap) value agrees (λ name named_. name_read name (promised_names program locals formed n lt name named_))
+        (stands.posts values heap value results.posts)
+
+    -- what the answer of a method with a result tells
+    pub call_tells : (kind ≡ Static) ⊎ (kind ≡ Instance) → is_void named.result ≡ false → (answer : Bool) → value_at later call.target ≡ Boolean answer → AllHold (answer_facts program (call_of call n) answer) w
+    call_tells which some answer is =
+        let to : target ≡ Some call.target = ⊎_elim (λ e. ap (λ k. target_of (tables_in world) k call) e ∙ to_target some) (λ e. ap (λ k. target_of (tables_in world) k call) e ∙ to_target some) which in
+        let x = filled target value to given in
+        posts_of_call (Some answer) (x.1 ∙ ap Some (sym (value_set_at x.0 x.1 to) ∙ is))
+
     pub call_meets : (s t : Stored) → CallGives program caller (call_of call n) s t → Meets s v → Meets t w
     call_meets s t gives meets =
         (signs_hold program caller).call (call_of call n) s t v w call_same
-        (all_hold_app w (received named.result (Slot call.target)) (claims_facts (call_path (call_of call n)) (Slot call.target) named.result_claims) (received_holds named.result (Slot call.target) w) claims_of_result) meets gives
+        (all_hold_app w (received named.result (Slot call.target)) _ (received_holds named.result (Slot call.target) w)
+        (all_hold_app w (claims_facts (call_path (call_of call n)) (Slot call.target) named.result_claims) (posts_facts (call_path (call_of call n)) None named.posts) claims_of_result (posts_of_call None tt))) meets gives
 
     -- and the fields of a constructor's object are as they were
     pub call_keeps : caller.constructor ≡ true → (0 == call.target) ≡ false → KeepsThis v w

@@ -6,7 +6,7 @@ use Rattle.ix_core.specs.Code.{Code, End, Do, If, Break, Continue, Return, Throw
 use Rattle.ix_core.specs.Machine.{step_condition}
 use Rattle.ix_core.specs.Tasks.{Tasks, Empty, Ask, Decide, DecideTruth, Head, Again, Out, code_then, followed_by, behind_loop, next_turn}
 use Rattle.ix_core.proofs.TypedTasks.{behind_code, turn_code, followed_code}
-use Rattle.ix_flow.specs.LastDone.{last_done}
+use Rattle.ix_core.specs.Posts.{last_done}
 use Rattle.ix_flow.specs.Flow.{Point, Rules, Flows, Asks}
 use Rattle.ix_sound.specs.Chain.{Each, EachAsked, Same, Weaker, Rounding, Turns, Flowing, Running, Asking, Comparing, Telling, Turning, Returning, Leaving, Passing, Forgetting}
 

@@ -40,7 +40,7 @@ module _ (program : Program) (locals : List (List Type_)) (formed : is_formed pr
       → BehindFine program profile (types_in program locals formed) number tasks caller (method_at program m) Instance (call_of call m) known
   taken number tasks caller call m over Anything fine = absurd fine
   taken number tasks caller call m over (Behind other named kind_ call_ known) fine = absurd fine
-  taken number tasks caller call m over (Here stage s) fine = record {
+  taken number tasks caller call m over (Here stage last s) fine = record {
     well = record {
       number = fine.well.number;
       there = fine.well.there;
@@ -60,6 +60,8 @@ module _ (program : Program) (locals : List (List Type_)) (formed : is_formed pr
     after = fine.after;
     gives = fine.gives;
     types = fine.types;
+    done = fine.done;
+    is = fine.is;
     fine = fine.fine;
   }
 

@@ -41,6 +41,7 @@ use Rattle.ix_sound.specs.Known.{stage_if, entry_stage, known_at, HoldsFor}
 use Rattle.ix_sound.specs.Making.{Making, Tracks, StageFits, StageHolds}
 use Rattle.ix_sound.specs.Supers.{SuperEnds}
 use Rattle.ix_sound.proofs.FieldPlaces.{at_among, own_has}
+use Rattle.ix_sound.proofs.LastDone.{nothing_done}
 use Rattle.ix_sound.proofs.NamedClaims.{count_params}
 use Rattle.ix_sound.proofs.Overriding.{above_met, received_all, params_hold}
 use Rattle.ix_sound.proofs.SuperMoves.{code_supers}
@@ -100,6 +101,7 @@ module _ (program : Program) (locals : List (List Type_)) (formed : is_formed pr
       let lt : number < length program.methods = grind (arith, nat_tests) in (
         above_met (entry_facts program (method_at program number)) (entries number e) (numbers_of world.place slots heap ints) (entry_holds number lt slots heap met new ints) (gives number e),
         stage_holds number lt slots heap met new ints (method_at program number).constructor refl,
+        nothing_done program slots (numbers_of world.place slots heap ints),
       )
 
   -- ---- the stage

@@ -1,6 +1,6 @@
 -- What an operation of a formed program has that fits the types at its place: its target may be assigned and is no operand, and its numbers are ints.
-use Rattle.std.specs.Prelude.{◌≡◌, ℕ, ◌+◌, ◌<◌, ◌≤◌, ◌==◌, Bool, true, false, not, if◌then◌else◌, List, length, Option, None, Some, refl}
-use Rattle.std.proofs.Common.{arith, ap, subst}
+use Rattle.std.specs.Prelude.{◌≡◌, ◌⊎◌, ℕ, ◌+◌, ◌<◌, ◌≤◌, ◌==◌, Bool, true, false, not, if◌then◌else◌, List, length, Option, None, Some, refl}
+use Rattle.std.proofs.Common.{arith, ap, subst, inl, inr}
 use Rattle.std.proofs.lemmas.Bool.{and_parts}
 use Rattle.std.proofs.lemmas.Bool.Decides.{nat_tests}
 use Rattle.ix_text.specs.declared.span.Span.{Span}
@@ -15,7 +15,7 @@ use Rattle.ix_core.specs.declared.program.Program.{Program}
 use Rattle.ix_core.specs.Formed.{is_formed, at_most, is_slot, is_target, reads, field_fits, is_array_at, are_entries, literal_fits, op_fits, variable_type, copy_fits}
 use Rattle.ix_core.specs.Heap.{Held, Heap}
 use Rattle.ix_core.specs.Machine.{is_int}
-use Rattle.ix_core.specs.Objects.{IsOwn, IsInput, This, Named, IntsOnly, Names}
+use Rattle.ix_core.specs.Objects.{IsOwn, IsInput, This, Named, Promised, IntsOnly, Names, PostsName}
 use Rattle.ix_core.specs.Tables.{method_at, param_slot, param_slots}
 use Rattle.ix_core.specs.Typed.{SlotsTyped}
 use Rattle.ix_core.specs.Types.{Types, int_type, cell_type, is_array, is_of}
@@ -28,7 +28,7 @@ use Rattle.ix_facts.specs.After.{TargetApart}
 use Rattle.ix_steps.specs.MachineSteps.{HasTarget}
 use Rattle.ix_sound.specs.Clean.{IsClean}
 use Rattle.ix_sound.specs.Shown.{MayTake, Takes}
-use Rattle.ix_sound.proofs.NamedClaims.{result_names}
+use Rattle.ix_sound.proofs.NamedClaims.{result_names, promised_names}
 
 not_same : (t s : ℕ) → not (t == s) ≡ true → (s == t) ≡ false
 not_same t s e = grind (arith, nat_tests)
@@ -60,6 +60,7 @@ module _ (program : Program) (locals : List (List Type_)) (formed : is_formed pr
   not_input : (slot : ℕ) → length method.params + (if method.is_static then 0 else 1) ≤ slot → IsInput method slot → ⊥
   not_input slot le (This s) = (let h = first_at (length method.params) 0 le s in omega (arith, h))
   not_input slot le (Named n names) = (let h = result_names program locals formed number lt (Param n) names in let e = param_at n method.is_static refl in omega (arith, le, h, e))
+  not_input slot le (Promised n names) = (let h = promised_names program locals formed number lt (Param n) names in let e = param_at n method.is_static refl in omega (arith, le, h, e))
 
   -- a temporary
   pub may_take : (t : ℕ) → is_target program method t ≡ true → MayTake method slots t
@@ -68,8 +69,8 @@ module _ (program : Program) (locals : List (List Type_)) (formed : is_formed pr
       let le = past_params (length method.params) t method.is_static refl parts.1 in
       record { within = slot_there program (ways_end program locals formed) method types slots heap size typed t parts.0; input = not_input t le; own = not_own (length method.params) t le }
 
-  -- a variable, which no claim of the result names
-  copy_takes : (variable : Option Type_) (t s : ℕ) (ty : Type_) (parts : List Span) → ((n : ℕ) → Names method.result_claims (Param n) → t ≡ param_slot method n → ⊥)
+  -- a variable, which no claim of the result and no post names
+  copy_takes : (variable : Option Type_) (t s : ℕ) (ty : Type_) (parts : List Span) → ((n : ℕ) → Names method.result_claims (Param n) ⊎ PostsName method.posts (Param n) → t ≡ param_slot method n → ⊥)
       → copy_fits program method local_types variable t s ty parts ≡ true → MayTake method slots t
   copy_takes None t s ty parts named e =
       let one = and_parts (length parts == 0) _ e in
@@ -84,9 +85,10 @@ module _ (program : Program) (locals : List (List Type_)) (formed : is_formed pr
         own = not_own 0 t le;
       }
     where
-      no_input : (t : ℕ) → 0 + (if method.is_static then 0 else 1) ≤ t → ((n : ℕ) → Names method.result_claims (Param n) → t ≡ param_slot method n → ⊥) → IsInput method t → ⊥
+      no_input : (t : ℕ) → 0 + (if method.is_static then 0 else 1) ≤ t → ((n : ℕ) → Names method.result_claims (Param n) ⊎ PostsName method.posts (Param n) → t ≡ param_slot method n → ⊥) → IsInput method t → ⊥
       no_input t le named (This s) = (let h = first_at 0 0 le s in omega (arith, h))
-      no_input t le named (Named n names) = named n names refl
+      no_input t le named (Named n names) = named n (inl names) refl
+      no_input t le named (Promised n names) = named n (inr names) refl
 
   -- ---- by operation
 

@@ -8,9 +8,11 @@ mod Tracked
 mod StageMoves
 mod OperationsMeet
 mod FormedCalls
+mod LastDone
 mod Dispatch
 mod Starts
 mod ClaimTruths
+mod Promises
 mod AccessesShown
 mod FieldPlaces
 mod FieldsShown

@@ -1,5 +1,5 @@
 -- What the claims of a formed program name: each name has a type, so parameters and results name parameters that are there, and fields of `this`.
-use Rattle.std.specs.Prelude.{◌≡◌, ℕ, zero, suc, ◌+◌, ◌<◌, ◌≤◌, nat_lt, ◌==◌, Bool, true, false, ◌&&◌, ◌||◌, if◌then◌else◌, List, [], ◌∷◌, length, slice_get, Option, None, Some, unwrap_or, refl}
+use Rattle.std.specs.Prelude.{◌≡◌, ℕ, zero, suc, ◌+◌, ◌<◌, ◌≤◌, nat_lt, ◌==◌, Bool, true, false, not, ◌&&◌, ◌||◌, if◌then◌else◌, List, [], ◌∷◌, length, slice_get, Option, None, Some, unwrap_or, refl}
 use Rattle.std.specs.List.{list_all}
 use Rattle.std.proofs.Common.{arith, sym, ap, subst, ◌∙◌}
 use Rattle.std.proofs.lemmas.Bool.{and_parts, false≢true}
@@ -10,19 +10,20 @@ use Rattle.ix_core.specs.declared.claim.Claim.TheVariants.{Range, Low, Length, S
 use Rattle.ix_core.specs.declared.claim.Name.{Name}
 use Rattle.ix_core.specs.declared.claim.Name.TheVariants.{Param, Local, FieldNamed}
 use Rattle.ix_core.specs.declared.claim.Off.{Off}
+use Rattle.ix_core.specs.declared.claim.Post.{Post}
 use Rattle.ix_core.specs.declared.claim.Off.TheVariants.{Nothing, Plus, Minus}
 use Rattle.ix_core.specs.declared.claim.Type_.{Type_}
 use Rattle.ix_core.specs.declared.program.Field.{Field}
 use Rattle.ix_core.specs.declared.program.Local.{Local as Variable}
 use Rattle.ix_core.specs.declared.program.Method.{Method}
 use Rattle.ix_core.specs.declared.program.Program.{Program}
-use Rattle.ix_core.specs.Formed.{is_formed, claim_fits, offset_fits, is_int_of, is_array_of, named_type, others, params_fit, fields_fit, field_type_of_name}
-use Rattle.ix_core.specs.Objects.{Names, claim_names, offset_names}
+use Rattle.ix_core.specs.Formed.{is_formed, claim_fits, offset_fits, is_int_of, is_array_of, named_type, others, params_fit, fields_fit, field_type_of_name, post_fits, posts_fit, has_no_posts}
+use Rattle.ix_core.specs.Objects.{Names, PostsName, post_names, claim_names, offset_names}
 use Rattle.ix_core.specs.SameClaims.{same_name}
 use Rattle.ix_core.specs.Tables.{no_field, field_at, method_at, param_slot, all_fields, is_among}
-use Rattle.ix_core.specs.Types.{is_void, is_type, is_int_type, is_array_type, is_empty, is_class}
+use Rattle.ix_core.specs.Types.{int_type, is_void, is_type, is_int_type, is_array_type, is_empty, is_class}
 use Rattle.ix_core.proofs.Cases.{by_test, equal}
-use Rattle.ix_core.proofs.FormedParts.{fields_all}
+use Rattle.ix_core.proofs.FormedParts.{fields_all, posts_are}
 use Rattle.ix_core.proofs.TypedCalls.{method_has, params_count}
 
 -- ---- each name of a claim that fits has a type
@@ -149,6 +150,26 @@ module _ (program : Program) (locals : List (List Type_)) (formed : is_formed pr
       by_void : (t : Bool) → (if t then is_empty method.result_claims else is_type program method.result && list_all (claim_fits method.result (named_type program method)) method.result_claims) ≡ true → MayName method name
       by_void true e = no_name method.result_claims e named
       by_void false e = may_name method (count_params number lt) name (claims_named method.result (named_type program method) method.result_claims name (and_parts (is_type program method.result) _ e).1 named)
+
+  -- and of posts
+  post_named : (method : Method) (post : Post) (name : Name) (at : ℕ) → post_fits program method post ≡ true → slice_get (post_names post) at ≡ Some name → HasType (named_type program method) name
+  post_named method post name zero fits is = int_named (named_type program method) post.on name (and_parts (is_int_of (named_type program method post.on)) (claim_fits int_type (named_type program method) post.claim) fits).0 is
+  post_named method post name (suc at) fits is = claim_named int_type (named_type program method) post.claim name at (and_parts (is_int_of (named_type program method post.on)) (claim_fits int_type (named_type program method) post.claim) fits).1 is
+
+  posts_named : (method : Method) (posts : List Post) (name : Name) → list_all (post_fits program method) posts ≡ true → PostsName posts name → HasType (named_type program method) name
+  posts_named method [] name fits (k, at, post, is, named) = absurd cc
+  posts_named method (first ∷ posts) name fits (zero, at, post, is, named) =
+      let same : first ≡ post = ap (λ (o : Option Post). unwrap_or o first) is in
+      post_named method post name at (subst (λ p. post_fits program method p ≡ true) same (and_parts (post_fits program method first) (list_all (post_fits program method) posts) fits).0) named
+  posts_named method (first ∷ posts) name fits (suc k, at, post, is, named) =
+      posts_named method posts name (and_parts (post_fits program method first) (list_all (post_fits program method) posts) fits).1 (k, at, post, is, named)
+
+  pub promised_names : (number : ℕ) → number < length program.methods → (name : Name) → PostsName (method_at program number).posts name → MayName (method_at program number) name
+  promised_names number lt name named =
+      let method = method_at program number in
+      let one = and_parts (not method.constructor || has_no_posts method.posts) _ (posts_are program locals formed number lt) in
+      let two = and_parts (list_all (post_fits program method) method.posts) _ one.1 in
+      may_name method (count_params number lt) name (posts_named method method.posts name two.0 named)
 
   -- ---- fields
 

@@ -1,5 +1,5 @@
 -- A formed program in which the rules derive no error is safe.
-use Rattle.std.specs.Prelude.{◌≡◌, ℕ, ◌<◌, ◌≤◌, nat_lt, Bool, true, false, List, length, Option, None, unwrap_or, refl}
+use Rattle.std.specs.Prelude.{◌≡◌, ℕ, ◌<◌, ◌≤◌, nat_lt, Bool, true, false, List, length, Option, None, Some, unwrap_or, refl}
 use Rattle.std.proofs.Common.{arith, sym, ap, subst, inr}
 use Rattle.std.proofs.lemmas.Bool.Decides.{nat_tests}
 use Rattle.std.proofs.lemmas.Option.{slice_get_past}
@@ -26,7 +26,7 @@ use Rattle.ix_core.proofs.TypedCalls.{method_has}
 use Rattle.ix_core.proofs.TypedRuns.{step_typed}
 use Rattle.ix_core.proofs.TypedStarts.{start_typed}
 use Rattle.ix_facts.specs.Stores.{Stored}
-use Rattle.ix_flow.specs.LastDone.{last_done}
+use Rattle.ix_core.specs.Posts.{last_done}
 use Rattle.ix_method.specs.MethodRules.{method_rules}
 use Rattle.ix_sound.specs.Chain.{Finishing}
 use Rattle.ix_sound.specs.Clean.{IsClean}
@@ -66,7 +66,7 @@ module _ (program : Program) (locals : List (List Type_)) (formed : is_formed pr
   tables : IsWorld world
   tables =
       let of = formed_world program locals formed in
-      record { room = of.room; apart = of.apart; inherits = of.inherits; fresh = of.fresh; constructors = of.constructors; no_result = of.no_result; named = of.named; no_locals = of.no_locals }
+      record { room = of.room; apart = of.apart; inherits = of.inherits; fresh = of.fresh; constructors = of.constructors; no_result = of.no_result; named = of.named; no_locals = of.no_locals; no_posts = of.no_posts; posts_named = of.posts_named; posts_no_locals = of.posts_no_locals }
 
   room : (number : ℕ) → param_slots (method_at program number) ≤ (method_at program number).slots
   room number =
@@ -87,6 +87,7 @@ module _ (program : Program) (locals : List (List Type_)) (formed : is_formed pr
     effect = λ e. e;
     demands = λ values heap met. met;
     promises = λ values began heap value on later quiet met is. is;
+    posts = λ values heap value is. is;
   }
 
   -- ---- bodies
@@ -100,7 +101,6 @@ module _ (program : Program) (locals : List (List Type_)) (formed : is_formed pr
   body_from number true e lt =
       let flow = (errors number e).flow in record {
         labels = (errors number e).labels;
-        last = None;
         flowing = code_flowing (method_rules program (method_at program number) profile) (NoErrors program (method_at program number) number) (errors number e).labels (λ (done : Op). IsClean program (method_at program number) done.kind)
             None (body_of (method_at program number)) Empty flow.0 flow.1 flow.1 flow.1 flow.3
             (each_clean program (method_at program number) (body_of (method_at program number)) (λ error rank x. (errors number e).text error rank (inr x)))
@@ -114,13 +114,13 @@ module _ (program : Program) (locals : List (List Type_)) (formed : is_formed pr
       → FrameKeeps building (method_at program number) slots heap → KeepsInts slots heap → HoldsFor program profile (types_in program locals formed) known slots heap → FineFrom program profile (types_in program locals formed) number tasks known
       → Shows profile world know building number slots heap (step_tasks limits (tables_in world) slots heap tasks)
   step_from limits building number tasks Anything slots heap typed keeps frame kept holds fine = absurd fine
-  step_from limits building number tasks (Here stage s) slots heap typed keeps frame kept holds fine =
-      shown program locals formed tables apart profile entries limits building number typed.frame_typed.slots.there slots heap keeps frame kept fine.labels fine.last tasks s fine.flowing stage fine.stage_fits holds typed
+  step_from limits building number tasks (Here stage last s) slots heap typed keeps frame kept holds fine =
+      shown program locals formed tables apart profile entries limits building number typed.frame_typed.slots.there slots heap keeps frame kept fine.labels last tasks s fine.flowing stage fine.stage_fits holds typed
   step_from limits building number tasks (Behind caller callee kind call Anything) slots heap typed keeps frame kept holds fine = absurd fine
   step_from limits building number tasks (Behind caller callee kind call (Behind other named kind_ call_ known)) slots heap typed keeps frame kept holds fine = absurd fine
-  step_from limits building number tasks (Behind caller callee kind call (Here stage s)) slots heap typed keeps frame kept holds fine =
-      shown program locals formed tables apart profile entries limits building number typed.frame_typed.slots.there slots heap keeps frame kept fine.fine.labels fine.fine.last tasks fine.after fine.fine.flowing (stage_behind kind stage fine.types) fine.fine.stage_fits
-      (holds fine.well fine.after fine.gives fine.types) typed
+  step_from limits building number tasks (Behind caller callee kind call (Here stage last s)) slots heap typed keeps frame kept holds fine =
+      shown program locals formed tables apart profile entries limits building number typed.frame_typed.slots.there slots heap keeps frame kept fine.fine.labels (Some fine.done) tasks fine.after fine.fine.flowing (stage_behind kind stage fine.types) fine.fine.stage_fits
+      (holds fine.well fine.after fine.gives fine.types fine.done fine.is) typed
 
   pub no_errors_keep_laws : Laws profile world (NowTyped program (types_in program locals formed)) know
   no_errors_keep_laws = record {

@@ -1,9 +1,10 @@
 -- An operation without errors that is no call shows what the laws ask of a frame's move.
-use Rattle.std.specs.Prelude.{◌≡◌, ℕ, ◌<◌, ◌==◌, nat_lt, true, false, List, [], length, None, Some, refl}
-use Rattle.std.proofs.Common.{sym, ◌∙◌, subst, inl}
+use Rattle.std.specs.Prelude.{◌≡◌, ℕ, ◌<◌, ◌==◌, nat_lt, Bool, true, false, List, [], length, Option, None, Some, refl}
+use Rattle.std.proofs.Common.{sym, ap, ◌∙◌, subst, inl}
 use Rattle.std.proofs.lemmas.Bool.{and_parts, false≢true}
 use Rattle.ix_core.specs.declared.claim.Type_.{Type_}
 use Rattle.ix_core.specs.declared.fact.Profile.{Profile}
+use Rattle.ix_core.specs.declared.op.Literal.TheVariants as literal
 use Rattle.ix_core.specs.declared.op.Op.{Op}
 use Rattle.ix_core.specs.declared.op.OpKind.{OpKind}
 use Rattle.ix_core.specs.declared.op.OpKind.TheVariants as op
@@ -12,7 +13,7 @@ use Rattle.ix_core.specs.declared.program.Program.{Program}
 use Rattle.ix_core.specs.Analysis.{IsWorld, Shows}
 use Rattle.ix_core.specs.Code.{Code, Do}
 use Rattle.ix_core.specs.Formed.{is_formed, field_fits, op_fits, is_super_call}
-use Rattle.ix_core.specs.Heap.{Held, Heap, ObjectOf}
+use Rattle.ix_core.specs.Heap.{Held, Boolean, Heap, ObjectOf, value_at}
 use Rattle.ix_core.specs.Machine.{Limits, Effect, Done, Wrapped, Printed, Called, Stopped, effect_then, operate, frame}
 use Rattle.ix_core.specs.Numbers.{Numbers, HasInts, numbers_of}
 use Rattle.ix_core.specs.Objects.{HasField, HeapKeeps, FrameKeeps, KeepsInts, IsOwn, StepKeeps}
@@ -23,6 +24,7 @@ use Rattle.ix_core.specs.Waits.{Knowledge}
 use Rattle.ix_core.specs.World.{World, tables_in}
 use Rattle.ix_core.proofs.Cases.{by_test, equal}
 use Rattle.ix_core.proofs.FormedParts.{locals_of}
+use Rattle.ix_core.proofs.Heaps.{value_set}
 use Rattle.ix_core.proofs.Kept.{has_ints, done_keeps, wrapped_keeps}
 use Rattle.ix_core.proofs.LawsAreSafe.{types_in}
 use Rattle.ix_core.proofs.TypedStarts.{OperationFits}
@@ -33,11 +35,12 @@ use Rattle.ix_sound.specs.Chain.{Flowing}
 use Rattle.ix_sound.specs.Clean.{IsClean, Hides}
 use Rattle.ix_sound.specs.Direct.{direct}
 use Rattle.ix_sound.specs.Errors.{NoErrors, NoKindErrors}
-use Rattle.ix_sound.specs.Known.{Here, MeetsHere, FineHere, knowledge}
+use Rattle.ix_sound.specs.Known.{Here, LastHolds, MeetsHere, FineHere, knowledge}
 use Rattle.ix_sound.specs.Making.{Stage, Plain, Making, with_types, MakingFits, StageFits, StageHolds}
 use Rattle.ix_sound.specs.Shown.{Takes}
 use Rattle.ix_sound.specs.Sound.{LocalsApart}
 use Rattle.ix_sound.proofs.FormedOperations.{takes, ints_only}
+use Rattle.ix_sound.proofs.LastDone.{no_call_tells, written_by}
 use Rattle.ix_sound.proofs.OperationShown.{shown_of}
 use Rattle.ix_sound.proofs.OperationSteps.{done_meets, wrapped_meets, this_kept, wrapped_this}
 use Rattle.ix_sound.proofs.OperationsKeep.{IsNoCall, MayWrap, Keeps, operation_keeps}
@@ -88,7 +91,7 @@ module _ (program : Program) (locals : List (List Type_)) (formed : is_formed pr
   idle = record { later = later_refl heap; heap_keeps = keeps; frame_keeps = frame_keeps; inputs = λ slot is. refl; fields = λ object field. inl refl }
 
   module _ (done : Op) (rest : Code) (below : Tasks) (plain : IsNoCall done.kind) (fits : OperationFits program locals formed (record { now = frame number (Run (Do done rest) below) slots; below = []; heap = heap; wrapped = false; ended = None }) done)
-      (stage : Stage) (stage_fits : StageFits program (types_in program locals formed) number (Run (Do done rest) below) stage) (s t : Stored) (here : MeetsHere program profile (types_in program locals formed) stage s slots heap)
+      (stage : Stage) (stage_fits : StageFits program (types_in program locals formed) number (Run (Do done rest) below) stage) (last : Option Op) (s t : Stored) (here : MeetsHere program profile (types_in program locals formed) stage last s slots heap)
       (none : NoKindErrors program method number done done.kind s) (clean : IsClean program method done.kind) (gives : KindGives program method profile done.kind done.span.from s t)
       (labels : ℕ → Stored) (flowing : Flowing (method_rules program method profile) (NoErrors program method number) labels (λ (d : Op). IsClean program method d.kind) (Some done) (code_then rest below) t) where
     may : Takes world method slots heap done.kind
@@ -126,8 +129,21 @@ module _ (program : Program) (locals : List (List Type_)) (formed : is_formed pr
     after_stage : (types : Types) × StageFits program (types_in program locals formed) number (code_then rest below) (with_types stage types)
     after_stage = operation_stays program locals formed number lt done rest below stage (not_super done.kind plain) stage_fits
 
-    fine : FineHere program profile (types_in program locals formed) number (code_then rest below) (with_types stage after_stage.0) t
-    fine = record { labels = labels; last = Some done; flowing = flowing; stage_fits = after_stage.1 }
+    fine : FineHere program profile (types_in program locals formed) number (code_then rest below) (with_types stage after_stage.0) (Some done) t
+    fine = record { labels = labels; flowing = flowing; stage_fits = after_stage.1 }
+
+    -- an answer that it writes out stands in its slot
+    abbrev StandsIn : ℕ → Bool → Effect → Type 0
+    StandsIn slot answer (Done later after) = value_at later slot ≡ Boolean answer
+    StandsIn slot answer (Wrapped later after) = value_at later slot ≡ Boolean answer
+    StandsIn slot answer _ = Unit {0}
+
+    answer_there : (slot : ℕ) (answer : Bool) → done.kind ≡ op.Const slot (literal.Bool answer) → (effect : Effect) → operate limits (tables_in world) done.span.from slots heap done.kind ≡ effect → StandsIn slot answer effect
+    answer_there slot answer is effect e =
+        subst (StandsIn slot answer) (sym (ap (operate limits (tables_in world) done.span.from slots heap) is) ∙ e) (value_set slots slot (Boolean answer) (subst (Takes world method slots heap) is may).within)
+
+    last_done : (later : List Held) (w : Numbers) → ((slot : ℕ) (answer : Bool) → done.kind ≡ op.Const slot (literal.Bool answer) → value_at later slot ≡ Boolean answer) → LastHolds program (Some done) later w
+    last_done later w there = record { written = λ slot answer e. there slot answer (written_by done.kind slot answer e); told = λ slot answer is. no_call_tells program done.kind plain slot answer w }
 
     -- the stage holds on, where the object's fields are kept
     stage_on : (w : Numbers) → ((made : method.constructor ≡ true) → ((o f x : ℕ) → done.kind ≡ op.WriteField o f x → (o == 0) ≡ false) → KeepsThis v w) → StageHolds world (with_types stage after_stage.0) w
@@ -144,11 +160,12 @@ module _ (program : Program) (locals : List (List Type_)) (formed : is_formed pr
       keep,
       done_keeps limits (tables_in world) done.span.from slots heap kept_ints done.kind later after (ints_only program locals formed number lt slots heap fits.types fits.size fits.typed done done.kind fits.fits) is,
       record {
-        store = Here (with_types stage after_stage.0) t;
+        store = Here (with_types stage after_stage.0) (Some done) t;
         holds = λ behind. (
           done_meets program locals formed tables apart profile number lt slots heap fits.types fits.size fits.typed fits.heap_typed building keeps frame_keeps before s (here before).0 limits done.span.from later after behind done done.kind plain fits.fits may none is t gives,
           stage_on (numbers_of world.place later after behind)
               (λ made other. this_kept program locals formed tables apart profile number lt slots heap fits.types fits.size fits.typed fits.heap_typed building keeps frame_keeps before s (here before).0 limits done.span.from later after behind made done done.kind plain fits.fits may other is),
+          last_done later (numbers_of world.place later after behind) (λ slot answer const. answer_there slot answer const (Done later after) is),
         );
         fine = λ there. fine;
       },
@@ -157,11 +174,12 @@ module _ (program : Program) (locals : List (List Type_)) (formed : is_formed pr
       keep.1,
       wrapped_keeps limits (tables_in world) done.span.from slots heap kept_ints done.kind later after (ints_only program locals formed number lt slots heap fits.types fits.size fits.typed done done.kind fits.fits) is,
       record {
-        store = Here (with_types stage after_stage.0) t;
+        store = Here (with_types stage after_stage.0) (Some done) t;
         holds = λ behind. (
           wrapped_meets program locals formed tables apart profile number lt slots heap fits.types fits.size fits.typed fits.heap_typed building keeps frame_keeps before s (here before).0 limits done.span.from later after behind done done.kind keep.0 fits.fits may int32 is t gives,
           stage_on (numbers_of world.place later after behind)
               (λ made other. wrapped_this program locals formed tables apart profile number lt slots heap fits.types fits.size fits.typed fits.heap_typed building keeps frame_keeps before s (here before).0 limits done.span.from later after behind made done.kind keep.0 may int32 is),
+          last_done later (numbers_of world.place later after behind) (λ slot answer const. answer_there slot answer const (Wrapped later after) is),
         );
         fine = λ there. fine;
       },

@@ -1,5 +1,6 @@
 -- A method that overrides another without errors stands for it.
-use Rattle.std.specs.Prelude.{◌≡◌, ◌⊎◌, ℕ, suc, ◌+◌, ◌<◌, ◌==◌, Bool, true, false, not, ◌&&◌, if◌then◌else◌, pos, List, [], ◌∷◌, ◌++◌, length, slice_get, Some, refl}
+use Rattle.std.specs.Prelude.{◌≡◌, ◌⊎◌, ℕ, suc, ◌+◌, ◌<◌, ◌==◌, Bool, true, false, not, ◌&&◌, ◌||◌, if◌then◌else◌, pos, List, [], ◌∷◌, ◌++◌, length, slice_get, Option, Some, refl}
+use Rattle.std.specs.List.{list_all}
 use Rattle.std.proofs.Common.{arith, sym, ap, ◌∙◌, subst, inl, inr, ⊎_elim}
 use Rattle.std.proofs.lemmas.Bool.{and_parts, false≢true}
 use Rattle.std.proofs.lemmas.Bool.Decides.{nat_tests}
@@ -16,9 +17,10 @@ use Rattle.ix_core.specs.declared.program.Local.{Local as Variable}
 use Rattle.ix_core.specs.declared.program.Method.{Method}
 use Rattle.ix_core.specs.declared.program.Program.{Program}
 use Rattle.ix_core.specs.Claims.{AreTrue}
-use Rattle.ix_core.specs.Formed.{is_formed, is_there, is_proper_ancestor, same_types, overrides_fit}
+use Rattle.ix_core.specs.Formed.{is_formed, is_there, is_proper_ancestor, same_types, overrides_fit, has_no_posts, ends_with, post_fits, upper_posts}
 use Rattle.ix_core.specs.Heap.{Held, Num, Boolean, Null, At, Heap, Reading, value_at, object_at, place_in, field_value, reading_of, int_of, size_of}
 use Rattle.ix_core.specs.Numbers.{Numbers, HasInts, numbers_of, field_of}
+use Rattle.ix_core.specs.Posts.{PostsHold}
 use Rattle.ix_core.specs.Objects.{IsOn, AllOn, KeepsInts, IsIntHeld, Later, IsSame}
 use Rattle.ix_core.specs.Tables.{method_at, param_slot, param_slots}
 use Rattle.ix_core.specs.Types.{same_type}
@@ -26,6 +28,7 @@ use Rattle.ix_core.specs.Waits.{MeetParams, param_readings, reading_through}
 use Rattle.ix_core.specs.World.{World}
 use Rattle.ix_core.proofs.Cases.{by_test}
 use Rattle.ix_core.proofs.Entered.{reading_later, cell_each}
+use Rattle.ix_core.proofs.FormedParts.{posts_are}
 use Rattle.ix_core.proofs.Kept.{has_ints}
 use Rattle.ix_core.proofs.TypeLaws.{type_is}
 use Rattle.ix_core.proofs.TypedCalls.{method_has}
@@ -48,6 +51,7 @@ use Rattle.ix_sound.specs.Direct.{direct}
 use Rattle.ix_sound.specs.Stands.{StandsFor}
 use Rattle.ix_sound.proofs.ClaimTruths.{claims_hold, claims_true, none_fails}
 use Rattle.ix_sound.proofs.ResultSlots.{with_result, front_same, result_at, same_but, each_held, zero_int}
+use Rattle.ix_sound.proofs.Promises.{posts_read, posts_end}
 use Rattle.ix_sound.proofs.NamedClaims.{MayName, param_names, result_names, count_params}
 use Rattle.ix_sound.proofs.Stable.{unrefused_by}
 
@@ -291,6 +295,21 @@ module _ (program : Program) (locals : List (List Type_)) (formed : is_formed pr
           (λ error rank failed. none error rank (inr (inl failed))) j c at)
           run_met)
 
+    -- the posts of the overridden method stand behind those of its own
+    ends : ends_with runs.posts upper.posts ≡ true
+    ends =
+        let one = and_parts (not runs.constructor || has_no_posts runs.posts) _ (posts_are program locals formed number lt) in
+        let two = and_parts (list_all (post_fits program runs) runs.posts) _ one.1 in
+        subst (λ o. ends_with runs.posts (upper_posts program runs o) ≡ true) is_over (and_parts (ends_with runs.posts (upper_posts program runs runs.overrides)) _ two.1).0
+
+    read_alike : (values : List Held) (heap : Heap) (name : Name) → param_readings world runs values heap name ≡ param_readings world upper values heap name
+    read_alike values heap (Param n) = ap (λ b. reading_of heap (value_at values (if b then n else n + 1))) (parts.static ∙ sym parts.over_static)
+    read_alike values heap (Local n) = refl
+    read_alike values heap (FieldNamed f) = refl
+
+    posts : (values : List Held) (heap : Heap) (value : Option Held) → PostsHold runs.posts (param_readings world runs values heap) value → PostsHold upper.posts (param_readings world upper values heap) value
+    posts values heap value is = posts_read upper.posts (param_readings world runs values heap) (param_readings world upper values heap) value (read_alike values heap) (posts_end runs.posts upper.posts (param_readings world runs values heap) value ends is)
+
     pub over_stands : StandsFor world upper runs
     over_stands = record {
       params = as_many;
@@ -300,6 +319,7 @@ module _ (program : Program) (locals : List (List Type_)) (formed : is_formed pr
       effect = effect;
       demands = demands;
       promises = λ values began heap value on kept kept_after int later same met is. promises values began heap value on kept kept_after int later same met is;
+      posts = posts;
     }
 
 -- ---- and over several
@@ -313,6 +333,7 @@ itself_stands of method = record {
   effect = λ e. e;
   demands = λ values heap kept met. met;
   promises = λ values began heap value on kept kept_after int later same met is. is;
+  posts = λ values heap value is. is;
 }
 
 pub stands_stands : (of : World) (first second third : Method) → StandsFor of first second → StandsFor of second third → StandsFor of first third
@@ -326,4 +347,5 @@ stands_stands of first second third one two = record {
   promises = λ values began heap value on kept kept_after int later same met is.
       one.promises values began heap value on kept kept_after int later (λ slot field object at why. same slot field object at (⊎_elim (λ q. inl (two.effect q)) (λ f. inr f) why)) met
       (two.promises values began heap value on kept kept_after int later same (one.demands values began kept met) is);
+  posts = λ values heap value is. one.posts values heap value (two.posts values heap value is);
 }

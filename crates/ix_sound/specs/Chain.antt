@@ -4,7 +4,7 @@ use Rattle.ix_core.specs.declared.op.Op.{Op}
 use Rattle.ix_core.specs.declared.op.Test.{Test}
 use Rattle.ix_core.specs.Code.{Code, End, Do, If, Break, Continue, Return, Throw, Loop, Condition, Known, Compare, Truth, Both, Either, Opposite}
 use Rattle.ix_core.specs.Tasks.{Tasks, Empty, Run, Ask, Decide, DecideTruth, Head, Again, Out, followed_by, behind_loop, next_turn}
-use Rattle.ix_flow.specs.LastDone.{last_done}
+use Rattle.ix_core.specs.Posts.{last_done}
 use Rattle.ix_flow.specs.Flow.{Point, Ending, Rules, Flows, Asks}
 
 -- each operation of the code, in conditions too

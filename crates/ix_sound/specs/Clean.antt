@@ -1,13 +1,13 @@
--- What the text of an operation owes where no error is derived from it: `this` of a constructor isn't handed on, no parameter that a result's claim names is
--- assigned, and a method without effects writes no field but its own object's and calls only such methods.
-use Rattle.std.specs.Prelude.{◌≡◌, ℕ, true, slice_get, Some}
+-- What the text of an operation owes where no error is derived from it: `this` of a constructor isn't handed on, no parameter that a claim of the result or a post
+-- names is assigned, and a method without effects writes no field but its own object's and calls only such methods.
+use Rattle.std.specs.Prelude.{◌≡◌, ◌⊎◌, ℕ, true, slice_get, Some}
 use Rattle.ix_core.specs.declared.claim.Name.TheVariants.{Param}
 use Rattle.ix_core.specs.declared.claim.Type_.{Type_}
 use Rattle.ix_core.specs.declared.op.OpKind.{OpKind}
 use Rattle.ix_core.specs.declared.op.OpKind.TheVariants as op
 use Rattle.ix_core.specs.declared.program.Method.{Method}
 use Rattle.ix_core.specs.declared.program.Program.{Program}
-use Rattle.ix_core.specs.Objects.{IsOwn, Names}
+use Rattle.ix_core.specs.Objects.{IsOwn, Names, PostsName}
 use Rattle.ix_core.specs.Tables.{method_at, param_slot}
 use Rattle.ix_core.specs.Waits.{AreNotOwn}
 
@@ -32,5 +32,5 @@ IsQuiet program method _ = Unit {0}
 
 pub record IsClean (program : Program) (method : Method) (kind : OpKind) : Type 0 where
   pub hides : Hides method kind
-  pub named : (number source : ℕ) (ty : Type_) → Names method.result_claims (Param number) → kind ≡ op.Copy (param_slot method number) source ty → ⊥
+  pub named : (number source : ℕ) (ty : Type_) → Names method.result_claims (Param number) ⊎ PostsName method.posts (Param number) → kind ≡ op.Copy (param_slot method number) source ty → ⊥
   pub quiet : method.effect_free ≡ true → IsQuiet program method kind

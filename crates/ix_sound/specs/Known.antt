@@ -1,23 +1,27 @@
--- What is known of a frame, as the knowledge that the laws of an analysis speak of: a store of the rules, and how far a constructor is. Behind a call it is each
--- store that the rule of the call gives, of a method that the called one is or overrides.
-use Rattle.std.specs.Prelude.{◌≡◌, ℕ, ◌<◌, ◌==◌, nat_lt, Bool, true, false, List, length, Option, Some, refl}
+-- What is known of a frame, as the knowledge that the laws of an analysis speak of: a store of the rules, what was done last, and how far a constructor is. Behind
+-- a call it is each store that the rule of the call gives, of a method that the called one is or overrides.
+use Rattle.std.specs.Prelude.{◌≡◌, ℕ, ◌<◌, ◌==◌, nat_lt, Bool, true, false, List, length, Option, None, Some, refl}
 use Rattle.ix_core.specs.declared.claim.Type_.{Type_}
 use Rattle.ix_core.specs.declared.error.Error.{Error}
 use Rattle.ix_core.specs.declared.fact.Profile.{Profile}
 use Rattle.ix_core.specs.declared.op.CallOp.{CallOp}
 use Rattle.ix_core.specs.declared.op.Op.{Op}
+use Rattle.ix_core.specs.declared.op.OpKind.{OpKind}
+use Rattle.ix_core.specs.declared.op.OpKind.TheVariants as op
 use Rattle.ix_core.specs.declared.program.Method.{Method}
 use Rattle.ix_core.specs.declared.program.Program.{Program}
 use Rattle.ix_core.specs.Formed.{is_argument, entry_type, has_parent}
-use Rattle.ix_core.specs.Heap.{Held, Heap}
+use Rattle.ix_core.specs.Heap.{Held, Boolean, Heap, value_at}
 use Rattle.ix_core.specs.Machine.{CallKind, Static, Instance, New, Super}
-use Rattle.ix_core.specs.Numbers.{HasInts, numbers_of}
+use Rattle.ix_core.specs.Numbers.{Numbers, HasInts, numbers_of}
+use Rattle.ix_core.specs.Posts.{written_answer}
 use Rattle.ix_core.specs.Tables.{method_at}
 use Rattle.ix_core.specs.Tasks.{Tasks}
 use Rattle.ix_core.specs.Types.{Types}
 use Rattle.ix_core.specs.Waits.{Knowledge}
+use Rattle.ix_facts.specs.Facts.{AllHold}
 use Rattle.ix_facts.specs.Stores.{Stored, Meets}
-use Rattle.ix_method.specs.Signs.{CallGives, SuperGives}
+use Rattle.ix_method.specs.Signs.{CallGives, SuperGives, told_facts}
 use Rattle.ix_method.specs.SignErrors.{ArgumentClaim}
 use Rattle.ix_method.specs.MethodRules.{method_rules}
 use Rattle.ix_sound.specs.Chain.{Flowing}
@@ -29,7 +33,8 @@ use Rattle.ix_sound.specs.Making.{Stage, Plain, Making, with_types, StageFits, S
 pub data Known : Type 0 where
   -- nothing, of a method that the program doesn't have
   Anything : Known
-  Here : Stage → Stored → Known
+  -- the operation that was done last, where one stands directly before the tasks
+  Here : Stage → Option Op → Stored → Known
   -- behind a call: the caller, the called method, and what was known before it
   Behind : Method → Method → CallKind → CallOp → Known → Known
 
@@ -66,6 +71,18 @@ pub record CallsWell (program : Program) (caller callee : Method) (kind : CallKi
   pub receiver : (slot : ℕ) → kind ≡ Instance → call.receiver ≡ Some slot → (slot == call.target) ≡ false
   pub met : (error : Error) (rank : ℕ) → ArgumentClaim program (call_of call named) store error rank → ⊥
 
+-- the operation that is the call
+abbrev pub call_op : CallKind → CallOp → OpKind
+call_op Static call = op.StaticCall call
+call_op Instance call = op.InstanceCall call
+call_op (New class) call = op.NewObject call
+call_op Super call = op.SuperCall call
+
+-- What the operation that was done last shows of the slots: the answer that it wrote out stands in its slot, and what a slot's answer tells by it is true.
+pub record LastHolds (program : Program) (last : Option Op) (slots : List Held) (v : Numbers) : Type 0 where
+  pub written : (slot : ℕ) (answer : Bool) → written_answer last (Some slot) ≡ Some answer → value_at slots slot ≡ Boolean answer
+  pub told : (slot : ℕ) (answer : Bool) → value_at slots slot ≡ Boolean answer → AllHold (told_facts program last slot answer) v
+
 -- what the rule of the call gives
 abbrev pub BehindGives : Program → Method → CallKind → CallOp → Stored → Stored → Type 0
 BehindGives program caller Super call s t = SuperGives program caller call s t
@@ -76,15 +93,15 @@ stage_behind Super (Making class new old) types = Making class false types
 stage_behind _ stage types = with_types stage types
 
 module _ (program : Program) (profile : Profile) (locals : ℕ → List Type_) where
-  -- the store is met, and the fields of a new object are as they were made
-  abbrev pub MeetsHere : Stage → Stored → List Held → Heap → Type 0
-  MeetsHere stage store slots heap = (ints : HasInts (direct program).place slots heap)
+  -- the store is met, the fields of a new object are as they were made, and what was done last has done what it does
+  abbrev pub MeetsHere : Stage → Option Op → Stored → List Held → Heap → Type 0
+  MeetsHere stage last store slots heap = (ints : HasInts (direct program).place slots heap)
       → Meets store (numbers_of (direct program).place slots heap ints) × StageHolds (direct program) stage (numbers_of (direct program).place slots heap ints)
+      × LastHolds program last slots (numbers_of (direct program).place slots heap ints)
 
   -- from the store on the tasks have no error, behind what was done last, and they fit the stage
-  pub record FineHere (number : ℕ) (tasks : Tasks) (stage : Stage) (store : Stored) : Type 0 where
+  pub record FineHere (number : ℕ) (tasks : Tasks) (stage : Stage) (last : Option Op) (store : Stored) : Type 0 where
     pub labels : ℕ → Stored
-    pub last : Option Op
     pub flowing : Flowing (method_rules program (method_at program number) profile) (NoErrors program (method_at program number) number) labels (λ (done : Op). IsClean program (method_at program number) done.kind) last tasks store
     pub stage_fits : StageFits program locals number tasks stage
 
@@ -93,25 +110,27 @@ module _ (program : Program) (profile : Profile) (locals : ℕ → List Type_) w
     pub after : Stored
     pub gives : BehindGives program caller kind (call_of call well.named) store after
     pub types : Types
-    pub fine : FineHere number tasks (stage_behind kind stage types) after
+    pub done : Op
+    pub is : done.kind ≡ call_op kind (call_of call well.named)
+    pub fine : FineHere number tasks (stage_behind kind stage types) (Some done) after
 
   abbrev pub BehindFine : ℕ → Tasks → Method → Method → CallKind → CallOp → Known → Type 0
-  BehindFine number tasks caller callee kind call (Here stage store) = FineBehind number tasks caller callee kind call stage store
+  BehindFine number tasks caller callee kind call (Here stage last store) = FineBehind number tasks caller callee kind call stage store
   BehindFine number tasks caller callee kind call _ = ⊥
 
   abbrev pub BehindHolds : Method → Method → CallKind → CallOp → Known → List Held → Heap → Type 0
-  BehindHolds caller callee kind call (Here stage store) slots heap = (well : CallsWell program caller callee kind call stage store) (after : Stored) → BehindGives program caller kind (call_of call well.named) store after
-      → (types : Types) → MeetsHere (stage_behind kind stage types) after slots heap
+  BehindHolds caller callee kind call (Here stage last store) slots heap = (well : CallsWell program caller callee kind call stage store) (after : Stored) → BehindGives program caller kind (call_of call well.named) store after
+      → (types : Types) (done : Op) → done.kind ≡ call_op kind (call_of call well.named) → MeetsHere (stage_behind kind stage types) (Some done) after slots heap
   BehindHolds caller callee kind call _ slots heap = Unit {0}
 
   abbrev pub FineFrom : ℕ → Tasks → Known → Type 0
   FineFrom number tasks Anything = ⊥
-  FineFrom number tasks (Here stage store) = FineHere number tasks stage store
+  FineFrom number tasks (Here stage last store) = FineHere number tasks stage last store
   FineFrom number tasks (Behind caller callee kind call known) = BehindFine number tasks caller callee kind call known
 
   abbrev pub HoldsFor : Known → List Held → Heap → Type 0
   HoldsFor Anything slots heap = Unit {0}
-  HoldsFor (Here stage store) slots heap = MeetsHere stage store slots heap
+  HoldsFor (Here stage last store) slots heap = MeetsHere stage last store slots heap
   HoldsFor (Behind caller callee kind call known) slots heap = BehindHolds caller callee kind call known slots heap
 
   -- at the entry of a method
@@ -123,7 +142,7 @@ module _ (program : Program) (profile : Profile) (locals : ℕ → List Type_) w
   entry_stage number = stage_if (method_at program number).constructor (method_at program number)
 
   abbrev pub known_at : (entries : (number : ℕ) → nat_lt number (length program.methods) ≡ true → Stored) → (number : ℕ) (t : Bool) → nat_lt number (length program.methods) ≡ t → Known
-  known_at entries number true there = Here (entry_stage number) (entries number there)
+  known_at entries number true there = Here (entry_stage number) None (entries number there)
   known_at entries number false there = Anything
 
   abbrev pub knowledge : ((number : ℕ) → nat_lt number (length program.methods) ≡ true → Stored) → Knowledge

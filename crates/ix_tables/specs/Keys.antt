@@ -31,4 +31,5 @@ rule_keys =
     (14, codes "this.escapes") ∷
     (15, codes "named.parameter.assigned") ∷
     (16, codes "element.claim") ∷
-    (17, codes "missing.return") ∷ []
+    (17, codes "missing.return") ∷
+    (18, codes "post.claim") ∷ []

@@ -17,7 +17,7 @@ macro_rules! keys {
 }
 
 /// The keys that reports print. No two rules have one number, and no two have one key.
-pub fn key_table() -> KeyTable<17>
+pub fn key_table() -> KeyTable<18>
     ensures rows { map (λ r. (r.0, r.1.now)) result.rows ≡ rule_keys }
     ensures numbers { IsTrue (all_differ nat_eq (map (λ r. r.0) result.rows)) }
     ensures keys { IsTrue (all_differ bytes_eq (map (λ r. r.1.now) result.rows)) }
@@ -41,11 +41,12 @@ pub fn key_table() -> KeyTable<17>
             15 "named.parameter.assigned";
             16 "element.claim";
             17 "missing.return";
+            18 "post.claim";
         },
     }
 }
 
-impl KeyTable<17> {
+impl KeyTable<18> {
     /// The key of a rule: `None` exactly where no row has its number.
     pub fn key(&self, rule: u8) -> Option<&'static str>
         ensures value { option_map (λ s. s.now) result ≡ key_in (map (λ r. (r.0, r.1.now)) self.now.rows) rule }

@@ -1,22 +1,23 @@
--- The tests of parameters tell which the claims of a result name.
-use Rattle.std.specs.Prelude.{◌≡◌, ◌↔◌, ℕ, zero, suc, ◌+◌, Bool, true, false, if◌then◌else◌, slice_get, Option, Some, None, List, [], ◌∷◌, refl}
-use Rattle.std.proofs.Common.{arith, inl, ap, sym, ◌∙◌, subst, ⊎_elim}
+-- The tests of parameters tell which the claims of a result and the posts name.
+use Rattle.std.specs.Prelude.{◌≡◌, ◌⊎◌, ◌↔◌, ℕ, zero, suc, ◌+◌, Bool, true, false, if◌then◌else◌, slice_get, Option, Some, None, List, [], ◌∷◌, refl}
+use Rattle.std.proofs.Common.{arith, inl, inr, ap, sym, ◌∙◌, subst, ⊎_elim}
 use Rattle.std.proofs.lemmas.Bool.{false≢true, eq-eqb, eqb-true, or_cases, or_left, or_right}
 use Rattle.ix_core.specs.declared.claim.Claim.{Claim}
 use Rattle.ix_core.specs.declared.claim.Name.{Name}
 use Rattle.ix_core.specs.declared.claim.Name.TheVariants.{Param, Local, FieldNamed}
+use Rattle.ix_core.specs.declared.claim.Post.{Post}
 use Rattle.ix_core.specs.declared.claim.Type_.{Type_}
 use Rattle.ix_core.specs.declared.op.Op.{Op}
 use Rattle.ix_core.specs.declared.op.OpKind.TheVariants as op
 use Rattle.ix_core.specs.declared.program.Method.{Method}
-use Rattle.ix_core.specs.Objects.{claim_names, Names}
+use Rattle.ix_core.specs.Objects.{claim_names, post_names, Names, PostsName}
 use Rattle.ix_core.specs.Tables.{param_slot}
 use Rattle.ix_sign_errors.specs.declared.ranked.Ranked.{Ranked}
 use Rattle.ix_sign_errors.specs.Exactly.{AreExactly}
 use Rattle.ix_method.specs.SignErrors.{plain, part}
 use Rattle.ix_sign_errors.proofs.Refused.{exactly_none}
 use Rattle.ix_method.specs.RuleErrors.{AssignsNamed}
-use Rattle.ix_uses.specs.Parameters.{is_param, some_param, names_param, some_names_param, param_of, is_named_by, is_named}
+use Rattle.ix_uses.specs.Parameters.{is_param, some_param, names_param, some_names_param, post_names_param, some_post_names_param, param_of, is_named_by, is_named}
 
 param_is : (number : ℕ) (name : Name) → (is_param number name ≡ true) ↔ (name ≡ Param number)
 param_is number (Param other) = (λ t. ap Param (eqb-true other number t), λ e. let same : other ≡ number = cc in eq-eqb other number same)
@@ -55,6 +56,21 @@ named_claims number (first ∷ claims) zero at claim has here =
     or_left (names_param number first) (some_names_param number claims) (subst (λ c. names_param number c ≡ true) (sym same) (among_some number (claim_names claim) at here))
 named_claims number (first ∷ claims) (suc k) at claim has here = or_right (names_param number first) (some_names_param number claims) (named_claims number claims k at claim has here)
 
+posts_named : (number : ℕ) (posts : List Post) → some_post_names_param number posts ≡ true → PostsName posts (Param number)
+posts_named number [] t = absurd (false≢true t)
+posts_named number (post ∷ posts) t =
+    ⊎_elim
+    (λ first. let d = some_among number (post_names post) first in (0, d.0, post, refl, d.1))
+    (λ later. let d = posts_named number posts later in (suc d.0, d.1, d.2, d.3, d.4))
+    (or_cases (post_names_param number post) (some_post_names_param number posts) t)
+
+named_posts : (number : ℕ) (posts : List Post) (k at : ℕ) (post : Post) → slice_get posts k ≡ Some post → slice_get (post_names post) at ≡ Some (Param number) → some_post_names_param number posts ≡ true
+named_posts number [] k at post has here = absurd cc
+named_posts number (first ∷ posts) zero at post has here =
+    let same : first ≡ post = cc in
+    or_left (post_names_param number first) (some_post_names_param number posts) (subst (λ p. post_names_param number p ≡ true) (sym same) (among_some number (post_names post) at here))
+named_posts number (first ∷ posts) (suc k) at post has here = or_right (post_names_param number first) (some_post_names_param number posts) (named_posts number posts k at post has here)
+
 -- ---- slots
 
 abbrev slot_by : Bool → ℕ → ℕ
@@ -69,20 +85,35 @@ slots_param : (static : Bool) (number : ℕ) → param_of static (slot_by static
 slots_param true number = refl
 slots_param false number = let e : suc number ≡ number + 1 = omega arith in subst (λ slot. param_of false slot ≡ Some number) e refl
 
+-- a claim of the result or a post names the parameter
+abbrev IsNamed : Method → ℕ → Type 0
+IsNamed method number = Names method.result_claims (Param number) ⊎ PostsName method.posts (Param number)
+
 -- the parameter that has the slot is named
 abbrev NamedAt : Method → ℕ → Type 0
-NamedAt method slot = (number : ℕ) × Names method.result_claims (Param number) × (slot ≡ param_slot method number)
+NamedAt method slot = (number : ℕ) × IsNamed method number × (slot ≡ param_slot method number)
 
-named_from : (method : Method) (slot : ℕ) (found : Option ℕ) → param_of method.is_static slot ≡ found → is_named_by method.result_claims found ≡ true → NamedAt method slot
+named_by : (method : Method) (number : ℕ) → is_named_by method (Some number) ≡ true → IsNamed method number
+named_by method number t =
+    ⊎_elim (λ claims. inl (claims_named number method.result_claims claims)) (λ posts. inr (posts_named number method.posts posts))
+    (or_cases (some_names_param number method.result_claims) (some_post_names_param number method.posts) t)
+
+by_named : (method : Method) (number : ℕ) → IsNamed method number → is_named_by method (Some number) ≡ true
+by_named method number named =
+    ⊎_elim
+    (λ n. or_left (some_names_param number method.result_claims) (some_post_names_param number method.posts) (named_claims number method.result_claims n.0 n.1 n.2 n.3 n.4))
+    (λ n. or_right (some_names_param number method.result_claims) (some_post_names_param number method.posts) (named_posts number method.posts n.0 n.1 n.2 n.3 n.4))
+    named
+
+named_from : (method : Method) (slot : ℕ) (found : Option ℕ) → param_of method.is_static slot ≡ found → is_named_by method found ≡ true → NamedAt method slot
 named_from method slot None of t = absurd (false≢true t)
-named_from method slot (Some number) of t = (number, claims_named number method.result_claims t, param_slots method.is_static slot number of)
+named_from method slot (Some number) of t = (number, named_by method number t, param_slots method.is_static slot number of)
 
 named_at : (method : Method) (slot : ℕ) → is_named method slot ≡ true → NamedAt method slot
 named_at method slot t = named_from method slot (param_of method.is_static slot) refl t
 
-named_is : (method : Method) (number : ℕ) → Names method.result_claims (Param number) → is_named method (param_slot method number) ≡ true
-named_is method number n =
-    subst (λ found. is_named_by method.result_claims found ≡ true) (sym (slots_param method.is_static number)) (named_claims number method.result_claims n.0 n.1 n.2 n.3 n.4)
+named_is : (method : Method) (number : ℕ) → IsNamed method number → is_named method (param_slot method number) ≡ true
+named_is method number n = subst (λ found. is_named_by method found ≡ true) (sym (slots_param method.is_static number)) (by_named method number n)
 
 -- ---- errors
 

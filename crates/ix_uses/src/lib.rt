@@ -1,4 +1,4 @@
-//! What a method may not do by its text alone: assign a parameter that a claim of its result names, and let `this` of a constructor escape.
+//! What a method may not do by its text alone: assign a parameter that a claim of its result or a post names, and let `this` of a constructor escape.
 //!
 //! What goes in: a method, and an operation or a test of its body. What comes out: the errors of these two rules at it.
 //! The contract: exactly the errors that `AssignsNamed`, `OpEscapes` and `TestEscapes` of `ix_method` derive.

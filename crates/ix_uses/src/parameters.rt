@@ -1,4 +1,4 @@
-//! Parameters that a claim of the result names.
+//! Parameters that a claim of the result or a post names.
 
 ghost use Rattle.std.specs.Prelude.{◌≡◌, OnOk};
 ghost use Rattle.ix_core.specs.Objects.{offset_names};
@@ -7,7 +7,7 @@ ghost use Rattle.ix_method.specs.RuleErrors.{AssignsNamed};
 ghost use Rattle.ix_uses.specs.Parameters as spec;
 
 use crate::errors::{part, push_plain};
-use ix_core::{Claim, Method, Name, Off, Op, OpKind};
+use ix_core::{Claim, Method, Name, Off, Op, OpKind, Post};
 use ix_sign_errors::Ranked;
 use std::alloc::AllocError;
 
@@ -60,6 +60,25 @@ fn some_names_param(number: u32, claims: &[Claim]) -> bool
     false
 }
 
+/// Whether the post names the parameter: it is on it, or its claim names it.
+fn post_names_param(number: u32, post: &Post) -> bool
+    ensures { result ≡ spec.post_names_param number post.now }
+{
+    is_param(number, &post.on) || names_param(number, &post.claim)
+}
+
+/// Whether one of the posts names the parameter.
+fn some_post_names_param(number: u32, posts: &[Post]) -> bool
+    ensures { result ≡ spec.some_post_names_param number posts.now }
+{
+    for post in posts {
+        if post_names_param(number, post) {
+            return true;
+        }
+    }
+    false
+}
+
 /// The number of the parameter that has the slot, if the method has that many; none of `this`.
 fn param_of(within: &Method, slot: u32) -> Option<u32>
     ensures { result ≡ spec.param_of within.now.is_static slot }
@@ -73,17 +92,20 @@ fn param_of(within: &Method, slot: u32) -> Option<u32>
     }
 }
 
-/// Whether a claim of the result names the parameter that has the slot.
+/// Whether a claim of the result or a post names the parameter that has the slot.
 fn is_named(within: &Method, slot: u32) -> bool
     ensures { result ≡ spec.is_named within.now slot }
 {
     match param_of(within, slot) {
         None => false,
-        Some(number) => some_names_param(number, within.result_claims.as_slice()),
+        Some(number) => {
+            some_names_param(number, within.result_claims.as_slice())
+                || some_post_names_param(number, within.posts.as_slice())
+        }
     }
 }
 
-/// `named.parameter.assigned`: a parameter that a claim of the result names is assigned. The only error is want of memory.
+/// `named.parameter.assigned`: a parameter that a claim of the result or a post names is assigned. The only error is want of memory.
 pub fn push_assigned_parameter(
     out: &mut Vec<Ranked>,
     within: &Method,

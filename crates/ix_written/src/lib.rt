@@ -13,7 +13,7 @@ mod declarators;
 mod part;
 mod types;
 
-pub use claims::{Nowhere, distinct, given};
+pub use claims::{Marks, Nowhere, distinct, distinct_posts, given, of_variable};
 pub use declaration::{Declaration, created, element_claims, static_field, variable};
 pub use declarators::{
     Annotations, Begun, begin_with, declaration_of, field_annotations, further_annotations,

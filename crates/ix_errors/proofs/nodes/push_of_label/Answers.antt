@@ -7,16 +7,16 @@ use Rattle.ix_labels.specs.StoredFacts.{stored}
 use Rattle.ix_errors.specs.NodeErrors.{LabelGives}
 use Rattle.ix_errors.proofs.nodes.push_of_label.Goals as goal
 
-pub returns-in_ok-push_return_errors-in-Return : goal.returns-in_ok-push_return_errors-in-Return
-returns-in_ok-push_return_errors-in-Return c =
-    on_ok_weaker c.push_constructor_errors.result
-    (λ last. subst (λ k. AddsExactly (LabelGives c.args.program.now c.args.within.now c.args.number (kind_of k) (stored c.args.label.now)) c.args.out.now.items c.push_constructor_errors.new.out.items) (sym c.in-Return.is)
-    (adds_both _ _ _ _ _ c.in_ok-push_return_errors-in-Return.ensures.errors last))
-    c.push_constructor_errors.ensures.errors
+pub returns-in_ok-push_constructor_errors-in-Return : goal.returns-in_ok-push_constructor_errors-in-Return
+returns-in_ok-push_constructor_errors-in-Return c =
+    on_ok_weaker c.push_post_errors.result
+    (λ last. subst (λ k. AddsExactly (LabelGives c.args.program.now c.args.within.now c.args.number (kind_of k) (stored c.args.label.now)) c.args.out.now.items c.push_post_errors.new.out.items) (sym c.in-Return.is)
+    (adds_both _ _ _ _ _ c.in_ok-push_return_errors-in-Return.ensures.errors (adds_both _ _ _ _ _ c.in_ok-push_constructor_errors-in-Return.ensures.errors last)))
+    c.push_post_errors.ensures.errors
 
-pub returns-in_ok-push_constructor_errors-in-End : goal.returns-in_ok-push_constructor_errors-in-End
-returns-in_ok-push_constructor_errors-in-End c =
-    on_ok_weaker c.push_missing_return.result
-    (λ last. subst (λ k. AddsExactly (LabelGives c.args.program.now c.args.within.now c.args.number (kind_of k) (stored c.args.label.now)) c.args.out.now.items c.push_missing_return.new.out.items) (sym c.in-End.is)
-    (adds_both _ _ _ _ _ c.in_ok-push_constructor_errors-in-End.ensures.errors last))
-    c.push_missing_return.ensures.errors
+pub returns-in_ok-push_missing_return-in-End : goal.returns-in_ok-push_missing_return-in-End
+returns-in_ok-push_missing_return-in-End c =
+    on_ok_weaker c.push_post_errors-in-End.result
+    (λ last. subst (λ k. AddsExactly (LabelGives c.args.program.now c.args.within.now c.args.number (kind_of k) (stored c.args.label.now)) c.args.out.now.items c.push_post_errors-in-End.new.out.items) (sym c.in-End.is)
+    (adds_both _ _ _ _ _ c.in_ok-push_constructor_errors-in-End.ensures.errors (adds_both _ _ _ _ _ c.in_ok-push_missing_return-in-End.ensures.errors last)))
+    c.push_post_errors-in-End.ensures.errors

@@ -10,6 +10,9 @@ invariant-loop-annot g l = record {
   effect_free :
       (l.effect_free || (spec.given (g.N.Names.names l.names) (map (λ annot. annot.now) (drop l.annot-index l.annots))).effect_free)
       ≡ (spec.given (g.N.Names.names l.names) (map (λ annot. annot.now) l.annots)).effect_free;
+  posts :
+      l.posts ++ (spec.given (g.N.Names.names l.names) (map (λ annot. annot.now) (drop l.annot-index l.annots))).posts
+      ≡ (spec.given (g.N.Names.names l.names) (map (λ annot. annot.now) l.annots)).posts;
   notes :
       l.notes ++ (spec.given (g.N.Names.names l.names) (map (λ annot. annot.now) (drop l.annot-index l.annots))).notes
       ≡ l.fn.notes ++ (spec.given (g.N.Names.names l.names) (map (λ annot. annot.now) l.annots)).notes;

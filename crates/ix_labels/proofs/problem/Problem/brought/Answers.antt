@@ -1,13 +1,15 @@
 use Rattle.std.proofs.Common.{ap, sym, subst, ◌∙◌, true, false}
 use Rattle.std.proofs.lemmas.Result.{IfOk-weaker}
-use Rattle.ix_graph.specs.Graph.{Kind, Compares, Testing}
+use Rattle.ix_core.specs.Code.{block_code}
+use Rattle.ix_graph.specs.Graph.{Kind, Compares, Tells, Testing}
 use Rattle.ix_graph.specs.Brought.{pass_of}
 use Rattle.ix_graph.specs.Built.{kind_of}
+use Rattle.ix_method.specs.Signs.{Adds, IsLeastOf, told_facts}
 use Rattle.ix_method.specs.Store.{Store}
 use Rattle.ix_method.specs.StoredFacts.{stored}
 use Rattle.ix_labels.specs.Problem.{kinds_at}
-use Rattle.ix_labels.proofs.Visited.{kind_found, IsCarried, tested_least, same_least}
-use Rattle.ix_labels.proofs.problem.Problem.brought.Goals.{in_default-via-in-Compare+in_default, in_default-via-in_default}
+use Rattle.ix_labels.proofs.Visited.{kind_found, IsCarried, tested_least, tells_least, same_least}
+use Rattle.ix_labels.proofs.problem.Problem.brought.Goals.{in_default-via-in-Compare+in_default, in_default-via-in-Truth+in_default, in_default-via-in_default}
 use Rattle.ix_labels.proofs.problem.Problem.brought.Goals as goal
 
 pub returns-in-Compare-WhenTrue : goal.returns-in-Compare-WhenTrue
@@ -39,11 +41,44 @@ returns-in_default c =
       | in_default-via-in-Compare+in_default w ↦ record {
         least = IfOk-weaker c.share.result _ _
             (λ after is. subst (λ (s : Store). IsCarried problem (pass_of (kinds_at problem c.args.from.0) c.args.from.1) label (stored s)) (sym is) (subst (λ k. IsCarried problem (pass_of k c.args.from.1) label label) (sym kind)
-            (same_least problem c.index.result.now.kind c.args.from.1 label w.in_default.not-Do-0 (λ test found. w.in_default.is-1)))) c.share.ensures.shared;
+            (same_least problem c.index.result.now.kind c.args.from.1 label w.in_default.not-Do-0 (λ test found. w.in_default.is-1) (λ block slot found. w.in_default.is-1)))) c.share.ensures.shared;
+      }
+      | in_default-via-in-Truth+in_default w ↦ record {
+        least = IfOk-weaker c.share.result _ _
+            (λ after is. subst (λ (s : Store). IsCarried problem (pass_of (kinds_at problem c.args.from.0) c.args.from.1) label (stored s)) (sym is) (subst (λ k. IsCarried problem (pass_of k c.args.from.1) label label) (sym kind)
+            (same_least problem c.index.result.now.kind c.args.from.1 label w.in_default.not-Do-0 (λ test found. w.in_default.is-1) (λ block slot found. w.in_default.is-1)))) c.share.ensures.shared;
       }
       | in_default-via-in_default w ↦ record {
         least = IfOk-weaker c.share.result _ _
             (λ after is. subst (λ (s : Store). IsCarried problem (pass_of (kinds_at problem c.args.from.0) c.args.from.1) label (stored s)) (sym is) (subst (λ k. IsCarried problem (pass_of k c.args.from.1) label label) (sym kind)
-            (same_least problem c.index.result.now.kind c.args.from.1 label w.in_default.not-Do-0 (λ test found. absurd (w.in_default.not-Compare-0 test found))))) c.share.ensures.shared;
+            (same_least problem c.index.result.now.kind c.args.from.1 label w.in_default.not-Do-0 (λ test found. absurd (w.in_default.not-Compare-0 test found)) (λ block slot found. absurd (w.in_default.not-Truth-0 block slot found))))) c.share.ensures.shared;
       }
     ]
+
+pub returns-in-Truth-WhenTrue : goal.returns-in-Truth-WhenTrue
+returns-in-Truth-WhenTrue c =
+    let problem = c.args.self.now in
+    let block = block_code c.in-Truth-WhenTrue.block.now in
+    let slot = c.in-Truth-WhenTrue.slot in
+    let kind = kind_found problem.graph.nodes.items c.args.from.0 c.index.result.now c.requires.node c.index.ensures ∙ ap kind_of c.in-Truth-WhenTrue.is-0 in
+    let pass = ap (λ k. pass_of k c.args.from.1) kind ∙ ap (pass_of (Tells block slot)) c.in-Truth-WhenTrue.is-1 in
+    record {
+      least = IfOk-weaker c.tell.result _ _
+          (λ after least. subst (λ p. IsCarried problem p (stored c.args.label.now) (stored after)) (sym pass)
+          (tells_least problem true block slot (stored c.args.label.now) (stored after)
+          (subst (λ o. IsLeastOf (Adds (told_facts problem.program.now o slot true)) (stored c.args.label.now) (stored after)) c.last_op.ensures least))) c.tell.ensures.least;
+    }
+
+pub returns-in-Truth-WhenFalse : goal.returns-in-Truth-WhenFalse
+returns-in-Truth-WhenFalse c =
+    let problem = c.args.self.now in
+    let block = block_code c.in-Truth-WhenFalse.block.now in
+    let slot = c.in-Truth-WhenFalse.slot in
+    let kind = kind_found problem.graph.nodes.items c.args.from.0 c.index.result.now c.requires.node c.index.ensures ∙ ap kind_of c.in-Truth-WhenFalse.is-0 in
+    let pass = ap (λ k. pass_of k c.args.from.1) kind ∙ ap (pass_of (Tells block slot)) c.in-Truth-WhenFalse.is-1 in
+    record {
+      least = IfOk-weaker c.tell-in-Truth-WhenFalse.result _ _
+          (λ after least. subst (λ p. IsCarried problem p (stored c.args.label.now) (stored after)) (sym pass)
+          (tells_least problem false block slot (stored c.args.label.now) (stored after)
+          (subst (λ o. IsLeastOf (Adds (told_facts problem.program.now o slot false)) (stored c.args.label.now) (stored after)) c.last_op-in-Truth-WhenFalse.ensures least))) c.tell-in-Truth-WhenFalse.ensures.least;
+    }

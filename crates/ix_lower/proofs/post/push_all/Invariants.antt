@@ -1,0 +1,5 @@
+use Rattle.std.proofs.Common.{◌≡◌, ◌++◌, drop}
+use Rattle.ix_lower.proofs.post.push_all.Given as goal
+
+abbrev pub invariant-loop-post : goal.invariant-loop-post
+invariant-loop-post l = l.posts ++ drop l.post-index l.more ≡ l.fn.posts ++ l.more

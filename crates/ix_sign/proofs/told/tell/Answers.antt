@@ -1,0 +1,21 @@
+use Rattle.std.specs.Prelude.{option_map}
+use Rattle.std.proofs.Common.{sym, subst, ◌∙◌}
+use Rattle.ix_core.specs.declared.op.Op.{Op}
+use Rattle.ix_facts.specs.Stores.{IsAdded, with_facts}
+use Rattle.ix_facts.specs.Systems.{HaveClasses}
+use Rattle.ix_store.specs.StoredFacts.{stored}
+use Rattle.ix_claim_facts.specs.Signs.{told_facts}
+use Rattle.ix_claim_facts.proofs.LeastSteps.{least_given}
+use Rattle.ix_claim_facts.proofs.SignClasses.{told_have}
+use Rattle.ix_sign.proofs.told.tell.Goals as goal
+
+pub add-requires : goal.add-requires
+add-requires c = record { classes = subst HaveClasses (sym (c.deref.ensures.value ∙ c.in_ok-facts.ensures)) (told_have c.args.program.now (option_map (λ op. op.now) c.args.last) c.args.slot c.args.answer) }
+
+pub returns : goal.returns
+returns c =
+    let new = told_facts c.args.program.now (option_map (λ op. op.now) c.args.last) c.args.slot c.args.answer in
+    let s = stored c.args.store.now in
+    let t = stored c.in_ok-after.after in
+    let added : IsAdded new s t = subst (λ l. IsAdded l s t) (c.deref.ensures.value ∙ c.in_ok-facts.ensures) c.in_ok-after.ensures.after in
+    record { least = least_given (with_facts new) s t added }
