@@ -7,3 +7,4 @@ mod KeptFronts
 pub mod OneKind
 pub mod Searches
 mod PutFacts
+pub mod KeysApart

@@ -7,6 +7,7 @@ pub mod EntryLaws
 pub mod RisingLaws
 pub mod Walks
 pub mod FactTables
+pub mod Apart
 pub mod TableLaws
 -- Passed on from ix_fact_paths.
 pub use Rattle.ix_fact_paths.specs.Spared

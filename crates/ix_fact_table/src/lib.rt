@@ -6,6 +6,7 @@
 //! It never looks at a rule: which facts an operation gives is told to it.
 #![tactic(auto)]
 
+mod apart;
 mod entries;
 mod fact_table;
 mod filters;
@@ -19,6 +20,7 @@ mod sorted;
 mod tables;
 mod walks;
 
+pub use apart::{are_apart, are_proper};
 pub use fact_table::FactTable;
 pub use ix_fact_paths::{
     assigned_path, is_of_path, is_of_target, names_path, rounded_facts, some_name_path,

@@ -24,7 +24,7 @@ fn is_first(fact: &Fact) -> bool
     }
 }
 
-fn has_ends(fact: &Fact) -> bool
+pub(crate) fn has_ends(fact: &Fact) -> bool
     ensures { result ≡ spec.has_ends fact.now }
 {
     let _number = int_of(fact);
@@ -50,7 +50,7 @@ fn is_kept(kind: Kind, fact: &Fact) -> bool
     is_of_kind(kind, fact) && is_entry(fact)
 }
 
-fn is_before(fact: &Fact, other: &Fact) -> bool
+pub(crate) fn is_before(fact: &Fact, other: &Fact) -> bool
     ensures { result ≡ is_lt (fact_cmp fact.now other.now) }
 {
     match compare_facts(fact, other) {

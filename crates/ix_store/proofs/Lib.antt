@@ -9,4 +9,5 @@ mod JoinedStores
 mod NoFacts
 mod ClosedTests
 mod KnownStores
+mod WholeStores
 mod BesideTables

@@ -4,6 +4,7 @@ pub mod KnownParts
 pub mod SeenFacts
 pub mod StoreOrder
 pub mod StoreLaws
+pub mod WholeStores
 -- Passed on from ix_six_tables.
 pub use Rattle.ix_six_tables.specs.ChangedPaths
 -- Passed on from ix_outcomes.

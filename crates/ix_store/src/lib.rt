@@ -8,6 +8,7 @@
 
 mod closed;
 mod facts_after;
+mod given;
 mod know;
 mod known;
 mod known_bounds;

@@ -1,0 +1,2 @@
+-- The lines of a certificate.
+pub mod Lines

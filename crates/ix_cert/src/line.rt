@@ -1,0 +1,142 @@
+//! A fact as a line of a certificate.
+
+ghost use Rattle.std.specs.Prelude.{◌≡◌, ◌++◌, OnOk, IfOk, string_bytes, codes};
+ghost use Rattle.ix_cert.specs.Lines as spec;
+ghost use Rattle.ix_cert.specs.Lines.{path_text, fact_text};
+
+use ix_core::{Fact, Path, PathOff};
+use std::alloc::{AllocError, Global};
+
+/// Adds a path: `s3`, and `s3.1` for field 1 of the object in it.
+fn add_path(text: &mut String, path: &Path) -> Result<(), AllocError>
+    ensures { OnOk result (string_bytes text.new ≡ string_bytes text.old ++ path_text path.now) }
+{
+    match *path {
+        Path::Slot(slot) => write!(text, "s{slot}"),
+        Path::FieldOf(slot, field) => write!(text, "s{slot}.{field}"),
+    }
+}
+
+/// Adds two paths.
+fn add_two(text: &mut String, p: &Path, q: &Path) -> Result<(), AllocError>
+    ensures { OnOk result (string_bytes text.new ≡ string_bytes text.old ++ spec.two p.now q.now) }
+{
+    add_path(text, p)?;
+    text.push_str(" ")?;
+    add_path(text, q)
+}
+
+/// The text of a path.
+fn path_line(alloc: Global, path: &Path) -> Result<String, AllocError>
+    ensures { IfOk result (λ text. string_bytes text ≡ path_text path.now) }
+{
+    let mut text = String::new(alloc);
+    add_path(&mut text, path)?;
+    Ok(text)
+}
+
+/// Whether the text of the second path comes before that of the first.
+fn is_turned(alloc: Global, p: &Path, q: &Path) -> Result<bool, AllocError>
+    ensures { IfOk result (λ turned. turned ≡ spec.is_before (path_text q.now) (path_text p.now)) }
+{
+    let first = path_line(alloc, p)?;
+    let second = path_line(alloc, q)?;
+    Ok(second.as_bytes().cmp(first.as_bytes()).is_lt())
+}
+
+/// Adds two paths that may be exchanged, the one first whose text isn't the greater.
+fn add_both(alloc: Global, text: &mut String, p: &Path, q: &Path) -> Result<(), AllocError>
+    ensures { OnOk result (string_bytes text.new ≡ string_bytes text.old ++ spec.both_texts p.now q.now) }
+{
+    if is_turned(alloc, p, q)? {
+        return add_two(text, q, p);
+    }
+    add_two(text, p, q)
+}
+
+/// Adds a bound at a sum.
+fn add_sum_bound(text: &mut String, p: &Path, a: &Path, q: &Path) -> Result<(), AllocError>
+    ensures { OnOk result (string_bytes text.new ≡ string_bytes text.old ++ spec.sum_bound p.now a.now q.now) }
+{
+    add_two(text, p, a)?;
+    text.push_str(" +")?;
+    add_path(text, q)
+}
+
+/// Adds a bound from an array's end, without its constant.
+fn add_bound(alloc: Global, text: &mut String, p: &Path, a: &Path, offset: &PathOff) -> Result<(), AllocError>
+    ensures { OnOk result (string_bytes text.new ≡ string_bytes text.old ++ spec.bound_text p.now a.now offset.now) }
+{
+    match offset {
+        PathOff::Nothing => {
+            add_two(text, p, a)?;
+            text.push_str(" 0")
+        }
+        PathOff::Plus(q) => {
+            if is_turned(alloc, p, q)? {
+                return add_sum_bound(text, q, a, p);
+            }
+            add_sum_bound(text, p, a, q)
+        }
+        PathOff::Minus(q) => {
+            add_two(text, p, a)?;
+            text.push_str(" -")?;
+            add_path(text, q)
+        }
+    }
+}
+
+/// Adds a fact, without its line's end.
+pub fn add_fact(alloc: Global, text: &mut String, fact: &Fact) -> Result<(), AllocError>
+    ensures text { OnOk result (string_bytes text.new ≡ string_bytes text.old ++ fact_text fact.now) }
+{
+    match fact {
+        Fact::Rng(p, low, high) => {
+            text.push_str("rng ")?;
+            add_path(text, p)?;
+            write!(text, " {low} {high}")
+        }
+        Fact::LenRng(a, low, high) => {
+            text.push_str("len ")?;
+            add_path(text, a)?;
+            write!(text, " {low} {high}")
+        }
+        Fact::Low(p, low) => {
+            text.push_str("low ")?;
+            add_path(text, p)?;
+            write!(text, " {low}")
+        }
+        Fact::Same(a, b) => {
+            text.push_str("same ")?;
+            add_both(alloc, text, a, b)
+        }
+        Fact::IsLen(p, a) => {
+            text.push_str("islen ")?;
+            add_two(text, p, a)
+        }
+        Fact::Less(p, q, constant) => {
+            text.push_str("less ")?;
+            add_two(text, p, q)?;
+            write!(text, " {constant}")
+        }
+        Fact::Sum(t, y, z) => {
+            text.push_str("sum ")?;
+            add_path(text, t)?;
+            text.push_str(" ")?;
+            add_both(alloc, text, y, z)
+        }
+        Fact::Search(p, a) => {
+            text.push_str("search ")?;
+            add_two(text, p, a)
+        }
+        Fact::Neg(p, a) => {
+            text.push_str("neg ")?;
+            add_two(text, p, a)
+        }
+        Fact::Upper(p, a, offset, constant) => {
+            text.push_str("upper ")?;
+            add_bound(alloc, text, p, a, offset)?;
+            write!(text, " {constant}")
+        }
+    }
+}
