@@ -8,17 +8,19 @@ use Rattle.ix_core.specs.declared.claim.Claim.TheVariants.{Range, Low, Length, S
 use Rattle.ix_core.specs.declared.claim.Name.{Name}
 use Rattle.ix_core.specs.declared.claim.Off.{Off}
 use Rattle.ix_core.specs.declared.claim.Off.TheVariants as off
+use Rattle.ix_core.specs.declared.claim.Post.{Post}
 use Rattle.ix_core.specs.declared.claim.Type_.{Type_}
 use Rattle.ix_core.specs.declared.fact.Path.{Path}
 use Rattle.ix_core.specs.Formed.{claim_fits, offset_fits, is_int_of, is_array_of, others}
+use Rattle.ix_core.specs.Posts.{same_when}
 use Rattle.ix_core.specs.SameClaims.{same_name}
-use Rattle.ix_core.specs.Types.{is_int_type, is_array_type}
+use Rattle.ix_core.specs.Types.{int_type, is_int_type, is_array_type}
 use Rattle.ix_core.proofs.Cases.{by_test}
 use Rattle.ix_steps.specs.MachineSteps.{on_paths, path_offset}
-use Rattle.ix_claim_facts.specs.Signs.{claims_facts}
+use Rattle.ix_claim_facts.specs.Signs.{claims_facts, posts_facts}
 use Rattle.ix_facts.specs.Assume.{claim_facts}
 use Rattle.ix_within.proofs.Paths.{OffsetWithin, ClaimWithin}
-use Rattle.ix_within.proofs.Lists.{Each, none, both}
+use Rattle.ix_within.proofs.Lists.{Each, none, both, if_within}
 use Rattle.ix_within.proofs.Tests.{claim_within}
 
 -- each name that has a type stands for one of these paths
@@ -72,6 +74,19 @@ module _ (In : Path → Type 0) (types : Name → Option Type_) (path : Name →
       by_test (test claim)
       (λ t. rw t (both In (claim_facts (on_paths path claim) p) (claims_facts path p (filter test claims)) (claim_within In (on_paths path claim) p (claim_in ty claim a.0) i) (filtered_in test ty claims p a.1 i)))
       (λ t. rw t (filtered_in test ty claims p a.1 i))
+
+  abbrev pub post_suits : Post → Bool
+  post_suits post = is_int_of (types post.on) && claim_fits int_type types post.claim
+
+  -- the posts of an answer, or of every return
+  pub posts_in : (wanted : Option Bool) (posts : List Post) → list_all post_suits posts ≡ true → Each In (posts_facts path wanted posts)
+  posts_in wanted [] h = none
+  posts_in wanted (post ∷ posts) h =
+      let a = and_parts (post_suits post) (list_all post_suits posts) h in
+      let b = and_parts (is_int_of (types post.on)) (claim_fits int_type types post.claim) a.0 in
+      both In _ (posts_facts path wanted posts)
+      (if_within In (same_when post.when wanted) _ (claim_within In (on_paths path post.claim) (path post.on) (claim_in int_type post.claim b.1) (int_in post.on b.0)))
+      (posts_in wanted posts a.1)
 
 -- a declaration's own name aside
 pub others_named : (In : Path → Type 0) (itself : Name) (types : Name → Option Type_) (path : Name → Path) → AllNamed In types path → AllNamed In (others itself types) path

@@ -16,7 +16,8 @@ use Rattle.ix_facts.specs.Forget.{names, offset_names}
 use Rattle.ix_facts.specs.Stores.{Stored, Unreachable, Reached, IsBelow, IsAbove, Gives, Then, OutcomesGive, with_outcome}
 use Rattle.ix_facts.proofs.SaidLaws.{default_is, is_a_default, said_itself}
 use Rattle.ix_facts.proofs.Tests.{neither, or_first, or_second}
-use Rattle.ix_within.specs.Within.{is_apart, is_out, is_within, are_within, StoreWithin}
+use Rattle.ix_fact_table.specs.Apart.{compares_two}
+use Rattle.ix_within.specs.Within.{is_out, is_within, are_within, StoreWithin}
 use Rattle.ix_within.proofs.Paths.{OffsetWithin, Within, AreWithin, OutcomeWithin}
 use Rattle.ix_within.proofs.Closing.{covered_within, follows_within}
 use Rattle.ix_within.proofs.Lists.{each_in, kept_within}
@@ -48,7 +49,7 @@ module _ (is_in : Path → Bool) where
   inside_offset (Plus q) n = inside q n
   inside_offset (Minus q) n = inside q n
 
-  inside_fact : (f : Fact) → names (is_out is_in) f ≡ false → is_apart f ≡ true → Within In f
+  inside_fact : (f : Fact) → names (is_out is_in) f ≡ false → compares_two f ≡ true → Within In f
   inside_fact (Rng p l h) n a = inside p n
   inside_fact (LenRng p l h) n a = inside p n
   inside_fact (Low p c) n a = inside p n
@@ -79,7 +80,7 @@ module _ (is_in : Path → Bool) where
   names_none (Neg p q) i = let x = outside p i.0 in let y = outside q i.1 in rw x (rw y refl)
   names_none (Upper p q o c) i = let x = outside p i.0 in let y = outside q i.1 in let z = no_offset o i.2 in rw x (rw y (rw z refl))
 
-  apart_none : (f : Fact) → Within In f → is_apart f ≡ true
+  apart_none : (f : Fact) → Within In f → compares_two f ≡ true
   apart_none (Less p q c) i = not_from_false (is_path p q) i.2
   apart_none (Rng p l h) i = refl
   apart_none (LenRng p l h) i = refl
@@ -94,14 +95,14 @@ module _ (is_in : Path → Bool) where
   within_of : (f : Fact) → is_within is_in f ≡ true → Default f ⊎ Within In f
   within_of f t =
       by_test (is_default f) (λ d. inl (is_a_default f d))
-      (λ n. let both = and_parts (not (names (is_out is_in) f)) (is_apart f) (Rattle.ix_facts.proofs.Tests.or_else (is_default f) (not (names (is_out is_in) f) && is_apart f) t n) in
+      (λ n. let both = and_parts (not (names (is_out is_in) f)) (compares_two f) (Rattle.ix_facts.proofs.Tests.or_else (is_default f) (not (names (is_out is_in) f) && compares_two f) t n) in
       inr (inside_fact f (not-true (names (is_out is_in) f) both.0) both.1))
 
   of_within : (f : Fact) → Default f ⊎ Within In f → is_within is_in f ≡ true
   of_within f w =
       ⊎_elim
-      (λ d. or_first (is_default f) (not (names (is_out is_in) f) && is_apart f) (default_is f d))
-      (λ i. or_second (is_default f) (not (names (is_out is_in) f) && is_apart f) (let x = names_none f i in let y = apart_none f i in rw x (rw y refl)))
+      (λ d. or_first (is_default f) (not (names (is_out is_in) f) && compares_two f) (default_is f d))
+      (λ i. or_second (is_default f) (not (names (is_out is_in) f) && compares_two f) (let x = names_none f i in let y = apart_none f i in rw x (rw y refl)))
       w
 
   pub are_of : (facts : List Fact) → are_within is_in facts ≡ true → AreWithin In facts

@@ -23,14 +23,14 @@ use Rattle.ix_core.specs.Tables.{method_at, field_at, no_field, param_slot, is_a
 use Rattle.ix_core.specs.Types.{Point, is_type, is_void, is_empty, is_class}
 use Rattle.ix_core.proofs.Ancestors.{first_among, rest_among}
 use Rattle.ix_core.proofs.Cases.{by_test}
-use Rattle.ix_core.proofs.FormedParts.{fields_all}
+use Rattle.ix_core.proofs.FormedParts.{fields_all, posts_are}
 use Rattle.ix_core.proofs.TypedCalls.{method_has}
 use Rattle.ix_facts.specs.AfterOperation.{is_int, is_array}
 use Rattle.ix_steps.specs.MachineSteps.{own_path}
 use Rattle.ix_claim_facts.specs.Names.{call_path, object_path, names_field, param_in, local_in, or_else}
-use Rattle.ix_claim_facts.specs.Signs.{claims_facts, params_facts, received, received_params, zero_facts, zero_fields, fields_facts, dependent_facts}
+use Rattle.ix_claim_facts.specs.Signs.{claims_facts, posts_facts, params_facts, received, received_params, zero_facts, zero_fields, fields_facts, dependent_facts}
 use Rattle.ix_method.specs.MethodRules.{variable_claims, copied_claims}
-use Rattle.ix_within.proofs.Claims.{AllNamed, claims_in, filtered_in, others_named}
+use Rattle.ix_within.proofs.Claims.{AllNamed, claims_in, posts_in, filtered_in, others_named}
 use Rattle.ix_within.proofs.Inside.{method, local_types, In, field_is, field_within, slot_of_param, names_inside, local_names_inside, field_names_inside}
 use Rattle.ix_within.proofs.Lists.{Each, none, one, both, if_within}
 
@@ -203,3 +203,9 @@ module _ (program : Program) (locals : List (List Type_)) (formed : is_formed pr
         by_void true e = empty (method_at program call.method).result_claims e
         by_void false e =
             claims_in Inside (named_type program (method_at program call.method)) (call_path call) call_named (method_at program call.method).result (method_at program call.method).result_claims p (and_parts (is_type program (method_at program call.method).result) _ e).1 i
+
+    -- what the named method promises where it returns
+    pub posts_within : (wanted : Option Bool) → Each Inside (posts_facts (call_path call) wanted (method_at program call.method).posts)
+    posts_within wanted =
+        let a = and_parts _ _ (posts_are program locals formed call.method callee) in
+        posts_in Inside (named_type program (method_at program call.method)) (call_path call) call_named wanted (method_at program call.method).posts (and_parts _ _ a.1).0

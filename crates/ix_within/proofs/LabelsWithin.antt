@@ -21,7 +21,7 @@ use Rattle.ix_core.specs.declared.program.Method.{Method}
 use Rattle.ix_core.specs.declared.program.Program.{Program}
 use Rattle.ix_core.specs.Formed.{is_formed, at_most, is_slot, is_target, reads, literal_fits, op_fits, operand_fits, copy_fits, variable_type, is_array_at, are_entries, field_fits, call_fits, new_fits, static_fits, instance_fits, super_fits, args_fit, receiver_fits, is_there, has_this, is_this}
 use Rattle.ix_core.specs.Tables.{method_at, class_at, field_at, body_of, is_among, param_slots}
-use Rattle.ix_core.specs.Types.{Point, is_array, is_class, int_type, cell_type, class_type}
+use Rattle.ix_core.specs.Types.{Point, is_array, is_class, is_void, int_type, cell_type, class_type}
 use Rattle.ix_core.proofs.TypedCalls.{method_has, params_count, not_static}
 use Rattle.ix_facts.specs.After.{TargetApart}
 use Rattle.ix_facts.specs.AfterOperation as after
@@ -34,18 +34,18 @@ use Rattle.ix_facts.proofs.RoundLaws.{rounded_weaker}
 use Rattle.ix_facts.proofs.SaidLaws.{default_weaker}
 use Rattle.ix_flow.specs.Flow.{IsLeastFlow}
 use Rattle.ix_claim_facts.specs.Names.{is_built}
-use Rattle.ix_claim_facts.specs.Signs.{Adds, Forgets, Copies, entry_facts, read_facts, write_facts, result_facts, own_fields, inherited_fields, fields_above, zero_fields, fields_facts, has_no_parent}
+use Rattle.ix_claim_facts.specs.Signs.{Adds, Forgets, Copies, entry_facts, read_facts, write_facts, result_facts, answer_facts, told_by, told_by_call, told_facts, own_fields, inherited_fields, fields_above, zero_fields, fields_facts, has_no_parent}
 use Rattle.ix_method.specs.MethodRules.{method_rules, KindGives, AfterGives}
 use Rattle.ix_within.specs.Within.{StoreWithin, is_inside}
 use Rattle.ix_within.proofs.Paths.{OperationWithin}
 use Rattle.ix_within.proofs.Cut.{cut}
-use Rattle.ix_within.proofs.Fitting.{Maps}
+use Rattle.ix_within.proofs.Fitting.{Maps, LastFits}
 use Rattle.ix_within.proofs.After.{after_within, copy_within}
 use Rattle.ix_within.proofs.Closing.{covered_within}
 use Rattle.ix_within.proofs.Cut.{AllOutcomesWithin, cut_below, cut_gives, cut_then, cut_outcomes, above_cut, within_cut}
-use Rattle.ix_within.proofs.Declared.{received_within, copied_within, params_within, received_all, field_facts, dependent_within, zero_fields_within, fields_within, result_within}
+use Rattle.ix_within.proofs.Declared.{received_within, copied_within, params_within, received_all, field_facts, dependent_within, zero_fields_within, fields_within, result_within, posts_within}
 use Rattle.ix_within.proofs.Inside.{method, local_types, In, field_is, own_field_is, field_within, this_is}
-use Rattle.ix_within.proofs.Lists.{Each, both, if_within, so_within, kept_within}
+use Rattle.ix_within.proofs.Lists.{Each, none, both, if_within, so_within, kept_within}
 use Rattle.ix_within.proofs.Mapped.{least_mapped}
 use Rattle.ix_within.proofs.Stored.{without_within, app_within, each_are}
 use Rattle.ix_within.proofs.Typed.{OpTyped, TestTyped, body_typed}
@@ -122,7 +122,15 @@ module _ (program : Program) (locals : List (List Type_)) (formed : is_formed pr
   result_in types call h receiver =
       let parts = call_parts types call h in
       both Inside _ _ (received_within Inside (method_at program call.method).result (Slot call.target) parts.2)
-      (result_within program locals formed number lt types call parts.0 parts.1 receiver (Slot call.target) parts.2)
+      (both Inside _ _ (result_within program locals formed number lt types call parts.0 parts.1 receiver (Slot call.target) parts.2)
+      (posts_within program locals formed number lt types call parts.0 parts.1 receiver None))
+
+  told_in : (types : Point) (call : CallOp) (slot : ℕ) (answer : Bool) → call_fits program own types call ≡ true
+      → (has_this program (method_at program call.method) ≡ true → is_slot program own (unwrap_or call.receiver 0) ≡ true) → Each Inside (told_by_call program call slot answer)
+  told_in types call slot answer h receiver =
+      let parts = call_parts types call h in
+      if_within Inside (call.target == slot && not (is_void (method_at program call.method).result)) (answer_facts program call answer)
+      (posts_within program locals formed number lt types call parts.0 parts.1 receiver (Some answer))
 
   call_cut : (types : Point) (call : CallOp) → call_fits program own types call ≡ true → (has_this program (method_at program call.method) ≡ true → is_slot program own (unwrap_or call.receiver 0) ≡ true)
       → (s t : Stored) → Rattle.ix_claim_facts.specs.Signs.CallGives program own call s t → Rattle.ix_claim_facts.specs.Signs.CallGives program own call (cut inside s) (cut inside t)
@@ -247,6 +255,38 @@ module _ (program : Program) (locals : List (List Type_)) (formed : is_formed pr
   after_cut : (done : Op) → OpTyped program own types_of done → (s t : Stored) → AfterGives program own profile done s t → AfterGives program own profile done (cut inside s) (cut inside t)
   after_cut done (types, fits) s t gives = kind_cut done done.kind types fits s t gives
 
+  -- ---- what a boolean slot tells
+
+  told_kind : (done : Op) (kind : OpKind) (types : Point) (slot : ℕ) (answer : Bool) → op_fits program own types_of types done kind ≡ true → Each Inside (told_by program kind slot answer)
+  told_kind done (op.StaticCall call) types slot answer h =
+      let a = and_parts (static_fits program own types call) _ h in
+      let b = and_parts (call_fits program own types call) _ a.0 in
+      let c = and_parts (method_at program call.method).is_static _ b.1 in
+      told_in types call slot answer b.0 (λ this. absurd (not_this (method_at program call.method) c.0 this))
+  told_kind done (op.InstanceCall call) types slot answer h =
+      let a = and_parts (instance_fits program own types call) _ h in
+      let b = and_parts (call_fits program own types call) _ a.0 in
+      let c = and_parts (receiver_fits program own types call.receiver call.target call.class) _ b.1 in
+      told_in types call slot answer b.0 (λ this. receiver_in types call.receiver call.target call.class c.0)
+  told_kind done (op.Const target value) types slot answer h = none
+  told_kind done (op.Copy target source ty) types slot answer h = none
+  told_kind done (op.Num target arith_op left right) types slot answer h = none
+  told_kind done (op.Unary target unary operand) types slot answer h = none
+  told_kind done (op.Length target array) types slot answer h = none
+  told_kind done (op.NewArray target ty size) types slot answer h = none
+  told_kind done (op.Fill target ty entries) types slot answer h = none
+  told_kind done (op.Load target array index ty) types slot answer h = none
+  told_kind done (op.Store array index value ty) types slot answer h = none
+  told_kind done (op.Print value) types slot answer h = none
+  told_kind done (op.ReadField target object field) types slot answer h = none
+  told_kind done (op.WriteField object field value) types slot answer h = none
+  told_kind done (op.NewObject call) types slot answer h = none
+  told_kind done (op.SuperCall call) types slot answer h = none
+
+  last_told : (last : Option Op) (slot : ℕ) (answer : Bool) → LastFits (OpTyped program own types_of) (TestTyped program own types_of) last → Each Inside (told_facts program last slot answer)
+  last_told None slot answer fits = none
+  last_told (Some done) slot answer (types, fits) = told_kind done done.kind types slot answer fits
+
   -- ---- tests
 
   operand_in : (types : Point) (slot : ℕ) (ty : Type_) → operand_fits program own types slot ty ≡ true → Inside (Slot slot)
@@ -304,7 +344,7 @@ module _ (program : Program) (locals : List (List Type_)) (formed : is_formed pr
     entry = λ s entry. above_cut inside (entry_facts program own) (each_are Inside (entry_facts program own) entry_within) s entry;
     after = after_cut;
     tested = λ answer test typed s t gives. cut_outcomes inside (outcomes_of answer test) (told answer test (operand_in typed.0 test.left test.ty typed.1) (operand_in typed.0 test.right test.ty typed.2)) s t gives;
-    told = λ answer last slot fits s t gives. cut_below inside s t gives;
+    told = λ answer last slot fits s t gives. adds inside (told_facts program last slot answer) (last_told last slot answer fits) s t gives;
     rounded = λ scope s t gives. (gives.0, gives.1, rounds inside gives.0 scope s t gives.2);
   }
 

@@ -4,7 +4,7 @@ use Rattle.std.proofs.Common.{subst}
 use Rattle.ix_core.specs.declared.op.Op.{Op}
 use Rattle.ix_core.specs.declared.op.Test.{Test}
 use Rattle.ix_core.specs.Code.{Code, End, Do, If, Break, Continue, Return, Throw, Loop, Condition, Known, Compare, Truth, Both, Either, Opposite}
-use Rattle.ix_flow.specs.LastDone.{last_done}
+use Rattle.ix_core.specs.Posts.{last_done}
 use Rattle.ix_flow.specs.Flow.{Rules, Flows, Asks, IsFlow, IsLeastFlow, Anything}
 use Rattle.ix_within.proofs.Fitting.{AllFit, AllAsked, LastFits, Maps}
 

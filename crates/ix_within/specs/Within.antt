@@ -3,21 +3,15 @@ use Rattle.std.specs.Prelude.{◌≡◌, ℕ, nat_lt, Bool, true, not, ◌&&◌,
 use Rattle.ix_core.specs.declared.fact.Path.{Path}
 use Rattle.ix_core.specs.declared.fact.Path.TheVariants.{Slot, FieldOf}
 use Rattle.ix_core.specs.declared.fact.Fact.{Fact}
-use Rattle.ix_core.specs.declared.fact.Fact.TheVariants.{Less}
-use Rattle.ix_facts.specs.Bounds.{is_path}
 use Rattle.ix_facts.specs.Facts.{is_default}
 use Rattle.ix_facts.specs.Forget.{names}
 use Rattle.ix_facts.specs.Stores.{Stored, Unreachable, Reached}
+use Rattle.ix_fact_table.specs.Apart.{compares_two}
 
 -- a slot of the method, or a field of the program of the object in one
 abbrev pub is_inside : ℕ → ℕ → Path → Bool
 is_inside slots fields (Slot slot) = nat_lt slot slots
 is_inside slots fields (FieldOf slot field) = nat_lt slot slots && nat_lt field fields
-
--- a difference is one of two paths
-abbrev pub is_apart : Fact → Bool
-is_apart (Less p q c) = not (is_path p q)
-is_apart _ = true
 
 module _ (is_in : Path → Bool) where
   abbrev pub is_out : Path → Bool
@@ -25,7 +19,7 @@ module _ (is_in : Path → Bool) where
 
   -- The fact names no path but these, and compares no int with itself; or it is a range that is said of every path.
   abbrev pub is_within : Fact → Bool
-  is_within f = is_default f || (not (names is_out f) && is_apart f)
+  is_within f = is_default f || (not (names is_out f) && compares_two f)
 
   abbrev pub are_within : List Fact → Bool
   are_within [] = true
