@@ -64,7 +64,13 @@ fn add_sum_bound(text: &mut String, p: &Path, a: &Path, q: &Path) -> Result<(), 
 }
 
 /// Adds a bound from an array's end, without its constant.
-fn add_bound(alloc: Global, text: &mut String, p: &Path, a: &Path, offset: &PathOff) -> Result<(), AllocError>
+fn add_bound(
+    alloc: Global,
+    text: &mut String,
+    p: &Path,
+    a: &Path,
+    offset: &PathOff,
+) -> Result<(), AllocError>
     ensures { OnOk result (string_bytes text.new ≡ string_bytes text.old ++ spec.bound_text p.now a.now offset.now) }
 {
     match offset {

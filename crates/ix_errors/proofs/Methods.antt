@@ -15,6 +15,10 @@ use Rattle.ix_errors.specs.MethodErrors.{IsErrorOf, IsErrorBelow, HaveNone, node
 use Rattle.ix_labels.specs.Visits.{VisitsWithin}
 use Rattle.ix_errors.specs.Visits.{VisitsOfFirst}
 
+-- what was added to an empty list is all that is there
+pub only_added : (Derived : Error → ℕ → Type 0) (old new : List Ranked) → old ≡ [] → AddsExactly Derived old new → AreExactly Derived new
+only_added Derived old new none (more, is, exact) = subst (AreExactly Derived) (sym (is ∙ ap (λ before. before ++ more) none)) exact
+
 module _ (program : Program) (profile : Profile) where
   pub no_methods : (errors : List Ranked) → errors ≡ [] → AreExactly (IsErrorBelow program profile 0) errors
   no_methods errors none = subst (AreExactly (IsErrorBelow program profile 0)) (sym none) (exactly_none (IsErrorBelow program profile 0) (λ error rank below. absurd (omega (arith, below.before))))

@@ -11,4 +11,4 @@ mod nodes;
 mod program;
 
 pub use ix_sound::soundness;
-pub use program::program_errors;
+pub use program::{method_errors, program_errors};

@@ -1,8 +1,8 @@
-//! All errors of a program.
+//! All errors of a program, and those of one of its methods.
 
-ghost use Rattle.std.specs.Prelude.{◌≡◌, ◌+◌, ◌≤◌, [], IfOk, length};
+ghost use Rattle.std.specs.Prelude.{◌≡◌, ◌+◌, ◌≤◌, ◌<◌, [], IfOk, length};
 ghost use Rattle.ix_method_errors.specs.Exactly.{AreExactly};
-ghost use Rattle.ix_errors.specs.MethodErrors.{IsReady, IsError, HaveNone, nodes_below};
+ghost use Rattle.ix_errors.specs.MethodErrors.{IsReady, IsErrorOf, IsError, HaveNone, nodes_below};
 ghost use Rattle.ix_errors.specs.Visits.{AllVisitsWithin};
 
 use crate::method::push_method_errors;
@@ -30,5 +30,22 @@ pub fn program_errors<L: Ledger>(
     for number in 0..program.methods.len() as u32 {
         push_method_errors(alloc, &mut out, program, number, profile, steps)?;
     }
+    Ok(out)
+}
+
+/// The errors of the method of this number in a profile, each with the place of its claim in its declaration, in any order. The one error is want of memory.
+pub fn method_errors<L: Ledger>(
+    alloc: Global,
+    program: &Program,
+    number: u32,
+    profile: Profile,
+    steps: &mut Steps<L>,
+) -> Result<Vec<Ranked>, AllocError>
+    requires ready { IsReady program.now }
+    requires number { number < length program.now.methods }
+    ensures errors { IfOk result (λ errors. AreExactly (IsErrorOf program.now profile number) errors.items) }
+{
+    let mut out = Vec::new(alloc);
+    push_method_errors(alloc, &mut out, program, number, profile, steps)?;
     Ok(out)
 }

@@ -1,10 +1,9 @@
-//! Drawn programs with methods that promise bounds.
+//! Drawn programs with methods that promise bounds: in `ideal`, and in `int32` too where the answer is another one.
 use crate::row::is_right;
 use ix_tool::Status;
 use std::test::Fail;
 
-/// In `ideal`, and in `int32` too where the answer is another one.
-const ROWS: &[(&str, &str, Status, &str)] = &[
+const ROWS_1: &[(&str, &str, Status, &str)] = &[
     (
         "class A { @EnsuresLTLengthOf(value = \"#2\", targetValue = \"#1\", offset = \"#2\") @EnsuresLTLengthOf(value = \"#2\", targetValue = \"#1\", offset = \"-1\") static int m0(int[] a, @NonNegative int i) { if (i >= a.length - i) { throw new X(); } if (i >= a.length + 1) { throw new X(); } return i; } static void m1(int[] a, int i, int[] b, int k) { if (k >= 0 && k < b.length) { System.out.println(b[k]); } } }",
         "ideal",
@@ -53,6 +52,17 @@ const ROWS: &[(&str, &str, Status, &str)] = &[
         Status::Done,
         "accepted: 2 methods, 0 accesses\n",
     ),
+];
+
+#[test]
+fn drawn_1(rt: HostRuntime) -> Result<(), Fail> {
+    for &(text, sums, status, expected) in ROWS_1 {
+        assert!(rt; is_right(rt.alloc(), sums, text, status, expected)?);
+    }
+    Ok(())
+}
+
+const ROWS_2: &[(&str, &str, Status, &str)] = &[
     (
         "class A { int[] d; int n; @EnsuresLTLengthOf(value = \"#2\", targetValue = \"#1\", offset = \"-1\") @EnsuresLTLengthOf(value = \"#2\", targetValue = \"#1\") static void m0(int[] a, @NonNegative int i) { if (i < a.length) { boolean q1 = A.m2(a, i, i); if (q1) { if ((!(A.m2(a, i, i)) || i >= a.length)) { throw new X(); } } } if (i >= a.length + 1) { throw new X(); } if (i >= a.length) { throw new X(); } } @EnsuresLTLengthOfIf(expression = \"this.n\", result = true, targetValue = \"#3\") boolean m1(int[] a, @NonNegative int i, int[] b, A o) { return this.n < b.length; } static boolean m2(int[] a, int i, int k) { A.m2(a, k, i); boolean q1 = A.m2(a, k, k); if (q1) { if (k >= 0 && k < a.length) { System.out.println(a[k]); } } if (k >= a.length) { throw new X(); } return A.m2(a, 1, k); } }",
         "ideal",
@@ -101,6 +111,17 @@ const ROWS: &[(&str, &str, Status, &str)] = &[
         Status::Rejected,
         "A.java:1:145: post.claim: i: value + i < a.length\nA.java:1:145: post.claim: k: value + i < a.length\nA.java:1:220: access.low\nA.java:1:220: access.high\nA.java:1:243: argument.claim: k: value >= 0\nA.java:1:509: argument.claim: k: value >= 0\nA.java:1:617: argument.claim: k: value >= 0\nA.java:1:707: post.claim: i: value + i < a.length\nrejected: 8 errors\n",
     ),
+];
+
+#[test]
+fn drawn_2(rt: HostRuntime) -> Result<(), Fail> {
+    for &(text, sums, status, expected) in ROWS_2 {
+        assert!(rt; is_right(rt.alloc(), sums, text, status, expected)?);
+    }
+    Ok(())
+}
+
+const ROWS_3: &[(&str, &str, Status, &str)] = &[
     (
         "class A { @EnsuresLTLengthOf(value = {\"i\", \"#3\"}, targetValue = \"#1\", offset = \"#2\") static int m0(int[] a, @NonNegative int i, int k) { return k; } static void m1(int[] a, int i, int[] b, int k) { System.out.println(a[i]); while (A.m2(a, 3, k)) { if (i >= 0 && i < a.length) { System.out.println(a[i]); } } } @EnsuresLTLengthOfIf(expression = \"#2\", result = true, targetValue = \"a\", offset = \"#2\") static boolean m2(int[] a, int i, @NonNegative int k) { if (((A.m2(a, i, 5) && k >= a.length) || (A.m2(a, i, i) || A.m2(a, i, k)))) { if (k >= 0 && A.m2(a, k, 5)) { System.out.println(a[k]); } } else { if (A.m2(a, k, i)) { return A.m2(a, i, k); } } if (A.m2(new int[4], k, k)) { if (A.m2(a, 2, k)) { return true; } } if (k >= 0 && k < a.length) { System.out.println(a[k]); } return i < a.length - i; } }",
         "int32",
@@ -149,6 +170,17 @@ const ROWS: &[(&str, &str, Status, &str)] = &[
         Status::Rejected,
         "A.java:1:304: post.claim: i: value - 1 < a.length\nA.java:1:304: post.claim: k: value - 1 < a.length\nA.java:1:386: argument.claim: i: value >= 0\nrejected: 3 errors\n",
     ),
+];
+
+#[test]
+fn drawn_3(rt: HostRuntime) -> Result<(), Fail> {
+    for &(text, sums, status, expected) in ROWS_3 {
+        assert!(rt; is_right(rt.alloc(), sums, text, status, expected)?);
+    }
+    Ok(())
+}
+
+const ROWS_4: &[(&str, &str, Status, &str)] = &[
     (
         "class A { int[] d; int n; @EnsuresLTLengthOfIf(expression = \"#2\", result = true, targetValue = \"#1\", offset = \"#2\") static boolean m0(int[] a, int i) { return i < a.length - i; } @EnsuresLTLengthOf(value = \"this.n\", targetValue = \"this.d\", offset = \"i\") int m1(int[] a, int i, @NonNegative int k) { if (this.n >= this.d.length - i) { throw new X(); } return 3; } void m2(int i, @NonNegative int k, A o) { if (i >= 0) { this.d[i] = i; } while ((this.n >= i && (A.m0(this.d, i) || k >= this.d.length))) { if (k >= 0 && A.m0(this.d, i)) { System.out.println(this.d[k]); } } d = new int[4]; } }",
         "ideal",
@@ -197,6 +229,17 @@ const ROWS: &[(&str, &str, Status, &str)] = &[
         Status::Rejected,
         "A.java:1:92: argument.claim: i: value >= 0\nA.java:1:136: access.low\nA.java:1:136: access.high\nrejected: 3 errors\n",
     ),
+];
+
+#[test]
+fn drawn_4(rt: HostRuntime) -> Result<(), Fail> {
+    for &(text, sums, status, expected) in ROWS_4 {
+        assert!(rt; is_right(rt.alloc(), sums, text, status, expected)?);
+    }
+    Ok(())
+}
+
+const ROWS_5: &[(&str, &str, Status, &str)] = &[
     (
         "class A { static boolean m0(int[] a, @NonNegative int i) { A.m0(a, i); if (i >= a.length) { throw new X(); } return (i - i) <= 3; } @EnsuresLTLengthOf(value = \"#2\", targetValue = \"#1\", offset = \"-1\") static int m1(int[] a, int i, int k) { if (A.m0(a, k)) { A.m2(a, i); } else { if (i >= 0 && A.m0(a, k)) { System.out.println(a[i]); } } if (!(k >= k)) { return i; } return 1; } @EnsuresLTLengthOf(value = \"#2\", targetValue = \"#1\", offset = \"#2\") static void m2(int[] a, int i) { if (i >= a.length - i) { throw new X(); } } }",
         "ideal",
@@ -248,8 +291,8 @@ const ROWS: &[(&str, &str, Status, &str)] = &[
 ];
 
 #[test]
-fn drawn(rt: HostRuntime) -> Result<(), Fail> {
-    for &(text, sums, status, expected) in ROWS {
+fn drawn_5(rt: HostRuntime) -> Result<(), Fail> {
+    for &(text, sums, status, expected) in ROWS_5 {
         assert!(rt; is_right(rt.alloc(), sums, text, status, expected)?);
     }
     Ok(())

@@ -1,5 +1,5 @@
 -- What an obeyed command leaves is what a call of the tool promises.
-use Rattle.std.proofs.Common.{◌≡◌, ◌≢◌, ◌⊎◌, inl, inr, ℕ, true, List, [], ◌++◌, append-nil, Option, Some, ap, sym, subst, ◌∙◌, refl}
+use Rattle.std.proofs.Common.{◌≡◌, ◌≢◌, ◌⊎◌, inl, inr, ℕ, Bool, true, List, [], ◌++◌, append-nil, Option, Some, ap, sym, subst, ◌∙◌, refl}
 use Rattle.ix_answer.specs.declared.status.Status.{Status}
 use Rattle.ix_answer.specs.declared.status.Status.TheVariants.{Done, Rejected, Usage, ReadFault, WriteFault, Limit, Memory, Stopped, StepsSpent, InputsRefused}
 use Rattle.std.specs.Prelude.{Result, Ok, Err, IfOk}
@@ -15,7 +15,7 @@ use Rattle.ix_outside.specs.Reading.{IsAllOrPast}
 use Rattle.ix_outside.proofs.PrefixesTaken.{TookPrefix-none}
 use Rattle.ix_words.specs.declared.values.Sums.{Sums}
 use Rattle.ix_words.specs.Commands.{Command, Check, Run, Bench}
-use Rattle.ix_tool.specs.Answers.{Answers, IsVerdict, read_failed, file_in, file_of, source_name, source_bytes}
+use Rattle.ix_tool.specs.Answers.{Answers, IsVerdict, read_failed, file_in, file_of, source_name, source_bytes, judged_bytes}
 use Rattle.ix_tool.specs.Ends.{WasUnread, EndsUnread, TookUnread, SafeBytes, Promises, bytes_of}
 use Rattle.ix_tool.specs.Judgements.{profile_of}
 use Rattle.ix_tool.proofs.Answered.{read_right, verdict_answers, other_status}
@@ -32,8 +32,8 @@ answers_some : (asked : Option Command) (command : Command) (given : List ℕ) (
 answers_some asked command given a is v = subst (λ (o : Option Command). Answers o given a) is v
 
 named_file : (command : Command) (file : List ℕ) → file_in command ≡ Some file → source_name command ≡ file
-named_file (Check sums f) file is = cc
-named_file (Run limits f entry inputs) file is = cc
+named_file (Check sums library f) file is = cc
+named_file (Run limits library f entry inputs) file is = cc
 named_file (Bench count) file is = absurd (cc)
 
 abbrev unread_named : (IsSure : List ℕ → Type 0) (before after : ℕ) (asked : Option Command) (command : Command) → Some command ≡ asked → WasUnread IsSure before after (file_in command) → WasUnread IsSure before after (file_of asked)
@@ -60,20 +60,21 @@ obeyed_answer IsSure before after asked command given result old new is d so =
       | inr u ↦ absurd (other_status result ReadFault so refl (e.status ∙ ap (λ (b : Answer). b.status) u.1))
     ]
 
-promise_kept : (command : Command) (given : List ℕ) (answer : Answer) (sums : Sums) (file : List ℕ) → command ≡ Check sums file → Promises command (source_bytes command given) answer → answer.status ≡ Done → SafeBytes (profile_of sums) given
-promise_kept command given answer sums file is promises done = (subst (λ (c : Command). Promises c (source_bytes c given) answer) is promises) done
+promise_kept : (command : Command) (given : List ℕ) (answer : Answer) (sums : Sums) (library : Bool) (file : List ℕ) → command ≡ Check sums library file → Promises command (source_bytes command given) answer → answer.status ≡ Done
+    → SafeBytes (profile_of sums) (judged_bytes library given)
+promise_kept command given answer sums library file is promises done = (subst (λ (c : Command). Promises c (source_bytes c given) answer) is promises) done
 
 asked_is : (asked : Option Command) (command other : Command) → Some command ≡ asked → asked ≡ Some other → command ≡ other
 asked_is asked command other is checks = let e : Some command ≡ Some other = is ∙ checks in cc
 
-pub obeyed_safe : (IsSure : List ℕ → Type 0) (before after : ℕ) (asked : Option Command) (command : Command) (given : List ℕ) (result : Status) (old new : Sinks) (sums : Sums) (file : List ℕ)
-    → Some command ≡ asked → Delivers (Obeys IsSure before after command given) result old new → asked ≡ Some (Check sums file) → result ≡ Done → SafeBytes (profile_of sums) given
-obeyed_safe IsSure before after asked command given result old new sums file is d checks done =
+pub obeyed_safe : (IsSure : List ℕ → Type 0) (before after : ℕ) (asked : Option Command) (command : Command) (given : List ℕ) (result : Status) (old new : Sinks) (sums : Sums) (library : Bool) (file : List ℕ)
+    → Some command ≡ asked → Delivers (Obeys IsSure before after command given) result old new → asked ≡ Some (Check sums library file) → result ≡ Done → SafeBytes (profile_of sums) (judged_bytes library given)
+obeyed_safe IsSure before after asked command given result old new sums library file is d checks done =
     let so : is_answer result ≡ true = ap is_answer done in
     let w = d.whole (other_status result WriteFault so refl) (other_status result Memory so refl) in
     let e = w.0 in
     elim e.right [
-      | inl only ↦ promise_kept command given e.answer sums file (asked_is asked command (Check sums file) is checks) only.1 (sym e.status ∙ done)
+      | inl only ↦ promise_kept command given e.answer sums library file (asked_is asked command (Check sums library file) is checks) only.1 (sym e.status ∙ done)
       | inr u ↦ absurd (other_status result ReadFault so refl (e.status ∙ ap (λ (b : Answer). b.status) u.1))
     ]
 

@@ -11,8 +11,8 @@ use Rattle.ix_tool.specs.Existence.{HasList, HasListed, Unanswered}
 use Rattle.ix_tool.specs.Runs.{start_answer}
 
 answers_whole : (command : Command) (bytes : List ℕ) (program : Program) → HasList command program → Is ((answer : Answer) × AnswersWhole command bytes program answer)
-answers_whole (Check sums file) bytes program l never = never (verdict file bytes program l.0, (l.0, l.1, refl))
-answers_whole (Run limits file entry inputs) bytes program l never =
+answers_whole (Check sums library file) bytes program l never = never (verdict file bytes program l.0, (l.0, l.1, refl))
+answers_whole (Run limits library file entry inputs) bytes program l never =
     some_start program entry inputs limits.cells (λ b. never (start_answer program bytes limits b.0, (b.0, b.1, refl)))
 answers_whole (Bench count) bytes program l never = never (bench_verdict count program l.0, (l.0, l.1, refl))
 

@@ -14,8 +14,8 @@ use Rattle.ix_tool.specs.Judgements.{profile_of}
 -- The errors of a program can be listed, where the command asks for them. The check finds that list, with the least labels of all loops, wherever it ends; no
 -- law on definitions alone says that there is one.
 abbrev pub HasList : Command → Program → Type 0
-HasList (Check sums file) program = (errors : List Error) × IsErrorList (IsError program (profile_of sums)) errors
-HasList (Run limits file entry inputs) program = Unit {0}
+HasList (Check sums library file) program = (errors : List Error) × IsErrorList (IsError program (profile_of sums)) errors
+HasList (Run limits library file entry inputs) program = Unit {0}
 HasList (Bench count) program = (errors : List Error) × IsErrorList (IsError program Int32) errors
 
 -- so of the program of a command's source, where it has one

@@ -6,6 +6,8 @@
 #![tactic(auto)]
 
 #[cfg(test)]
+mod alone;
+#[cfg(test)]
 mod answers;
 #[cfg(test)]
 mod calls;
@@ -15,6 +17,8 @@ mod faults;
 mod forms;
 #[cfg(test)]
 mod inputs;
+#[cfg(test)]
+mod library;
 #[cfg(test)]
 mod limits;
 #[cfg(test)]

@@ -93,3 +93,15 @@ fn most_bytes(rt: HostRuntime) -> Result<(), Fail> {
     );
     Ok(())
 }
+
+/// With the library a source has 859 bytes less.
+#[test]
+fn most_bytes_joined(rt: HostRuntime) -> Result<(), Fail> {
+    let alloc = rt.alloc();
+    let words = ["check", "--library", "A.java"];
+    let at_most = run(alloc, &words, repeated(alloc, " ", 1_047_717)?.as_bytes())?;
+    assert_eq!(rt; at_most.status, Status::Done);
+    let past = run(alloc, &words, repeated(alloc, " ", 1_047_718)?.as_bytes())?;
+    assert_eq!(rt; past.status, Status::Limit);
+    Ok(())
+}

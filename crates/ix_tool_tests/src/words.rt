@@ -11,20 +11,31 @@ fn told(alloc: Global, line: &str) -> Result<String, AllocError> {
     }
     match read_words(alloc, words.as_slice())? {
         None => String::from_str(alloc, "none"),
-        Some(Command::Check { sums, file }) => match sums {
-            Sums::Ideal => format!(in alloc; "check ideal {file}"),
-            Sums::Int32 => format!(in alloc; "check int32 {file}"),
-        },
+        Some(
+            Command::Check {
+                sums,
+                library,
+                file,
+            },
+        ) => {
+            let with = if library { "library " } else { "" };
+            match sums {
+                Sums::Ideal => format!(in alloc; "check ideal {with}{file}"),
+                Sums::Int32 => format!(in alloc; "check int32 {with}{file}"),
+            }
+        }
         Some(
             Command::Run {
                 limits,
+                library,
                 file,
                 entry,
                 inputs,
             },
         ) => {
+            let with = if library { "library " } else { "" };
             let mut text = format!(in alloc;
-                "run {} {} {} {file} {entry}",
+                "run {} {} {} {with}{file} {entry}",
                 limits.steps, limits.cells, limits.frames
             )?;
             for input in &inputs {
@@ -47,6 +58,29 @@ fn commands(rt: HostRuntime) -> Result<(), Fail> {
         ("check --sums -x A.java", "none"),
         ("check --sums=ideal --sums=ideal A.java", "none"),
         ("check -- --sums", "check int32 --sums"),
+        ("check --library A.java", "check int32 library A.java"),
+        (
+            "check --sums ideal A.java --library",
+            "check ideal library A.java",
+        ),
+        ("check --library= A.java", "none"),
+        ("check --library=x A.java", "none"),
+        ("check --library --library A.java", "none"),
+        ("check --library", "none"),
+        ("check -- --library", "check int32 --library"),
+        ("bench --library 3", "none"),
+        (
+            "run --library A.java A.f",
+            "run 1000000 1000000 1000 library A.java A.f",
+        ),
+        (
+            "run A.java A.f --steps 7 --library 5",
+            "run 7 1000000 1000 library A.java A.f 5",
+        ),
+        (
+            "run A.java A.f -- --library",
+            "run 1000000 1000000 1000 A.java A.f --library",
+        ),
         ("check --help", "none"),
         ("check A.java B.java", "none"),
         ("check -", "none"),

@@ -11,7 +11,7 @@ use Rattle.ix_words.specs.Words.{Text, Options, Parsed, knows, parsed, value_of,
 use Rattle.ix_words.specs.Values.{number_in, limits_of, sums_of}
 use Rattle.ix_words.specs.declared.values.Sums.{Sums}
 use Rattle.ix_words.specs.declared.values.Limits.{Limits}
-use Rattle.ix_words.specs.Commands.{Command, Check, Run, Bench, check_of, run_of, bench_of, command_with}
+use Rattle.ix_words.specs.Commands.{Command, Check, Run, Bench, has_library, check_of, run_of, bench_of, command_with}
 use Rattle.ix_words.specs.Clap.{Says, Parses, Reads, row, rows_in, words_row, positionals_in}
 
 listed : (ps : List Text) → unwrap_or (option_map (λ (r : Row). r.values) (words_row ps)) [] ≡ ps
@@ -69,11 +69,11 @@ no_check q [] other = refl
 no_check q (x ∷ []) other = absurd (other refl)
 no_check q (x ∷ y ∷ list) other = refl
 
-pub one_check : (q : Parsed) (list : List (Bor Text)) (d : Bor Text) (sums : Option Sums) (word : Option Text) → length list ≡ 1
-    → sums ≡ sums_of word → word ≡ text_of (codes "sums") q → option_map (λ s. Check s (get_or list 0 d).now) sums ≡ check_of q (map (λ w. w.now) list)
-one_check q (x ∷ []) d sums word one is a = ap (option_map (λ s. Check s x.now)) (is ∙ ap sums_of a)
-one_check q [] d sums word one is a = absurd (omega arith)
-one_check q (x ∷ y ∷ list) d sums word one is a = absurd (omega arith)
+pub one_check : (q : Parsed) (list : List (Bor Text)) (d : Bor Text) (sums : Option Sums) (word : Option Text) (library : Bool) → length list ≡ 1
+    → sums ≡ sums_of word → word ≡ text_of (codes "sums") q → library ≡ has_library q → option_map (λ s. Check s library (get_or list 0 d).now) sums ≡ check_of q (map (λ w. w.now) list)
+one_check q (x ∷ []) d sums word library one is a given = ap (λ l. option_map (λ s. Check s l x.now) sums) given ∙ ap (option_map (λ s. Check s (has_library q) x.now)) (is ∙ ap sums_of a)
+one_check q [] d sums word library one is a given = absurd (omega arith)
+one_check q (x ∷ y ∷ list) d sums word library one is a given = absurd (omega arith)
 
 -- ---- bench
 
@@ -95,13 +95,14 @@ no_run q [] few = refl
 no_run q (x ∷ []) few = refl
 no_run q (x ∷ y ∷ list) few = absurd (omega arith)
 
-pub one_run : (q : Parsed) (list : List (Bor Text)) (d : Bor Text) (limits : Option Limits) (steps cells frames : Option Text) (inputs : List Text) → 2 ≤ length list
+pub one_run : (q : Parsed) (list : List (Bor Text)) (d : Bor Text) (limits : Option Limits) (steps cells frames : Option Text) (inputs : List Text) (library : Bool) → 2 ≤ length list
     → limits ≡ limits_of steps cells frames → steps ≡ text_of (codes "steps") q → cells ≡ text_of (codes "cells") q → frames ≡ text_of (codes "frames") q
-    → inputs ≡ map (λ w. w.now) (drop 2 list)
-    → option_map (λ l. Run l (get_or list 0 d).now (get_or list 1 d).now inputs) limits ≡ run_of q (map (λ w. w.now) list)
-one_run q [] d limits steps cells frames inputs two is a b e i = absurd (omega arith)
-one_run q (x ∷ []) d limits steps cells frames inputs two is a b e i = absurd (omega arith)
-one_run q (x ∷ y ∷ list) d limits steps cells frames inputs two is a b e i =
-    ap (λ s. option_map (λ l. Run l x.now y.now s) limits) i
-    ∙ ap (option_map (λ l. Run l x.now y.now (map (λ w. w.now) list)))
+    → inputs ≡ map (λ w. w.now) (drop 2 list) → library ≡ has_library q
+    → option_map (λ l. Run l library (get_or list 0 d).now (get_or list 1 d).now inputs) limits ≡ run_of q (map (λ w. w.now) list)
+one_run q [] d limits steps cells frames inputs library two is a b e i given = absurd (omega arith)
+one_run q (x ∷ []) d limits steps cells frames inputs library two is a b e i given = absurd (omega arith)
+one_run q (x ∷ y ∷ list) d limits steps cells frames inputs library two is a b e i given =
+    ap (λ s. option_map (λ l. Run l library x.now y.now s) limits) i
+    ∙ ap (λ t. option_map (λ l. Run l t x.now y.now (map (λ w. w.now) list)) limits) given
+    ∙ ap (option_map (λ l. Run l (has_library q) x.now y.now (map (λ w. w.now) list)))
     (is ∙ (ap (λ s. limits_of s cells frames) a ∙ (ap (λ s. limits_of (text_of (codes "steps") q) s frames) b ∙ ap (limits_of (text_of (codes "steps") q) (text_of (codes "cells") q)) e)))

@@ -1,31 +1,35 @@
 -- Which words are a command, and which.
-use Rattle.std.specs.Prelude.{ℕ, Bool, true, List, [], ◌∷◌, Option, Some, None, if◌then◌else◌, codes, option_map, option_and_then}
+use Rattle.std.specs.Prelude.{ℕ, Bool, true, false, List, [], ◌∷◌, Option, Some, None, if◌then◌else◌, codes, option_map, option_and_then}
 use Rattle.std.specs.Str.{bytes_eq}
 use Rattle.ix_words.specs.Values.{number_in, limits_of, sums_of, AreInRange}
 use Rattle.ix_words.specs.declared.values.Limits.{Limits}
 use Rattle.ix_words.specs.declared.values.Sums.{Sums}
-use Rattle.ix_words.specs.Words.{Text, Options, Parsed, parsed, text_of}
+use Rattle.ix_words.specs.Words.{Text, Options, Parsed, parsed, text_of, has}
 
--- a command, with what it is given
+-- A command, with what it is given: `library` says whether the source is joined with the library.
 pub data Command : Type 0 where
-  Check : (sums : Sums) (file : Text) → Command
-  Run : (limits : Limits) (file entry : Text) (inputs : List Text) → Command
+  Check : (sums : Sums) (library : Bool) (file : Text) → Command
+  Run : (limits : Limits) (library : Bool) (file entry : Text) (inputs : List Text) → Command
   Bench : (count : ℕ) → Command
 
--- `check [--sums ideal|int32] FILE`
+-- whether the option `--library` is given, which takes no value
+abbrev pub has_library : Parsed → Bool
+has_library p = has (codes "library") p
+
+-- `check [--sums ideal|int32] [--library] FILE`
 abbrev pub check_options : Options
-check_options = (codes "sums", true) ∷ []
+check_options = (codes "sums", true) ∷ (codes "library", false) ∷ []
 
 abbrev pub check_of : Parsed → List Text → Option Command
-check_of p (file ∷ []) = option_map (λ sums. Check sums file) (sums_of (text_of (codes "sums") p))
+check_of p (file ∷ []) = option_map (λ sums. Check sums (has_library p) file) (sums_of (text_of (codes "sums") p))
 check_of p _ = None
 
--- `run [--steps N] [--cells N] [--frames N] FILE CLASS.METHOD INPUTS`
+-- `run [--steps N] [--cells N] [--frames N] [--library] FILE CLASS.METHOD INPUTS`
 abbrev pub run_options : Options
-run_options = (codes "steps", true) ∷ (codes "cells", true) ∷ (codes "frames", true) ∷ []
+run_options = (codes "steps", true) ∷ (codes "cells", true) ∷ (codes "frames", true) ∷ (codes "library", false) ∷ []
 
 abbrev pub run_of : Parsed → List Text → Option Command
-run_of p (file ∷ entry ∷ inputs) = option_map (λ limits. Run limits file entry inputs) (limits_of (text_of (codes "steps") p) (text_of (codes "cells") p) (text_of (codes "frames") p))
+run_of p (file ∷ entry ∷ inputs) = option_map (λ limits. Run limits (has_library p) file entry inputs) (limits_of (text_of (codes "steps") p) (text_of (codes "cells") p) (text_of (codes "frames") p))
 run_of p _ = None
 
 -- `bench N`
@@ -48,5 +52,5 @@ command_of (first ∷ words) =
 
 -- the limits of a run lie in their ranges
 abbrev pub HasLimits : Command → Type 0
-HasLimits (Run limits file entry inputs) = AreInRange limits
+HasLimits (Run limits library file entry inputs) = AreInRange limits
 HasLimits _ = Unit {0}

@@ -11,6 +11,6 @@ abbrev pub words_of : List (String Global) → List Text
 words_of words = map string_bytes words
 
 abbrev pub shown : Command → spec.Command
-shown (code.Check sums file) = spec.Check sums file.now
-shown (code.Run limits file entry inputs) = spec.Run limits file.now entry.now (map (λ s. s.now) inputs.items)
+shown (code.Check sums library file) = spec.Check sums library file.now
+shown (code.Run limits library file entry inputs) = spec.Run limits library file.now entry.now (map (λ s. s.now) inputs.items)
 shown (code.Bench count) = spec.Bench count

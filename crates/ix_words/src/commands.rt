@@ -10,14 +10,16 @@ use std::alloc::{AllocError, Global};
 /// A command, with the words that it is given.
 #[derive(Drop)]
 pub enum Command<'a> {
-    /// Checks a file.
+    /// Checks a file, joined with the library where `library` says so.
     Check {
         sums: Sums,
+        library: bool,
         file: &'a str,
     },
-    /// Runs a method of a file: `entry` is `CLASS.METHOD`.
+    /// Runs a method of a file, joined with the library where `library` says so: `entry` is `CLASS.METHOD`.
     Run {
         limits: Limits,
+        library: bool,
         file: &'a str,
         entry: &'a str,
         inputs: Vec<&'a str>,
@@ -26,9 +28,9 @@ pub enum Command<'a> {
     Bench(u32),
 }
 
-static CHECK: [(&str, bool); 1] = [("sums", true)];
+static CHECK: [(&str, bool); 2] = [("sums", true), ("library", false)];
 
-/// `check [--sums ideal|int32] FILE`.
+/// `check [--sums ideal|int32] [--library] FILE`.
 fn check<'a>(alloc: Global, words: &'a [String]) -> Result<Option<Command<'a>>, AllocError>
     requires { 0 < length words.now }
     ensures command { IfOk result (λ r. option_map shown r ≡ command_with check_options check_of (drop 1 (words_of words.entry.now))) }
@@ -48,11 +50,17 @@ fn check<'a>(alloc: Global, words: &'a [String]) -> Result<Option<Command<'a>>, 
     };
     Ok(Some(Command::Check {
         sums,
+        library: matches.contains_id("library"),
         file: list[0],
     }))
 }
 
-static RUN: [(&str, bool); 3] = [("steps", true), ("cells", true), ("frames", true)];
+static RUN: [(&str, bool); 4] = [
+    ("steps", true),
+    ("cells", true),
+    ("frames", true),
+    ("library", false),
+];
 
 /// The words behind the first two.
 fn behind_two<'a>(alloc: Global, words: &[&'a str]) -> Result<Vec<&'a str>, AllocError>
@@ -62,7 +70,7 @@ fn behind_two<'a>(alloc: Global, words: &[&'a str]) -> Result<Vec<&'a str>, Allo
     words[2..].iter().copied().collect(alloc)
 }
 
-/// `run [--steps N] [--cells N] [--frames N] FILE CLASS.METHOD INPUTS`.
+/// `run [--steps N] [--cells N] [--frames N] [--library] FILE CLASS.METHOD INPUTS`.
 fn run<'a>(alloc: Global, words: &'a [String]) -> Result<Option<Command<'a>>, AllocError>
     requires { 0 < length words.now }
     ensures command { IfOk result (λ r. option_map shown r ≡ command_with run_options run_of (drop 1 (words_of words.entry.now))) }
@@ -87,6 +95,7 @@ fn run<'a>(alloc: Global, words: &'a [String]) -> Result<Option<Command<'a>>, Al
     let inputs = behind_two(alloc, list)?;
     Ok(Some(Command::Run {
         limits,
+        library: matches.contains_id("library"),
         file: list[0],
         entry: list[1],
         inputs,

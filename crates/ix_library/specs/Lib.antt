@@ -1,0 +1,2 @@
+-- The library and what is joined with it.
+pub mod Library

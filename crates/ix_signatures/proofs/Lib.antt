@@ -1,0 +1,5 @@
+mod SameFlows
+mod DeclaredNames
+mod SameSignature
+mod SameErrors
+mod JudgedAlone
