@@ -1,0 +1,2 @@
+-- The errors of a program in two parts.
+pub mod Parts
