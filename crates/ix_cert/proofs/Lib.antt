@@ -1,0 +1,11 @@
+pub mod Bytes
+pub mod Orders
+pub mod Sorted
+pub mod Ends
+pub mod ReadLines
+pub mod WholeRead
+pub mod Parts
+pub mod Paths
+pub mod Found
+pub mod Numbers
+pub mod Counted

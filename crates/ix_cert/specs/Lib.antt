@@ -1,2 +1,8 @@
 -- The lines of a certificate.
 pub mod Lines
+-- Certificates.
+pub mod Labellings
+-- What is added to a text.
+pub mod Adding
+-- What is read from a text.
+pub mod Reading

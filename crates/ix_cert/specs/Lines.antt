@@ -10,7 +10,6 @@ use Rattle.ix_core.specs.declared.fact.PathOff.TheVariants.{Nothing, Plus, Minus
 use Rattle.ix_core.specs.declared.fact.Fact.{Fact}
 use Rattle.ix_core.specs.declared.fact.Fact.TheVariants.{Rng, LenRng, Low, Same, IsLen, Less, Sum, Search, Neg, Upper}
 use Rattle.ix_facts.specs.Facts.{IsIn}
-use Rattle.ix_facts.specs.Stores.{Stored, Unreachable, Reached}
 
 -- `s3`, and `s3.1` for field 1 of the object in it
 abbrev pub path_text : Path → List ℕ
@@ -59,10 +58,9 @@ Ascend (line ∷ next ∷ lines) = (is_before line next ≡ true) × Ascend (nex
 abbrev pub IsAmong : List ℕ → List (List ℕ) → Type 0
 IsAmong line lines = (before after : List (List ℕ)) × (lines ≡ before ++ line ∷ after)
 
--- The lines of a store: those of its facts, each once, in order.
-abbrev pub AreLinesOf : Stored → List (List ℕ) → Type 0
-AreLinesOf Unreachable lines = lines ≡ codes "unreachable" ∷ []
-AreLinesOf (Reached facts) lines = Ascend lines × ((line : List ℕ) → IsAmong line lines ↔ ((fact : Fact) × IsIn fact facts × (line ≡ fact_text fact)))
+-- The lines of facts: one of each text, in order.
+abbrev pub AreLinesOf : List Fact → List (List ℕ) → Type 0
+AreLinesOf facts lines = Ascend lines × ((line : List ℕ) → IsAmong line lines ↔ ((fact : Fact) × IsIn fact facts × (line ≡ fact_text fact)))
 
 abbrev pub ended : List ℕ → List ℕ
 ended line = line ++ codes "\n"

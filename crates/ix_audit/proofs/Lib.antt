@@ -1,0 +1,12 @@
+mod Bodies
+mod Items
+mod Labels
+mod LastItem
+mod Listing
+mod Lists
+mod Methods
+mod OneLandmarks
+mod Programs
+mod Results
+mod Stores
+mod TextItems

@@ -1,0 +1,5 @@
+use Rattle.ix_audit.proofs.Programs.{IsSoFar}
+use Rattle.ix_audit.proofs.audited.audit.Given as goal
+
+abbrev pub invariant-loop-number : goal.invariant-loop-number
+invariant-loop-number l = IsSoFar l.program l.profile l.labels l.number l.found.items

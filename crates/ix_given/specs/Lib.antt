@@ -1,0 +1,4 @@
+-- Labels that are given.
+pub mod Given
+-- The walk over a body with given labels.
+pub mod Walk
