@@ -29,5 +29,13 @@ such_on is p facts = by_test (nat_le (length (filter is facts)) few) (λ t. rw t
 pub ends_named : (p : Path) (facts : List Fact) → filter (names (is_path p)) (ends_in (on_list (ends_in facts) p)) ≡ filter (names (is_path p)) (ends_in facts)
 ends_named p facts = ap (filter (names (is_path p))) (such_on is_end p facts) ∙ on_list_named p (ends_in facts)
 
-pub links_named : (p : Path) (facts : List Fact) → filter (names (is_path p)) (links_in (on_list (links_in facts) p)) ≡ filter (names (is_path p)) (links_in facts)
-links_named p facts = ap (filter (names (is_path p))) (such_on is_link p facts) ∙ on_list_named p (links_in facts)
+both_through : (is other : Fact → Bool) (facts : List Fact) → filter is (filter other (filter is facts)) ≡ filter is (filter other facts)
+both_through is other [] = refl
+both_through is other (fact ∷ facts) =
+    by_test (is fact)
+    (λ t. rw t (by_test (other fact) (λ u. rw u (rw t (ap (λ l. fact ∷ l) (both_through is other facts)))) (λ u. rw u (both_through is other facts))))
+    (λ t. rw t (by_test (other fact) (λ u. rw u (rw t (both_through is other facts))) (λ u. rw u (both_through is other facts))))
+
+-- The facts on a path have all differences and lengths that name it.
+pub links_among : (p : Path) (facts : List Fact) → filter (names (is_path p)) (links_in (on_list facts p)) ≡ filter (names (is_path p)) (links_in facts)
+links_among p facts = by_test (nat_le (length facts) few) (λ t. rw t refl) (λ t. rw t (both_through (names (is_path p)) is_link facts))

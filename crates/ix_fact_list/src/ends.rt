@@ -1,4 +1,4 @@
-//! Ranges and classes among facts, and differences and lengths; and where they stand.
+//! Ranges and classes among facts; where they stand, and where differences and lengths do.
 
 ghost use Rattle.std.specs.Prelude.{◌≡◌, ◌≤◌, true, false, IfOk, length, take, drop};
 ghost use Rattle.ix_bounds.specs.Ends.{is_end, ends_in};
@@ -28,25 +28,17 @@ fn is_link(fact: &Fact) -> bool
     }
 }
 
-/// The ranges and classes among the facts, and the differences and lengths.
-pub(crate) fn ends_and_links(
-    alloc: Global,
-    facts: &[Fact],
-) -> Result<(Vec<Fact>, Vec<Fact>), AllocError>
-    ensures ends { IfOk result (λ parts. parts.0.items ≡ ends_in facts.now) }
-    ensures links { IfOk result (λ parts. parts.1.items ≡ links_in facts.now) }
+/// The ranges and classes among the facts.
+pub(crate) fn ends_of(alloc: Global, facts: &[Fact]) -> Result<Vec<Fact>, AllocError>
+    ensures ends { IfOk result (λ ends. ends.items ≡ ends_in facts.now) }
 {
-    let mut ends = Vec::with_capacity(alloc, facts.len())?;
-    let mut links = Vec::with_capacity(alloc, facts.len())?;
+    let mut ends = Vec::new(alloc);
     for fact in facts {
         if is_end(fact) {
-            ends.push_reserved(*fact);
-        }
-        if is_link(fact) {
-            links.push_reserved(*fact);
+            ends.push(*fact)?;
         }
     }
-    Ok((ends, links))
+    Ok(ends)
 }
 
 /// How many facts stand up to this one, if it is a range or a class, and else up to the last one before it.

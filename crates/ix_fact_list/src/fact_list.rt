@@ -9,12 +9,11 @@ ghost use Rattle.ix_facts.specs.After.{of_target};
 ghost use Rattle.ix_facts.specs.Exact.{named_ints, named_arrays};
 ghost use Rattle.ix_facts.specs.Small.{HasSmallNumbers};
 ghost use Rattle.ix_bounds.specs.Ends.{ends_in};
-ghost use Rattle.ix_bounds.specs.Links.{links_in};
 ghost use Rattle.ix_path_index.specs.ByPath.{put_all};
 ghost use Rattle.ix_path_index.specs.Grouped.{on_grouped, on_list};
 ghost use Rattle.ix_path_index.specs.Spared.{some_named};
 
-use crate::ends::ends_and_links;
+use crate::ends::ends_of;
 use ix_bounds::{self, Groups, Indexed};
 use ix_core::{Fact, OpKind, Path, PathOff};
 use ix_facts::Know;
@@ -33,8 +32,6 @@ pub struct FactList {
     by_path: Grouped,
     /// The same of ranges and classes alone.
     ends: Grouped,
-    /// The same of differences and lengths alone.
-    links: Grouped,
     /// The ints and arrays that the facts name, each once.
     ints: Vec<Path>,
     arrays: Vec<Path>,
@@ -46,8 +43,7 @@ impl Model for FactList {
     ghost view = { λ list. list.facts.items };
 
     ghost invariant = { λ list. (All HasSmallNumbers list.facts.items
-        × (((p : Path) → on_grouped list.by_path p ≡ on_list (in_orders list.facts.items) p)
-        × (((p : Path) → on_grouped list.ends p ≡ on_list (ends_in (in_orders list.facts.items)) p) × ((p : Path) → on_grouped list.links p ≡ on_list (links_in (in_orders list.facts.items)) p))))
+        × (((p : Path) → on_grouped list.by_path p ≡ on_list (in_orders list.facts.items) p) × ((p : Path) → on_grouped list.ends p ≡ on_list (ends_in (in_orders list.facts.items)) p)))
         × ((list.ints.items ≡ put_all [] (named_ints (in_orders list.facts.items))) × (list.arrays.items ≡ put_all [] (named_arrays (in_orders list.facts.items)))) };
 }
 
@@ -126,16 +122,13 @@ impl FactList {
         ensures facts { IfOk result (λ list. list ≡ facts.items) }
     {
         let ordered = in_all_orders(alloc, &facts)?;
-        let (ends, links) = ends_and_links(alloc, &ordered)?;
-        let ends = Grouped::of(alloc, ends)?;
-        let links = Grouped::of(alloc, links)?;
+        let ends = Grouped::of(alloc, ends_of(alloc, &ordered)?)?;
         let (ints, arrays) = ints_and_arrays(alloc, &ordered)?;
         let by_path = Grouped::of(alloc, ordered)?;
         Ok(FactList {
             facts,
             by_path,
             ends,
-            links,
             ints,
             arrays,
         })
@@ -184,10 +177,9 @@ impl FactList {
 impl Groups for FactList {
     ghost use Rattle.ix_facts.specs.Facts.{in_orders};
     ghost use Rattle.ix_bounds.specs.Ends.{ends_in};
-    ghost use Rattle.ix_bounds.specs.Links.{links_in};
     ghost use Rattle.ix_path_index.specs.Grouped.{on_list};
     ghost use Rattle.ix_path_index.specs.OnListLaws.{on_list_named, on_list_only};
-    ghost use Rattle.ix_fact_list.specs.GroupLaws.{ends_named, links_named};
+    ghost use Rattle.ix_fact_list.specs.GroupLaws.{ends_named, links_among};
 
     ghost all = { λ list. in_orders list };
 
@@ -203,17 +195,17 @@ impl Groups for FactList {
         self.ends.on(p)
     }
 
-    ghost links = { λ list p. on_list (links_in (in_orders list)) p };
+    ghost links = { λ list p. on_list (in_orders list) p };
 
     fn links_on(&self, p: &Path) -> &[Fact] {
-        self.links.on(p)
+        self.by_path.on(p)
     }
 
     ghost named = { λ list p. on_list_named p (in_orders list) };
 
     ghost named_ends = { λ list p. ends_named p (in_orders list) };
 
-    ghost named_links = { λ list p. links_named p (in_orders list) };
+    ghost named_links = { λ list p. links_among p (in_orders list) };
 
     ghost only = { λ list p. on_list_only p (in_orders list) };
 }

@@ -1,5 +1,5 @@
 -- Entries that are put at their paths.
-use Rattle.std.specs.Prelude.{◌≡◌, true, false, List, [], ◌∷◌, ◌++◌, get_or, refl}
+use Rattle.std.specs.Prelude.{◌≡◌, ℕ, true, false, cond, nat_eq, List, [], ◌∷◌, ◌++◌, get_or, refl}
 use Rattle.std.proofs.Common.{ap, sym, subst, ◌∙◌}
 use Rattle.std.proofs.lemmas.Bool.{false≢true}
 use Rattle.std.proofs.lemmas.List.{append_assoc, append-nil}
@@ -9,8 +9,9 @@ use Rattle.ix_facts.specs.Bounds.{is_path}
 use Rattle.ix_facts.specs.PathOrder.{path_same}
 use Rattle.ix_facts.specs.Forget.{names}
 use Rattle.ix_core.proofs.Cases.{by_test}
-use Rattle.ix_path_index.specs.ByPath.{Entries, Places, is_near, slot_number, at_paths, paths_in, facts_at, facts_in, about, beside, on_index, on_it, Adds}
-use Rattle.ix_path_index.proofs.EntriesAre.{about_app, if_named, fact_at, beside_is}
+use Rattle.ix_path_index.specs.ByPath.{Entries, Places, is_near, near_place, at_paths, paths_in, facts_at, facts_in, about, beside, on_index, on_it, Adds}
+use Rattle.ix_path_index.proofs.EntriesAre.{about_app, one_at, if_named, fact_at, beside_is}
+use Rattle.ix_path_index.proofs.NearPlaces.{place_tells}
 
 pub adds_both : (first second third : Places) (a b : Entries) → Adds first second a → Adds second third b → Adds first third (a ++ b)
 adds_both first second third a b x y = λ p.
@@ -22,9 +23,21 @@ adds_both first second third a b x y = λ p.
 apart : (x p : Path) → is_near x ≡ true → is_near p ≡ false → is_path x p ≡ false
 apart x p near far = by_test (is_path x p) (λ t. absurd (false≢true (sym far ∙ subst (λ q. is_near q ≡ true) (path_same x p t) near))) (λ t. t)
 
+apart_back : (x p : Path) → is_near x ≡ false → is_near p ≡ true → is_path x p ≡ false
+apart_back x p far near = by_test (is_path x p) (λ t. absurd (false≢true (sym far ∙ subst (λ q. is_near q ≡ true) (sym (path_same x p t)) near))) (λ t. t)
+
 pub far_adds : (slots : List (List Fact)) (others : Entries) (p : Path) (f : Fact) → is_near p ≡ false → Adds (slots, others) (slots, others ++ (p, f) ∷ []) ((p, f) ∷ [])
 far_adds slots others p f far = λ x.
-    by_test (is_near x) (λ t. rw t (rw (apart x p t far) (sym (append-nil (get_or slots (slot_number x) []))))) (λ t. rw t (about_app x others ((p, f) ∷ [])))
+    by_test (is_near x) (λ t. rw t (rw (apart x p t far) (sym (append-nil (get_or slots (near_place x) []))))) (λ t. rw t (about_app x others ((p, f) ∷ [])))
+
+pub near_adds : (old new : List (List Fact)) (others : Entries) (p : Path) (f : Fact) → is_near p ≡ true → ((at : ℕ) → get_or new at [] ≡ get_or old at [] ++ cond (nat_eq at (near_place p)) (f ∷ []) [])
+    → Adds (old, others) (new, others) ((p, f) ∷ [])
+near_adds old new others p f near put = λ x.
+    by_test (is_near x)
+    (λ t.
+    let one : cond (nat_eq (near_place x) (near_place p)) (f ∷ []) [] ≡ facts_in (about x ((p, f) ∷ [])) = ap (λ b. if_named b f) (place_tells x p t near) ∙ sym (one_at x p f) in
+    rw t (put (near_place x) ∙ ap (λ l. get_or old (near_place x) [] ++ l) one))
+    (λ t. rw t (rw (apart_back x p t near) (sym (append-nil (facts_in (about x others))))))
 
 pub next_put : (x : Path) (f : Fact) (old new rest whole : List Fact) → new ≡ old ++ facts_in (about x (at_paths f)) → old ++ on_it x (f ∷ rest) ≡ whole → new ++ on_it x rest ≡ whole
 next_put x f old new rest whole made so_far =

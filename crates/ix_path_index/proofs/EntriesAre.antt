@@ -24,7 +24,7 @@ about_app p (e ∷ a) b = by_test (is_path p e.0) (λ t. rw t (ap (λ l. e.1 ∷
 abbrev pub if_named : Bool → Fact → List Fact
 if_named t f = cond t (f ∷ []) []
 
-one_at : (x p : Path) (f : Fact) → facts_in (about x ((p, f) ∷ [])) ≡ if_named (is_path x p) f
+pub one_at : (x p : Path) (f : Fact) → facts_in (about x ((p, f) ∷ [])) ≡ if_named (is_path x p) f
 one_at x p f = by_test (is_path x p) (λ t. rw t refl) (λ t. rw t refl)
 
 or_right : (t : Bool) → (t || true) ≡ true

@@ -1,5 +1,5 @@
 -- Facts by the paths that they name: each at each of its paths, once.
-use Rattle.std.specs.Prelude.{◌≡◌, ℕ, Bool, false, cond, ◌||◌, nat_lt, List, [], ◌∷◌, ◌++◌, get_or, filter}
+use Rattle.std.specs.Prelude.{◌≡◌, ℕ, Bool, false, cond, ◌||◌, ◌&&◌, ◌+◌, ◌*◌, nat_eq, nat_lt, List, [], ◌∷◌, ◌++◌, get_or, filter}
 use Rattle.std.specs.List.Sorted.{IsSortedByKey}
 use Rattle.std.specs.BTreeSet.{insert_key}
 use Rattle.ix_core.specs.declared.fact.Path.{Path}
@@ -72,22 +72,22 @@ beside p [] facts = []
 beside p (q ∷ paths) [] = []
 beside p (q ∷ paths) (fact ∷ facts) = cond (is_path p q) (fact ∷ beside p paths facts) (beside p paths facts)
 
--- a slot among the first 1,024: its facts stand in a list of their own
+-- A slot among the first 1,024, or a field among the first 1,024 of the object in slot 0: its facts stand in a list of their own.
 abbrev pub is_near : Path → Bool
 is_near (Slot s) = nat_lt s 1024
-is_near (FieldOf s f) = false
+is_near (FieldOf s f) = nat_eq s 0 && nat_lt f 1024
 
--- the number of a slot
-abbrev pub slot_number : Path → ℕ
-slot_number (Slot s) = s
-slot_number (FieldOf s f) = s
+-- the place of that list: slots and fields are in turns
+abbrev pub near_place : Path → ℕ
+near_place (Slot s) = 2 * s
+near_place (FieldOf s f) = 2 * f + 1
 
--- Of each near slot, by its number, the facts put there, and the entries of all other paths.
+-- Of each near path, by its place, the facts put there, and the entries of all other paths.
 abbrev pub Places : Type 0
 Places = List (List Fact) × Entries
 
 abbrev pub facts_at : Places → Path → List Fact
-facts_at places p = cond (is_near p) (get_or places.0 (slot_number p) []) (facts_in (about p places.1))
+facts_at places p = cond (is_near p) (get_or places.0 (near_place p) []) (facts_in (about p places.1))
 
 -- The second places have the entries behind what stands at the first.
 abbrev pub Adds : Places → Places → Entries → Type 0
@@ -98,7 +98,7 @@ abbrev pub Index : Type 0
 Index = List (List Fact) × (List Path × List Fact)
 
 abbrev pub on_index : Index → Path → List Fact
-on_index index p = cond (is_near p) (get_or index.0 (slot_number p) []) (beside p index.1.0 index.1.1)
+on_index index p = cond (is_near p) (get_or index.0 (near_place p) []) (beside p index.1.0 index.1.1)
 
 -- paths put into a set in order, one after another
 abbrev pub put_all : List Path → List Path → List Path

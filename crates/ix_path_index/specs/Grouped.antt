@@ -8,7 +8,7 @@ use Rattle.ix_path_index.specs.ByPath.{on_index, on_it}
 
 -- up to how many facts all are on each path
 abbrev pub few : ℕ
-few = 48
+few = 8
 
 abbrev pub on_list : List Fact → Path → List Fact
 on_list facts p = cond (nat_le (length facts) few) facts (on_it p facts)

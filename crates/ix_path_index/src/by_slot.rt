@@ -1,9 +1,9 @@
 //! Facts put at the paths that they name.
 
-ghost use Rattle.std.specs.Prelude.{◌≡◌, ◌<◌, ℕ, cond, nat_eq, get_or, length, List, [], ◌∷◌, ◌++◌, IfOk, OnOk};
+ghost use Rattle.std.specs.Prelude.{◌≡◌, ◌<◌, ◌≤◌, ◌+◌, ◌*◌, ℕ, cond, nat_eq, nat_lt, true, false, get_or, length, List, [], ◌∷◌, ◌++◌, IfOk, OnOk, IfSome, IfNone};
 ghost use Rattle.ix_core.specs.declared.fact.Path.{Path};
 ghost use Rattle.ix_core.specs.declared.fact.Fact.{Fact};
-ghost use Rattle.ix_path_index.specs.ByPath.{at_two, at_three, at_bound, at_paths, facts_at, Adds, on_it};
+ghost use Rattle.ix_path_index.specs.ByPath.{is_near, near_place, at_two, at_three, at_bound, at_paths, facts_at, Adds, on_it};
 
 use ix_core::{Fact, Path, PathOff};
 use ix_facts::is_same_path;
@@ -11,45 +11,70 @@ use ix_text::List;
 use std::alloc::{AllocError, Global};
 use std::marker::Model;
 
-/// How many slots have lists of their own.
-pub(crate) const NEAR: u32 = 1024;
+/// How many slots have lists of their own, and how many fields of the object in slot 0.
+const NEAR: u32 = 1024;
 
-/// Of each near slot the facts that name it, by its number, and those of all other paths beside them.
+fn place_of(number: u32, turn: usize) -> Option<usize>
+    requires turn { turn ≤ 1 }
+    ensures near { IfSome result (λ place. (nat_lt number 1024 ≡ true) × (place ≡ 2 * number + turn)) }
+    ensures small { IfSome result (λ place. place < 2048) }
+    ensures far { IfNone result (nat_lt number 1024 ≡ false) }
+{
+    if number < NEAR {
+        Some(2 * number as usize + turn)
+    } else {
+        None
+    }
+}
+
+/// The place of a near path among the near ones: slots, and fields of the object in slot 0, in turns.
+pub(crate) fn near_place(p: &Path) -> Option<usize>
+    ensures near { IfSome result (λ place. (is_near p.now ≡ true) × (place ≡ near_place p.now)) }
+    ensures small { IfSome result (λ place. place < 2048) }
+    ensures far { IfNone result (is_near p.now ≡ false) }
+{
+    match *p {
+        Path::Slot(slot) => place_of(slot, 0),
+        Path::FieldOf(slot, field) => if slot == 0 { place_of(field, 1) } else { None },
+    }
+}
+
+/// Of each near path the facts that name it, by its place, and those of all other paths beside them.
 #[derive(Drop)]
 pub(crate) struct Places {
-    pub(crate) slots: Vec<List<Fact>>,
+    pub(crate) near: Vec<List<Fact>>,
     pub(crate) others: Vec<(Path, Fact)>,
 }
 
 impl Model for Places {
     ghost Value = { List (List Fact) × List (Path × Fact) };
 
-    ghost view = { λ places. (places.slots.items, places.others.items) };
+    ghost view = { λ places. (places.near.items, places.others.items) };
 }
 
-/// Makes room for the slot.
-fn reach(alloc: Global, slots: &mut Vec<List<Fact>>, slot: usize) -> Result<(), AllocError>
-    requires near { slot < 1024 }
-    ensures reached { OnOk result (slot < length slots.new.items) }
-    ensures same { OnOk result ((s : ℕ) → get_or slots.new.items s [] ≡ get_or slots.old.items s []) }
+/// Makes room for the place.
+fn reach(alloc: Global, near: &mut Vec<List<Fact>>, place: usize) -> Result<(), AllocError>
+    requires near { place < 2048 }
+    ensures reached { OnOk result (place < length near.new.items) }
+    ensures same { OnOk result ((at : ℕ) → get_or near.new.items at [] ≡ get_or near.old.items at []) }
 {
-    for _ in slots.len()..slot + 1 {
-        slots.push(List::new(alloc))?;
+    for _ in near.len()..place + 1 {
+        near.push(List::new(alloc))?;
     }
     Ok(())
 }
 
-fn put_slot(
+fn put_near(
     alloc: Global,
-    slots: &mut Vec<List<Fact>>,
-    slot: usize,
+    near: &mut Vec<List<Fact>>,
+    place: usize,
     fact: &Fact,
 ) -> Result<(), AllocError>
-    requires near { slot < 1024 }
-    ensures { OnOk result ((s : ℕ) → get_or slots.new.items s [] ≡ get_or slots.old.items s [] ++ cond (nat_eq s slot) (fact.now ∷ []) []) }
+    requires near { place < 2048 }
+    ensures { OnOk result ((at : ℕ) → get_or near.new.items at [] ≡ get_or near.old.items at [] ++ cond (nat_eq at place) (fact.now ∷ []) []) }
 {
-    reach(alloc, slots, slot)?;
-    slots[slot].push(*fact)?;
+    reach(alloc, near, place)?;
+    near[place].push(*fact)?;
     Ok(())
 }
 
@@ -58,7 +83,7 @@ impl Places {
         ensures { (x : Path) → facts_at result x ≡ [] }
     {
         Places {
-            slots: Vec::new(alloc),
+            near: Vec::new(alloc),
             others: Vec::new(alloc),
         }
     }
@@ -67,14 +92,12 @@ impl Places {
     fn put(&mut self, alloc: Global, p: &Path, fact: &Fact) -> Result<(), AllocError>
         ensures { OnOk result (Adds self.old self.new ((p.now, fact.now) ∷ [])) }
     {
-        match *p {
-            Path::Slot(slot) if slot < NEAR => put_slot(
-                alloc,
-                &mut self.slots,
-                slot as usize,
-                fact,
-            ),
-            _ => {
+        match near_place(p) {
+            Some(place) => {
+                put_near(alloc, &mut self.near, place, fact)?;
+                Ok(())
+            }
+            None => {
                 self.others.push((*p, *fact))?;
                 Ok(())
             }

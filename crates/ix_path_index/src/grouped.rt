@@ -9,7 +9,7 @@ use ix_core::{Fact, Path};
 use std::alloc::{AllocError, Global};
 
 /// Up to how many facts are few: to go over them costs less than an index of them.
-const FEW: usize = 48;
+const FEW: usize = 8;
 
 /// Facts with those on each path at hand.
 pub enum Grouped {

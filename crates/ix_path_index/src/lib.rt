@@ -1,6 +1,6 @@
 //! Facts by the paths that they name.
 //!
-//! What goes in: facts. What comes out: those on a path, of few facts all, of many those of a slot by its number and those of any other path by binary search;
+//! What goes in: facts. What comes out: those on a path, of few facts all, of many those of a near path by its place and those of any other by binary search;
 //! the ints and the arrays that they name, each once.
 //! The contract: `Grouped` has the facts that name a path; `PathSet` is a set of paths in order.
 //! It stands on `ix_fact_paths` for the order of paths, on `ix_facts` for facts.

@@ -6,7 +6,7 @@ ghost use Rattle.ix_core.specs.declared.fact.Fact.{Fact};
 ghost use Rattle.ix_path_index.specs.ByPath.{IsSorted, on_index, on_it};
 
 use crate::by_path::{facts_beside, facts_of, in_order, paths_of};
-use crate::by_slot::{NEAR, Places};
+use crate::by_slot::{Places, near_place};
 use ix_core::{Fact, Path};
 use ix_text::List;
 use std::alloc::{AllocError, Global};
@@ -15,8 +15,8 @@ use std::marker::Model;
 /// Of each path the facts that name it.
 #[derive(Drop)]
 pub struct PathIndex {
-    /// Those that name a near slot, by its number.
-    slots: Vec<List<Fact>>,
+    /// Those that name a near path, by its place.
+    near: Vec<List<Fact>>,
     /// The other paths that the facts name, in order, each as often as facts name it.
     paths: Vec<Path>,
     /// Beside each path a fact that names it.
@@ -26,16 +26,16 @@ pub struct PathIndex {
 impl Model for PathIndex {
     ghost Value = { List (List Fact) × (List Path × List Fact) };
 
-    ghost view = { λ index. (index.slots.items, (index.paths.items, index.facts.items)) };
+    ghost view = { λ index. (index.near.items, (index.paths.items, index.facts.items)) };
 
     ghost invariant = { λ index. IsSorted index.paths.items × (length index.facts.items ≡ length index.paths.items) };
 }
 
-/// The facts at the slot.
-fn at_slot(slots: &[List<Fact>], slot: usize) -> &[Fact]
-    ensures { result.now ≡ get_or slots.now slot [] }
+/// The facts at the place.
+fn at_place(near: &[List<Fact>], place: usize) -> &[Fact]
+    ensures { result.now ≡ get_or near.now place [] }
 {
-    match slots.get(slot) {
+    match near.get(place) {
         Some(facts) => facts.as_slice(),
         None => &[],
     }
@@ -51,7 +51,7 @@ impl PathIndex {
         let paths = paths_of(alloc, &others)?;
         let facts = facts_of(alloc, &others)?;
         Ok(PathIndex {
-            slots: places.slots,
+            near: places.near,
             paths,
             facts,
         })
@@ -62,9 +62,9 @@ impl PathIndex {
     pub fn on(&self, p: &Path) -> &[Fact]
         ensures { result.now ≡ on_index self.now p.now }
     {
-        match *p {
-            Path::Slot(slot) if slot < NEAR => at_slot(&self.slots, slot as usize),
-            _ => facts_beside(&self.paths, &self.facts, p),
+        match near_place(p) {
+            Some(place) => at_place(&self.near, place),
+            None => facts_beside(&self.paths, &self.facts, p),
         }
     }
 }

@@ -8,7 +8,7 @@ ghost use Rattle.ix_path_index.specs.Marks.{IsMarked, AreMarked};
 ghost use Rattle.ix_path_index.specs.PutLaws.{IsRising};
 
 use crate::by_path::is_before;
-use crate::by_slot::NEAR;
+use crate::by_slot::near_place;
 use ix_core::Path;
 use ix_fact_paths::compare_paths;
 use std::alloc::{AllocError, Global};
@@ -18,7 +18,7 @@ use std::marker::Model;
 #[derive(Drop)]
 pub struct PathSet {
     paths: Vec<Path>,
-    /// Of a near slot, by its number, that it is among them: so that no place is sought for it again.
+    /// Of a near path, by its place, that it is among them: so that no place is sought for it again.
     marks: Vec<bool>,
 }
 
@@ -30,46 +30,52 @@ impl Model for PathSet {
     ghost invariant = { λ set. IsRising set.paths.items × AreMarked set.marks.items set.paths.items };
 }
 
+fn mark_at(marks: &[bool], place: usize) -> bool
+    ensures { result ≡ get_or marks.now place false }
+{
+    match marks.get(place) {
+        Some(mark) => *mark,
+        None => false,
+    }
+}
+
 fn is_marked(marks: &[bool], p: &Path) -> bool
     ensures { IsTrue result → IsMarked marks.now p.now }
 {
-    match *p {
-        Path::Slot(slot) if slot < NEAR => match marks.get(slot as usize) {
-            Some(mark) => *mark,
-            None => false,
-        },
-        _ => false,
+    match near_place(p) {
+        Some(place) => mark_at(marks, place),
+        None => false,
     }
 }
 
-/// Marks the path, where it is a near slot.
+/// Marks the path, where it is a near one.
 fn mark(marks: &mut Vec<bool>, p: &Path) -> Result<(), AllocError>
     ensures { (q : Path) → IsMarked marks.new.items q → IsMarked marks.old.items q ⊎ (q ≡ p.now) }
 {
-    match *p {
-        Path::Slot(slot) if slot < NEAR => mark_slot(marks, slot as usize),
-        _ => Ok(()),
+    match near_place(p) {
+        Some(place) => mark_place(marks, place),
+        None => Ok(()),
     }
 }
 
-/// Makes room for the slot.
-fn reach(marks: &mut Vec<bool>, slot: usize) -> Result<(), AllocError>
-    requires near { slot < 1024 }
-    ensures reached { OnOk result (slot < length marks.new.items) }
-    ensures same { (s : ℕ) → get_or marks.new.items s false ≡ get_or marks.old.items s false }
+/// Makes room for the place.
+fn reach(marks: &mut Vec<bool>, place: usize) -> Result<(), AllocError>
+    requires near { place < 2048 }
+    ensures reached { OnOk result (place < length marks.new.items) }
+    ensures same { (at : ℕ) → get_or marks.new.items at false ≡ get_or marks.old.items at false }
 {
-    if slot < marks.len() {
+    if place < marks.len() {
         return Ok(());
     }
-    marks.resize(slot + 1, false)
+    marks.resize(place + 1, false)
 }
 
-fn mark_slot(marks: &mut Vec<bool>, slot: usize) -> Result<(), AllocError>
-    requires near { slot < 1024 }
-    ensures { (s : ℕ) → get_or marks.new.items s false ≡ true → (get_or marks.old.items s false ≡ true) ⊎ (s ≡ slot) }
+fn mark_place(marks: &mut Vec<bool>, place: usize) -> Result<(), AllocError>
+    requires near { place < 2048 }
+    ensures { (at : ℕ) → get_or marks.new.items at false ≡ true → (get_or marks.old.items at false ≡ true) ⊎ (at ≡ place) }
 {
-    reach(marks, slot)?;
-    marks[slot] = true;
+    reach(marks, place)?;
+    marks[place] = true;
     Ok(())
 }
 

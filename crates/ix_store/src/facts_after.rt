@@ -9,18 +9,19 @@ ghost use Rattle.ix_facts.specs.Round.{rounded};
 ghost use Rattle.ix_facts.specs.Stores.{operated, with_copy, with_outcome};
 ghost use Rattle.ix_facts.specs.Systems.{HaveClasses};
 ghost use Rattle.ix_facts.specs.SameFacts.{AreSame};
+ghost use Rattle.ix_six_tables.specs.AllTables as spec;
 ghost use Rattle.ix_six_tables.specs.ChangedPaths.{is_changed};
 ghost use Rattle.ix_six_tables.specs.Spared.{some_named};
 ghost use Rattle.ix_store.specs.StoredFacts.{facts_in};
 ghost use Rattle.ix_outcomes.specs.OverGroups.{outcome_of};
 
-use crate::known::{FEW, Known};
+use crate::known::{FEW, FEW_FOR_TESTS, Known};
 use ix_after::{facts_after, facts_of_copy, push_claim};
 use ix_core::{Fact, OpKind, Path, PathClaim, Profile, Type_};
 use ix_exact::{push_fact, push_less, push_upper};
 use ix_fact_list::FactList;
 use ix_outcomes::{Outcome, facts_of_outcome};
-use ix_six_tables::{Changed, all_facts, rounded_facts, some_changes, tables_beside};
+use ix_six_tables::{Changed, Tables, all_facts, rounded_facts, some_changes, tables_beside};
 use std::alloc::{AllocError, Global};
 
 fn push_kept(out: &mut Vec<Fact>, fact: &Fact) -> Result<(), AllocError>
@@ -53,11 +54,30 @@ impl Known {
         all_facts(alloc, &tables)
     }
 
-    /// The same, by the paths that they name: an index for one step, which goes with it. The only error is want of memory.
-    fn beside(&self, alloc: Global, changed: &Changed) -> Result<FactList, AllocError>
+    /// The facts of tables that have all but those that name a changed path, by the paths that they name: an index for one step, which goes with it. The only
+    /// error is want of memory.
+    fn beside(
+        &self,
+        alloc: Global,
+        changed: &Changed,
+        rest: &Tables,
+    ) -> Result<FactList, AllocError>
+        requires rest { spec.all_facts rest.now ≡ without (is_changed changed.now) (facts_in self.now) }
         ensures facts { IfOk result (λ list. list ≡ without (is_changed changed.now) (facts_in self.now)) }
     {
-        FactList::new(alloc, self.unchanged(alloc, changed)?)
+        FactList::new(alloc, all_facts(alloc, rest)?)
+    }
+
+    /// All facts by the paths that they name: an index for one step. The only error is want of memory.
+    fn listed(&self, alloc: Global) -> Result<FactList, AllocError>
+        ensures facts { IfOk result (λ list. list ≡ facts_in self.now) }
+    {
+        FactList::new(alloc, all_facts(alloc, &self.tables)?)
+    }
+
+    /// Whether what a test tells can be read off the facts as they stand. It is for speed alone.
+    fn can_be_asked(&self) -> bool {
+        self.ordered.len() <= FEW_FOR_TESTS
     }
 
     /// Whether a step can read the facts as they stand: few are read as fast as by their paths. It is for speed alone.
@@ -67,13 +87,15 @@ impl Known {
         self.ordered.len() <= FEW && !some_changes(&self.tables, changed)
     }
 
-    /// The new facts behind an operation.
+    /// The new facts behind an operation. Those tables have the facts that name no path which it changes.
     pub(crate) fn after(
         &self,
         alloc: Global,
         profile: Profile,
         kind: &OpKind,
+        rest: &Tables,
     ) -> Result<Vec<Fact>, AllocError>
+        requires rest { spec.all_facts rest.now ≡ without (of_target kind.now) (facts_in self.now) }
         ensures facts { IfOk result (λ new. AreSame (without (of_target kind.now) (facts_in self.now) ++ new.items) (operated profile kind.now (facts_in self.now))) }
         ensures classes { IfOk result (λ new. HaveClasses new.items) }
     {
@@ -82,19 +104,21 @@ impl Known {
             let new = facts_after(alloc, self, profile, kind)?;
             return Ok(new);
         }
-        let list = self.beside(alloc, &changed)?;
+        let list = self.beside(alloc, &changed, rest)?;
         let new = facts_after(alloc, &list, profile, kind)?;
         Ok(new)
     }
 
-    /// The new facts behind a copy from one path to another.
+    /// The new facts behind a copy from one path to another. Those tables have the facts that don't name the target.
     pub(crate) fn copy(
         &self,
         alloc: Global,
         ty: &Type_,
         target: &Path,
         source: &Path,
+        rest: &Tables,
     ) -> Result<Vec<Fact>, AllocError>
+        requires rest { spec.all_facts rest.now ≡ without (of_path target.now) (facts_in self.now) }
         ensures facts { IfOk result (λ new. AreSame (without (of_path target.now) (facts_in self.now) ++ new.items) (with_copy ty.now target.now source.now (facts_in self.now))) }
         ensures classes { IfOk result (λ new. HaveClasses new.items) }
     {
@@ -103,7 +127,7 @@ impl Known {
             let new = facts_of_copy(alloc, self, ty, target, source)?;
             return Ok(new);
         }
-        let list = self.beside(alloc, &changed)?;
+        let list = self.beside(alloc, &changed, rest)?;
         let new = facts_of_copy(alloc, &list, ty, target, source)?;
         Ok(new)
     }
@@ -113,11 +137,11 @@ impl Known {
         ensures facts { IfOk result (λ new. AreSame (facts_in self.now ++ new.items) (with_outcome (outcome_of outcome.now) (facts_in self.now))) }
         ensures classes { IfOk result (λ new. HaveClasses new.items) }
     {
-        if self.can_be_read(&Changed::Nothing) {
+        if self.can_be_asked() {
             let new = facts_of_outcome(alloc, self, outcome)?;
             return Ok(new);
         }
-        let list = self.beside(alloc, &Changed::Nothing)?;
+        let list = self.listed(alloc)?;
         let new = facts_of_outcome(alloc, &list, outcome)?;
         Ok(new)
     }

@@ -15,7 +15,10 @@ use ix_core::{Fact, Path};
 use ix_six_tables::Tables;
 
 /// Up to how many facts are few: to go over them costs less than an index of them.
-pub(crate) const FEW: usize = 48;
+pub(crate) const FEW: usize = 32;
+
+/// The same for what a test tells, which asks for few bounds.
+pub(crate) const FEW_FOR_TESTS: usize = 512;
 
 /// Closed facts of which no range is empty: in tables, and once as a list, which takes no index of paths.
 #[derive(Drop)]

@@ -64,13 +64,25 @@ fn is_none(facts: &[Fact]) -> bool
     facts.is_empty()
 }
 
+/// The tables of the facts that name no changed path.
+fn beside(alloc: Global, known: &Joint<Known>, changed: &Changed) -> Result<Tables, AllocError>
+    ensures facts { IfOk result (λ rest. all_facts rest ≡ without (is_changed changed.now) (facts_in known.now)) }
+    ensures kinds { IfOk result AreOfKinds }
+{
+    let rest = tables_beside(alloc, &known.get().tables, changed)?;
+    Ok(rest)
+}
+
 /// The closed store of new facts and of those that name no changed path; held jointly where nothing is new and nothing goes.
 fn behind(
     alloc: Global,
     known: &Joint<Known>,
     changed: &Changed,
+    rest: &Tables,
     new: Vec<Fact>,
 ) -> Result<Store, AllocError>
+    requires rest { all_facts rest.now ≡ without (is_changed changed.now) (facts_in known.now) }
+    requires kinds { AreOfKinds rest.now }
     requires classes { HaveClasses new.items }
     ensures store { IfOk result (λ store. IsStoreOf (without (is_changed changed.now) (facts_in known.now) ++ new.items) (stored store)) }
 {
@@ -78,8 +90,19 @@ fn behind(
         let known = known.join()?;
         return Ok(Store { known: Some(known) });
     }
-    let tables = tables_beside(alloc, &known.get().tables, changed)?;
-    closed_beside(alloc, &tables, new)
+    closed_beside(alloc, rest, new)
+}
+
+/// The closed store with new facts; held jointly where there are none.
+fn with_new(alloc: Global, known: &Joint<Known>, new: Vec<Fact>) -> Result<Store, AllocError>
+    requires classes { HaveClasses new.items }
+    ensures store { IfOk result (λ store. IsStoreOf (facts_in known.now ++ new.items) (stored store)) }
+{
+    if is_none(&new) {
+        let known = known.join()?;
+        return Ok(Store { known: Some(known) });
+    }
+    closed_beside(alloc, &known.get().tables, new)
 }
 
 impl Store {
@@ -116,8 +139,10 @@ impl Store {
         let Some(known) = &self.known else {
             return Ok(Store::unreachable());
         };
-        let new = known.get().after(alloc, profile, kind)?;
-        let store = behind(alloc, known, &Changed::Target(kind), new)?;
+        let changed = Changed::Target(kind);
+        let rest = beside(alloc, known, &changed)?;
+        let new = known.get().after(alloc, profile, kind, &rest)?;
+        let store = behind(alloc, known, &changed, &rest, new)?;
         Ok(store)
     }
 
@@ -134,8 +159,10 @@ impl Store {
         let Some(known) = &self.known else {
             return Ok(Store::unreachable());
         };
-        let new = known.get().copy(alloc, ty, target, source)?;
-        let store = behind(alloc, known, &Changed::At(*target), new)?;
+        let changed = Changed::At(*target);
+        let rest = beside(alloc, known, &changed)?;
+        let new = known.get().copy(alloc, ty, target, source, &rest)?;
+        let store = behind(alloc, known, &changed, &rest, new)?;
         Ok(store)
     }
 
@@ -147,7 +174,7 @@ impl Store {
             return Ok(Store::unreachable());
         };
         let new = known.get().told(alloc, outcome)?;
-        let store = behind(alloc, known, &Changed::Nothing, new)?;
+        let store = with_new(alloc, known, new)?;
         Ok(store)
     }
 
@@ -159,7 +186,7 @@ impl Store {
             return Ok(Store::unreachable());
         };
         let new = assumed(alloc, claim, at)?;
-        let store = behind(alloc, known, &Changed::Nothing, new)?;
+        let store = with_new(alloc, known, new)?;
         Ok(store)
     }
 
@@ -228,7 +255,8 @@ impl Store {
         let Some(known) = &self.known else {
             return Ok(Store::unreachable());
         };
-        behind(alloc, known, changed, Vec::new(alloc))
+        let rest = beside(alloc, known, changed)?;
+        behind(alloc, known, changed, &rest, Vec::new(alloc))
     }
 
     /// The store of a loop's label: without the facts that name a slot from `scope` on, the constants of the others moved to landmarks. The only error is want of memory.
@@ -251,7 +279,7 @@ impl Store {
             return Ok(Store::unreachable());
         };
         let new = kept_facts(alloc, more)?;
-        let store = behind(alloc, known, &Changed::Nothing, new)?;
+        let store = with_new(alloc, known, new)?;
         Ok(store)
     }
 

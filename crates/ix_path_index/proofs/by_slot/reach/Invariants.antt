@@ -3,6 +3,6 @@ use Rattle.ix_path_index.proofs.by_slot.reach.Given as goal
 
 abbrev pub invariant-loop : goal.invariant-loop
 invariant-loop l = record {
-  long : length l.slots.items ≡ l.counter;
-  same : (s : ℕ) → get_or l.slots.items s [] ≡ get_or l.fn.slots.items s [];
+  long : length l.near.items ≡ l.counter;
+  same : (at : ℕ) → get_or l.near.items at [] ≡ get_or l.fn.near.items at [];
 }

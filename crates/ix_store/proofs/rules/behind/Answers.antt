@@ -26,5 +26,4 @@ pub closed_beside-requires-clause-closed : goal.closed_beside-requires-clause-cl
 closed_beside-requires-clause-closed c =
     let is = is_changed c.args.changed.now in
     let known = c.args.known.now in
-    let facts = c.in_ok-tables.ensures.facts ∙ ap (λ k. without is (facts_in k)) c.get-2.ensures in
-    subst Closed (sym facts) (without_closed is (facts_in known) (closed_of_test (facts_in known) known.closed))
+    subst Closed (sym c.requires.rest) (without_closed is (facts_in known) (closed_of_test (facts_in known) known.closed))

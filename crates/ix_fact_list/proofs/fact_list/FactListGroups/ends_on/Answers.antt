@@ -10,5 +10,5 @@ pub returns-clause-small : goal.returns-clause-small
 returns-clause-small c =
     let p = c.args.p.now in
     let facts = c.self.inside.facts.items in
-    subst (λ l. All HasSmallNumbers l) (sym (c.on.ensures ∙ c.self.invariant.0.1.1.0 p))
+    subst (λ l. All HasSmallNumbers l) (sym (c.on.ensures ∙ c.self.invariant.0.1.1 p))
     (on_list_small p (ends_in (in_orders facts)) (ends_small (in_orders facts) (in_orders_small facts c.self.invariant.0.0)))

@@ -6,11 +6,10 @@ use Rattle.ix_facts.proofs.Members.{same_equal}
 use Rattle.ix_store.specs.StoredFacts.{facts_in, stored}
 use Rattle.ix_store.proofs.BehindRules.{given_by}
 use Rattle.ix_store.proofs.ClassesAfter.{kept_have}
-use Rattle.ix_six_tables.proofs.PartsWithout.{none_dropped}
 use Rattle.ix_store.proofs.store.Store.add.Goals as goal
 
-pub behind-requires : goal.behind-requires
-behind-requires c = record { classes = subst HaveClasses (sym c.in_ok-new.ensures.facts) (kept_have c.args.more.now c.requires.classes) }
+pub with_new-requires : goal.with_new-requires
+with_new-requires c = record { classes = subst HaveClasses (sym c.in_ok-new.ensures.facts) (kept_have c.args.more.now c.requires.classes) }
 
 pub returns : goal.returns
 returns c =
@@ -19,5 +18,5 @@ returns c =
     let is : stored c.args.self.now ≡ Reached known = cc in
     record {
       after = given_by (with_facts c.args.more.now) (stored c.args.self.now) (stored c.in_ok-store.store) known _ is
-          (same_equal _ (known ++ kept c.args.more.now) (ap (λ l. l ++ c.in_ok-new.new.items) (none_dropped known) ∙ ap (λ l. known ++ l) c.in_ok-new.ensures.facts)) c.in_ok-store.ensures.store;
+          (same_equal _ (known ++ kept c.args.more.now) (ap (λ l. known ++ l) c.in_ok-new.ensures.facts)) c.in_ok-store.ensures.store;
     }

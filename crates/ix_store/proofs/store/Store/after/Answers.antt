@@ -1,4 +1,4 @@
-use Rattle.std.proofs.Common.{◌≡◌, ◌++◌, subst}
+use Rattle.std.proofs.Common.{◌≡◌, ◌++◌, ap, sym, subst, ◌∙◌}
 use Rattle.ix_facts.specs.After.{of_target}
 use Rattle.ix_facts.specs.Forget.{without}
 use Rattle.ix_facts.specs.Stores.{Reached, operated}
@@ -6,6 +6,9 @@ use Rattle.ix_facts.specs.SameFacts.{AreSame}
 use Rattle.ix_store.specs.StoredFacts.{facts_in, stored}
 use Rattle.ix_store.proofs.BehindRules.{given_by}
 use Rattle.ix_store.proofs.store.Store.after.Goals as goal
+
+pub after-requires : goal.after-requires
+after-requires c = record { rest = c.in_ok-rest.ensures.facts ∙ ap (λ k. without (of_target c.args.kind.now) (facts_in k)) (sym c.get.ensures) }
 
 pub returns : goal.returns
 returns c =

@@ -5,7 +5,6 @@ use Rattle.ix_facts.specs.Stores.{Reached, with_facts}
 use Rattle.ix_facts.proofs.Members.{same_equal}
 use Rattle.ix_store.specs.StoredFacts.{facts_in, stored}
 use Rattle.ix_store.proofs.BehindRules.{given_by}
-use Rattle.ix_six_tables.proofs.PartsWithout.{none_dropped}
 use Rattle.ix_store.proofs.store.Store.assume.Goals as goal
 
 pub returns : goal.returns
@@ -16,5 +15,5 @@ returns c =
     let is : stored c.args.self.now ≡ Reached known = cc in
     record {
       after = given_by (with_facts told) (stored c.args.self.now) (stored c.in_ok-store.store) known _ is
-          (same_equal _ (known ++ kept told) (ap (λ l. l ++ c.in_ok-new.new.items) (none_dropped known) ∙ ap (λ l. known ++ l) c.in_ok-new.ensures.facts)) c.in_ok-store.ensures.store;
+          (same_equal _ (known ++ kept told) (ap (λ l. known ++ l) c.in_ok-new.ensures.facts)) c.in_ok-store.ensures.store;
     }

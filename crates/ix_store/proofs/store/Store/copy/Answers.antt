@@ -1,10 +1,13 @@
-use Rattle.std.proofs.Common.{◌≡◌, ◌++◌, subst}
+use Rattle.std.proofs.Common.{◌≡◌, ◌++◌, ap, sym, subst, ◌∙◌}
 use Rattle.ix_facts.specs.Forget.{of_path, without}
 use Rattle.ix_facts.specs.Stores.{Reached, with_copy}
 use Rattle.ix_facts.specs.SameFacts.{AreSame}
 use Rattle.ix_store.specs.StoredFacts.{facts_in, stored}
 use Rattle.ix_store.proofs.BehindRules.{given_by}
 use Rattle.ix_store.proofs.store.Store.copy.Goals as goal
+
+pub copy-requires : goal.copy-requires
+copy-requires c = record { rest = c.in_ok-rest.ensures.facts ∙ ap (λ k. without (of_path c.args.target.now) (facts_in k)) (sym c.get.ensures) }
 
 pub returns : goal.returns
 returns c =

@@ -4,7 +4,6 @@ use Rattle.ix_facts.specs.SameFacts.{AreSame}
 use Rattle.ix_outcomes.specs.OverGroups.{outcome_of}
 use Rattle.ix_store.specs.StoredFacts.{facts_in, stored}
 use Rattle.ix_store.proofs.BehindRules.{given_by}
-use Rattle.ix_six_tables.proofs.PartsWithout.{none_dropped}
 use Rattle.ix_store.proofs.store.Store.told.Goals as goal
 
 pub returns : goal.returns
@@ -15,4 +14,4 @@ returns c =
     let new = c.in_ok-new.new.items in
     let is : stored c.args.self.now ≡ Reached (facts_in known) = cc in
     let same : AreSame (facts_in known ++ new) (rule (facts_in known)) = subst (λ k. AreSame (facts_in k ++ new) (rule (facts_in k))) c.get.ensures c.in_ok-new.ensures.facts in
-    record { after = given_by rule (stored c.args.self.now) (stored c.in_ok-store.store) (facts_in known) _ is (subst (λ l. AreSame (l ++ new) (rule (facts_in known))) (sym (none_dropped (facts_in known))) same) c.in_ok-store.ensures.store }
+    record { after = given_by rule (stored c.args.self.now) (stored c.in_ok-store.store) (facts_in known) _ is same c.in_ok-store.ensures.store }
