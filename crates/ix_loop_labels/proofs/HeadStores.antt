@@ -9,23 +9,18 @@ use Rattle.ix_core.specs.Code.{block_code}
 use Rattle.ix_graph.specs.declared.node.Node.{Node}
 use Rattle.ix_graph.specs.Built.{kind_of, kinds_of}
 use Rattle.ix_graph.specs.Linked.{kinds_in}
-use Rattle.ix_graph.specs.Graph.{Kind, Starts, Does, Compares, Tells, Joins, Heads, Returns, Ends, Part, NodePart, EdgePart, behind_code, method_parts, AreNumbered}
+use Rattle.ix_graph.specs.Graph.{Kind, Starts, Does, Compares, Tells, Joins, Heads, Returns, Ends, Part, NodePart, EdgePart, method_parts, AreNumbered}
 use Rattle.ix_graph.specs.GraphSolutions.{label_at, HasHead}
 use Rattle.ix_graph.specs.Heads.{heads_in, AreInOrder, head_of}
-use Rattle.ix_graph.proofs.ErrorsAgree.{fine_at_nodes, fine_flows}
-use Rattle.ix_graph.proofs.HeadTable.{found_by_number, stores_keep, stores_least}
+use Rattle.ix_graph.proofs.HeadTable.{found_by_number}
 use Rattle.ix_graph.proofs.Numbers.{method_numbered}
-use Rattle.ix_graph.proofs.Solved.{labels_of, joined_of, solved_least}
+use Rattle.ix_graph.proofs.Solved.{solved_least}
 use Rattle.ix_labels.specs.declared.labels.Labels.{Labels}
 use Rattle.ix_labels.specs.Labels.{AreLabels}
 use Rattle.ix_labels.specs.MethodRules.{method_rules}
-use Rattle.ix_labels.proofs.ErrorsWeaker.{errors_weaker}
 use Rattle.ix_labels.proofs.MethodLaws.{method_laws}
-use Rattle.ix_labels.specs.RuleErrors.{NoErrors}
 use Rattle.ix_labels.specs.Store.{Store}
 use Rattle.ix_labels.specs.StoredFacts.{stored}
-use Rattle.ix_labels.specs.Stores.{Stored}
-use Rattle.ix_flow.specs.Flow.{Point}
 use Rattle.ix_solve.proofs.LabelLists.{meaning_at}
 use Rattle.ix_loop_labels.specs.LoopLabels.{AreLoopLabels, is_head, one_if, head_stores}
 
@@ -144,12 +139,5 @@ found_labels program method profile labels nodes stores found nodes_are stores_a
           ap (λ l. slice_get l number) made ∙ at_number parts 0 all all (method_numbered body) many (λ k. let e : k ≡ 0 + k = omega arith in ap (slice_get all) e) number (omega (arith, within, each)) in
           let label : label_at R said (head_of parts number) ≡ stored one.0 = ap (λ o. unwrap_or o R.nowhere) (meaning_at stored all (head_of parts number) one.0 (sym same ∙ one.1)) in
           meaning_at stored found number one.0 one.1 ∙ ap (λ s. Some s) (sym label);
-      best = λ number other flow.
-          let finer : (point : Point) (s t : Stored) → R.Below s t → NoErrors program method number point t → NoErrors program method number point s =
-          λ point s t below none error rank has. none error rank (errors_weaker s t below program method number error rank point has) in
-          fine_flows R L (NoErrors program method number) finer body
-          (labels_of R L parts said (behind_code body 2) are.solution (head_of parts)) (joined_of R L parts said (behind_code body 2) are.solution (head_of parts)) (label_at R said)
-          (stores_keep R L body said order are.solution)
-          (fine_at_nodes R L (NoErrors program method number) finer body (label_at R said) other (stores_least R L body said are.least) flow);
       each = each;
     }

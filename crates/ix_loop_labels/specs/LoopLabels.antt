@@ -5,24 +5,20 @@ use Rattle.ix_core.specs.declared.program.Method.{Method}
 use Rattle.ix_core.specs.declared.program.Program.{Program}
 use Rattle.ix_core.specs.Code.{block_code}
 use Rattle.ix_labels.specs.Stores.{Stored}
-use Rattle.ix_flow.specs.Flow.{IsFlow, IsLeastFlow}
+use Rattle.ix_flow.specs.Flow.{IsLeastFlow}
 use Rattle.ix_graph.specs.declared.node.Node.{Node}
 use Rattle.ix_graph.specs.Built.{kind_of}
 use Rattle.ix_graph.specs.Graph.{Kind, Heads, method_parts}
 use Rattle.ix_graph.specs.Heads.{heads_in}
 use Rattle.ix_labels.specs.MethodRules.{method_rules}
-use Rattle.ix_labels.specs.RuleErrors.{NoErrors}
 use Rattle.ix_labels.specs.Store.{Store}
 use Rattle.ix_labels.specs.StoredFacts.{stored}
 
 -- One label for each loop of the body, in the order of the loops' numbers: what they say are the labels of a flow of the body by the rules of the method, and below those of every flow.
--- Where no error is derived at the points of some flow, as those of the method of this number, none is at those of one with these labels.
 pub record AreLoopLabels (program : Program) (method : Method) (profile : Profile) (found : List Store) : Type 0 where
   pub labels : ℕ → Stored
   pub least : IsLeastFlow (method_rules program method profile) (block_code method.body) (length found) labels
   pub there : (number : ℕ) → number < length found → slice_get (map stored found) number ≡ Some (labels number)
-  pub best : (number : ℕ) (other : ℕ → Stored) → IsFlow (method_rules program method profile) (NoErrors program method number) other (block_code method.body)
-      → IsFlow (method_rules program method profile) (NoErrors program method number) labels (block_code method.body)
   pub each : length found ≡ length (heads_in (method_parts (block_code method.body)))
 
 abbrev pub is_head : Kind → Bool
