@@ -13,3 +13,4 @@ pub mod OneFact
 pub mod OneMeaning
 pub mod OneText
 pub mod SmallPaths
+pub mod FormedLoops
