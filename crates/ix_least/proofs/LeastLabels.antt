@@ -24,8 +24,8 @@ use Rattle.ix_least.proofs.Written.{MayLabelMethod, may_be_labels, may_label}
 
 module _ (own : (store : Store) (facts : List Fact) → stored store ≡ Reached facts → list_all compares_two facts ≡ true → AreAStore facts)
     (within : (program : Program) (profile : Profile) (number loops : ℕ) (labels : ℕ → Stored) → Formed program → number < length program.methods
-        → IsLeastFlow (method_rules program (method_at program number) profile) (body_of (method_at program number)) loops labels
-        → (loop : ℕ) → loop < loops → StoreWithin (is_inside (method_at program number).slots (length program.fields)) (labels loop)) where
+    → IsLeastFlow (method_rules program (method_at program number) profile) (body_of (method_at program number)) loops labels
+    → (loop : ℕ) → loop < loops → StoreWithin (is_inside (method_at program number).slots (length program.fields)) (labels loop)) where
   pub one_method : (program : Program) (profile : Profile) (number : ℕ) (found : List Store) → Formed program → number < length program.methods → AreLoopLabels program (method_at program number) profile found
       → MayLabelMethod stored (length program.fields) (method_at program number) found
   one_method program profile number found formed there are = (
