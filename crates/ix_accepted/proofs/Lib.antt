@@ -1,0 +1,4 @@
+mod Loops
+mod FlowsBelow
+mod Same
+mod Accepted

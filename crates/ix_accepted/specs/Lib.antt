@@ -1,0 +1,2 @@
+-- Labels with which nothing is wrong.
+pub mod Flawless
