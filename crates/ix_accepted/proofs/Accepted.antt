@@ -1,5 +1,5 @@
 -- Labels that say the same as flawless ones are accepted.
-use Rattle.std.specs.Prelude.{◌≡◌, ℕ, ◌<◌, false, List, [], length, map, slice_get, unwrap_or, Some}
+use Rattle.std.specs.Prelude.{◌≡◌, ℕ, ◌<◌, List, [], length, map, slice_get, unwrap_or, Some}
 use Rattle.std.proofs.Common.{arith, ap, subst, inl, inr, ⊎_elim}
 use Rattle.ix_core.specs.declared.error.Error.{Error}
 use Rattle.ix_core.specs.declared.fact.Profile.{Profile}
@@ -25,14 +25,14 @@ use Rattle.ix_cert.specs.SameLabels.{SameForMethod, SameLabels}
 use Rattle.ix_cert.proofs.FormedLoops.{HasFormedLoops, formed_loops}
 use Rattle.ix_audit.specs.AtLabels.{Derives, label_of, FailsAt, IsErrorAt}
 use Rattle.ix_audit.specs.Audited.{labels_of}
-use Rattle.ix_accepted.specs.Flawless.{OnlyWrittenLoop, AreFlawless, AreLeastFlawless, AreAccepted}
-use Rattle.ix_accepted.proofs.FlowsBelow.{Matches, flow_below}
+use Rattle.ix_accepted.specs.Flawless.{AreFlawless, AreLeastFlawless, AreAccepted}
+use Rattle.ix_accepted.proofs.FlowsBelow.{Matches, lawful, flow_below}
 use Rattle.ix_accepted.proofs.Loops.{each_loop}
 use Rattle.ix_accepted.proofs.Same.{store_at, same_loop, same_method, mapped_at}
 
 -- ---- one method
 
-module _ (program : Program) (profile : Profile) (number : ℕ) (formed : HasFormedLoops (body_of (method_at program number))) (only : (method_at program number).written ≡ false → loops_of (method_at program number) ≡ 0)
+module _ (program : Program) (profile : Profile) (number : ℕ) (formed : HasFormedLoops (body_of (method_at program number)))
     (stores : List Stored) (found : List Store) (same : SameForMethod (method_at program number) stores (map stored found))
     (labels : ℕ → Stored) (there : (loop : ℕ) → loop < length stores → slice_get stores loop ≡ Some (labels loop)) where
   abbrev method : Method
@@ -54,14 +54,14 @@ module _ (program : Program) (profile : Profile) (number : ℕ) (formed : HasFor
   says_same loop within =
       let count = same.count in
       let is : store_at stores loop ≡ labels loop = ap (λ o. unwrap_or o Unreachable) (there loop (omega (arith, count, within))) in
-      subst (λ s. SayTheSame s (label_of found loop)) is (same_loop method stores (map stored found) only same loop within)
+      subst (λ s. SayTheSame s (label_of found loop)) is (same_loop method stores (map stored found) same loop within)
 
   -- with a flow no loop fails
   kept : (Fine : Point → Stored → Type 0) → IsFlow R Fine labels body → (loop : ℕ) → FailsAt program profile number found loop → ⊥
   kept Fine flow loop fails =
       let J = judging R (λ n. n ≡ loop) in
-      let each = each_loop (Matches R L Fine (λ n. n ≡ loop) (Anything J) (λ point s t i below fine. tt) labels (label_of found)) body formed (λ n within. let s = says_same n within in (s.1, λ judged. s.0)) in
-      fails (flow_below R L Fine (λ n. n ≡ loop) (Anything J) (λ point s t i below fine. tt) labels (label_of found) body each flow)
+      let each = each_loop (Matches R (λ n. n ≡ loop) labels (label_of found)) body formed (λ n within. let s = says_same n within in (s.1, λ judged. s.0)) in
+      fails (flow_below R Fine (λ n. n ≡ loop) (Anything J) (λ point s t i below fine. tt) labels (label_of found) (lawful R L (λ n. n ≡ loop) labels (label_of found)) body each flow)
 
   -- what a flow with weaker labels avoids is avoided
   avoided : (error : Ranked) (Fine : Point → Stored → Type 0) (avoids : (point : Point) (s : Stored) → Fine point s → Avoids R Gives error point s) (weak : ℕ → Stored) → IsFlow R Fine weak body
@@ -70,16 +70,16 @@ module _ (program : Program) (profile : Profile) (number : ℕ) (formed : HasFor
       let Kept : Point → Stored × ℕ → Type 0 = λ point store. Avoids R Gives error point store.0 in
       let finer : (point : Point) (s t : Stored) (i : ℕ) → IsBelow s t → Fine point t → Kept point (s, i) =
       λ point s t i below fine given. avoids point t fine (errors_weaker s t below program method number error.error error.rank point given) in
-      let each = each_loop (Matches R L Fine (λ n. ⊥) Kept finer weak (label_of found)) body formed
+      let each = each_loop (Matches R (λ n. ⊥) weak (label_of found)) body formed
       (λ n within. let s = says_same n within in (below_below (label_of found n) (labels n) (weak n) s.1 (above n within), λ judged. absurd judged)) in
-      derived (flow_below R L Fine (λ n. ⊥) Kept finer weak (label_of found) body each flow)
+      derived (flow_below R Fine (λ n. ⊥) Kept finer weak (label_of found) (lawful R L (λ n. ⊥) weak (label_of found)) body each flow)
 
   -- a flow of which less is asked
   plain : (Fine : Point → Stored → Type 0) (weak : ℕ → Stored) → IsFlow R Fine weak body → IsFlow R (Anything R) weak body
   plain Fine weak flow =
       let Kept : Point → Stored × ℕ → Type 0 = λ point store. Unit {0} in
-      let each = each_loop (Matches R L Fine (λ n. Unit {0}) Kept (λ point s t i below fine. tt) weak weak) body formed (λ n within. (L.reflexive (weak n), λ judged. L.reflexive (weak n))) in
-      all_judged R (Anything R) weak body (flow_below R L Fine (λ n. Unit {0}) Kept (λ point s t i below fine. tt) weak weak body each flow)
+      let each = each_loop (Matches R (λ n. Unit {0}) weak weak) body formed (λ n within. (L.reflexive (weak n), λ judged. L.reflexive (weak n))) in
+      all_judged R (Anything R) weak body (flow_below R Fine (λ n. Unit {0}) Kept (λ point s t i below fine. tt) weak weak (lawful R L (λ n. Unit {0}) weak weak) body each flow)
 
   pub flawless_kept : IsFlow R (NoErrors program method number) labels body → (loop : ℕ) → FailsAt program profile number found loop → ⊥
   flawless_kept flow = kept (NoErrors program method number) flow
@@ -100,7 +100,7 @@ module _ (program : Program) (profile : Profile) (number : ℕ) (formed : HasFor
 
 -- ---- all methods
 
-module _ (program : Program) (profile : Profile) (formed : Formed program) (only : OnlyWrittenLoop program) (labels : List (List Stored)) (found : List (List Store)) (same : SameLabels program.methods labels (map (map stored) found)) where
+module _ (program : Program) (profile : Profile) (formed : Formed program) (labels : List (List Stored)) (found : List (List Store)) (same : SameLabels program.methods labels (map (map stored) found)) where
   abbrev own : ℕ → List Stored
   own number = unwrap_or (slice_get labels number) []
 
@@ -116,11 +116,11 @@ module _ (program : Program) (profile : Profile) (formed : Formed program) (only
       accepted
       (λ number loop within.
       let f = flawless number within in
-      flawless_kept program profile number (formed_loops program formed number within) (only number within) (own number) (labels_of found number) (same_own number within) f.labels f.there f.flow loop)
+      flawless_kept program profile number (formed_loops program formed number within) (own number) (labels_of found number) (same_own number within) f.labels f.there f.flow loop)
       (λ number within error rank either.
       let f = flawless number within in
       ⊎_elim
-      (λ derived. flawless_avoids program profile number (formed_loops program formed number within) (only number within) (own number) (labels_of found number) (same_own number within) f.labels f.there f.flow (record { error = error; rank = rank }) derived)
+      (λ derived. flawless_avoids program profile number (formed_loops program formed number within) (own number) (labels_of found number) (same_own number within) f.labels f.there f.flow (record { error = error; rank = rank }) derived)
       (λ text. f.text error rank text)
       either)
 
@@ -129,12 +129,12 @@ module _ (program : Program) (profile : Profile) (formed : Formed program) (only
       accepted
       (λ number loop within.
       let f = least number within in
-      least_kept program profile number (formed_loops program formed number within) (only number within) (own number) (labels_of found number) (same_own number within) f.labels f.there f.least loop)
+      least_kept program profile number (formed_loops program formed number within) (own number) (labels_of found number) (same_own number within) f.labels f.there f.least loop)
       (λ number within error rank either.
       let f = least number within in
       ⊎_elim
       (λ derived.
-      least_avoids program profile number (formed_loops program formed number within) (only number within) (own number) (labels_of found number) (same_own number within) f.labels f.there f.least (record { error = error; rank = rank })
+      least_avoids program profile number (formed_loops program formed number within) (own number) (labels_of found number) (same_own number within) f.labels f.there f.least (record { error = error; rank = rank })
       (λ given. f.none error rank (inl given)) derived)
       (λ text. f.none error rank (inr text))
       either)

@@ -1,4 +1,5 @@
 mod Loops
 mod FlowsBelow
 mod Same
-mod Accepted
+pub mod Accepted
+pub mod Alike

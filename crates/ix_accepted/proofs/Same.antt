@@ -1,5 +1,5 @@
 -- Labels that say the same, method by method and loop by loop.
-use Rattle.std.specs.Prelude.{◌≡◌, ℕ, zero, suc, ◌<◌, ◌==◌, Bool, true, false, not, ◌&&◌, List, [], ◌∷◌, length, map, slice_get, unwrap_or, refl}
+use Rattle.std.specs.Prelude.{◌≡◌, ℕ, zero, suc, ◌<◌, ◌==◌, false, not, List, [], ◌∷◌, length, map, slice_get, unwrap_or, refl}
 use Rattle.std.proofs.Common.{arith, ap, sym, ◌∙◌}
 use Rattle.std.proofs.lemmas.Bool.{false≢true}
 use Rattle.ix_core.specs.declared.program.Method.{Method}
@@ -19,20 +19,18 @@ same_at (store ∷ stores) [] loop same within = absurd same
 same_at (store ∷ stores) (other ∷ others) zero same within = same.0
 same_at (store ∷ stores) (other ∷ others) (suc loop) same within = same_at stores others loop same.1 (omega (arith, within))
 
-no_part : (written : Bool) (count : ℕ) → (written && not (count == 0)) ≡ false → (written ≡ false → count ≡ 0) → count ≡ 0
-no_part false count off none = none refl
-no_part true count off none =
+no_part : (count : ℕ) → not (count == 0) ≡ false → count ≡ 0
+no_part count off =
     by_test (count == 0)
     (λ t. equal count 0 t)
     (λ t. absurd (false≢true (sym off ∙ ap not t)))
 
--- of a method without loops, or of one that has a part
-pub same_loop : (method : Method) (stores others : List Stored) → (method.written ≡ false → loops_of method ≡ 0) → SameForMethod method stores others → (loop : ℕ) → loop < loops_of method
+pub same_loop : (method : Method) (stores others : List Stored) → SameForMethod method stores others → (loop : ℕ) → loop < loops_of method
     → SayTheSame (store_at stores loop) (store_at others loop)
-same_loop method stores others none same loop within =
+same_loop method stores others same loop within =
     by_test (has_part method)
     (λ t. let count = same.count in same_at stores others loop (same.same t) (omega (arith, count, within)))
-    (λ t. let empty = no_part method.written (loops_of method) t none in absurd (omega (arith, empty, within)))
+    (λ t. let empty = no_part (loops_of method) t in absurd (omega (arith, empty, within)))
 
 pub same_method : (methods : List Method) (labels others : List (List Stored)) (number : ℕ) → SameLabels methods labels others → number < length methods
     → SameForMethod (unwrap_or (slice_get methods number) no_method) (unwrap_or (slice_get labels number) []) (unwrap_or (slice_get others number) [])

@@ -1,5 +1,5 @@
 -- Labels of a program's loops with which nothing is wrong, and what an audit of labels finds then.
-use Rattle.std.specs.Prelude.{◌≡◌, ◌⊎◌, ℕ, ◌<◌, false, List, [], length, slice_get, unwrap_or, Some}
+use Rattle.std.specs.Prelude.{◌≡◌, ◌⊎◌, ℕ, ◌<◌, List, [], length, slice_get, unwrap_or, Some}
 use Rattle.ix_core.specs.declared.error.Error.{Error}
 use Rattle.ix_core.specs.declared.fact.Profile.{Profile}
 use Rattle.ix_core.specs.declared.program.Program.{Program}
@@ -10,13 +10,8 @@ use Rattle.ix_method.specs.MethodRules.{method_rules}
 use Rattle.ix_method.specs.RuleErrors.{TextErrors}
 use Rattle.ix_method.specs.Store.{Store}
 use Rattle.ix_sound.specs.Errors.{NoErrors}
-use Rattle.ix_cert.specs.Labellings.{loops_of}
 use Rattle.ix_audit.specs.AtLabels.{Derives}
 use Rattle.ix_audit.specs.Audited.{NoneFails, IsErrorBelow}
-
--- Only methods that stand in the source have loops. Of the others a certificate says nothing, and what the plain form asks of a program doesn't speak of them.
-abbrev pub OnlyWrittenLoop : Program → Type 0
-OnlyWrittenLoop program = (number : ℕ) → number < length program.methods → (method_at program number).written ≡ false → loops_of (method_at program number) ≡ 0
 
 module _ (program : Program) (profile : Profile) where
   -- The stores are labels with which a flow of the method has no error at any point; and its text gives none.

@@ -8,4 +8,4 @@
 
 mod laws;
 
-pub use laws::what_is_written_is_accepted;
+pub use laws::{labels_are_judged_alike, what_is_written_is_accepted};

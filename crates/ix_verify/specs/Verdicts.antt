@@ -1,6 +1,6 @@
 -- What is said of a text as a certificate of a program: that the program may be accepted by it, or why not.
-use Rattle.std.specs.Prelude.{◌≡◌, ℕ, ◌+◌, Bool, true, false, if◌then◌else◌, List, [], ◌∷◌, map, slice_get, Some}
-use Rattle.std.specs.Vec.{Vec}
+use Rattle.std.specs.Prelude.{◌≡◌, ℕ, ◌+◌, if◌then◌else◌, List, [], ◌∷◌, map, slice_get, Some}
+use Rattle.std.specs.Global.{Vec}
 use Rattle.ix_core.specs.declared.error.Error.{Error}
 use Rattle.ix_core.specs.declared.fact.Profile.{Profile}
 use Rattle.ix_core.specs.declared.program.Method.{Method}

@@ -1,9 +1,13 @@
 //! Certificates verified.
 
-ghost use Rattle.std.specs.Prelude.{◌≡◌, ◌≢◌, ℕ, List, [], length, map, slice_get, Some, IfOk, IfErr};
+ghost use Rattle.std.specs.Prelude.{◌≡◌, ◌≢◌, ℕ, List, [], length, map, slice_get, Some, IfOk, IfErr, MatchResult};
+ghost use Rattle.ix_core.specs.declared.fact.Profile.{Profile as Found};
 ghost use Rattle.ix_core.specs.Formed.{Formed};
 ghost use Rattle.ix_core.specs.Safe.{Safe};
-ghost use Rattle.ix_cert.specs.Labellings.{loops_of};
+ghost use Rattle.ix_facts.specs.Stores.{Stored};
+ghost use Rattle.ix_cert.specs.Labellings.{IsLabelling, loops_of};
+ghost use Rattle.ix_accepted.specs.Flawless.{AreFlawless};
+ghost use Rattle.ix_verify.specs.declared.answer.CertError.TheVariants.{Memory};
 ghost use Rattle.ix_verify.specs.Verdicts as spec;
 ghost use Rattle.ix_verify.specs.Verdicts.{CanVerify, Gives, IsVerified, IsRefused, labels_in};
 
@@ -91,7 +95,7 @@ fn judge(
 
 /// Whether a program is accepted by a certificate, without looking for labels: the text has to be a certificate of the program, in one of the two profiles; no label that it
 /// gives fails, and the rules derive no error at these labels. The program is then safe in the certificate's profile. It answers that profile and how many labels stand in the
-/// text. Errors: `Form` exactly where the bytes are no certificate of the program; `Loop` with the first method and loop whose label isn't above the rounded join of what
+/// text; and it is accepted wherever the text is a certificate whose labels are those of a flow of each method without errors. Errors: `Form` exactly where the bytes are no certificate of the program; `Loop` with the first method and loop whose label isn't above the rounded join of what
 /// comes to the loop's head, where there is one; `Rule` with the first error, where no label fails and errors are derived; `Memory` for want of memory alone.
 pub fn verify(alloc: Global, program: &Program, text: &[u8]) -> Result<Verified, CertError>
     requires formed { Formed program.now }
@@ -99,6 +103,7 @@ pub fn verify(alloc: Global, program: &Program, text: &[u8]) -> Result<Verified,
     ensures verified { IfOk result (λ verified. IsVerified program.now text.now verified) }
     ensures refused { IfErr result (λ error. IsRefused program.now text.now error) }
     ensures safe { IfOk result (λ verified. Safe program.now verified.profile) }
+    ensures accepts { (profile : Found) (labels : List (List Stored)) → IsLabelling program.now profile labels text.now → AreFlawless program.now profile labels → MatchResult result (λ verified. verified.profile ≡ profile) (λ error. error ≡ Memory) }
 {
     soundness();
     match read(alloc, program, text)? {
