@@ -1,9 +1,12 @@
 -- Which labels are kept.
-use Rattle.std.proofs.Common.{◌≡◌, ◌⊎◌, inl, inr, ◌+◌, ◌<◌, ◌≤◌, ℕ, zero, suc, Bool, true, false, List, [], ◌∷◌, ◌++◌, Some, length, slice_get, get_or, unwrap_or, arith, refl, sym, ap, subst, ◌∙◌}
+use Rattle.std.proofs.Common.{◌≡◌, ◌⊎◌, inl, inr, ◌+◌, ◌<◌, ◌≤◌, ℕ, zero, suc, Bool, true, false, not, List, [], ◌∷◌, ◌++◌, Some, length, slice_get, get_or, take, Vec, unwrap_or, arith, refl, sym, ap, subst, ◌∙◌}
 use Rattle.std.proofs.lemmas.Bool.{cases_lt, false≢true}
+use Rattle.std.proofs.lemmas.List.{length_push, map-append}
 use Rattle.std.proofs.lemmas.Option.{slice_get_within}
+use Rattle.std.proofs.Math.Seq.{take-suc}
+use Rattle.std.specs.declared.alloc.Global.{Global}
 use Rattle.ix_graph.specs.declared.node.Node.{Node}
-use Rattle.ix_labels.specs.Runs.{is_kept, Passes, PassesAt, ArePassed, IsEnd, EndsAt, IsStart, AreEnds}
+use Rattle.ix_labels.specs.Runs.{is_kept, Passes, PassesAt, ArePassed, EndsAt, AreEnds, ReadsThrough, readers_through}
 
 kept_front : (kept : List Bool) (b : Bool) (at : ℕ) → at < length kept → is_kept (kept ++ b ∷ []) at ≡ is_kept kept at
 kept_front [] b at within = absurd (omega (arith, within))
@@ -39,42 +42,6 @@ passed_next nodes kept b passed last at node found fails = elim (cases_lt at (le
   ]
 ]
 
--- the first that is kept is the end
-pub end_found : (kept : List Bool) (from at : ℕ) → from ≤ at → ((k : ℕ) → from ≤ k → k < at → is_kept kept k ≡ false) → is_kept kept at ≡ true → EndsAt kept from at
-end_found kept from at low passed holds end is =
-    let on = is.on in
-    elim (cases_lt at end) [
-      | inl before ↦ absurd (false≢true (sym (is.passed at low before) ∙ holds))
-      | inr up ↦ elim (cases_lt end at) [
-        | inl after ↦ absurd (false≢true (sym (passed end on after) ∙ is.kept_there))
-        | inr down ↦ omega (arith, up, down)
-      ]
-    ]
-
-pub no_end : (kept : List Bool) (from at found : ℕ) → length kept ≤ at → ((k : ℕ) → from ≤ k → k < at → is_kept kept k ≡ false) → EndsAt kept from found
-no_end kept from at found past passed end is =
-    let within = is.within in
-    absurd (false≢true (sym (passed end is.on (omega (arith, within, past))) ∙ is.kept_there))
-
-pub one_passed : (kept : List Bool) (from at : ℕ) → ((k : ℕ) → from ≤ k → k < at → is_kept kept k ≡ false) → is_kept kept at ≡ false → (k : ℕ) → from ≤ k → k < at + 1 → is_kept kept k ≡ false
-one_passed kept from at passed fails k low high = elim (cases_lt k at) [
-  | inl before ↦ passed k low before
-  | inr up ↦ let is : at ≡ k = omega (arith, up, high) in subst (λ n. is_kept kept n ≡ false) is fails
-]
-
--- one passed further back
-pub one_back : (kept : List Bool) (at back here : ℕ) → here + back ≡ at → ((k : ℕ) → at < k + back → k ≤ at → is_kept kept k ≡ false) → is_kept kept here ≡ false → (k : ℕ) → at < k + (back + 1) → k ≤ at → is_kept kept k ≡ false
-one_back kept at back here is passed fails k low high = elim (cases_lt at (k + back)) [
-  | inl after ↦ passed k after high
-  | inr down ↦ let same : here ≡ k = omega (arith, is, low, down) in subst (λ n. is_kept kept n ≡ false) same fails
-]
-
--- a list of one
-pub only_one : (xs : List ℕ) (x n : ℕ) → length xs ≡ 1 → x ≡ get_or xs 0 x → x ≡ n → xs ≡ n ∷ []
-only_one [] x n count is same = absurd (omega (arith, count))
-only_one (y ∷ []) x n count is same = ap (λ z. z ∷ []) (sym is ∙ same)
-only_one (y ∷ z ∷ xs) x n count is same = absurd (omega (arith, count))
-
 -- one end more
 end_front : (xs : List ℕ) (x : ℕ) (k : ℕ) → k < length xs → slice_get (xs ++ x ∷ []) k ≡ slice_get xs k
 end_front [] x k within = absurd (omega (arith, within))
@@ -93,14 +60,14 @@ end_longer [] x = refl
 end_longer (y ∷ xs) x = ap (λ n. suc n) (end_longer xs x)
 
 pub no_ends : (kept : List Bool) → AreEnds kept [] []
-no_ends kept = record { many = refl; each = λ k from found at_from at_found. absurd (let within = slice_get_within [] k at_from in omega (arith, within)) }
+no_ends kept = record { many = refl; each = λ k from found at_from at_found. absurd (let within = slice_get_within [] k from at_from in omega (arith, within)) }
 
 pub ends_next : (kept : List Bool) (nodes ends : List ℕ) (node end : ℕ) → AreEnds kept nodes ends → EndsAt kept node end → AreEnds kept (nodes ++ node ∷ []) (ends ++ end ∷ [])
 ends_next kept nodes ends node end before last = record {
   many = let m = before.many in let a = end_longer ends end in let b = end_longer nodes node in omega (arith, m, a, b);
   each = λ k from found at_from at_found.
       let m = before.many in
-      let within = slice_get_within (nodes ++ node ∷ []) k at_from in
+      let within = slice_get_within (nodes ++ node ∷ []) k from at_from in
       let b = end_longer nodes node in
       elim (cases_lt k (length nodes)) [
         | inl low ↦ before.each k from found (sym (end_front nodes node k low) ∙ at_from) (sym (end_front ends end k (omega (arith, low, m))) ∙ at_found)
@@ -114,3 +81,43 @@ ends_next kept nodes ends node end before last = record {
             subst (λ n. EndsAt kept n found) node_is (subst (λ e. EndsAt kept node e) end_is last)
       ];
 }
+
+pub not_false : (b : Bool) → not b ≡ false → b ≡ true
+not_false true is = refl
+not_false false is = cc
+
+-- the list so far, and the next
+pub next_taken : (xs : List ℕ) (k d : ℕ) → k < length xs → take (k + 1) xs ≡ take k xs ++ get_or xs k d ∷ []
+next_taken xs k d within = (let e : k + 1 ≡ suc k = omega arith in ap (λ j. take j xs) e) ∙ take-suc xs k d within
+
+-- the readers of the first nodes, and the next
+abbrev pub ThroughTo : List Node → List Bool → List (List ℕ) → Type 0
+ThroughTo nodes kept readers = (at : ℕ) (node : Node) (by : List ℕ) → slice_get nodes at ≡ Some node → slice_get readers at ≡ Some by → ReadsThrough kept at node.readers.items by
+
+list_front : (xs : List (List ℕ)) (x : List ℕ) (k : ℕ) → k < length xs → slice_get (xs ++ x ∷ []) k ≡ slice_get xs k
+list_front [] x k within = absurd (omega (arith, within))
+list_front (y ∷ xs) x zero within = refl
+list_front (y ∷ xs) x (suc k) within = list_front xs x k (omega (arith, within))
+
+list_last : (xs : List (List ℕ)) (x : List ℕ) → slice_get (xs ++ x ∷ []) (length xs) ≡ Some x
+list_last [] x = refl
+list_last (y ∷ xs) x = list_last xs x
+
+pub through_next : (nodes : List Node) (kept : List Bool) (readers : List (List ℕ)) (node : Node) (by : List ℕ) → ThroughTo nodes kept readers → slice_get nodes (length readers) ≡ Some node → ReadsThrough kept (length readers) node.readers.items by
+    → ThroughTo nodes kept (readers ++ by ∷ [])
+through_next nodes kept readers node by before there last at other more found at_more =
+    let within = slice_get_within (readers ++ by ∷ []) at more at_more in
+    let count = length_push readers by in
+    elim (cases_lt at (length readers)) [
+      | inl low ↦ before at other more found (sym (list_front readers by at low) ∙ at_more)
+      | inr high ↦
+          let is : length readers ≡ at = omega (arith, high, within, count) in
+          let one : Some node ≡ Some other = sym there ∙ ap (slice_get nodes) is ∙ found in
+          let two : Some by ≡ Some more = sym (list_last readers by) ∙ ap (slice_get (readers ++ by ∷ [])) is ∙ at_more in
+          let node_is : node ≡ other = cc in
+          let by_is : by ≡ more = cc in
+          subst (λ b. ReadsThrough kept at other.readers.items b) by_is (subst (λ (n : Node). ReadsThrough kept at n.readers.items by) node_is (subst (λ k. ReadsThrough kept k node.readers.items by) is last))
+    ]
+
+pub through_pushed : (rows more : List (Vec ℕ Global)) (row : Vec ℕ Global) → more ≡ rows ++ row ∷ [] → readers_through more ≡ readers_through rows ++ row.items ∷ []
+through_pushed rows more row is = ap readers_through is ∙ map-append (λ (by : Vec ℕ Global). by.items) rows (row ∷ [])

@@ -209,6 +209,19 @@ settled_below problem (Heads number scope) joined label above other is up settle
 settled_below problem (Returns value known span) joined label above other is up settles = subst (λ s. IsBelow s other) (sym is) ((laws_of problem).transitive joined above other up settles.0)
 settled_below problem Ends joined label above other is up settles = subst (λ s. IsBelow s other) (sym is) ((laws_of problem).transitive joined above other up settles.0)
 
+-- the least store above what comes of a store from a node to the one behind it
+pub onto_least : (problem : Problem) (at : ℕ) (s t : Stored) → IsCarried problem (pass_of (kinds_at problem at) Next) s t → IsLeastOf IsBelow (Onto (rules_of problem) (kinds_at problem) at s) t
+onto_least problem at s t carried = (
+  carries_as (rules_of problem) (laws_of problem) [] (λ number. s) (λ number. t) (pass_of (kinds_at problem at) Next) s t carried.0,
+  λ other onto. carried.1 other (carries_as (rules_of problem) (laws_of problem) [] (λ number. other) (λ number. s) (pass_of (kinds_at problem at) Next) s other onto),
+)
+
+-- what a label in a list says
+pub said_there : (problem : Problem) (labels : List Store) (k : ℕ) (label : Store) → k < length labels → label ≡ get_or labels k label → label_at (rules_of problem) (map stored labels) k ≡ stored label
+said_there problem [] k label within is = absurd (omega (arith, within))
+said_there problem (first ∷ labels) zero label within is = ap stored (sym is)
+said_there problem (first ∷ labels) (suc k) label within is = said_there problem labels k label (omega (arith, within)) is
+
 -- the least label of a node that is kept, and of one that isn't
 pub label_asked : (problem : Problem) (labels : List Stored) (at : ℕ) (joined label : Stored) → is_kept (kept_in problem) at ≡ true
     → IsLeastOf IsBelow (RunsBring (rules_of problem) (kinds_at problem) (kept_in problem) labels (edges_at problem at)) joined → IsSettled (rules_of problem) (kinds_at problem at) joined label

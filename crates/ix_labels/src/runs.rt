@@ -72,16 +72,15 @@ fn goes_on(nodes: &[Node<'_>], at: usize) -> bool {
         && comes_from_before(nodes[at].from.as_slice(), at)
 }
 
-/// Whether the label of a node is kept. The last of a run is, since all that it leads to would walk the run again.
-fn is_kept(nodes: &[Node<'_>], at: usize) -> bool
+/// Whether the label of a node is kept, which all are if no runs are wanted. The last of a run is, since all that it leads to would walk the run again.
+fn is_kept(nodes: &[Node<'_>], at: usize, runs: bool) -> bool
     requires { at < length nodes.now }
     ensures { result ≡ false → spec.PassesAt nodes.now at }
 {
-    if passes(&nodes[at], at) {
-        !goes_on(nodes, at + 1)
-    } else {
-        true
+    if !runs || !goes_on(nodes, at + 1) {
+        return true;
     }
+    !passes(&nodes[at], at)
 }
 
 /// Of each node whether its label is kept: of all of them, if no runs are wanted.
@@ -91,7 +90,7 @@ fn kept_of(alloc: Global, nodes: &[Node<'_>], runs: bool) -> Result<Vec<bool>, A
 {
     let mut kept = Vec::new(alloc);
     for at in 0..nodes.len() {
-        kept.push(!runs || is_kept(nodes, at))?;
+        kept.push(is_kept(nodes, at, runs))?;
     }
     Ok(kept)
 }

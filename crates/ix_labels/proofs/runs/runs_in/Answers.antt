@@ -1,0 +1,26 @@
+use Rattle.std.proofs.Common.{◌≡◌, ◌+◌, ◌<◌, ◌∷◌, [], ◌++◌, All, List, ℕ, length, arith, sym, ap, subst, ◌∙◌}
+use Rattle.std.proofs.lemmas.List.{length_push}
+use Rattle.std.proofs.lemmas.List.Elements.{All-push}
+use Rattle.std.proofs.lemmas.Option.{slice_get_read, slice_get_within}
+use Rattle.ix_labels.specs.Runs.{ReadsThrough, readers_through}
+use Rattle.ix_labels.proofs.KeptNodes.{ThroughTo, through_next, through_pushed}
+use Rattle.ix_labels.proofs.runs.runs_in.Goals as goal
+
+pub loop-at-init : goal.loop-at-init
+loop-at-init c =
+    let kept = c.in_ok-kept.kept.items in
+    subst (λ rows. (length (readers_through rows) ≡ 0) × All (All (λ reader. reader < length c.args.nodes.now)) (readers_through rows) × ThroughTo c.args.nodes.now kept (readers_through rows)) (sym c.new-readers.ensures.items)
+    (refl, (λ k d within. absurd (omega (arith, within))), (λ at node by found at_by. absurd (let within = slice_get_within [] at by at_by in omega (arith, within))))
+
+pub readers_of-requires : goal.readers_of-requires
+readers_of-requires c =
+    let nodes = c.args.nodes.now in
+    let all = c.in_ok-kept.ensures.all in
+    let there = slice_get_read nodes (length nodes) c.loop-at.at c.index-nodes-at.result refl c.loop-at-test.true c.index-nodes-at.is in
+    let kept_is = c.as_slice.ensures.value in
+    let readers_are = c.as_slice-2.ensures.value in
+    record {
+      node = let n = ap length kept_is in omega (arith, c.loop-at-test.true, all, n);
+      readers = subst (λ ks. All (λ node. node < length ks) c.as_slice-2.result.now) (sym kept_is)
+          (subst (λ rs. All (λ node. node < length c.in_ok-kept.kept.items) rs) (sym readers_are) (subst (λ n. All (λ node. node < n) c.index-nodes-at.result.readers.items) (sym all) (c.requires c.loop-at.at c.index-nodes-at.result there)));
+    }
