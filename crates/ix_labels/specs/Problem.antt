@@ -21,7 +21,6 @@ use Rattle.ix_labels.specs.RunAsks.{RunAsks}
 abbrev pub readers_in : List Node → List (List ℕ)
 readers_in nodes = map (λ (node : Node). node.readers.items) nodes
 
-
 -- the rules of a method, where a loop's label is rounded to these landmarks
 abbrev pub rules_with : Program → Method → Profile → List ℤ → Rules
 rules_with program method profile marks = record {

@@ -26,8 +26,8 @@ loop-node-preserved c =
     )
 
 pub returns-clause-within : goal.returns-clause-within
-returns-clause-within c e = e.loop-node.invariant.0
+returns-clause-within c = c.loop-node.invariant.0
 
 pub returns-clause-ends : goal.returns-clause-ends
-returns-clause-ends c e =
-    subst (λ ns. AreEnds e.args.kept.now ns e.loop-node.ends.items) (take_all e.loop-node.node-index e.args.nodes.now e.loop-node-test.false) e.loop-node.invariant.1
+returns-clause-ends c =
+    subst (λ ns. AreEnds c.args.kept.now ns c.loop-node.ends.items) (take_all c.loop-node.node-index c.args.nodes.now c.loop-node-test.false) c.loop-node.invariant.1

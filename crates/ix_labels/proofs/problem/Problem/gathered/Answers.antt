@@ -20,8 +20,8 @@ run_brought-requires c =
 
 pub loop-from-preserved : goal.loop-from-preserved
 loop-from-preserved c =
-    one_more_run c.args.self.now (map stored c.args.labels.now) c.as_slice-from-items.result.now c.loop-from.from-index (0, Next) (stored c.loop-from.joined) (stored c.in_ok-run_brought.brought) (stored c.in_ok-joined.joined) c.loop-from-test.true
-    c.loop-from.invariant c.in_ok-run_brought.ensures.least (join_said c.loop-from.joined c.in_ok-run_brought.brought c.in_ok-joined.joined c.in_ok-joined.ensures.least_above c.in_ok-joined.ensures.joined)
+    one_more_run c.args.self.now (map stored c.args.labels.now) c.as_slice-from-items.result.now c.loop-from.from-index (0, Next) (stored c.loop-from.joined) (stored c.in_ok-brought.brought) (stored c.in_ok-joined.joined) c.loop-from-test.true
+    c.loop-from.invariant c.in_ok-brought.ensures.least (join_said c.loop-from.joined c.in_ok-brought.brought c.in_ok-joined.joined c.in_ok-joined.ensures.least_above c.in_ok-joined.ensures.joined)
 
 pub returns : goal.returns
 returns c =
