@@ -1,4 +1,4 @@
-use Rattle.std.proofs.Common.{◌≡◌, ◌<◌, ◌≤◌, ℕ, false, length}
+use Rattle.std.proofs.Common.{◌≡◌, ◌<◌, ◌≤◌, ℕ, false}
 use Rattle.ix_labels.specs.Runs.{is_kept}
 use Rattle.ix_labels.proofs.runs.end_of.Given as goal
 

@@ -1,4 +1,4 @@
-use Rattle.std.proofs.Common.{◌≡◌, ◌+◌, ◌<◌, ◌∷◌, [], ◌++◌, All, List, ℕ, length, take, take_all, get_or, arith, sym, subst, ◌∙◌}
+use Rattle.std.proofs.Common.{◌≡◌, ◌+◌, ◌<◌, ◌∷◌, [], ◌++◌, All, length, take, take_all, get_or, arith, sym, subst}
 use Rattle.std.proofs.lemmas.List.Elements.{All-push}
 use Rattle.ix_labels.specs.Runs.{AreEnds}
 use Rattle.ix_labels.proofs.KeptNodes.{no_ends, ends_next, next_taken}

@@ -1,4 +1,4 @@
-use Rattle.std.proofs.Common.{◌≡◌, Bool, true, false, length, refl}
+use Rattle.std.proofs.Common.{length, refl}
 use Rattle.std.proofs.lemmas.Option.{slice_get_read}
 use Rattle.ix_labels.proofs.KeptNodes.{not_false}
 use Rattle.ix_labels.proofs.runs.is_kept.Goals as goal

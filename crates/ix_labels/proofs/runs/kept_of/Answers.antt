@@ -1,4 +1,4 @@
-use Rattle.std.proofs.Common.{◌≡◌, ◌+◌, ◌∷◌, [], ◌++◌, false, List, Bool, length, arith, sym, ap, subst, ◌∙◌}
+use Rattle.std.proofs.Common.{◌≡◌, ◌∷◌, [], ◌++◌, length, arith, sym, ap, subst}
 use Rattle.std.proofs.lemmas.List.{length_push}
 use Rattle.ix_labels.specs.Runs.{PassesAt, ArePassed}
 use Rattle.ix_labels.proofs.KeptNodes.{passed_next}

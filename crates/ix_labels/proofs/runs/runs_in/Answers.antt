@@ -18,10 +18,10 @@ readers_of-requires c =
     let all = c.in_ok-kept.ensures.all in
     let there = slice_get_read nodes (length nodes) c.loop-at.at c.index-nodes-at.result refl c.loop-at-test.true c.index-nodes-at.is in
     let kept_is = c.as_slice.ensures.value in
-    let readers_are = c.as_slice-2.ensures.value in
+    let readers_are = c.as_slice-in-loop-at.ensures.value in
     record {
       node = let n = ap length kept_is in omega (arith, c.loop-at-test.true, all, n);
-      readers = subst (λ ks. All (λ node. node < length ks) c.as_slice-2.result.now) (sym kept_is)
+      readers = subst (λ ks. All (λ node. node < length ks) c.as_slice-in-loop-at.result.now) (sym kept_is)
           (subst (λ rs. All (λ node. node < length c.in_ok-kept.kept.items) rs) (sym readers_are) (subst (λ n. All (λ node. node < n) c.index-nodes-at.result.readers.items) (sym all) (c.requires c.loop-at.at c.index-nodes-at.result there)));
     }
 
@@ -38,7 +38,7 @@ loop-at-preserved c =
     let count = length_push (readers_through rows) row.items in
     let there = slice_get_read nodes (length nodes) at c.index-nodes-at.result refl c.loop-at-test.true c.index-nodes-at.is in
     let within = subst (λ n. All (λ node. node < n) row.items) (ap length c.as_slice.ensures.value ∙ all) c.in_ok-readers_of.ensures.within in
-    let through = subst (λ ks. ReadsThrough ks at c.index-nodes-at.result.readers.items row.items) c.as_slice.ensures.value (subst (λ rs. ReadsThrough c.as_slice.result.now at rs row.items) c.as_slice-2.ensures.value c.in_ok-readers_of.ensures.through) in
+    let through = subst (λ ks. ReadsThrough ks at c.index-nodes-at.result.readers.items row.items) c.as_slice.ensures.value (subst (λ rs. ReadsThrough c.as_slice.result.now at rs row.items) c.as_slice-in-loop-at.ensures.value c.in_ok-readers_of.ensures.through) in
     subst (λ rs. (length rs ≡ at + 1) × All (All (λ reader. reader < length nodes)) rs × ThroughTo nodes kept rs) (sym more) (
       omega (arith, many, count),
       All-push (All (λ reader. reader < length nodes)) (readers_through rows) row.items c.loop-at.invariant.1 within,

@@ -1,7 +1,6 @@
-use Rattle.std.proofs.Common.{◌≡◌, ◌+◌, ◌<◌, ◌∷◌, [], ◌++◌, List, length, arith, sym, ap, subst, ◌∙◌}
-use Rattle.ix_labels.specs.Filled.{nodes_of, before_in, IsLabel, AreFilledTo}
+use Rattle.std.proofs.Common.{◌≡◌, ◌+◌, ◌∷◌, [], ◌++◌, sym, ap, subst, ◌∙◌}
+use Rattle.ix_labels.specs.Filled.{before_in, IsLabel, AreFilledTo}
 use Rattle.ix_labels.proofs.Filling.{none_filled, one_filled, last_label}
-use Rattle.ix_method.specs.Store.{Store}
 use Rattle.ix_labels.proofs.kept.RunLabels.all.Goals as goal
 
 pub loop-at-init : goal.loop-at-init

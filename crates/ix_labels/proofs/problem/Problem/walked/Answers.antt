@@ -1,8 +1,7 @@
-use Rattle.std.proofs.Common.{◌≡◌, ◌<◌, ◌≤◌, ◌+◌, suc, length, map, arith, refl, sym, ap, subst, ◌∙◌}
+use Rattle.std.proofs.Common.{◌≡◌, ◌<◌, ◌+◌, suc, length, map, arith, sym, ap, subst, ◌∙◌}
 use Rattle.ix_facts.specs.Stores.{IsBelow}
 use Rattle.ix_method.specs.StoredFacts.{stored}
 use Rattle.ix_solve.specs.Solutions.{IsLeastOf}
-use Rattle.ix_labels.specs.Problem.{kept_in}
 use Rattle.ix_labels.specs.Runs.{IsStart}
 use Rattle.ix_labels.proofs.Visited.{To, run_begins, run_goes_on, said_there}
 use Rattle.ix_labels.proofs.problem.Problem.walked.Goals as goal

@@ -1,8 +1,8 @@
-use Rattle.std.proofs.Common.{◌≡◌, ◌<◌, length, map, arith, sym, subst, ap, ◌∙◌}
+use Rattle.std.proofs.Common.{◌<◌, length, map, arith, ◌∙◌}
 use Rattle.std.proofs.lemmas.Result.{IfOk-weaker}
 use Rattle.ix_method.specs.StoredFacts.{stored}
 use Rattle.ix_labels.specs.Problem.{kept_in}
-use Rattle.ix_labels.proofs.KeptNodes.{kept_read, not_false}
+use Rattle.ix_labels.proofs.KeptNodes.{kept_read}
 use Rattle.ix_labels.proofs.Visited.{label_asked}
 use Rattle.ix_labels.proofs.visit.ProblemFlowProblem.visit.Goals as goal
 
@@ -12,6 +12,6 @@ returns-clause-value c e =
     let all = problem.through.all in
     let many = problem.through.many in
     let within : e.args.at < length (kept_in problem) = omega (arith, e.requires.at, all, many) in
-    let holds = kept_read (kept_in problem) e.args.at e.index.result.now within e.index.ensures ∙ not_false e.index.result.now e.if-not-index.false in
+    let holds = kept_read (kept_in problem) e.args.at e.index.result.now within e.index.ensures ∙ e.if-not-index.false in
     IfOk-weaker e.settled.result _ _
     (λ label is. label_asked problem (map stored e.args.labels.now) e.args.at (stored e.in_ok-joined.joined) (stored label) holds e.in_ok-joined.ensures.least is) e.settled.ensures.settled
