@@ -1,6 +1,6 @@
 -- The labels of all nodes, by those that are kept: if the kept ones are the least of what is asked with runs, all are the least solution of the graph.
 use Rattle.std.specs.List.{AllZip}
-use Rattle.std.proofs.Common.{◌≡◌, inl, inr, ◌<◌, ◌-◌, ℕ, zero, suc, Bool, true, false, List, [], ◌∷◌, Some, length, slice_get, unwrap_or, arith, refl, sym, ap, subst, ◌∙◌}
+use Rattle.std.proofs.Common.{◌≡◌, inl, inr, ◌<◌, ◌-◌, ℕ, zero, suc, Bool, true, false, List, [], ◌∷◌, Some, length, slice_get, unwrap_or, arith, sym, ap, subst, ◌∙◌}
 use Rattle.std.proofs.lemmas.Bool.{cases_Bool}
 use Rattle.std.proofs.lemmas.Option.{slice_get_within}
 use Rattle.ix_flow.specs.Flow.{Rules, RulesLaws, Anything}
@@ -10,7 +10,7 @@ use Rattle.ix_graph.specs.declared.node.Node.{Node}
 use Rattle.ix_graph.specs.Graph.{Kind, Starts, Does, Compares, Tells, Joins, Heads, Returns, Ends, Part, AreBelow}
 use Rattle.ix_graph.specs.Built.{kind_of, edges_of, edges_to}
 use Rattle.ix_graph.specs.Brought.{pass_of, AllBring, Gathers}
-use Rattle.ix_graph.specs.GraphSolutions.{Carries, Settles, label_at}
+use Rattle.ix_graph.specs.GraphSolutions.{Settles, label_at}
 use Rattle.ix_graph.specs.Linked.{HaveEdges}
 use Rattle.ix_graph.proofs.AsProblem.{LeadTo, all_lead}
 use Rattle.ix_solve.specs.Solutions.{IsSolution, IsLeast, IsLeastOf}

@@ -1,5 +1,5 @@
 -- Labels that are made one after the other are those of all nodes, and are the least of the method.
-use Rattle.std.proofs.Common.{◌≡◌, ◌⊎◌, inl, inr, ◌+◌, ◌*◌, ◌-◌, ◌<◌, ◌≤◌, ℕ, zero, suc, Bool, true, false, List, [], ◌∷◌, ◌++◌, Some, length, map, slice_get, unwrap_or, arith, refl, sym, ap, subst, ◌∙◌}
+use Rattle.std.proofs.Common.{◌≡◌, ◌⊎◌, inl, inr, ◌+◌, ◌*◌, ◌-◌, ◌<◌, ◌≤◌, ℕ, zero, suc, true, false, List, [], ◌∷◌, ◌++◌, Some, length, map, slice_get, unwrap_or, arith, refl, sym, ap, subst, ◌∙◌}
 use Rattle.std.proofs.lemmas.Bool.{cases_Bool, cases_lt}
 use Rattle.std.proofs.lemmas.List.{length-map}
 use Rattle.std.proofs.lemmas.Option.{slice_get_within}
@@ -7,28 +7,26 @@ use Rattle.ix_core.specs.declared.fact.Profile.{Profile}
 use Rattle.ix_core.specs.declared.program.Method.{Method}
 use Rattle.ix_core.specs.declared.program.Program.{Program}
 use Rattle.ix_core.specs.Code.{Code, block_code}
-use Rattle.ix_facts.specs.MethodLandmarks.{AreLandmarksOf}
-use Rattle.ix_facts.specs.Stores.{Stored, IsBelow}
+use Rattle.ix_facts.specs.Stores.{IsBelow}
 use Rattle.ix_flow.specs.Flow.{Rules, RulesLaws}
 use Rattle.ix_graph.specs.declared.node.Node.{Node}
-use Rattle.ix_graph.specs.Graph.{Joins, behind_code, method_parts}
+use Rattle.ix_graph.specs.Graph.{Joins, behind_code}
 use Rattle.ix_graph.specs.GraphSolutions.{label_at}
-use Rattle.ix_graph.specs.Built.{kind_of, kinds_of}
-use Rattle.ix_graph.specs.Linked.{kinds_in}
+use Rattle.ix_graph.specs.Built.{kind_of}
 use Rattle.ix_method.specs.Store.{Store}
 use Rattle.ix_method.specs.StoredFacts.{stored}
 use Rattle.ix_method.specs.StoreOrder.{nowhere, store_rank, top_rank}
 use Rattle.ix_solve.proofs.LabelLists.{meaning_at}
 use Rattle.ix_solve.specs.Readers.{readings}
-use Rattle.ix_solve.specs.Solutions.{IsSolution, IsLeast, IsLeastOf}
+use Rattle.ix_solve.specs.Solutions.{IsLeastOf}
 use Rattle.ix_labels.specs.declared.problem.Problem.{Problem}
 use Rattle.ix_labels.specs.declared.kept.RunLabels.{RunLabels}
-use Rattle.ix_labels.specs.Problem.{rules_of, kinds_at, kind_in, kept_in, readers_of, readers_in, parts_of, edges_at, Asks}
+use Rattle.ix_labels.specs.Problem.{rules_of, kinds_at, kind_in, kept_in, readers_of, readers_in, parts_of}
 use Rattle.ix_labels.specs.ProblemLaws.{laws_with, parts_below}
-use Rattle.ix_labels.specs.Runs.{is_kept, AreEnds, ReadsThrough}
+use Rattle.ix_labels.specs.Runs.{is_kept}
 use Rattle.ix_labels.specs.RunAsks.{Onto}
 use Rattle.ix_labels.specs.RunLaws.{there}
-use Rattle.ix_labels.specs.Filled.{nodes_of, IsProblemOf, AreRunLabels, IsLabel, before_in, AreFilledTo, AreFilled, run_visits}
+use Rattle.ix_labels.specs.Filled.{nodes_of, AreRunLabels, IsLabel, before_in, AreFilledTo, AreFilled, run_visits}
 use Rattle.ix_labels.specs.Labels.{AreLabelsOf}
 use Rattle.ix_labels.specs.Visits.{readers_by, visits_by}
 use Rattle.ix_labels.proofs.Bounded.{readers_are}

@@ -1,8 +1,6 @@
 -- What a visit of a node finds.
-use Rattle.std.specs.Prelude.{slice_index_or}
-use Rattle.std.proofs.Common.{◌≡◌, ◌⊎◌, inl, inr, ◌<◌, ◌≤◌, ◌+◌, ℕ, zero, suc, Bool, true, false, List, [], ◌∷◌, ◌++◌, Some, None, length, map, slice_get, get_or, take, take_all, unwrap_or, arith, refl, sym, ap, subst, ◌∙◌}
+use Rattle.std.proofs.Common.{◌≡◌, ◌⊎◌, inl, inr, ◌<◌, ◌+◌, ℕ, zero, suc, Bool, true, false, List, [], ◌∷◌, ◌++◌, Some, None, length, map, slice_get, get_or, take, arith, refl, sym, ap, subst, ◌∙◌}
 use Rattle.std.proofs.Math.Seq.{take-suc}
-use Rattle.ix_core.specs.declared.op.Op.{Op}
 use Rattle.ix_core.specs.declared.op.Test.{Test}
 use Rattle.ix_core.specs.Posts.{last_done}
 use Rattle.ix_facts.specs.Round.{rounded}
@@ -15,7 +13,7 @@ use Rattle.ix_graph.specs.declared.node.Edge.TheVariants.{Next}
 use Rattle.ix_graph.specs.declared.node.Node.{Node}
 use Rattle.ix_graph.specs.declared.node.NodeKind.{NodeKind}
 use Rattle.ix_graph.specs.declared.node.NodeKind.TheVariants as node
-use Rattle.ix_graph.specs.Graph.{Kind, Starts, Does, Compares, Tells, Joins, Heads, Returns, Ends, Pass, Onward, Testing, Telling, behind_code, method_parts}
+use Rattle.ix_graph.specs.Graph.{Kind, Starts, Does, Compares, Tells, Joins, Heads, Returns, Ends, Pass, Testing, Telling, behind_code, method_parts}
 use Rattle.ix_lattice.specs.Lattice.{IsJoin}
 use Rattle.ix_core.specs.Code.{Code, block_code}
 use Rattle.ix_graph.specs.GraphSolutions.{Carries, Settles, label_at}

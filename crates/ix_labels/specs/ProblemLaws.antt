@@ -1,7 +1,6 @@
 -- The problem keeps the laws of problems of flow.
-use Rattle.std.specs.Prelude.{◌≡◌, ℕ, zero, suc, ℤ, List, [], ◌∷◌, length, slice_get, Some}
-use Rattle.std.proofs.lemmas.List.{length-map}
-use Rattle.std.proofs.Common.{inr, sym, subst, ◌∙◌, refl}
+use Rattle.std.specs.Prelude.{◌≡◌, ℤ, List, [], length}
+use Rattle.std.proofs.Common.{inr, sym, subst, ◌∙◌}
 use Rattle.ix_core.specs.declared.fact.Profile.{Profile}
 use Rattle.ix_core.specs.declared.program.Method.{Method}
 use Rattle.ix_core.specs.declared.program.Program.{Program}
@@ -12,7 +11,6 @@ use Rattle.ix_facts.proofs.SaidRules.{rounded_mono}
 use Rattle.ix_facts.proofs.StepLaws.{gives_step}
 use Rattle.ix_facts.proofs.StoreLaws.{below_itself}
 use Rattle.ix_flow.specs.Flow.{RulesLaws}
-use Rattle.ix_graph.specs.declared.node.Node.{Node}
 use Rattle.ix_graph.specs.Graph.{behind_code, AreBelow}
 use Rattle.ix_graph.proofs.Numbers.{method_below}
 use Rattle.ix_method.proofs.MethodLaws.{method_laws}

@@ -1,5 +1,4 @@
 -- What is asked where labels within runs are passed is monotone, and depends on what is read.
-use Rattle.std.specs.Prelude.{Contains}
 use Rattle.std.specs.List.{AllZip}
 use Rattle.std.proofs.Common.{◌≡◌, ◌⊎◌, inl, inr, ◌<◌, ◌≤◌, ◌-◌, ℕ, zero, suc, Bool, true, false, List, [], ◌∷◌, None, Some, length, slice_get, unwrap_or, arith, refl, sym, ap, subst, ◌∙◌}
 use Rattle.std.proofs.lemmas.Bool.{cases_Bool}
@@ -18,7 +17,7 @@ use Rattle.ix_graph.proofs.AsProblem.{Among, LeadTo, all_lead}
 use Rattle.ix_solve.specs.Solutions.{IsMonotone}
 use Rattle.ix_solve.specs.Readers.{DependsOnRead, AgreeWhereRead}
 use Rattle.ix_labels.specs.Runs.{is_kept, AreRuns, IsEnd, Passes}
-use Rattle.ix_labels.specs.RunAsks.{Either, Onto, RunsTo, RunBrings, RunsBring, RunAsks}
+use Rattle.ix_labels.specs.RunAsks.{Either, Onto, RunsTo, RunsBring, RunAsks}
 
 -- ---- one of two
 

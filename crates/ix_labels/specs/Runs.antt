@@ -1,5 +1,5 @@
 -- Straight runs of operations: of which nodes the labels are kept, what is asked where the others are passed, and what all labels are by those that are kept.
-use Rattle.std.specs.Prelude.{◌≡◌, ◌⊎◌, All, ℕ, zero, suc, ◌-◌, ◌<◌, ◌≤◌, Bool, true, false, List, [], ◌∷◌, length, map, slice_get, Some, unwrap_or, Vec}
+use Rattle.std.specs.Prelude.{◌≡◌, ◌⊎◌, All, ℕ, suc, ◌-◌, ◌<◌, ◌≤◌, Bool, true, false, List, [], ◌∷◌, length, map, slice_get, Some, unwrap_or, Vec}
 use Rattle.std.proofs.Props.{props}
 use Rattle.std.specs.declared.alloc.Global.{Global}
 use Rattle.ix_solve.specs.Readers.{AreReadersInRange}
