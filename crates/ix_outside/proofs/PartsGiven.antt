@@ -1,5 +1,5 @@
 -- What was handed out, part by part and file by file.
-use Rattle.std.proofs.Common.{◌≡◌, ℕ, List, [], ◌∷◌, ◌++◌, refl, ap, sym, append-nil, append_assoc, Some, None}
+use Rattle.std.proofs.Common.{◌≡◌, ◌∙◌, ℕ, List, [], ◌∷◌, ◌++◌, refl, ap, sym, append-nil, append_assoc, Some, None, Result, Ok, Err, IfOk}
 use Rattle.ix_outside.specs.Outside.{add_last, first_given, second_given}
 
 -- nothing more
@@ -37,3 +37,12 @@ pub given_two : (before after : List (List ℕ)) (first second : List ℕ) → a
 given_two [] after first second is = (ap (first_given []) is, ap (second_given []) is)
 given_two (part ∷ before) [] first second is = absurd (cc)
 given_two (part ∷ before) (other ∷ after) first second is = given_two before after first second (let same : other ∷ after ≡ part ∷ (before ++ first ∷ second ∷ []) = is in cc)
+
+-- the first file that was opened since is the only one, and these bytes were handed out of it
+pub only_given : (before after : List (List ℕ)) (first : List ℕ) → after ≡ before ++ first ∷ [] → after ≡ before ++ first_given before after ∷ []
+only_given before after first is = is ∙ ap (λ b. before ++ b ∷ []) (sym (given_one before after first is).0)
+
+-- two things of one value
+pub both_ok : {T E : Type 0} (r : Result T E) (P Q : T → Type 0) → IfOk r P → IfOk r Q → IfOk r (λ t. P t × Q t)
+both_ok (Ok t) P Q p q = (p, q)
+both_ok (Err e) P Q p q = p

@@ -26,12 +26,6 @@ add_last bytes [] = []
 add_last bytes (part ∷ []) = (part ++ bytes) ∷ []
 add_last bytes (part ∷ next ∷ parts) = part ∷ add_last bytes (next ∷ parts)
 
--- What was handed out of the file that was opened since, of which this is said.
-pub record HandsOut (before after : List (List ℕ)) (IsSo : List ℕ → Type 0) : Type 0 where
-  pub bytes : List ℕ
-  pub more : after ≡ before ++ bytes ∷ []
-  pub so : IsSo bytes
-
 -- what was handed out of the first and of the second file that were opened since; none of one that wasn't opened
 abbrev pub first_given : List (List ℕ) → List (List ℕ) → List ℕ
 first_given before after = unwrap_or (slice_get (drop (length before) after) 0) []

@@ -1,6 +1,6 @@
 //! Reading a file of a source.
 ghost use Rattle.std.specs.Prelude.{◌≡◌, ◌≢◌, ℕ, ◌+◌, ◌<◌, ◌≤◌, ◌⊎◌, Option, Some, List, [], ◌∷◌, ◌++◌, length, take, IfOk, OnOk, IsErrOf};
-ghost use Rattle.ix_outside.specs.Outside.{Files, bytes_under, Rose, add_last, HandsOut};
+ghost use Rattle.ix_outside.specs.Outside.{Files, bytes_under, Rose, add_last, first_given};
 ghost use Rattle.ix_outside.specs.Reading.{IsAllOrPast, IsFront, most_turns};
 
 use crate::source::{OpenError, Source};
@@ -66,11 +66,13 @@ pub fn read_file<S: Source>(
     name: &str,
     most: usize,
 ) -> Result<Vec<u8>, ReadError>
-    ensures bytes { IfOk result (λ read. (held : Files) → S.files files.old ≡ Some held → IsAllOrPast most (bytes_under name.now held) read.items) }
-    ensures given { IfOk result (λ read. S.given files.new ≡ S.given files.old ++ read.items ∷ []) }
+    ensures bytes { IfOk result (λ read. read.items ≡ first_given (S.given files.old) (S.given files.new)) }
+    ensures given { S.given files.new ≡ S.given files.old ++ first_given (S.given files.old) (S.given files.new) ∷ [] }
+    ensures whole { IfOk result (λ read. (held : Files) → S.files files.old ≡ Some held
+        → IsAllOrPast most (bytes_under name.now held) (first_given (S.given files.old) (S.given files.new))) }
 
     // Also where the file was not read to its end: what was handed out is a front of the file.
-    ensures front { HandsOut (S.given files.old) (S.given files.new) (λ bytes. (held : Files) → S.files files.old ≡ Some held → IsFront (bytes_under name.now held) bytes) }
+    ensures front { (held : Files) → S.files files.old ≡ Some held → IsFront (bytes_under name.now held) (first_given (S.given files.old) (S.given files.new)) }
     ensures names { S.names files.new ≡ S.names files.old ++ (name.now ∷ []) }
     ensures files { S.files files.new ≡ S.files files.old }
     ensures keeps_sure { (other : List ℕ) → S.IsSure files.old other → S.IsSure files.new other }

@@ -12,6 +12,8 @@ mod answers;
 #[cfg(test)]
 mod calls;
 #[cfg(test)]
+mod certificates;
+#[cfg(test)]
 mod faults;
 #[cfg(test)]
 mod forms;
