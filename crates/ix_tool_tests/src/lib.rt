@@ -10,6 +10,8 @@ mod alone;
 #[cfg(test)]
 mod answers;
 #[cfg(test)]
+mod blanks;
+#[cfg(test)]
 mod calls;
 #[cfg(test)]
 mod certificates;
