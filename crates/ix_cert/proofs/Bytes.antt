@@ -48,7 +48,7 @@ abbrev pub lacks_test : ℕ → List ℕ → Bool
 lacks_test byte [] = true
 lacks_test byte (one ∷ text) = not (one == byte) && lacks_test byte text
 
-not_true : (b : Bool) → not b ≡ true → b ≡ false
+pub not_true : (b : Bool) → not b ≡ true → b ≡ false
 not_true true h = sym h
 not_true false h = refl
 

@@ -9,3 +9,8 @@ pub mod Paths
 pub mod Found
 pub mod Numbers
 pub mod Counted
+pub mod OneFact
+pub mod OneMeaning
+pub mod OneText
+pub mod SmallPaths
+pub mod FormedLoops

@@ -92,10 +92,10 @@ all_labels stores number old new sofar end = record {
 -- ---- methods written
 
 -- whether a method has a part, by whether it has labels
-pub part_by : (method : Method) (stores : List Stored) (has : Bool) → length stores ≡ loops_of method → (method.written && not (length stores == 0)) ≡ has → has_part method ≡ has
-part_by method stores has same is = subst (λ n. (method.written && not (n == 0)) ≡ has) same is
+pub part_by : (method : Method) (stores : List Stored) (has : Bool) → length stores ≡ loops_of method → not (length stores == 0) ≡ has → has_part method ≡ has
+part_by method stores has same is = subst (λ n. not (n == 0) ≡ has) same is
 
-pub method_part : (number : ℕ) (method : Method) (stores : List Stored) (old between new : List ℕ) → (method.written && not (length stores == 0)) ≡ true
+pub method_part : (number : ℕ) (method : Method) (stores : List Stored) (old between new : List ℕ) → not (length stores == 0) ≡ true
     → between ≡ old ++ ended (codes "method " ++ decimal number) → Adds (AreLabelsText stores) between new → Adds (IsMethodText number method stores) old new
 method_part number method stores old between new has header adds =
     let line = ended (codes "method " ++ decimal number) in
@@ -109,7 +109,7 @@ method_part number method stores old between new has header adds =
       );
     }
 
-pub no_part : (number : ℕ) (method : Method) (stores : List Stored) (old : List ℕ) → (method.written && not (length stores == 0)) ≡ false → Adds (IsMethodText number method stores) old old
+pub no_part : (number : ℕ) (method : Method) (stores : List Stored) (old : List ℕ) → not (length stores == 0) ≡ false → Adds (IsMethodText number method stores) old old
 no_part number method stores old has = record {
   part = [];
   added = sym (append-nil old);

@@ -60,7 +60,7 @@ pub ascend_lower : (low high : List ℕ) (lines : List (List ℕ)) → is_before
 ascend_lower low high [] h a = tt
 ascend_lower low high (line ∷ lines) h a = (before_on low high line h a.0, a.1)
 
-joined : (line lines rest : List ℕ) → (ended line ++ lines) ++ rest ≡ line ++ 10 ∷ (lines ++ rest)
+pub joined : (line lines rest : List ℕ) → (ended line ++ lines) ++ rest ≡ line ++ 10 ∷ (lines ++ rest)
 joined line lines rest = append_assoc (ended line) lines rest ∙ line_first line (lines ++ rest)
 
 -- the lines of what was read

@@ -41,7 +41,7 @@ use Rattle.ix_cert.proofs.ReadLines.{AscendFrom, AreReadAs, MayAllBeRead, ascend
 swapped : (g f h : Fact) → IsIn g (f ∷ h ∷ []) → IsIn g (h ∷ f ∷ [])
 swapped g f h i = ⊎_elim (λ e. inr (inl e)) (λ j. ⊎_elim (λ e. inl e) (λ n. absurd n) j) i
 
-turned_forth : (g f : Fact) → IsIn g (orders f) → IsIn g (orders (in_text_order f))
+pub turned_forth : (g f : Fact) → IsIn g (orders f) → IsIn g (orders (in_text_order f))
 turned_forth g (Same a b) i = by_test (is_before (path_text b) (path_text a)) (λ t. rw t (swapped g (Same a b) (Same b a) i)) (λ t. rw t i)
 turned_forth g (Sum t y z) i = by_test (is_before (path_text z) (path_text y)) (λ u. rw u (swapped g (Sum t y z) (Sum t z y) i)) (λ u. rw u i)
 turned_forth g (Upper p a (Plus q) c) i = by_test (is_before (path_text q) (path_text p)) (λ t. rw t (swapped g (Upper p a (Plus q) c) (Upper q a (Plus p) c) i)) (λ t. rw t i)
@@ -71,7 +71,7 @@ orders_upper : (t : Bool) (p a q : Path) (c : ℤ) → orders (if t then Upper q
 orders_upper true p a q c = refl
 orders_upper false p a q c = refl
 
-turned_back : (g f : Fact) → IsIn g (orders (in_text_order f)) → IsIn g (orders f)
+pub turned_back : (g f : Fact) → IsIn g (orders (in_text_order f)) → IsIn g (orders f)
 turned_back g (Same a b) i = let t = is_before (path_text b) (path_text a) in back_if t g (Same a b) (Same b a) (subst (IsIn g) (orders_same t a b) i)
 turned_back g (Sum t y z) i = let u = is_before (path_text z) (path_text y) in back_if u g (Sum t y z) (Sum t z y) (subst (IsIn g) (orders_sum u t y z) i)
 turned_back g (Upper p a (Plus q) c) i =
@@ -103,7 +103,7 @@ order_proper (Neg p a) = refl
 
 -- ---- facts of a whole store have small numbers
 
-each_proper : (facts : List Fact) → list_all is_proper facts ≡ true → (f : Fact) → IsIn f facts → is_proper f ≡ true
+pub each_proper : (facts : List Fact) → list_all is_proper facts ≡ true → (f : Fact) → IsIn f facts → is_proper f ≡ true
 each_proper [] all f i = absurd i
 each_proper (g ∷ facts) all f i =
     let parts = and_parts (is_proper g) (list_all is_proper facts) all in
@@ -158,6 +158,33 @@ int_ends low l h x e full =
 ends_of : (f : Fact) → is_proper f ≡ true → has_ends f ≡ true
 ends_of f t = (and_parts (has_ends f) _ t).0
 
+-- ---- facts at one key are one
+
+other_key : (f g : Fact) (facts : List Fact) → AllByRecursion (λ k. eq_by_cmp fact_cmp (in_first_order f) k ≡ false) (map in_first_order facts) → IsIn g facts
+    → eq_by_cmp fact_cmp (in_first_order f) (in_first_order g) ≡ false
+other_key f g [] all i = absurd i
+other_key f g (h ∷ facts) all i =
+    ⊎_elim (λ e. subst (λ k. eq_by_cmp fact_cmp (in_first_order f) (in_first_order k) ≡ false) (sym e) all.0) (λ j. other_key f g facts all.1 j) i
+
+pub one_at_key : (facts : List Fact) → AreApart facts → (f g : Fact) → IsIn f facts → IsIn g facts → eq_by_cmp fact_cmp (in_first_order f) (in_first_order g) ≡ true → f ≡ g
+unfolding IsDistinct
+one_at_key [] apart f g i j key = absurd i
+one_at_key (h ∷ facts) apart f g i j key =
+    ⊎_elim
+    (λ d.
+    ⊎_elim
+    (λ e. d ∙ sym e)
+    (λ k. absurd (false≢true (sym (other_key h g facts apart.0 k) ∙ subst (λ u. eq_by_cmp fact_cmp (in_first_order u) (in_first_order g) ≡ true) d key)))
+    j)
+    (λ m.
+    ⊎_elim
+    (λ e.
+    let turned : eq_by_cmp fact_cmp (in_first_order g) (in_first_order f) ≡ true = key_flips (in_first_order g) (in_first_order f) ∙ key in
+    absurd (false≢true (sym (other_key h f facts apart.0 m) ∙ subst (λ u. eq_by_cmp fact_cmp (in_first_order u) (in_first_order f) ≡ true) e turned)))
+    (λ k. one_at_key facts apart.1 f g m k key)
+    j)
+    i
+
 module _ (slots fields : ℕ) (x : slots < 2 ^ 32) (y : fields < 2 ^ 32) where
   small_offset : (o : PathOff) → offset_names (is_outside slots fields) o ≡ false → IsSmallOffset o
   small_offset Nothing h = tt
@@ -193,7 +220,7 @@ module _ (slots fields : ℕ) (x : slots < 2 ^ 32) (y : fields < 2 ^ 32) where
       let more = neither (is_outside slots fields a) (offset_names (is_outside slots fields) o) parts.1 in
       (small_path slots fields p x y parts.0, small_path slots fields a x y more.0, small_offset o more.1, int_between least_int greatest_int c (omega (arith, ints)) (omega (arith, ints)) ends)
 
-  may_be_read : (facts : List Fact) → MayBeWritten slots fields facts → (f : Fact) → IsIn f facts → MayBeRead slots fields f
+  pub may_be_read : (facts : List Fact) → MayBeWritten slots fields facts → (f : Fact) → IsIn f facts → MayBeRead slots fields f
   may_be_read facts may f i = record {
     small = small_fact facts f may.whole.closed.1 i (ends_of f (each_proper facts may.whole.proper f i)) (may.inside f i);
     inside = may.inside f i;
@@ -201,44 +228,17 @@ module _ (slots fields : ℕ) (x : slots < 2 ^ 32) (y : fields < 2 ^ 32) where
 
   -- ---- the lines of a whole store, each that of one of its facts
 
-  abbrev FromFacts : List Fact → List (List ℕ) → Type 0
+  abbrev pub FromFacts : List Fact → List (List ℕ) → Type 0
   FromFacts written [] = Unit {0}
   FromFacts written (line ∷ lines) = ((f : Fact) × IsIn f written × (line ≡ fact_text f)) × FromFacts written lines
 
-  from_facts : (written : List Fact) (lines : List (List ℕ)) → ((line : List ℕ) → IsAmong line lines → (f : Fact) × IsIn f written × (line ≡ fact_text f)) → FromFacts written lines
+  pub from_facts : (written : List Fact) (lines : List (List ℕ)) → ((line : List ℕ) → IsAmong line lines → (f : Fact) × IsIn f written × (line ≡ fact_text f)) → FromFacts written lines
   from_facts written [] each = tt
   from_facts written (line ∷ lines) each = (each line (line_among line lines), from_facts written lines (λ other among. each other (among_more line other lines among)))
 
-  all_may : (written : List Fact) → MayBeWritten slots fields written → (lines : List (List ℕ)) → FromFacts written lines → MayAllBeRead slots fields lines
+  pub all_may : (written : List Fact) → MayBeWritten slots fields written → (lines : List (List ℕ)) → FromFacts written lines → MayAllBeRead slots fields lines
   all_may written may [] from = tt
   all_may written may (line ∷ lines) from = ((from.0.0, may_be_read written may from.0.0 from.0.1, from.0.2), all_may written may lines from.1)
-
-  -- ---- facts at one key are one
-
-  other_key : (f g : Fact) (facts : List Fact) → AllByRecursion (λ k. eq_by_cmp fact_cmp (in_first_order f) k ≡ false) (map in_first_order facts) → IsIn g facts
-      → eq_by_cmp fact_cmp (in_first_order f) (in_first_order g) ≡ false
-  other_key f g [] all i = absurd i
-  other_key f g (h ∷ facts) all i =
-      ⊎_elim (λ e. subst (λ k. eq_by_cmp fact_cmp (in_first_order f) (in_first_order k) ≡ false) (sym e) all.0) (λ j. other_key f g facts all.1 j) i
-
-  one_at_key : (facts : List Fact) → AreApart facts → (f g : Fact) → IsIn f facts → IsIn g facts → eq_by_cmp fact_cmp (in_first_order f) (in_first_order g) ≡ true → f ≡ g
-  unfolding IsDistinct
-  one_at_key [] apart f g i j key = absurd i
-  one_at_key (h ∷ facts) apart f g i j key =
-      ⊎_elim
-      (λ d.
-      ⊎_elim
-      (λ e. d ∙ sym e)
-      (λ k. absurd (false≢true (sym (other_key h g facts apart.0 k) ∙ subst (λ u. eq_by_cmp fact_cmp (in_first_order u) (in_first_order g) ≡ true) d key)))
-      j)
-      (λ m.
-      ⊎_elim
-      (λ e.
-      let turned : eq_by_cmp fact_cmp (in_first_order g) (in_first_order f) ≡ true = key_flips (in_first_order g) (in_first_order f) ∙ key in
-      absurd (false≢true (sym (other_key h f facts apart.0 m) ∙ subst (λ u. eq_by_cmp fact_cmp (in_first_order u) (in_first_order f) ≡ true) e turned)))
-      (λ k. one_at_key facts apart.1 f g m k key)
-      j)
-      i
 
   -- ---- what was read, fact by fact
 
@@ -350,7 +350,7 @@ label_each slots fields x y text facts rest (Reached own) after t none label end
     let r = match_lines slots fields [] text facts rest label.0 after t rises all label.2 ends in
     (r.0, whole slots fields x y written may facts label.0 r.1 label.1.3 rises)
 
-no_lines : (text rest after : List ℕ) (lines : List (List ℕ)) → ((line : List ℕ) → IsAmong line lines → (f : Fact) × (line ≡ fact_text f)) → text ≡ codes "unreachable\n" ++ rest
+pub no_lines : (text rest after : List ℕ) (lines : List (List ℕ)) → ((line : List ℕ) → IsAmong line lines → (f : Fact) × (line ≡ fact_text f)) → text ≡ codes "unreachable\n" ++ rest
     → text ≡ lines_text lines ++ after → EndsLabel after → ⊥
 no_lines text rest after [] each e is ends = ends.unreachable rest (sym is ∙ e)
 no_lines text rest after (line ∷ lines) each e is ends =

@@ -43,9 +43,9 @@ LabelsText slots fields number (store ∷ stores) text rest =
 abbrev pub loops_of : Method → ℕ
 loops_of method = length (loop_numbers (body_of method))
 
--- A method that stands in the source and has loops has a part; of each other one nothing is written.
+-- A method that has loops has a part; of each other one nothing is written. In the program of a source only the methods that stand there have loops.
 abbrev pub has_part : Method → Bool
-has_part method = method.written && not (loops_of method == 0)
+has_part method = not (loops_of method == 0)
 
 abbrev pub PartText : Bool → (slots fields number : ℕ) → List Stored → List ℕ → List ℕ → Type 0
 PartText false slots fields number stores text rest = text ≡ rest

@@ -6,3 +6,5 @@ pub mod Labellings
 pub mod Adding
 -- What is read from a text.
 pub mod Reading
+-- Labels that say the same.
+pub mod SameLabels

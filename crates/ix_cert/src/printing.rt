@@ -57,7 +57,7 @@ fn add_method(
 ) -> Result<(), AllocError>
     ensures { OnOk result (Adds (IsMethodText number method.now (map stored stores.now)) (string_bytes text.old) (string_bytes text.new)) }
 {
-    if method.written && !stores.is_empty() {
+    if !stores.is_empty() {
         write!(text, "method {number}\n")?;
         return add_labels(alloc, text, stores);
     }

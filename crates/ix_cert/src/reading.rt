@@ -98,17 +98,6 @@ fn read_labels<'a>(
     Ok((stores, rest))
 }
 
-/// Labels of which nothing is written.
-fn unwritten(alloc: Global, count: usize) -> Result<List<Store>, AllocError>
-    ensures { IfOk result (λ stores. length stores ≡ count) }
-{
-    let mut stores = List::new(alloc);
-    while stores.len() < count {
-        stores.push(Store::unreachable())?;
-    }
-    Ok(stores)
-}
-
 fn read_method<'a>(
     alloc: Global,
     fields: u32,
@@ -120,9 +109,8 @@ fn read_method<'a>(
     ensures each { (stores : List Stored) (rest : List ℕ) → MethodText fields number method.now stores text.now rest → EndsLabel rest → MatchResult result (λ parts. parts.1.now ≡ rest) IsMemory }
 {
     let count = loops_of(method)?;
-    if !method.written || count == 0 {
-        let stores = unwritten(alloc, count)?;
-        return Ok((stores, text));
+    if count == 0 {
+        return Ok((List::new(alloc), text));
     }
     let labels = behind_line(alloc, "method ", number, text)?;
     read_labels(alloc, method.slots, fields, count, labels)
@@ -196,7 +184,7 @@ fn labelling(
 }
 
 /// The profile and the labels of a certificate: for each method a list, for each loop a store; none exactly where the bytes are no labelling of the program.
-/// Labels of a method that doesn't stand in the source, of which nothing is written, are unreachable. The one error is want of memory.
+/// The one error is want of memory.
 pub fn read(
     alloc: Global,
     program: &Program,

@@ -193,6 +193,10 @@ PointErrors program method number (Returning value known span) store error rank 
 PointErrors program method number Ending store error rank =
     ConstructorClaim program method store error rank ⊎ (MissingReturn method store error rank ⊎ PostClaim method number None None method.span store error rank)
 
+-- no error is derived at the point from the store
+abbrev pub NoErrors : Program → Method → ℕ → Point → Stored → Type 0
+NoErrors program method number point store = (error : Error) (rank : ℕ) → PointErrors program method number point store error rank → ⊥
+
 -- of an operation and of a test by the text alone
 abbrev pub OpText : Program → Method → Op → Error → ℕ → Type 0
 OpText program method done error rank = EffectWrite program method done error rank ⊎ (AssignsNamed method done error rank ⊎ OpEscapes method done error rank)

@@ -11,3 +11,4 @@ mod ClosedTests
 mod KnownStores
 mod WholeStores
 mod BesideTables
+pub mod OwnFacts

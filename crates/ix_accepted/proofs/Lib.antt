@@ -1,0 +1,5 @@
+mod Loops
+mod FlowsBelow
+mod Same
+pub mod Accepted
+pub mod Alike

@@ -1,0 +1,2 @@
+mod Least
+pub mod OneCertificate

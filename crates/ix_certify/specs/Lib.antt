@@ -1,0 +1,2 @@
+-- The certificate of the least labels.
+pub mod Certificates

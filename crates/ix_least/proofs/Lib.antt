@@ -1,0 +1,3 @@
+mod HeadCount
+mod Written
+mod LeastLabels

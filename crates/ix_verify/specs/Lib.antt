@@ -1,0 +1,2 @@
+-- What is said of a text as a certificate of a program.
+pub mod Verdicts
