@@ -5,7 +5,7 @@ use Rattle.ix_core.specs.Formed.{Formed}
 use Rattle.ix_check.specs.Judged.{CanCheck}
 use Rattle.ix_lexer.specs.declared.token.Token.{Token}
 use Rattle.ix_lexer.specs.Spans.{InOrder}
-use Rattle.ix_lexer.specs.Tokens.{Tokens, most_tokens}
+use Rattle.ix_lexer.specs.Tokens.{most_tokens}
 use Rattle.ix_lexer.proofs.TokensInOrder.{in_order}
 use Rattle.ix_tree.specs.declared.decl.Unit.{Unit as Source}
 use Rattle.ix_tree.specs.Parts.{CanResolve}

@@ -1,7 +1,6 @@
 -- What is read of a source, and then of a certificate.
 use Rattle.std.proofs.Common.{◌≡◌, ◌∙◌, ℕ, ◌≤◌, ◌+◌, List, [], ◌∷◌, ◌++◌, length, refl, ap, sym, subst, append-nil, append_assoc, Option, Some, None}
 use Rattle.ix_outside.specs.Outside.{Files, bytes_under, first_given, second_given}
-use Rattle.ix_outside.specs.Reading.{IsFront, IsAllOrPast}
 use Rattle.ix_outside.proofs.PartsGiven.{given_none, given_one, given_two}
 use Rattle.ix_words.specs.Words.{Text}
 use Rattle.ix_words.specs.Commands.{Command, Check, Run, Bench, Verify}

@@ -8,7 +8,7 @@ use Rattle.ix_answer.specs.declared.reply.Reply.{Reply}
 use Rattle.ix_answer.specs.Replies.{Says, shown as shown_reply}
 use Rattle.ix_answer.specs.Statuses.{is_answer}
 use Rattle.ix_answer.specs.Answer.{Answer, err_answer}
-use Rattle.ix_answer.specs.Delivery.{Sinks, Delivers, IsOnly, RoseOne}
+use Rattle.ix_answer.specs.Delivery.{Sinks, Delivers, RoseOne}
 use Rattle.ix_answer.specs.Ends.{Texts, EndsWell, TookPart, TookWanted, TookNothing}
 use Rattle.ix_outside.specs.Outside.{Files, bytes_under, Rose, Took, TookPrefix}
 use Rattle.ix_outside.specs.Reading.{IsAllOrPast, most_bytes}
@@ -214,7 +214,7 @@ obeyed_exact IsSure before after asked command given cert result old new held is
       | inl only ↦
           let so : is_answer result ≡ true = ap is_answer e.status ∙ verdict_answers command (source_bytes command given) cert e.answer only.0.0 in
           let also : IsVerdict command (source_bytes command (bytes_of (file_in command) held)) (cert_bytes_of (cert_in command) held) answer =
-              subst (λ (o : Option Command). Answers o (bytes_of (file_of o) held) (cert_bytes_of (cert_of o) held) answer) (sym is) right in
+          subst (λ (o : Option Command). Answers o (bytes_of (file_of o) held) (cert_bytes_of (cert_of o) held) answer) (sym is) right in
           let same = only.0.1 answer (read_right command held given cert e.answer answer (whole so) (whole_cert so) only.0.0 also) in
           record {
             status = e.status ∙ ap (λ (b : Answer). b.status) (sym same);

@@ -1,4 +1,4 @@
-use Rattle.std.proofs.Common.{◌≡◌, Bool, List, ℕ, Option, sym, subst}
+use Rattle.std.proofs.Common.{Bool, List, ℕ, Option, sym, subst}
 use Rattle.std.specs.Prelude.{IfOk}
 use Rattle.ix_words.specs.Commands.{Check}
 use Rattle.ix_answer.specs.Replies.{shown}

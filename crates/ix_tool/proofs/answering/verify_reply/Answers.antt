@@ -24,6 +24,6 @@ returns-in-Err c =
     let some : c.in-Err.why ≢ refusal.Memory = search rules in
     record {
       answers = IfOk-weaker c.refusal_reply.result _ _
-      (λ reply is. subst (Verifies c.args.cert.now c.args.bytes.now c.args.program.now c.args.text.now) (sym is) (refused c.in-Err.why short some c.in-Err.ensures.refused)) c.refusal_reply.ensures;
+          (λ reply is. subst (Verifies c.args.cert.now c.args.bytes.now c.args.program.now c.args.text.now) (sym is) (refused c.in-Err.why short some c.in-Err.ensures.refused)) c.refusal_reply.ensures;
       safe = IfOk-weaker c.refusal_reply.result _ _ (λ reply is done. absurd (let never : Rejected ≡ Done = sym (status_is _ _ is) ∙ done in cc)) c.refusal_reply.ensures;
     }

@@ -1,4 +1,4 @@
-use Rattle.std.proofs.Common.{◌≡◌, ◌∙◌, ◌≤◌, ◌+◌, ℕ, length, Err, ap, subst, arith}
+use Rattle.std.proofs.Common.{◌∙◌, ◌+◌, ℕ, length, Err, ap, subst, arith}
 use Rattle.ix_outside.specs.Outside.{bytes_under, first_given, Rose}
 use Rattle.ix_outside.specs.Reading.{IsFront}
 use Rattle.ix_words.specs.Shown.{shown}
