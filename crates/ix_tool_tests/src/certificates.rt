@@ -589,7 +589,7 @@ fn written_is_accepted(rt: HostRuntime) -> Result<(), Fail> {
     let alloc = rt.alloc();
     for &(words, source, status, text) in CHECKED {
         if status == Status::Done {
-            let library = words[2] == "--library";
+            let library = words.len() > 2 && words[2] == "--library";
             let with: &[&str] = if library {
                 &["verify", "--library", "A.java", "A.cert"]
             } else {
