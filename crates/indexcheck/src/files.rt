@@ -61,6 +61,8 @@ impl<'a> Source for FileSource<'a> {
 
     ghost reads = { λ source. source.log.reads };
 
+    ghost reads_before = { λ source. source.log.reads_before };
+
     fn open(&mut self, name: &str) -> Result<(), OpenError> {
         self.log.opening(name.as_bytes());
         match fs::open(self.rt, name) {

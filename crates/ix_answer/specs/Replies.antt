@@ -6,7 +6,7 @@ use Rattle.ix_answer.specs.Answer.{Answer}
 
 -- a reply as its bytes
 abbrev pub shown : Reply → Answer
-shown reply = record { status = reply.status; out = string_bytes reply.out; err = string_bytes reply.err }
+shown reply = record { status = reply.status; out = reply.out.items; err = string_bytes reply.err }
 
 -- what a reply says, where there was memory for it
 abbrev pub Says : Result Reply AllocError → Answer → Type 0

@@ -27,7 +27,7 @@ fn deliver<K: Sink, E: Sink>(reply: &Reply, out: &mut K, err: &mut E) -> Status
     ensures { Delivers (λ answer. answer ≡ shown reply.now) result (sinks (K.taken out.old) (K.faults out.old) (E.taken err.old) (E.faults err.old) (E.refused err.old))
         (sinks (K.taken out.new) (K.faults out.new) (E.taken err.new) (E.faults err.new) (E.refused err.new)) }
 {
-    match write_all(out, reply.out.as_bytes()) {
+    match write_all(out, reply.out.as_slice()) {
         Ok(()) => match write_all(err, reply.err.as_bytes()) {
             Ok(()) => reply.status,
             Err(WriteError::Failed) => Status::WriteFault,

@@ -12,6 +12,6 @@ mod reply;
 mod status;
 
 pub use delivering::{say, wanting};
-pub use making::{on_err, on_out};
+pub use making::{on_bytes, on_err, on_out};
 pub use reply::Reply;
 pub use status::Status;

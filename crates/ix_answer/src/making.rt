@@ -13,6 +13,14 @@ pub fn on_out(alloc: Global, status: Status, out: String) -> Reply
     requires { is_reply status ≡ true }
     ensures { shown result ≡ out_answer status (string_bytes out) }
 {
+    on_bytes(alloc, status, out.into_bytes())
+}
+
+/// A reply that writes these bytes to `out` alone.
+pub fn on_bytes(alloc: Global, status: Status, out: Vec<u8>) -> Reply
+    requires { is_reply status ≡ true }
+    ensures { shown result ≡ out_answer status out.items }
+{
     Reply {
         status,
         out,
@@ -27,7 +35,7 @@ pub fn on_err(alloc: Global, status: Status, err: String) -> Reply
 {
     Reply {
         status,
-        out: String::new(alloc),
+        out: Vec::new(alloc),
         err,
     }
 }

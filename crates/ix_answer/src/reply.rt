@@ -8,7 +8,7 @@ use crate::status::Status;
 #[derive(Drop)]
 pub struct Reply {
     pub status: Status,
-    pub out: String,
+    pub out: Vec<u8>,
     pub err: String,
     ghost is_reply: { is_reply status ≡ true },
 }

@@ -5,9 +5,9 @@ ghost use Rattle.ix_answer.specs.Statuses.{number_of};
 /// How a call of the tool ends.
 #[derive(Clone, Copy, Debug, PartialEq, Eq)]
 pub enum Status {
-    /// The source was accepted.
+    /// The source was accepted, the run ended, or the certificate was accepted.
     Done,
-    /// The source has errors, which stand on `out`.
+    /// The source has errors, or the certificate is refused, as `out` says.
     Rejected,
     /// The words are no command.
     Usage,

@@ -1,6 +1,7 @@
 -- Errors that are added node by node.
-use Rattle.std.proofs.Common.{◌≡◌, ◌⊎◌, inl, inr, ◌↔◌, ◌+◌, ◌<◌, ℕ, zero, suc, List, [], ◌∷◌, Some, length, slice_get, get_or, unwrap_or, arith, sym, ap, subst, ◌∙◌, append-nil}
+use Rattle.std.proofs.Common.{◌≡◌, ◌⊎◌, inl, inr, ◌↔◌, ◌+◌, ◌<◌, ℕ, zero, suc, List, [], ◌∷◌, ◌++◌, Some, length, slice_get, get_or, unwrap_or, arith, sym, ap, subst, ◌∙◌, append-nil}
 use Rattle.std.proofs.lemmas.Bool.{cases_lt}
+use Rattle.std.proofs.lemmas.Option.{get_or_from_slice_get}
 use Rattle.ix_core.specs.declared.error.Error.{Error}
 use Rattle.ix_core.specs.declared.program.Method.{Method}
 use Rattle.ix_core.specs.declared.program.Program.{Program}
@@ -14,6 +15,7 @@ use Rattle.ix_method_errors.specs.Exactly.{AddsExactly}
 use Rattle.ix_method_errors.proofs.Refused.{exactly_none, exactly_same, adds_both}
 use Rattle.ix_labels.specs.Store.{Store}
 use Rattle.ix_labels.specs.StoredFacts.{stored}
+use Rattle.ix_labels.proofs.Filling.{get_front, get_last, one_longer}
 use Rattle.ix_errors.specs.NodeErrors.{AtNode}
 
 pub adds_none : (Derived : Error → ℕ → Type 0) (old : List Ranked) → ((error : Error) (rank : ℕ) → Derived error rank → ⊥) → AddsExactly Derived old old
@@ -79,6 +81,38 @@ module _ (Gives : Kind → Stored → Error → ℕ → Type 0) (nodes : List No
       → AddsExactly (AtNode Gives nodes stores k) old middle → AddsExactly (Gives (kind_of node.kind) (stored label)) middle new → AddsExactly (AtNode Gives nodes stores (k + 1)) old new
   next_node k node label old middle new within is inside labelled before last =
       adds_same _ _ old new (one_more k node label within is inside labelled) (adds_both (AtNode Gives nodes stores k) (Gives (kind_of node.kind) (stored label)) old middle new before last)
+
+-- one label more
+module _ (Gives : Kind → Stored → Error → ℕ → Type 0) (nodes : List Node) (all : List Store) (label : Store) (k : ℕ) (many : length all ≡ k) where
+  longer : (error : Error) (rank : ℕ) → AtNode Gives nodes all k error rank ↔ AtNode Gives nodes (all ++ label ∷ []) k error rank
+  longer error rank = (
+    λ here. record {
+      at = here.at;
+      before = here.before;
+      node = here.node;
+      found = here.found;
+      label = here.label;
+      labelled = let before = here.before in get_front all label here.at (omega (arith, before, many)) ∙ here.labelled;
+      here = here.here;
+    },
+    λ here. record {
+      at = here.at;
+      before = here.before;
+      node = here.node;
+      found = here.found;
+      label = here.label;
+      labelled = let before = here.before in sym (get_front all label here.at (omega (arith, before, many))) ∙ here.labelled;
+      here = here.here;
+    },
+  )
+
+  pub next_made : (node : Node) (old middle new : List Ranked) → k < length nodes → node ≡ get_or nodes k node → AddsExactly (AtNode Gives nodes all k) old middle
+      → AddsExactly (Gives (kind_of node.kind) (stored label)) middle new → AddsExactly (AtNode Gives nodes (all ++ label ∷ []) (k + 1)) old new
+  next_made node old middle new within is before last =
+      let more = one_longer all label in
+      let found : slice_get (all ++ label ∷ []) k ≡ Some label = ap (slice_get (all ++ label ∷ [])) (sym many) ∙ get_last all label in
+      next_node Gives nodes (all ++ label ∷ []) k node label old middle new within is (omega (arith, more, many)) (sym (get_or_from_slice_get (all ++ label ∷ []) k label label found))
+      (adds_same _ _ old middle longer before) last
 
 -- the method of a number that is in range
 pub method_is : (program : Program) (number : ℕ) (methods : List Method) (method : Method) → methods ≡ program.methods → number < length methods → method ≡ get_or methods number method → method_at program number ≡ method

@@ -19,8 +19,7 @@ use Rattle.ix_graph.proofs.ErrorsAgree.{derived_exactly, fine_flows}
 use Rattle.ix_graph.proofs.HeadTable.{stores_keep, stores_least}
 use Rattle.ix_graph.proofs.Numbers.{method_numbered, method_below}
 use Rattle.ix_graph.proofs.Solved.{labels_of, joined_of}
-use Rattle.ix_labels.specs.declared.labels.Labels.{Labels}
-use Rattle.ix_labels.specs.Labels.{AreLabels}
+use Rattle.ix_labels.specs.Labels.{AreLabelsOf}
 use Rattle.ix_labels.specs.MethodRules.{method_rules}
 use Rattle.ix_labels.specs.RuleErrors.{OverridesBy, OpText, TestEscapes}
 use Rattle.ix_labels.proofs.MethodLaws.{method_laws}
@@ -46,7 +45,7 @@ below_at (NodePart at kind ∷ parts) first zero size numbered below within = om
 below_at (NodePart at kind ∷ parts) first (suc k) size numbered below within = let later = below_at parts (suc first) k size numbered.1 below.1 (omega (arith, within)) in omega (arith, later)
 below_at (EdgePart node pass target ∷ parts) first k size numbered below within = below_at parts first k size numbered below.2 within
 
-module _ (program : Program) (profile : Profile) (number : ℕ) (labels : Labels) (are : AreLabels program (method_at program number) profile labels)
+module _ (program : Program) (profile : Profile) (number : ℕ) (nodes : List Node) (stores : List Store) (are : AreLabelsOf program (method_at program number) profile nodes stores)
     (order : AreInOrder 0 (method_parts (block_code (method_at program number).body))) where
   abbrev method : Method
   method = method_at program number
@@ -62,12 +61,6 @@ module _ (program : Program) (profile : Profile) (number : ℕ) (labels : Labels
 
   abbrev L : RulesLaws R
   L = method_laws program method profile
-
-  abbrev nodes : List Node
-  nodes = labels.graph.nodes.items
-
-  abbrev stores : List Store
-  stores = labels.stores.items
 
   -- what they say
   abbrev said : List Stored
@@ -184,15 +177,13 @@ nothing_more [] more same = same
 nothing_more (first ∷ start) more same = nothing_more start more (let e : start ++ more ≡ start = cc in e)
 
 -- What was added for overriding and for all nodes.
-pub found_all : (program : Program) (profile : Profile) (number : ℕ) (labels : Labels) (within : Method) (nodes : List Node) (label : List Store) (start middle new : List Ranked) → method_at program number ≡ within → nodes ≡ labels.graph.nodes.items → label ≡ labels.stores.items → AreLabels program within profile labels
+pub found_all : (program : Program) (profile : Profile) (number : ℕ) (within : Method) (nodes : List Node) (stores : List Store) (start middle new : List Ranked) → method_at program number ≡ within → AreLabelsOf program within profile nodes stores
     → AreInOrder 0 (method_parts (block_code (method_at program number).body)) → AddsExactly (OverridesBy program within number within.overrides) start middle
-    → AddsExactly (AtNode (NodeGives program within number) nodes label (length nodes)) middle new → AddsExactly (IsErrorOf program profile number) start new × (new ≡ start → HasNoErrors program profile number)
-found_all program profile number labels within nodes label start middle new is nodes_are stores_are are order over at_nodes =
-    let there : AddsExactly (AtNode (NodeGives program within number) labels.graph.nodes.items labels.stores.items (length labels.graph.nodes.items)) middle new =
-    subst (λ ns. AddsExactly (AtNode (NodeGives program within number) ns labels.stores.items (length ns)) middle new) nodes_are (subst (λ ss. AddsExactly (AtNode (NodeGives program within number) nodes ss (length nodes)) middle new) stores_are at_nodes) in
-    let both = adds_both (OverridesBy program within number within.overrides) (AtNode (NodeGives program within number) labels.graph.nodes.items labels.stores.items (length labels.graph.nodes.items)) start middle new over there in
-    let here : AreLabels program (method_at program number) profile labels = subst (λ (m : Method). AreLabels program m profile labels) (sym is) are in
-    let given = subst (λ (m : Method). AreExactly (λ error rank. OverridesBy program m number m.overrides error rank ⊎ AtNode (NodeGives program m number) labels.graph.nodes.items labels.stores.items (length labels.graph.nodes.items) error rank) both.0) (sym is) both.2 in (
-      (both.0, both.1, method_exact program profile number labels here order both.0 given),
-      λ same. has_none program profile number labels here order both.0 given (nothing_more start both.0 (sym both.1 ∙ same)),
+    → AddsExactly (AtNode (NodeGives program within number) nodes stores (length nodes)) middle new → AddsExactly (IsErrorOf program profile number) start new × (new ≡ start → HasNoErrors program profile number)
+found_all program profile number within nodes stores start middle new is are order over there =
+    let both = adds_both (OverridesBy program within number within.overrides) (AtNode (NodeGives program within number) nodes stores (length nodes)) start middle new over there in
+    let here : AreLabelsOf program (method_at program number) profile nodes stores = subst (λ (m : Method). AreLabelsOf program m profile nodes stores) (sym is) are in
+    let given = subst (λ (m : Method). AreExactly (λ error rank. OverridesBy program m number m.overrides error rank ⊎ AtNode (NodeGives program m number) nodes stores (length nodes) error rank) both.0) (sym is) both.2 in (
+      (both.0, both.1, method_exact program profile number nodes stores here order both.0 given),
+      λ same. has_none program profile number nodes stores here order both.0 given (nothing_more start both.0 (sym both.1 ∙ same)),
     )

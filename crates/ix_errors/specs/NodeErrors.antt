@@ -1,5 +1,5 @@
 -- The errors at the nodes of a method's graph: those that a node's label gives, and those of the text.
-use Rattle.std.specs.Prelude.{◌≡◌, ◌⊎◌, ℕ, ◌<◌, List, slice_get, Some}
+use Rattle.std.specs.Prelude.{◌≡◌, ◌⊎◌, ℕ, ◌<◌, List, length, slice_get, Some}
 use Rattle.ix_core.specs.declared.error.Error.{Error}
 use Rattle.ix_core.specs.declared.program.Method.{Method}
 use Rattle.ix_core.specs.declared.program.Program.{Program}
@@ -8,9 +8,13 @@ use Rattle.ix_flow.specs.Flow.{Doing, Returning, Ending}
 use Rattle.ix_graph.specs.declared.node.Node.{Node}
 use Rattle.ix_graph.specs.Graph.{Kind, Does, Compares, Returns, Ends}
 use Rattle.ix_graph.specs.Built.{kind_of}
+use Rattle.ix_labels.specs.declared.kept.RunLabels.{RunLabels}
+use Rattle.ix_labels.specs.Filled.{nodes_of, AreFilled}
 use Rattle.ix_labels.specs.RuleErrors.{PointErrors, OpText, TestEscapes}
 use Rattle.ix_labels.specs.Store.{Store}
 use Rattle.ix_labels.specs.StoredFacts.{stored}
+use Rattle.ix_method_errors.specs.Ranked.{Ranked}
+use Rattle.ix_method_errors.specs.Exactly.{AddsExactly}
 
 -- by the label of a node
 abbrev pub LabelGives : Program → Method → ℕ → Kind → Stored → Error → ℕ → Type 0
@@ -37,3 +41,9 @@ pub record AtNode (Gives : Kind → Stored → Error → ℕ → Type 0) (nodes 
   pub label : Store
   pub labelled : slice_get stores at ≡ Some label
   pub here : Gives (kind_of node.kind) (stored label) error rank
+
+-- The second list has besides exactly the errors at all nodes by their labels, of which those that are not kept were made again.
+pub record AddsAtLabels (program : Program) (method : Method) (number : ℕ) (labels : RunLabels) (old new : List Ranked) : Type 0 where
+  pub all : List Store
+  pub filled : AreFilled labels all
+  pub added : AddsExactly (AtNode (NodeGives program method number) (nodes_of labels) all (length (nodes_of labels))) old new

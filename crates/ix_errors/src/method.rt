@@ -15,7 +15,7 @@ ghost use Rattle.ix_errors.specs.MethodErrors.{IsErrorOf};
 
 use crate::nodes::push_of_nodes;
 use ix_core::{Method, Profile, Program};
-use ix_labels::label_nodes;
+use ix_labels::label_runs;
 use ix_method_errors::signs::{Ranked, push_override_errors};
 use ix_solve::Steps;
 use std::alloc::{AllocError, Global};
@@ -62,15 +62,7 @@ pub(crate) fn push_method_errors<L: Ledger>(
     ensures at_most { OnOk result (VisitsWithin program.now (method_at program.now number) profile steps.old steps.new) }
 {
     let within = &program.methods.as_slice()[number as usize];
-    let labels = label_nodes(alloc, program, within, profile, steps)?;
+    let labels = label_runs(alloc, program, within, profile, steps)?;
     push_of_overriding(alloc, out, program, within, number)?;
-    push_of_nodes(
-        alloc,
-        out,
-        program,
-        within,
-        number,
-        labels.graph.nodes.as_slice(),
-        labels.stores.as_slice(),
-    )
+    push_of_nodes(alloc, out, program, within, number, &labels)
 }

@@ -1,15 +1,15 @@
 //! The errors at the nodes of a method's graph.
 
-ghost use Rattle.std.specs.Prelude.{◌≡◌, OnOk, length};
+ghost use Rattle.std.specs.Prelude.{OnOk};
 ghost use Rattle.ix_graph.specs.Built.{kind_of};
 ghost use Rattle.ix_labels.specs.StoredFacts.{stored};
 ghost use Rattle.ix_method_errors.specs.Exactly.{AddsExactly};
 ghost use Rattle.ix_labels.specs.Naming.{HasSmallNames, HaveSmallNames};
-ghost use Rattle.ix_errors.specs.NodeErrors.{LabelGives, TextGives, NodeGives, AtNode};
+ghost use Rattle.ix_errors.specs.NodeErrors.{LabelGives, TextGives, NodeGives, AddsAtLabels};
 
 use ix_core::{Method, Program};
-use ix_graph::{Node, NodeKind};
-use ix_labels::Store;
+use ix_graph::NodeKind;
+use ix_labels::{RunLabels, Store};
 use ix_method_errors::push_op_errors;
 use ix_method_errors::signs::{
     Ranked, push_constructor_errors, push_effect_error, push_missing_return, push_post_errors,
@@ -86,31 +86,24 @@ fn push_of_node(
     push_of_text(out, program, within, kind)
 }
 
-/// Those of all nodes, each by its label.
+/// Those of all nodes, each by its label, which is made by that of the node before it where it is not kept.
 pub(crate) fn push_of_nodes(
     alloc: Global,
     out: &mut Vec<Ranked>,
     program: &Program,
     within: &Method,
     number: u32,
-    nodes: &[Node<'_>],
-    labels: &[Store],
+    labels: &RunLabels<'_>,
 ) -> Result<(), AllocError>
     requires program { HaveSmallNames program.now }
     requires method { HasSmallNames within.now }
-    requires labels { length labels.now ≡ length nodes.now }
-    ensures { OnOk result (AddsExactly (AtNode (NodeGives program.now within.now number) nodes.now labels.now (length nodes.now)) out.old.items out.new.items) }
+    ensures { OnOk result (AddsAtLabels program.now within.now number labels.now out.old.items out.new.items) }
 {
+    let nodes = labels.nodes();
+    let mut label = Store::unreachable();
     for at in 0..nodes.len() {
-        push_of_node(
-            alloc,
-            out,
-            program,
-            within,
-            number,
-            &nodes[at].kind,
-            &labels[at],
-        )?;
+        label = labels.label(alloc, at, &label)?;
+        push_of_node(alloc, out, program, within, number, &nodes[at].kind, &label)?;
     }
     Ok(())
 }

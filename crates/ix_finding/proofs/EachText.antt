@@ -1,6 +1,6 @@
 -- Bytes have a list of tokens or a cause for which they have none: there is one always.
-use Rattle.std.proofs.Common.{◌≡◌, ◌≢◌, ℕ, zero, suc, ◌+◌, ◌<◌, ◌≤◌, Bool, true, false, List, [], ◌∷◌, length, take, drop, Option, Some, None, refl, sym, ap, subst, ◌∙◌, arith, ◌⊎◌, inl, inr, take-append-drop, length-drop, take_all}
-use Rattle.std.specs.Str.{all_scalars, encode_utf8_all, IsUtf8, IsValidUpTo, is_utf8}
+use Rattle.std.proofs.Common.{◌≡◌, ◌≢◌, ℕ, zero, suc, ◌+◌, ◌<◌, ◌≤◌, Bool, true, false, List, [], ◌∷◌, length, take, drop, Option, Some, None, refl, sym, subst, ◌∙◌, arith, ◌⊎◌, inl, inr, take-append-drop, length-drop, take_all}
+use Rattle.std.specs.Str.{IsUtf8, IsValidUpTo, is_utf8}
 use Rattle.std.proofs.lemmas.Bool.{cases_lt}
 use Rattle.std.proofs.lemmas.Str.{IsUtf8-from_is_utf8, is_utf8-from_IsUtf8}
 use Rattle.ix_lexer.specs.declared.elements.Element.{Element}

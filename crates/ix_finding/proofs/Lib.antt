@@ -5,3 +5,4 @@ mod EachText
 -- What crates above cite of what is found.
 pub mod OneFinding
 pub mod SomeFinding
+pub mod FoundPrograms

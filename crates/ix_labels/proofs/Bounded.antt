@@ -14,13 +14,12 @@ use Rattle.ix_lattice.specs.Lattice.{LatticeLaws, same_rank}
 use Rattle.ix_facts.specs.Stores.{IsBelow}
 use Rattle.ix_method.specs.Store.{Store}
 use Rattle.ix_method.specs.StoredFacts.{stored}
-use Rattle.ix_method.specs.StoreOrder.{StoreBelow, store_rank, nowhere, top_rank}
-use Rattle.ix_solve.specs.Readers.{readings, VisitsAtMost}
+use Rattle.ix_method.specs.StoreOrder.{StoreBelow, store_rank, top_rank}
+use Rattle.ix_solve.specs.Readers.{readings}
 use Rattle.ix_solve.specs.Solutions.{one_least_solution}
 use Rattle.ix_graph.specs.GraphSolutions.{NodeAsks}
 use Rattle.ix_method.specs.MethodRules.{method_rules}
-use Rattle.ix_labels.specs.declared.labels.Labels.{Labels}
-use Rattle.ix_labels.specs.Labels.{AreLabels}
+use Rattle.ix_labels.specs.Labels.{AreLabelsOf}
 use Rattle.ix_labels.specs.Problem.{readers_in}
 use Rattle.ix_labels.specs.Visits.{targets_of, readers_by, visits_by, MostVisits, VisitsWithin}
 
@@ -38,26 +37,11 @@ readers_are body nodes size have =
     readers_from (edges_of (method_parts body)) nodes 0 (λ k node found. (have k node found).readers ∙ (let e : k ≡ 0 + k = omega arith in ap (λ n. targets_from n (edges_of (method_parts body))) e))
     ∙ ap (targets_of (edges_of (method_parts body)) 0) size
 
--- the solver's bound is the one by the edges
-pub visits_bounded : (body : Code) (nodes : List Node) (labels : List Store) (before after : ℕ) → length nodes ≡ behind_code body 2 → HaveEdges nodes (edges_of (method_parts body))
-    → VisitsAtMost StoreBelow store_rank (readers_in nodes) before after labels → after ≤ before + visits_by body labels
-visits_bounded body nodes labels before after size have bound =
-    let are = readers_are body nodes size have in
-    let many : length (readers_in nodes) ≡ behind_code body 2 = counted nodes ∙ size in
-    let found : after ≤ before + length (readers_in nodes) + readings store_rank top_rank (readers_in nodes) labels = bound nowhere (λ value. tt) in
-    let same : readings store_rank top_rank (readers_in nodes) labels ≡ readings store_rank top_rank (readers_by body) labels = ap (λ by. readings store_rank top_rank by labels) are in
-    let within : after ≤ before + (behind_code body 2 + readings store_rank top_rank (readers_by body) labels) = omega (arith, found, many, same) in
-    within
-  where
-    counted : (nodes : List Node) → length (readers_in nodes) ≡ length nodes
-    counted [] = refl
-    counted (node ∷ nodes) = let later = counted nodes in omega (arith, later)
-
-pub visits_within : (program : Program) (method : Method) (profile : Profile) (labels : Labels) (before after : ℕ) → AreLabels program method profile labels
-    → after ≤ before + visits_by (block_code method.body) labels.stores.items → VisitsWithin program method profile before after
-visits_within program method profile labels before after are within = (
-  visits_by (block_code method.body) labels.stores.items,
-  record { labels = labels.stores.items; solution = are.solution; least = are.least; is = refl },
+pub visits_within : (program : Program) (method : Method) (profile : Profile) (nodes : List Node) (stores : List Store) (before after : ℕ) → AreLabelsOf program method profile nodes stores
+    → after ≤ before + visits_by (block_code method.body) stores → VisitsWithin program method profile before after
+visits_within program method profile nodes stores before after are within = (
+  visits_by (block_code method.body) stores,
+  record { labels = stores; solution = are.solution; least = are.least; is = refl },
   within,
 )
 

@@ -1,6 +1,9 @@
 mod Visited
 mod SameLandmarks
+mod KeptNodes
 mod Solved
+mod Filled
+pub mod Filling
 pub mod Bounded
 -- Passed on from ix_method.
 pub use Rattle.ix_method.proofs.MethodLaws

@@ -1,6 +1,5 @@
 -- What is found with given landmarks is the least solution by the rules of the method.
-use Rattle.std.specs.List.{AllZip}
-use Rattle.std.proofs.Common.{◌≡◌, ◌<◌, ℕ, ℤ, List, [], ◌∷◌, Some, length, slice_get, refl, sym, ap, subst, ◌∙◌, arith}
+use Rattle.std.proofs.Common.{◌≡◌, ◌<◌, ℕ, ℤ, List, [], ◌∷◌, length, sym, subst, ◌∙◌, arith}
 use Rattle.std.proofs.lemmas.Option.{slice_get_within}
 use Rattle.ix_core.specs.declared.fact.Profile.{Profile}
 use Rattle.ix_core.specs.declared.program.Method.{Method}
@@ -11,7 +10,7 @@ use Rattle.ix_facts.specs.Round.{rounded}
 use Rattle.ix_facts.specs.Stores.{Stored, IsBelow, Gives}
 use Rattle.ix_flow.specs.Flow.{Rules, Anything}
 use Rattle.ix_graph.specs.declared.node.Edge.{Edge}
-use Rattle.ix_graph.specs.Graph.{Kind, Starts, Does, Compares, Tells, Joins, Heads, Returns, Ends, Pass, Onward, Through, Testing, Telling, Part, method_parts}
+use Rattle.ix_graph.specs.Graph.{Kind, Starts, Does, Compares, Tells, Joins, Heads, Returns, Ends, Pass, Onward, Through, Testing, Telling, method_parts}
 use Rattle.ix_graph.specs.GraphSolutions.{Carries, Settles, NodeAsks, label_at}
 use Rattle.ix_graph.specs.Brought.{pass_of, kind_at, AllBring, Gathers}
 use Rattle.ix_graph.specs.Built.{kinds_of, edges_of, edges_to}

@@ -1,29 +1,28 @@
 -- What a visit of a node finds.
-use Rattle.std.specs.Prelude.{slice_index_or}
-use Rattle.std.proofs.Common.{◌≡◌, ◌<◌, ◌≤◌, ◌+◌, ℕ, zero, suc, Bool, true, false, List, [], ◌∷◌, ◌++◌, Some, None, length, map, slice_get, get_or, take, take_all, unwrap_or, arith, refl, sym, ap, subst, ◌∙◌}
+use Rattle.std.proofs.Common.{◌≡◌, ◌⊎◌, inl, inr, ◌<◌, ◌+◌, ℕ, zero, suc, Bool, true, false, List, [], ◌∷◌, ◌++◌, Some, None, length, map, slice_get, get_or, take, arith, refl, sym, ap, subst, ◌∙◌}
 use Rattle.std.proofs.Math.Seq.{take-suc}
-use Rattle.ix_core.specs.declared.op.Op.{Op}
 use Rattle.ix_core.specs.declared.op.Test.{Test}
 use Rattle.ix_core.specs.Posts.{last_done}
 use Rattle.ix_facts.specs.Round.{rounded}
 use Rattle.ix_facts.specs.Stores.{Stored, IsBelow, IsStoreOf, IsJoined, IsTested, IsRounded, outcomes_of}
 use Rattle.ix_facts.proofs.StepLaws.{told_give, told_least, given_gives, given_least}
 use Rattle.ix_facts.proofs.StoreLaws.{below_itself, store_above, store_least, joined_least}
-use Rattle.ix_flow.specs.Flow.{Anything}
+use Rattle.ix_flow.specs.Flow.{Rules, RulesLaws, Anything}
 use Rattle.ix_graph.specs.declared.node.Edge.{Edge}
 use Rattle.ix_graph.specs.declared.node.Edge.TheVariants.{Next}
 use Rattle.ix_graph.specs.declared.node.Node.{Node}
 use Rattle.ix_graph.specs.declared.node.NodeKind.{NodeKind}
 use Rattle.ix_graph.specs.declared.node.NodeKind.TheVariants as node
-use Rattle.ix_graph.specs.Graph.{Kind, Joins, Starts, Heads, Pass, Onward, Testing, Telling, behind_code}
+use Rattle.ix_graph.specs.Graph.{Kind, Starts, Does, Compares, Tells, Joins, Heads, Returns, Ends, Pass, Testing, Telling, behind_code, method_parts}
 use Rattle.ix_lattice.specs.Lattice.{IsJoin}
 use Rattle.ix_core.specs.Code.{Code, block_code}
-use Rattle.ix_graph.specs.GraphSolutions.{Carries, label_at}
+use Rattle.ix_graph.specs.GraphSolutions.{Carries, Settles, label_at}
 use Rattle.ix_graph.proofs.AsProblem.{LeadTo, AreUnder, all_lead, lead_within, targets_within}
-use Rattle.ix_graph.proofs.NodesAsk.{carries_as, one_more}
+use Rattle.ix_graph.proofs.NodesAsk.{carries_as}
 use Rattle.ix_graph.proofs.Numbers.{method_below}
-use Rattle.ix_graph.specs.Brought.{pass_of, Brings, AllBring, IsSettled}
+use Rattle.ix_graph.specs.Brought.{pass_of, IsSettled}
 use Rattle.ix_graph.specs.Built.{kind_of, edges_of, targets_from}
+use Rattle.ix_graph.specs.Linked.{HaveEdges}
 use Rattle.ix_method.specs.Signs as signs
 use Rattle.ix_method.specs.Signs.{Adds, entry_facts, told_facts}
 use Rattle.ix_solve.specs.Solutions.{IsLeastOf}
@@ -31,8 +30,11 @@ use Rattle.ix_method.specs.Store.{Store}
 use Rattle.ix_method.specs.StoredFacts.{stored}
 use Rattle.ix_method.specs.StoreOrder.{StoreBelow}
 use Rattle.ix_labels.specs.declared.problem.Problem.{Problem}
-use Rattle.ix_labels.specs.Problem.{rules_of, kind_in, kinds_at, parts_of, edges_at, readers_in, readers_of}
-use Rattle.ix_labels.specs.ProblemLaws.{laws_with, readers_count}
+use Rattle.ix_labels.specs.Problem.{rules_of, kind_in, kinds_at, kept_in, parts_of, edges_at, Asks}
+use Rattle.ix_labels.specs.ProblemLaws.{laws_with}
+use Rattle.ix_labels.specs.Runs.{is_kept, AreLinked}
+use Rattle.ix_labels.specs.RunAsks.{Onto, RunsTo, RunBrings, RunsBring}
+use Rattle.ix_labels.specs.RunLaws.{first_of_two, second_of_two, of_first, of_second, carries_more}
 
 pub kind_found : (nodes : List Node) (at : ℕ) (node : Node) → at < length nodes → node ≡ get_or nodes at node → kind_in nodes at ≡ kind_of node.kind
 kind_found [] at node within is = absurd (omega (arith, within))
@@ -111,43 +113,137 @@ from_within problem at items k d are within =
 pub join_said : (one other join : Store) → IsJoin StoreBelow one other join → IsJoined (stored one) (stored other) (stored join) → IsJoin IsBelow (stored one) (stored other) (stored join)
 join_said one other join is said = record { left = is.left; right = is.right; least = λ above. joined_least (stored one) (stored other) (stored join) above said }
 
--- one edge more
-pub one_more_edge : (problem : Problem) (labels : List Store) (items : List (ℕ × Edge)) (k : ℕ) (d : ℕ × Edge) (joined : Stored) (label : Store) (carried new : Stored) → k < length items
-    → IsLeastOf IsBelow (AllBring (rules_of problem) (kinds_at problem) (map stored labels) (take k items)) joined
-    → label ≡ get_or labels (get_or items k d).0 label → (get_or items k d).0 < length labels
-    → IsLeastOf IsBelow (Carries (rules_of problem) (Anything (rules_of problem)) (λ number. stored label) (pass_of (kinds_at problem (get_or items k d).0) (get_or items k d).1) (stored label)) carried
-    → IsJoin IsBelow joined carried new → IsLeastOf IsBelow (AllBring (rules_of problem) (kinds_at problem) (map stored labels) (take (k + 1) items)) new
-one_more_edge problem labels items k d joined label carried new within before is there last join =
-    let from = get_or items k d in
-    let said = map stored labels in
+-- ---- runs
+
+module _ (problem : Problem) (labels : List Stored) where
+  abbrev R : Rules
+  R = rules_of problem
+
+  abbrev L : RulesLaws (rules_of problem)
+  L = laws_with problem.program.now problem.within.now problem.profile problem.marks.ints
+
+  abbrev pub To : ℕ → Stored → Type 0
+  To = RunsTo (rules_of problem) (kinds_at problem) (kept_in problem) labels
+
+  -- where a run begins
+  pub run_begins : (start : ℕ) → (start ≡ 0) ⊎ (is_kept (kept_in problem) start ≡ true) → IsLeastOf IsBelow (To start) (label_at (rules_of problem) labels start)
+  run_begins zero begins = (below_itself (label_at (rules_of problem) labels 0), λ other low. low)
+  run_begins (suc at) (inl none) = absurd (omega (arith, none))
+  run_begins (suc at) (inr holds) =
+      let here = label_at (rules_of problem) labels (suc at) in (
+        of_first (is_kept (kept_in problem) (suc at)) (IsBelow here here) ((before : Stored) × To at before × Onto (rules_of problem) (kinds_at problem) at before here) holds (below_itself here),
+        λ other low. first_of_two (is_kept (kept_in problem) (suc at)) (IsBelow here other) ((before : Stored) × To at before × Onto (rules_of problem) (kinds_at problem) at before other) holds low,
+      )
+
+  -- one node more
+  pub run_goes_on : (at : ℕ) (before after : Stored) → is_kept (kept_in problem) (suc at) ≡ false → IsLeastOf IsBelow (To at) before → IsCarried problem (pass_of (kinds_at problem at) Next) before after → IsLeastOf IsBelow (To (suc at)) after
+  run_goes_on at before after fails least carried = (
+    of_second (is_kept (kept_in problem) (suc at)) (IsBelow (label_at (rules_of problem) labels (suc at)) after) ((s : Stored) × To at s × Onto (rules_of problem) (kinds_at problem) at s after) fails
+        (before, least.0, carries_as R L labels (λ number. before) (λ number. after) (pass_of (kinds_at problem at) Next) before after carried.0),
+    λ other runs.
+        let r = second_of_two (is_kept (kept_in problem) (suc at)) (IsBelow (label_at (rules_of problem) labels (suc at)) other) ((s : Stored) × To at s × Onto (rules_of problem) (kinds_at problem) at s other) fails runs in
+        carried.1 other (carries_more R L (λ number. other) (λ number. before) (pass_of (kinds_at problem at) Next) before r.0 other other (least.1 r.0 r.1) r.2 (below_itself other)),
+  )
+
+  -- what an edge brings of a run
+  pub run_brings : (from : ℕ × Edge) (before after : Stored) → IsLeastOf IsBelow (To from.0) before → IsCarried problem (pass_of (kinds_at problem from.0) from.1) before after
+      → IsLeastOf IsBelow (RunBrings (rules_of problem) (kinds_at problem) (kept_in problem) labels from) after
+  run_brings from before after least carried = (
+    (before, least.0, carries_as R L labels (λ number. before) (λ number. after) (pass_of (kinds_at problem from.0) from.1) before after carried.0),
+    λ other given. carried.1 other (carries_more R L (λ number. other) (λ number. before) (pass_of (kinds_at problem from.0) from.1) before given.0 other other (least.1 given.0 given.1) given.2 (below_itself other)),
+  )
+
+  abbrev All : List (ℕ × Edge) → Stored → Type 0
+  All = RunsBring (rules_of problem) (kinds_at problem) (kept_in problem) labels
+
+  abbrev One : ℕ × Edge → Stored → Type 0
+  One = RunBrings (rules_of problem) (kinds_at problem) (kept_in problem) labels
+
+  one_up : (from : ℕ × Edge) (s t : Stored) → One from s → IsBelow s t → One from t
+  one_up from s t given up = (given.0, given.1, carries_more R L (λ number. s) (λ number. t) (pass_of (kinds_at problem from.0) from.1) given.0 given.0 s t (below_itself given.0) given.2 up)
+
+  all_up : (edges : List (ℕ × Edge)) (s t : Stored) → All edges s → IsBelow s t → All edges t
+  all_up [] s t all up = tt
+  all_up (from ∷ edges) s t all up = (one_up from s t all.0 up, all_up edges s t all.1 up)
+
+  all_and : (edges : List (ℕ × Edge)) (from : ℕ × Edge) (s : Stored) → All edges s → One from s → All (edges ++ from ∷ []) s
+  all_and [] from s all last = (last, tt)
+  all_and (first ∷ edges) from s all last = (all.0, all_and edges from s all.1 last)
+
+  and_all : (edges : List (ℕ × Edge)) (from : ℕ × Edge) (s : Stored) → All (edges ++ from ∷ []) s → All edges s × One from s
+  and_all [] from s all = (tt, all.0)
+  and_all (first ∷ edges) from s all = let r = and_all edges from s all.1 in ((all.0, r.0), r.1)
+
+  -- one edge more
+  pub one_more_run : (items : List (ℕ × Edge)) (k : ℕ) (d : ℕ × Edge) (joined carried new : Stored) → k < length items → IsLeastOf IsBelow (All (take k items)) joined → IsLeastOf IsBelow (One (get_or items k d)) carried
+      → IsJoin IsBelow joined carried new → IsLeastOf IsBelow (All (take (k + 1) items)) new
+  one_more_run items k d joined carried new within before last join =
+      subst (λ es. IsLeastOf IsBelow (All es) new) (sym (next_front items k d within)) (
+        all_and (take k items) (get_or items k d) new (all_up (take k items) joined new before.0 join.left) (one_up (get_or items k d) carried new last.0 join.right),
+        λ other all. let r = and_all (take k items) (get_or items k d) other all in join.least other (before.1 other r.0) (last.1 other r.1),
+      )
+
+laws_of : (problem : Problem) → RulesLaws (rules_of problem)
+laws_of problem = laws_with problem.program.now problem.within.now problem.profile problem.marks.ints
+
+settled : (problem : Problem) (kind : Kind) (joined label : Stored) → IsSettled (rules_of problem) kind joined label → Settles (rules_of problem) (Anything (rules_of problem)) (λ number. label) kind joined label
+settled problem Starts joined label is = is.0
+settled problem (Does op) joined label is = (subst (λ s. IsBelow joined s) (sym is) (below_itself joined), tt)
+settled problem (Compares test) joined label is = subst (λ s. IsBelow joined s) (sym is) (below_itself joined)
+settled problem (Tells code slot) joined label is = subst (λ s. IsBelow joined s) (sym is) (below_itself joined)
+settled problem Joins joined label is = subst (λ s. IsBelow joined s) (sym is) (below_itself joined)
+settled problem (Heads number scope) joined label is = (is.0, refl)
+settled problem (Returns value known span) joined label is = (subst (λ s. IsBelow joined s) (sym is) (below_itself joined), tt)
+settled problem Ends joined label is = (subst (λ s. IsBelow joined s) (sym is) (below_itself joined), tt)
+
+settled_below : (problem : Problem) (kind : Kind) (joined label above other : Stored) → IsSettled (rules_of problem) kind joined label → IsBelow joined above
+    → Settles (rules_of problem) (Anything (rules_of problem)) (λ number. other) kind above other → IsBelow label other
+settled_below problem Starts joined label above other is up settles = is.1 other settles
+settled_below problem (Does op) joined label above other is up settles = subst (λ s. IsBelow s other) (sym is) ((laws_of problem).transitive joined above other up settles.0)
+settled_below problem (Compares test) joined label above other is up settles = subst (λ s. IsBelow s other) (sym is) ((laws_of problem).transitive joined above other up settles)
+settled_below problem (Tells code slot) joined label above other is up settles = subst (λ s. IsBelow s other) (sym is) ((laws_of problem).transitive joined above other up settles)
+settled_below problem Joins joined label above other is up settles = subst (λ s. IsBelow s other) (sym is) ((laws_of problem).transitive joined above other up settles)
+settled_below problem (Heads number scope) joined label above other is up settles = is.1 other ((laws_of problem).rounded scope joined above other other up settles.0 (below_itself other))
+settled_below problem (Returns value known span) joined label above other is up settles = subst (λ s. IsBelow s other) (sym is) ((laws_of problem).transitive joined above other up settles.0)
+settled_below problem Ends joined label above other is up settles = subst (λ s. IsBelow s other) (sym is) ((laws_of problem).transitive joined above other up settles.0)
+
+-- the least store above what comes of a store from a node to the one behind it
+pub onto_least : (problem : Problem) (at : ℕ) (s t : Stored) → IsCarried problem (pass_of (kinds_at problem at) Next) s t → IsLeastOf IsBelow (Onto (rules_of problem) (kinds_at problem) at s) t
+onto_least problem at s t carried = (
+  carries_as (rules_of problem) (laws_of problem) [] (λ number. s) (λ number. t) (pass_of (kinds_at problem at) Next) s t carried.0,
+  λ other onto. carried.1 other (carries_as (rules_of problem) (laws_of problem) [] (λ number. other) (λ number. s) (pass_of (kinds_at problem at) Next) s other onto),
+)
+
+-- what a label in a list says
+pub said_there : (problem : Problem) (labels : List Store) (k : ℕ) (label : Store) → k < length labels → label ≡ get_or labels k label → label_at (rules_of problem) (map stored labels) k ≡ stored label
+said_there problem [] k label within is = absurd (omega (arith, within))
+said_there problem (first ∷ labels) zero label within is = ap stored (sym is)
+said_there problem (first ∷ labels) (suc k) label within is = said_there problem labels k label (omega (arith, within)) is
+
+-- the least label of a node that is kept, and of one that isn't
+pub label_asked : (problem : Problem) (labels : List Stored) (at : ℕ) (joined label : Stored) → is_kept (kept_in problem) at ≡ true
+    → IsLeastOf IsBelow (RunsBring (rules_of problem) (kinds_at problem) (kept_in problem) labels (edges_at problem at)) joined → IsSettled (rules_of problem) (kinds_at problem at) joined label
+    → IsLeastOf IsBelow (Asks problem at labels) label
+label_asked problem labels at joined label holds least is =
     let R = rules_of problem in
-    let L = laws_with problem.program.now problem.within.now problem.profile problem.marks.ints in
-    let at : label_at R said from.0 ≡ stored label = label_is labels from.0 label there is in
-    let brings : IsLeastOf IsBelow (Brings R (kinds_at problem) said from) carried = (
-      carries_as R L said (λ number. stored label) (λ number. carried) (pass_of (kinds_at problem from.0) from.1) (label_at R said from.0) carried
-          (subst (λ s. Carries R (Anything R) (λ number. stored label) (pass_of (kinds_at problem from.0) from.1) s carried) (sym at) last.0),
-      λ other carries. last.1 other
-          (subst (λ s. Carries R (Anything R) (λ number. stored label) (pass_of (kinds_at problem from.0) from.1) s other) at
-          (carries_as R L said (λ number. other) (λ number. stored label) (pass_of (kinds_at problem from.0) from.1) (label_at R said from.0) other carries)),
-    ) in
-    subst (λ es. IsLeastOf IsBelow (AllBring R (kinds_at problem) said es) new) (sym (next_front items k d within)) (one_more R L said (kinds_at problem) (take k items) from joined carried new before brings join)
-  where
-    label_is : (labels : List Store) (k : ℕ) (label : Store) → k < length labels → label ≡ get_or labels k label → label_at (rules_of problem) (map stored labels) k ≡ stored label
-    label_is [] k label within is = absurd (omega (arith, within))
-    label_is (first ∷ labels) zero label within is = ap stored (sym is)
-    label_is (first ∷ labels) (suc k) label within is = label_is labels k label (omega (arith, within)) is
+    let kept = is_kept (kept_in problem) at in (
+      of_first kept ((s : Stored) × RunsBring R (kinds_at problem) (kept_in problem) labels (edges_at problem at) s × Settles R (Anything R) (λ number. label) (kinds_at problem at) s label) (Unit {0}) holds
+          (joined, least.0, settled problem (kinds_at problem at) joined label is),
+      λ other asks.
+          let r = first_of_two kept ((s : Stored) × RunsBring R (kinds_at problem) (kept_in problem) labels (edges_at problem at) s × Settles R (Anything R) (λ number. other) (kinds_at problem at) s other) (Unit {0}) holds asks in
+          settled_below problem (kinds_at problem at) joined label r.0 other is (least.1 r.0 r.1) r.2,
+    )
 
--- ---- the nodes that read a label are nodes
+pub nothing_asked : (problem : Problem) (labels : List Stored) (at : ℕ) (label : Stored) → is_kept (kept_in problem) at ≡ false → ((other : Stored) → IsBelow label other) → IsLeastOf IsBelow (Asks problem at labels) label
+nothing_asked problem labels at label fails bottom =
+    let R = rules_of problem in (
+      of_second (is_kept (kept_in problem) at) ((s : Stored) × RunsBring R (kinds_at problem) (kept_in problem) labels (edges_at problem at) s × Settles R (Anything R) (λ number. label) (kinds_at problem at) s label) (Unit {0}) fails tt,
+      λ other asks. bottom other,
+    )
 
-readers_at : (nodes : List Node) (k : ℕ) (d : List ℕ) → k < length (readers_in nodes) → (node : Node) × (slice_get nodes k ≡ Some node) × (get_or (readers_in nodes) k d ≡ node.readers.items)
-readers_at [] k d within = absurd (omega (arith, within))
-readers_at (first ∷ nodes) zero d within = (first, refl, refl)
-readers_at (first ∷ nodes) (suc k) d within = readers_at nodes k d (omega (arith, within))
+-- ---- the readers of each node are nodes
 
-pub readers_within : (problem : Problem) (k : ℕ) (d : List ℕ) → k < length (readers_of problem) → AreUnder (length (readers_of problem)) (get_or (readers_of problem) k d)
-readers_within problem k d within =
-    let node = readers_at problem.graph.nodes.items k d within in
-    let is = node.2 ∙ (problem.edges k node.0 node.1).readers in
-    subst (AreUnder (length (readers_of problem))) (sym is)
-    (subst (λ n. AreUnder n (targets_from k (edges_of (parts_of problem)))) (sym (readers_count problem))
-    (targets_within (behind_code (block_code problem.within.now.body) 2) k (parts_of problem) (method_below (block_code problem.within.now.body))))
+pub are_linked : (body : Code) (nodes : List Node) → length nodes ≡ behind_code body 2 → HaveEdges nodes (edges_of (method_parts body)) → AreLinked nodes
+are_linked body nodes size have at node found =
+    subst (AreUnder (length nodes)) (sym (have at node found).readers)
+    (subst (λ n. AreUnder n (targets_from at (edges_of (method_parts body)))) (sym size) (targets_within (behind_code body 2) at (method_parts body) (method_below body)))

@@ -2,8 +2,14 @@
 pub mod Problem
 pub mod ProblemLaws
 pub mod SmallOnce
+-- Straight runs of operations, within which labels are passed.
+pub mod Runs
+pub mod RunAsks
+pub mod RunLaws
 -- What the labels of a method are.
 pub mod Labels
+-- What they are by those that are kept.
+pub mod Filled
 -- How many visits of nodes they take at most.
 pub mod Visits
 -- Passed on from ix_method.

@@ -1,7 +1,6 @@
 -- The problem keeps the laws of problems of flow.
-use Rattle.std.specs.Prelude.{◌≡◌, ℕ, zero, suc, ℤ, List, [], ◌∷◌, length, slice_get, Some}
-use Rattle.std.proofs.lemmas.List.{length-map}
-use Rattle.std.proofs.Common.{inr, sym, subst, ◌∙◌, refl}
+use Rattle.std.specs.Prelude.{◌≡◌, ℤ, List, [], length}
+use Rattle.std.proofs.Common.{inr, sym, subst, ◌∙◌}
 use Rattle.ix_core.specs.declared.fact.Profile.{Profile}
 use Rattle.ix_core.specs.declared.program.Method.{Method}
 use Rattle.ix_core.specs.declared.program.Program.{Program}
@@ -12,9 +11,7 @@ use Rattle.ix_facts.proofs.SaidRules.{rounded_mono}
 use Rattle.ix_facts.proofs.StepLaws.{gives_step}
 use Rattle.ix_facts.proofs.StoreLaws.{below_itself}
 use Rattle.ix_flow.specs.Flow.{RulesLaws}
-use Rattle.ix_graph.specs.declared.node.Node.{Node}
 use Rattle.ix_graph.specs.Graph.{behind_code, AreBelow}
-use Rattle.ix_graph.proofs.AsProblem.{gathers_monotone, gathers_depends}
 use Rattle.ix_graph.proofs.Numbers.{method_below}
 use Rattle.ix_method.proofs.MethodLaws.{method_laws}
 use Rattle.ix_method.specs.Signs.{entry_facts}
@@ -23,7 +20,8 @@ use Rattle.ix_solve.specs.Readers.{DependsOnRead}
 use Rattle.ix_method.specs.StoredFacts.{stored}
 use Rattle.ix_method.specs.StoreOrder.{StoreBelow}
 use Rattle.ix_labels.specs.declared.problem.Problem.{Problem}
-use Rattle.ix_labels.specs.Problem.{readers_in, readers_of, rules_with, rules_of, kinds_at, edges_at, parts_of, Asks}
+use Rattle.ix_labels.specs.Problem.{readers_of, rules_with, rules_of, kinds_at, kept_in, edges_at, parts_of, Asks}
+use Rattle.ix_labels.specs.RunLaws.{runs_monotone, runs_depend}
 
 pub laws_with : (program : Program) (method : Method) (profile : Profile) (marks : List ℤ) → RulesLaws (rules_with program method profile marks)
 laws_with program method profile marks =
@@ -48,18 +46,15 @@ store_order = record { same = λ low high. (λ below. below, λ below. below); r
 
 pub problem_monotone : (problem : Problem) → IsMonotone IsBelow (Asks problem)
 problem_monotone problem =
-    gathers_monotone (rules_of problem) (laws_with problem.program.now problem.within.now problem.profile problem.marks.ints) (kinds_at problem) (entry_up problem) (edges_at problem)
-
-node_found : (nodes : List Node) (at : ℕ) (by : List ℕ) → slice_get (readers_in nodes) at ≡ Some by → (node : Node) × (slice_get nodes at ≡ Some node) × (node.readers.items ≡ by)
-node_found [] at by found = cc
-node_found (node ∷ nodes) zero by found = (node, refl, cc)
-node_found (node ∷ nodes) (suc at) by found = node_found nodes at by found
+    runs_monotone (rules_of problem) (laws_with problem.program.now problem.within.now problem.profile problem.marks.ints) (kinds_at problem) (kept_in problem) (entry_up problem) (edges_at problem)
 
 pub readers_count : (problem : Problem) → length (readers_of problem) ≡ behind_code (block_code problem.within.now.body) 2
-readers_count problem = length-map problem.graph.nodes.items (λ (node : Node). node.readers.items) ∙ problem.size
+readers_count problem = problem.through.many ∙ problem.size
+
+pub parts_below : (problem : Problem) → AreBelow (length problem.graph.nodes.items) (parts_of problem)
+parts_below problem = subst (λ n. AreBelow n (parts_of problem)) (sym problem.size) (method_below (block_code problem.within.now.body))
 
 pub problem_depends : (problem : Problem) → DependsOnRead (readers_of problem) (Asks problem)
 problem_depends problem =
-    gathers_depends (rules_of problem) (laws_with problem.program.now problem.within.now problem.profile problem.marks.ints) (kinds_at problem) (readers_of problem) (parts_of problem)
-    (λ node by found. let r = node_found problem.graph.nodes.items node by found in sym r.2 ∙ (problem.edges node r.0 r.1).readers)
-    (subst (λ n. AreBelow n (parts_of problem)) (sym (readers_count problem)) (method_below (block_code problem.within.now.body)))
+    runs_depend (rules_of problem) (laws_with problem.program.now problem.within.now problem.profile problem.marks.ints) (kinds_at problem) (kept_in problem) problem.graph.nodes.items (readers_of problem) (parts_of problem)
+    problem.through problem.edges (parts_below problem)

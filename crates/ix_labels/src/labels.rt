@@ -7,12 +7,11 @@ ghost use Rattle.ix_method.specs.Naming.{HasSmallNames, HaveSmallNames};
 ghost use Rattle.ix_labels.specs.Labels.{AreLabels};
 ghost use Rattle.ix_labels.specs.Visits.{visits_by};
 
-use crate::problem::Problem;
+use crate::run_labels::label_runs;
 use ix_core::{Method, Profile, Program};
-use ix_graph::{Graph, graph, sweep_parts};
-use ix_landmarks::landmarks;
+use ix_graph::Graph;
 use ix_method::Store;
-use ix_solve::{Steps, solve_graph};
+use ix_solve::Steps;
 use std::alloc::{AllocError, Global};
 use std::sync::ledger::Ledger;
 
@@ -38,17 +37,8 @@ pub fn label_nodes<'a, L: Ledger>(
     ensures at_least { IfOk result (λ labels. steps.old + behind_code (block_code within.now.body) 2 ≤ steps.new) }
     ensures at_most { IfOk result (λ labels. steps.new ≤ steps.old + visits_by (block_code within.now.body) labels.stores.items) }
 {
-    let marks = landmarks(alloc, program, within)?;
-    let graph = graph(alloc, within)?;
-    let parts = sweep_parts(alloc, &graph)?;
-    let problem = Problem {
-        program,
-        within,
-        profile,
-        marks,
-        graph,
-    };
-    let stores = solve_graph(alloc, &problem, &parts, steps)?;
-    let Problem { graph, .. } = problem;
+    let labels = label_runs(alloc, program, within, profile, steps)?;
+    let stores = labels.all(alloc)?;
+    let graph = labels.into_graph();
     Ok(Labels { graph, stores })
 }

@@ -4,12 +4,14 @@ ghost use Rattle.std.specs.Prelude.{◌≡◌, ◌<◌, IfOk, length, map};
 ghost use Rattle.ix_solve.specs.Solutions.{IsLeastOf};
 ghost use Rattle.ix_flow.specs.Flow.{Anything};
 ghost use Rattle.ix_graph.specs.GraphSolutions.{Carries};
-ghost use Rattle.ix_graph.specs.Brought.{pass_of, AllBring, IsSettled};
+ghost use Rattle.ix_graph.specs.Brought.{pass_of, IsSettled};
 ghost use Rattle.ix_facts.specs.Stores.{IsBelow};
 ghost use Rattle.ix_method.specs.StoredFacts.{stored};
 ghost use Rattle.ix_labels.specs.Problem.{rules_of, kinds_at, edges_at};
+ghost use Rattle.ix_labels.specs.RunAsks.{RunsTo, RunBrings, RunsBring};
 
 use crate::problem::Problem;
+use crate::runs::start_of;
 use ix_graph::{Edge, NodeKind, last_op};
 use ix_lattice::Lattice;
 use ix_method::signs::{enter, tell};
@@ -21,7 +23,7 @@ use std::sync::ledger::Ledger;
 
 impl<'a> Problem<'a> {
     /// What an edge brings of the label of the node that it comes from: the least store above that.
-    fn brought(
+    pub(crate) fn brought(
         &self,
         alloc: Global,
         from: (usize, Edge),
@@ -46,15 +48,44 @@ impl<'a> Problem<'a> {
         }
     }
 
-    /// The least store above what all edges to a node bring.
+    /// The least store at a node by the label that is kept where the run to it begins.
+    fn walked(&self, alloc: Global, at: usize, labels: &[Store]) -> Result<Store, AllocError>
+        requires node { at < length self.now.graph.nodes.items }
+        requires labels { length labels.now ≡ length self.now.graph.nodes.items }
+        ensures least { IfOk result (λ store. IsLeastOf IsBelow (RunsTo (rules_of self.now) (kinds_at self.now) self.now.runs.kept.items (map stored labels.now) at) (stored store)) }
+    {
+        let start = start_of(self.runs.kept.as_slice(), at);
+        let mut store = labels[start].share()?;
+        for before in start..at {
+            store = self.brought(alloc, (before, Edge::Next), &store)?;
+        }
+        Ok(store)
+    }
+
+    /// What an edge brings of the least store at the node that it comes from.
+    fn run_brought(
+        &self,
+        alloc: Global,
+        from: (usize, Edge),
+        labels: &[Store],
+    ) -> Result<Store, AllocError>
+        requires node { from.0 < length self.now.graph.nodes.items }
+        requires labels { length labels.now ≡ length self.now.graph.nodes.items }
+        ensures least { IfOk result (λ store. IsLeastOf IsBelow (RunBrings (rules_of self.now) (kinds_at self.now) self.now.runs.kept.items (map stored labels.now) from) (stored store)) }
+    {
+        let before = self.walked(alloc, from.0, labels)?;
+        self.brought(alloc, from, &before)
+    }
+
+    /// The least store above what all edges to a node bring, each through its run.
     fn gathered(&self, alloc: Global, at: usize, labels: &[Store]) -> Result<Store, AllocError>
         requires node { at < length self.now.graph.nodes.items }
         requires labels { length labels.now ≡ length self.now.graph.nodes.items }
-        ensures least { IfOk result (λ store. IsLeastOf IsBelow (AllBring (rules_of self.now) (kinds_at self.now) (map stored labels.now) (edges_at self.now at)) (stored store)) }
+        ensures least { IfOk result (λ store. IsLeastOf IsBelow (RunsBring (rules_of self.now) (kinds_at self.now) self.now.runs.kept.items (map stored labels.now) (edges_at self.now at)) (stored store)) }
     {
         let mut joined = Store::unreachable();
         for from in self.graph.nodes[at].from.as_slice() {
-            let brought = self.brought(alloc, *from, &labels[from.0])?;
+            let brought = self.run_brought(alloc, *from, labels)?;
             joined = joined.join(alloc, &brought)?;
         }
         Ok(joined)
@@ -106,7 +137,7 @@ impl<'a> FlowProblem for Problem<'a> {
     }
 
     fn readers(&self, at: usize) -> &[usize] {
-        self.graph.nodes[at].readers.as_slice()
+        self.runs.readers[at].as_slice()
     }
 
     fn visit<L: Ledger>(
@@ -117,6 +148,9 @@ impl<'a> FlowProblem for Problem<'a> {
         steps: &mut Steps<L>,
     ) -> Result<Store, AllocError> {
         steps.tick();
+        if !self.runs.kept[at] {
+            return Ok(Store::unreachable());
+        }
         let joined = self.gathered(alloc, at, labels)?;
         self.settled(alloc, at, &joined)
     }

@@ -1,3 +1,4 @@
 mod FilesHeld
 pub mod PrefixesTaken
 mod PartsRead
+pub mod PartsGiven

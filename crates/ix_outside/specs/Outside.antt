@@ -1,5 +1,5 @@
 -- What is seen of the world outside: files that are read, bytes that are taken, and faults that are counted.
-use Rattle.std.specs.Prelude.{◌≡◌, ℕ, ◌-◌, ◌^◌, ◌<◌, ◌≤◌, ◌⊎◌, List, [], ◌∷◌, ◌++◌, Option, Some, None, if◌then◌else◌, bytes_eq, unwrap_or, option_map, take, length, slice_get, Contains}
+use Rattle.std.specs.Prelude.{◌≡◌, ℕ, ◌-◌, ◌^◌, ◌<◌, ◌≤◌, ◌⊎◌, List, [], ◌∷◌, ◌++◌, Option, Some, None, if◌then◌else◌, bytes_eq, unwrap_or, option_map, take, drop, length, slice_get, Contains}
 
 -- ---- files
 
@@ -19,6 +19,19 @@ bytes_under name files = unwrap_or (held files name) []
 -- the bytes of the file at that place, none past the last
 abbrev pub bytes_at : Files → ℕ → List ℕ
 bytes_at files place = unwrap_or (option_map (λ file. file.1) (slice_get files place)) []
+
+-- what was handed out of each file that was opened, once these bytes more were handed out of the last one
+abbrev pub add_last : List ℕ → List (List ℕ) → List (List ℕ)
+add_last bytes [] = []
+add_last bytes (part ∷ []) = (part ++ bytes) ∷ []
+add_last bytes (part ∷ next ∷ parts) = part ∷ add_last bytes (next ∷ parts)
+
+-- what was handed out of the first and of the second file that were opened since; none of one that wasn't opened
+abbrev pub first_given : List (List ℕ) → List (List ℕ) → List ℕ
+first_given before after = unwrap_or (slice_get (drop (length before) after) 0) []
+
+abbrev pub second_given : List (List ℕ) → List (List ℕ) → Option (List ℕ)
+second_given before after = slice_get (drop (length before) after) 1
 
 -- what is told begins with these bytes
 abbrev pub TellsFirst : Option (List ℕ) → List ℕ → Type 0

@@ -19,7 +19,7 @@ pub use faults::raised;
 pub use logs::{SinkLog, SourceLog};
 pub use memory_sink::{MemSink, SureSink};
 pub use memory_source::{MemSource, SureSource};
-pub use reading::{MOST_BYTES, ReadError, read_file};
+pub use reading::{MOST_BYTES, MOST_CERTIFICATE, ReadError, read_file};
 pub use sink::{Sink, WriteError};
 pub use source::{Failed, OpenError, Source};
 pub use writing::write_all;

@@ -9,10 +9,12 @@ use std::marker::Model;
 pub struct SourceLog {
     /// The names that were to be opened, in order, whatever came of it.
     pub ghost names: { List (List ℕ) },
-    /// The bytes that were handed out since the last of them.
-    pub ghost given: { List ℕ },
+    /// For each of them the bytes that were handed out of its file.
+    pub ghost given: { List (List ℕ) },
     /// How many times it was read from.
     pub ghost reads: { ℕ },
+    /// How many of these times came before the last of the names.
+    pub ghost reads_before: { ℕ },
 }
 
 impl Model for SourceLog {

@@ -106,6 +106,8 @@ impl Source for MemSource {
 
     ghost reads = { λ source. source.log.reads };
 
+    ghost reads_before = { λ source. source.log.reads_before };
+
     fn open(&mut self, name: &str) -> Result<(), OpenError> {
         self.log.opening(name.as_bytes());
         let fails = is_to_fail(self.fails.as_slice(), self.calls);
@@ -192,6 +194,8 @@ impl Source for SureSource {
     ghost given = { λ source. source.log.given };
 
     ghost reads = { λ source. source.log.reads };
+
+    ghost reads_before = { λ source. source.log.reads_before };
 
     fn open(&mut self, name: &str) -> Result<(), OpenError> {
         self.log.opening(name.as_bytes());

@@ -1,6 +1,6 @@
 //! Where the tool reads from: files that are opened by name and read front to back.
 ghost use Rattle.std.specs.Prelude.{◌≡◌, ◌≢◌, ℕ, ◌+◌, ◌<◌, ◌≤◌, Option, List, [], ◌∷◌, ◌++◌, length, take, drop, option_map, IfOk, OnOk, OnErr, IsErrOf};
-ghost use Rattle.ix_outside.specs.Outside.{Files, bytes_under, Rose, TellsFirst};
+ghost use Rattle.ix_outside.specs.Outside.{Files, bytes_under, Rose, TellsFirst, add_last};
 
 /// A fault of a source.
 #[derive(Clone, Copy, Debug, PartialEq, Eq)]
@@ -37,11 +37,14 @@ pub trait Source {
     /// The log: the names that were to be opened, in order, whatever came of it.
     ghost names: { Self → List (List ℕ) };
 
-    /// The log: the bytes that were handed out since the last of these names.
-    ghost given: { Self → List ℕ };
+    /// The log: for each of these names the bytes that were handed out of its file, until the next one was to be opened.
+    ghost given: { Self → List (List ℕ) };
 
     /// The log: how many times it was read from. Each call of `read` is one, whatever it answers.
     ghost reads: { Self → ℕ };
+
+    /// The log: how many of these times came before the last of the names.
+    ghost reads_before: { Self → ℕ };
 
     /// Makes the named file the opened one, with all its bytes left; a name that isn't held has none. `Failed` comes only where the count of
     /// faults rose, and never for a sure name; after `Memory` and after `Ok` that count is as it was. To open is not to read.
@@ -57,8 +60,9 @@ pub trait Source {
         ensures ok { OnOk result (faults self.new ≡ faults self.old) }
         ensures memory { IsErrOf result OpenError.Memory → faults self.new ≡ faults self.old }
         ensures names { names self.new ≡ names self.old ++ (name.now ∷ []) }
-        ensures given { given self.new ≡ [] }
-        ensures reads { reads self.new ≡ reads self.old };
+        ensures given { given self.new ≡ given self.old ++ [] ∷ [] }
+        ensures reads { reads self.new ≡ reads self.old }
+        ensures reads_before { reads_before self.new ≡ reads self.old };
 
     /// Moves the next bytes of the opened file into the front of `buf` and answers how many, 0 only at the end. `Failed` comes only where
     /// the count of faults rose, and never while the opened file is sure. The file stays opened, and sure where it was.
@@ -78,7 +82,8 @@ pub trait Source {
         ensures rose { OnErr result (Rose (faults self.old) (faults self.new)) }
         ensures ok { OnOk result (faults self.new ≡ faults self.old) }
         ensures names { names self.new ≡ names self.old }
-        ensures given { IfOk result (λ n. given self.new ≡ given self.old ++ take n buf.new) }
+        ensures given { IfOk result (λ n. given self.new ≡ add_last (take n buf.new) (given self.old)) }
         ensures given_nothing { OnErr result (given self.new ≡ given self.old) }
-        ensures reads { reads self.new ≡ reads self.old + 1 };
+        ensures reads { reads self.new ≡ reads self.old + 1 }
+        ensures reads_before { reads_before self.new ≡ reads_before self.old };
 }

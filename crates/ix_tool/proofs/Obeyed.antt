@@ -1,134 +1,159 @@
 -- What an obeyed command leaves is what a call of the tool promises.
-use Rattle.std.proofs.Common.{◌≡◌, ◌≢◌, ◌⊎◌, inl, inr, ℕ, Bool, true, List, [], ◌++◌, append-nil, Option, Some, ap, sym, subst, ◌∙◌, refl}
+use Rattle.std.proofs.Common.{◌≡◌, ◌≢◌, ◌⊎◌, inl, inr, ℕ, Bool, true, List, [], ◌++◌, append-nil, Option, Some, None, ap, sym, subst, ◌∙◌, refl}
 use Rattle.ix_answer.specs.declared.status.Status.{Status}
 use Rattle.ix_answer.specs.declared.status.Status.TheVariants.{Done, Rejected, Usage, ReadFault, WriteFault, Limit, Memory, Stopped, StepsSpent, InputsRefused}
-use Rattle.std.specs.Prelude.{Result, Ok, Err, IfOk}
+use Rattle.std.specs.Prelude.{Result, Ok, Err, IfOk, unwrap_or}
 use Rattle.std.specs.declared.alloc.AllocError.{AllocError}
 use Rattle.ix_answer.specs.declared.reply.Reply.{Reply}
 use Rattle.ix_answer.specs.Replies.{Says, shown as shown_reply}
 use Rattle.ix_answer.specs.Statuses.{is_answer}
 use Rattle.ix_answer.specs.Answer.{Answer, err_answer}
-use Rattle.ix_answer.specs.Delivery.{Sinks, Delivers, IsOnly, RoseOne}
+use Rattle.ix_answer.specs.Delivery.{Sinks, Delivers, RoseOne}
 use Rattle.ix_answer.specs.Ends.{Texts, EndsWell, TookPart, TookWanted, TookNothing}
 use Rattle.ix_outside.specs.Outside.{Files, bytes_under, Rose, Took, TookPrefix}
-use Rattle.ix_outside.specs.Reading.{IsAllOrPast}
+use Rattle.ix_outside.specs.Reading.{IsAllOrPast, most_bytes}
 use Rattle.ix_outside.proofs.PrefixesTaken.{TookPrefix-none}
 use Rattle.ix_words.specs.declared.values.Sums.{Sums}
-use Rattle.ix_words.specs.Commands.{Command, Check, Run, Bench}
-use Rattle.ix_tool.specs.Answers.{Answers, IsVerdict, read_failed, file_in, file_of, source_name, source_bytes, judged_bytes}
-use Rattle.ix_tool.specs.Ends.{WasUnread, EndsUnread, TookUnread, SafeBytes, Promises, bytes_of}
+use Rattle.ix_words.specs.Commands.{Command, Check, Run, Bench, Verify}
+use Rattle.ix_tool.specs.Answers.{Answers, IsVerdict, AsksCert, NeedsCert, read_failed, file_in, cert_in, file_of, cert_of, source_name, source_bytes, judged_bytes}
+use Rattle.ix_tool.specs.Ends.{WasUnread, EndsUnread, TookUnread, SafeBytes, SafeBy, Promises, bytes_of, cert_bytes_of, last_of}
+use Rattle.ix_tool.specs.Inputs.{Obeys}
 use Rattle.ix_tool.specs.Judgements.{profile_of}
-use Rattle.ix_tool.proofs.Answered.{read_right, verdict_answers, other_status}
+use Rattle.ix_tool.proofs.Answered.{IsCertRead, read_right, verdict_answers, other_status}
 
--- the answer where the file was not read
-abbrev pub unread_answer : Command → Answer
-unread_answer command = err_answer ReadFault (read_failed (source_name command))
+abbrev unread_answer : List ℕ → Answer
+unread_answer file = err_answer ReadFault (read_failed file)
 
--- the only right answer on what was handed out, or that on a file that was not read
-abbrev pub Obeys : (List ℕ → Type 0) → ℕ → ℕ → Command → List ℕ → Answer → Type 0
-Obeys IsSure before after command given a = (IsOnly (IsVerdict command (source_bytes command given)) a × Promises command (source_bytes command given) a) ⊎ (WasUnread IsSure before after (file_in command) × (a ≡ unread_answer command))
+answers_some : (asked : Option Command) (command : Command) (given : List ℕ) (cert : Option (List ℕ)) (a : Answer) → Some command ≡ asked → IsVerdict command (source_bytes command given) cert a → Answers asked given cert a
+answers_some asked command given cert a is v = subst (λ (o : Option Command). Answers o given cert a) is v
 
-answers_some : (asked : Option Command) (command : Command) (given : List ℕ) (a : Answer) → Some command ≡ asked → IsVerdict command (source_bytes command given) a → Answers asked given a
-answers_some asked command given a is v = subst (λ (o : Option Command). Answers o given a) is v
-
-named_file : (command : Command) (file : List ℕ) → file_in command ≡ Some file → source_name command ≡ file
-named_file (Check sums library f) file is = cc
+pub named_file : (command : Command) (file : List ℕ) → file_in command ≡ Some file → source_name command ≡ file
+named_file (Check sums certificate library f) file is = cc
 named_file (Run limits library f entry inputs) file is = cc
 named_file (Bench count) file is = absurd (cc)
+named_file (Verify library f name) file is = cc
 
-abbrev unread_named : (IsSure : List ℕ → Type 0) (before after : ℕ) (asked : Option Command) (command : Command) → Some command ≡ asked → WasUnread IsSure before after (file_in command) → WasUnread IsSure before after (file_of asked)
-unread_named IsSure before after asked command is u = record { file = u.file; file_is = ap file_of (sym is) ∙ u.file_is; unsure = u.unsure; rose = u.rose }
+abbrev unread_named : (IsSure : List ℕ → Type 0) (before after : ℕ) (asked : Option Command) (command : Command) (cert : Option (List ℕ)) → Some command ≡ asked
+    → WasUnread IsSure before after (last_of (Some command) cert) → WasUnread IsSure before after (last_of asked cert)
+unread_named IsSure before after asked command cert is u = record { file = u.file; file_is = ap (λ (o : Option Command). last_of o cert) (sym is) ∙ u.file_is; unsure = u.unsure; rose = u.rose }
 
-unread_err : (IsSure : List ℕ → Type 0) (before after : ℕ) (command : Command) (a : Answer) (u : WasUnread IsSure before after (file_in command)) → a ≡ unread_answer command → a.err ≡ read_failed u.file
-unread_err IsSure before after command a u is = ap (λ (b : Answer). b.err) is ∙ ap read_failed (named_file command u.file u.file_is)
+unread_err : (file : List ℕ) (a : Answer) → a ≡ unread_answer file → a.err ≡ read_failed file
+unread_err file a is = ap (λ (b : Answer). b.err) is
 
-unread_out : (command : Command) (a : Answer) → a ≡ unread_answer command → a.out ≡ []
-unread_out command a is = ap (λ (b : Answer). b.out) is
+unread_out : (file : List ℕ) (a : Answer) → a ≡ unread_answer file → a.out ≡ []
+unread_out file a is = ap (λ (b : Answer). b.out) is
 
 took_none : (text before after : List ℕ) → text ≡ [] → Took text before after → after ≡ before
 took_none text before after none took = took ∙ ap (λ t. before ++ t) none ∙ append-nil before
 
+-- ---- a file that was not read
+
+-- the source was not read, and no certificate was opened
+pub file_unread : (IsSure : List ℕ → Type 0) (before after : ℕ) (command : Command) (given : List ℕ) (cert : Option (List ℕ)) (a : Answer)
+    → WasUnread IsSure before after (file_in command) → cert ≡ None → a ≡ err_answer ReadFault (read_failed (source_name command)) → Obeys IsSure before after command given cert a
+file_unread IsSure before after command given None a u none is = inr (u, is ∙ ap unread_answer (named_file command u.file u.file_is))
+file_unread IsSure before after command given (Some text) a u none is = absurd (cc)
+
+-- the certificate was opened and not read
+pub cert_unread : (IsSure : List ℕ → Type 0) (before after : ℕ) (command : Command) (given : List ℕ) (cert : Option (List ℕ)) (a : Answer) (text : List ℕ)
+    → WasUnread IsSure before after (cert_in command) → cert ≡ Some text → a ≡ err_answer ReadFault (read_failed (unwrap_or (cert_in command) [])) → Obeys IsSure before after command given cert a
+cert_unread IsSure before after command given None a text u some is = absurd (cc)
+cert_unread IsSure before after command given (Some other) a text u some is = inr (u, is ∙ ap (λ (o : Option (List ℕ)). unread_answer (unwrap_or o [])) u.file_is)
+
 -- ---- a status that speaks of no fault
 
-pub obeyed_answer : (IsSure : List ℕ → Type 0) (before after : ℕ) (asked : Option Command) (command : Command) (given : List ℕ) (result : Status) (old new : Sinks)
-    → Some command ≡ asked → Delivers (Obeys IsSure before after command given) result old new → is_answer result ≡ true → EndsWell (Answers asked given) result old.taken new.taken
-obeyed_answer IsSure before after asked command given result old new is d so =
+pub obeyed_answer : (IsSure : List ℕ → Type 0) (before after : ℕ) (asked : Option Command) (command : Command) (given : List ℕ) (cert : Option (List ℕ)) (result : Status) (old new : Sinks)
+    → Some command ≡ asked → Delivers (Obeys IsSure before after command given cert) result old new → is_answer result ≡ true → EndsWell (Answers asked given cert) result old.taken new.taken
+obeyed_answer IsSure before after asked command given cert result old new is d so =
     let w = d.whole (other_status result WriteFault so refl) (other_status result Memory so refl) in
     let e = w.0 in
     elim e.right [
-      | inl only ↦ record { answer = e.answer; right = answers_some asked command given e.answer is only.0.0; status = e.status; out = e.out; err = e.err }
+      | inl only ↦ record { answer = e.answer; right = answers_some asked command given cert e.answer is only.0.0; status = e.status; out = e.out; err = e.err }
       | inr u ↦ absurd (other_status result ReadFault so refl (e.status ∙ ap (λ (b : Answer). b.status) u.1))
     ]
-
-promise_kept : (command : Command) (given : List ℕ) (answer : Answer) (sums : Sums) (library : Bool) (file : List ℕ) → command ≡ Check sums library file → Promises command (source_bytes command given) answer → answer.status ≡ Done
-    → SafeBytes (profile_of sums) (judged_bytes library given)
-promise_kept command given answer sums library file is promises done = (subst (λ (c : Command). Promises c (source_bytes c given) answer) is promises) done
 
 asked_is : (asked : Option Command) (command other : Command) → Some command ≡ asked → asked ≡ Some other → command ≡ other
 asked_is asked command other is checks = let e : Some command ≡ Some other = is ∙ checks in cc
 
-pub obeyed_safe : (IsSure : List ℕ → Type 0) (before after : ℕ) (asked : Option Command) (command : Command) (given : List ℕ) (result : Status) (old new : Sinks) (sums : Sums) (library : Bool) (file : List ℕ)
-    → Some command ≡ asked → Delivers (Obeys IsSure before after command given) result old new → asked ≡ Some (Check sums library file) → result ≡ Done → SafeBytes (profile_of sums) (judged_bytes library given)
-obeyed_safe IsSure before after asked command given result old new sums library file is d checks done =
+-- what is promised where the status is Done
+obeyed_promise : (IsSure : List ℕ → Type 0) (before after : ℕ) (asked : Option Command) (command other : Command) (given : List ℕ) (cert : Option (List ℕ)) (result : Status) (old new : Sinks)
+    → Some command ≡ asked → Delivers (Obeys IsSure before after command given cert) result old new → asked ≡ Some other → result ≡ Done
+    → (a : Answer) × Promises other (source_bytes other given) cert a × (a.status ≡ Done)
+obeyed_promise IsSure before after asked command other given cert result old new is d asks done =
     let so : is_answer result ≡ true = ap is_answer done in
     let w = d.whole (other_status result WriteFault so refl) (other_status result Memory so refl) in
     let e = w.0 in
     elim e.right [
-      | inl only ↦ promise_kept command given e.answer sums library file (asked_is asked command (Check sums library file) is checks) only.1 (sym e.status ∙ done)
+      | inl only ↦ (e.answer, subst (λ (c : Command). Promises c (source_bytes c given) cert e.answer) (asked_is asked command other is asks) only.1, sym e.status ∙ done)
       | inr u ↦ absurd (other_status result ReadFault so refl (e.status ∙ ap (λ (b : Answer). b.status) u.1))
     ]
 
+pub obeyed_safe : (IsSure : List ℕ → Type 0) (before after : ℕ) (asked : Option Command) (command : Command) (given : List ℕ) (cert : Option (List ℕ)) (result : Status) (old new : Sinks)
+    (sums : Sums) (certificate library : Bool) (file : List ℕ)
+    → Some command ≡ asked → Delivers (Obeys IsSure before after command given cert) result old new → asked ≡ Some (Check sums certificate library file) → result ≡ Done
+    → SafeBytes (profile_of sums) (judged_bytes library given)
+obeyed_safe IsSure before after asked command given cert result old new sums certificate library file is d checks done =
+    let p = obeyed_promise IsSure before after asked command (Check sums certificate library file) given cert result old new is d checks done in p.1 p.2
+
+pub obeyed_verified : (IsSure : List ℕ → Type 0) (before after : ℕ) (asked : Option Command) (command : Command) (given : List ℕ) (cert : Option (List ℕ)) (result : Status) (old new : Sinks)
+    (library : Bool) (file name : List ℕ)
+    → Some command ≡ asked → Delivers (Obeys IsSure before after command given cert) result old new → asked ≡ Some (Verify library file name) → result ≡ Done
+    → SafeBy (judged_bytes library given) cert
+obeyed_verified IsSure before after asked command given cert result old new library file name is d verifies done =
+    let p = obeyed_promise IsSure before after asked command (Verify library file name) given cert result old new is d verifies done in p.1 p.2
+
 -- ---- faults
 
-pub obeyed_read_fault : (IsSure : List ℕ → Type 0) (before after : ℕ) (asked : Option Command) (command : Command) (given : List ℕ) (result : Status) (old new : Sinks)
-    → Some command ≡ asked → Delivers (Obeys IsSure before after command given) result old new → result ≡ ReadFault → EndsUnread IsSure before after (file_of asked) old.taken new.taken
-obeyed_read_fault IsSure before after asked command given result old new is d fault =
+pub obeyed_read_fault : (IsSure : List ℕ → Type 0) (before after : ℕ) (asked : Option Command) (command : Command) (given : List ℕ) (cert : Option (List ℕ)) (result : Status) (old new : Sinks)
+    → Some command ≡ asked → Delivers (Obeys IsSure before after command given cert) result old new → result ≡ ReadFault → EndsUnread IsSure before after (last_of asked cert) old.taken new.taken
+obeyed_read_fault IsSure before after asked command given cert result old new is d fault =
     let w = d.whole (λ other. cc (fault, other)) (λ other. cc (fault, other)) in
     let e = w.0 in
     elim e.right [
-      | inl only ↦ absurd (cc (sym (ap is_answer (sym e.status ∙ fault)) ∙ verdict_answers command (source_bytes command given) e.answer only.0.0))
+      | inl only ↦ absurd (cc (sym (ap is_answer (sym e.status ∙ fault)) ∙ verdict_answers command (source_bytes command given) cert e.answer only.0.0))
       | inr u ↦ record {
-        unread = unread_named IsSure before after asked command is u.0;
-        out = took_none e.answer.out old.taken.out new.taken.out (unread_out command e.answer u.1) e.out;
-        err = subst (λ (t : List ℕ). Took t old.taken.err new.taken.err) (unread_err IsSure before after command e.answer u.0 u.1) e.err;
+        unread = unread_named IsSure before after asked command cert is u.0;
+        out = took_none e.answer.out old.taken.out new.taken.out (unread_out u.0.file e.answer u.1) e.out;
+        err = subst (λ (t : List ℕ). Took t old.taken.err new.taken.err) (unread_err u.0.file e.answer u.1) e.err;
       }
     ]
 
-took_unread : (IsSure : List ℕ → Type 0) (before after : ℕ) (asked : Option Command) (command : Command) (a : Answer) (old new : Texts) → Some command ≡ asked → WasUnread IsSure before after (file_in command)
-    → a ≡ unread_answer command → TookPrefix a.out old.out new.out → TookPrefix a.err old.err new.err → TookUnread IsSure before after (file_of asked) old new
-took_unread IsSure before after asked command a old new is u same out err = record {
-  unread = unread_named IsSure before after asked command is u;
-  out = TookPrefix-none a.out old.out new.out (unread_out command a same) out;
-  err = subst (λ (t : List ℕ). TookPrefix t old.err new.err) (unread_err IsSure before after command a u same) err;
+took_unread : (IsSure : List ℕ → Type 0) (before after : ℕ) (asked : Option Command) (command : Command) (cert : Option (List ℕ)) (a : Answer) (old new : Texts) → Some command ≡ asked
+    → (u : WasUnread IsSure before after (last_of (Some command) cert)) → a ≡ unread_answer u.file → TookPrefix a.out old.out new.out → TookPrefix a.err old.err new.err
+    → TookUnread IsSure before after (last_of asked cert) old new
+took_unread IsSure before after asked command cert a old new is u same out err = record {
+  unread = unread_named IsSure before after asked command cert is u;
+  out = TookPrefix-none a.out old.out new.out (unread_out u.file a same) out;
+  err = subst (λ (t : List ℕ). TookPrefix t old.err new.err) (unread_err u.file a same) err;
 }
 
-took_part : (IsSure : List ℕ → Type 0) (before after : ℕ) (asked : Option Command) (command : Command) (given : List ℕ) (old new : Texts) → Some command ≡ asked
-    → TookPart (Obeys IsSure before after command given) old new → TookPart (Answers asked given) old new ⊎ TookUnread IsSure before after (file_of asked) old new
-took_part IsSure before after asked command given old new is part =
+took_part : (IsSure : List ℕ → Type 0) (before after : ℕ) (asked : Option Command) (command : Command) (given : List ℕ) (cert : Option (List ℕ)) (old new : Texts) → Some command ≡ asked
+    → TookPart (Obeys IsSure before after command given cert) old new → TookPart (Answers asked given cert) old new ⊎ TookUnread IsSure before after (last_of asked cert) old new
+took_part IsSure before after asked command given cert old new is part =
     elim part.right [
-      | inl only ↦ inl record { answer = part.answer; right = answers_some asked command given part.answer is only.0.0; out = part.out; err = part.err }
-      | inr u ↦ inr (took_unread IsSure before after asked command part.answer old new is u.0 u.1 part.out part.err)
+      | inl only ↦ inl record { answer = part.answer; right = answers_some asked command given cert part.answer is only.0.0; out = part.out; err = part.err }
+      | inr u ↦ inr (took_unread IsSure before after asked command cert part.answer old new is u.0 u.1 part.out part.err)
     ]
 
-pub obeyed_write_fault : (IsSure : List ℕ → Type 0) (before after : ℕ) (asked : Option Command) (command : Command) (given : List ℕ) (result : Status) (old new : Sinks)
-    → Some command ≡ asked → Delivers (Obeys IsSure before after command given) result old new → result ≡ WriteFault
-    → RoseOne old new × (TookPart (Answers asked given) old.taken new.taken ⊎ TookUnread IsSure before after (file_of asked) old.taken new.taken)
-obeyed_write_fault IsSure before after asked command given result old new is d fault =
-    let f = d.fault fault in (f.0, took_part IsSure before after asked command given old.taken new.taken is f.1)
+pub obeyed_write_fault : (IsSure : List ℕ → Type 0) (before after : ℕ) (asked : Option Command) (command : Command) (given : List ℕ) (cert : Option (List ℕ)) (result : Status) (old new : Sinks)
+    → Some command ≡ asked → Delivers (Obeys IsSure before after command given cert) result old new → result ≡ WriteFault
+    → RoseOne old new × (TookPart (Answers asked given cert) old.taken new.taken ⊎ TookUnread IsSure before after (last_of asked cert) old.taken new.taken)
+obeyed_write_fault IsSure before after asked command given cert result old new is d fault =
+    let f = d.fault fault in (f.0, took_part IsSure before after asked command given cert old.taken new.taken is f.1)
 
 -- ---- want of memory
 
-pub obeyed_memory : (IsSure : List ℕ → Type 0) (before after : ℕ) (asked : Option Command) (command : Command) (given : List ℕ) (result : Status) (old new : Sinks)
-    → Some command ≡ asked → Delivers (Obeys IsSure before after command given) result old new → result ≡ Memory
-    → TookPart (Answers asked given) old.taken new.taken ⊎ (TookUnread IsSure before after (file_of asked) old.taken new.taken
-    ⊎ (TookWanted (Answers asked given) old.taken new.taken ⊎ TookNothing old.taken new.taken))
-obeyed_memory IsSure before after asked command given result old new is d wanted =
+pub obeyed_memory : (IsSure : List ℕ → Type 0) (before after : ℕ) (asked : Option Command) (command : Command) (given : List ℕ) (cert : Option (List ℕ)) (result : Status) (old new : Sinks)
+    → Some command ≡ asked → Delivers (Obeys IsSure before after command given cert) result old new → result ≡ Memory
+    → TookPart (Answers asked given cert) old.taken new.taken ⊎ (TookUnread IsSure before after (last_of asked cert) old.taken new.taken
+    ⊎ (TookWanted (Answers asked given cert) old.taken new.taken ⊎ TookNothing old.taken new.taken))
+obeyed_memory IsSure before after asked command given cert result old new is d wanted =
     elim (d.memory wanted) [
-      | inl part ↦ elim (took_part IsSure before after asked command given old.taken new.taken is part) [ inl p ↦ inl p | inr u ↦ inr (inl u) ]
+      | inl part ↦ elim (took_part IsSure before after asked command given cert old.taken new.taken is part) [ inl p ↦ inl p | inr u ↦ inr (inl u) ]
       | inr rest ↦ elim rest [
         | inl w ↦ elim w.right [
-          | inl only ↦ inr (inr (inl record { answer = w.answer; right = answers_some asked command given w.answer is only.0.0; out = w.out; err = w.err }))
-          | inr u ↦ inr (inr (inr record { out = TookPrefix-none w.answer.out old.taken.out new.taken.out (unread_out command w.answer u.1) w.out; err = w.err }))
+          | inl only ↦ inr (inr (inl record { answer = w.answer; right = answers_some asked command given cert w.answer is only.0.0; out = w.out; err = w.err }))
+          | inr u ↦ inr (inr (inr record { out = TookPrefix-none w.answer.out old.taken.out new.taken.out (unread_out u.0.file w.answer u.1) w.out; err = w.err }))
         ]
         | inr none ↦ inr (inr (inr none))
       ]
@@ -176,19 +201,21 @@ pub record Exactly (result : Status) (answer : Answer) (old new : Texts) : Type 
   pub out : Took answer.out old.out new.out
   pub err : Took answer.err old.err new.err
 
-pub obeyed_exact : (IsSure : List ℕ → Type 0) (before after : ℕ) (asked : Option Command) (command : Command) (given : List ℕ) (result : Status) (old new : Sinks) (held : Files)
-    → Some command ≡ asked → Delivers (Obeys IsSure before after command given) result old new
-    → (is_answer result ≡ true → (file : List ℕ) → file_in command ≡ Some file → IsAllOrPast (bytes_under file held) given)
+pub obeyed_exact : (IsSure : List ℕ → Type 0) (before after : ℕ) (asked : Option Command) (command : Command) (given : List ℕ) (cert : Option (List ℕ)) (result : Status) (old new : Sinks) (held : Files)
+    → Some command ≡ asked → Delivers (Obeys IsSure before after command given cert) result old new
+    → (is_answer result ≡ true → (file : List ℕ) → file_in command ≡ Some file → IsAllOrPast most_bytes (bytes_under file held) given)
+    → (is_answer result ≡ true → IsCertRead command held cert)
     → (Rose before after → ⊥) → (Rose old.out_faults new.out_faults → ⊥) → (Rose old.err_faults new.err_faults → ⊥) → result ≢ Memory
-    → (answer : Answer) → Answers asked (bytes_of (file_of asked) held) answer → Exactly result answer old.taken new.taken
-obeyed_exact IsSure before after asked command given result old new held is d whole calm calm_out calm_err enough answer right =
+    → (answer : Answer) → Answers asked (bytes_of (file_of asked) held) (cert_bytes_of (cert_of asked) held) answer → Exactly result answer old.taken new.taken
+obeyed_exact IsSure before after asked command given cert result old new held is d whole whole_cert calm calm_out calm_err enough answer right =
     let w = d.whole (λ fault. elim (d.fault fault).0 [ inl rose ↦ calm_out rose | inr rose ↦ calm_err rose ]) enough in
     let e = w.0 in
     elim e.right [
       | inl only ↦
-          let so : is_answer result ≡ true = ap is_answer e.status ∙ verdict_answers command (source_bytes command given) e.answer only.0.0 in
-          let also : IsVerdict command (source_bytes command (bytes_of (file_in command) held)) answer = subst (λ (o : Option Command). Answers o (bytes_of (file_of o) held) answer) (sym is) right in
-          let same = only.0.1 answer (read_right command held given answer (whole so) also) in
+          let so : is_answer result ≡ true = ap is_answer e.status ∙ verdict_answers command (source_bytes command given) cert e.answer only.0.0 in
+          let also : IsVerdict command (source_bytes command (bytes_of (file_in command) held)) (cert_bytes_of (cert_in command) held) answer =
+          subst (λ (o : Option Command). Answers o (bytes_of (file_of o) held) (cert_bytes_of (cert_of o) held) answer) (sym is) right in
+          let same = only.0.1 answer (read_right command held given cert e.answer answer (whole so) (whole_cert so) only.0.0 also) in
           record {
             status = e.status ∙ ap (λ (b : Answer). b.status) (sym same);
             out = subst (λ (b : Answer). Took b.out old.taken.out new.taken.out) (sym same) e.out;
@@ -196,3 +223,8 @@ obeyed_exact IsSure before after asked command given result old new held is d wh
           }
       | inr u ↦ absurd (calm u.0.rose)
     ]
+
+-- ---- the certificate
+
+pub asks_cert : (asked : Option Command) (command : Command) (given : List ℕ) → Some command ≡ asked → NeedsCert command given → AsksCert asked given
+asks_cert asked command given is needs = subst (λ (o : Option Command). AsksCert o given) is needs

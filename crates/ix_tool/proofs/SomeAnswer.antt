@@ -1,31 +1,52 @@
 -- To all words and bytes there is an answer.
-use Rattle.std.proofs.Common.{◌≡◌, ℕ, List, Option, Some, None, refl, subst}
+use Rattle.std.proofs.Common.{◌≡◌, ℕ, inl, inr, Bool, true, false, List, [], ◌∷◌, Option, Some, None, length, refl, subst, arith}
+use Rattle.std.proofs.lemmas.Bool.{cases_lt}
+use Rattle.ix_core.specs.declared.error.Error.{Error}
+use Rattle.ix_core.specs.declared.fact.Profile.{Profile}
 use Rattle.ix_core.specs.declared.program.Program.{Program}
 use Rattle.ix_machine.proofs.SomeStart.{Is, some_start}
-use Rattle.ix_words.specs.Commands.{Command, Check, Run, Bench}
+use Rattle.ix_words.specs.Commands.{Command, Check, Run, Bench, Verify}
 use Rattle.ix_answer.specs.Answer.{Answer}
 use Rattle.ix_finding.specs.Found.{Finding, TooLong, Broken, Past, Misnamed, Whole, Found}
 use Rattle.ix_finding.proofs.SomeFinding.{some_finding}
-use Rattle.ix_tool.specs.Answers.{AnswersWhole, AnswersOn, source_bytes, usage, verdict, bench_verdict}
-use Rattle.ix_tool.specs.Existence.{HasList, HasListed, Unanswered}
+use Rattle.ix_outside.specs.Reading.{most_certificate}
+use Rattle.ix_tool.specs.Judgements.{profile_of}
+use Rattle.ix_tool.specs.Answers.{AnswersWhole, AnswersOn, Judges, Verifies, too_long as cert_too_long, verified, refused, source_bytes, usage, verdict, bench_verdict}
+use Rattle.ix_tool.specs.Existence.{HasWritten, HasVerdict, HasList, HasListed, Unanswered}
 use Rattle.ix_tool.specs.Runs.{start_answer}
 
-answers_whole : (command : Command) (bytes : List ℕ) (program : Program) → HasList command program → Is ((answer : Answer) × AnswersWhole command bytes program answer)
-answers_whole (Check sums library file) bytes program l never = never (verdict file bytes program l.0, (l.0, l.1, refl))
-answers_whole (Run limits library file entry inputs) bytes program l never =
+judges : (certificate : Bool) (profile : Profile) (file bytes : List ℕ) (program : Program) (errors : List Error) → HasWritten certificate profile program
+    → Is ((answer : Answer) × Judges certificate profile file bytes program errors answer)
+judges false profile file bytes program errors w never = never (verdict file bytes program errors, refl)
+judges true profile file bytes program [] w never = never (_, (w.0, w.1, refl))
+judges true profile file bytes program (error ∷ errors) w never = never (_, refl)
+
+verifies : (name bytes : List ℕ) (program : Program) (text : List ℕ) → HasVerdict program (Some text) → Is ((answer : Answer) × Verifies name bytes program text answer)
+verifies name bytes program text v never =
+    elim (cases_lt most_certificate (length text)) [
+      | inl long ↦ never (_, cert_too_long long)
+      | inr short ↦ elim v [ inl a ↦ never (_, verified a.0 (omega (arith, short)) a.1) | inr w ↦ never (_, refused w.0 (omega (arith, short)) w.1 w.2) ]
+    ]
+
+answers_whole : (command : Command) (bytes : List ℕ) (cert : Option (List ℕ)) (program : Program) → HasList command cert program → Is ((answer : Answer) × AnswersWhole command bytes cert program answer)
+answers_whole (Check sums certificate library file) bytes cert program l never = judges certificate (profile_of sums) file bytes program l.0 l.2 (λ j. never (j.0, (l.0, l.1, j.1)))
+answers_whole (Run limits library file entry inputs) bytes cert program l never =
     some_start program entry inputs limits.cells (λ b. never (start_answer program bytes limits b.0, (b.0, b.1, refl)))
-answers_whole (Bench count) bytes program l never = never (bench_verdict count program l.0, (l.0, l.1, refl))
+answers_whole (Bench count) bytes cert program l never = never (bench_verdict count program l.0, (l.0, l.1, refl))
+answers_whole (Verify library file name) bytes None program l never = l
+answers_whole (Verify library file name) bytes (Some text) program l never = verifies name bytes program text l never
 
-answers_on : (command : Command) (bytes : List ℕ) (finding : Finding) → ((program : Program) → finding ≡ Whole program → HasList command program) → Is ((answer : Answer) × AnswersOn command bytes finding answer)
-answers_on command bytes TooLong l never = never (_, refl)
-answers_on command bytes (Broken at key) l never = never (_, refl)
-answers_on command bytes (Past at name) l never = never (_, refl)
-answers_on command bytes (Misnamed errors) l never = never (_, refl)
-answers_on command bytes (Whole program) l never = answers_whole command bytes program (l program refl) never
+answers_on : (command : Command) (bytes : List ℕ) (cert : Option (List ℕ)) (finding : Finding) → ((program : Program) → finding ≡ Whole program → HasList command cert program)
+    → Is ((answer : Answer) × AnswersOn command bytes cert finding answer)
+answers_on command bytes cert TooLong l never = never (_, refl)
+answers_on command bytes cert (Broken at key) l never = never (_, refl)
+answers_on command bytes cert (Past at name) l never = never (_, refl)
+answers_on command bytes cert (Misnamed errors) l never = never (_, refl)
+answers_on command bytes cert (Whole program) l never = answers_whole command bytes cert program (l program refl) never
 
-pub some_answer : (command : Option Command) (bytes : List ℕ) → HasListed command bytes → Unanswered command bytes → ⊥
-some_answer None bytes l never = never (usage, refl)
-some_answer (Some command) bytes l never =
+pub some_answer : (command : Option Command) (bytes : List ℕ) (cert : Option (List ℕ)) → HasListed command bytes cert → Unanswered command bytes cert → ⊥
+some_answer None bytes cert l never = never (usage, refl)
+some_answer (Some command) bytes cert l never =
     let f = some_finding (source_bytes command bytes) in
-    answers_on command (source_bytes command bytes) f.0 (λ program is. l program (subst (Found (source_bytes command bytes)) is f.1))
+    answers_on command (source_bytes command bytes) cert f.0 (λ program is. l program (subst (Found (source_bytes command bytes)) is f.1))
     (λ a. never (a.0, (f.0, f.1, a.1)))

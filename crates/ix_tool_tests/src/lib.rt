@@ -10,7 +10,11 @@ mod alone;
 #[cfg(test)]
 mod answers;
 #[cfg(test)]
+mod blanks;
+#[cfg(test)]
 mod calls;
+#[cfg(test)]
+mod certificates;
 #[cfg(test)]
 mod faults;
 #[cfg(test)]

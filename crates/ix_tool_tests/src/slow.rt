@@ -34,6 +34,8 @@ impl Source for SlowSource {
 
     ghost reads = { λ source. source.log.reads };
 
+    ghost reads_before = { λ source. source.log.reads_before };
+
     fn open(&mut self, name: &str) -> Result<(), OpenError> {
         self.log.opening(name.as_bytes());
         self.files.open(name)

@@ -14,14 +14,16 @@ fn told(alloc: Global, line: &str) -> Result<String, AllocError> {
         Some(
             Command::Check {
                 sums,
+                certificate,
                 library,
                 file,
             },
         ) => {
+            let asked = if certificate { "certificate " } else { "" };
             let with = if library { "library " } else { "" };
             match sums {
-                Sums::Ideal => format!(in alloc; "check ideal {with}{file}"),
-                Sums::Int32 => format!(in alloc; "check int32 {with}{file}"),
+                Sums::Ideal => format!(in alloc; "check ideal {asked}{with}{file}"),
+                Sums::Int32 => format!(in alloc; "check int32 {asked}{with}{file}"),
             }
         }
         Some(
@@ -44,6 +46,16 @@ fn told(alloc: Global, line: &str) -> Result<String, AllocError> {
             Ok(text)
         }
         Some(Command::Bench(count)) => format!(in alloc; "bench {count}"),
+        Some(
+            Command::Verify {
+                library,
+                file,
+                cert,
+            },
+        ) => {
+            let with = if library { "library " } else { "" };
+            format!(in alloc; "verify {with}{file} {cert}")
+        }
     }
 }
 
@@ -129,7 +141,42 @@ fn commands(rt: HostRuntime) -> Result<(), Fail> {
         ("bench 1001", "none"),
         ("bench 01", "none"),
         ("bench +1", "none"),
-        ("verify A B", "none"),
+        (
+            "check --certificate A.java",
+            "check int32 certificate A.java",
+        ),
+        (
+            "check A.java --library --certificate --sums=ideal",
+            "check ideal certificate library A.java",
+        ),
+        ("check --certificate= A.java", "none"),
+        ("check --certificate=x A.java", "none"),
+        ("check --certificate --certificate A.java", "none"),
+        ("check --certificate", "none"),
+        ("check -- --certificate", "check int32 --certificate"),
+        ("run --certificate A.java A.f", "none"),
+        ("bench --certificate 3", "none"),
+        ("verify A.java A.cert", "verify A.java A.cert"),
+        ("verify A.java A.java", "verify A.java A.java"),
+        (
+            "verify --library A.java A.cert",
+            "verify library A.java A.cert",
+        ),
+        ("verify A.java -- --library", "verify A.java --library"),
+        (
+            "verify A.java A.cert --library",
+            "verify library A.java A.cert",
+        ),
+        ("verify --library= A.java A.cert", "none"),
+        ("verify --library=x A.java A.cert", "none"),
+        ("verify --library --library A.java A.cert", "none"),
+        ("verify --sums ideal A.java A.cert", "none"),
+        ("verify --certificate A.java A.cert", "none"),
+        ("verify A.java", "none"),
+        ("verify A.java A.cert B.cert", "none"),
+        ("verify - A.cert", "none"),
+        ("verify", "none"),
+        ("Verify A.java A.cert", "none"),
     ];
     for &(line, wanted) in rows {
         assert_eq!(rt; told(rt.alloc(), line)?.as_str(), wanted);

@@ -11,7 +11,7 @@ use Rattle.ix_words.specs.Words.{Text, Options, Parsed, knows, parsed, value_of,
 use Rattle.ix_words.specs.Values.{number_in, limits_of, sums_of}
 use Rattle.ix_words.specs.declared.values.Sums.{Sums}
 use Rattle.ix_words.specs.declared.values.Limits.{Limits}
-use Rattle.ix_words.specs.Commands.{Command, Check, Run, Bench, has_library, check_of, run_of, bench_of, command_with}
+use Rattle.ix_words.specs.Commands.{Command, Check, Run, Bench, Verify, has_library, has_certificate, check_of, run_of, bench_of, verify_of, command_with}
 use Rattle.ix_words.specs.Clap.{Says, Parses, Reads, row, rows_in, words_row, positionals_in}
 
 listed : (ps : List Text) → unwrap_or (option_map (λ (r : Row). r.values) (words_row ps)) [] ≡ ps
@@ -69,11 +69,14 @@ no_check q [] other = refl
 no_check q (x ∷ []) other = absurd (other refl)
 no_check q (x ∷ y ∷ list) other = refl
 
-pub one_check : (q : Parsed) (list : List (Bor Text)) (d : Bor Text) (sums : Option Sums) (word : Option Text) (library : Bool) → length list ≡ 1
-    → sums ≡ sums_of word → word ≡ text_of (codes "sums") q → library ≡ has_library q → option_map (λ s. Check s library (get_or list 0 d).now) sums ≡ check_of q (map (λ w. w.now) list)
-one_check q (x ∷ []) d sums word library one is a given = ap (λ l. option_map (λ s. Check s l x.now) sums) given ∙ ap (option_map (λ s. Check s (has_library q) x.now)) (is ∙ ap sums_of a)
-one_check q [] d sums word library one is a given = absurd (omega arith)
-one_check q (x ∷ y ∷ list) d sums word library one is a given = absurd (omega arith)
+pub one_check : (q : Parsed) (list : List (Bor Text)) (d : Bor Text) (sums : Option Sums) (word : Option Text) (certificate library : Bool) → length list ≡ 1
+    → sums ≡ sums_of word → word ≡ text_of (codes "sums") q → certificate ≡ has_certificate q → library ≡ has_library q
+    → option_map (λ s. Check s certificate library (get_or list 0 d).now) sums ≡ check_of q (map (λ w. w.now) list)
+one_check q (x ∷ []) d sums word certificate library one is a asked given =
+    ap (λ l. option_map (λ s. Check s certificate l x.now) sums) given ∙ ap (λ c. option_map (λ s. Check s c (has_library q) x.now) sums) asked
+    ∙ ap (option_map (λ s. Check s (has_certificate q) (has_library q) x.now)) (is ∙ ap sums_of a)
+one_check q [] d sums word certificate library one is a asked given = absurd (omega arith)
+one_check q (x ∷ y ∷ list) d sums word certificate library one is a asked given = absurd (omega arith)
 
 -- ---- bench
 
@@ -106,3 +109,18 @@ one_run q (x ∷ y ∷ list) d limits steps cells frames inputs library two is a
     ∙ ap (λ t. option_map (λ l. Run l t x.now y.now (map (λ w. w.now) list)) limits) given
     ∙ ap (option_map (λ l. Run l (has_library q) x.now y.now (map (λ w. w.now) list)))
     (is ∙ (ap (λ s. limits_of s cells frames) a ∙ (ap (λ s. limits_of (text_of (codes "steps") q) s frames) b ∙ ap (limits_of (text_of (codes "steps") q) (text_of (codes "cells") q)) e)))
+
+-- ---- verify
+
+pub no_verify : (q : Parsed) (list : List (Bor Text)) → (length list ≡ 2 → ⊥) → None ≡ verify_of q (map (λ w. w.now) list)
+no_verify q [] other = refl
+no_verify q (x ∷ []) other = refl
+no_verify q (x ∷ y ∷ []) other = absurd (other refl)
+no_verify q (x ∷ y ∷ z ∷ list) other = refl
+
+pub one_verify : (q : Parsed) (list : List (Bor Text)) (d : Bor Text) (library : Bool) → length list ≡ 2 → library ≡ has_library q
+    → Some (Verify library (get_or list 0 d).now (get_or list 1 d).now) ≡ verify_of q (map (λ w. w.now) list)
+one_verify q (x ∷ y ∷ []) d library two given = ap (λ l. Some (Verify l x.now y.now)) given
+one_verify q [] d library two given = absurd (omega arith)
+one_verify q (x ∷ []) d library two given = absurd (omega arith)
+one_verify q (x ∷ y ∷ z ∷ list) d library two given = absurd (omega arith)

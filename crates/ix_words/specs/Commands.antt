@@ -6,22 +6,27 @@ use Rattle.ix_words.specs.declared.values.Limits.{Limits}
 use Rattle.ix_words.specs.declared.values.Sums.{Sums}
 use Rattle.ix_words.specs.Words.{Text, Options, Parsed, parsed, text_of, has}
 
--- A command, with what it is given: `library` says whether the source is joined with the library.
+-- A command, with what it is given: `library` says whether the source is joined with the library, and `certificate` whether an accepted source's certificate is written.
 pub data Command : Type 0 where
-  Check : (sums : Sums) (library : Bool) (file : Text) → Command
+  Check : (sums : Sums) (certificate library : Bool) (file : Text) → Command
   Run : (limits : Limits) (library : Bool) (file entry : Text) (inputs : List Text) → Command
   Bench : (count : ℕ) → Command
+  Verify : (library : Bool) (file cert : Text) → Command
 
 -- whether the option `--library` is given, which takes no value
 abbrev pub has_library : Parsed → Bool
 has_library p = has (codes "library") p
 
--- `check [--sums ideal|int32] [--library] FILE`
+-- whether the option `--certificate` is given, which takes no value
+abbrev pub has_certificate : Parsed → Bool
+has_certificate p = has (codes "certificate") p
+
+-- `check [--sums ideal|int32] [--certificate] [--library] FILE`
 abbrev pub check_options : Options
-check_options = (codes "sums", true) ∷ (codes "library", false) ∷ []
+check_options = (codes "sums", true) ∷ (codes "certificate", false) ∷ (codes "library", false) ∷ []
 
 abbrev pub check_of : Parsed → List Text → Option Command
-check_of p (file ∷ []) = option_map (λ sums. Check sums (has_library p) file) (sums_of (text_of (codes "sums") p))
+check_of p (file ∷ []) = option_map (λ sums. Check sums (has_certificate p) (has_library p) file) (sums_of (text_of (codes "sums") p))
 check_of p _ = None
 
 -- `run [--steps N] [--cells N] [--frames N] [--library] FILE CLASS.METHOD INPUTS`
@@ -37,9 +42,24 @@ abbrev pub bench_of : Parsed → List Text → Option Command
 bench_of p (word ∷ []) = option_map Bench (number_in 1 1000 word)
 bench_of p _ = None
 
+-- `verify [--library] FILE CERT`
+abbrev pub verify_options : Options
+verify_options = (codes "library", false) ∷ []
+
+abbrev pub verify_of : Parsed → List Text → Option Command
+verify_of p (file ∷ cert ∷ []) = Some (Verify (has_library p) file cert)
+verify_of p _ = None
+
 -- the command of these options, of which each list of positionals makes one or none
 abbrev pub command_with : Options → (Parsed → List Text → Option Command) → List Text → Option Command
 command_with options make words = option_and_then (λ p. make p p.positionals) (parsed options words)
+
+-- the command that the first word picks, with the words behind it, where it is neither `check` nor `run`
+abbrev pub other_command : Text → List Text → Option Command
+other_command first words =
+    if bytes_eq first (codes "bench") then command_with [] bench_of words
+    else if bytes_eq first (codes "verify") then command_with verify_options verify_of words
+    else None
 
 -- the command that the words are: the first picks it, and is compared exactly
 abbrev pub command_of : List Text → Option Command
@@ -47,8 +67,7 @@ command_of [] = None
 command_of (first ∷ words) =
     if bytes_eq first (codes "check") then command_with check_options check_of words
     else if bytes_eq first (codes "run") then command_with run_options run_of words
-    else if bytes_eq first (codes "bench") then command_with [] bench_of words
-    else None
+    else other_command first words
 
 -- the limits of a run lie in their ranges
 abbrev pub HasLimits : Command → Type 0

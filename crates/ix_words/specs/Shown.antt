@@ -11,6 +11,7 @@ abbrev pub words_of : List (String Global) → List Text
 words_of words = map string_bytes words
 
 abbrev pub shown : Command → spec.Command
-shown (code.Check sums library file) = spec.Check sums library file.now
+shown (code.Check sums certificate library file) = spec.Check sums certificate library file.now
 shown (code.Run limits library file entry inputs) = spec.Run limits library file.now entry.now (map (λ s. s.now) inputs.items)
 shown (code.Bench count) = spec.Bench count
+shown (code.Verify library file cert) = spec.Verify library file.now cert.now

@@ -1,6 +1,6 @@
 //! The commands: each with its options and its positionals.
 ghost use Rattle.std.specs.Prelude.{◌≡◌, ◌<◌, ◌≤◌, IfOk, IfSome, [], drop, map, length, option_map};
-ghost use Rattle.ix_words.specs.Commands.{check_options, check_of, run_options, run_of, bench_of, command_with, command_of, HasLimits};
+ghost use Rattle.ix_words.specs.Commands.{check_options, check_of, run_options, run_of, bench_of, verify_options, verify_of, command_with, other_command, command_of, HasLimits};
 ghost use Rattle.ix_words.specs.Shown.{shown, words_of};
 
 use crate::matching::matches_of;
@@ -10,9 +10,10 @@ use std::alloc::{AllocError, Global};
 /// A command, with the words that it is given.
 #[derive(Drop)]
 pub enum Command<'a> {
-    /// Checks a file, joined with the library where `library` says so.
+    /// Checks a file, joined with the library where `library` says so. Where `certificate` says so, the certificate of an accepted one is written.
     Check {
         sums: Sums,
+        certificate: bool,
         library: bool,
         file: &'a str,
     },
@@ -26,11 +27,17 @@ pub enum Command<'a> {
     },
     /// Checks the workload of that many methods, from 1 to 1,000.
     Bench(u32),
+    /// Checks a file, joined with the library where `library` says so, by the certificate in another file.
+    Verify {
+        library: bool,
+        file: &'a str,
+        cert: &'a str,
+    },
 }
 
-static CHECK: [(&str, bool); 2] = [("sums", true), ("library", false)];
+static CHECK: [(&str, bool); 3] = [("sums", true), ("certificate", false), ("library", false)];
 
-/// `check [--sums ideal|int32] [--library] FILE`.
+/// `check [--sums ideal|int32] [--certificate] [--library] FILE`.
 fn check<'a>(alloc: Global, words: &'a [String]) -> Result<Option<Command<'a>>, AllocError>
     requires { 0 < length words.now }
     ensures command { IfOk result (λ r. option_map shown r ≡ command_with check_options check_of (drop 1 (words_of words.entry.now))) }
@@ -50,6 +57,7 @@ fn check<'a>(alloc: Global, words: &'a [String]) -> Result<Option<Command<'a>>, 
     };
     Ok(Some(Command::Check {
         sums,
+        certificate: matches.contains_id("certificate"),
         library: matches.contains_id("library"),
         file: list[0],
     }))
@@ -123,6 +131,49 @@ fn bench<'a>(alloc: Global, words: &'a [String]) -> Result<Option<Command<'a>>, 
     Ok(Some(Command::Bench(count)))
 }
 
+static VERIFY: [(&str, bool); 1] = [("library", false)];
+
+/// `verify [--library] FILE CERT`.
+fn verify<'a>(alloc: Global, words: &'a [String]) -> Result<Option<Command<'a>>, AllocError>
+    requires { 0 < length words.now }
+    ensures command { IfOk result (λ r. option_map shown r ≡ command_with verify_options verify_of (drop 1 (words_of words.entry.now))) }
+    ensures limits { IfOk result (λ r. IfSome r (λ command. HasLimits (shown command))) }
+{
+    let Some(matches) = matches_of(alloc, &VERIFY, words)? else {
+        return Ok(None);
+    };
+    let Some(list) = matches.get_raw("words") else {
+        return Ok(None);
+    };
+    if list.len() != 2 {
+        return Ok(None);
+    }
+    Ok(Some(Command::Verify {
+        library: matches.contains_id("library"),
+        file: list[0],
+        cert: list[1],
+    }))
+}
+
+/// The command of these words where the first of them is neither `check` nor `run`.
+fn read_other<'a>(
+    alloc: Global,
+    first: &str,
+    words: &'a [String],
+) -> Result<Option<Command<'a>>, AllocError>
+    requires { 0 < length words.now }
+    ensures command { IfOk result (λ r. option_map shown r ≡ other_command first.now (drop 1 (words_of words.entry.now))) }
+    ensures limits { IfOk result (λ r. IfSome r (λ command. HasLimits (shown command))) }
+{
+    if first == "bench" {
+        bench(alloc, words)
+    } else if first == "verify" {
+        verify(alloc, words)
+    } else {
+        Ok(None)
+    }
+}
+
 /// The command that the words are; none exactly where they are no command. The limits of a run lie in their ranges. The one error is want of memory.
 pub fn read_words<'a>(alloc: Global, words: &'a [String]) -> Result<Option<Command<'a>>, AllocError>
     ensures command { IfOk result (λ r. option_map shown r ≡ command_of (words_of words.entry.now)) }
@@ -136,9 +187,7 @@ pub fn read_words<'a>(alloc: Global, words: &'a [String]) -> Result<Option<Comma
         check(alloc, words)
     } else if first == "run" {
         run(alloc, words)
-    } else if first == "bench" {
-        bench(alloc, words)
     } else {
-        Ok(None)
+        read_other(alloc, first, words)
     }
 }

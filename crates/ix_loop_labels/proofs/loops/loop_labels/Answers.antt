@@ -19,5 +19,5 @@ returns-clause-labels g c =
 pub returns-clause-at_most : goal.returns-clause-at_most
 returns-clause-at_most g c =
     IfOk-weaker c.at_heads.result _ _
-    (λ found _. visits_within c.args.program.now c.args.within.now c.args.profile c.in_ok-labels.labels c.args.steps.now c.label_nodes.new.steps c.in_ok-labels.ensures.labels c.in_ok-labels.ensures.at_most)
+    (λ found _. visits_within c.args.program.now c.args.within.now c.args.profile c.in_ok-labels.labels.graph.nodes.items c.in_ok-labels.labels.stores.items c.args.steps.now c.label_nodes.new.steps c.in_ok-labels.ensures.labels c.in_ok-labels.ensures.at_most)
     c.at_heads.ensures

@@ -3,4 +3,4 @@ use Rattle.ix_tool.proofs.laws.answers_are_one.Goals as goal
 
 -- src/laws.rt
 pub returns : goal.returns
-returns c = record { one = λ command bytes first second a b. one_answer command bytes first second a b }
+returns c = record { one = λ command bytes cert first second a b. one_answer command bytes cert first second a b }

@@ -4,4 +4,4 @@ use Rattle.ix_tool.proofs.laws.there_is_an_answer.Goals as goal
 
 -- src/laws.rt
 pub returns : goal.returns
-returns c = record { found = λ bytes. some_finding bytes; answered = λ command bytes listed unanswered. some_answer command bytes listed unanswered }
+returns c = record { found = λ bytes. some_finding bytes; answered = λ command bytes cert listed unanswered. some_answer command bytes cert listed unanswered }

@@ -1,6 +1,6 @@
 use Rattle.std.proofs.Common.{◌∙◌, refl, [], None, Some, drop, codes}
 use Rattle.ix_words.specs.Shown.{words_of}
-use Rattle.ix_words.specs.Commands.{check_options, check_of, has_library}
+use Rattle.ix_words.specs.Commands.{check_options, check_of, has_library, has_certificate}
 use Rattle.ix_words.proofs.Found.{made, parses_some, some_rest, no_rest, some_text, no_check, one_check, says_text, says_has}
 use Rattle.ix_words.proofs.commands.check.Goals as goal
 
@@ -21,8 +21,9 @@ returns-clause-command c =
     let m = c.in-Some.matches in
     made check_options check_of ws m c.in-Some-get_raw.list.now _ (parses_some check_options ws c.in_ok-matches.field-0 m c.in_ok-matches.ensures c.in-Some.is)
     (some_rest m c.in-Some-get_raw.list.now c.in-Some-get_raw.ensures)
-    (λ q says. one_check q c.in-Some-get_raw.list.now some_text (Some c.in-Some-read_sums.sums) _ c.contains_id.result c.if-list-ne1.false c.in-Some-read_sums.ensures
-    (c.get_str.ensures ∙ says_text check_options q m (codes "sums") refl says) (c.contains_id.ensures ∙ says_has check_options q m (codes "library") refl says))
+    (λ q says. one_check q c.in-Some-get_raw.list.now some_text (Some c.in-Some-read_sums.sums) _ c.contains_id.result c.contains_id-2.result c.if-list-ne1.false c.in-Some-read_sums.ensures
+    (c.get_str.ensures ∙ says_text check_options q m (codes "sums") refl says) (c.contains_id.ensures ∙ says_has check_options q m (codes "certificate") refl says)
+    (c.contains_id-2.ensures ∙ says_has check_options q m (codes "library") refl says))
 
 pub returns-in_default-read_sums-clause-command : goal.returns-in_default-read_sums-clause-command
 returns-in_default-read_sums-clause-command c =
@@ -30,5 +31,5 @@ returns-in_default-read_sums-clause-command c =
     let m = c.in-Some.matches in
     made check_options check_of ws m c.in-Some-get_raw.list.now _ (parses_some check_options ws c.in_ok-matches.field-0 m c.in_ok-matches.ensures c.in-Some.is)
     (some_rest m c.in-Some-get_raw.list.now c.in-Some-get_raw.ensures)
-    (λ q says. one_check q c.in-Some-get_raw.list.now some_text None _ (has_library q) c.if-list-ne1.false c.in_default-read_sums.ensures
-    (c.get_str.ensures ∙ says_text check_options q m (codes "sums") refl says) refl)
+    (λ q says. one_check q c.in-Some-get_raw.list.now some_text None _ (has_certificate q) (has_library q) c.if-list-ne1.false c.in_default-read_sums.ensures
+    (c.get_str.ensures ∙ says_text check_options q m (codes "sums") refl says) refl refl)

@@ -1,7 +1,7 @@
 use Rattle.std.proofs.Common.{ap, sym, subst, ◌∙◌, true, false}
 use Rattle.std.proofs.lemmas.Result.{IfOk-weaker}
 use Rattle.ix_core.specs.Code.{block_code}
-use Rattle.ix_graph.specs.Graph.{Kind, Compares, Tells, Testing}
+use Rattle.ix_graph.specs.Graph.{Compares, Tells}
 use Rattle.ix_graph.specs.Brought.{pass_of}
 use Rattle.ix_graph.specs.Built.{kind_of}
 use Rattle.ix_method.specs.Signs.{Adds, IsLeastOf, told_facts}

@@ -45,7 +45,7 @@ module _ {M : Type 1} {𝓤 : Ura M} (𝓛 : Logic 𝓤) (at_mem : Memory → SP
   x = (record { ref_ptr = (b, o); ghost_name = γ; now = h }, tt)
 
   abbrev h' : SourceLog
-  h' = record { names = h.names; given = h.given; reads = h.reads + 1 }
+  h' = record { names = h.names; given = h.given; reads = h.reads + 1; reads_before = h.reads_before }
 
   abbrev at : List Val × Unit {0}
   at = (vptr b o ∷ [], tt)

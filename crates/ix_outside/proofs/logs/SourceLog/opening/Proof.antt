@@ -51,7 +51,7 @@ module _ {M : Type 1} {𝓤 : Ura M} (𝓛 : Logic 𝓤) (at_mem : Memory → SP
   x = (record { ref_ptr = (b, o); ghost_name = γ; now = h }, (s, tt))
 
   abbrev h' : SourceLog
-  h' = record { names = h.names ++ (s.now ∷ []); given = []; reads = h.reads }
+  h' = record { names = h.names ++ (s.now ∷ []); given = h.given ++ ([] ∷ []); reads = h.reads; reads_before = h.reads }
 
   abbrev at : List Val × (List Val × Unit {0})
   at = (vptr b o ∷ [], (slice_val s.ref_ptr (length s.now) ∷ [], tt))

@@ -25,6 +25,7 @@ use denote.Triple.Entry.{on_entry}
 use denote.Triple.Spec.{Meets, triple_of}
 use denote.Triple.Table.{entered}
 use denote.Triple.Walked.{says, Stays, stay_ref, walk_of, AllGo, Goes-ref, Walks, ends_at, walked, walk_Meets}
+use Rattle.ix_outside.specs.Outside.{add_last}
 use Rattle.ix_outside.specs.declared.logs.SourceLog.{SourceLog}
 use Rattle.ix_outside.specs.contracts.logs.SourceLog as T
 use Rattle.ix_outside.specs.contracts.logs.SourceLog.reading.Key.{name as #it}
@@ -36,7 +37,7 @@ use denote.Builtin.{u8}
 use denote.Exit.{yes}
 use denote.Slice.{ShrSlice, slice_val, shr_slice_vals, shr_slice_Tells}
 use denote.Triple.Walked.{stay_none_slice, Goes-none_slice}
-use Rattle.std.proofs.Common.{◌+◌, ◌<◌, ◌^◌, ◌++◌, length}
+use Rattle.std.proofs.Common.{◌+◌, ◌<◌, ◌^◌, length}
 
 abbrev Arg : Type 0
 Arg = MutBor SourceLog × (Bor (List ℕ) × Unit {0})
@@ -51,7 +52,7 @@ module _ {M : Type 1} {𝓤 : Ura M} (𝓛 : Logic 𝓤) (at_mem : Memory → SP
   x = (record { ref_ptr = (b, o); ghost_name = γ; now = h }, (s, tt))
 
   abbrev h' : SourceLog
-  h' = record { names = h.names; given = h.given ++ s.now; reads = h.reads + 1 }
+  h' = record { names = h.names; given = add_last s.now h.given; reads = h.reads + 1; reads_before = h.reads_before }
 
   abbrev at : List Val × (List Val × Unit {0})
   at = (vptr b o ∷ [], (slice_val s.ref_ptr (length s.now) ∷ [], tt))
