@@ -5,6 +5,7 @@ pub mod SameClaims
 pub mod Tables
 pub mod Tasks
 pub mod Machine
+pub mod Traces
 pub mod Safe
 pub mod Inputs
 pub mod World

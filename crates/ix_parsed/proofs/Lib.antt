@@ -1,4 +1,3 @@
-pub mod FoldsOfForms
 pub mod LexedInts
 pub mod ParsedExpressions
 pub mod ParsedStatements

@@ -31,7 +31,7 @@ use Rattle.ix_formed.specs.Written as written
 use Rattle.ix_formed.specs.Written.{is_written_expr, is_written_init, all_true, each_true}
 use Rattle.ix_formed.proofs.NumberLists.{both_true, all_joined, all_split}
 use Rattle.ix_parsed.specs.IntTokens.{IsInt, HaveInts}
-use Rattle.ix_parsed.proofs.FoldsOfForms as fold
+use Rattle.ix_tree.proofs.FoldsOfForms as fold
 
 -- ---- lists
 

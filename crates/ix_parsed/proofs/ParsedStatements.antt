@@ -38,7 +38,7 @@ use Rattle.ix_formed.specs.Written.{is_written_expr, is_written_init, is_written
 use Rattle.ix_formed.proofs.NumberLists.{both_true, all_joined}
 use Rattle.ix_formed.proofs.AcceptedMembers.{or_later}
 use Rattle.ix_parsed.specs.IntTokens.{HaveInts}
-use Rattle.ix_parsed.proofs.FoldsOfForms as fold
+use Rattle.ix_tree.proofs.FoldsOfForms as fold
 use Rattle.ix_parsed.proofs.ParsedExpressions.{IsFine, each_is, all_are, ints_split, some_pairs, expr_found, init_found}
 
 -- ---- repetitions of the grammar

@@ -5,3 +5,4 @@ pub mod PartPlaces
 pub mod TreeParts
 pub mod HeightParts
 pub mod StatementHeights
+pub mod FoldsOfForms
