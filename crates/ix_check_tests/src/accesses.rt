@@ -1,6 +1,6 @@
 //! Accesses, lengths and elements: each key derived, and once not by a little.
-use crate::row::is_right;
 use ix_tool::Status;
+use ix_tool_calls::is_right;
 use std::test::Fail;
 
 const ROWS_1: &[(&str, &str, Status, &str)] = &[

@@ -1,6 +1,6 @@
 //! Calls: arguments, results, and what a call leaves known.
-use crate::row::is_right;
 use ix_tool::Status;
+use ix_tool_calls::is_right;
 use std::test::Fail;
 
 const ROWS: &[(&str, &str, Status, &str)] = &[

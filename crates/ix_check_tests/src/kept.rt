@@ -1,6 +1,6 @@
 //! What is known at loops of numbers that stand only in claims, what objects and elements keep, and bounds with offsets.
-use crate::row::is_right;
 use ix_tool::Status;
+use ix_tool_calls::is_right;
 use std::test::Fail;
 
 const ROWS: &[(&str, &str, Status, &str)] = &[

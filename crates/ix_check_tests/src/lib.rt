@@ -9,8 +9,6 @@ mod accesses;
 #[cfg(test)]
 mod calls;
 #[cfg(test)]
-mod drawn;
-#[cfg(test)]
 mod kept;
 #[cfg(test)]
 mod loops;
@@ -22,8 +20,6 @@ mod objects;
 mod once;
 #[cfg(test)]
 mod overriding;
-#[cfg(test)]
-mod row;
 #[cfg(test)]
 mod sums;
 #[cfg(test)]

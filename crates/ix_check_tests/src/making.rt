@@ -1,6 +1,6 @@
 //! Constructors: what holds where they end, and what may become of the object before.
-use crate::row::is_right;
 use ix_tool::Status;
+use ix_tool_calls::is_right;
 use std::test::Fail;
 
 const ROWS: &[(&str, &str, Status, &str)] = &[

@@ -1,6 +1,7 @@
 //! The open places of a frame: a stack of what is still to be done, the innermost last.
 //! What every step does with a place is inlined: as a call it would hand a copy of the place through memory. What is rare isn't, so that a step stays short.
-ghost use Rattle.std.specs.Prelude.{◌≡◌, ◌+◌, ◌<◌, ◌≤◌, reverse, [], ◌∷◌, ◌++◌, if◌then◌else◌, IfOk, IfNone, IfSome, MatchOption, length, vec_len, vec_capacity};
+ghost use Rattle.std.specs.Prelude.{◌≡◌, ◌+◌, ◌<◌, ◌≤◌, List, reverse, [], ◌∷◌, ◌++◌, if◌then◌else◌, IfOk, IfNone, IfSome, IsFalse, IsTrue, MatchOption, length, vec_len, vec_capacity};
+ghost use Rattle.ix_frames.specs.declared.places.Place.{Place as Place_};
 ghost use Rattle.ix_core.specs.Code.{cond_code, items_code, End, If, Loop};
 ghost use Rattle.ix_core.specs.Machine.{step_condition};
 ghost use Rattle.ix_core.specs.Tasks.{Empty, Ask, code_then, behind_loop, next_turn, followed_by};
@@ -111,6 +112,23 @@ impl<'p> Stack<'p> {
             Some(Place::Rest(items)) => Some(items),
             _ => None,
         }
+    }
+
+    /// The innermost task; none where nothing is left to do.
+    pub fn task(&self) -> Option<Place<'p>>
+        ensures some { IfSome result IsTask }
+        ensures tasks { IfSome result (λ place. (more : List Place_) × (tasks_open self.now.places.items ≡ tasks_of (place ∷ more))) }
+        ensures none { IfNone result (tasks_open self.now.places.items ≡ Empty) }
+    {
+        let mut left = self.places.len();
+        while left > 0 {
+            let place = self.places[left - 1];
+            if is_task(place) {
+                return Some(place);
+            }
+            left -= 1;
+        }
+        None
     }
 
     /// The innermost task, which is closed, but for what is left of a block; none where nothing is left to do.
@@ -325,6 +343,27 @@ fn pop_place<'p>(places: &mut Vec<Place<'p>>) -> Option<Place<'p>>
     ensures room { vec_capacity places.old ≤ vec_capacity places.new }
 {
     places.pop()
+}
+
+/// Whether a place stands for a task of its own.
+fn is_task(place: Place<'_>) -> bool
+    ensures task { IsTrue result → IsTask place.entry }
+    ensures none { IsFalse result → (more : List Place_) → tasks_of (place.entry ∷ more) ≡ tasks_of more }
+{
+    match place {
+        Place::Rest(items) => !items.is_empty(),
+        Place::Ask(_)
+        | Place::Decide(_)
+        | Place::DecideTruth(_)
+        | Place::Head(_)
+        | Place::Again(_)
+        | Place::Out => true,
+        Place::Branch(_, _)
+        | Place::Enter(_)
+        | Place::BothLeft(_)
+        | Place::EitherLeft(_)
+        | Place::Not => false,
+    }
 }
 
 /// The last place, if there is one.

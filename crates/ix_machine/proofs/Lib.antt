@@ -7,3 +7,4 @@ pub mod OneStart
 pub mod SomeStart
 pub mod ManySteps
 pub mod Leading
+mod Accesses

@@ -6,3 +6,4 @@ pub mod State
 pub mod Events
 pub mod Quiet
 pub mod Starts
+pub mod Accesses

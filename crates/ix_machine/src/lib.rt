@@ -6,6 +6,7 @@
 //! It stands on the inputs of `ix_inputs`, the operations of `ix_operations` and the frames of `ix_frames`, and never looks at tokens, trees or texts.
 #![tactic(auto)]
 
+mod access;
 mod call;
 mod ending;
 mod machine;
@@ -15,6 +16,7 @@ mod straight;
 mod task;
 mod turns;
 
+pub use access::{Access, access_in};
 pub use call::{enter, method_of};
 pub use ending::leave;
 pub use machine::{Event, Machine, Steps};

@@ -1,18 +1,21 @@
 //! A machine that runs a program.
 //! Steps are inlined where they are made, so that a run's loop has no call in it.
-ghost use Rattle.std.specs.Prelude.{◌≡◌, ◌≤◌, ◌<◌, ◌^◌, [], length, map, Option, option_map, None, Some, Ok, Err, false, Bool, IfOk, IfErr};
+ghost use Rattle.std.specs.Prelude.{◌≡◌, ◌≤◌, ◌<◌, ◌^◌, [], length, map, Option, option_map, None, Some, Ok, Err, false, Bool, IfOk, IfErr, IfSome};
 ghost use Rattle.ix_core.specs.Machine as model;
 ghost use Rattle.ix_core.specs.Machine.{frame, slots_with, event_values};
 ghost use Rattle.ix_core.specs.Tables.{tables_of, method_at, body_of};
 ghost use Rattle.ix_core.specs.Tasks.{Empty, code_then};
 ghost use Rattle.ix_heap.specs.Rows.{held_of};
 ghost use Rattle.ix_frames.specs.Waiting.{HasRoom};
+ghost use Rattle.ix_core.specs.Traces.{next_access};
+ghost use Rattle.ix_machine.specs.Accesses.{access_of, HasSize};
 ghost use Rattle.ix_machine.specs.Events.{event_of};
 ghost use Rattle.ix_machine.specs.Fit.{fits_once};
 ghost use Rattle.ix_machine.specs.Programs.{places_of, values_of};
 ghost use Rattle.ix_heap.specs.View.{heap_of};
 ghost use Rattle.ix_machine.specs.Turns.{state_with};
 
+use crate::access::{Access, access_in};
 use crate::needs::program_room;
 use crate::start::{Limits, StartError, entry_with, unmet_in, values_of};
 use crate::straight::do_operations;
@@ -143,6 +146,17 @@ impl<'p> Machine<'p> {
         ensures { result ≡ (state_of self.now).wrapped }
     {
         self.wrapped
+    }
+
+    /// The access that the next step makes; none exactly where the run has ended or that step is no load or store on an array that isn't null. It takes no memory.
+    pub fn next_access(&self) -> Option<Access>
+        ensures access { option_map access_of result ≡ next_access (state_of self.now) }
+        ensures size { IfSome result HasSize }
+    {
+        if self.ended.is_some() {
+            return None;
+        }
+        access_in(&self.frame, &self.heap)
     }
 
     /// One step of a run that has not ended; it takes no memory.

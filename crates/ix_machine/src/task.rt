@@ -63,7 +63,7 @@ fn are_same(left: Held, right: Held) -> bool
 }
 
 /// The int of a value; 0 where it is none.
-fn int_of(value: Held) -> i32
+pub(crate) fn int_of(value: Held) -> i32
     ensures { result ≡ cells.int_of (held_of value) }
 {
     match value {

@@ -1,6 +1,6 @@
 //! What is known behind a call of what the method promises, and where its answer is asked.
-use crate::row::is_right;
 use ix_tool::Status;
+use ix_tool_calls::is_right;
 use std::test::Fail;
 
 const ROWS: &[(&str, Status, &str)] = &[

@@ -5,12 +5,8 @@
 #![tactic(auto)]
 
 #[cfg(test)]
-mod drawn;
-#[cfg(test)]
 mod known;
 #[cfg(test)]
 mod objects;
 #[cfg(test)]
 mod promised;
-#[cfg(test)]
-mod row;

@@ -1,6 +1,6 @@
 //! Promises of fields, of effects, and of methods that override.
-use crate::row::is_right;
 use ix_tool::Status;
+use ix_tool_calls::is_right;
 use std::test::Fail;
 
 const ROWS: &[(&str, Status, &str)] = &[

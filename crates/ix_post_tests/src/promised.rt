@@ -1,6 +1,6 @@
 //! What a method promises, where it returns and ends: proved or `post.claim`; and parameters that are promised of and assigned.
-use crate::row::is_right;
 use ix_tool::Status;
+use ix_tool_calls::is_right;
 use std::test::Fail;
 
 const ROWS: &[(&str, Status, &str)] = &[

@@ -1,5 +1,6 @@
 mod Parts
 mod RunPrefixes
+mod Seen
 mod Steps
 pub mod StartedRuns
 mod Told

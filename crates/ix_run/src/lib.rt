@@ -1,4 +1,4 @@
-//! Runs that write what they print.
+//! Runs that write what they print, and where that is asked each access.
 //!
 //! What goes in: a machine, a number of steps, and a sink. What comes out: how the run ended; the sink took its text.
 //! The contract: `specs/Texts.antt`, over the steps of the machine of `ix_core`.
@@ -8,5 +8,6 @@
 
 mod lines;
 mod running;
+mod tracing;
 
 pub use running::{RunEnd, run};

@@ -1,16 +1,19 @@
 //! Runs of at most a stated number of steps.
 //! Steps are inlined in the loop of a run.
 ghost use Rattle.std.specs.Prelude.{◌≡◌, ◌<◌, ◌≤◌, length, None, IfOk, OnOk, IsErrOf, string_bytes};
+ghost use Rattle.std.specs.List.{AllByRecursion};
 ghost use Rattle.ix_code_places.specs.EndingPlaces.{EndPlace};
 ghost use Rattle.ix_core.specs.Machine as model;
 ghost use Rattle.ix_core.specs.Tables.{tables_of};
 ghost use Rattle.ix_machine.specs.State.{state_of, limits_of};
 ghost use Rattle.ix_outside.specs.Outside.{Rose, Took, TookPrefix};
 ghost use Rattle.ix_report.specs.Outcomes.{last_line};
-ghost use Rattle.ix_run.specs.Ends.{end_of, RunWithin};
-ghost use Rattle.ix_run.specs.Texts.{printed_lines, run_text};
+ghost use Rattle.ix_core.specs.Traces.{trace as model_trace};
+ghost use Rattle.ix_run.specs.Ends.{end_of, IsSeenIn, RunWithin, TraceWithin};
+ghost use Rattle.ix_run.specs.Texts.{lines_of, printed_lines, run_text};
 
 use crate::lines::write_value;
+use crate::tracing::write_trace;
 use ix_core::{Outcome, Program};
 use ix_machine::{Event, Machine};
 use ix_outside::{Sink, WriteError, write_all};
@@ -80,6 +83,30 @@ fn write_printed<K: Sink>(
     Ok(())
 }
 
+/// Makes at most so many steps and writes what they show, with their accesses or without. After an error the sink took a prefix of these lines.
+fn write_seen<K: Sink>(
+    alloc: Global,
+    machine: &mut Machine<'_>,
+    lines: &LineMap,
+    steps: u32,
+    traced: bool,
+    out: &mut K,
+) -> Result<(), WriteError>
+    requires { AllByRecursion (IsSeenIn (length lines.now)) (model_trace (limits_of machine.old) (tables_of machine.old.rows.program.now) steps (state_of machine.old)) }
+    ensures state { OnOk result (state_of machine.new ≡ model.run (limits_of machine.old) (tables_of machine.old.rows.program.now) steps (state_of machine.old)) }
+    ensures taken { OnOk result (Took (lines_of traced lines.now (limits_of machine.old) (tables_of machine.old.rows.program.now) steps (state_of machine.old)) (K.taken out.old) (K.taken out.new)) }
+    ensures prefix { TookPrefix (lines_of traced lines.now (limits_of machine.old) (tables_of machine.old.rows.program.now) steps (state_of machine.old)) (K.taken out.old) (K.taken out.new) }
+    ensures falls { K.faults out.old ≤ K.faults out.new }
+    ensures rose { IsErrOf result WriteError.Failed → Rose (K.faults out.old) (K.faults out.new) }
+    ensures ok { OnOk result (K.faults out.new ≡ K.faults out.old) }
+{
+    if traced {
+        write_trace(alloc, machine, lines, steps, out)
+    } else {
+        write_printed(alloc, machine, steps, out)
+    }
+}
+
 /// The last line of a run.
 fn last_line_of(
     alloc: Global,
@@ -110,7 +137,7 @@ fn end_in(machine: &Machine<'_>) -> RunEnd
     }
 }
 
-/// Runs the machine for at most so many steps, and writes the values that it prints and then the line of its outcome. `lines` are those of the source of its
+/// Runs the machine for at most so many steps, and writes the values that it prints, where `traced` says so its accesses among them, and then the line of its outcome. `lines` are those of the source of its
 /// program, in which the run stops. After an error, which is that of the write that was refused or want of memory for a line, the sink took a prefix of that text.
 pub fn run<K: Sink>(
     alloc: Global,
@@ -118,18 +145,20 @@ pub fn run<K: Sink>(
     program: &Program,
     lines: &LineMap,
     steps: u32,
+    traced: bool,
     out: &mut K,
 ) -> Result<RunEnd, WriteError>
     requires program { machine.old.rows.program.now ≡ program.now }
     requires within { RunWithin (length lines.now) program.now (limits_of machine.old) steps (state_of machine.old) }
+    requires seen { TraceWithin (length lines.now) program.now (limits_of machine.old) steps (state_of machine.old) }
     ensures ended { IfOk result (λ how. how ≡ end_of (model.run (limits_of machine.old) (tables_of program.now) steps (state_of machine.old)).ended) }
-    ensures taken { OnOk result (Took (run_text program.now lines.now (limits_of machine.old) steps (state_of machine.old)) (K.taken out.old) (K.taken out.new)) }
-    ensures prefix { TookPrefix (run_text program.now lines.now (limits_of machine.old) steps (state_of machine.old)) (K.taken out.old) (K.taken out.new) }
+    ensures taken { OnOk result (Took (run_text traced program.now lines.now (limits_of machine.old) steps (state_of machine.old)) (K.taken out.old) (K.taken out.new)) }
+    ensures prefix { TookPrefix (run_text traced program.now lines.now (limits_of machine.old) steps (state_of machine.old)) (K.taken out.old) (K.taken out.new) }
     ensures falls { K.faults out.old ≤ K.faults out.new }
     ensures rose { IsErrOf result WriteError.Failed → Rose (K.faults out.old) (K.faults out.new) }
     ensures ok { OnOk result (K.faults out.new ≡ K.faults out.old) }
 {
-    write_printed(alloc, machine, steps, out)?;
+    write_seen(alloc, machine, lines, steps, traced, out)?;
     let Ok(line) = last_line_of(alloc, machine, program, lines, steps) else {
         return Err(WriteError::Memory);
     };

@@ -29,7 +29,7 @@ answers_some asked command given cert a is v = subst (λ (o : Option Command). A
 
 pub named_file : (command : Command) (file : List ℕ) → file_in command ≡ Some file → source_name command ≡ file
 named_file (Check sums certificate library f) file is = cc
-named_file (Run limits library f entry inputs) file is = cc
+named_file (Run limits traced library f entry inputs) file is = cc
 named_file (Bench count) file is = absurd (cc)
 named_file (Verify library f name) file is = cc
 

@@ -30,8 +30,8 @@ verifies name bytes program text v never =
 
 answers_whole : (command : Command) (bytes : List ℕ) (cert : Option (List ℕ)) (program : Program) → HasList command cert program → Is ((answer : Answer) × AnswersWhole command bytes cert program answer)
 answers_whole (Check sums certificate library file) bytes cert program l never = judges certificate (profile_of sums) file bytes program l.0 l.2 (λ j. never (j.0, (l.0, l.1, j.1)))
-answers_whole (Run limits library file entry inputs) bytes cert program l never =
-    some_start program entry inputs limits.cells (λ b. never (start_answer program bytes limits b.0, (b.0, b.1, refl)))
+answers_whole (Run limits traced library file entry inputs) bytes cert program l never =
+    some_start program entry inputs limits.cells (λ b. never (start_answer traced program bytes limits b.0, (b.0, b.1, refl)))
 answers_whole (Bench count) bytes cert program l never = never (bench_verdict count program l.0, (l.0, l.1, refl))
 answers_whole (Verify library file name) bytes None program l never = l
 answers_whole (Verify library file name) bytes (Some text) program l never = verifies name bytes program text l never

@@ -31,7 +31,7 @@ HasVerdict program (Some text) = ((verified : Verified) × IsVerified program te
 abbrev pub HasList : Command → Option (List ℕ) → Program → Type 0
 HasList (Check sums certificate library file) cert program =
     (errors : List Error) × IsErrorList (IsError program (profile_of sums)) errors × HasWritten certificate (profile_of sums) program
-HasList (Run limits library file entry inputs) cert program = Unit {0}
+HasList (Run limits traced library file entry inputs) cert program = Unit {0}
 HasList (Bench count) cert program = (errors : List Error) × IsErrorList (IsError program Int32) errors
 HasList (Verify library file name) cert program = HasVerdict program cert
 

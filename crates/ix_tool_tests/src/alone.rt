@@ -1,6 +1,6 @@
 //! A method's errors where other bodies differ.
-use crate::calls::run;
 use ix_tool::Status;
+use ix_tool_calls::run;
 use std::test::Fail;
 
 /// The body of `f` differs, and what it declares is the same.

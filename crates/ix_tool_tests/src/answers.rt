@@ -1,6 +1,6 @@
 //! Rows of answers: words, a source under `A.java`, and the status and texts that they are to get.
-use crate::calls::{GET, run};
 use ix_tool::Status;
+use ix_tool_calls::{GET, run};
 use std::test::Fail;
 
 const ACCEPTED: &str = "accepted: 1 methods, 1 accesses\n";

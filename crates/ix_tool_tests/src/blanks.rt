@@ -1,9 +1,9 @@
 //! A source that hands out a certificate of many bytes, none of a program.
 ghost use Rattle.std.specs.Prelude.{◌≡◌, None};
 
-use crate::calls::{Ended, GET, one_file, words_of};
 use ix_outside::{Failed, OpenError, Source, SourceLog, SureSink, SureSource};
 use ix_tool::{Status, run_tool};
+use ix_tool_calls::{Ended, GET, one_file, words_of};
 use std::alloc::{AllocError, Global};
 use std::test::Fail;
 

@@ -1,6 +1,6 @@
 //! Limits of names and of methods, on both sides, and what is said past each.
-use crate::calls::run;
 use ix_tool::Status;
+use ix_tool_calls::run;
 use std::alloc::{AllocError, Global};
 use std::test::Fail;
 

@@ -12,23 +12,13 @@ mod answers;
 #[cfg(test)]
 mod blanks;
 #[cfg(test)]
-mod calls;
-#[cfg(test)]
-mod certificates;
-#[cfg(test)]
 mod faults;
 #[cfg(test)]
 mod forms;
 #[cfg(test)]
-mod inputs;
-#[cfg(test)]
-mod library;
-#[cfg(test)]
 mod limits;
 #[cfg(test)]
 mod names;
-#[cfg(test)]
-mod runs;
 #[cfg(test)]
 mod slow;
 #[cfg(test)]

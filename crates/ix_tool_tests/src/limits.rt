@@ -1,6 +1,6 @@
 //! Sources that end too early, and sources at a limit and one past it.
-use crate::calls::{Ended, GET, run};
 use ix_tool::Status;
+use ix_tool_calls::{Ended, GET, run};
 use std::alloc::{AllocError, Global};
 use std::test::Fail;
 

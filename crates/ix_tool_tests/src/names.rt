@@ -1,6 +1,6 @@
 //! Rows of names, annotations and places: what counts as a claim, which of two errors is told, and lines behind the first.
-use crate::calls::run;
 use ix_tool::Status;
+use ix_tool_calls::run;
 use std::test::Fail;
 
 /// A source under `A.java`, the status of its check, and what is written to `out`.

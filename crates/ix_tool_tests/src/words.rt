@@ -29,15 +29,17 @@ fn told(alloc: Global, line: &str) -> Result<String, AllocError> {
         Some(
             Command::Run {
                 limits,
+                traced,
                 library,
                 file,
                 entry,
                 inputs,
             },
         ) => {
+            let asked = if traced { "trace " } else { "" };
             let with = if library { "library " } else { "" };
             let mut text = format!(in alloc;
-                "run {} {} {} {with}{file} {entry}",
+                "run {} {} {} {asked}{with}{file} {entry}",
                 limits.steps, limits.cells, limits.frames
             )?;
             for input in &inputs {
@@ -93,6 +95,24 @@ fn commands(rt: HostRuntime) -> Result<(), Fail> {
             "run A.java A.f -- --library",
             "run 1000000 1000000 1000 A.java A.f --library",
         ),
+        (
+            "run --trace A.java A.f",
+            "run 1000000 1000000 1000 trace A.java A.f",
+        ),
+        (
+            "run A.java A.f --library 5 --trace",
+            "run 1000000 1000000 1000 trace library A.java A.f 5",
+        ),
+        (
+            "run A.java A.f -- --trace",
+            "run 1000000 1000000 1000 A.java A.f --trace",
+        ),
+        ("run --trace= A.java A.f", "none"),
+        ("run --trace=x A.java A.f", "none"),
+        ("run --trace --trace A.java A.f", "none"),
+        ("check --trace A.java", "none"),
+        ("bench --trace 3", "none"),
+        ("verify --trace A.java A.cert", "none"),
         ("check --help", "none"),
         ("check A.java B.java", "none"),
         ("check -", "none"),

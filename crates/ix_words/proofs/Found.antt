@@ -11,7 +11,7 @@ use Rattle.ix_words.specs.Words.{Text, Options, Parsed, knows, parsed, value_of,
 use Rattle.ix_words.specs.Values.{number_in, limits_of, sums_of}
 use Rattle.ix_words.specs.declared.values.Sums.{Sums}
 use Rattle.ix_words.specs.declared.values.Limits.{Limits}
-use Rattle.ix_words.specs.Commands.{Command, Check, Run, Bench, Verify, has_library, has_certificate, check_of, run_of, bench_of, verify_of, command_with}
+use Rattle.ix_words.specs.Commands.{Command, Check, Run, Bench, Verify, has_library, has_trace, has_certificate, check_of, run_of, bench_of, verify_of, command_with}
 use Rattle.ix_words.specs.Clap.{Says, Parses, Reads, row, rows_in, words_row, positionals_in}
 
 listed : (ps : List Text) → unwrap_or (option_map (λ (r : Row). r.values) (words_row ps)) [] ≡ ps
@@ -98,16 +98,17 @@ no_run q [] few = refl
 no_run q (x ∷ []) few = refl
 no_run q (x ∷ y ∷ list) few = absurd (omega arith)
 
-pub one_run : (q : Parsed) (list : List (Bor Text)) (d : Bor Text) (limits : Option Limits) (steps cells frames : Option Text) (inputs : List Text) (library : Bool) → 2 ≤ length list
+pub one_run : (q : Parsed) (list : List (Bor Text)) (d : Bor Text) (limits : Option Limits) (steps cells frames : Option Text) (inputs : List Text) (traced library : Bool) → 2 ≤ length list
     → limits ≡ limits_of steps cells frames → steps ≡ text_of (codes "steps") q → cells ≡ text_of (codes "cells") q → frames ≡ text_of (codes "frames") q
-    → inputs ≡ map (λ w. w.now) (drop 2 list) → library ≡ has_library q
-    → option_map (λ l. Run l library (get_or list 0 d).now (get_or list 1 d).now inputs) limits ≡ run_of q (map (λ w. w.now) list)
-one_run q [] d limits steps cells frames inputs library two is a b e i given = absurd (omega arith)
-one_run q (x ∷ []) d limits steps cells frames inputs library two is a b e i given = absurd (omega arith)
-one_run q (x ∷ y ∷ list) d limits steps cells frames inputs library two is a b e i given =
-    ap (λ s. option_map (λ l. Run l library x.now y.now s) limits) i
-    ∙ ap (λ t. option_map (λ l. Run l t x.now y.now (map (λ w. w.now) list)) limits) given
-    ∙ ap (option_map (λ l. Run l (has_library q) x.now y.now (map (λ w. w.now) list)))
+    → inputs ≡ map (λ w. w.now) (drop 2 list) → traced ≡ has_trace q → library ≡ has_library q
+    → option_map (λ l. Run l traced library (get_or list 0 d).now (get_or list 1 d).now inputs) limits ≡ run_of q (map (λ w. w.now) list)
+one_run q [] d limits steps cells frames inputs traced library two is a b e i asked given = absurd (omega arith)
+one_run q (x ∷ []) d limits steps cells frames inputs traced library two is a b e i asked given = absurd (omega arith)
+one_run q (x ∷ y ∷ list) d limits steps cells frames inputs traced library two is a b e i asked given =
+    ap (λ s. option_map (λ l. Run l traced library x.now y.now s) limits) i
+    ∙ ap (λ t. option_map (λ l. Run l t library x.now y.now (map (λ w. w.now) list)) limits) asked
+    ∙ ap (λ t. option_map (λ l. Run l (has_trace q) t x.now y.now (map (λ w. w.now) list)) limits) given
+    ∙ ap (option_map (λ l. Run l (has_trace q) (has_library q) x.now y.now (map (λ w. w.now) list)))
     (is ∙ (ap (λ s. limits_of s cells frames) a ∙ (ap (λ s. limits_of (text_of (codes "steps") q) s frames) b ∙ ap (limits_of (text_of (codes "steps") q) (text_of (codes "cells") q)) e)))
 
 -- ---- verify

@@ -6,10 +6,11 @@ use Rattle.ix_words.specs.declared.values.Limits.{Limits}
 use Rattle.ix_words.specs.declared.values.Sums.{Sums}
 use Rattle.ix_words.specs.Words.{Text, Options, Parsed, parsed, text_of, has}
 
--- A command, with what it is given: `library` says whether the source is joined with the library, and `certificate` whether an accepted source's certificate is written.
+-- A command, with what it is given: `library` says whether the source is joined with the library, `certificate` whether an accepted source's certificate is written, and `traced` whether a
+-- run's accesses are.
 pub data Command : Type 0 where
   Check : (sums : Sums) (certificate library : Bool) (file : Text) → Command
-  Run : (limits : Limits) (library : Bool) (file entry : Text) (inputs : List Text) → Command
+  Run : (limits : Limits) (traced library : Bool) (file entry : Text) (inputs : List Text) → Command
   Bench : (count : ℕ) → Command
   Verify : (library : Bool) (file cert : Text) → Command
 
@@ -21,6 +22,10 @@ has_library p = has (codes "library") p
 abbrev pub has_certificate : Parsed → Bool
 has_certificate p = has (codes "certificate") p
 
+-- whether the option `--trace` is given, which takes no value
+abbrev pub has_trace : Parsed → Bool
+has_trace p = has (codes "trace") p
+
 -- `check [--sums ideal|int32] [--certificate] [--library] FILE`
 abbrev pub check_options : Options
 check_options = (codes "sums", true) ∷ (codes "certificate", false) ∷ (codes "library", false) ∷ []
@@ -29,12 +34,12 @@ abbrev pub check_of : Parsed → List Text → Option Command
 check_of p (file ∷ []) = option_map (λ sums. Check sums (has_certificate p) (has_library p) file) (sums_of (text_of (codes "sums") p))
 check_of p _ = None
 
--- `run [--steps N] [--cells N] [--frames N] [--library] FILE CLASS.METHOD INPUTS`
+-- `run [--steps N] [--cells N] [--frames N] [--trace] [--library] FILE CLASS.METHOD INPUTS`
 abbrev pub run_options : Options
-run_options = (codes "steps", true) ∷ (codes "cells", true) ∷ (codes "frames", true) ∷ (codes "library", false) ∷ []
+run_options = (codes "steps", true) ∷ (codes "cells", true) ∷ (codes "frames", true) ∷ (codes "trace", false) ∷ (codes "library", false) ∷ []
 
 abbrev pub run_of : Parsed → List Text → Option Command
-run_of p (file ∷ entry ∷ inputs) = option_map (λ limits. Run limits (has_library p) file entry inputs) (limits_of (text_of (codes "steps") p) (text_of (codes "cells") p) (text_of (codes "frames") p))
+run_of p (file ∷ entry ∷ inputs) = option_map (λ limits. Run limits (has_trace p) (has_library p) file entry inputs) (limits_of (text_of (codes "steps") p) (text_of (codes "cells") p) (text_of (codes "frames") p))
 run_of p _ = None
 
 -- `bench N`
@@ -71,5 +76,5 @@ command_of (first ∷ words) =
 
 -- the limits of a run lie in their ranges
 abbrev pub HasLimits : Command → Type 0
-HasLimits (Run limits library file entry inputs) = AreInRange limits
+HasLimits (Run limits traced library file entry inputs) = AreInRange limits
 HasLimits _ = Unit {0}

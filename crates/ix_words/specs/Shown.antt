@@ -12,6 +12,6 @@ words_of words = map string_bytes words
 
 abbrev pub shown : Command → spec.Command
 shown (code.Check sums certificate library file) = spec.Check sums certificate library file.now
-shown (code.Run limits library file entry inputs) = spec.Run limits library file.now entry.now (map (λ s. s.now) inputs.items)
+shown (code.Run limits traced library file entry inputs) = spec.Run limits traced library file.now entry.now (map (λ s. s.now) inputs.items)
 shown (code.Bench count) = spec.Bench count
 shown (code.Verify library file cert) = spec.Verify library file.now cert.now

@@ -17,9 +17,10 @@ pub enum Command<'a> {
         library: bool,
         file: &'a str,
     },
-    /// Runs a method of a file, joined with the library where `library` says so: `entry` is `CLASS.METHOD`.
+    /// Runs a method of a file, joined with the library where `library` says so: `entry` is `CLASS.METHOD`. Where `traced` says so, the accesses are written.
     Run {
         limits: Limits,
+        traced: bool,
         library: bool,
         file: &'a str,
         entry: &'a str,
@@ -63,10 +64,11 @@ fn check<'a>(alloc: Global, words: &'a [String]) -> Result<Option<Command<'a>>, 
     }))
 }
 
-static RUN: [(&str, bool); 4] = [
+static RUN: [(&str, bool); 5] = [
     ("steps", true),
     ("cells", true),
     ("frames", true),
+    ("trace", false),
     ("library", false),
 ];
 
@@ -78,7 +80,7 @@ fn behind_two<'a>(alloc: Global, words: &[&'a str]) -> Result<Vec<&'a str>, Allo
     words[2..].iter().copied().collect(alloc)
 }
 
-/// `run [--steps N] [--cells N] [--frames N] [--library] FILE CLASS.METHOD INPUTS`.
+/// `run [--steps N] [--cells N] [--frames N] [--trace] [--library] FILE CLASS.METHOD INPUTS`.
 fn run<'a>(alloc: Global, words: &'a [String]) -> Result<Option<Command<'a>>, AllocError>
     requires { 0 < length words.now }
     ensures command { IfOk result (λ r. option_map shown r ≡ command_with run_options run_of (drop 1 (words_of words.entry.now))) }
@@ -103,6 +105,7 @@ fn run<'a>(alloc: Global, words: &'a [String]) -> Result<Option<Command<'a>>, Al
     let inputs = behind_two(alloc, list)?;
     Ok(Some(Command::Run {
         limits,
+        traced: matches.contains_id("trace"),
         library: matches.contains_id("library"),
         file: list[0],
         entry: list[1],

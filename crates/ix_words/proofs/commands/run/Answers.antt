@@ -1,6 +1,6 @@
 use Rattle.std.proofs.Common.{◌∙◌, refl, [], None, Some, drop, codes}
 use Rattle.ix_words.specs.Shown.{words_of}
-use Rattle.ix_words.specs.Commands.{run_options, run_of, has_library}
+use Rattle.ix_words.specs.Commands.{run_options, run_of, has_library, has_trace}
 use Rattle.ix_words.proofs.Found.{made, parses_some, some_rest, no_rest, some_text, no_run, one_run, says_text, says_has}
 use Rattle.ix_words.proofs.commands.run.Goals as goal
 
@@ -21,9 +21,9 @@ returns-clause-command c =
     let m = c.in-Some.matches in
     made run_options run_of ws m c.in-Some-get_raw.list.now _ (parses_some run_options ws c.in_ok-matches.field-0 m c.in_ok-matches.ensures c.in-Some.is)
     (some_rest m c.in-Some-get_raw.list.now c.in-Some-get_raw.ensures)
-    (λ q says. one_run q c.in-Some-get_raw.list.now some_text (Some c.in-Some-read_limits.limits) _ _ _ _ c.contains_id.result c.if-list-lt2.false c.in-Some-read_limits.ensures.limits
+    (λ q says. one_run q c.in-Some-get_raw.list.now some_text (Some c.in-Some-read_limits.limits) _ _ _ _ c.contains_id.result c.contains_id-2.result c.if-list-lt2.false c.in-Some-read_limits.ensures.limits
     (c.get_str.ensures ∙ says_text run_options q m (codes "steps") refl says) (c.get_str-2.ensures ∙ says_text run_options q m (codes "cells") refl says) (c.get_str-3.ensures ∙ says_text run_options q m (codes "frames") refl says) c.in_ok-inputs.ensures
-    (c.contains_id.ensures ∙ says_has run_options q m (codes "library") refl says))
+    (c.contains_id.ensures ∙ says_has run_options q m (codes "trace") refl says) (c.contains_id-2.ensures ∙ says_has run_options q m (codes "library") refl says))
 
 pub returns-in_default-read_limits-clause-command : goal.returns-in_default-read_limits-clause-command
 returns-in_default-read_limits-clause-command c =
@@ -31,5 +31,5 @@ returns-in_default-read_limits-clause-command c =
     let m = c.in-Some.matches in
     made run_options run_of ws m c.in-Some-get_raw.list.now _ (parses_some run_options ws c.in_ok-matches.field-0 m c.in_ok-matches.ensures c.in-Some.is)
     (some_rest m c.in-Some-get_raw.list.now c.in-Some-get_raw.ensures)
-    (λ q says. one_run q c.in-Some-get_raw.list.now some_text None _ _ _ _ (has_library q) c.if-list-lt2.false c.in_default-read_limits.ensures.limits
-    (c.get_str.ensures ∙ says_text run_options q m (codes "steps") refl says) (c.get_str-2.ensures ∙ says_text run_options q m (codes "cells") refl says) (c.get_str-3.ensures ∙ says_text run_options q m (codes "frames") refl says) refl refl)
+    (λ q says. one_run q c.in-Some-get_raw.list.now some_text None _ _ _ _ (has_trace q) (has_library q) c.if-list-lt2.false c.in_default-read_limits.ensures.limits
+    (c.get_str.ensures ∙ says_text run_options q m (codes "steps") refl says) (c.get_str-2.ensures ∙ says_text run_options q m (codes "cells") refl says) (c.get_str-3.ensures ∙ says_text run_options q m (codes "frames") refl says) refl refl refl)

@@ -1,8 +1,8 @@
 //! Certificates: what `check --certificate` writes, and what `verify` says of it and of others.
-use crate::calls::{Ended, GET, list_of, one_file, run, words_of};
 use ix_outside::{SureSink, SureSource};
 use ix_text::Text;
 use ix_tool::{Status, run_tool};
+use ix_tool_calls::{Ended, GET, list_of, one_file, run, words_of};
 use std::alloc::{AllocError, Global};
 use std::test::Fail;
 

@@ -1,6 +1,6 @@
 //! Rows of runs of small sources: inputs that meet a claim or don't, results of methods without a `return`, and cells of inherited fields.
-use crate::calls::run;
 use ix_tool::Status;
+use ix_tool_calls::run;
 use std::test::Fail;
 
 /// The words, a source under `A.java`, the status, and what is written to `out` and to `err`.

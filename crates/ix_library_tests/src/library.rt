@@ -1,6 +1,6 @@
 //! The library: what sources are with it, and that its methods compute what Java's do.
-use crate::calls::run;
 use ix_tool::Status;
+use ix_tool_calls::run;
 use std::test::Fail;
 
 const ROWS: &[(&[&str], &str, Status, &str)] = &[

@@ -1,6 +1,6 @@
 //! Rows of runs: words, and the status and texts that they are to get of one source.
-use crate::calls::run;
 use ix_tool::Status;
+use ix_tool_calls::run;
 use std::test::Fail;
 
 const SOURCE: &str =

@@ -1,6 +1,6 @@
 //! Drawn programs with methods that promise bounds: in `ideal`, and in `int32` too where the answer is another one.
-use crate::row::is_right;
 use ix_tool::Status;
+use ix_tool_calls::is_right;
 use std::test::Fail;
 
 const ROWS_1: &[(&str, &str, Status, &str)] = &[

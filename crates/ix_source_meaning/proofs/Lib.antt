@@ -1,0 +1,12 @@
+pub mod Equations
+pub mod Trees
+pub mod Guards
+mod ReceiversRows
+mod OperatorsRows
+mod OrdersRows
+mod AccessesRows
+mod AssignmentsRows
+mod StatementsRows
+mod CallsRows
+mod DispatchRows
+mod ObjectsRows
