@@ -1,8 +1,8 @@
 -- What is seen of steps, one after another.
-use Rattle.std.proofs.Common.{◌≡◌, ℕ, zero, suc, ◌+◌, ℤ, pos, negsuc, Bool, true, false, List, [], ◌∷◌, ◌++◌, length, append_assoc, append-nil, Option, None, Some, refl, ap, sym, ◌∙◌, subst}
-use Rattle.std.specs.Prelude.{if◌then◌else◌}
+use Rattle.std.proofs.Common.{◌≡◌, ◌≤◌, ℕ, zero, suc, ◌+◌, ℤ, pos, negsuc, Bool, true, false, List, [], ◌∷◌, ◌++◌, length, append_assoc, append-nil, Option, None, Some, refl, ap, sym, ◌∙◌, subst}
+use Rattle.std.specs.Prelude.{if◌then◌else◌, unsigned_abs}
 use Rattle.std.specs.List.{AllByRecursion}
-use Rattle.ix_num.specs.Arithmetic.{exact_of}
+use Rattle.ix_core.specs.Arithmetic.{exact_of}
 use Rattle.ix_core.specs.declared.claim.Type_.{Type_}
 use Rattle.ix_core.specs.declared.op.OpKind.{OpKind}
 use Rattle.ix_core.specs.declared.op.OpKind.TheVariants as op
@@ -13,7 +13,11 @@ use Rattle.ix_core.specs.Machine.{Ending, Limits, State, Move, Effect, Went, Go,
 use Rattle.ix_core.specs.Tables.{Tables}
 use Rattle.ix_core.specs.Tasks.{Tasks, Empty, Run, Ask, Decide, DecideTruth, Head, Again, Out, code_then}
 use Rattle.ix_core.specs.Traces.{Observation, Printed, accessed, next_access, op_seen, op_access, task_access, task_seen, access_from, seen_from, step_seen, trace}
+use Rattle.ix_core.specs.Traces as traces
+use Rattle.ix_machine.specs.declared.access.Access.{Access}
+use Rattle.ix_machine.specs.Accesses.{access_of, HasSize}
 use Rattle.ix_machine.proofs.ManySteps.{final_stays}
+use Rattle.ix_report.specs.Runs.{access}
 use Rattle.ix_run.specs.Ends.{IsSeenIn}
 use Rattle.ix_run.specs.Texts.{value_line, seen_line, seen_lines, trace_lines}
 
@@ -117,12 +121,12 @@ went_values move is (Some ending) = refl
 
 module _ (limits : Limits) (tables : Tables) where
   moved_tells : (move : Move) (state : State) → state.ended ≡ None → event_values (event_from move (moved limits tables move state).ended) ≡ tells move
-  moved_tells (Go tasks slots heap) state goes = went_values (Go tasks slots heap) refl _
-  moved_tells (Wrap tasks slots heap) state goes = went_values (Wrap tasks slots heap) refl _
+  moved_tells (Go tasks slots heap) state goes = went_values (Go tasks slots heap) refl (moved limits tables (Go tasks slots heap) state).ended
+  moved_tells (Wrap tasks slots heap) state goes = went_values (Wrap tasks slots heap) refl (moved limits tables (Wrap tasks slots heap) state).ended
   moved_tells (Tell value tasks) state goes = ap (λ ended. event_values (event_from (Tell value tasks) ended)) goes
-  moved_tells (Enter kind call place tasks) state goes = went_values (Enter kind call place tasks) refl _
-  moved_tells (Leave returned) state goes = went_values (Leave returned) refl _
-  moved_tells (Stop ending) state goes = went_values (Stop ending) refl _
+  moved_tells (Enter kind call place tasks) state goes = went_values (Enter kind call place tasks) refl (moved limits tables (Enter kind call place tasks) state).ended
+  moved_tells (Leave returned) state goes = went_values (Leave returned) refl (moved limits tables (Leave returned) state).ended
+  moved_tells (Stop ending) state goes = went_values (Stop ending) refl (moved limits tables (Stop ending) state).ended
 
   shows_from : (state : State) (ended : Option Ending) → state.ended ≡ ended → ended ≡ None
       → seen_from ended state ≡ accessed (access_from ended state) ++ printed_seen (event_values (event_from (next_move limits tables state) (step_from limits tables ended state).ended))
@@ -197,3 +201,15 @@ pub within_next : (end : ℕ) (limits : Limits) (tables : Tables) (left less : �
 within_next end limits tables left less state next is went all =
     subst (λ s. AllByRecursion (IsSeenIn end) (trace limits tables less s)) (sym went)
     (all_behind (IsSeenIn end) (step_seen state) (trace limits tables less (step limits tables state)) (subst (λ n. AllByRecursion (IsSeenIn end) (trace limits tables n state)) is all))
+
+-- ---- the access that the machine tells
+
+pub no_access : (text : List ℕ) (next : Option traces.Access) → None ≡ next → seen_lines text (accessed next) ≡ []
+no_access text next is = ap (λ n. seen_lines text (accessed n)) (sym is)
+
+pub one_access : (text : List ℕ) (found : Access) (next : Option traces.Access) → Some (access_of found) ≡ next → HasSize found → seen_lines text (accessed next) ≡ access text found.index found.length found.at
+one_access text found next is size =
+    ap (λ n. seen_lines text (accessed n)) (sym is) ∙ (append-nil (access text found.index (pos (unsigned_abs found.length)) found.at) ∙ ap (λ n. access text found.index n found.at) size)
+
+pub access_within : (end : ℕ) (found : Access) (next : Option traces.Access) → Some (access_of found) ≡ next → AllByRecursion (IsSeenIn end) (accessed next) → found.at ≤ end
+access_within end found next is all = (subst (λ n. AllByRecursion (IsSeenIn end) (accessed n)) (sym is) all).0

@@ -1,8 +1,7 @@
 -- A run that begins stops, and asks for cells, in a text in which the places of its program stand.
 use Rattle.std.proofs.Common.{◌≤◌, ℕ, zero, suc, List, [], ◌∷◌, ◌++◌, Option, Some, None, sym, subst}
 use Rattle.std.specs.List.{AllByRecursion}
-use Rattle.ix_text.specs.declared.span.Span.{Span}
-use Rattle.ix_code_places.specs.CodePlaces.{CodePlaces, IsIn, PlacesWithin}
+use Rattle.ix_code_places.specs.CodePlaces.{IsIn, PlacesWithin}
 use Rattle.ix_code_places.proofs.TaskPlaces.{TaskPlaces, then_places}
 use Rattle.ix_code_places.proofs.RunPlaces.{StatePlaces, body_places, run_places, run_stops_at}
 use Rattle.ix_core.specs.declared.op.OpKind.{OpKind}
@@ -12,7 +11,7 @@ use Rattle.ix_core.specs.Code as code
 use Rattle.ix_core.specs.Heap.{Held, Num, Boolean, Null, At, Heap, value_at}
 use Rattle.ix_core.specs.Machine.{Ending, Limits, State, int_at, step}
 use Rattle.ix_core.specs.Safe.{start}
-use Rattle.ix_core.specs.Tables.{Tables, tables_of, method_at, body_of}
+use Rattle.ix_core.specs.Tables.{tables_of, method_at, body_of}
 use Rattle.ix_core.specs.Tasks.{Tasks, Empty, Run, Ask, Decide, DecideTruth, Head, Again, Out}
 use Rattle.ix_core.specs.Traces.{Observation, access_on, accessed, op_seen, task_seen, seen_from, step_seen, trace}
 use Rattle.ix_machine.specs.Starts.{IsStart}
