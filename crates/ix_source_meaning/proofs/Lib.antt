@@ -10,3 +10,4 @@ mod StatementsRows
 mod CallsRows
 mod DispatchRows
 mod ObjectsRows
+mod Unsafe
