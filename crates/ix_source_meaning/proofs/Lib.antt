@@ -1,6 +1,5 @@
 pub mod Equations
 pub mod Trees
-pub mod Guards
 mod ReceiversRows
 mod OperatorsRows
 mod OrdersRows
