@@ -5,7 +5,7 @@ use Rattle.ix_core.specs.Formed.{Formed}
 use Rattle.ix_check.specs.Judged.{CanCheck}
 use Rattle.ix_lexer.specs.declared.token.Token.{Token}
 use Rattle.ix_lexer.specs.Spans.{InOrder}
-use Rattle.ix_lexer.specs.Tokens.{most_tokens}
+use Rattle.ix_lexer.specs.Tokens.{Tokens, most_tokens}
 use Rattle.ix_lexer.proofs.TokensInOrder.{in_order}
 use Rattle.ix_tree.specs.declared.decl.Unit.{Unit as Source}
 use Rattle.ix_tree.specs.Parts.{CanResolve}
@@ -28,6 +28,7 @@ use Rattle.ix_finding.specs.Found.{Finding, Found, too_long, no_tokens, lexed, n
 use Rattle.ix_finding.specs.Findings.{HasFormed}
 use Rattle.ix_finding.proofs.BytesFound.{refusal_formed, lex_formed}
 
+-- each tree of the tokens of a text has what the promise rests on
 read_parsed : (tokens : List Token) (end : ℕ) (unit : Source) → HasTree tokens unit → InOrder 0 end tokens → length tokens ≤ most_tokens → HaveInts tokens
     → (o : Outcome FoundUnit) → run source_rule tokens ≡ o → IsParsed unit
 read_parsed tokens end unit has order few ints (Err (why, left)) is = absurd (no_tree tokens left why unit is has)
@@ -42,6 +43,10 @@ source_formed source made fine accepts is = (
   record { methods = lowered_methods_few source made accepts fine is; few = lowered_few source made accepts fine is; apart = lowered_apart source made accepts fine is },
 )
 
+-- the same of the tokens of these bytes
+pub tree_parsed : (bytes : List ℕ) (tokens : List Token) (source : Source) → Tokens bytes tokens → length tokens ≤ most_tokens → HasTree tokens source → IsParsed source
+tree_parsed bytes tokens source is few has = read_parsed tokens (length bytes) source has (in_order bytes tokens is) few (tokens_have_ints bytes tokens is) (run source_rule tokens) refl
+
 in_formed : (source : Source) (finding : Finding) → IsParsed source → FoundIn source finding → HasFormed finding
 in_formed source _ fine (passes_limit p is) = tt
 in_formed source _ fine (misnames errors refused) = tt
@@ -54,4 +59,4 @@ found_formed bytes _ (too_long past) = tt
 found_formed bytes finding (no_tokens why short fails is) = lex_formed why finding (sym is)
 found_formed bytes finding (lexed tokens short is few (untreed why refused same)) = refusal_formed tokens (length bytes) why finding (sym same)
 found_formed bytes finding (lexed tokens short is few (tree source has found)) =
-    in_formed source finding (read_parsed tokens (length bytes) source has (in_order bytes tokens is) few (tokens_have_ints bytes tokens is) (run source_rule tokens) refl) found
+    in_formed source finding (tree_parsed bytes tokens source is few has) found

@@ -14,12 +14,13 @@ ghost use Rattle.ix_finding.specs.Findings.{seen, IsPlaced, HasFormed};
 use ix_apart::{lowered_is_few, lowered_locals_are_apart};
 use ix_core::Program;
 use ix_lexer::{LexError, Token, lex};
-use ix_lower::{LowerError, lower};
+use ix_lower::LowerError;
 use ix_meaning::{NameError, NameErrors};
 use ix_name_report::limit_name;
 use ix_names::{Table, resolve};
 use ix_outside::MOST_BYTES;
 use ix_parser::{ParseError, parse};
+use ix_source::lower_kept;
 use ix_text::List;
 use ix_tree::Unit;
 use std::alloc::{AllocError, Global};
@@ -115,7 +116,7 @@ fn of_lowered(alloc: Global, unit: &Unit, table: &Table) -> Result<Finding, Allo
 {
     lowered_is_few();
     lowered_locals_are_apart();
-    match lower(alloc, unit, table) {
+    match lower_kept(alloc, unit, table) {
         Ok(program) => Ok(Finding::Whole(program)),
         Err(why) => match of_lower_error(why) {
             Some(finding) => Ok(finding),

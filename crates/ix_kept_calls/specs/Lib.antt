@@ -1,0 +1,2 @@
+-- What is asked of the methods and constructors that a call runs.
+pub mod Callees

@@ -1,0 +1,10 @@
+pub mod Statements
+pub mod Loops
+pub mod Scopes
+pub mod Simple
+pub mod Locals
+pub mod FullExpressions
+pub mod StatementForms
+pub mod Declarations
+pub mod Choices
+pub mod StatementsKept

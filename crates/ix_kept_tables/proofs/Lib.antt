@@ -1,0 +1,5 @@
+pub mod JoinedLists
+pub mod DeclaredMembers
+pub mod AcceptedTables
+pub mod MethodsFound
+pub mod PlacesOfFields

@@ -1,0 +1,2 @@
+-- What is known of a method and of a class by its number.
+pub mod Declared
