@@ -1,22 +1,18 @@
 -- Calls keep their meaning, with one call less that may nest.
-use Rattle.std.proofs.Common.{◌≡◌, ◌≤◌, ◌<◌, ℕ, ◌+◌, pos, Bool, true, false, List, ◌∷◌, [], ◌++◌, length, map, Option, Some, None, refl, sym, ap, subst, ◌∙◌, arith}
+use Rattle.std.proofs.Common.{◌≡◌, ◌≤◌, ◌<◌, ℕ, ◌+◌, pos, Bool, true, false, List, ◌∷◌, [], ◌++◌, length, Option, Some, None, refl, sym, ap, subst, ◌∙◌, arith}
 use Rattle.std.specs.Prelude.{if◌then◌else◌, option_map, is_some, unwrap_or, replicate, ◌-◌}
 use Rattle.std.proofs.lemmas.Bool.{false≢true}
 use Rattle.std.proofs.lemmas.List.{append-nil, length-append, length-replicate}
 use Rattle.ix_text.specs.declared.span.Span.{Span}
-use Rattle.ix_core.specs.declared.op.Arg.{Arg}
-use Rattle.ix_core.specs.declared.op.CallOp.{CallOp}
-use Rattle.ix_core.specs.declared.op.OpKind.TheVariants as op
 use Rattle.ix_core.specs.Code.{Code, End}
 use Rattle.ix_core.specs.Code as code
-use Rattle.ix_core.specs.Heap.{Held, Num, Null, value_at}
-use Rattle.ix_core.specs.Machine.{State, no_limits, step, slots_with, set_target, result_of, returned_or, target_of, Static}
+use Rattle.ix_core.specs.Heap.{Held, Num, value_at}
+use Rattle.ix_core.specs.Machine.{State, no_limits, step, slots_with, set_target, result_of, returned_or}
 use Rattle.ix_core.specs.Tables.{Routine}
 use Rattle.ix_core.specs.Tasks.{Tasks, Empty, Run, code_then}
 use Rattle.ix_core.proofs.Heaps.{value_set}
 use Rattle.ix_plain.specs.declared.body.Body.{Body}
 use Rattle.ix_source_meaning.specs.Runs.{Now, Result as Ended, Gives, Stops, Cuts, Action, ◌>>=◌, go_on, gives, with_variables}
-use Rattle.ix_source_meaning.specs.Values.{value_of}
 use Rattle.ix_source_meaning.specs.Statements.{Completion, Normal, Breaks, Continues, Returns}
 use Rattle.ix_source_meaning.specs.Bodies.{variables, with_own, back, given_back}
 use Rattle.ix_core.specs.Traces.{step_seen}
@@ -24,11 +20,10 @@ use Rattle.ix_kept_steps.specs.Seen.{Leads, Frame, at, Decides}
 use Rattle.ix_kept_steps.specs.Along.{Setting, IsSet, Agrees, Keeps, Along}
 use Rattle.ix_kept_steps.specs.Kept.{code_before, IsIn}
 use Rattle.ix_kept_steps.specs.Running.{Ground, Stands, Follows, IsReturned, AlongWith, Runs}
-use Rattle.ix_kept_steps.specs.Called.{GoesBack, called_frame, entered, first_slots, RunsMethod}
+use Rattle.ix_kept_steps.specs.Called.{GoesBack, called_frame, first_slots, RunsMethod}
 use Rattle.ix_kept_steps.proofs.Paths.{both, both_adds, one_step, decides_from}
 use Rattle.ix_kept_steps.proofs.Going.{keeps_all}
 use Rattle.ix_kept_steps.proofs.Slots.{agrees_temporary, keeps_temporary}
-use Rattle.ix_kept_steps.proofs.Made.{before}
 
 -- ---- what a frame ends with
 

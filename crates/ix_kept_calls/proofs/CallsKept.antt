@@ -1,5 +1,5 @@
 -- Calls keep their meaning where the methods and constructors that they run do (JLS 15.12, 15.9): static calls, calls on an object, and new objects.
-use Rattle.std.proofs.Common.{◌≡◌, ◌≤◌, ◌<◌, ℕ, ◌+◌, pos, Bool, true, false, List, [], ◌∷◌, ◌++◌, length, map, Option, Some, None, refl, sym, ap, subst, ◌∙◌}
+use Rattle.std.proofs.Common.{◌≡◌, ◌≤◌, ◌<◌, ℕ, ◌+◌, pos, true, false, List, [], ◌∷◌, ◌++◌, length, map, Option, Some, None, refl, sym, ap, subst, ◌∙◌}
 use Rattle.std.specs.Prelude.{is_some, unwrap_or}
 use Rattle.std.proofs.lemmas.List.{append-nil}
 use Rattle.ix_text.specs.declared.span.Span.{Span}
@@ -13,10 +13,10 @@ use Rattle.ix_core.specs.Machine.{State, NullUsed, no_limits, step, called, foun
 use Rattle.ix_core.specs.Tables.{Tables}
 use Rattle.ix_core.specs.Tasks.{Tasks, Run, code_then}
 use Rattle.ix_plain.specs.Scope.{constructor_at}
-use Rattle.ix_source_meaning.specs.Runs.{Now, Result, Gives, Stops, Cuts, Action, ◌>>=◌, go_on, gives, with_heap}
+use Rattle.ix_source_meaning.specs.Runs.{Now, Result, Gives, Stops, Cuts, ◌>>=◌, go_on, gives, with_heap}
 use Rattle.ix_source_meaning.specs.Context.{Context, Members, Calls}
 use Rattle.ix_source_meaning.specs.Values.{made, value_of, through, called_on, call_on, object_of}
-use Rattle.ix_kept_steps.specs.Seen.{Frame, at, Decides}
+use Rattle.ix_kept_steps.specs.Seen.{Frame, Decides}
 use Rattle.ix_kept_steps.specs.Along.{Setting, IsSet, Agrees, Along}
 use Rattle.ix_kept_steps.specs.Kept.{IsIn, context}
 use Rattle.ix_kept_steps.specs.Sound.{is_method, is_class}

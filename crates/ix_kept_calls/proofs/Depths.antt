@@ -1,13 +1,13 @@
 -- Every method and constructor of an accepted source's program runs as the source says, however deep calls nest: by recursion on the depth.
-use Rattle.std.proofs.Common.{◌≡◌, ◌≤◌, ◌<◌, ◌⊎◌, inl, inr, ⊎_elim, ℕ, zero, suc, ◌+◌, Bool, true, false, List, [], ◌∷◌, ◌++◌, length, map, Option, Some, None, Ok, Err, Result, refl, sym, ap, subst, ◌∙◌, arith}
-use Rattle.std.specs.Prelude.{◌&&◌, not, if◌then◌else◌, nat_lt, is_some, option_map, slice_get, unwrap_or}
+use Rattle.std.proofs.Common.{◌≡◌, ◌≤◌, ◌<◌, ⊎_elim, ℕ, zero, suc, ◌+◌, Bool, true, false, List, [], length, map, Option, Some, None, Ok, Err, Result, refl, sym, ap, subst, ◌∙◌, arith}
+use Rattle.std.specs.Prelude.{◌&&◌, not, if◌then◌else◌, nat_lt, is_some, slice_get, unwrap_or}
 use Rattle.std.proofs.lemmas.Bool.{false≢true}
 use Rattle.std.proofs.lemmas.Bool.Decides.{nat_tests}
 use Rattle.std.proofs.lemmas.List.{append-nil}
 use Rattle.ix_text.specs.declared.span.Span.{Span}
 use Rattle.ix_core.specs.declared.program.Method.{Method}
 use Rattle.ix_core.specs.declared.program.Program.{Program}
-use Rattle.ix_core.specs.Code.{block_code, End}
+use Rattle.ix_core.specs.Code.{End}
 use Rattle.ix_core.specs.Formed.{Formed}
 use Rattle.ix_core.specs.Heap.{Held}
 use Rattle.ix_core.specs.Tables as core
@@ -19,24 +19,24 @@ use Rattle.ix_tree.specs.declared.expr.Expr.{Expr}
 use Rattle.ix_meaning.specs.Resolved.{names}
 use Rattle.ix_plain.specs.declared.body.Body.{Body}
 use Rattle.ix_plain.specs.Members.{first_numbers, constructors, heads, is_static, slot_behind, constructor_in}
-use Rattle.ix_plain.specs.Parts.{Within, ◌>>=◌ as ◌then◌, block}
+use Rattle.ix_plain.specs.Parts.{Within, ◌>>=◌ as ◌then◌}
 use Rattle.ix_plain.specs.Program as program
 use Rattle.ix_plain.specs.Program.{Tables, Home, tables, home, site, start, written_head, default_head, written_body, first_param}
-use Rattle.ix_plain.specs.Scope.{Site, declared_type, constructor_at}
+use Rattle.ix_plain.specs.Scope.{Site, constructor_at}
 use Rattle.ix_plain.specs.Statements as plain
 use Rattle.ix_plain.specs.Statements.{statement}
-use Rattle.ix_formed.specs.Shape.{IsMethod, IsDefault, field_count}
+use Rattle.ix_formed.specs.Shape.{field_count}
 use Rattle.ix_plain.specs.Counts.{most_counted}
 use Rattle.ix_formed.proofs.FieldsFit.{IsAccepted}
 use Rattle.ix_formed.proofs.NumberLists.{both_true}
 use Rattle.ix_source_meaning.specs.Runs.{Variables, Now, Result as Ended, Gives, Stops, Cuts, Action, ◌>>=◌, go_on, gives, with_variables}
-use Rattle.ix_source_meaning.specs.Context.{Context, Members, Calls, declared_at}
+use Rattle.ix_source_meaning.specs.Context.{Context, Calls, declared_at}
 use Rattle.ix_source_meaning.specs.Values.{evaluation}
 use Rattle.ix_source_meaning.specs.Statements as source
 use Rattle.ix_source_meaning.specs.Statements.{Completion, Returns, Execution, execution, each, normally}
 use Rattle.ix_source_meaning.specs.Bodies as bodies
 use Rattle.ix_source_meaning.specs.Bodies.{Whole, Written, Class, fields_in, parent_constructed, fields_initialised, whole, written, members, variables, back, with_own, given_back, method_run, construct_run, context_of, no_calls, calls_within}
-use Rattle.ix_kept_steps.specs.Seen.{Frame, at}
+use Rattle.ix_kept_steps.specs.Seen.{at}
 use Rattle.ix_kept_steps.specs.Kept.{Makes, code_before}
 use Rattle.ix_kept_steps.specs.Called.{GoesBack, RunsMethod, entered, first_slots}
 use Rattle.ix_kept_steps.specs.Running.{Ground, Stands, Runs}
@@ -45,11 +45,11 @@ use Rattle.ix_kept_steps.specs.SoundStatements.{AssignsOwn, where_made, statemen
 use Rattle.ix_kept_steps.proofs.Made.{block_is}
 use Rattle.ix_kept_steps.proofs.Paths.{here}
 use Rattle.ix_kept_values.proofs.Expressions.{and_first, and_second}
-use Rattle.ix_kept_statements.specs.Grounds.{Rooted, IsGround, within, placed}
+use Rattle.ix_kept_statements.specs.Grounds.{IsGround, placed}
 use Rattle.ix_kept_statements.proofs.FullExpressions.{rooted_behind}
 use Rattle.ix_kept_statements.proofs.Statements.{runs_both}
 use Rattle.ix_kept_statements.proofs.StatementsKept.{statements_kept}
-use Rattle.ix_kept_tables.specs.Declared.{AllClasses, IsDeclared, IsClass, IsWrittenConstructor, IsDefaultConstructor}
+use Rattle.ix_kept_tables.specs.Declared.{AllClasses, IsDeclared, IsWrittenConstructor, IsDefaultConstructor}
 use Rattle.ix_kept_tables.proofs.AcceptedTables.{method_declared, class_declared, method_routine, default_routine, is_static_same, heads_count, static_of_declared, constructors_count, parent_there}
 use Rattle.ix_kept_tables.proofs.MethodsFound.{found_same, found_written, found_kind, found_gives}
 use Rattle.ix_kept_tables.proofs.PlacesOfFields.{place_same, fresh_same}

@@ -1,12 +1,11 @@
 -- At the entry of a frame the slots hold what the parameters and `this` hold (JLS 8.4.1).
-use Rattle.std.proofs.Common.{◌≡◌, ◌≤◌, ◌<◌, ℕ, zero, suc, ◌+◌, pos, Bool, true, false, List, [], ◌∷◌, ◌++◌, length, Option, Some, None, refl, sym, ap, ◌∙◌, arith}
+use Rattle.std.proofs.Common.{◌≡◌, ℕ, zero, suc, ◌+◌, pos, Bool, true, false, List, [], ◌∷◌, ◌++◌, length, Option, Some, None, refl, sym, ap, ◌∙◌, arith}
 use Rattle.std.specs.Prelude.{not, if◌then◌else◌, nat_lt, replicate, ◌-◌}
 use Rattle.std.proofs.lemmas.Bool.{false≢true}
 use Rattle.ix_core.specs.Heap.{Held, Num, value_at}
 use Rattle.ix_core.specs.Machine.{slots_with}
 use Rattle.ix_core.specs.Tables.{Tables}
 use Rattle.ix_meaning.specs.declared.note.Meaning.{Meaning}
-use Rattle.ix_meaning.specs.declared.note.Meaning.TheVariants as meaning
 use Rattle.ix_plain.specs.Program.{start, first_param}
 use Rattle.ix_plain.specs.Scope.{Site}
 use Rattle.ix_source_meaning.specs.Runs.{Now, held_by, with_variables}

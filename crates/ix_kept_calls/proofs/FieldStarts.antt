@@ -1,11 +1,10 @@
 -- What a constructor begins with keeps its meaning (JLS 12.5): the parent's constructor, then the field initialisers in the order of the text.
-use Rattle.std.proofs.Common.{◌≡◌, ◌≤◌, ◌<◌, ℕ, ◌+◌, Bool, true, false, List, [], ◌∷◌, ◌++◌, length, map, Option, Some, None, Ok, Err, refl, sym, ap, subst, ◌∙◌, arith}
+use Rattle.std.proofs.Common.{◌≡◌, ◌≤◌, ℕ, ◌+◌, Bool, true, false, List, [], ◌∷◌, ◌++◌, map, Option, Some, None, Ok, refl, sym, ap, subst, ◌∙◌, arith}
 use Rattle.std.specs.Prelude.{◌&&◌, if◌then◌else◌, option_map}
 use Rattle.ix_text.specs.declared.span.Span.{Span}
 use Rattle.ix_core.specs.declared.claim.Type_.{Type_}
 use Rattle.ix_core.specs.declared.code.Item.{Item}
 use Rattle.ix_core.specs.declared.op.OpKind.TheVariants as op
-use Rattle.ix_core.specs.Code.{Code}
 use Rattle.ix_core.specs.Heap.{Held, Null, value_at}
 use Rattle.ix_core.specs.Machine.{State}
 use Rattle.ix_core.specs.Tasks.{Tasks, code_then}
@@ -15,17 +14,14 @@ use Rattle.ix_tree.specs.declared.decl.Member.TheVariants as member
 use Rattle.ix_tree.specs.declared.expr.Expr.{Expr}
 use Rattle.ix_tree.specs.declared.expr.Init.{Init}
 use Rattle.ix_meaning.specs.declared.note.Declared.{Declared}
-use Rattle.ix_meaning.specs.Members as meaning
 use Rattle.ix_plain.specs.declared.body.Body.{Body}
-use Rattle.ix_plain.specs.declared.made.Made.{Made}
-use Rattle.ix_plain.specs.Assigned.{init_assigns, all_assign}
+use Rattle.ix_plain.specs.Assigned.{init_assigns}
 use Rattle.ix_plain.specs.Counts.{one, most_counted}
-use Rattle.ix_plain.specs.Members as plain
 use Rattle.ix_plain.specs.Scope.{declared_type}
 use Rattle.ix_plain.specs.Parts.{Within, Value, ◌>>=◌ as ◌then◌, done}
 use Rattle.ix_plain.specs.Program as program
 use Rattle.ix_plain.specs.Program.{Home}
-use Rattle.ix_plain.specs.Statements.{assigned_by, scope_for, behind, with_last}
+use Rattle.ix_plain.specs.Statements.{assigned_by, behind}
 use Rattle.ix_plain.specs.Values.{filling}
 use Rattle.ix_formed.specs.Shape.{field_count}
 use Rattle.ix_formed.proofs.Numbering.{one_more}
@@ -34,13 +30,11 @@ use Rattle.ix_source_meaning.specs.Context.{Context, Members, Calls, type_declar
 use Rattle.ix_source_meaning.specs.Values.{evaluation, initial, of_this, put_field, without_value}
 use Rattle.ix_source_meaning.specs.Statements as source
 use Rattle.ix_source_meaning.specs.Statements.{Completion, normally}
-use Rattle.ix_source_meaning.specs.Bodies as bodies
 use Rattle.ix_source_meaning.specs.Bodies.{Field, fields_in, field_initialised, fields_initialised, parent_constructed}
 use Rattle.ix_kept_steps.specs.Seen.{Frame, at}
-use Rattle.ix_kept_steps.specs.Along.{Setting, IsSet, Agrees, Along}
+use Rattle.ix_kept_steps.specs.Along.{Setting, IsSet, Along}
 use Rattle.ix_kept_steps.specs.Kept.{Makes, And, IsIn, nothing_known, anything, Done}
 use Rattle.ix_kept_steps.specs.Running.{Ground, standing, Runs}
-use Rattle.ix_kept_steps.specs.Sound.{init_soundness}
 use Rattle.ix_kept_steps.specs.SoundStatements.{where_made, init_at, init_if}
 use Rattle.ix_kept_steps.proofs.Accesses.{put_given}
 use Rattle.ix_kept_steps.proofs.Made.{done_both, makes_more, before}
@@ -50,7 +44,7 @@ use Rattle.ix_kept_statements.proofs.FullExpressions.{makes_map, then_sound, roo
 use Rattle.ix_kept_statements.proofs.Simple.{runs_as, ran_runs}
 use Rattle.ix_kept_statements.proofs.Statements.{runs_both, runs_nothing}
 use Rattle.ix_kept_calls.specs.Callees.{CalleesRun, is_class}
-use Rattle.ix_kept_steps.specs.SoundBodies.{super_sound, field_sound, fields_sound, start_sound}
+use Rattle.ix_kept_steps.specs.SoundBodies.{super_sound, fields_sound, start_sound}
 use Rattle.ix_kept_calls.proofs.ParentCalls.{parent_runs, set_of}
 
 pub type_same : (o : Option Declared) → declared_type o ≡ type_declared o

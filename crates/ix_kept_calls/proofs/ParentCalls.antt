@@ -1,6 +1,5 @@
 -- The call of the parent's constructor keeps its meaning (JLS 8.8.7.1): it runs on the same object, and what it gives back isn't used.
-use Rattle.std.proofs.Common.{◌≡◌, ◌≤◌, ◌<◌, ℕ, ◌+◌, Bool, true, false, List, [], ◌∷◌, ◌++◌, length, map, Option, Some, None, Ok, Err, Result, refl, sym, ap, subst, ◌∙◌, arith}
-use Rattle.std.specs.Prelude.{◌&&◌, not}
+use Rattle.std.proofs.Common.{◌≡◌, ◌≤◌, ℕ, ◌+◌, true, false, List, [], ◌∷◌, map, Option, Some, None, Ok, Err, Result, refl, sym, ap, subst, ◌∙◌, arith}
 use Rattle.ix_text.specs.declared.span.Span.{Span}
 use Rattle.ix_core.specs.declared.op.Arg.{Arg}
 use Rattle.ix_core.specs.declared.op.CallOp.{CallOp}
@@ -28,12 +27,12 @@ use Rattle.ix_source_meaning.specs.Values as source
 use Rattle.ix_source_meaning.specs.Values.{Evaluation, evaluation, of_this, without_value}
 use Rattle.ix_source_meaning.specs.Statements.{normally}
 use Rattle.ix_source_meaning.specs.Bodies.{parent_constructed}
-use Rattle.ix_kept_steps.specs.Seen.{Frame, at, Decides}
+use Rattle.ix_kept_steps.specs.Seen.{Frame, Decides}
 use Rattle.ix_kept_steps.specs.Along.{Setting, IsSet, Agrees, Along}
-use Rattle.ix_kept_steps.specs.Kept.{Makes, And, nothing_known, anything, Done, context}
+use Rattle.ix_kept_steps.specs.Kept.{Makes, And, nothing_known, anything, Done}
 use Rattle.ix_kept_steps.specs.Called.{RunsMethod, entered}
 use Rattle.ix_kept_steps.specs.Calling.{AreIn, CallsKept, at_call}
-use Rattle.ix_kept_steps.specs.Running.{Ground, owner, in_scope, standing, Runs}
+use Rattle.ix_kept_steps.specs.Running.{Ground, in_scope, standing, Runs}
 use Rattle.ix_kept_steps.specs.Sound.{soundness, all_used, used}
 use Rattle.ix_kept_steps.proofs.Made.{then_done, makes_then}
 use Rattle.ix_kept_steps.proofs.Operations.{takes}

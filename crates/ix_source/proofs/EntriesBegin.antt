@@ -1,6 +1,6 @@
 -- A run of the source's meaning that may begin is one of its program that may begin, with the same method by number and the same inputs.
-use Rattle.std.proofs.Common.{◌≡◌, ◌<◌, ℕ, true, List, [], ◌∷◌, ◌++◌, map, length, Option, Some, None, refl, sym, ap, subst, ◌∙◌, append_assoc}
-use Rattle.std.specs.Prelude.{slice_get, unwrap_or}
+use Rattle.std.proofs.Common.{◌≡◌, ◌<◌, ℕ, List, [], ◌∷◌, ◌++◌, map, length, Option, Some, None, refl, sym, ap, subst, ◌∙◌, append_assoc}
+use Rattle.std.specs.Prelude.{unwrap_or}
 use Rattle.std.proofs.lemmas.Option.{slice_get_within}
 use Rattle.ix_text.specs.declared.span.Span.{Span}
 use Rattle.ix_core.specs.declared.claim.Claim.{Claim}
@@ -11,7 +11,7 @@ use Rattle.ix_core.specs.declared.program.Method.{Method}
 use Rattle.ix_core.specs.declared.program.Program.{Program}
 use Rattle.ix_core.specs.Claims.{AreTrue}
 use Rattle.ix_core.specs.Heap.{Reading}
-use Rattle.ix_core.specs.Safe.{Input, HaveTypes, AllTrue, MeetEach, Begins, input_reading, input_names, elements_of, element_claims}
+use Rattle.ix_core.specs.Safe.{Input, HaveTypes, MeetEach, Begins, input_reading, input_names}
 use Rattle.ix_tree.specs.declared.decl.LocalDecl.{LocalDecl}
 use Rattle.ix_tree.specs.declared.decl.Unit.{Unit as Source}
 use Rattle.ix_meaning.specs.declared.note.Declared.{Declared}
@@ -24,7 +24,6 @@ use Rattle.ix_formed.proofs.FieldsFit.{IsAccepted}
 use Rattle.ix_source_meaning.specs.Bodies.{Written, written, written_from, name_of}
 use Rattle.ix_source_meaning.specs.Context.{type_declared}
 use Rattle.ix_source_meaning.specs.Promise.{MeetParams, Enters, claims_declared}
-use Rattle.ix_kept_tables.specs.Declared.{IsDeclared}
 use Rattle.ix_kept_tables.proofs.AcceptedTables.{method_declared}
 use Rattle.ix_kept_tables.proofs.MethodsFound.{Any, AnyDefault, any_class}
 

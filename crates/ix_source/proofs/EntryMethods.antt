@@ -1,33 +1,31 @@
 -- A run of the program that begins with a method goes along with the source's run of it.
-use Rattle.std.proofs.Common.{◌≡◌, ◌≤◌, ◌<◌, ℕ, ◌+◌, pos, Bool, true, false, List, [], ◌∷◌, ◌++◌, length, map, Option, Some, None, refl, sym, ap, subst, ◌∙◌, arith}
-use Rattle.std.specs.Prelude.{slice_get, unwrap_or, replicate, ◌-◌}
+use Rattle.std.proofs.Common.{◌≡◌, ◌≤◌, ◌<◌, ℕ, pos, true, false, List, [], ◌∷◌, ◌++◌, length, map, Option, Some, None, refl, sym, ap, subst, ◌∙◌, arith}
+use Rattle.std.specs.Prelude.{unwrap_or, replicate, ◌-◌}
 use Rattle.std.proofs.lemmas.List.{append-nil, length-append, length-replicate}
 use Rattle.ix_text.specs.declared.span.Span.{Span}
-use Rattle.ix_core.specs.declared.claim.Type_.{Type_}
 use Rattle.ix_core.specs.declared.program.Method.{Method}
 use Rattle.ix_core.specs.declared.program.Program.{Program}
 use Rattle.ix_core.specs.Code.{Code, End}
 use Rattle.ix_core.specs.Code as code
 use Rattle.ix_core.specs.Formed.{Formed}
 use Rattle.ix_core.specs.Heap.{Held, Num, Null}
-use Rattle.ix_core.specs.Machine.{Ending, Ended, State, no_limits, step, slots_with, result_of, result_shown, run}
+use Rattle.ix_core.specs.Machine.{Ended, State, no_limits, step, slots_with, result_of, result_shown}
 use Rattle.ix_core.specs.Safe as safe
 use Rattle.ix_core.specs.Safe.{Input, input_values, input_heap}
 use Rattle.ix_core.specs.Tables as core
 use Rattle.ix_core.specs.Tables.{method_at, no_method, tables_of, default_result}
 use Rattle.ix_core.specs.Tasks.{Tasks, Empty, Run, code_then}
 use Rattle.ix_tree.specs.declared.decl.LocalDecl.{LocalDecl}
-use Rattle.ix_tree.specs.declared.decl.MethodDecl.{MethodDecl}
 use Rattle.ix_tree.specs.declared.decl.Unit.{Unit as Source}
 use Rattle.ix_meaning.specs.Resolved.{Names, names}
 use Rattle.ix_plain.specs.declared.body.Body.{Body}
 use Rattle.ix_plain.specs.Members.{first_numbers}
-use Rattle.ix_plain.specs.Program.{Tables, tables}
+use Rattle.ix_plain.specs.Program.{tables}
 use Rattle.ix_formed.specs.Shape.{types_of}
 use Rattle.ix_formed.proofs.FieldsFit.{IsAccepted}
 use Rattle.ix_formed.proofs.ProgramsHaveShape.{types_behind}
 use Rattle.ix_source_meaning.specs.Runs.{Now, Result, Gives, Stops, Cuts, go_on, gives, with_variables}
-use Rattle.ix_source_meaning.specs.Context.{Context, type_declared, declared_at}
+use Rattle.ix_source_meaning.specs.Context.{type_declared}
 use Rattle.ix_source_meaning.specs.Statements.{Completion, Normal, Breaks, Continues, Returns, each}
 use Rattle.ix_source_meaning.specs.Bodies.{Whole, Written, name_of, whole, written, members, static_of, variables, back, given_back, method_run, context_of, calls_within}
 use Rattle.ix_source_meaning.specs.Source as source

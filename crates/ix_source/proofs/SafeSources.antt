@@ -12,7 +12,7 @@ use Rattle.ix_meaning.specs.Resolved.{Accepts, names}
 use Rattle.ix_plain.specs.Program.{program as program_of}
 use Rattle.ix_source_meaning.specs.Promise.{SafeSource}
 use Rattle.ix_source_meaning.specs.Source.{source}
-use Rattle.ix_source.specs.Whole.{Keeps, Meets}
+use Rattle.ix_source.specs.Whole.{Keeps}
 use Rattle.ix_source.proofs.EntriesBegin.{enters_begins}
 use Rattle.ix_source.proofs.RunsMeet.{all_meet}
 use Rattle.ix_source.proofs.SafeRuns.{good_run}

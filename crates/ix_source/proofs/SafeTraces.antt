@@ -1,6 +1,6 @@
 -- Where no state of a run is bad, each access of the run is within its array.
-use Rattle.std.proofs.Common.{◌≡◌, ℕ, zero, suc, ◌+◌, ◌≤◌, ◌<◌, ℤ, pos, Bool, true, false, List, [], ◌∷◌, ◌++◌, length, Option, Some, None, refl, sym, ap, subst, ◌∙◌, arith}
-use Rattle.std.specs.Prelude.{if◌then◌else◌, unsigned_abs}
+use Rattle.std.proofs.Common.{◌≡◌, ℕ, zero, suc, ◌<◌, ℤ, pos, Bool, true, false, List, [], ◌∷◌, ◌++◌, length, Option, Some, None, refl, arith}
+use Rattle.std.specs.Prelude.{if◌then◌else◌}
 use Rattle.std.specs.List.{AllByRecursion}
 use Rattle.ix_core.specs.declared.op.OpKind.{OpKind}
 use Rattle.ix_core.specs.declared.op.OpKind.TheVariants as op
@@ -90,5 +90,3 @@ module _ (tables : Tables) where
   traces_within (suc steps) state safe =
       both_within (step_seen state) (trace no_limits tables steps (step no_limits tables state)) (step_within_from state.ended state (safe 0 (omega arith)))
       (traces_within steps (step no_limits tables state) (λ k less. safe (suc k) (omega (arith, less))))
-
-

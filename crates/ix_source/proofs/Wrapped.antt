@@ -15,7 +15,7 @@ either_wrapped false first second a c = c
 module _ (tables : Tables) where
   called_wrapped : (kind : CallKind) (call : CallOp) (place : ℕ) (tasks : Tasks) (state : State) (callee : Option ℕ) → state.wrapped ≡ true → (called no_limits tables kind call place tasks state callee).wrapped ≡ true
   called_wrapped kind call place tasks state None is = is
-  called_wrapped kind call place tasks state (Some method) is = 
+  called_wrapped kind call place tasks state (Some method) is =
       either_wrapped (lacks_cells no_limits tables kind state.heap) (stopped (HeapFull place) state)
       (if is_past no_limits.frames (length state.below + 2) then stopped (FrameFull place) state else entered tables kind call method tasks state) is
       (either_wrapped (is_past no_limits.frames (length state.below + 2)) (stopped (FrameFull place) state) (entered tables kind call method tasks state) is is)

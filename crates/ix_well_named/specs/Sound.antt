@@ -2,9 +2,8 @@
 -- `ix_formed`, each seen by a run.
 use Rattle.std.specs.Prelude.{◌≡◌, ◌<◌, ℕ, Bool, true, List, length, Option, Some}
 use Rattle.ix_core.specs.declared.claim.Type_.{Type_}
-use Rattle.ix_core.specs.declared.program.Program.{Program}
 use Rattle.ix_core.specs.Heap.{Held}
-use Rattle.ix_core.specs.Tables.{Tables, method_at, default_result}
+use Rattle.ix_core.specs.Tables.{Tables}
 use Rattle.ix_meaning.specs.declared.note.Meaning.{Meaning}
 use Rattle.ix_meaning.specs.Members.{World, Callee, method_named}
 use Rattle.ix_meaning.specs.Scope.{Known as Variable}
