@@ -16,7 +16,7 @@ use Rattle.ix_outside.proofs.PrefixesTaken.{TookPrefix-none}
 use Rattle.ix_words.specs.declared.values.Sums.{Sums}
 use Rattle.ix_words.specs.Commands.{Command, Check, Run, Bench, Verify}
 use Rattle.ix_tool.specs.Answers.{Answers, IsVerdict, AsksCert, NeedsCert, read_failed, file_in, cert_in, file_of, cert_of, source_name, source_bytes, judged_bytes}
-use Rattle.ix_tool.specs.Ends.{WasUnread, EndsUnread, TookUnread, SafeBytes, SafeBy, Promises, bytes_of, cert_bytes_of, last_of}
+use Rattle.ix_tool.specs.Ends.{WasUnread, EndsUnread, TookUnread, SafeBytes, SafeOnMachine, SafeBy, Promises, bytes_of, cert_bytes_of, last_of}
 use Rattle.ix_tool.specs.Inputs.{Obeys}
 use Rattle.ix_tool.specs.Judgements.{profile_of}
 use Rattle.ix_tool.proofs.Answered.{IsCertRead, read_right, verdict_answers, other_status}
@@ -91,7 +91,7 @@ obeyed_promise IsSure before after asked command other given cert result old new
 pub obeyed_safe : (IsSure : List ℕ → Type 0) (before after : ℕ) (asked : Option Command) (command : Command) (given : List ℕ) (cert : Option (List ℕ)) (result : Status) (old new : Sinks)
     (sums : Sums) (certificate library : Bool) (file : List ℕ)
     → Some command ≡ asked → Delivers (Obeys IsSure before after command given cert) result old new → asked ≡ Some (Check sums certificate library file) → result ≡ Done
-    → SafeBytes (profile_of sums) (judged_bytes library given)
+    → SafeBytes (profile_of sums) (judged_bytes library given) × SafeOnMachine (profile_of sums) (judged_bytes library given)
 obeyed_safe IsSure before after asked command given cert result old new sums certificate library file is d checks done =
     let p = obeyed_promise IsSure before after asked command (Check sums certificate library file) given cert result old new is d checks done in p.1 p.2
 
