@@ -1,6 +1,6 @@
 //! The ints and the arrays that facts name, each once.
 
-ghost use Rattle.std.specs.Prelude.{◌≡◌, ◌∷◌, [], IfOk, OnOk};
+ghost use Rattle.std.specs.Prelude.{◌≡◌, ◌∷◌, [], IsTrue, IfOk, OnOk};
 ghost use Rattle.ix_facts.specs.Exact.{offset_paths, ints_of, arrays_of, named_ints, named_arrays};
 ghost use Rattle.ix_path_index.specs.ByPath.{put_all};
 
@@ -69,6 +69,63 @@ fn put_named(ints: &mut PathSet, arrays: &mut PathSet, fact: &Fact) -> Result<()
     }
 }
 
+fn is_offset_marked(paths: &PathSet, offset: &PathOff) -> bool
+    ensures { IsTrue result → put_all paths.now (offset_paths offset.now) ≡ paths.now }
+{
+    match offset {
+        PathOff::Nothing => true,
+        PathOff::Plus(q) => paths.is_marked(q),
+        PathOff::Minus(q) => paths.is_marked(q),
+    }
+}
+
+/// Whether the ints that the fact names are marked as put.
+fn are_ints_marked(ints: &PathSet, fact: &Fact) -> bool
+    ensures { IsTrue result → put_all ints.now (ints_of fact.now) ≡ ints.now }
+{
+    match fact {
+        Fact::Rng(p, _, _) => ints.is_marked(p),
+        Fact::LenRng(_, _, _) => true,
+        Fact::Low(p, _) => ints.is_marked(p),
+        Fact::Same(_, _) => true,
+        Fact::IsLen(p, _) => ints.is_marked(p),
+        Fact::Less(p, q, _) => ints.is_marked(p) && ints.is_marked(q),
+        Fact::Sum(t, y, z) => ints.is_marked(t) && (ints.is_marked(y) && ints.is_marked(z)),
+        Fact::Search(p, _) => ints.is_marked(p),
+        Fact::Neg(p, _) => ints.is_marked(p),
+        Fact::Upper(p, _, offset, _) => ints.is_marked(p) && is_offset_marked(ints, offset),
+    }
+}
+
+/// Whether the arrays that the fact names are marked as put.
+fn are_arrays_marked(arrays: &PathSet, fact: &Fact) -> bool
+    ensures { IsTrue result → put_all arrays.now (arrays_of fact.now) ≡ arrays.now }
+{
+    match fact {
+        Fact::Rng(_, _, _) => true,
+        Fact::LenRng(a, _, _) => arrays.is_marked(a),
+        Fact::Low(_, _) => true,
+        Fact::Same(a, b) => arrays.is_marked(a) && arrays.is_marked(b),
+        Fact::IsLen(_, a) => arrays.is_marked(a),
+        Fact::Less(_, _, _) => true,
+        Fact::Sum(_, _, _) => true,
+        Fact::Search(_, a) => arrays.is_marked(a),
+        Fact::Neg(_, a) => arrays.is_marked(a),
+        Fact::Upper(_, a, _, _) => arrays.is_marked(a),
+    }
+}
+
+/// Puts what the fact names. Of most facts all is there already, which is a look at their marks.
+fn put_new(ints: &mut PathSet, arrays: &mut PathSet, fact: &Fact) -> Result<(), AllocError>
+    ensures ints { OnOk result (ints.new ≡ put_all ints.old (ints_of fact.now)) }
+    ensures arrays { OnOk result (arrays.new ≡ put_all arrays.old (arrays_of fact.now)) }
+{
+    if are_ints_marked(ints, fact) && are_arrays_marked(arrays, fact) {
+        return Ok(());
+    }
+    put_named(ints, arrays, fact)
+}
+
 /// The ints that the facts name, and the arrays. The only error is want of memory.
 pub fn ints_and_arrays(alloc: Global, facts: &[Fact]) -> Result<(Vec<Path>, Vec<Path>), AllocError>
     ensures ints { IfOk result (λ named. named.0.items ≡ put_all [] (named_ints facts.now)) }
@@ -77,7 +134,7 @@ pub fn ints_and_arrays(alloc: Global, facts: &[Fact]) -> Result<(Vec<Path>, Vec<
     let mut ints = PathSet::new(alloc);
     let mut arrays = PathSet::new(alloc);
     for fact in facts {
-        put_named(&mut ints, &mut arrays, fact)?;
+        put_new(&mut ints, &mut arrays, fact)?;
     }
     Ok((ints.into_paths(), arrays.into_paths()))
 }

@@ -131,6 +131,14 @@ impl PathSet {
         self.put_unmarked(p)
     }
 
+    /// Whether the path is marked as standing there: then to put it changes nothing. It takes no memory.
+    #[inline]
+    pub fn is_marked(&self, p: &Path) -> bool
+        ensures { IsTrue result → insert_key path_cmp self.now p.now ≡ self.now }
+    {
+        is_marked(&self.marks, p)
+    }
+
     #[inline(never)]
     fn put_unmarked(&mut self, p: Path) -> Result<(), AllocError>
         ensures { OnOk result (self.new ≡ insert_key path_cmp self.old p) }
