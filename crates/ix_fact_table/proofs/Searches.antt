@@ -13,9 +13,10 @@ use Rattle.ix_core.specs.declared.fact.Path.{Path}
 use Rattle.ix_core.specs.declared.fact.Fact.{Fact}
 use Rattle.ix_facts.specs.Facts.{IsIn}
 use Rattle.ix_facts.specs.PathOrder.{path_cmp, path_total}
-use Rattle.ix_fact_table.specs.FactOrder.{AtKey, first_path, rest_cmp, fact_cmp, fact_total, at_key, key_equal}
+use Rattle.ix_fact_table.specs.FactOrder.{AtKey, first_path, rest_cmp, fact_cmp, fact_total, at_key, key_equal, alike_back}
 use Rattle.ix_fact_table.specs.Rising.{rises}
 use Rattle.ix_fact_table.specs.RisingLaws.{below_each, rises_parts}
+use Rattle.ix_fact_table.specs.Walks.{ArePast}
 
 in_get : (facts : List Fact) (k : ℕ) (d : Fact) → k < length facts → IsIn (get_or facts k d) facts
 in_get [] k d lt = absurd (omega arith)
@@ -60,6 +61,15 @@ found_at facts key at equal d = at_key (slice_index_or facts at d) key (ap is_eq
 
 pub found_in : (facts whole : List Fact) (key other : Fact) (at : ℕ) (d : Fact) → facts ≡ whole → key ≡ other → (at < length facts) × ((e : Fact) → AtKey (slice_index_or facts at e) key) → IsIn (slice_index_or facts at d) whole × AtKey (slice_index_or facts at d) other
 found_in facts whole key other at d is same found = (subst (IsIn (slice_index_or facts at d)) is (in_place facts at d found.0), subst (AtKey (slice_index_or facts at d)) same (found.1 d))
+
+-- what stands before the place that is found is past
+pub found_past : (facts : List Fact) (key : Fact) (at : ℕ) → rises facts ≡ true → at < length facts → IsBinarySearchResult (λ f. fact_cmp f key) facts (Ok at) → ArePast facts at key
+found_past facts key at r within equal k d less =
+    let there = get_or facts at d in
+    sym (alike_back there key (get_or facts k d) (at_key there key (ap is_eq (equal d)))) ∙ earlier facts r k at d less within
+
+pub missed_past : (facts : List Fact) (key : Fact) (at : ℕ) → rises facts ≡ true → IsBinarySearchResult (λ f. fact_cmp f key) facts (Err at) → ArePast facts at key
+missed_past facts key at r parted k d less = (parted (comparisons_rise facts key r)).0 k d (omega arith) less
 
 -- ---- the facts on a path
 

@@ -1,5 +1,5 @@
 -- What a walk along two lists of facts knows of the facts that are left.
-use Rattle.std.specs.Prelude.{◌≡◌, ◌⊎◌, ◌↔◌, Bool, true, false, List, [], ◌∷◌, ◌++◌, length, refl}
+use Rattle.std.specs.Prelude.{◌≡◌, ◌⊎◌, ◌↔◌, ◌≤◌, ℕ, zero, suc, Bool, true, false, List, [], ◌∷◌, ◌++◌, length, take, drop, refl}
 use Rattle.std.specs.declared.cmp.Ordering.TheVariants.{Less as Before, Equal, Greater}
 use Rattle.std.specs.Ordering.{is_eq, ordering_reverse}
 use Rattle.std.proofs.Common.{arith, inl, inr, ap, sym, ◌∙◌, subst, ⊎_elim, append_assoc}
@@ -12,7 +12,7 @@ use Rattle.ix_fact_table.specs.Meets.{met, common}
 use Rattle.ix_fact_table.specs.Rising.{is_below, rises}
 use Rattle.ix_fact_table.specs.MeetLaws.{met_left, met_right, met_key, common_key, covers_key}
 use Rattle.ix_fact_table.specs.RisingLaws.{below_each, below_from, not_before, rises_parts, rises_from, below_on, below_some, below_at_key, rises_front, rises_other}
-use Rattle.ix_fact_table.specs.Walks.{FromBoth, left, right, both, HasBoth, IsShared, HasShared, AllCovered, if_not}
+use Rattle.ix_fact_table.specs.Walks.{ArePast, FromBoth, left, right, both, HasBoth, IsShared, HasShared, AllCovered, if_not}
 
 pub none_left : (facts : List Fact) → length facts ≡ 0 → facts ≡ []
 none_left [] none = refl
@@ -133,6 +133,16 @@ module _ (first second mine theirs : List Fact) (m : Fact) (ms : List Fact) (t :
       }
 
 -- where nothing is left of one list, what is left of both completes the whole
+-- a run of facts that are all before the next one of the other list
+pub merging_run : (first second : List Fact) (n : ℕ) (mine theirs : List Fact) (t : Fact) (ts : List Fact) (all : List Fact) → theirs ≡ t ∷ ts → n ≤ length mine → ArePast mine n t
+    → Merging first second mine theirs all → Merging first second (drop n mine) theirs (all ++ take n mine)
+merging_run first second zero mine theirs t ts all is within past now = rw (append-nil all) now
+merging_run first second (suc n) [] theirs t ts all is within past now = absurd (omega arith)
+merging_run first second (suc n) (m ∷ ms) theirs t ts all is within past now =
+    let one = merging_left first second (m ∷ ms) theirs m ms t ts refl is all (past 0 m (omega arith)) now in
+    let run = merging_run first second n ms theirs t ts (all ++ m ∷ []) is (omega arith) (λ k d less. past (suc k) d (omega arith)) one in
+    subst (Merging first second (drop n ms) theirs) (append_assoc all (m ∷ []) (take n ms)) run
+
 pub merging_ends : (first second mine theirs all : List Fact) → (mine ≡ []) ⊎ (theirs ≡ []) → Merging first second mine theirs all → HasBoth first second ((all ++ mine) ++ theirs) × (rises ((all ++ mine) ++ theirs) ≡ true)
 merging_ends first second mine theirs all none now =
     ⊎_elim

@@ -1,10 +1,15 @@
 -- What walks along two lists of facts give.
-use Rattle.std.specs.Prelude.{◌≡◌, true, false, Bool, cond, int_le, ◌&&◌, List, [], ◌∷◌}
+use Rattle.std.specs.Prelude.{◌≡◌, ◌<◌, ℕ, true, false, Bool, cond, int_le, ◌&&◌, List, [], ◌∷◌, get_or}
+use Rattle.std.specs.declared.cmp.Ordering.TheVariants.{Less as Before}
 use Rattle.ix_core.specs.declared.fact.Fact.{Fact}
 use Rattle.ix_core.specs.declared.fact.Fact.TheVariants.{Rng, LenRng, Low, Less, Upper}
 use Rattle.ix_facts.specs.Facts.{IsIn, Covers, is_default}
-use Rattle.ix_fact_table.specs.FactOrder.{AtKey}
+use Rattle.ix_fact_table.specs.FactOrder.{AtKey, fact_cmp}
 use Rattle.ix_fact_table.specs.Meets.{met, common}
+
+-- so many facts at the front have keys that are less than the other fact's
+abbrev pub ArePast : List Fact → ℕ → Fact → Type 0
+ArePast facts count other = (k : ℕ) (d : Fact) → k < count → fact_cmp (get_or facts k d) other ≡ Before
 
 -- the fact is one of the two lists, or what a fact of each says together
 pub data FromBoth (first second : List Fact) (f : Fact) : Type 0 where

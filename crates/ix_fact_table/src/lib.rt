@@ -16,6 +16,7 @@ mod look_ups;
 mod meets;
 mod order;
 mod rising;
+mod row;
 mod sorted;
 mod tables;
 mod walks;

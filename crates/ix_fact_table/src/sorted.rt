@@ -8,46 +8,27 @@ ghost use Rattle.ix_fact_table.specs.Rising.{is_table_of};
 use crate::insertion::inserted;
 use crate::kinds::{from_first, of_one_kind};
 use crate::rising::kept_front;
-use crate::walks::{merged, push_all};
+use crate::walks::merged;
 use ix_core::Fact;
 use ix_facts::Kind;
-use ix_text::List;
 use std::alloc::{AllocError, Global};
-
-fn copied(alloc: Global, facts: &[Fact]) -> Result<List<Fact>, AllocError>
-    ensures { IfOk result (λ table. table ≡ facts.now) }
-{
-    let mut table = List::new(alloc);
-    push_all(&mut table, facts)?;
-    Ok(table)
-}
-
-fn sorted_few(alloc: Global, kind: Kind, facts: &[Fact]) -> Result<List<Fact>, AllocError>
-    requires classes { HaveClasses facts.now }
-    ensures form { IfOk result (λ table. is_table_of kind table ≡ true) }
-    ensures table { IfOk result (λ table. IsTable (of_kind kind facts.now) table) }
-{
-    let entries = inserted(alloc, kind, facts)?;
-    let table = copied(alloc, &entries)?;
-    Ok(table)
-}
 
 /// Up to how many facts each is put in its place, which takes less time than to merge halves.
 const FEW: usize = 64;
 
 /// What stands at the front as a table keeps it is kept, where it is at least half of the list, and the others are merged into it; of another list the halves
 /// are made into tables, and these are merged. So where most facts stand in order the time is near linear.
-fn sorted_many(alloc: Global, kind: Kind, facts: &[Fact]) -> Result<List<Fact>, AllocError>
+fn sorted_many(alloc: Global, kind: Kind, facts: &[Fact]) -> Result<Vec<Fact>, AllocError>
     requires classes { HaveClasses facts.now }
-    ensures form { IfOk result (λ table. is_table_of kind table ≡ true) }
-    ensures table { IfOk result (λ table. IsTable (of_kind kind facts.now) table) }
+    ensures form { IfOk result (λ table. is_table_of kind table.items ≡ true) }
+    ensures table { IfOk result (λ table. IsTable (of_kind kind facts.now) table.items) }
 {
     if facts.len() <= FEW {
-        return sorted_few(alloc, kind, facts);
+        return inserted(alloc, kind, facts);
     }
     let kept = kept_front(kind, facts);
     if kept == facts.len() {
-        let table = copied(alloc, facts)?;
+        let table = Vec::from_slice(alloc, facts)?;
         return Ok(table);
     }
     let half = facts.len() / 2;
@@ -76,22 +57,6 @@ pub(crate) fn sorted(alloc: Global, kind: Kind, facts: &[Fact]) -> Result<Vec<Fa
         return Ok(few);
     }
     let own = of_one_kind(alloc, kind, rest)?;
-    let table = sorted_many(alloc, kind, &own)?;
-    let many = Vec::from_slice(alloc, table.as_slice())?;
+    let many = sorted_many(alloc, kind, &own)?;
     Ok(many)
-}
-
-/// The same as the list of a table.
-pub(crate) fn sorted_list(
-    alloc: Global,
-    kind: Kind,
-    facts: &[Fact],
-) -> Result<List<Fact>, AllocError>
-    requires classes { HaveClasses facts.now }
-    ensures form { IfOk result (λ table. is_table_of kind table ≡ true) }
-    ensures table { IfOk result (λ table. IsTable (of_kind kind facts.now) table) }
-{
-    let own = sorted(alloc, kind, facts)?;
-    let table = copied(alloc, &own)?;
-    Ok(table)
 }

@@ -20,12 +20,12 @@ use crate::entries::{in_first_order as first_order, int_of};
 use crate::fact_table::FactTable;
 use crate::filters::{beside_path, beside_target};
 use crate::look_ups::{facts_on, place_of};
-use crate::sorted::{sorted, sorted_list};
+use crate::row::Row;
+use crate::sorted::sorted;
 use crate::walks::{covers_all, merged, shared};
 use ix_core::{Fact, OpKind, Path};
 use ix_fact_paths::rounded_facts;
 use ix_facts::{Kind, Landmarks};
-use ix_text::List;
 use std::alloc::{AllocError, Global};
 
 impl FactTable {
@@ -36,7 +36,7 @@ impl FactTable {
     {
         FactTable {
             kind,
-            facts: List::new(alloc),
+            facts: Row::of(Vec::new(alloc)),
         }
     }
 
@@ -46,8 +46,11 @@ impl FactTable {
         ensures table { IfOk result (λ table. IsTable (of_kind kind facts.now) (facts_of table)) }
         ensures kind { IfOk result (λ table. table_kind table ≡ kind) }
     {
-        let facts = sorted_list(alloc, kind, facts)?;
-        Ok(FactTable { kind, facts })
+        let facts = sorted(alloc, kind, facts)?;
+        Ok(FactTable {
+            kind,
+            facts: Row::of(facts),
+        })
     }
 
     /// All facts, in the order of their keys. It takes no memory.
@@ -83,7 +86,7 @@ impl FactTable {
         let facts = beside_path(alloc, self.facts.as_slice(), path)?;
         Ok(FactTable {
             kind: self.kind,
-            facts,
+            facts: Row::of(facts),
         })
     }
 
@@ -96,7 +99,7 @@ impl FactTable {
         let facts = beside_target(alloc, self.facts.as_slice(), kind)?;
         Ok(FactTable {
             kind: self.kind,
-            facts,
+            facts: Row::of(facts),
         })
     }
 
@@ -110,7 +113,7 @@ impl FactTable {
         let facts = merged(alloc, self.facts.as_slice(), &more)?;
         Ok(FactTable {
             kind: self.kind,
-            facts,
+            facts: Row::of(facts),
         })
     }
 
@@ -130,19 +133,19 @@ impl FactTable {
         let facts = merged(alloc, self.facts.as_slice(), &more)?;
         Ok(Some(FactTable {
             kind: self.kind,
-            facts,
+            facts: Row::of(facts),
         }))
     }
 
     /// The table of some of its facts: of all that name none of certain paths. It takes no memory.
-    pub fn of_part(&self, facts: List<Fact>) -> FactTable
-        requires part { (is : Path → Bool) × (facts ≡ without is (facts_of self.now)) }
-        ensures facts { facts_of result ≡ facts }
+    pub fn of_part(&self, facts: Vec<Fact>) -> FactTable
+        requires part { (is : Path → Bool) × (facts.items ≡ without is (facts_of self.now)) }
+        ensures facts { facts_of result ≡ facts.items }
         ensures kind { table_kind result ≡ table_kind self.now }
     {
         FactTable {
             kind: self.kind,
-            facts,
+            facts: Row::of(facts),
         }
     }
 
@@ -195,10 +198,10 @@ impl FactTable {
         ensures kind { IfOk result (λ table. table_kind table ≡ table_kind self.now) }
     {
         let moved = rounded_facts(alloc, self.facts.as_slice(), marks.ints.as_slice())?;
-        let facts = sorted_list(alloc, self.kind, &moved)?;
+        let facts = sorted(alloc, self.kind, &moved)?;
         Ok(FactTable {
             kind: self.kind,
-            facts,
+            facts: Row::of(facts),
         })
     }
 
@@ -217,7 +220,7 @@ impl FactTable {
         let facts = shared(alloc, self.facts.as_slice(), other.facts.as_slice())?;
         Ok(FactTable {
             kind: self.kind,
-            facts,
+            facts: Row::of(facts),
         })
     }
 }

@@ -1,25 +1,52 @@
 //! Walks along two lists of facts that rise by key.
 
-ghost use Rattle.std.specs.Prelude.{◌≡◌, true, ◌↔◌, ◌++◌, IsTrue, IfOk, OnOk};
+ghost use Rattle.std.specs.Prelude.{◌≡◌, ◌≤◌, true, ◌↔◌, ◌++◌, length, IsTrue, IfOk, OnOk};
 ghost use Rattle.ix_facts.specs.Facts.{is_default};
 ghost use Rattle.ix_fact_table.specs.Rising.{rises};
-ghost use Rattle.ix_fact_table.specs.Walks.{HasBoth, HasShared, AllCovered, if_not};
+ghost use Rattle.ix_fact_table.specs.Walks.{ArePast, HasBoth, HasShared, AllCovered, if_not};
 
 use crate::entries::is_said_of_all;
 use crate::meets::{common, is_as_strong, met};
 use crate::order::compare_facts;
+use crate::rising::is_before;
 use ix_core::Fact;
-use ix_text::List;
 use std::alloc::{AllocError, Global};
 use std::cmp::Ordering;
 
-pub(crate) fn push_all(facts: &mut List<Fact>, more: &[Fact]) -> Result<(), AllocError>
-    ensures { OnOk result (facts.new ≡ facts.old ++ more.now) }
-{
-    for fact in more {
-        facts.push(*fact)?;
+/// How many facts two lists have together, where that is a number. It is for room alone.
+fn room(first: &[Fact], second: &[Fact]) -> usize {
+    first.len().saturating_add(second.len())
+}
+
+/// How many facts the shorter list has. It is for room alone.
+fn lesser_length(first: &[Fact], second: &[Fact]) -> usize {
+    first.len().min(second.len())
+}
+
+/// In how few steps a short run ends: a search for the end of a longer one is begun only behind them.
+const SHORT: usize = 8;
+
+/// Whether a fact that is not among the first few is before the other. It is for speed alone.
+fn is_long_before(facts: &[Fact], other: &Fact) -> bool {
+    match facts.get(SHORT) {
+        Some(fact) => is_before(fact, other),
+        None => false,
     }
-    Ok(())
+}
+
+/// How many facts at the front have keys that are less than the other's: all that have, where these are not few.
+fn run_before(facts: &[Fact], other: &Fact) -> usize
+    requires rises { rises facts.now ≡ true }
+    ensures within { result ≤ length facts.now }
+    ensures before { ArePast facts.now result other.now }
+{
+    if !is_long_before(facts, other) {
+        return 0;
+    }
+    match facts.binary_search_by(|fact| compare_facts(fact, other)) {
+        Ok(place) => place,
+        Err(place) => place,
+    }
 }
 
 /// The facts of both lists, at each key one: what both say together.
@@ -27,13 +54,13 @@ pub(crate) fn merged(
     alloc: Global,
     first: &[Fact],
     second: &[Fact],
-) -> Result<List<Fact>, AllocError>
+) -> Result<Vec<Fact>, AllocError>
     requires first { rises first.now ≡ true }
     requires second { rises second.now ≡ true }
-    ensures both { IfOk result (λ all. HasBoth first.now second.now all) }
-    ensures rises { IfOk result (λ all. rises all ≡ true) }
+    ensures both { IfOk result (λ all. HasBoth first.now second.now all.items) }
+    ensures rises { IfOk result (λ all. rises all.items ≡ true) }
 {
-    let mut all = List::new(alloc);
+    let mut all = Vec::with_capacity(alloc, room(first, second))?;
     let mut mine = first;
     let mut theirs = second;
     while let (Some((fact, more)), Some((other, theirs_more))) = (
@@ -43,7 +70,9 @@ pub(crate) fn merged(
         match compare_facts(fact, other) {
             Ordering::Less => {
                 all.push(*fact)?;
-                mine = more;
+                let (run, behind) = more.split_at(run_before(more, other));
+                all.extend_from_slice(run)?;
+                mine = behind;
             }
             Ordering::Greater => {
                 all.push(*other)?;
@@ -56,13 +85,13 @@ pub(crate) fn merged(
             }
         }
     }
-    push_all(&mut all, mine)?;
-    push_all(&mut all, theirs)?;
+    all.extend_from_slice(mine)?;
+    all.extend_from_slice(theirs)?;
     Ok(all)
 }
 
-fn push_shared(shared: &mut List<Fact>, fact: Fact) -> Result<(), AllocError>
-    ensures { OnOk result (shared.new ≡ shared.old ++ if_not (is_default fact) fact) }
+fn push_shared(shared: &mut Vec<Fact>, fact: Fact) -> Result<(), AllocError>
+    ensures { OnOk result (shared.new.items ≡ shared.old.items ++ if_not (is_default fact) fact) }
 {
     if !is_said_of_all(&fact) {
         shared.push(fact)?;
@@ -75,13 +104,13 @@ pub(crate) fn shared(
     alloc: Global,
     first: &[Fact],
     second: &[Fact],
-) -> Result<List<Fact>, AllocError>
+) -> Result<Vec<Fact>, AllocError>
     requires first { rises first.now ≡ true }
     requires second { rises second.now ≡ true }
-    ensures shared { IfOk result (λ shared. HasShared first.now second.now shared) }
-    ensures rises { IfOk result (λ shared. rises shared ≡ true) }
+    ensures shared { IfOk result (λ shared. HasShared first.now second.now shared.items) }
+    ensures rises { IfOk result (λ shared. rises shared.items ≡ true) }
 {
-    let mut shared = List::new(alloc);
+    let mut shared = Vec::with_capacity(alloc, lesser_length(first, second))?;
     let mut mine = first;
     let mut theirs = second;
     while let (Some((fact, more)), Some((other, theirs_more))) = (

@@ -9,7 +9,6 @@ ghost use Rattle.ix_six_tables.specs.ChangedPaths.{is_spared, is_final, is_chang
 
 use ix_core::{Fact, OpKind, Path, PathOff, Program};
 use ix_fact_table::{assigned_path, is_of_path, is_of_target, names_path, some_name_path};
-use ix_text::List;
 use std::alloc::{AllocError, Global};
 
 /// The paths that a step may change.
@@ -165,10 +164,10 @@ pub fn some_name_changed(facts: &[Fact], changed: &Changed) -> bool
     }
 }
 
-fn beside_path(alloc: Global, facts: &[Fact], path: &Path) -> Result<List<Fact>, AllocError>
-    ensures { IfOk result (λ kept. kept ≡ without (of_path path.now) facts.now) }
+fn beside_path(alloc: Global, facts: &[Fact], path: &Path) -> Result<Vec<Fact>, AllocError>
+    ensures { IfOk result (λ kept. kept.items ≡ without (of_path path.now) facts.now) }
 {
-    let mut kept = List::new(alloc);
+    let mut kept = Vec::with_capacity(alloc, facts.len())?;
     for fact in facts {
         if !names_path(path, fact) {
             kept.push(*fact)?;
@@ -177,10 +176,10 @@ fn beside_path(alloc: Global, facts: &[Fact], path: &Path) -> Result<List<Fact>,
     Ok(kept)
 }
 
-fn beside_many(alloc: Global, facts: &[Fact], changed: &Changed) -> Result<List<Fact>, AllocError>
-    ensures { IfOk result (λ kept. kept ≡ without (is_changed changed.now) facts.now) }
+fn beside_many(alloc: Global, facts: &[Fact], changed: &Changed) -> Result<Vec<Fact>, AllocError>
+    ensures { IfOk result (λ kept. kept.items ≡ without (is_changed changed.now) facts.now) }
 {
-    let mut kept = List::new(alloc);
+    let mut kept = Vec::with_capacity(alloc, facts.len())?;
     for fact in facts {
         if !names_changed(changed, fact) {
             kept.push(*fact)?;
@@ -190,8 +189,8 @@ fn beside_many(alloc: Global, facts: &[Fact], changed: &Changed) -> Result<List<
 }
 
 /// The facts that name no path that the step may change. The only error is want of memory.
-pub fn unchanged(alloc: Global, facts: &[Fact], changed: &Changed) -> Result<List<Fact>, AllocError>
-    ensures { IfOk result (λ kept. kept ≡ without (is_changed changed.now) facts.now) }
+pub fn unchanged(alloc: Global, facts: &[Fact], changed: &Changed) -> Result<Vec<Fact>, AllocError>
+    ensures { IfOk result (λ kept. kept.items ≡ without (is_changed changed.now) facts.now) }
 {
     match one_path(changed) {
         Some(path) => beside_path(alloc, facts, &path),

@@ -3,4 +3,4 @@ use Rattle.ix_facts.specs.Forget.{of_path, without}
 use Rattle.ix_fact_table.proofs.filters.beside_path.Given as goal
 
 abbrev pub invariant-loop-fact : goal.invariant-loop-fact
-invariant-loop-fact l = l.kept ++ without (of_path l.path) (drop l.fact-index l.facts) ≡ without (of_path l.path) l.facts
+invariant-loop-fact l = l.kept.items ++ without (of_path l.path) (drop l.fact-index l.facts) ≡ without (of_path l.path) l.facts

@@ -14,7 +14,7 @@ returns-then-kept-facts-clause-table t c =
     let kept = c.kept_front-kept.result in
     let all : length facts ≤ kept = grind (arith, nat_tests, c.if-kept-facts.true) in
     let form : is_table_of c.args.kind facts ≡ true = subst (λ l. is_table_of c.args.kind l ≡ true) (take_all kept facts all) c.kept_front-kept.ensures.form in
-    subst (λ l. IsTable (of_kind c.args.kind c.args.facts.now) l) (sym c.in_ok-table.ensures) (kept_table c.args.kind c.args.facts.now form)
+    subst (λ l. IsTable (of_kind c.args.kind c.args.facts.now) l) (sym c.in_ok-table.ensures.items) (kept_table c.args.kind c.args.facts.now form)
 
 pub sorted_many-requires : goal.sorted_many-requires
 sorted_many-requires t c = (search rules, back_classes _ c.args.facts.now c.split_at.result.1.now c.split_at.ensures.back c.requires.classes)
@@ -23,12 +23,12 @@ pub returns-then-kept-half : goal.returns-then-kept-half
 returns-then-kept-half t c =
     let own = c.args.kind in
     let front = c.split_at.result.0.now in
-    let has = rw c.as_slice.ensures at c.in_ok-all.ensures.both in
+    let has = rw c.as_slice.ensures.value at c.in_ok-all.ensures.both in
     let form : is_table_of own front ≡ true = subst (λ l. is_table_of own l ≡ true) (sym c.split_at.ensures.front) c.kept_front-kept.ensures.form in
     record {
-      form = halves_form own front c.in_ok-second.second form c.in_ok-second.ensures.form c.in_ok-all.all has c.in_ok-all.ensures.rises;
-      table = halves_table own c.args.facts.now front c.split_at.result.1.now front c.in_ok-second.second c.split_at.ensures.by_index.0
-          form c.in_ok-second.ensures.form (kept_table own front form) c.in_ok-second.ensures.table c.in_ok-all.all has c.in_ok-all.ensures.rises;
+      form = halves_form own front c.in_ok-second.second.items form c.in_ok-second.ensures.form c.in_ok-all.all.items has c.in_ok-all.ensures.rises;
+      table = halves_table own c.args.facts.now front c.split_at.result.1.now front c.in_ok-second.second.items c.split_at.ensures.by_index.0
+          form c.in_ok-second.ensures.form (kept_table own front form) c.in_ok-second.ensures.table c.in_ok-all.all.items has c.in_ok-all.ensures.rises;
     }
 
 pub sorted_many-requires-2 : goal.sorted_many-requires-2
@@ -39,11 +39,11 @@ sorted_many-requires-3 t c = (search rules, back_classes _ c.args.facts.now c.sp
 
 pub returns : goal.returns
 returns t c =
-    let first = c.as_slice-2.ensures in
-    let second = c.as_slice-3.ensures in
+    let first = c.as_slice-2.ensures.value in
+    let second = c.as_slice-3.ensures.value in
     let has = rw (first, second) at c.in_ok-all-2.ensures.both in
     record {
-      form = halves_form c.args.kind c.in_ok-first.first c.in_ok-second-2.second c.in_ok-first.ensures.form c.in_ok-second-2.ensures.form c.in_ok-all-2.all has c.in_ok-all-2.ensures.rises;
-      table = halves_table c.args.kind c.args.facts.now c.split_at-2.result.0.now c.split_at-2.result.1.now c.in_ok-first.first c.in_ok-second-2.second c.split_at-2.ensures.by_index.0
-          c.in_ok-first.ensures.form c.in_ok-second-2.ensures.form c.in_ok-first.ensures.table c.in_ok-second-2.ensures.table c.in_ok-all-2.all has c.in_ok-all-2.ensures.rises;
+      form = halves_form c.args.kind c.in_ok-first.first.items c.in_ok-second-2.second.items c.in_ok-first.ensures.form c.in_ok-second-2.ensures.form c.in_ok-all-2.all.items has c.in_ok-all-2.ensures.rises;
+      table = halves_table c.args.kind c.args.facts.now c.split_at-2.result.0.now c.split_at-2.result.1.now c.in_ok-first.first.items c.in_ok-second-2.second.items c.split_at-2.ensures.by_index.0
+          c.in_ok-first.ensures.form c.in_ok-second-2.ensures.form c.in_ok-first.ensures.table c.in_ok-second-2.ensures.table c.in_ok-all-2.all.items has c.in_ok-all-2.ensures.rises;
     }

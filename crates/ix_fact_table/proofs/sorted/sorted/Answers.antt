@@ -16,7 +16,7 @@ pub returns : goal.returns
 returns c =
     let own = c.args.kind in
     let is = c.deref.ensures.value ∙ c.in_ok-own.ensures in
-    rw (c.in_ok-many.ensures.items, c.as_slice.ensures) (record {
-      form = c.in_ok-table.ensures.form;
-      table = subst (λ l. IsTable l c.in_ok-table.table) (ap (of_kind own) is ∙ (kind_twice own c.from_first-rest.result.now ∙ c.from_first-rest.ensures.same)) c.in_ok-table.ensures.table;
-    })
+    record {
+      form = c.in_ok-many.ensures.form;
+      table = subst (λ l. IsTable l c.in_ok-many.many.items) (ap (of_kind own) is ∙ (kind_twice own c.from_first-rest.result.now ∙ c.from_first-rest.ensures.same)) c.in_ok-many.ensures.table;
+    }

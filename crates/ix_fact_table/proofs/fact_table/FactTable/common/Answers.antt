@@ -7,11 +7,11 @@ invariant_of-result c =
     let mine = c.args.self.now in
     let theirs = c.args.other.now in
     let has = rw (c.as_slice.ensures, c.as_slice-2.ensures) at c.in_ok-facts.ensures.shared in
-    record { form = shared_form mine.kind theirs.kind (facts_of mine) (facts_of theirs) c.in_ok-facts.facts mine.form theirs.form has c.in_ok-facts.ensures.rises }
+    rw c.of.ensures (record { form = shared_form mine.kind theirs.kind (facts_of mine) (facts_of theirs) c.in_ok-facts.facts.items mine.form theirs.form has c.in_ok-facts.ensures.rises })
 
 pub returns-clause-common : goal.returns-clause-common
 returns-clause-common c =
     let mine = c.args.self.now in
     let theirs = c.args.other.now in
     let has = rw (c.as_slice.ensures, c.as_slice-2.ensures) at c.in_ok-facts.ensures.shared in
-    shared_common mine.kind theirs.kind (facts_of mine) (facts_of theirs) c.in_ok-facts.facts mine.form theirs.form has
+    rw c.of.ensures (shared_common mine.kind theirs.kind (facts_of mine) (facts_of theirs) c.in_ok-facts.facts.items mine.form theirs.form has)

@@ -6,4 +6,4 @@ pub invariant_of-result : goal.invariant_of-result
 invariant_of-result c =
     let table = c.args.self.now in
     let part = c.requires.part in
-    rw part.1 (record { form = without_form table.kind part.0 (facts_of table) table.form })
+    rw (c.of.ensures, part.1) (record { form = without_form table.kind part.0 (facts_of table) table.form })
