@@ -14,6 +14,8 @@ ghost use Rattle.ix_path_index.specs.Grouped.{on_grouped, on_list};
 ghost use Rattle.ix_path_index.specs.Spared.{some_named};
 
 use crate::ends::ends_of;
+use crate::limits::Limits;
+use crate::row::Row;
 use ix_bounds::{self, Groups, Indexed};
 use ix_core::{Fact, OpKind, Path, PathOff};
 use ix_facts::Know;
@@ -35,6 +37,7 @@ pub struct FactList {
     /// The ints and arrays that the facts name, each once.
     ints: Vec<Path>,
     arrays: Vec<Path>,
+    limits: Limits,
 }
 
 impl Model for FactList {
@@ -124,6 +127,9 @@ impl FactList {
         let ordered = in_all_orders(alloc, &facts)?;
         let ends = Grouped::of(alloc, ends_of(alloc, &ordered)?)?;
         let (ints, arrays) = ints_and_arrays(alloc, &ordered)?;
+        let row = Row { ordered, ends };
+        let limits = Limits::of(alloc, &row, &row.ordered)?;
+        let Row { ordered, ends } = row;
         let by_path = Grouped::of(alloc, ordered)?;
         Ok(FactList {
             facts,
@@ -131,6 +137,7 @@ impl FactList {
             ends,
             ints,
             arrays,
+            limits,
         })
     }
 
@@ -235,11 +242,17 @@ impl Know for FactList {
     }
 
     fn lo(&self, p: &Path) -> i64 {
-        ix_bounds::lower_bound(self, p)
+        match self.limits.low(p) {
+            Some(low) => low,
+            None => ix_bounds::lower_bound(self, p),
+        }
     }
 
     fn hi(&self, p: &Path) -> i64 {
-        ix_bounds::upper_limit(self, p)
+        match self.limits.high(p) {
+            Some(high) => high,
+            None => ix_bounds::upper_limit(self, p),
+        }
     }
 
     fn len_lo(&self, a: &Path) -> i64 {

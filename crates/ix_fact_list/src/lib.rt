@@ -6,9 +6,13 @@
 //! It never looks at a rule: what an operation or a test gives is not told here.
 #![tactic(auto)]
 
+mod bound_list;
 mod ends;
 mod fact_list;
+mod limits;
+mod row;
 
+pub use bound_list::BoundList;
 pub use ends::{before_links, up_to_ends};
 pub use fact_list::FactList;
 pub use ix_path_index::{in_all_orders, ints_and_arrays};

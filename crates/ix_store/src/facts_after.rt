@@ -19,7 +19,7 @@ use crate::known::{FEW, FEW_FOR_TESTS, Known};
 use ix_after::{facts_after, facts_of_copy, push_claim};
 use ix_core::{Fact, OpKind, Path, PathClaim, Profile, Type_};
 use ix_exact::{push_fact, push_less, push_upper};
-use ix_fact_list::FactList;
+use ix_fact_list::{BoundList, FactList};
 use ix_outcomes::{Outcome, facts_of_outcome};
 use ix_six_tables::{Changed, Tables, all_facts, rounded_facts, some_changes, tables_beside};
 use std::alloc::{AllocError, Global};
@@ -43,6 +43,17 @@ pub(crate) fn kept_facts(alloc: Global, facts: &[Fact]) -> Result<Vec<Fact>, All
         push_kept(&mut new, fact)?;
     }
     Ok(new)
+}
+
+/// Whether the rules of an operation ask for the facts on few paths. It is for speed alone.
+fn asks_few(kind: &OpKind) -> bool {
+    match kind {
+        OpKind::Const(_, _) => true,
+        OpKind::Copy(_, _, _) => true,
+        OpKind::Fill(_, _, _) => true,
+        OpKind::Load(_, _, _, _) => true,
+        _ => false,
+    }
 }
 
 impl Known {
@@ -104,6 +115,11 @@ impl Known {
             let new = facts_after(alloc, self, profile, kind)?;
             return Ok(new);
         }
+        if asks_few(kind) {
+            let list = BoundList::new(alloc, all_facts(alloc, rest)?)?;
+            let new = facts_after(alloc, &list, profile, kind)?;
+            return Ok(new);
+        }
         let list = self.beside(alloc, &changed, rest)?;
         let new = facts_after(alloc, &list, profile, kind)?;
         Ok(new)
@@ -127,7 +143,7 @@ impl Known {
             let new = facts_of_copy(alloc, self, ty, target, source)?;
             return Ok(new);
         }
-        let list = self.beside(alloc, &changed, rest)?;
+        let list = BoundList::new(alloc, all_facts(alloc, rest)?)?;
         let new = facts_of_copy(alloc, &list, ty, target, source)?;
         Ok(new)
     }
