@@ -73,6 +73,6 @@ module _ (program : Program) (locals : List (List Type_)) (formed : is_formed pr
       → Safe program profile
   laws_are_safe know profile laws starts =
       good_is_safe program know profile (StateTyped program types_in)
-      (λ method inputs begins. (start_typed program locals formed method inputs begins, starts method inputs begins))
+      (λ method inputs begins. (start_typed program locals formed method inputs begins.entry, starts method inputs begins))
       (λ limits state typed. step_typed program locals formed limits state typed)
       (λ limits state typed good. good_next profile (world_of program) (NowTyped program types_in) know laws limits state (record { heap_typed = typed.heap; frame_typed = typed.now }) good)

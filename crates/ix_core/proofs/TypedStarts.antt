@@ -16,7 +16,7 @@ use Rattle.ix_core.specs.Code.{Code, Do}
 use Rattle.ix_core.specs.Formed.{is_formed, op_fits, param_type_from, entry_type}
 use Rattle.ix_core.specs.Heap.{Held, Num, Heap, Object, ArrayOf, nothing, value_at, object_at}
 use Rattle.ix_core.specs.Machine.{Limits, State}
-use Rattle.ix_core.specs.Safe.{Input, Whole, Flag, Ints, HaveTypes, Begins, input_values, input_heap, start, state_after}
+use Rattle.ix_core.specs.Safe.{Input, Whole, Flag, Ints, HaveTypes, IsEntry, input_values, input_heap, start, state_after}
 use Rattle.ix_core.specs.Tables.{method_at, param_slot, param_slots, no_method}
 use Rattle.ix_core.specs.Tasks.{Tasks, Run}
 use Rattle.ix_core.specs.Typed.{IsOfType, HeapTyped, SlotsTyped}
@@ -159,13 +159,13 @@ module _ (program : Program) (locals : List (List Type_)) (formed : is_formed pr
   static_slot : (static : Bool) (count : ℕ) → static ≡ true → (if static then count else count + 1) ≡ count
   static_slot static count e = rw e refl
 
-  pub start_typed : (method : ℕ) (inputs : List Input) → Begins program method inputs → IsTyped (start program method inputs)
-  start_typed method inputs begins =
+  pub start_typed : (method : ℕ) (inputs : List Input) → IsEntry program method inputs → IsTyped (start program method inputs)
+  start_typed method inputs entry =
       let here = method_at program method in
-      let is = found_is method begins.found begins.at in
-      let lt : method < length program.methods = slice_get_within program.methods method begins.found begins.at in
-      let static : here.is_static ≡ true = ap (λ (m : Method). m.is_static) is ∙ begins.static in
-      let have : HaveTypes inputs here.param_types = subst (λ (m : Method). HaveTypes inputs m.param_types) (sym is) begins.typed in
+      let is = found_is method entry.found entry.at in
+      let lt : method < length program.methods = slice_get_within program.methods method entry.found entry.at in
+      let static : here.is_static ≡ true = ap (λ (m : Method). m.is_static) is ∙ entry.static in
+      let have : HaveTypes inputs here.param_types = subst (λ (m : Method). HaveTypes inputs m.param_types) (sym is) entry.typed in
       let heap = input_heap inputs here.param_types in
       let values = input_values 0 inputs in
       let none : param_slot here 0 ≡ 0 = static_slot here.is_static 0 static in
@@ -199,8 +199,8 @@ module _ (program : Program) (locals : List (List Type_)) (formed : is_formed pr
       }
 
   -- Every state of every run is typed.
-  pub states_typed : (limits : Limits) (method : ℕ) (inputs : List Input) (steps : ℕ) → Begins program method inputs → IsTyped (state_after program limits method inputs steps)
-  states_typed limits method inputs steps begins = run_typed program locals formed limits steps (start program method inputs) (start_typed method inputs begins)
+  pub states_typed : (limits : Limits) (method : ℕ) (inputs : List Input) (steps : ℕ) → IsEntry program method inputs → IsTyped (state_after program limits method inputs steps)
+  states_typed limits method inputs steps entry = run_typed program locals formed limits steps (start program method inputs) (start_typed method inputs entry)
 
   -- ---- what the next operation reads
 

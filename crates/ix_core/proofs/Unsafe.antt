@@ -32,7 +32,7 @@ first = program (class_of None [] (0 ∷ 1 ∷ []) ∷ []) [] 1
 
 first_begins : Begins first 0 (Ints [] ∷ [])
 unfolding hidden-the_row-Item-0 hidden-the_row-Cond-1 denote.Hole.Carrier.hidden int_wrap
-first_begins = record { found = _; at = refl; static = refl; typed = ((refl, tt, omega (arith)), tt); meets = (tt, tt, tt) }
+first_begins = record { entry = record { found = _; at = refl; static = refl; typed = ((refl, tt, omega (arith)), tt) }; meets = (tt, tt, tt) }
 
 -- an index outside, in both profiles: nothing wrapped
 first_unsafe : (profile : Profile) → Safe first profile → ⊥
@@ -66,7 +66,7 @@ five_is_int = record { from = omega (arith, ints); to = omega (arith, ints) }
 
 next_begins : Begins next 0 (Ints (pos 5 ∷ []) ∷ Whole (pos 2147483647) ∷ [])
 unfolding hidden-the_row-Item-0 hidden-the_row-Cond-1 denote.Hole.Carrier.hidden int_wrap
-next_begins = record { found = _; at = refl; static = refl; typed = ((refl, (five_is_int, tt), omega (arith)), (greatest_is_int, tt)); meets = (tt, (tt, tt), ((omega (arith, ints), tt), tt, tt)) }
+next_begins = record { entry = record { found = _; at = refl; static = refl; typed = ((refl, (five_is_int, tt), omega (arith)), (greatest_is_int, tt)) }; meets = (tt, (tt, tt), ((omega (arith, ints), tt), tt, tt)) }
 
 -- an index outside behind a sum that wrapped
 next_unsafe : Safe next Int32 → ⊥
@@ -86,7 +86,7 @@ make = program (class_of None [] (0 ∷ 1 ∷ []) ∷ []) [] 0
 
 make_begins : Begins make 0 (Whole (negsuc 0) ∷ [])
 unfolding hidden-the_row-Item-0 hidden-the_row-Cond-1 denote.Hole.Carrier.hidden int_wrap
-make_begins = record { found = _; at = refl; static = refl; typed = (record { from = omega (arith, ints); to = omega (arith, ints) }, tt); meets = (tt, tt, tt) }
+make_begins = record { entry = record { found = _; at = refl; static = refl; typed = (record { from = omega (arith, ints); to = omega (arith, ints) }, tt) }; meets = (tt, tt, tt) }
 
 -- a negative length
 make_unsafe : Safe make Ideal → ⊥

@@ -45,9 +45,11 @@ entered program entry words method inputs given met =
     let same : method_at program method ≡ get_or program.methods method no_method = ap (λ (m : Option Method). unwrap_or m no_method) there in
     let passes = subst (λ (m : Method). is_entry program entry m ≡ true) (sym same) first.passes in
     record {
-      found = method_at program method;
-      at = there ∙ ap Some (sym same);
-      static = (and_parts _ _ passes).0;
-      typed = have_types (method_at program method).param_types words inputs given.values;
+      entry = record {
+        found = method_at program method;
+        at = there ∙ ap Some (sym same);
+        static = (and_parts _ _ passes).0;
+        typed = have_types (method_at program method).param_types words inputs given.values;
+      };
       meets = (none_unmet (method_at program method) inputs).0 met;
     }

@@ -137,4 +137,4 @@ module _ (program : Program) (locals : List (List Type_)) (formed : is_formed pr
   safe_where_apart =
       dispatched_safe program profile (NowTyped program (types_in program locals formed)) know no_errors_keep_laws (dispatches program locals formed profile texts entries) (StateTyped program (types_in program locals formed))
       (λ limits state typed. step_typed program locals formed limits state typed) (λ state typed. record { heap_typed = typed.heap; frame_typed = typed.now })
-      (λ method inputs begins. (start_typed program locals formed method inputs begins, starts_good program locals formed profile know no_errors_keep_laws method inputs begins))
+      (λ method inputs begins. (start_typed program locals formed method inputs begins.entry, starts_good program locals formed profile know no_errors_keep_laws method inputs begins))

@@ -44,7 +44,7 @@ seven_is_int = record { from = omega (arith, ints); to = omega (arith, ints) }
 
 shared_begins : Begins shared 0 (Ints (pos 7 ∷ pos 7 ∷ []) ∷ [])
 unfolding hidden-the_row-Item-0 hidden-the_row-Cond-1 denote.Hole.Carrier.hidden int_wrap
-shared_begins = record { found = _; at = refl; static = refl; typed = ((refl, (seven_is_int, (seven_is_int, tt)), omega (arith)), tt); meets = ((omega (arith), tt), (tt, (tt, tt)), tt) }
+shared_begins = record { entry = record { found = _; at = refl; static = refl; typed = ((refl, (seven_is_int, (seven_is_int, tt)), omega (arith)), tt) }; meets = ((omega (arith), tt), (tt, (tt, tt)), tt) }
 
 shared_unsafe : (profile : Profile) → Safe shared profile → ⊥
 unfolding hidden-the_row-Item-0 hidden-the_row-Cond-1 denote.Hole.Carrier.hidden int_wrap

@@ -116,10 +116,10 @@ pub starts_good : (program : Program) (locals : List (List Type_)) (formed : is_
     → (method : ℕ) (inputs : List Input) → Begins program method inputs → Good (direct program) know profile (start program method inputs)
 starts_good program locals formed profile know laws method inputs begins =
     let here = method_at program method in
-    let is : here ≡ begins.found = ap (λ o. unwrap_or o no_method) begins.at in
-    let lt : method < length program.methods = slice_get_within program.methods method begins.found begins.at in
-    let static : here.is_static ≡ true = ap (λ (m : Method). m.is_static) is ∙ begins.static in
-    let have : HaveTypes inputs here.param_types = subst (λ (m : Method). HaveTypes inputs m.param_types) (sym is) begins.typed in
+    let is : here ≡ begins.entry.found = ap (λ o. unwrap_or o no_method) begins.entry.at in
+    let lt : method < length program.methods = slice_get_within program.methods method begins.entry.found begins.entry.at in
+    let static : here.is_static ≡ true = ap (λ (m : Method). m.is_static) is ∙ begins.entry.static in
+    let have : HaveTypes inputs here.param_types = subst (λ (m : Method). HaveTypes inputs m.param_types) (sym is) begins.entry.typed in
     let meets : Meets here inputs = subst (λ (m : Method). Meets m inputs) (sym is) begins.meets in
     let parts = method_has program locals formed method lt in
     let params = params_count program locals formed here 0 here.params here.param_types parts.params in

@@ -72,17 +72,19 @@ some_is x y is = ap (λ o. unwrap_or o x) is
 pub enters_begins : (unit : Source) (p : Program) → IsAccepted unit p → (method : ℕ) (inputs : List Input) → Enters unit method inputs → Begins p method inputs
 enters_begins unit p is method inputs enters =
     let table : Names = names unit in
-    let lt : method < length (written_from 0 unit.classes) = slice_get_within (written_from 0 unit.classes) method enters.found enters.at in
+    let lt : method < length (written_from 0 unit.classes) = slice_get_within (written_from 0 unit.classes) method enters.entry.found enters.entry.at in
     let d = method_declared unit p is Any AnyDefault (any_class (tables table unit.classes) (first_numbers unit.classes) unit.classes) method lt in
-    let found : enters.found ≡ written d.next.class d.decl = some_is enters.found (written d.next.class d.decl) (sym enters.at ∙ d.means) in
+    let found : enters.entry.found ≡ written d.next.class d.decl = some_is enters.entry.found (written d.next.class d.decl) (sym enters.entry.at ∙ d.means) in
     let slot : ℕ = first_param (is_static d.decl) in
     let types : d.method.param_types ≡ map (type_of table) (map name_of d.decl.params) = ap (λ (m : Method). m.param_types) d.is.same ∙ types_are table [] d.decl.params in
     let params : d.method.params ≡ param_list table slot d.decl.params = ap (λ (m : Method). m.params) d.is.same ∙ params_are table [] slot d.decl.params in
     let meets = meets_are table (input_names inputs) inputs slot d.decl.params (subst (λ (w : Written). MeetParams table inputs w.params (input_names inputs)) found enters.meets) in
     record {
-      found = d.method;
-      at = d.there;
-      static = ap (λ (m : Method). m.is_static) d.is.same ∙ (sym (ap (λ (w : Written). w.is_static) found) ∙ enters.static);
-      typed = subst (HaveTypes inputs) (sym types) (subst (λ (w : Written). HaveTypes inputs (map (type_of table) w.params)) found enters.typed);
+      entry = record {
+        found = d.method;
+        at = d.there;
+        static = ap (λ (m : Method). m.is_static) d.is.same ∙ (sym (ap (λ (w : Written). w.is_static) found) ∙ enters.entry.static);
+        typed = subst (HaveTypes inputs) (sym types) (subst (λ (w : Written). HaveTypes inputs (map (type_of table) w.params)) found enters.entry.typed);
+      };
       meets = subst (λ (ps : List Local). MeetEach inputs ps d.method.param_types (input_names inputs)) (sym params) (subst (λ (ts : List Type_). MeetEach inputs (param_list table slot d.decl.params) ts (input_names inputs)) (sym types) meets);
     }

@@ -1,4 +1,4 @@
--- Each run of an accepted source's program that may begin meets the source's, whatever is asked of it besides.
+-- Each run of an accepted source's program meets the source's, whatever is asked of it besides.
 use Rattle.std.proofs.Common.{◌≡◌, ◌≤◌, ◌<◌, ℕ, zero, suc, ◌+◌, Bool, true, false, List, [], ◌∷◌, ◌++◌, length, Option, Some, Ok, refl, sym, ap, subst, ◌∙◌, arith}
 use Rattle.std.specs.Prelude.{◌&&◌, not, nat_lt, slice_get, unwrap_or}
 use Rattle.std.proofs.lemmas.Bool.{false≢true}
@@ -6,7 +6,7 @@ use Rattle.std.proofs.lemmas.Bool.Decides.{nat_tests}
 use Rattle.ix_core.specs.declared.program.Method.{Method}
 use Rattle.ix_core.specs.declared.program.Program.{Program}
 use Rattle.ix_core.specs.Formed.{Formed}
-use Rattle.ix_core.specs.Safe.{Input, Begins, start}
+use Rattle.ix_core.specs.Safe.{Input, IsEntry, start}
 use Rattle.ix_core.specs.Tables.{tables_of, method_at, no_method}
 use Rattle.ix_core.proofs.Cases.{by_test}
 use Rattle.ix_tree.specs.declared.decl.ClassDecl.{ClassDecl}
@@ -99,16 +99,16 @@ module _ (unit : Source) (p : Program) (is : IsAccepted unit p) where
       ap (λ (m : Method). m.constructor) here ∙ ap (λ (m : Method). m.constructor) d.is.same ∙ not_constructor d.decl.mods.is_static d.decl.constructor declared
 
 -- For each n: the machine ends as the source does that makes n turns and n nested calls, or goes on behind n steps and more; and both show the same.
-pub all_meet : (unit : Source) (p : Program) → IsParsed unit → Accepts unit → program_of (names unit) unit.classes ≡ Ok p → (method : ℕ) (inputs : List Input) → Begins p method inputs
+pub all_meet : (unit : Source) (p : Program) → IsParsed unit → Accepts unit → program_of (names unit) unit.classes ≡ Ok p → (method : ℕ) (inputs : List Input) → IsEntry p method inputs
     → (n : ℕ) → Meets (tables_of p) (start p method inputs) (λ n. source unit method inputs n) n (source unit method inputs n).ending
-all_meet unit p fine accepts made method inputs begins =
+all_meet unit p fine accepts made method inputs entry =
     let few = few_members unit fine.can in
     let is : IsAccepted unit p = record { can = fine.can; accepts = accepts; written = fine.written; few = few; made = made } in
     let formed : Formed p = formed_source unit p fine accepts few made in
     let t : Tables = tables (names unit) unit.classes in
     let sound = each_sound t p (first_numbers unit.classes) unit.classes (sound_source unit p fine accepts few made) in
-    let static : (method_at p method).is_static ≡ true = ap (λ (o : Option Method). (unwrap_or o no_method).is_static) begins.at ∙ begins.static in
-    let lt = static_written unit p is method begins.found begins.at begins.static in
+    let static : (method_at p method).is_static ≡ true = ap (λ (o : Option Method). (unwrap_or o no_method).is_static) entry.at ∙ entry.static in
+    let lt = static_written unit p is method entry.found entry.at entry.static in
     let plain = plain_method unit p is method lt static in
     let without : (members (whole (names unit) unit.classes)).is_static method ≡ true = static_of_declared unit p is Any AnyDefault (any_class t (first_numbers unit.classes) unit.classes) method lt ∙ static in
-    entry_meets unit p is formed assigns_own sound method lt plain without inputs (start_decides p formed.0 formed.1 method inputs begins)
+    entry_meets unit p is formed assigns_own sound method lt plain without inputs (start_decides p formed.0 formed.1 method inputs entry)

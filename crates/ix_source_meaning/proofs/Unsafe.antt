@@ -35,7 +35,7 @@ one_is_int : IsInt (pos 1)
 one_is_int = record { from = omega (arith, ints); to = omega (arith, ints) }
 
 enters : Enters get 0 inputs
-enters = record { found = found; at = refl; static = refl; typed = ((refl, (five_is_int, tt), omega arith), (one_is_int, tt)); meets = (tt, (tt, tt), (tt, tt, tt)) }
+enters = record { entry = record { found = found; at = refl; static = refl; typed = ((refl, (five_is_int, tt), omega arith), (one_is_int, tt)) }; meets = (tt, (tt, tt), (tt, tt, tt)) }
 
 run_is : (source get 0 inputs 1).ending ≡ Some (Outside (pos 1) (pos 1) 52)
 run_is = simp (equations, meaning_equations.equations) refl

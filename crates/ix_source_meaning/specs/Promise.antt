@@ -32,13 +32,17 @@ MeetParams names (input ∷ inputs) (param ∷ params) stand =
     × MeetParams names inputs params stand
 MeetParams names _ _ stand = Unit {0}
 
--- A static method that a run may begin with, by its number, and inputs of its parameters' types that meet their annotations.
-pub record Enters (unit : Source) (method : ℕ) (inputs : List Input) : Type 0 where
+-- A static method that can be run, by its number, and inputs of its parameters' types.
+pub record IsEntry (unit : Source) (method : ℕ) (inputs : List Input) : Type 0 where
   pub found : Written
   pub at : slice_get (written_from 0 unit.classes) method ≡ Some found
   pub static : found.is_static ≡ true
   pub typed : HaveTypes inputs (types_of (names unit) (Some found))
-  pub meets : MeetParams (names unit) inputs found.params (input_names inputs)
+
+-- A method that a run may begin with: inputs of its parameters' types that meet their annotations.
+pub record Enters (unit : Source) (method : ℕ) (inputs : List Input) : Type 0 where
+  pub entry : IsEntry unit method inputs
+  pub meets : MeetParams (names unit) inputs entry.found.params (input_names inputs)
 
 -- ---- runs
 
