@@ -16,7 +16,7 @@ use Rattle.ix_core.specs.Code.{Code, Do}
 use Rattle.ix_core.specs.Formed.{is_formed, op_fits, param_type_from, entry_type}
 use Rattle.ix_core.specs.Heap.{Held, Num, Heap, Object, ArrayOf, nothing, value_at, object_at}
 use Rattle.ix_core.specs.Machine.{Limits, State}
-use Rattle.ix_core.specs.Safe.{Input, Whole, Flag, Ints, HaveTypes, IsEntry, input_values, input_heap, start, state_after}
+use Rattle.ix_core.specs.Safe.{Input, Whole, Flag, Ints, HaveTypes, CanRun, input_values, input_heap, start, state_after}
 use Rattle.ix_core.specs.Tables.{method_at, param_slot, param_slots, no_method}
 use Rattle.ix_core.specs.Tasks.{Tasks, Run}
 use Rattle.ix_core.specs.Typed.{IsOfType, HeapTyped, SlotsTyped}
@@ -159,7 +159,7 @@ module _ (program : Program) (locals : List (List Type_)) (formed : is_formed pr
   static_slot : (static : Bool) (count : ℕ) → static ≡ true → (if static then count else count + 1) ≡ count
   static_slot static count e = rw e refl
 
-  pub start_typed : (method : ℕ) (inputs : List Input) → IsEntry program method inputs → IsTyped (start program method inputs)
+  pub start_typed : (method : ℕ) (inputs : List Input) → CanRun program method inputs → IsTyped (start program method inputs)
   start_typed method inputs entry =
       let here = method_at program method in
       let is = found_is method entry.found entry.at in
@@ -199,7 +199,7 @@ module _ (program : Program) (locals : List (List Type_)) (formed : is_formed pr
       }
 
   -- Every state of every run is typed.
-  pub states_typed : (limits : Limits) (method : ℕ) (inputs : List Input) (steps : ℕ) → IsEntry program method inputs → IsTyped (state_after program limits method inputs steps)
+  pub states_typed : (limits : Limits) (method : ℕ) (inputs : List Input) (steps : ℕ) → CanRun program method inputs → IsTyped (state_after program limits method inputs steps)
   states_typed limits method inputs steps entry = run_typed program locals formed limits steps (start program method inputs) (start_typed method inputs entry)
 
   -- ---- what the next operation reads

@@ -5,7 +5,7 @@ use Rattle.ix_core.specs.declared.program.Program.{Program}
 use Rattle.ix_core.specs.Formed.{is_formed}
 use Rattle.ix_core.specs.Heap.{Held, Heap, value_at}
 use Rattle.ix_core.specs.Machine.{State, no_limits, run}
-use Rattle.ix_core.specs.Safe.{Input, IsEntry, start}
+use Rattle.ix_core.specs.Safe.{Input, CanRun, start}
 use Rattle.ix_core.specs.Tables.{tables_of, method_at}
 use Rattle.ix_core.specs.Tasks.{Tasks, Empty, Run, Ask, Decide, DecideTruth, Head, Again, Out}
 use Rattle.ix_core.specs.Typed.{SlotsTyped}
@@ -40,5 +40,5 @@ module _ (program : Program) (locals : List (List Type_)) (formed : is_formed pr
       task_decides there.now.method there.now.tasks typed_there.now.types there.now.slots there.heap typed_there.now.slots.size typed_there.now.slots.typed typed_there.now.fits
 
   -- from the start of a run on
-  pub start_decides : (method : ℕ) (inputs : List Input) → IsEntry program method inputs → Decides (tables_of program) (start program method inputs)
+  pub start_decides : (method : ℕ) (inputs : List Input) → CanRun program method inputs → Decides (tables_of program) (start program method inputs)
   start_decides method inputs entry = typed_decides (start program method inputs) (start_typed program locals formed method inputs entry)

@@ -6,7 +6,7 @@ use Rattle.std.proofs.lemmas.Bool.Decides.{nat_tests}
 use Rattle.ix_core.specs.declared.program.Method.{Method}
 use Rattle.ix_core.specs.declared.program.Program.{Program}
 use Rattle.ix_core.specs.Formed.{Formed}
-use Rattle.ix_core.specs.Safe.{Input, IsEntry, start}
+use Rattle.ix_core.specs.Safe.{Input, CanRun, start}
 use Rattle.ix_core.specs.Tables.{tables_of, method_at, no_method}
 use Rattle.ix_core.proofs.Cases.{by_test}
 use Rattle.ix_tree.specs.declared.decl.ClassDecl.{ClassDecl}
@@ -99,7 +99,7 @@ module _ (unit : Source) (p : Program) (is : IsAccepted unit p) where
       ap (λ (m : Method). m.constructor) here ∙ ap (λ (m : Method). m.constructor) d.is.same ∙ not_constructor d.decl.mods.is_static d.decl.constructor declared
 
 -- For each n: the machine ends as the source does that makes n turns and n nested calls, or goes on behind n steps and more; and both show the same.
-pub all_meet : (unit : Source) (p : Program) → IsParsed unit → Accepts unit → program_of (names unit) unit.classes ≡ Ok p → (method : ℕ) (inputs : List Input) → IsEntry p method inputs
+pub all_meet : (unit : Source) (p : Program) → IsParsed unit → Accepts unit → program_of (names unit) unit.classes ≡ Ok p → (method : ℕ) (inputs : List Input) → CanRun p method inputs
     → (n : ℕ) → Meets (tables_of p) (start p method inputs) (λ n. source unit method inputs n) n (source unit method inputs n).ending
 all_meet unit p fine accepts made method inputs entry =
     let few = few_members unit fine.can in

@@ -2,7 +2,7 @@
 use Rattle.std.proofs.Common.{◌≡◌, ℕ, List, Ok}
 use Rattle.ix_core.specs.declared.fact.Profile.{Profile}
 use Rattle.ix_core.specs.declared.program.Program.{Program}
-use Rattle.ix_core.specs.Safe.{Input, IsEntry, Begins, Safe, start}
+use Rattle.ix_core.specs.Safe.{Input, CanRun, Begins, Safe, start}
 use Rattle.ix_core.specs.Tables.{tables_of}
 use Rattle.ix_tree.specs.declared.decl.Unit.{Unit as Source}
 use Rattle.ix_counts.proofs.FewDeclarations.{few_members}
@@ -22,7 +22,7 @@ accepted : (unit : Source) (p : Program) → IsParsed unit → Accepts unit → 
 accepted unit p fine accepts made = record { can = fine.can; accepts = accepts; written = fine.written; few = few_members unit fine.can; made = made }
 
 -- Runs with the same entry and inputs end alike, wrap alike and show the same, both ways, and what one has shown the other shows first.
-pub source_kept : (unit : Source) (p : Program) → IsParsed unit → Accepts unit → program_of (names unit) unit.classes ≡ Ok p → (method : ℕ) (inputs : List Input) → IsEntry p method inputs
+pub source_kept : (unit : Source) (p : Program) → IsParsed unit → Accepts unit → program_of (names unit) unit.classes ≡ Ok p → (method : ℕ) (inputs : List Input) → CanRun p method inputs
     → Keeps (tables_of p) (start p method inputs) (source unit method inputs)
 source_kept unit p fine accepts made method inputs entry = keeps _ _ _ (λ n. all_meet unit p fine accepts made method inputs entry n)
 

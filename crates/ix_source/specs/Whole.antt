@@ -2,7 +2,7 @@
 use Rattle.std.specs.Prelude.{◌≡◌, ◌≤◌, ℕ, List, ◌++◌, Option, Some, None}
 use Rattle.ix_core.specs.Machine.{Ending, State, no_limits, run}
 use Rattle.ix_core.specs.declared.program.Program.{Program}
-use Rattle.ix_core.specs.Safe.{Input, IsEntry, start}
+use Rattle.ix_core.specs.Safe.{Input, CanRun, start}
 use Rattle.ix_core.specs.Tables.{Tables, tables_of}
 use Rattle.ix_tree.specs.declared.decl.Unit.{Unit as Source}
 use Rattle.ix_core.specs.Traces.{Observation}
@@ -45,4 +45,4 @@ module _ (tables : Tables) (start : State) (source : ℕ → Shown) where
 
 -- Whatever the entry and the inputs of its parameters' types, the machine does on the program what the source says.
 abbrev pub IsKept : Source → Program → Type 0
-IsKept unit program = (method : ℕ) (inputs : List Input) → IsEntry program method inputs → Keeps (tables_of program) (start program method inputs) (λ n. source unit method inputs n)
+IsKept unit program = (method : ℕ) (inputs : List Input) → CanRun program method inputs → Keeps (tables_of program) (start program method inputs) (λ n. source unit method inputs n)

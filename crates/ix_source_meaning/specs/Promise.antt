@@ -33,7 +33,7 @@ MeetParams names (input ∷ inputs) (param ∷ params) stand =
 MeetParams names _ _ stand = Unit {0}
 
 -- A static method that can be run, by its number, and inputs of its parameters' types.
-pub record IsEntry (unit : Source) (method : ℕ) (inputs : List Input) : Type 0 where
+pub record CanRun (unit : Source) (method : ℕ) (inputs : List Input) : Type 0 where
   pub found : Written
   pub at : slice_get (written_from 0 unit.classes) method ≡ Some found
   pub static : found.is_static ≡ true
@@ -41,7 +41,7 @@ pub record IsEntry (unit : Source) (method : ℕ) (inputs : List Input) : Type 0
 
 -- A method that a run may begin with: inputs of its parameters' types that meet their annotations.
 pub record Enters (unit : Source) (method : ℕ) (inputs : List Input) : Type 0 where
-  pub entry : IsEntry unit method inputs
+  pub entry : CanRun unit method inputs
   pub meets : MeetParams (names unit) inputs entry.found.params (input_names inputs)
 
 -- ---- runs
