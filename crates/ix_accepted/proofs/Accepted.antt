@@ -14,8 +14,6 @@ use Rattle.ix_flow.specs.Flow.{Point, Rules, RulesLaws, IsFlow, IsLeastFlow, Any
 use Rattle.ix_given.specs.Given.{judging, IsDerivedAt}
 use Rattle.ix_given.proofs.GivenLabels.{all_judged}
 use Rattle.ix_method.specs.MethodRules.{method_rules}
-use Rattle.ix_method.specs.Store.{Store}
-use Rattle.ix_method.specs.StoredFacts.{stored}
 use Rattle.ix_method.proofs.ErrorsWeaker.{errors_weaker}
 use Rattle.ix_method.proofs.MethodLaws.{method_laws}
 use Rattle.ix_method_errors.specs.Ranked.{Ranked}
@@ -28,12 +26,12 @@ use Rattle.ix_audit.specs.Audited.{labels_of}
 use Rattle.ix_accepted.specs.Flawless.{AreFlawless, AreLeastFlawless, AreAccepted}
 use Rattle.ix_accepted.proofs.FlowsBelow.{Matches, lawful, flow_below}
 use Rattle.ix_accepted.proofs.Loops.{each_loop}
-use Rattle.ix_accepted.proofs.Same.{store_at, same_loop, same_method, mapped_at}
+use Rattle.ix_accepted.proofs.Same.{store_at, same_loop, same_method}
 
 -- ---- one method
 
 module _ (program : Program) (profile : Profile) (number : ℕ) (formed : HasFormedLoops (body_of (method_at program number)))
-    (stores : List Stored) (found : List Store) (same : SameForMethod (method_at program number) stores (map stored found))
+    (stores : List Stored) (found : List Stored) (same : SameForMethod (method_at program number) stores found)
     (labels : ℕ → Stored) (there : (loop : ℕ) → loop < length stores → slice_get stores loop ≡ Some (labels loop)) where
   abbrev method : Method
   method = method_at program number
@@ -54,7 +52,7 @@ module _ (program : Program) (profile : Profile) (number : ℕ) (formed : HasFor
   says_same loop within =
       let count = same.count in
       let is : store_at stores loop ≡ labels loop = ap (λ o. unwrap_or o Unreachable) (there loop (omega (arith, count, within))) in
-      subst (λ s. SayTheSame s (label_of found loop)) is (same_loop method stores (map stored found) same loop within)
+      subst (λ s. SayTheSame s (label_of found loop)) is (same_loop method stores found same loop within)
 
   -- with a flow no loop fails
   kept : (Fine : Point → Stored → Type 0) → IsFlow R Fine labels body → (loop : ℕ) → FailsAt program profile number found loop → ⊥
@@ -100,12 +98,12 @@ module _ (program : Program) (profile : Profile) (number : ℕ) (formed : HasFor
 
 -- ---- all methods
 
-module _ (program : Program) (profile : Profile) (formed : Formed program) (labels : List (List Stored)) (found : List (List Store)) (same : SameLabels program.methods labels (map (map stored) found)) where
+module _ (program : Program) (profile : Profile) (formed : Formed program) (labels : List (List Stored)) (found : List (List Stored)) (same : SameLabels program.methods labels found) where
   abbrev own : ℕ → List Stored
   own number = unwrap_or (slice_get labels number) []
 
-  same_own : (number : ℕ) → number < length program.methods → SameForMethod (method_at program number) (own number) (map stored (labels_of found number))
-  same_own number within = subst (SameForMethod (method_at program number) (own number)) (mapped_at stored found number) (same_method program.methods labels (map (map stored) found) number same within)
+  same_own : (number : ℕ) → number < length program.methods → SameForMethod (method_at program number) (own number) (labels_of found number)
+  same_own number within = same_method program.methods labels found number same within
 
   accepted : ((number loop : ℕ) → number < length program.methods → FailsAt program profile number (labels_of found number) loop → ⊥)
       → ((number : ℕ) → number < length program.methods → (error : Error) (rank : ℕ) → IsErrorAt program profile number (labels_of found number) error rank → ⊥) → AreAccepted program profile found

@@ -14,8 +14,6 @@ use Rattle.ix_flow.specs.Flow.{Point, Rules, RulesLaws, IsFlow, Anything, Avoids
 use Rattle.ix_given.specs.Given.{judging, numbered}
 use Rattle.ix_given.proofs.GivenLabels.{all_judged}
 use Rattle.ix_method.specs.MethodRules.{method_rules}
-use Rattle.ix_method.specs.Store.{Store}
-use Rattle.ix_method.specs.StoredFacts.{stored}
 use Rattle.ix_method.proofs.ErrorsWeaker.{errors_weaker}
 use Rattle.ix_method.proofs.MethodLaws.{method_laws}
 use Rattle.ix_method_errors.specs.Ranked.{Ranked}
@@ -31,12 +29,12 @@ use Rattle.ix_audit.specs.Audited.{labels_of, FailsIn, IsErrorBelow, IsAudit}
 use Rattle.ix_accepted.specs.Alike.{AreSame}
 use Rattle.ix_accepted.proofs.FlowsBelow.{Matches, judging_suits, flow_below}
 use Rattle.ix_accepted.proofs.Loops.{each_loop}
-use Rattle.ix_accepted.proofs.Same.{same_loop, same_method, mapped_at}
+use Rattle.ix_accepted.proofs.Same.{same_loop, same_method}
 
 -- ---- one method
 
 module _ (program : Program) (profile : Profile) (number : ℕ) (formed : HasFormedLoops (body_of (method_at program number)))
-    (found others : List Store) (same : SameForMethod (method_at program number) (map stored found) (map stored others)) where
+    (found others : List Stored) (same : SameForMethod (method_at program number) found others) where
   abbrev R : Rules
   R = method_rules program (method_at program number) profile
 
@@ -53,7 +51,7 @@ module _ (program : Program) (profile : Profile) (number : ℕ) (formed : HasFor
   second = numbered R (label_of others)
 
   says_same : (loop : ℕ) → loop < loops_of (method_at program number) → SayTheSame (label_of found loop) (label_of others loop)
-  says_same loop within = same_loop (method_at program number) (map stored found) (map stored others) same loop within
+  says_same loop within = same_loop (method_at program number) found others same loop within
 
   moved : (Own : ℕ → Type 0) (Fine : Point → Stored × ℕ → Type 0) → ((point : Point) (s t : Stored × ℕ) → IsBelow s.0 t.0 → Fine point t → Fine point s)
       → IsFlow (judging R Own) Fine first body → IsFlow (judging R Own) Fine second body
@@ -96,12 +94,9 @@ same_labels_back (method ∷ methods) [] others same = absurd same
 same_labels_back (method ∷ methods) (stores ∷ labels) [] same = absurd same
 same_labels_back (method ∷ methods) (stores ∷ labels) (one ∷ others) same = (same_back method stores one same.0, same_labels_back methods labels others same.1)
 
-module _ (program : Program) (profile : Profile) (formed : Formed program) (found others : List (List Store)) (same : SameLabels program.methods (map (map stored) found) (map (map stored) others)) where
-  same_own : (number : ℕ) → number < length program.methods → SameForMethod (method_at program number) (map stored (labels_of found number)) (map stored (labels_of others number))
-  same_own number within =
-      subst (λ xs. SameForMethod (method_at program number) xs (map stored (labels_of others number))) (mapped_at stored found number)
-      (subst (SameForMethod (method_at program number) (unwrap_or (slice_get (map (map stored) found) number) [])) (mapped_at stored others number)
-      (same_method program.methods (map (map stored) found) (map (map stored) others) number same within))
+module _ (program : Program) (profile : Profile) (formed : Formed program) (found others : List (List Stored)) (same : SameLabels program.methods found others) where
+  same_own : (number : ℕ) → number < length program.methods → SameForMethod (method_at program number) (labels_of found number) (labels_of others number)
+  same_own number within = same_method program.methods found others number same within
 
   fails : (number loop : ℕ) → number < length program.methods → FailsIn program profile others number loop → FailsIn program profile found number loop
   fails number loop within = fails_back program profile number (formed_loops program formed number within) (labels_of found number) (labels_of others number) (same_own number within) loop
@@ -132,9 +127,9 @@ module _ (D E : Error → ℕ → Type 0) (to : (error : Error) (rank : ℕ) →
 no_errors : (D : Error → ℕ → Type 0) (errors : List Error) → IsErrorList D errors → (errors ≡ [] → ⊥) → ((error : Error) (rank : ℕ) → D error rank → ⊥) → ⊥
 no_errors D errors list some none = some (none_derived D errors list none)
 
-module _ (program : Program) (profile : Profile) (formed : Formed program) (found others : List (List Store)) (same : SameLabels program.methods (map (map stored) found) (map (map stored) others)) where
-  abbrev back : SameLabels program.methods (map (map stored) others) (map (map stored) found)
-  back = same_labels_back program.methods (map (map stored) found) (map (map stored) others) same
+module _ (program : Program) (profile : Profile) (formed : Formed program) (found others : List (List Stored)) (same : SameLabels program.methods found others) where
+  abbrev back : SameLabels program.methods others found
+  back = same_labels_back program.methods found others same
 
   -- the first that fails is one
   one_loop : (m l n k : ℕ) → IsAudit program profile found (audit.Loop m l) → IsAudit program profile others (audit.Loop n k) → (m ≡ n) × (l ≡ k)

@@ -39,8 +39,3 @@ same_method (method ∷ methods) [] others number same within = absurd same
 same_method (method ∷ methods) (stores ∷ labels) [] number same within = absurd same
 same_method (method ∷ methods) (stores ∷ labels) (more ∷ others) zero same within = same.0
 same_method (method ∷ methods) (stores ∷ labels) (more ∷ others) (suc number) same within = same_method methods labels others number same.1 (omega (arith, within))
-
-pub mapped_at : {A B : Type 0} (f : A → B) (lists : List (List A)) (number : ℕ) → unwrap_or (slice_get (map (map f) lists) number) [] ≡ map f (unwrap_or (slice_get lists number) [])
-mapped_at f [] number = refl
-mapped_at f (list ∷ lists) zero = refl
-mapped_at f (list ∷ lists) (suc number) = mapped_at f lists number

@@ -8,7 +8,6 @@ use Rattle.ix_facts.specs.Stores.{Stored}
 use Rattle.ix_flow.specs.Flow.{IsFlow, IsLeastFlow, IsDerived}
 use Rattle.ix_method.specs.MethodRules.{method_rules}
 use Rattle.ix_method.specs.RuleErrors.{TextErrors}
-use Rattle.ix_method.specs.Store.{Store}
 use Rattle.ix_sound.specs.Errors.{NoErrors}
 use Rattle.ix_audit.specs.AtLabels.{Derives}
 use Rattle.ix_audit.specs.Audited.{NoneFails, IsErrorBelow}
@@ -39,5 +38,5 @@ module _ (program : Program) (profile : Profile) where
   AreLeastFlawless labels = (number : ℕ) → number < length program.methods → IsLeastFlawless number (unwrap_or (slice_get labels number) [])
 
   -- An audit of the labels finds nothing: no loop fails, and the rules derive no error at them.
-  abbrev pub AreAccepted : List (List Store) → Type 0
+  abbrev pub AreAccepted : List (List Stored) → Type 0
   AreAccepted found = NoneFails program profile found (length program.methods) × ((error : Error) (rank : ℕ) → IsErrorBelow program profile found (length program.methods) error rank → ⊥)

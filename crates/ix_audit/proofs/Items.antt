@@ -14,7 +14,7 @@ use Rattle.ix_given.specs.Walk.{Notes, IsLeast, Joins}
 use Rattle.ix_method_errors.specs.Ranked.{Ranked}
 use Rattle.ix_audit.specs.declared.walk.Walk.{Walk}
 use Rattle.ix_audit.specs.AtLabels.{label_of}
-use Rattle.ix_audit.specs.Walking.{rules, WalksCode, SplitsOn, JudgesLoop, AddsAt, WalksItem, AsksOn, TurnsOnce}
+use Rattle.ix_audit.specs.Walking.{labels_in, rules, WalksCode, SplitsOn, JudgesLoop, AddsAt, WalksItem, AsksOn, TurnsOnce}
 
 module _ (walk : Walk) where
   abbrev Seen : Type 0
@@ -74,7 +74,7 @@ module _ (walk : Walk) where
 
   -- a `while` or a `for`, with what the code has in the places of these stores
   pub while_walks : (last : Option Op) (asked : Condition) (body next : Code) (number scope : ℕ) (before : Stored) (old : Seen) (start label turn : Stored) (n0 : Seen) (begun done : Stored) (n1 : Seen) (again outer : Stored) (n2 : Seen) (back : Stored) (n3 : Seen)
-      (out around : Stored) (new : Seen) → start ≡ Unreachable → label ≡ label_of walk.labels.now number → AsksOn walk asked label (record old { breaks = start }) turn n0
+      (out around : Stored) (new : Seen) → start ≡ Unreachable → label ≡ label_of (labels_in walk) number → AsksOn walk asked label (record old { breaks = start }) turn n0
       → begun ≡ Unreachable → WalksCode walk None body turn (record n0 { continues = begun }) done n1
       → Joins (rules walk) n1.continues done again → outer ≡ n0.continues → n2 ≡ record n1 { continues = outer } → WalksCode walk None next again n2 back n3
       → JudgesLoop walk number scope before back n3.failed new.failed → out ≡ n3.breaks → around ≡ old.breaks → new ≡ record n3 { breaks = around; failed = new.failed }
@@ -89,7 +89,7 @@ module _ (walk : Walk) where
 
   -- a `do`
   pub do_while_walks : (last : Option Op) (asked : Condition) (body next : Code) (number scope : ℕ) (before : Stored) (old : Seen) (start label begun done : Stored) (n1 : Seen) (again outer : Stored) (n2 : Seen) (tested : Stored) (n : Seen) (back : Stored) (n3 : Seen)
-      (out around : Stored) (new : Seen) → start ≡ Unreachable → label ≡ label_of walk.labels.now number
+      (out around : Stored) (new : Seen) → start ≡ Unreachable → label ≡ label_of (labels_in walk) number
       → begun ≡ Unreachable → WalksCode walk None body label (record old { breaks = start; continues = begun }) done n1
       → Joins (rules walk) n1.continues done again → outer ≡ old.continues → n2 ≡ record n1 { continues = outer } → WalksCode walk None next again n2 tested n
       → AsksOn walk asked tested n back n3
@@ -98,7 +98,7 @@ module _ (walk : Walk) where
   do_while_walks last asked body next number scope before old start label begun done n1 again outer n2 tested n back n3 out around new is_start is_label is_begun walks joins is_outer is_n2 goes asks judges is_out is_around is_new =
       let goes' = subst (λ (m : Seen). WalksCode walk None next again m tested n) is_n2 goes in
       let walks' = subst (λ s. WalksCode walk None body s (record old { breaks = Unreachable; continues = begun }) done n1) is_label (subst (λ s. WalksCode walk None body label (record old { breaks = s; continues = begun }) done n1) is_start walks) in
-      let once = turn_once body next (label_of walk.labels.now number) (record old { breaks = Unreachable }) begun done n1 n1.continues again outer tested n is_begun refl is_outer walks' joins goes' in
+      let once = turn_once body next (label_of (labels_in walk) number) (record old { breaks = Unreachable }) begun done n1 n1.continues again outer tested n is_begun refl is_outer walks' joins goes' in
       let item : WalksItem walk last (Loop false asked body next number scope) before old n3.breaks (record n3 { breaks = old.breaks; failed = new.failed }) = λ rest end m tail.
       (once.done, once.found, once.again, tested, n, back, asks.fails, record n3 { breaks = asks.breaks }, n3.breaks, new.failed, once.walks, once.comes, once.goes, asks.splits, asks.leaves, judges, tail) in
       ended last (Loop false asked body next number scope) before old n3 out around new is_out is_around is_new item

@@ -7,15 +7,15 @@ use Rattle.ix_method.specs.Store.{Store}
 use Rattle.ix_method.specs.StoredFacts.{stored}
 use Rattle.ix_audit.specs.declared.walk.Walk.{Walk}
 use Rattle.ix_audit.specs.AtLabels.{label_of}
-use Rattle.ix_audit.specs.Walking.{IsWalk, rules, one_unless, JudgesLoop}
+use Rattle.ix_audit.specs.Walking.{IsWalk, labels_in, rules, one_unless, JudgesLoop}
 use Rattle.ix_audit.proofs.Stores.{kept, fails, one_more}
 
-pub label_found : (labels : List Store) (loop : ℕ) (label : Store) → slice_get labels loop ≡ Some label → stored label ≡ label_of labels loop
+pub label_found : (labels : List Store) (loop : ℕ) (label : Store) → slice_get labels loop ≡ Some label → stored label ≡ label_of (map stored labels) loop
 label_found [] loop label found = absurd cc
 label_found (first ∷ labels) zero label found = let same : first ≡ label = cc in ap stored (sym same)
 label_found (first ∷ labels) (suc loop) label found = label_found labels loop label found
 
-pub label_missing : (labels : List Store) (loop : ℕ) → slice_get labels loop ≡ None → Unreachable ≡ label_of labels loop
+pub label_missing : (labels : List Store) (loop : ℕ) → slice_get labels loop ≡ None → Unreachable ≡ label_of (map stored labels) loop
 label_missing [] loop none = refl
 label_missing (first ∷ labels) zero none = absurd cc
 label_missing (first ∷ labels) (suc loop) none = label_missing labels loop none
@@ -29,7 +29,7 @@ holds_is walk ready scope joined moved label holds is says = (
   ],
 )
 
-pub judged : (walk : Walk) (number scope : ℕ) (entry back joined : Stored) (old new : List ℕ) (holds : Bool) → Joins (rules walk) entry back joined → IsTrue holds ↔ (rules walk).Rounded scope joined (label_of walk.labels.now number)
+pub judged : (walk : Walk) (number scope : ℕ) (entry back joined : Stored) (old new : List ℕ) (holds : Bool) → Joins (rules walk) entry back joined → IsTrue holds ↔ (rules walk).Rounded scope joined (label_of (labels_in walk) number)
     → new ≡ old ++ one_unless holds number → JudgesLoop walk number scope entry back old new
 judged walk number scope entry back joined old new true joins says is = (joined, joins, inl (says.0 refl, is ∙ append-nil old))
 judged walk number scope entry back joined old new false joins says is =

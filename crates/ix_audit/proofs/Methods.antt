@@ -14,7 +14,6 @@ use Rattle.ix_given.specs.Walk.{IsIn}
 use Rattle.ix_given.proofs.WalkExact.{failed_fails, fails_failed, listed_derived, derived_listed, clean_flow}
 use Rattle.ix_method.specs.MethodRules.{method_rules}
 use Rattle.ix_method.specs.RuleErrors.{OverridesBy, TextErrors}
-use Rattle.ix_method.specs.Store.{Store}
 use Rattle.ix_method.proofs.ErrorsWeaker.{errors_weaker}
 use Rattle.ix_method.proofs.MethodLaws.{method_laws}
 use Rattle.ix_method_errors.specs.Ranked.{Ranked}
@@ -35,7 +34,7 @@ there (y ∷ xs) (suc k) x within is = there xs k x (omega (arith, within)) is
 pub method_is : (program : Program) (number : ℕ) (methods : List Method) (method : Method) → methods ≡ program.methods → number < length methods → method ≡ get_or methods number method → method_at program number ≡ method
 method_is program number methods method are within is = ap (λ o. unwrap_or o no_method) (ap (λ ms. slice_get ms number) (sym are) ∙ there methods number method within is)
 
-module _ (program : Program) (profile : Profile) (number : ℕ) (labels : List Store) (failed : List ℕ) (errors : List Ranked) (finds : Finds program (method_at program number) number profile labels failed errors) where
+module _ (program : Program) (profile : Profile) (number : ℕ) (labels : List Stored) (failed : List ℕ) (errors : List Ranked) (finds : Finds program (method_at program number) number profile labels failed errors) where
   abbrev method : Method
   method = method_at program number
 

@@ -1,12 +1,12 @@
 -- Methods audited one after the other.
-use Rattle.std.proofs.Common.{◌≡◌, ◌⊎◌, inl, inr, ⊎_elim, ◌↔◌, ℕ, zero, suc, ◌+◌, ◌<◌, List, [], ◌∷◌, length, Option, None, Some, slice_get, arith, refl, sym, ap, subst, ◌∙◌}
+use Rattle.std.proofs.Common.{◌≡◌, ◌⊎◌, inl, inr, ⊎_elim, ◌↔◌, ℕ, zero, suc, ◌+◌, ◌<◌, List, [], ◌∷◌, length, Option, None, Some, map, slice_get, unwrap_or, arith, refl, sym, ap, subst, ◌∙◌}
 use Rattle.std.proofs.lemmas.Bool.{cases_lt}
 use Rattle.ix_core.specs.declared.error.Error.{Error}
 use Rattle.ix_core.specs.declared.fact.Profile.{Profile}
 use Rattle.ix_core.specs.declared.program.Program.{Program}
+use Rattle.ix_facts.specs.Stores.{Stored}
 use Rattle.ix_listing.specs.ErrorList.{In, IsErrorList}
 use Rattle.ix_listing.proofs.Lists.{same_list}
-use Rattle.ix_method.specs.Store.{Store}
 use Rattle.ix_method_errors.specs.Ranked.{Ranked}
 use Rattle.ix_method_errors.specs.Exactly.{IsListed}
 use Rattle.ix_sound.specs.Sound.{HasNoErrors}
@@ -16,7 +16,7 @@ use Rattle.ix_audit.specs.AtLabels.{FailsAt, IsErrorAt, IsFirstFailing}
 use Rattle.ix_audit.specs.Audited.{labels_of, NoneFails, IsErrorBelow, IsAudit, IsAnswer}
 use Rattle.ix_audit.specs.Walking.{AddsTo}
 
-module _ (program : Program) (profile : Profile) (labels : List (List Store)) where
+module _ (program : Program) (profile : Profile) (labels : List (List Stored)) where
   -- what stands before the method of a number
   pub record IsSoFar (count : ℕ) (found : List Ranked) : Type 0 where
     pub kept : NoneFails program profile labels count
@@ -72,6 +72,12 @@ module _ (program : Program) (profile : Profile) (labels : List (List Store)) wh
   ends count found (audit.Errors errors) all before is =
       let whole = subst (λ n. IsSoFar n found) all before in
       (whole.kept, same_list (In found) (IsErrorBelow program profile labels (length program.methods)) (λ error rank has. (whole.errors (record { error = error; rank = rank })).0 has) (λ error rank has. (whole.errors (record { error = error; rank = rank })).1 has) errors.items is.0, is.1)
+
+-- what is mapped, list by list, at a place
+pub mapped_at : {A B : Type 0} (f : A → B) (lists : List (List A)) (number : ℕ) → map f (unwrap_or (slice_get lists number) []) ≡ unwrap_or (slice_get (map (map f) lists) number) []
+mapped_at f [] number = refl
+mapped_at f (list ∷ lists) zero = refl
+mapped_at f (list ∷ lists) (suc number) = mapped_at f lists number
 
 -- a list of some errors is not empty
 pub some_listed : (first : Ranked) (found : List Ranked) (errors : List Error) → IsErrorList (In (first ∷ found)) errors → errors ≡ [] → ⊥

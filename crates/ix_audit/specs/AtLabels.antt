@@ -1,5 +1,5 @@
 -- What is wrong with a method at given labels of its loops: loops whose labels fail, and errors.
-use Rattle.std.specs.Prelude.{◌⊎◌, ◌≡◌, ℕ, ◌<◌, List, map, slice_get, unwrap_or, Option, None, Some}
+use Rattle.std.specs.Prelude.{◌⊎◌, ◌≡◌, ℕ, ◌<◌, List, slice_get, unwrap_or, Option, None, Some}
 use Rattle.ix_core.specs.declared.error.Error.{Error}
 use Rattle.ix_core.specs.declared.fact.Profile.{Profile}
 use Rattle.ix_core.specs.declared.program.Method.{Method}
@@ -10,8 +10,6 @@ use Rattle.ix_flow.specs.Flow.{Point}
 use Rattle.ix_given.specs.Given.{Fails, IsDerivedAt}
 use Rattle.ix_method.specs.MethodRules.{method_rules}
 use Rattle.ix_method.specs.RuleErrors.{PointErrors, TextErrors}
-use Rattle.ix_method.specs.Store.{Store}
-use Rattle.ix_method.specs.StoredFacts.{stored}
 use Rattle.ix_method_errors.specs.Ranked.{Ranked}
 
 -- what a store gives at a point
@@ -19,10 +17,10 @@ abbrev pub Derives : Program → Method → ℕ → Point → Stored → Ranked 
 Derives program method number point store found = PointErrors program method number point store found.error found.rank
 
 -- The labels of a method's loops, by the loops' numbers. A loop for which none is given has the unreachable one.
-abbrev pub label_of : List Store → ℕ → Stored
-label_of labels loop = unwrap_or (slice_get (map stored labels) loop) Unreachable
+abbrev pub label_of : List Stored → ℕ → Stored
+label_of labels loop = unwrap_or (slice_get labels loop) Unreachable
 
-module _ (program : Program) (profile : Profile) (number : ℕ) (labels : List Store) where
+module _ (program : Program) (profile : Profile) (number : ℕ) (labels : List Stored) where
   -- The label of this loop isn't above what comes to the loop's head.
   abbrev pub FailsAt : ℕ → Type 0
   FailsAt loop = Fails (method_rules program (method_at program number) profile) (label_of labels) (body_of (method_at program number)) loop

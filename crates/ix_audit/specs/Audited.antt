@@ -5,9 +5,9 @@ use Rattle.ix_core.specs.declared.error.Error.{Error}
 use Rattle.ix_core.specs.declared.fact.Profile.{Profile}
 use Rattle.ix_core.specs.declared.program.Program.{Program}
 use Rattle.ix_core.specs.Tables.{method_at}
+use Rattle.ix_facts.specs.Stores.{Stored}
 use Rattle.ix_listing.specs.ErrorList.{In, IsErrorList}
 use Rattle.ix_method.specs.Naming.{HaveSmallNames}
-use Rattle.ix_method.specs.Store.{Store}
 use Rattle.ix_method_errors.specs.Ranked.{Ranked}
 use Rattle.ix_sound.specs.Sound.{HasNoErrors}
 use Rattle.ix_audit.specs.declared.answer.Audit.{Audit}
@@ -21,10 +21,10 @@ pub record CanAudit (program : Program) : Type 0 where
   pub upper : (number : ℕ) → number < length program.methods → ForSome (method_at program number).overrides (λ over. over < length program.methods)
 
 -- the labels of a method's loops; a method for which none are given has none
-abbrev pub labels_of : List (List Store) → ℕ → List Store
+abbrev pub labels_of : List (List Stored) → ℕ → List Stored
 labels_of labels number = unwrap_or (slice_get labels number) []
 
-module _ (program : Program) (profile : Profile) (labels : List (List Store)) where
+module _ (program : Program) (profile : Profile) (labels : List (List Stored)) where
   abbrev pub FailsIn : (method loop : ℕ) → Type 0
   FailsIn method loop = FailsAt program profile method (labels_of labels method) loop
 

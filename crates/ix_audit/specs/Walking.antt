@@ -1,5 +1,5 @@
 -- The walk over a method's body, as the code has it.
-use Rattle.std.specs.Prelude.{◌≡◌, ◌⊎◌, ◌↔◌, ℕ, ◌≤◌, nat_lt, if◌then◌else◌, Bool, true, false, List, [], ◌∷◌, Option, None, Some}
+use Rattle.std.specs.Prelude.{◌≡◌, ◌⊎◌, ◌↔◌, ℕ, ◌≤◌, nat_lt, if◌then◌else◌, Bool, true, false, List, [], ◌∷◌, map, Option, None, Some}
 use Rattle.ix_core.specs.declared.error.Error.{Error}
 use Rattle.ix_core.specs.declared.fact.Profile.{Profile}
 use Rattle.ix_core.specs.declared.op.Op.{Op}
@@ -16,7 +16,6 @@ use Rattle.ix_given.specs.Walk.{Notes, IsIn, Joins, Adds, Judges, Walks, Splits,
 use Rattle.ix_method.specs.MethodRules.{method_rules}
 use Rattle.ix_method.specs.Naming.{HasSmallNames, HaveSmallNames}
 use Rattle.ix_method.specs.RuleErrors.{OpText, TestEscapes, Somewhere, SomewhereAsked}
-use Rattle.ix_method.specs.Store.{Store}
 use Rattle.ix_method.specs.StoredFacts.{stored}
 use Rattle.ix_method_errors.specs.Ranked.{Ranked}
 use Rattle.ix_method_errors.specs.Exactly.{IsListed}
@@ -35,6 +34,10 @@ pub record IsWalk (walk : Walk) : Type 0 where
   pub marks : AreLandmarksOf walk.program.now walk.within.now walk.marks.now.ints
   pub nowhere : stored walk.nowhere.now ≡ Unreachable
 
+-- the labels of the loops
+abbrev pub labels_in : Walk → List Stored
+labels_in walk = map stored walk.labels.now
+
 abbrev pub notes : Found → Notes Stored (List Ranked)
 notes found = record { breaks = stored found.breaks; continues = stored found.continues; failed = found.failed.items; errors = found.errors.items }
 
@@ -51,16 +54,16 @@ module _ (walk : Walk) where
   DerivesHere = Derives walk.program.now walk.within.now walk.number
 
   abbrev pub WalksCode : Option Op → Code → Stored → Notes Stored (List Ranked) → Stored → Notes Stored (List Ranked) → Type 0
-  WalksCode = Walks rules DerivesHere IsListed (label_of walk.labels.now)
+  WalksCode = Walks rules DerivesHere IsListed (label_of (labels_in walk))
 
   abbrev pub SplitsOn : Option Op → Condition → Stored → Notes Stored (List Ranked) → Stored → Stored → Notes Stored (List Ranked) → Type 0
-  SplitsOn = Splits rules DerivesHere IsListed (label_of walk.labels.now)
+  SplitsOn = Splits rules DerivesHere IsListed (label_of (labels_in walk))
 
   abbrev pub JudgesLoop : (number scope : ℕ) → (entry back : Stored) → (old new : List ℕ) → Type 0
-  JudgesLoop = Judges rules DerivesHere IsListed (label_of walk.labels.now)
+  JudgesLoop = Judges rules DerivesHere IsListed (label_of (labels_in walk))
 
   abbrev pub AddsAt : Point → Stored → List Ranked → List Ranked → Type 0
-  AddsAt = Adds rules DerivesHere IsListed (label_of walk.labels.now)
+  AddsAt = Adds rules DerivesHere IsListed (label_of (labels_in walk))
 
   -- an item of a block, whatever comes behind it
   abbrev pub WalksItem : Option Op → (Code → Code) → Stored → Notes Stored (List Ranked) → Stored → Notes Stored (List Ranked) → Type 0
@@ -100,7 +103,7 @@ module _ (program : Program) (method : Method) where
 -- ---- a whole method
 
 -- the loops of a method whose labels fail, and the errors at its points, as a walk finds them
-abbrev pub Finds : Program → Method → ℕ → Profile → List Store → List ℕ → List Ranked → Type 0
+abbrev pub Finds : Program → Method → ℕ → Profile → List Stored → List ℕ → List Ranked → Type 0
 Finds program method number profile labels = WalksBody (method_rules program method profile) (Derives program method number) IsListed (label_of labels) [] (body_of method)
 
 abbrev pub IsLeastIn : List ℕ → Option ℕ → Type 0

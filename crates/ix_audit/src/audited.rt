@@ -1,6 +1,7 @@
 //! The audit of a whole program.
 
-ghost use Rattle.std.specs.Prelude.{◌≡◌, ◌+◌, IfOk};
+ghost use Rattle.std.specs.Prelude.{◌≡◌, ◌+◌, [], map, slice_get, unwrap_or, IfOk};
+ghost use Rattle.ix_method.specs.StoredFacts.{stored};
 ghost use Rattle.ix_audit.specs.Audited as spec;
 
 use crate::answer::Audit;
@@ -13,7 +14,7 @@ use std::alloc::{AllocError, Global};
 
 /// The labels of a method.
 fn labels_of(labels: &[List<Store>], number: u32) -> &[Store]
-    ensures { result.now ≡ spec.labels_of labels.now number }
+    ensures { result.now ≡ unwrap_or (slice_get labels.now number) [] }
 {
     match labels.get(number as usize) {
         Some(labels) => labels.as_slice(),
@@ -43,7 +44,7 @@ pub fn audit(
     profile: Profile,
 ) -> Result<Audit, AllocError>
     requires can { spec.CanAudit program.now }
-    ensures { IfOk result (spec.IsAudit program.now profile labels.now) }
+    ensures { IfOk result (spec.IsAudit program.now profile (map (map stored) labels.now)) }
 {
     let mut found = Vec::new(alloc);
     for number in 0..program.methods.len() as u32 {

@@ -1,11 +1,12 @@
 //! The audit of one method.
 
-ghost use Rattle.std.specs.Prelude.{◌≡◌, ◌<◌, [], length, IfOk, IfNone, OnOk, option_map};
+ghost use Rattle.std.specs.Prelude.{◌≡◌, ◌<◌, [], length, IfOk, IfNone, OnOk, map, option_map};
 ghost use Rattle.std.specs.Option.{ForSome};
 ghost use Rattle.ix_core.specs.declared.error.Error.{Error};
 ghost use Rattle.ix_core.specs.Tables.{method_at};
 ghost use Rattle.ix_method.specs.Naming.{HasSmallNames, HaveSmallNames};
 ghost use Rattle.ix_method.specs.RuleErrors.{OverridesBy};
+ghost use Rattle.ix_method.specs.StoredFacts.{stored};
 ghost use Rattle.ix_sound.specs.Sound.{HasNoErrors};
 ghost use Rattle.ix_audit.specs.AtLabels as at;
 ghost use Rattle.ix_audit.specs.Walking as spec;
@@ -29,7 +30,7 @@ fn walk(
 ) -> Result<Findings, AllocError>
     requires program { HaveSmallNames program.now }
     requires method { HasSmallNames within.now }
-    ensures { IfOk result (λ findings. spec.Finds program.now within.now number profile labels.now findings.failed.items findings.errors.items) }
+    ensures { IfOk result (λ findings. spec.Finds program.now within.now number profile (map stored labels.now) findings.failed.items findings.errors.items) }
 {
     let marks = landmarks(alloc, program, within)?;
     let nowhere = Store::unreachable();
@@ -106,9 +107,9 @@ pub(crate) fn audit_method(
     requires number { number < length program.now.methods }
     requires program { HaveSmallNames program.now }
     requires upper { ForSome (method_at program.now number).overrides (λ over. over < length program.now.methods) }
-    ensures first { IfOk result (at.IsFirstFailing program.now profile number labels.now) }
-    ensures errors { IfOk result (λ _. spec.AddsTo (at.IsErrorAt program.now profile number labels.now) out.old.items out.new.items) }
-    ensures none { IfOk result (λ failed. IfNone failed (((error : Error) (rank : _) → at.IsErrorAt program.now profile number labels.now error rank → ⊥) → HasNoErrors program.now profile number)) }
+    ensures first { IfOk result (at.IsFirstFailing program.now profile number (map stored labels.now)) }
+    ensures errors { IfOk result (λ _. spec.AddsTo (at.IsErrorAt program.now profile number (map stored labels.now)) out.old.items out.new.items) }
+    ensures none { IfOk result (λ failed. IfNone failed (((error : Error) (rank : _) → at.IsErrorAt program.now profile number (map stored labels.now) error rank → ⊥) → HasNoErrors program.now profile number)) }
 {
     let within = &program.methods.as_slice()[number as usize];
     let findings = walk(alloc, program, within, number, profile, labels)?;

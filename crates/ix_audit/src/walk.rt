@@ -75,7 +75,7 @@ impl<'a> Walk<'a> {
     /// The label of a loop.
     fn label(&self, loop_number: u32) -> &Store
         requires walk { spec.IsWalk self.now }
-        ensures { stored result.now ≡ label_of self.now.labels.now loop_number }
+        ensures { stored result.now ≡ label_of (spec.labels_in self.now) loop_number }
     {
         match self.labels.get(loop_number as usize) {
             Some(label) => label,
@@ -146,7 +146,7 @@ impl<'a> Walk<'a> {
     /// Whether the label of a loop is above what comes to its head, rounded.
     fn holds(&self, loop_number: u32, scope: u32, joined: &Store) -> Result<bool, AllocError>
         requires walk { spec.IsWalk self.now }
-        ensures { IfOk result (λ holds. IsTrue holds ↔ (spec.rules self.now).Rounded scope (stored joined.now) (label_of self.now.labels.now loop_number)) }
+        ensures { IfOk result (λ holds. IsTrue holds ↔ (spec.rules self.now).Rounded scope (stored joined.now) (label_of (spec.labels_in self.now) loop_number)) }
     {
         let rounded = joined.round(self.alloc, self.marks, scope)?;
         Ok(rounded.leq(self.label(loop_number)))
@@ -362,7 +362,7 @@ impl<'a> Walk<'a> {
     /// The walk over the whole body.
     pub(crate) fn body(&self) -> Result<Findings, AllocError>
         requires walk { spec.IsWalk self.now }
-        ensures { IfOk result (λ findings. WalksBody (spec.rules self.now) (spec.DerivesHere self.now) IsListed (label_of self.now.labels.now) [] (body_of self.now.within.now) findings.failed.items findings.errors.items) }
+        ensures { IfOk result (λ findings. WalksBody (spec.rules self.now) (spec.DerivesHere self.now) IsListed (label_of (spec.labels_in self.now)) [] (body_of self.now.within.now) findings.failed.items findings.errors.items) }
     {
         let entry = enter(self.alloc, self.program, self.within)?;
         let mut found = Found {

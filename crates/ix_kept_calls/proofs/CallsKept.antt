@@ -55,7 +55,7 @@ module _ (z : Setting) (set : IsSet z) (members : Members) (calls : Calls) (turn
 
   -- ---- static methods
 
-  static_does : (call : CallOp) (given : List Held) → is_method z call.method ≡ true → members.is_static call.method ≡ true
+  static_does : (call : CallOp) (given : List Held) → is_method z.tables z.scope.site call.method ≡ true → members.is_static call.method ≡ true
       → CallDoes z (op.StaticCall call) call (λ span. calls.method call.method Null given >>= value_of) (AreIn call.args given) (ResultIn z call.method call.target)
   static_does call given is static f span rest tasks slots now le room agrees args decides =
       let target = target_of z.tables Static call in
@@ -67,7 +67,7 @@ module _ (z : Setting) (set : IsSet z) (members : Members) (calls : Calls) (turn
 
   -- ---- methods of an object
 
-  module _ (call : CallOp) (o : Held) (given : List Held) (is : is_method z call.method ≡ true) (static : members.is_static call.method ≡ false) (f : Frame) (span : Span) (rest : Code) (tasks : Tasks) (slots : List Held) (now : Now)
+  module _ (call : CallOp) (o : Held) (given : List Held) (is : is_method z.tables z.scope.site call.method ≡ true) (static : members.is_static call.method ≡ false) (f : Frame) (span : Span) (rest : Code) (tasks : Tasks) (slots : List Held) (now : Now)
       (le : z.base ≤ call.target) (room : call.target < length slots) (agrees : Agrees z slots now.variables) (object : IsIn (receiver_slot call.receiver) o slots) (args : AreIn call.args given slots)
       (decides : Decides z.tables (at_call z f (op.InstanceCall call) span rest tasks slots now)) where
     abbrev from : State
@@ -104,7 +104,7 @@ module _ (z : Setting) (set : IsSet z) (members : Members) (calls : Calls) (turn
         (λ later result e. lands_result z depth deep set slots now call.target (z.tables.routines call.method).default result le room agrees (run.gives_back k there o given now later result e ∙ ap is_some (are.found_gives class call.method is)))
         (λ decides_then. runs f (code_then rest tasks) slots target given now decides_then))
 
-  instance_does : (call : CallOp) (o : Held) (given : List Held) → is_method z call.method ≡ true → members.is_static call.method ≡ false
+  instance_does : (call : CallOp) (o : Held) (given : List Held) → is_method z.tables z.scope.site call.method ≡ true → members.is_static call.method ≡ false
       → CallDoes z (op.InstanceCall call) call (λ span. through span.from o (call_on here span.from call.method o given) >>= value_of) (λ slots. IsIn (receiver_slot call.receiver) o slots × AreIn call.args given slots) (ResultIn z call.method call.target)
   instance_does call (At number) given is static f span rest tasks slots now le room agrees known decides =
       at_kind call (At number) given is static f span rest tasks slots now le room agrees known.0 known.1 decides (object_at now.heap number).kind
@@ -115,7 +115,7 @@ module _ (z : Setting) (set : IsSet z) (members : Members) (calls : Calls) (turn
 
   -- ---- new objects
 
-  new_does : (call : CallOp) (given : List Held) → is_class z call.class ≡ true → call.method ≡ constructor_at z.scope.site call.class
+  new_does : (call : CallOp) (given : List Held) → is_class z.scope.site call.class ≡ true → call.method ≡ constructor_at z.scope.site call.class
       → CallDoes z (op.NewObject call) call (λ span. object_of here call.class given) (AreIn call.args given) (IsIn call.target)
   new_does call given is constructor f span rest tasks slots now le room agrees args decides =
       let object : Object = record { kind = ObjectOf call.class; cells = z.tables.fresh_fields call.class } in

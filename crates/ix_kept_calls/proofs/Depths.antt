@@ -53,7 +53,8 @@ use Rattle.ix_kept_tables.specs.Declared.{AllClasses, IsDeclared, IsWrittenConst
 use Rattle.ix_kept_tables.proofs.AcceptedTables.{method_declared, class_declared, method_routine, default_routine, is_static_same, heads_count, static_of_declared, constructors_count, parent_there}
 use Rattle.ix_kept_tables.proofs.MethodsFound.{found_same, found_written, found_kind, found_gives}
 use Rattle.ix_kept_tables.proofs.PlacesOfFields.{place_same, fresh_same}
-use Rattle.ix_kept_calls.specs.Callees.{AreMembers, CalleesRun, is_method, is_class, with_object}
+use Rattle.ix_kept_calls.specs.Callees.{AreMembers, CalleesRun, with_object}
+use Rattle.ix_kept_steps.specs.Sound.{is_method, is_class}
 use Rattle.ix_kept_steps.specs.SoundBodies.{IsSoundMethod, IsSoundDefault, start_sound, begins_sound}
 use Rattle.ix_kept_calls.proofs.Calls.{method_runs, constructor_runs}
 use Rattle.ix_kept_calls.proofs.CallsKept.{calls_kept}
@@ -330,7 +331,7 @@ module _ (unit : Source) (p : Program) (is : IsAccepted unit p) (formed : Formed
     Constructs number parent class o = RunsMethod (tables_of p) depth number false (λ o given. construct_run ctx parent (Some class) o given >>= with_object o) o
 
     -- the class has a written constructor
-    written_kept : (at : Home) (decl : ClassDecl) (number : ℕ) → ((parent : ℕ) → at.parent ≡ Some parent → is_class (tables_of p) shared parent ≡ true) → at.field + field_count at.members ≤ most_counted → IsWrittenConstructor t Q R p at decl number
+    written_kept : (at : Home) (decl : ClassDecl) (number : ℕ) → ((parent : ℕ) → at.parent ≡ Some parent → is_class shared parent ≡ true) → at.field + field_count at.members ≤ most_counted → IsWrittenConstructor t Q R p at decl number
         → (o : Held) → Constructs number at.parent (record { fields = fields_in at.field at.members; constructor = bodies.constructor_in at.class decl.members }) o
     written_kept at class number there few c o =
         let decl = c.decl in
@@ -381,7 +382,7 @@ module _ (unit : Source) (p : Program) (is : IsAccepted unit p) (formed : Formed
         runs)
 
     -- the class has none
-    default_kept : (at : Home) (decl : ClassDecl) (number : ℕ) → ((parent : ℕ) → at.parent ≡ Some parent → is_class (tables_of p) shared parent ≡ true) → at.field + field_count at.members ≤ most_counted → IsDefaultConstructor t Q R p at decl number
+    default_kept : (at : Home) (decl : ClassDecl) (number : ℕ) → ((parent : ℕ) → at.parent ≡ Some parent → is_class shared parent ≡ true) → at.field + field_count at.members ≤ most_counted → IsDefaultConstructor t Q R p at decl number
         → (o : Held) → Constructs number at.parent (record { fields = fields_in at.field at.members; constructor = bodies.constructor_in at.class decl.members }) o
     default_kept at class number there few c o =
         let span = class.name.span in
@@ -414,7 +415,7 @@ module _ (unit : Source) (p : Program) (is : IsAccepted unit p) (formed : Formed
         let c = class_declared unit p is Q R fine class lt in
         let at = home t c.next c.decl in
         let number = constructor_in c.next.default c.next.method c.decl.members in
-        let there : (parent : ℕ) → at.parent ≡ Some parent → is_class (tables_of p) shared parent ≡ true =
+        let there : (parent : ℕ) → at.parent ≡ Some parent → is_class shared parent ≡ true =
         (λ parent e. let lt = parent_there unit p is Q R fine c.next.class parent e in grind (arith, nat_tests)) in
         let kept : Constructs number at.parent (record { fields = fields_in c.next.field c.decl.members; constructor = bodies.constructor_in c.next.class c.decl.members }) o =
         ⊎_elim (λ x. written_kept at c.decl number there c.few x o) (λ x. default_kept at c.decl number there c.few x o) c.constructor in

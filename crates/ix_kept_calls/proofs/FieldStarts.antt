@@ -43,7 +43,8 @@ use Rattle.ix_kept_statements.specs.Grounds.{Rooted, IsGround, within}
 use Rattle.ix_kept_statements.proofs.FullExpressions.{makes_map, then_sound, rooted_behind}
 use Rattle.ix_kept_statements.proofs.Simple.{runs_as, ran_runs}
 use Rattle.ix_kept_statements.proofs.Statements.{runs_both, runs_nothing}
-use Rattle.ix_kept_calls.specs.Callees.{CalleesRun, is_class}
+use Rattle.ix_kept_calls.specs.Callees.{CalleesRun}
+use Rattle.ix_kept_steps.specs.Sound.{is_class}
 use Rattle.ix_kept_steps.specs.SoundBodies.{super_sound, fields_sound, start_sound}
 use Rattle.ix_kept_calls.proofs.ParentCalls.{parent_runs, set_of}
 
@@ -171,11 +172,11 @@ module _ (g : Ground) (members : Members) (calls : Calls) (turns depth : ℕ) (d
   abbrev pub started : Option ℕ → List Expr → List Field → Action (Unit {0})
   started parent args fields = parent_constructed here parent (map evaluation args) >>= (λ done. fields_initialised here fields)
 
-  pub start_runs : (home : Home) (args : List Expr) (span : Span) (body : Body) → ((parent : ℕ) → home.parent ≡ Some parent → is_class g.tables g.site parent ≡ true) → home.field + field_count home.members ≤ most_counted → body.made.free ≤ body.most → Rooted g body
+  pub start_runs : (home : Home) (args : List Expr) (span : Span) (body : Body) → ((parent : ℕ) → home.parent ≡ Some parent → is_class g.site parent ≡ true) → home.field + field_count home.members ≤ most_counted → body.made.free ≤ body.most → Rooted g body
       → start_sound home args span g body ≡ true → Makes (λ after. Runs g body after 0 (started home.parent args (fields_in home.field home.members) >>= normally)) (program.constructor_start g.site home args span body)
   start_runs home args span body there few low rooted sound = with_parent home.parent there sound
     where
-      with_parent : (o : Option ℕ) → ((parent : ℕ) → o ≡ Some parent → is_class g.tables g.site parent ≡ true)
+      with_parent : (o : Option ℕ) → ((parent : ℕ) → o ≡ Some parent → is_class g.site parent ≡ true)
           → (super_sound o args g body && where_made (program.super_call g.site o args span body) (fields_sound home.field home.members g)) ≡ true
           → Makes (λ after. Runs g body after 0 (started o args (fields_in home.field home.members) >>= normally)) (program.super_call g.site o args span body then program.fields_initialised g.site home.field home.members)
       with_parent None there sound = fields_run home.field home.members body few low rooted sound

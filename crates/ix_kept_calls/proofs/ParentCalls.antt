@@ -33,7 +33,7 @@ use Rattle.ix_kept_steps.specs.Kept.{Makes, And, nothing_known, anything, Done}
 use Rattle.ix_kept_steps.specs.Called.{RunsMethod, entered}
 use Rattle.ix_kept_steps.specs.Calling.{AreIn, CallsKept, at_call}
 use Rattle.ix_kept_steps.specs.Running.{Ground, in_scope, standing, Runs}
-use Rattle.ix_kept_steps.specs.Sound.{soundness, all_used, used}
+use Rattle.ix_kept_steps.specs.Sound.{soundness, all_used, used, is_class}
 use Rattle.ix_kept_steps.proofs.Made.{then_done, makes_then}
 use Rattle.ix_kept_steps.proofs.Operations.{takes}
 use Rattle.ix_kept_values.proofs.Expressions.{and_first, and_second, used_expression}
@@ -41,7 +41,7 @@ use Rattle.ix_kept_values.proofs.Lists.{AllKept, arguments_done, no_args_stay}
 use Rattle.ix_kept_statements.specs.Grounds.{Rooted, IsGround, within}
 use Rattle.ix_kept_statements.proofs.Scopes.{scope_low, standing_set}
 use Rattle.ix_kept_statements.proofs.Simple.{runs_as, ran_runs}
-use Rattle.ix_kept_calls.specs.Callees.{CalleesRun, is_class, with_object}
+use Rattle.ix_kept_calls.specs.Callees.{CalleesRun, with_object}
 use Rattle.ix_kept_calls.proofs.Calls.{came_back, lands_nowhere}
 
 none_given : (o : Held) (r : Ended (Unit {0})) → go_on (λ (result : Option Held). gives Null) (go_on (with_object o) r) ≡ go_on (λ done. gives Null) r
@@ -109,7 +109,7 @@ module _ (g : Ground) (members : Members) (calls : Calls) (turns depth : ℕ) (d
       at_arguments (Cuts now) = refl
 
   -- The arguments, and the parent's constructor on `this`.
-  pub parent_runs : (parent : ℕ) (args : List Expr) (span : Span) (body : Body) → body.made.free ≤ body.most → Rooted g body → g.has_this ≡ true → is_class g.tables g.site parent ≡ true → all_used (map soundness args) (standing g body (assigned_by g.site body (all_assign args))) ≡ true
+  pub parent_runs : (parent : ℕ) (args : List Expr) (span : Span) (body : Body) → body.made.free ≤ body.most → Rooted g body → g.has_this ≡ true → is_class g.site parent ≡ true → all_used (map soundness args) (standing g body (assigned_by g.site body (all_assign args))) ≡ true
       → Makes (λ after. Runs g body after 0 (parent_constructed here (Some parent) (map evaluation args) >>= normally)) (parent_call g.site parent args span body)
   parent_runs parent args span body low rooted has is sound =
       let assigned = assigned_by g.site body (all_assign args) in

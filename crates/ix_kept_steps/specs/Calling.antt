@@ -39,11 +39,11 @@ module _ (z : Setting) where
 
   module _ (members : Members) (calls : Calls) (turns : ℕ) where
     pub record CallsKept : Type 0 where
-      pub is_static : (method : ℕ) → is_method z method ≡ true → members.is_static method ≡ (head_at z.scope.site method).is_static
-      pub static : (call : CallOp) (given : List Held) → is_method z call.method ≡ true → members.is_static call.method ≡ true
+      pub is_static : (method : ℕ) → is_method z.tables z.scope.site method ≡ true → members.is_static method ≡ (head_at z.scope.site method).is_static
+      pub static : (call : CallOp) (given : List Held) → is_method z.tables z.scope.site call.method ≡ true → members.is_static call.method ≡ true
           → CallDoes (op.StaticCall call) call (λ span. calls.method call.method Null given >>= value_of) (AreIn call.args given) (ResultIn call.method call.target)
-      pub instance : (call : CallOp) (o : Held) (given : List Held) → is_method z call.method ≡ true → members.is_static call.method ≡ false
+      pub instance : (call : CallOp) (o : Held) (given : List Held) → is_method z.tables z.scope.site call.method ≡ true → members.is_static call.method ≡ false
           → CallDoes (op.InstanceCall call) call (λ span. through span.from o (call_on (context z members calls turns) span.from call.method o given) >>= value_of)
           (λ slots. IsIn (receiver_slot call.receiver) o slots × AreIn call.args given slots) (ResultIn call.method call.target)
-      pub made : (call : CallOp) (given : List Held) → is_class z call.class ≡ true → call.method ≡ constructor_at z.scope.site call.class
+      pub made : (call : CallOp) (given : List Held) → is_class z.scope.site call.class ≡ true → call.method ≡ constructor_at z.scope.site call.class
           → CallDoes (op.NewObject call) call (λ span. object_of (context z members calls turns) call.class given) (AreIn call.args given) (IsIn call.target)

@@ -7,6 +7,7 @@
 -- `ix_well_named/proofs/AssignedOwned`.
 use Rattle.std.specs.Prelude.{ℕ, ◌==◌, Bool, true, false, not, ◌&&◌, ◌||◌, List, [], ◌∷◌, length, nat_lt, Option, Some, None, is_some}
 use Rattle.ix_text.specs.declared.span.Span.{Span}
+use Rattle.ix_core.specs.Tables.{Tables}
 use Rattle.ix_core.specs.Types.{is_void}
 use Rattle.ix_tree.specs.declared.annot.Ident.{Ident}
 use Rattle.ix_tree.specs.declared.expr.Expr.{Expr, Expr-F, fold-Expr}
@@ -14,7 +15,7 @@ use Rattle.ix_tree.specs.declared.expr.ExprKind.{ExprKind-F}
 use Rattle.ix_tree.specs.declared.expr.Init.{Init, Init-F, fold-Init}
 use Rattle.ix_meaning.specs.declared.note.Meaning.{Meaning}
 use Rattle.ix_meaning.specs.declared.note.Meaning.TheVariants as meaning
-use Rattle.ix_plain.specs.Scope.{slot_of, meaning_at, type_at, is_among, head_at}
+use Rattle.ix_plain.specs.Scope.{Site, slot_of, meaning_at, type_at, is_among, head_at}
 use Rattle.ix_kept_steps.specs.Along.{Setting}
 
 -- Whether an expression is sound where it stands, as each place wants it.
@@ -113,12 +114,12 @@ element array index span = record { span = span; value = both_used array index; 
 -- ---- calls (JLS 15.12, 15.9)
 
 -- the number of a written method that is no constructor
-abbrev pub is_method : Setting → ℕ → Bool
-is_method z method = nat_lt method (length z.scope.site.heads) && not (z.tables.routines method).constructor
+abbrev pub is_method : Tables → Site → ℕ → Bool
+is_method tables site method = nat_lt method (length site.heads) && not (tables.routines method).constructor
 
 -- the number of a class
-abbrev pub is_class : Setting → ℕ → Bool
-is_class z class = nat_lt class (length z.scope.site.constructors)
+abbrev pub is_class : Site → ℕ → Bool
+is_class site class = nat_lt class (length site.constructors)
 
 -- A call whose type isn't `void` is one of a method that gives something back.
 abbrev pub has_result : Setting → ℕ → Span → Bool
@@ -133,11 +134,11 @@ received (Some object) false z = used object z
 
 abbrev pub called : Option Soundness → List Soundness → Span → Setting → Option Meaning → Bool
 called object args span z (Some (meaning.MethodNamed method)) =
-    is_method z method && (has_result z method span && (received object (head_at z.scope.site method).is_static z && all_used args z))
+    is_method z.tables z.scope.site method && (has_result z method span && (received object (head_at z.scope.site method).is_static z && all_used args z))
 called object args span z _ = false
 
 abbrev pub created : List Soundness → Setting → Option Meaning → Bool
-created args z (Some (meaning.ClassNamed class)) = is_class z class && all_used args z
+created args z (Some (meaning.ClassNamed class)) = is_class z.scope.site class && all_used args z
 created args z _ = false
 
 -- ---- all forms

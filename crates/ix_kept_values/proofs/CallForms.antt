@@ -50,7 +50,7 @@ module _ (z : Setting) (set : IsSet z) (members : Members) (calls : Calls) (turn
   unused_done None (Some e) none made le = absurd none
   unused_done (Some l) None none made le = absurd none
 
-  static_done : (object : Option Lowering) (o : Option Evaluation) (method : ℕ) (ls : List Lowering) (es : List Evaluation) (class : ℕ) (span : Span) → UnusedKept object o → AllKept z set members calls turns ls es → is_method z method ≡ true → members.is_static method ≡ true → (made : Made) → z.base ≤ made.free
+  static_done : (object : Option Lowering) (o : Option Evaluation) (method : ℕ) (ls : List Lowering) (es : List Evaluation) (class : ℕ) (span : Span) → UnusedKept object o → AllKept z set members calls turns ls es → is_method z.tables z.scope.site method ≡ true → members.is_static method ≡ true → (made : Made) → z.base ≤ made.free
       → Makes (λ v. Done z nothing_known made v.made (λ x. source.static_call o method es here) (ResultIn z method v.slot)) (values.static_call object method ls class span z.scope made)
   static_done object o method ls es class span before args is static made le =
       then_done z (λ (m : Made). m) (λ m. nothing_known) (λ (v : Value). v.made) (λ v. ResultIn z method v.slot) nothing_known made (λ x. source.unused_object o here) (λ p. source.arguments_from [] es here >>= (λ given. calls.method method Null given >>= value_of))
@@ -77,7 +77,7 @@ module _ (z : Setting) (set : IsSet z) (members : Members) (calls : Calls) (turn
   object_done None (Some e) none made le = absurd none
   object_done (Some l) None none made le = absurd none
 
-  instance_done : (object : Option Lowering) (o : Option Evaluation) (method : ℕ) (ls : List Lowering) (es : List Evaluation) (span : Span) → ObjectKept object o → AllKept z set members calls turns ls es → is_method z method ≡ true → members.is_static method ≡ false → (made : Made) → z.base ≤ made.free
+  instance_done : (object : Option Lowering) (o : Option Evaluation) (method : ℕ) (ls : List Lowering) (es : List Evaluation) (span : Span) → ObjectKept object o → AllKept z set members calls turns ls es → is_method z.tables z.scope.site method ≡ true → members.is_static method ≡ false → (made : Made) → z.base ≤ made.free
       → Makes (λ v. Done z nothing_known made v.made (λ x. source.instance_call o span method es here) (ResultIn z method v.slot)) (values.instance_call object method ls span z.scope made)
   instance_done object o method ls es span before args is static made le =
       then_done z (λ (v : Value). v.made) (λ v. IsIn v.slot) (λ (v : Value). v.made) (λ v. ResultIn z method v.slot) nothing_known made (λ x. source.object_value o here)
@@ -96,14 +96,14 @@ module _ (z : Setting) (set : IsSet z) (members : Members) (calls : Calls) (turn
   ReceiverKept true object o = UnusedKept object o
   ReceiverKept false object o = ObjectKept object o
 
-  by_kind : (is_static : Bool) → (object : Option Lowering) (o : Option Evaluation) (method : ℕ) (ls : List Lowering) (es : List Evaluation) (class : ℕ) (span : Span) → ReceiverKept is_static object o → AllKept z set members calls turns ls es → is_method z method ≡ true → members.is_static method ≡ is_static
+  by_kind : (is_static : Bool) → (object : Option Lowering) (o : Option Evaluation) (method : ℕ) (ls : List Lowering) (es : List Evaluation) (class : ℕ) (span : Span) → ReceiverKept is_static object o → AllKept z set members calls turns ls es → is_method z.tables z.scope.site method ≡ true → members.is_static method ≡ is_static
       → (made : Made) → z.base ≤ made.free
       → Makes (λ v. Done z nothing_known made v.made (λ x. if is_static then source.static_call o method es here else source.instance_call o span method es here) (ResultIn z method v.slot)) (if is_static then values.static_call object method ls class span z.scope made else values.instance_call object method ls span z.scope made)
   by_kind true object o method ls es class span before args is static made le = static_done object o method ls es class span before args is static made le
   by_kind false object o method ls es class span before args is static made le = instance_done object o method ls es span before args is static made le
 
   -- A call of the method: its slot holds what the method gives back, if it has a result.
-  pub called_done : (object : Option Lowering) (o : Option Evaluation) (method : ℕ) (ls : List Lowering) (es : List Evaluation) (ident : Ident) → ReceiverKept (head_at z.scope.site method).is_static object o → AllKept z set members calls turns ls es → is_method z method ≡ true → (made : Made) → z.base ≤ made.free
+  pub called_done : (object : Option Lowering) (o : Option Evaluation) (method : ℕ) (ls : List Lowering) (es : List Evaluation) (ident : Ident) → ReceiverKept (head_at z.scope.site method).is_static object o → AllKept z set members calls turns ls es → is_method z.tables z.scope.site method ≡ true → (made : Made) → z.base ≤ made.free
       → Makes (λ v. Done z nothing_known made v.made (λ x. source.called o ident method es here) (ResultIn z method v.slot)) (values.called (head_at z.scope.site method) object method ls ident.span z.scope made)
   called_done object o method ls es ident before args is made le =
       subst (λ (is_static : Bool). Makes (λ v. Done z nothing_known made v.made (λ x. if is_static then source.static_call o method es here else source.instance_call o ident.span method es here) (ResultIn z method v.slot)) (values.called (head_at z.scope.site method) object method ls ident.span z.scope made)) (sym (kept.is_static method is))
@@ -119,7 +119,7 @@ module _ (z : Setting) (set : IsSet z) (members : Members) (calls : Calls) (turn
 
   -- ---- `new` (JLS 15.9)
 
-  pub new_done : (class : ℕ) (ls : List Lowering) (es : List Evaluation) (span : Span) → AllKept z set members calls turns ls es → is_class z class ≡ true → (made : Made) → z.base ≤ made.free
+  pub new_done : (class : ℕ) (ls : List Lowering) (es : List Evaluation) (span : Span) → AllKept z set members calls turns ls es → is_class z.scope.site class ≡ true → (made : Made) → z.base ≤ made.free
       → Makes (λ v. Done z nothing_known made v.made (λ x. source.arguments_from [] es here >>= (λ given. object_of here class given)) (IsIn v.slot))
       (values.arguments_from [] ls z.scope made then values.calling op.NewObject (constructor_at z.scope.site class) None class span)
   new_done class ls es span args is made le =

@@ -298,13 +298,13 @@ module _ (z : Setting) (set : IsSet z) (members : Members) (calls : Calls) (turn
   -- ---- calls
 
   abbrev IsCall : Option Soundness → List Soundness → Span → Option Meaning → ℕ → Type 0
-  IsCall object args span m method = (m ≡ Some (meaning.MethodNamed method)) × (is_method z method ≡ true) × (has_result z method span ≡ true) × (sound.received object (head_at z.scope.site method).is_static z ≡ true) × (all_used args z ≡ true)
+  IsCall object args span m method = (m ≡ Some (meaning.MethodNamed method)) × (is_method z.tables z.scope.site method ≡ true) × (has_result z method span ≡ true) × (sound.received object (head_at z.scope.site method).is_static z ≡ true) × (all_used args z ≡ true)
 
   call_is : (object : Option Soundness) (args : List Soundness) (span : Span) (m : Option Meaning) → sound.called object args span z m ≡ true → (method : ℕ) × IsCall object args span m method
   call_is object args span (Some (meaning.MethodNamed method)) is =
-      let rest = and_second (is_method z method) (has_result z method span && (sound.received object (head_at z.scope.site method).is_static z && all_used args z)) is in
+      let rest = and_second (is_method z.tables z.scope.site method) (has_result z method span && (sound.received object (head_at z.scope.site method).is_static z && all_used args z)) is in
       let last = and_second (has_result z method span) (sound.received object (head_at z.scope.site method).is_static z && all_used args z) rest in
-      (method, (refl, and_first (is_method z method) _ is, and_first (has_result z method span) _ rest, and_first (sound.received object (head_at z.scope.site method).is_static z) (all_used args z) last, and_second (sound.received object (head_at z.scope.site method).is_static z) (all_used args z) last))
+      (method, (refl, and_first (is_method z.tables z.scope.site method) _ is, and_first (has_result z method span) _ rest, and_first (sound.received object (head_at z.scope.site method).is_static z) (all_used args z) last, and_second (sound.received object (head_at z.scope.site method).is_static z) (all_used args z) last))
   call_is object args span None none = no_target none
   call_is object args span (Some (meaning.Local n)) none = no_target none
   call_is object args span (Some (meaning.Param n)) none = no_target none
@@ -345,7 +345,7 @@ module _ (z : Setting) (set : IsSet z) (members : Members) (calls : Calls) (turn
         (values.arguments_from [] ls z.scope made then values.calling op.NewObject (Rattle.ix_plain.specs.Scope.constructor_at z.scope.site (values.class_number m)) None (values.class_number m) span)
 
     new_by : (found : Option Meaning) → sound.created ss z found ≡ true → (made : Made) → z.base ≤ made.free → MadeNew found made
-    new_by (Some (meaning.ClassNamed class)) is made le = new_done z set members calls turns kept class ls es span (args (and_second (sound.is_class z class) (all_used ss z) is)) (and_first (sound.is_class z class) (all_used ss z) is) made le
+    new_by (Some (meaning.ClassNamed class)) is made le = new_done z set members calls turns kept class ls es span (args (and_second (sound.is_class z.scope.site class) (all_used ss z) is)) (and_first (sound.is_class z.scope.site class) (all_used ss z) is) made le
     new_by None none made le = no_target none
     new_by (Some (meaning.Local n)) none made le = no_target none
     new_by (Some (meaning.Param n)) none made le = no_target none

@@ -9,7 +9,6 @@ use Rattle.ix_core.specs.declared.program.Program.{Program}
 use Rattle.ix_core.specs.Formed.{Formed, is_formed}
 use Rattle.ix_core.specs.Safe.{Safe}
 use Rattle.ix_facts.specs.Stores.{Stored}
-use Rattle.ix_store.specs.declared.store.Store.{Store}
 use Rattle.ix_cert.specs.Labellings.{IsLabelling}
 use Rattle.ix_sound.specs.Sound.{HasNoErrors, LocalsApart}
 use Rattle.ix_audit.specs.declared.answer.Audit.{Audit}
@@ -20,22 +19,22 @@ use Rattle.ix_accepted.proofs.Accepted.{flawless_accepted}
 use Rattle.ix_verify.specs.declared.answer.CertError.{CertError}
 use Rattle.ix_verify.specs.declared.answer.CertError.TheVariants.{Loop, Rule, Memory}
 use Rattle.ix_verify.specs.declared.answer.Verified.{Verified}
-use Rattle.ix_verify.specs.Verdicts.{CanVerify, Gives, IsVerified, IsRefused, labels_in}
+use Rattle.ix_verify.specs.Verdicts.{CanVerify, IsVerified, IsRefused, labels_in}
 use Rattle.ix_verify.proofs.OneVerdict.{none_refused, own_profile}
 
-module _ (program : Program) (profile : Profile) (labels : List (List Store)) (answer : Audit) (judged : IsAudit program profile labels answer) where
-  pub clean : (verified : Verified) → answer ≡ audit.Clean → verified.profile ≡ profile → verified.labels ≡ labels_in program → (text : List ℕ) → Gives program text profile labels → IsVerified program text verified
+module _ (program : Program) (profile : Profile) (labels : List (List Stored)) (answer : Audit) (judged : IsAudit program profile labels answer) where
+  pub clean : (verified : Verified) → answer ≡ audit.Clean → verified.profile ≡ profile → verified.labels ≡ labels_in program → (text : List ℕ) → IsLabelling program profile labels text → IsVerified program text verified
   clean verified is own count text gives = record {
     labels = labels;
-    gives = subst (λ p. Gives program text p labels) (sym own) gives;
+    gives = subst (λ p. IsLabelling program p labels text) (sym own) gives;
     clean = subst (λ p. IsAudit program p labels audit.Clean) (sym own) (subst (IsAudit program profile labels) is judged);
     count = count;
   }
 
-  pub loop : (method at : ℕ) → answer ≡ audit.Loop method at → (text : List ℕ) → Gives program text profile labels → IsRefused program text (Loop method at)
+  pub loop : (method at : ℕ) → answer ≡ audit.Loop method at → (text : List ℕ) → IsLabelling program profile labels text → IsRefused program text (Loop method at)
   loop method at is text gives = (profile, labels, gives, subst (IsAudit program profile labels) is judged)
 
-  pub rule : (errors : Vec Error) (first : Error) → answer ≡ audit.Errors errors → slice_get errors.items 0 ≡ Some first → (text : List ℕ) → Gives program text profile labels → IsRefused program text (Rule first)
+  pub rule : (errors : Vec Error) (first : Error) → answer ≡ audit.Errors errors → slice_get errors.items 0 ≡ Some first → (text : List ℕ) → IsLabelling program profile labels text → IsRefused program text (Rule first)
   rule errors first is there text gives = (profile, labels, errors, gives, subst (IsAudit program profile labels) is judged, there)
 
 module _ (program : Program) (text : List ℕ) (formed : Formed program) (can : CanVerify program) where

@@ -6,8 +6,6 @@ use Rattle.ix_core.specs.declared.fact.Profile.{Profile}
 use Rattle.ix_core.specs.declared.program.Method.{Method}
 use Rattle.ix_core.specs.declared.program.Program.{Program}
 use Rattle.ix_facts.specs.Stores.{Stored}
-use Rattle.ix_store.specs.declared.store.Store.{Store}
-use Rattle.ix_store.specs.StoredFacts.{stored}
 use Rattle.ix_cert.specs.Labellings.{IsLabelling, loops_of}
 use Rattle.ix_sound.specs.Sound.{LocalsApart}
 use Rattle.ix_audit.specs.declared.answer.Audit.TheVariants as audit
@@ -34,14 +32,10 @@ labels_beside (method ∷ methods) (count ∷ counts) = labels_of method count +
 abbrev pub labels_in : Program → ℕ
 labels_in program = labels_beside program.methods (map loops_of program.methods)
 
--- The text is a certificate of the program in this profile, with these labels.
-abbrev pub Gives : Program → List ℕ → Profile → List (List Store) → Type 0
-Gives program text profile labels = IsLabelling program profile (map (map stored) labels) text
-
 -- The program is accepted: the text is a certificate of it, none of its labels fails, and no error is derived at them.
 pub record IsVerified (program : Program) (text : List ℕ) (verified : Verified) : Type 0 where
-  pub labels : List (List Store)
-  pub gives : Gives program text verified.profile labels
+  pub labels : List (List Stored)
+  pub gives : IsLabelling program verified.profile labels text
   pub clean : IsAudit program verified.profile labels audit.Clean
   pub count : verified.labels ≡ labels_in program
 
@@ -50,9 +44,9 @@ abbrev pub IsRefused : Program → List ℕ → CertError → Type 0
 -- the bytes are no certificate of the program
 IsRefused program text Form = (profile : Profile) (labels : List (List Stored)) → IsLabelling program profile labels text → ⊥
 -- this label, the first that does, fails
-IsRefused program text (Loop method loop) = (profile : Profile) × (labels : List (List Store)) × Gives program text profile labels × IsAudit program profile labels (audit.Loop method loop)
+IsRefused program text (Loop method loop) = (profile : Profile) × (labels : List (List Stored)) × IsLabelling program profile labels text × IsAudit program profile labels (audit.Loop method loop)
 -- no label fails, and this is the first error that is derived at them
 IsRefused program text (Rule error) =
-    (profile : Profile) × (labels : List (List Store)) × (errors : Vec Error) × Gives program text profile labels × IsAudit program profile labels (audit.Errors errors) × (slice_get errors.items 0 ≡ Some error)
+    (profile : Profile) × (labels : List (List Stored)) × (errors : Vec Error) × IsLabelling program profile labels text × IsAudit program profile labels (audit.Errors errors) × (slice_get errors.items 0 ≡ Some error)
 -- memory is wanting: nothing is said
 IsRefused program text Memory = Unit {0}

@@ -5,11 +5,12 @@ ghost use Rattle.ix_core.specs.declared.fact.Profile.{Profile as Found};
 ghost use Rattle.ix_core.specs.Formed.{Formed};
 ghost use Rattle.ix_core.specs.Safe.{Safe};
 ghost use Rattle.ix_facts.specs.Stores.{Stored};
+ghost use Rattle.ix_store.specs.StoredFacts.{stored};
 ghost use Rattle.ix_cert.specs.Labellings.{IsLabelling, loops_of};
 ghost use Rattle.ix_accepted.specs.Flawless.{AreFlawless};
 ghost use Rattle.ix_verify.specs.declared.answer.CertError.TheVariants.{Memory};
 ghost use Rattle.ix_verify.specs.Verdicts as spec;
-ghost use Rattle.ix_verify.specs.Verdicts.{CanVerify, Gives, IsVerified, IsRefused, labels_in};
+ghost use Rattle.ix_verify.specs.Verdicts.{CanVerify, IsVerified, IsRefused, labels_in};
 
 use crate::answer::{CertError, Verified};
 use ix_audit::{Audit, audit};
@@ -80,8 +81,8 @@ fn judge(
 ) -> Result<Verified, CertError>
     requires can { CanVerify program.now }
     requires each { map length labels.now ≡ map loops_of program.now.methods }
-    ensures verified { IfOk result (λ verified. (text : List ℕ) → Gives program.now text profile labels.now → IsVerified program.now text verified) }
-    ensures refused { IfErr result (λ error. (text : List ℕ) → Gives program.now text profile labels.now → IsRefused program.now text error) }
+    ensures verified { IfOk result (λ verified. (text : List ℕ) → IsLabelling program.now profile (map (map stored) labels.now) text → IsVerified program.now text verified) }
+    ensures refused { IfErr result (λ error. (text : List ℕ) → IsLabelling program.now profile (map (map stored) labels.now) text → IsRefused program.now text error) }
 {
     match audit(alloc, program, labels, profile)? {
         Audit::Clean => {

@@ -169,7 +169,7 @@ module _ (z : Setting) where
     called_owned : (s : Option Soundness) (a : Option Assigns) → ((static : Bool) → sound.received s static z ≡ true → Owns (maybe a)) → (args : List E) (span : Span) (o : Option Meaning) → sound.called s (map soundness (map expr args)) span z o ≡ true
         → Owns (both (maybe a) (all (each (map assigns (map expr args)))))
     called_owned s a owns args span (Some (meaning.MethodNamed n)) is =
-        let q = and_parts (sound.is_method z n) _ is in
+        let q = and_parts (sound.is_method z.tables z.scope.site n) _ is in
         let w = and_parts (sound.has_result z n span) _ q.1 in
         let x = and_parts (sound.received s (head_at z.scope.site n).is_static z) (all_used (map soundness (map expr args)) z) w.1 in
         both_owned (maybe a) (all (each (map assigns (map expr args)))) (args_append args) (owns (head_at z.scope.site n).is_static x.0) (args_owned args x.1)

@@ -59,7 +59,7 @@ module _ (y : typed.Setting) (set : typed.IsSet y) (v : View) (n : IsSeen y v) (
       let receives = received_as object (head_at y.scope.site number).is_static m.signature.is_static is.head_static unused taken in
       let given = given_used y set v ls rs ss all number m.signature.params is.takes ident.span said.1 in
       subst (λ o. sound.called object ss span z o ≡ true) (sym (said.0 here))
-      (both_true (sound.is_method z number) _ (both_true (nat_lt number (length y.scope.site.heads)) _ (there_is number (length y.scope.site.heads) (n.numbers.methods class ident.text m e)) (ap not ((n.results number).1 ∙ is.constructor)))
+      (both_true (sound.is_method z.tables z.scope.site number) _ (both_true (nat_lt number (length y.scope.site.heads)) _ (there_is number (length y.scope.site.heads) (n.numbers.methods class ident.text m e)) (ap not ((n.results number).1 ∙ is.constructor)))
       (both_true (sound.has_result z number span) _ gives (both_true (sound.received object (head_at y.scope.site number).is_static z) _ receives given)))
 
   -- ---- without a dot

@@ -113,7 +113,7 @@ module _ (z : Setting) where
 
   pub called_is : (object : Option Soundness) (args : List Soundness) (span : Span) (o : Option Meaning) → sound.called object args span z o ≡ true → IsCall object args span o
   called_is object args span (Some (meaning.MethodNamed k)) e =
-      let q = and_parts (sound.is_method z k) _ e in
+      let q = and_parts (sound.is_method z.tables z.scope.site k) _ e in
       let w = and_parts (sound.has_result z k span) _ q.1 in
       let x = and_parts (sound.received object (head_at z.scope.site k).is_static z) (all_used args z) w.1 in
       record { method = k; means = refl; written = is_less k (length z.scope.site.heads) (and_parts (nat_lt k (length z.scope.site.heads)) (not (z.tables.routines k).constructor) q.0).0; gives = λ some. given_back (z.tables.routines k).default (is_void (type_at z.scope span)) some w.0; received = x.0; given = x.1 }

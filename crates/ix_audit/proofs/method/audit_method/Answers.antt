@@ -1,7 +1,8 @@
-use Rattle.std.proofs.Common.{◌≡◌, ◌<◌, length, ap, sym, subst, ◌∙◌, ◌++◌, List}
+use Rattle.std.proofs.Common.{◌≡◌, ◌<◌, length, map, ap, sym, subst, ◌∙◌, ◌++◌, List}
 use Rattle.ix_core.specs.declared.program.Method.{Method}
 use Rattle.ix_core.specs.Code.{block_code}
 use Rattle.ix_core.specs.Tables.{method_at}
+use Rattle.ix_method.specs.StoredFacts.{stored}
 use Rattle.ix_method.specs.RuleErrors.{OverridesBy}
 use Rattle.ix_method.specs.Naming.{HasSmallNames}
 use Rattle.ix_audit.specs.Walking.{AddsTo, SomewhereIn, Finds, IsLeastIn}
@@ -15,8 +16,8 @@ returns-clause-first c =
     let is = method_is program c.args.number c.as_slice.result.now c.index-as_slice-number.result c.as_slice.ensures within c.index-as_slice-number.is in
     let failed = c.in_ok-findings.findings.failed.items in
     let errors = c.in_ok-findings.findings.errors.items in
-    let finds = subst (λ (m : Method). Finds program m c.args.number c.args.profile c.args.labels.now failed errors) (sym is) c.in_ok-findings.ensures in
-    first_failing program c.args.profile c.args.number c.args.labels.now failed errors finds c.least_of.result (subst (λ ns. IsLeastIn ns c.least_of.result) c.as_slice-3.ensures.value c.least_of.ensures)
+    let finds = subst (λ (m : Method). Finds program m c.args.number c.args.profile (map stored c.args.labels.now) failed errors) (sym is) c.in_ok-findings.ensures in
+    first_failing program c.args.profile c.args.number (map stored c.args.labels.now) failed errors finds c.least_of.result (subst (λ ns. IsLeastIn ns c.least_of.result) c.as_slice-3.ensures.value c.least_of.ensures)
 
 pub returns-clause-errors : goal.returns-clause-errors
 returns-clause-errors c =
@@ -25,8 +26,8 @@ returns-clause-errors c =
     let is = method_is program c.args.number c.as_slice.result.now c.index-as_slice-number.result c.as_slice.ensures within c.index-as_slice-number.is in
     let failed = c.in_ok-findings.findings.failed.items in
     let errors = c.in_ok-findings.findings.errors.items in
-    let finds = subst (λ (m : Method). Finds program m c.args.number c.args.profile c.args.labels.now failed errors) (sym is) c.in_ok-findings.ensures in
-    all_errors program c.args.profile c.args.number c.args.labels.now failed errors finds _ _ _ _ (c.in_ok-extend_from_slice.ensures.items ∙ ap (λ es. c.args.out.now.items ++ es) c.as_slice-2.ensures.value)
+    let finds = subst (λ (m : Method). Finds program m c.args.number c.args.profile (map stored c.args.labels.now) failed errors) (sym is) c.in_ok-findings.ensures in
+    all_errors program c.args.profile c.args.number (map stored c.args.labels.now) failed errors finds _ _ _ _ (c.in_ok-extend_from_slice.ensures.items ∙ ap (λ es. c.args.out.now.items ++ es) c.as_slice-2.ensures.value)
     (subst (λ (m : Method). AddsTo (OverridesBy program m c.args.number m.overrides) c.extend_from_slice.new.self.items c.push_of_overriding.new.out.items) (sym is) c.in_ok-push_of_overriding.ensures)
     (subst (λ (m : Method). AddsTo (SomewhereIn program m (block_code m.body)) c.push_of_overriding.new.out.items c.push_of_block.new.out.items) (sym is) c.in_ok-push_of_block.ensures)
 
@@ -37,5 +38,5 @@ returns-clause-none c =
     let is = method_is program c.args.number c.as_slice.result.now c.index-as_slice-number.result c.as_slice.ensures within c.index-as_slice-number.is in
     let failed = c.in_ok-findings.findings.failed.items in
     let errors = c.in_ok-findings.findings.errors.items in
-    let finds = subst (λ (m : Method). Finds program m c.args.number c.args.profile c.args.labels.now failed errors) (sym is) c.in_ok-findings.ensures in
-    none_sound program c.args.profile c.args.number c.args.labels.now failed errors finds c.least_of.result (subst (λ ns. IsLeastIn ns c.least_of.result) c.as_slice-3.ensures.value c.least_of.ensures)
+    let finds = subst (λ (m : Method). Finds program m c.args.number c.args.profile (map stored c.args.labels.now) failed errors) (sym is) c.in_ok-findings.ensures in
+    none_sound program c.args.profile c.args.number (map stored c.args.labels.now) failed errors finds c.least_of.result (subst (λ ns. IsLeastIn ns c.least_of.result) c.as_slice-3.ensures.value c.least_of.ensures)
