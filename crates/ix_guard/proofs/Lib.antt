@@ -1,0 +1,2 @@
+pub mod KeptSources
+mod Rows

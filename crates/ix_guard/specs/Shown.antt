@@ -1,0 +1,16 @@
+-- What a site and an access of the code are as those of the definitions.
+use Rattle.ix_table.specs.Numbered.{shown}
+use Rattle.ix_guard.specs.declared.access.Access.{Access as Found}
+use Rattle.ix_guard.specs.declared.test.Site.{Site as Known}
+use Rattle.ix_guard.specs.declared.test.Changes.{Changes as Changing}
+use Rattle.ix_guard.specs.Accesses.{Access}
+use Rattle.ix_guard.specs.Tests.{Site, Changes}
+
+abbrev pub seen : Found → Access
+seen access = record { array = access.array.now; index = access.index.now }
+
+abbrev pub site_of : Known → Site
+site_of site = record { names = shown site.table.now; errors = site.errors.now }
+
+abbrev pub changes_of : Changing → Changes
+changes_of changes = record { assigned = changes.assigned.now; declared = changes.declared.now }
