@@ -1,17 +1,24 @@
 -- What is right of the answers of `guard`.
-use Rattle.std.proofs.Common.{◌≡◌, ℕ, List, [], ◌∷◌, true, sym, ap, subst, ◌∙◌, refl}
+use Rattle.std.proofs.Common.{◌≡◌, ◌≢◌, ◌≤◌, ℕ, List, [], ◌∷◌, length, true, sym, ap, subst, ◌∙◌, refl}
 use Rattle.ix_core.specs.declared.error.Error.{Error}
 use Rattle.ix_core.specs.declared.program.Program.{Program}
 use Rattle.ix_core.specs.declared.fact.Profile.{Profile}
 use Rattle.ix_answer.specs.Answer.{Answer, out_answer}
 use Rattle.ix_answer.specs.Statuses.{is_answer}
-use Rattle.ix_finding.specs.Found.{Finding, TooLong, Broken, Past, Misnamed, Whole, Found}
+use Rattle.ix_finding.specs.Found.{Finding, TooLong, Broken, Past, Misnamed, Whole, Found, too_long, no_tokens, lexed}
 use Rattle.ix_finding.specs.MethodErrors.{IsError}
 use Rattle.ix_finding.proofs.OneFinding.{one_finding}
 use Rattle.ix_listing.proofs.Lists.{one_list}
+use Rattle.ix_outside.specs.Reading.{most_bytes}
 use Rattle.ix_guarding.specs.Guarding.{IsGuarded}
 use Rattle.ix_guarding.proofs.OneGuarded.{one_guarded}
 use Rattle.ix_tool.specs.Answers.{AnswersFound, AnswersGuarded, Guards, guard_status}
+
+-- what is found of a text is that it is too long, or it isn't
+pub found_short : (bytes : List ℕ) (finding : Finding) → Found bytes finding → finding ≢ TooLong → length bytes ≤ most_bytes
+found_short bytes _ (too_long past) some = absurd (some refl)
+found_short bytes finding (no_tokens why short fails is) some = short
+found_short bytes finding (lexed tokens short is few found) some = short
 
 -- ---- one answer
 
