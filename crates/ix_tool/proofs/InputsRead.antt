@@ -3,7 +3,7 @@ use Rattle.std.proofs.Common.{◌≡◌, ◌∙◌, ℕ, ◌≤◌, ◌+◌, Lis
 use Rattle.ix_outside.specs.Outside.{Files, bytes_under, first_given, second_given}
 use Rattle.ix_outside.proofs.PartsGiven.{given_none, given_one, given_two}
 use Rattle.ix_words.specs.Words.{Text}
-use Rattle.ix_words.specs.Commands.{Command, Check, Run, Bench, Verify}
+use Rattle.ix_words.specs.Commands.{Command, Check, Run, Bench, Verify, Guard}
 use Rattle.ix_finding.specs.Found.{Finding, TooLong, Broken, Past, Misnamed, Whole, Found}
 use Rattle.ix_tool.specs.Answers.{file_in, cert_in, source_bytes, NeedsCert}
 use Rattle.ix_tool.specs.Ends.{bytes_of, listed, names_of, ReadsWithin}
@@ -32,6 +32,7 @@ opened_verify (Check sums certificate library file) (Whole program) name is = ab
 opened_verify (Run limits traced library file entry inputs) (Whole program) name is = absurd (cc)
 opened_verify (Bench count) (Whole program) name is = absurd (cc)
 opened_verify (Verify library file cert) (Whole program) name is = (is, file, refl)
+opened_verify (Guard sums file) (Whole program) name is = absurd (cc)
 
 pub needs_cert : (command : Command) (bytes : List ℕ) (finding : Finding) (name : Text) → opened_by command finding ≡ Some name → Found (source_bytes command bytes) finding → NeedsCert command bytes
 needs_cert command bytes TooLong name is found = absurd (cc)
@@ -42,6 +43,7 @@ needs_cert (Check sums certificate library file) bytes (Whole program) name is f
 needs_cert (Run limits traced library file entry inputs) bytes (Whole program) name is found = absurd (cc)
 needs_cert (Bench count) bytes (Whole program) name is found = absurd (cc)
 needs_cert (Verify library file cert) bytes (Whole program) name is found = (program, found)
+needs_cert (Guard sums file) bytes (Whole program) name is found = absurd (cc)
 
 -- ---- where no certificate was opened
 

@@ -14,7 +14,7 @@ use Rattle.ix_outside.specs.Outside.{Files, bytes_under, Rose, Took, TookPrefix}
 use Rattle.ix_outside.specs.Reading.{IsAllOrPast, most_bytes}
 use Rattle.ix_outside.proofs.PrefixesTaken.{TookPrefix-none}
 use Rattle.ix_words.specs.declared.values.Sums.{Sums}
-use Rattle.ix_words.specs.Commands.{Command, Check, Run, Bench, Verify}
+use Rattle.ix_words.specs.Commands.{Command, Check, Run, Bench, Verify, Guard}
 use Rattle.ix_tool.specs.Answers.{Answers, IsVerdict, AsksCert, NeedsCert, read_failed, file_in, cert_in, file_of, cert_of, source_name, source_bytes, judged_bytes}
 use Rattle.ix_tool.specs.Ends.{WasUnread, EndsUnread, TookUnread, SafeBytes, SafeOnMachine, SafeBy, Promises, bytes_of, cert_bytes_of, last_of}
 use Rattle.ix_tool.specs.Inputs.{Obeys}
@@ -32,6 +32,7 @@ named_file (Check sums certificate library f) file is = cc
 named_file (Run limits traced library f entry inputs) file is = cc
 named_file (Bench count) file is = absurd (cc)
 named_file (Verify library f name) file is = cc
+named_file (Guard sums f) file is = cc
 
 abbrev unread_named : (IsSure : List ℕ → Type 0) (before after : ℕ) (asked : Option Command) (command : Command) (cert : Option (List ℕ)) → Some command ≡ asked
     → WasUnread IsSure before after (last_of (Some command) cert) → WasUnread IsSure before after (last_of asked cert)

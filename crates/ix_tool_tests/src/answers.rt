@@ -6,7 +6,7 @@ use std::test::Fail;
 const ACCEPTED: &str = "accepted: 1 methods, 1 accesses\n";
 
 const USAGE: &str =
-    "usage: indexcheck check FILE | run FILE CLASS.METHOD -- INPUTS | bench N | verify FILE CERT\n";
+    "usage: indexcheck check FILE | run FILE CLASS.METHOD -- INPUTS | bench N | verify FILE CERT | guard FILE\n";
 
 const CHECK: &[&str] = &["check", "A.java"];
 

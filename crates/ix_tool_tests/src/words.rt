@@ -58,6 +58,10 @@ fn told(alloc: Global, line: &str) -> Result<String, AllocError> {
             let with = if library { "library " } else { "" };
             format!(in alloc; "verify {with}{file} {cert}")
         }
+        Some(Command::Guard { sums, file }) => match sums {
+            Sums::Ideal => format!(in alloc; "guard ideal {file}"),
+            Sums::Int32 => format!(in alloc; "guard int32 {file}"),
+        },
     }
 }
 
@@ -176,6 +180,17 @@ fn commands(rt: HostRuntime) -> Result<(), Fail> {
         ("check -- --certificate", "check int32 --certificate"),
         ("run --certificate A.java A.f", "none"),
         ("bench --certificate 3", "none"),
+        ("guard A.java", "guard int32 A.java"),
+        ("guard --sums=ideal A.java", "guard ideal A.java"),
+        ("guard A.java --sums int32", "guard int32 A.java"),
+        ("guard -- --sums", "guard int32 --sums"),
+        ("guard --sums=odd A.java", "none"),
+        ("guard --sums=ideal --sums=ideal A.java", "none"),
+        ("guard --library A.java", "none"),
+        ("guard --certificate A.java", "none"),
+        ("guard --trace A.java", "none"),
+        ("guard A.java B.java", "none"),
+        ("guard", "none"),
         ("verify A.java A.cert", "verify A.java A.cert"),
         ("verify A.java A.java", "verify A.java A.java"),
         (

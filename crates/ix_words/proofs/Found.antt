@@ -11,7 +11,7 @@ use Rattle.ix_words.specs.Words.{Text, Options, Parsed, knows, parsed, value_of,
 use Rattle.ix_words.specs.Values.{number_in, limits_of, sums_of}
 use Rattle.ix_words.specs.declared.values.Sums.{Sums}
 use Rattle.ix_words.specs.declared.values.Limits.{Limits}
-use Rattle.ix_words.specs.Commands.{Command, Check, Run, Bench, Verify, has_library, has_trace, has_certificate, check_of, run_of, bench_of, verify_of, command_with}
+use Rattle.ix_words.specs.Commands.{Command, Check, Run, Bench, Verify, Guard, has_library, has_trace, has_certificate, check_of, run_of, bench_of, verify_of, guard_of, command_with}
 use Rattle.ix_words.specs.Clap.{Says, Parses, Reads, row, rows_in, words_row, positionals_in}
 
 listed : (ps : List Text) → unwrap_or (option_map (λ (r : Row). r.values) (words_row ps)) [] ≡ ps
@@ -125,3 +125,16 @@ one_verify q (x ∷ y ∷ []) d library two given = ap (λ l. Some (Verify l x.n
 one_verify q [] d library two given = absurd (omega arith)
 one_verify q (x ∷ []) d library two given = absurd (omega arith)
 one_verify q (x ∷ y ∷ z ∷ list) d library two given = absurd (omega arith)
+
+-- ---- guard
+
+pub no_guard : (q : Parsed) (list : List (Bor Text)) → (length list ≡ 1 → ⊥) → None ≡ guard_of q (map (λ w. w.now) list)
+no_guard q [] other = refl
+no_guard q (x ∷ []) other = absurd (other refl)
+no_guard q (x ∷ y ∷ list) other = refl
+
+pub one_guard : (q : Parsed) (list : List (Bor Text)) (d : Bor Text) (sums : Option Sums) (word : Option Text) → length list ≡ 1 → sums ≡ sums_of word → word ≡ text_of (codes "sums") q
+    → option_map (λ s. Guard s (get_or list 0 d).now) sums ≡ guard_of q (map (λ w. w.now) list)
+one_guard q (x ∷ []) d sums word one is a = ap (option_map (λ s. Guard s x.now)) (is ∙ ap sums_of a)
+one_guard q [] d sums word one is a = absurd (omega arith)
+one_guard q (x ∷ y ∷ list) d sums word one is a = absurd (omega arith)

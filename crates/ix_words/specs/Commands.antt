@@ -13,6 +13,7 @@ pub data Command : Type 0 where
   Run : (limits : Limits) (traced library : Bool) (file entry : Text) (inputs : List Text) → Command
   Bench : (count : ℕ) → Command
   Verify : (library : Bool) (file cert : Text) → Command
+  Guard : (sums : Sums) (file : Text) → Command
 
 -- whether the option `--library` is given, which takes no value
 abbrev pub has_library : Parsed → Bool
@@ -55,6 +56,14 @@ abbrev pub verify_of : Parsed → List Text → Option Command
 verify_of p (file ∷ cert ∷ []) = Some (Verify (has_library p) file cert)
 verify_of p _ = None
 
+-- `guard [--sums ideal|int32] FILE`
+abbrev pub guard_options : Options
+guard_options = (codes "sums", true) ∷ []
+
+abbrev pub guard_of : Parsed → List Text → Option Command
+guard_of p (file ∷ []) = option_map (λ sums. Guard sums file) (sums_of (text_of (codes "sums") p))
+guard_of p _ = None
+
 -- the command of these options, of which each list of positionals makes one or none
 abbrev pub command_with : Options → (Parsed → List Text → Option Command) → List Text → Option Command
 command_with options make words = option_and_then (λ p. make p p.positionals) (parsed options words)
@@ -64,6 +73,7 @@ abbrev pub other_command : Text → List Text → Option Command
 other_command first words =
     if bytes_eq first (codes "bench") then command_with [] bench_of words
     else if bytes_eq first (codes "verify") then command_with verify_options verify_of words
+    else if bytes_eq first (codes "guard") then command_with guard_options guard_of words
     else None
 
 -- the command that the words are: the first picks it, and is compared exactly

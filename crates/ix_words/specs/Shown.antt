@@ -15,3 +15,4 @@ shown (code.Check sums certificate library file) = spec.Check sums certificate l
 shown (code.Run limits traced library file entry inputs) = spec.Run limits traced library file.now entry.now (map (λ s. s.now) inputs.items)
 shown (code.Bench count) = spec.Bench count
 shown (code.Verify library file cert) = spec.Verify library file.now cert.now
+shown (code.Guard sums file) = spec.Guard sums file.now

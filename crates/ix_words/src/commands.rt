@@ -1,6 +1,6 @@
 //! The commands: each with its options and its positionals.
 ghost use Rattle.std.specs.Prelude.{◌≡◌, ◌<◌, ◌≤◌, IfOk, IfSome, [], drop, map, length, option_map};
-ghost use Rattle.ix_words.specs.Commands.{check_options, check_of, run_options, run_of, bench_of, verify_options, verify_of, command_with, other_command, command_of, HasLimits};
+ghost use Rattle.ix_words.specs.Commands.{check_options, check_of, run_options, run_of, bench_of, verify_options, verify_of, guard_options, guard_of, command_with, other_command, command_of, HasLimits};
 ghost use Rattle.ix_words.specs.Shown.{shown, words_of};
 
 use crate::matching::matches_of;
@@ -33,6 +33,11 @@ pub enum Command<'a> {
         library: bool,
         file: &'a str,
         cert: &'a str,
+    },
+    /// Writes a file with a test and a throw before each access on names that isn't proved.
+    Guard {
+        sums: Sums,
+        file: &'a str,
     },
 }
 
@@ -158,6 +163,32 @@ fn verify<'a>(alloc: Global, words: &'a [String]) -> Result<Option<Command<'a>>,
     }))
 }
 
+static GUARD: [(&str, bool); 1] = [("sums", true)];
+
+/// `guard [--sums ideal|int32] FILE`.
+fn guard<'a>(alloc: Global, words: &'a [String]) -> Result<Option<Command<'a>>, AllocError>
+    requires { 0 < length words.now }
+    ensures command { IfOk result (λ r. option_map shown r ≡ command_with guard_options guard_of (drop 1 (words_of words.entry.now))) }
+    ensures limits { IfOk result (λ r. IfSome r (λ command. HasLimits (shown command))) }
+{
+    let Some(matches) = matches_of(alloc, &GUARD, words)? else {
+        return Ok(None);
+    };
+    let Some(list) = matches.get_raw("words") else {
+        return Ok(None);
+    };
+    if list.len() != 1 {
+        return Ok(None);
+    }
+    let Some(sums) = read_sums(matches.get_str("sums")) else {
+        return Ok(None);
+    };
+    Ok(Some(Command::Guard {
+        sums,
+        file: list[0],
+    }))
+}
+
 /// The command of these words where the first of them is neither `check` nor `run`.
 fn read_other<'a>(
     alloc: Global,
@@ -172,6 +203,8 @@ fn read_other<'a>(
         bench(alloc, words)
     } else if first == "verify" {
         verify(alloc, words)
+    } else if first == "guard" {
+        guard(alloc, words)
     } else {
         Ok(None)
     }

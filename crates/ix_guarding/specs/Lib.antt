@@ -1,0 +1,2 @@
+-- The guarded text of bytes.
+pub mod Guarding
