@@ -1,2 +1,3 @@
 pub mod KeptSources
+pub mod Truncated
 mod Rows

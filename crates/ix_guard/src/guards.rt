@@ -7,8 +7,8 @@ ghost use Rattle.ix_guard.specs.Kept.{IsSourceWith};
 ghost use Rattle.ix_guard.specs.Shown.{site_of};
 
 use crate::insertion::Insertion;
+use crate::site::Site;
 use crate::statement::add_listed;
-use crate::test::Site;
 use ix_core::Error;
 use ix_table::Table;
 use ix_tree::{Member, Unit};
@@ -30,7 +30,7 @@ fn add_members(
     Ok(())
 }
 
-/// What is inserted in a source, in the order of its tree.
+/// What is inserted at a site with this tree, in the order of the tree.
 fn insertions(alloc: Global, site: &Site<'_>, unit: &Unit) -> Result<Vec<Insertion>, AllocError>
     ensures { IfOk result (λ out. out.items ≡ spec.insertions (site_of site.now) unit.now) }
 {
@@ -39,6 +39,19 @@ fn insertions(alloc: Global, site: &Site<'_>, unit: &Unit) -> Result<Vec<Inserti
         add_members(alloc, site, class.members.as_slice(), &mut out)?;
     }
     Ok(out)
+}
+
+/// What is inserted in a source.
+fn source_insertions(
+    alloc: Global,
+    unit: &Unit,
+    table: &Table,
+    errors: &[Error],
+) -> Result<Vec<Insertion>, AllocError>
+    ensures { IfOk result (λ out. out.items ≡ spec.source_insertions unit.now (shown table.now) errors.now) }
+{
+    let site = Site::new(alloc, table, errors)?;
+    insertions(alloc, &site, unit)
 }
 
 /// The first bytes, at most so many, and those behind them.
@@ -83,7 +96,6 @@ pub fn guard(
     ensures text { IfOk result (λ bytes. bytes.items ≡ spec.guarded source.now unit.now (shown table.now) errors.now) }
     ensures kept { IfOk result (λ bytes. IsSourceWith source.now (spec.texts unit.now (shown table.now) errors.now) bytes.items) }
 {
-    let site = Site { table, errors };
-    let insertions = insertions(alloc, &site, unit)?;
+    let insertions = source_insertions(alloc, unit, table, errors)?;
     with_texts(alloc, source, &insertions)
 }

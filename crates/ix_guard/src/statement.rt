@@ -6,7 +6,8 @@ ghost use Rattle.ix_guard.specs.Shown.{site_of};
 ghost use Rattle.ix_guard.specs.Tests.{declaration_tests};
 
 use crate::insertion::{Insertion, insert_before, insert_closing, insert_opening};
-use crate::test::{Site, declaration_tests, expression_tests};
+use crate::site::Site;
+use crate::test::{declaration_tests, expression_tests};
 use ix_text::{Boxed, Span};
 use ix_tree::{Expr, LocalDecl, Stmt, StmtKind};
 use std::alloc::{AllocError, Global};

@@ -3,42 +3,15 @@
 ghost use Rattle.std.specs.Prelude.{◌≡◌, ◌++◌, [], ◌∷◌, List, map, IfOk, OnOk, string_bytes};
 ghost use Rattle.std.specs.List.{list_any};
 ghost use Rattle.ix_guard.specs.Accesses.{Access as Seen};
-ghost use Rattle.ix_guard.specs.Shown.{seen, site_of, changes_of};
+ghost use Rattle.ix_guard.specs.Shown.{seen, site_of, changes_of, parts_seen};
 ghost use Rattle.ix_guard.specs.Tests as spec;
 
-use crate::access::{Access, add_accesses, add_all_declared};
-use crate::assigned::{add_all_declared as add_all_assigned, add_assigned};
-use ix_core::Error;
-use ix_meaning::{Meaning, same_span};
-use ix_table::Table;
+use crate::parts::{Access, Parts, add_all_declared, add_parts};
+use crate::site::Site;
+use ix_meaning::Meaning;
 use ix_text::Span;
 use ix_tree::{Expr, Ident, LocalDecl};
 use std::alloc::{AllocError, Global};
-
-/// What is known of a source: what its names mean, and its errors.
-#[derive(Clone, Copy)]
-pub struct Site<'a> {
-    pub table: &'a Table,
-    pub errors: &'a [Error],
-}
-
-fn is_of_bounds(rule: u8) -> bool
-    ensures { result ≡ spec.is_of_bounds rule }
-{
-    rule == 1 || rule == 2
-}
-
-/// Whether one of the errors says that the index at that place isn't within its bounds.
-fn has_bound_error(errors: &[Error], span: Span) -> bool
-    ensures { result ≡ list_any (spec.is_bound_error span) errors.now }
-{
-    for error in errors {
-        if is_of_bounds(error.rule) && same_span(error.span, span) {
-            return true;
-        }
-    }
-    false
-}
 
 fn is_variable(meaning: Option<Meaning>) -> bool
     ensures { result ≡ spec.is_variable meaning }
@@ -104,7 +77,7 @@ fn is_kept(site: &Site<'_>, changes: &Changes<'_>, name: &Ident) -> bool
 fn is_guarded(site: &Site<'_>, changes: &Changes<'_>, access: &Access<'_>) -> bool
     ensures { result ≡ spec.is_guarded (site_of site.now) (changes_of changes.now) (seen access.now) }
 {
-    has_bound_error(site.errors, access.index.span)
+    site.has_bound_error(access.index.span)
         && is_kept(site, changes, access.array)
         && is_kept(site, changes, access.index)
 }
@@ -212,6 +185,23 @@ fn meanings_at(
     Ok(meanings)
 }
 
+/// The tests of a statement in which these are, and that declares these locals.
+fn tests(
+    alloc: Global,
+    site: &Site<'_>,
+    declared: &[LocalDecl],
+    parts: &Parts<'_>,
+) -> Result<String, AllocError>
+    ensures { IfOk result (λ text. string_bytes text ≡ spec.tests (site_of site.now) declared.now (parts_seen parts.now)) }
+{
+    let assigned = meanings_at(alloc, site, &parts.assigned)?;
+    let changes = Changes {
+        assigned: &assigned,
+        declared,
+    };
+    tests_of(alloc, site, &changes, &parts.accesses)
+}
+
 /// The tests of a statement that evaluates this expression.
 pub(crate) fn expression_tests(
     alloc: Global,
@@ -220,16 +210,9 @@ pub(crate) fn expression_tests(
 ) -> Result<String, AllocError>
     ensures { IfOk result (λ text. string_bytes text ≡ spec.expression_tests (site_of site.now) expr.now) }
 {
-    let mut accesses = Vec::new(alloc);
-    add_accesses(expr, &mut accesses)?;
-    let mut places = Vec::new(alloc);
-    add_assigned(expr, &mut places)?;
-    let assigned = meanings_at(alloc, site, &places)?;
-    let changes = Changes {
-        assigned: &assigned,
-        declared: &[],
-    };
-    tests_of(alloc, site, &changes, &accesses)
+    let mut parts = Parts::new(alloc);
+    add_parts(expr, &mut parts)?;
+    tests(alloc, site, &[], &parts)
 }
 
 /// The tests of a declaration of these locals.
@@ -240,14 +223,7 @@ pub(crate) fn declaration_tests(
 ) -> Result<String, AllocError>
     ensures { IfOk result (λ text. string_bytes text ≡ spec.declaration_tests (site_of site.now) decls.now) }
 {
-    let mut accesses = Vec::new(alloc);
-    add_all_declared(decls, &mut accesses)?;
-    let mut places = Vec::new(alloc);
-    add_all_assigned(decls, &mut places)?;
-    let assigned = meanings_at(alloc, site, &places)?;
-    let changes = Changes {
-        assigned: &assigned,
-        declared: decls,
-    };
-    tests_of(alloc, site, &changes, &accesses)
+    let mut parts = Parts::new(alloc);
+    add_all_declared(decls, &mut parts)?;
+    tests(alloc, site, decls, &parts)
 }

@@ -1,8 +1,0 @@
-use Rattle.std.proofs.Common.{◌≡◌, ◌++◌, drop}
-use Rattle.std.proofs.Common.{map}
-use Rattle.ix_guard.specs.Accesses as spec
-use Rattle.ix_guard.specs.Shown.{seen}
-use Rattle.ix_guard.proofs.access.add_all_declared.Given as goal
-
-abbrev pub invariant-loop-decl : goal.invariant-loop-decl
-invariant-loop-decl l = map seen l.found.items ++ (spec.all_decl_parts (drop l.decl-index l.decls)).accesses ≡ map seen l.initial.found.items ++ (spec.all_decl_parts l.decls).accesses
