@@ -1,1 +1,2 @@
+mod NamedSources
 pub mod OneGuarded

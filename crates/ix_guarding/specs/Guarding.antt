@@ -5,14 +5,27 @@ use Rattle.ix_lexer.specs.declared.token.Token.{Token}
 use Rattle.ix_lexer.specs.Tokens.{Tokens, most_tokens}
 use Rattle.ix_tree.specs.declared.decl.Unit.{Unit as Source}
 use Rattle.ix_grammar.specs.Refusals.{HasTree}
-use Rattle.ix_meaning.specs.Resolved.{names}
+use Rattle.ix_meaning.specs.Resolved.{names, Accepts}
 use Rattle.ix_guard.specs.Guards.{guarded}
 
--- This is the guarded text of these bytes and errors: that of the bytes' tree, whose names mean what they mean in it.
-pub record IsGuarded (bytes : List ℕ) (errors : List Error) (text : List ℕ) : Type 0 where
+-- The tokens have a tree, and its names have no errors.
+pub record HaveNamedTree (tokens : List Token) : Type 0 where
+  pub source : Source
+  pub parsed : HasTree tokens source
+  pub accepts : Accepts source
+
+-- The bytes have tokens with such a tree.
+pub record IsNamed (bytes : List ℕ) : Type 0 where
   pub tokens : List Token
   pub lexed : Tokens bytes tokens
   pub few : length tokens ≤ most_tokens
-  pub source : Source
-  pub parsed : HasTree tokens source
-  pub text_is : text ≡ guarded bytes source (names source) errors
+  pub tree : HaveNamedTree tokens
+
+-- The guarded text of bytes with this tree, whose names mean what they mean in it.
+abbrev pub guarded_by : List ℕ → Source → List Error → List ℕ
+guarded_by bytes source errors = guarded bytes source (names source) errors
+
+-- This is the guarded text of these bytes and errors.
+pub record IsGuarded (bytes : List ℕ) (errors : List Error) (text : List ℕ) : Type 0 where
+  pub named : IsNamed bytes
+  pub text_is : text ≡ guarded_by bytes named.tree.source errors

@@ -1,21 +1,20 @@
-use Rattle.std.proofs.Common.{◌∙◌, List, ap, subst}
+use Rattle.std.proofs.Common.{◌≡◌, ◌∙◌, List, sym, subst}
+use Rattle.std.specs.Prelude.{IfOk}
 use Rattle.std.proofs.lemmas.Result.{IfOk-weaker}
 use Rattle.ix_lexer.specs.declared.token.Token.{Token}
-use Rattle.ix_grammar.specs.Refusals.{HasTree}
-use Rattle.ix_meaning.specs.Resolved.{Names}
-use Rattle.ix_guard.specs.Guards.{guarded}
+use Rattle.ix_guarding.specs.Guarding.{HaveNamedTree, guarded_by}
 use Rattle.ix_guarding.proofs.guarded.Goals as goal
 
-pub returns : goal.returns
-returns c =
-    let unit = c.in-Ok-parse.unit in
-    IfOk-weaker c.guard.result _ _
-    (λ text is. record {
-      tokens = c.in-Ok.tokens.items;
-      lexed = c.in-Ok.ensures.tokens;
-      few = c.in-Ok.ensures.few;
-      source = unit;
-      parsed = subst (λ (ts : List Token). HasTree ts unit) c.deref.ensures.value c.in-Ok-parse.ensures.found;
-      text_is = is ∙ ap (λ (n : Names). guarded c.args.bytes.now unit n c.args.errors.now) c.in-Ok-resolve.ensures.table;
-    })
-    c.guard.ensures.text
+pub of_tokens-requires-clause-tree : goal.of_tokens-requires-clause-tree
+of_tokens-requires-clause-tree c =
+    let named = c.requires.named in
+    subst HaveNamedTree (sym (c.deref.ensures.value ∙ c.in-Ok.ensures.only_tokens named.tokens named.lexed named.few)) named.tree
+
+pub returns-in-Ok : goal.returns-in-Ok
+returns-in-Ok c =
+    let named = c.requires.named in
+    let same : c.deref.result.now ≡ named.tokens = c.deref.ensures.value ∙ c.in-Ok.ensures.only_tokens named.tokens named.lexed named.few in
+    let written =
+      subst (λ (tokens : List Token). (tree : HaveNamedTree tokens) → IfOk c.of_tokens.result (λ text. text.items ≡ guarded_by c.args.bytes.now tree.source c.args.errors.now)) same c.of_tokens.ensures named.tree
+    in
+    IfOk-weaker c.of_tokens.result _ _ (λ text is. record { named = named; text_is = is }) written
