@@ -2,7 +2,7 @@
 ghost use Rattle.std.specs.Prelude.{◌≡◌, ◌≢◌, ◌≤◌, ℕ, List, Option, length, IfOk};
 ghost use Rattle.ix_answer.specs.Replies.{shown};
 ghost use Rattle.ix_core.specs.Formed.{Formed};
-ghost use Rattle.ix_finding.specs.Found.{TooLong};
+ghost use Rattle.ix_finding.specs.Found.{Found, TooLong, Whole};
 ghost use Rattle.ix_finding.specs.Findings.{seen, IsPlaced, HasFormed};
 ghost use Rattle.ix_finding.specs.Judged.{CanCheck};
 ghost use Rattle.ix_tool.specs.Answers as spec;
@@ -73,6 +73,7 @@ pub(crate) fn guard_reply(
     bytes: &[u8],
     program: &Program,
 ) -> Result<Reply, AllocError>
+    requires found { Found bytes.now (Whole program.now) }
     requires short { length bytes.now ≤ 1048576 }
     requires formed { Formed program.now }
     requires can { CanCheck program.now }

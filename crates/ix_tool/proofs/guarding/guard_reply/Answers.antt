@@ -10,6 +10,7 @@ use Rattle.ix_guarding.specs.Guarding.{IsGuarded}
 use Rattle.ix_listing.specs.ErrorList.{IsErrorList}
 use Rattle.ix_tool.specs.Answers.{AnswersFound, AnswersGuarded}
 use Rattle.ix_tool.proofs.GuardsAnswered.{found_short}
+use Rattle.ix_tool.proofs.SomeGuarded.{named_bytes}
 use Rattle.ix_tool.proofs.guarding.guard_reply.Goals as goal
 
 pub returns : goal.returns
@@ -30,6 +31,9 @@ returns c =
         subst (λ (p : Profile). AnswersFound name text (AnswersGuarded p text) finding (shown reply)) c.profile_of-profile.ensures on,
       ),
     )) c.guarded_reply.ensures
+
+pub guarded-requires-clause-named : goal.guarded-requires-clause-named
+guarded-requires-clause-named c = named_bytes c.args.bytes.now c.args.program.now c.requires.found
 
 pub guarded_reply-requires-clause-short : goal.guarded_reply-requires-clause-short
 guarded_reply-requires-clause-short c =
