@@ -19,7 +19,7 @@ use Rattle.ix_facts.specs.Small.{HasSmallNumbers, IsClass, IsEnd, IsLimit, IsBou
 use Rattle.ix_bounds.proofs.BestOfParts.{joined, least_joined, low_joined, high_joined}
 use Rattle.ix_path_index.specs.ByPath.{is_near, near_place}
 use Rattle.ix_path_index.proofs.NearPlaces.{number_itself, number_same, place_tells}
-use Rattle.ix_fact_list.specs.NearNumbers.{number_at, Raises, Lowers, AreLimits, AreNumbers, low_by, high_by}
+use Rattle.ix_fact_list.specs.NearNumbers.{number_at, Raises, Lowers, AreLimits, low_by, high_by}
 
 -- ---- one number
 

@@ -1,7 +1,7 @@
-use Rattle.std.proofs.Common.{rules, w32, w64, to_z, of_z, ◌≡◌, pos}
+use Rattle.std.proofs.Common.{rules, w32, w64, to_z, of_z, ◌≡◌}
 use Rattle.std.proofs.lemmas.Int.{to_z-of_z}
 use Rattle.std.proofs.lemmas.Result.{on_ok_weaker}
-use Rattle.ix_core.specs.Ints.{least_int, greatest_int}
+use Rattle.ix_core.specs.Ints.{least_int}
 use Rattle.ix_facts.specs.Bounds.{range_low_by}
 use Rattle.ix_fact_list.proofs.NearRaised.{raised_as, range_low_told, class_told}
 use Rattle.ix_fact_list.proofs.limits.put_range_low.Goals as goal

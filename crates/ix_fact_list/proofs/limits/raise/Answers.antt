@@ -1,4 +1,4 @@
-use Rattle.std.proofs.Common.{rules, ◌≡◌, ℕ, get_or, nat_eq, Some, w64, to_z, of_z, ap, subst, ◌∙◌}
+use Rattle.std.proofs.Common.{rules, ◌≡◌, get_or, nat_eq, Some, w64, to_z, of_z, ap, subst, ◌∙◌}
 use Rattle.std.proofs.lemmas.Int.{to_z-of_z}
 use Rattle.std.proofs.lemmas.Result.{on_ok_weaker}
 use Rattle.ix_facts.specs.Bounds.{at_least, when}

@@ -1,6 +1,8 @@
-use Rattle.std.proofs.Common.{rules, ◌≡◌, w64, to_z, of_z, sym, subst, ◌∙◌}
+use Rattle.std.proofs.Common.{rules, ◌≡◌, w64, to_z, of_z, ap, sym, subst, ◌∙◌}
 use Rattle.std.proofs.lemmas.Int.{to_z-of_z}
 use Rattle.ix_core.specs.Ints.{greatest_int}
+use Rattle.ix_facts.specs.Bounds.{upper_limit}
+use Rattle.ix_facts.specs.Facts.{in_orders}
 use Rattle.ix_facts.specs.Small.{IsBound}
 use Rattle.ix_path_index.specs.ByPath.{near_place}
 use Rattle.ix_fact_list.specs.NearNumbers.{number_at}
@@ -9,7 +11,8 @@ use Rattle.ix_fact_list.proofs.fact_list.FactListKnow.hi.Goals as goal
 
 pub returns-in-Some-clause-bound : goal.returns-in-Some-clause-bound
 returns-in-Some-clause-bound c =
-    to_z-of_z w64 c.in-Some.high (search rules) ∙ (c.in-Some.ensures.high ∙ c.self.invariant.1.1.highs c.args.p.now c.in-Some.ensures.near)
+    to_z-of_z w64 c.in-Some.high (search rules) ∙ (c.in-Some.ensures.high ∙ (c.self.invariant.1.1.highs c.args.p.now c.in-Some.ensures.near
+    ∙ ap (λ facts. upper_limit (in_orders facts) c.args.p.now) c.self.view_is))
 
 pub returns-in-Some-clause-small : goal.returns-in-Some-clause-small
 returns-in-Some-clause-small c =
