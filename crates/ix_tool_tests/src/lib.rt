@@ -1,4 +1,4 @@
-//! Tests of the top call over files and sinks in memory, and of words and the workload.
+//! Tests of the top call over sources and sinks that fail or that hand on a byte at a time, and of words and the workload: what no row of calls of the built program shows.
 //!
 //! What goes in: nothing. The contract: each row is answered as it says, by values worked out apart from the code.
 //! It stands on `ix_tool`, `ix_outside`, `ix_words` and `ix_gen`, and is a crate of its own since a crate with tests is proved twice.
@@ -6,19 +6,9 @@
 #![tactic(auto)]
 
 #[cfg(test)]
-mod alone;
-#[cfg(test)]
-mod answers;
-#[cfg(test)]
-mod blanks;
+mod calls;
 #[cfg(test)]
 mod faults;
-#[cfg(test)]
-mod forms;
-#[cfg(test)]
-mod limits;
-#[cfg(test)]
-mod names;
 #[cfg(test)]
 mod slow;
 #[cfg(test)]
