@@ -129,7 +129,7 @@ pub fn length_high<G: Groups>(facts: &G, p: &Path) -> i64
 }
 
 /// The greatest number that the int is stored to be at least.
-pub(crate) fn range_low<G: Groups>(facts: &G, p: &Path) -> i64
+pub fn range_low<G: Groups>(facts: &G, p: &Path) -> i64
     ensures bound { result ≡ spec.range_low (G.all facts.now) p.now }
     ensures small { IsEnd result }
 {
@@ -137,7 +137,7 @@ pub(crate) fn range_low<G: Groups>(facts: &G, p: &Path) -> i64
 }
 
 /// The least number that the int is stored to be at most.
-pub(crate) fn range_high<G: Groups>(facts: &G, p: &Path) -> i64
+pub fn range_high<G: Groups>(facts: &G, p: &Path) -> i64
     ensures bound { result ≡ spec.range_high (G.all facts.now) p.now }
     ensures small { IsEnd result }
 {

@@ -25,7 +25,7 @@ pub(crate) fn at_most(default: i64, number: Option<i64>) -> i64
 }
 
 /// The least number above `low - c`.
-pub(crate) fn past(low: i64, c: i64) -> i64
+pub fn past(low: i64, c: i64) -> i64
     requires low { IsEnd low }
     requires constant { IsInt c }
     ensures value { result ≡ low -ℤ c +ℤ pos 1 }
@@ -35,7 +35,7 @@ pub(crate) fn past(low: i64, c: i64) -> i64
 }
 
 /// The greatest number below `high + c`.
-pub(crate) fn short_of(high: i64, c: i64) -> i64
+pub fn short_of(high: i64, c: i64) -> i64
     requires high { IsEnd high }
     requires constant { IsInt c }
     ensures value { result ≡ high +ℤ c -ℤ pos 1 }
@@ -45,7 +45,7 @@ pub(crate) fn short_of(high: i64, c: i64) -> i64
 }
 
 /// The greatest number n with `n + c < size`.
-pub(crate) fn within(size: i64, c: i64) -> i64
+pub fn within(size: i64, c: i64) -> i64
     requires size { IsEnd size }
     requires constant { IsInt c }
     ensures value { result ≡ size -ℤ pos 1 -ℤ c }

@@ -1,3 +1,4 @@
 mod KnownFacts
 mod SmallFacts
 mod PartsTaken
+mod NearRaised

@@ -1,4 +1,5 @@
 pub mod GroupLaws
+pub mod NearNumbers
 -- Passed on from ix_path_index.
 pub use Rattle.ix_path_index.specs.ByPath
 pub use Rattle.ix_path_index.specs.PutLaws

@@ -12,14 +12,16 @@ ghost use Rattle.ix_bounds.specs.Ends.{ends_in};
 ghost use Rattle.ix_path_index.specs.ByPath.{put_all};
 ghost use Rattle.ix_path_index.specs.Grouped.{on_grouped, on_list};
 ghost use Rattle.ix_path_index.specs.Spared.{some_named};
+ghost use Rattle.ix_fact_list.specs.NearNumbers.{HasLimits};
 
-use crate::ends::ends_of;
+use crate::limits::Limits;
+use crate::row::Row;
 use ix_bounds::{self, Groups, Indexed};
 use ix_core::{Fact, OpKind, Path, PathOff};
 use ix_facts::Know;
 use ix_path_index::{
-    Grouped, assigned_path, in_all_orders, ints_and_arrays, names_path, names_target,
-    some_name_path, some_name_target,
+    Grouped, assigned_path, ints_and_arrays, names_path, names_target, some_name_path,
+    some_name_target,
 };
 use std::alloc::{AllocError, Global};
 use std::marker::Model;
@@ -35,6 +37,8 @@ pub struct FactList {
     /// The ints and arrays that the facts name, each once.
     ints: Vec<Path>,
     arrays: Vec<Path>,
+    /// What each near int is at least and at most.
+    limits: Limits,
 }
 
 impl Model for FactList {
@@ -44,7 +48,7 @@ impl Model for FactList {
 
     ghost invariant = { λ list. (All HasSmallNumbers list.facts.items
         × (((p : Path) → on_grouped list.by_path p ≡ on_list (in_orders list.facts.items) p) × ((p : Path) → on_grouped list.ends p ≡ on_list (ends_in (in_orders list.facts.items)) p)))
-        × ((list.ints.items ≡ put_all [] (named_ints (in_orders list.facts.items))) × (list.arrays.items ≡ put_all [] (named_arrays (in_orders list.facts.items)))) };
+        × (((list.ints.items ≡ put_all [] (named_ints (in_orders list.facts.items))) × (list.arrays.items ≡ put_all [] (named_arrays (in_orders list.facts.items)))) × HasLimits (in_orders list.facts.items) list.limits) };
 }
 
 fn push_beside_changed(facts: &mut Vec<Fact>, kind: &OpKind, fact: &Fact) -> Result<(), AllocError>
@@ -121,9 +125,10 @@ impl FactList {
         requires small { All HasSmallNumbers facts.items }
         ensures facts { IfOk result (λ list. list ≡ facts.items) }
     {
-        let ordered = in_all_orders(alloc, &facts)?;
-        let ends = Grouped::of(alloc, ends_of(alloc, &ordered)?)?;
-        let (ints, arrays) = ints_and_arrays(alloc, &ordered)?;
+        let row = Row::of(alloc, &facts)?;
+        let (ints, arrays) = ints_and_arrays(alloc, row.facts())?;
+        let limits = Limits::of(alloc, &row, row.facts())?;
+        let (ordered, ends) = row.into_parts();
         let by_path = Grouped::of(alloc, ordered)?;
         Ok(FactList {
             facts,
@@ -131,6 +136,7 @@ impl FactList {
             ends,
             ints,
             arrays,
+            limits,
         })
     }
 
@@ -235,11 +241,17 @@ impl Know for FactList {
     }
 
     fn lo(&self, p: &Path) -> i64 {
-        ix_bounds::lower_bound(self, p)
+        match self.limits.low(p) {
+            Some(low) => low,
+            None => ix_bounds::lower_bound(self, p),
+        }
     }
 
     fn hi(&self, p: &Path) -> i64 {
-        ix_bounds::upper_limit(self, p)
+        match self.limits.high(p) {
+            Some(high) => high,
+            None => ix_bounds::upper_limit(self, p),
+        }
     }
 
     fn len_lo(&self, a: &Path) -> i64 {

@@ -8,6 +8,8 @@
 
 mod ends;
 mod fact_list;
+mod limits;
+mod row;
 
 pub use ends::{before_links, up_to_ends};
 pub use fact_list::FactList;

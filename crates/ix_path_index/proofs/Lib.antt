@@ -4,4 +4,4 @@ pub mod Found
 mod Places
 mod Added
 mod Marked
-mod NearPlaces
+pub mod NearPlaces

@@ -10,10 +10,10 @@ use Rattle.ix_facts.specs.Bounds.{is_path}
 use Rattle.ix_facts.specs.PathOrder.{path_same, path_itself}
 use Rattle.ix_path_index.specs.ByPath.{is_near, near_place}
 
-number_itself : (n : ℕ) → nat_eq n n ≡ true
+pub number_itself : (n : ℕ) → nat_eq n n ≡ true
 number_itself n = grind (arith, nat_tests)
 
-number_same : (m n : ℕ) → nat_eq m n ≡ true → m ≡ n
+pub number_same : (m n : ℕ) → nat_eq m n ≡ true → m ≡ n
 number_same m n h = grind (arith, nat_tests)
 
 this_slot : (s : ℕ) (small : Bool) → (nat_eq s 0 && small) ≡ true → s ≡ 0

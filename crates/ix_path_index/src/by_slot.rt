@@ -28,7 +28,7 @@ fn place_of(number: u32, turn: usize) -> Option<usize>
 }
 
 /// The place of a near path among the near ones: slots, and fields of the object in slot 0, in turns.
-pub(crate) fn near_place(p: &Path) -> Option<usize>
+pub fn near_place(p: &Path) -> Option<usize>
     ensures near { IfSome result (λ place. (is_near p.now ≡ true) × (place ≡ near_place p.now)) }
     ensures small { IfSome result (λ place. place < 2048) }
     ensures far { IfNone result (is_near p.now ≡ false) }

@@ -15,6 +15,7 @@ mod orders;
 mod path_index;
 mod path_set;
 
+pub use by_slot::near_place;
 pub use grouped::Grouped;
 pub use ix_fact_paths::{
     assigned_path, names_path, names_target, path_order_laws, some_name_path, some_name_target,

@@ -1,8 +1,8 @@
 //! Each call of a source or a sink failing in turn.
+use crate::calls::{Ended, GET, list_of, one_file, words_of};
 use ix_outside::{MemSink, MemSource};
 use ix_text::{List, Text};
 use ix_tool::{Status, run_tool};
-use ix_tool_calls::{Ended, GET, list_of, one_file, words_of};
 use std::alloc::{AllocError, AllocFailed, Global};
 use std::test::Fail;
 

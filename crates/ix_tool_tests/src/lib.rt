@@ -1,24 +1,18 @@
-//! Tests of the top call over files and sinks in memory, and of words and the workload.
+//! What no call of the built program shows: sources and sinks that fail or hand on a byte at a time, words, the workload, and labels of sources that are rejected.
 //!
 //! What goes in: nothing. The contract: each row is answered as it says, by values worked out apart from the code.
-//! It stands on `ix_tool`, `ix_outside`, `ix_words` and `ix_gen`, and is a crate of its own since a crate with tests is proved twice.
+//! It stands on `ix_tool`, `ix_outside`, `ix_words`, `ix_gen` and `ix_finding`, and is a crate of its own since a crate with tests is proved twice.
 //! It never looks at the inside of any of them.
 #![tactic(auto)]
 
 #[cfg(test)]
-mod alone;
-#[cfg(test)]
-mod answers;
-#[cfg(test)]
-mod blanks;
+mod calls;
 #[cfg(test)]
 mod faults;
 #[cfg(test)]
-mod forms;
+mod labels;
 #[cfg(test)]
-mod limits;
-#[cfg(test)]
-mod names;
+mod lines;
 #[cfg(test)]
 mod slow;
 #[cfg(test)]

@@ -1,11 +1,11 @@
 //! A source that hands out one byte a read, and a sink that takes one byte a write: the answers are those of any other.
 ghost use Rattle.std.specs.Prelude.{◌≡◌, None};
 
+use crate::calls::{one_file, words_of};
 use ix_outside::{
     Failed, OpenError, Sink, SinkLog, Source, SourceLog, SureSink, SureSource, WriteError,
 };
 use ix_tool::{Status, run_tool};
-use ix_tool_calls::{GET, one_file, words_of};
 use std::test::Fail;
 
 /// Hands out one byte of the source below it at a time.

@@ -1,0 +1,20 @@
+use Rattle.std.proofs.Common.{pos}
+use Rattle.ix_core.specs.Ints.{least_int, greatest_int}
+use Rattle.ix_facts.specs.Bounds.{range_low_by, range_high_by, length_low_by, length_high_by, range_low, range_high, length_low, length_high}
+use Rattle.ix_fact_list.proofs.NearRaised.{rises, falls}
+use Rattle.ix_fact_list.proofs.limits.NearEnds.of.Goals as goal
+
+pub loop-fact-preserved : goal.loop-fact-preserved
+loop-fact-preserved c =
+    let facts = c.args.facts.now in
+    let k = c.loop-fact.fact-index in
+    let old = c.loop-fact.ends in
+    let new = c.put.new.self in
+    let put = c.in_ok-put.ensures in
+    let more = c.loop-fact-test.true in
+    record {
+      lows = rises range_low_by (range_low facts) old.lows.items new.lows.items least_int facts k _ more put.lows c.loop-fact.invariant.lows;
+      highs = falls range_high_by (range_high facts) old.highs.items new.highs.items greatest_int facts k _ more put.highs c.loop-fact.invariant.highs;
+      length_lows = rises length_low_by (length_low facts) old.length_lows.items new.length_lows.items (pos 0) facts k _ more put.length_lows c.loop-fact.invariant.length_lows;
+      length_highs = falls length_high_by (length_high facts) old.length_highs.items new.length_highs.items greatest_int facts k _ more put.length_highs c.loop-fact.invariant.length_highs;
+    }

@@ -1,0 +1,342 @@
+//! What each near int is at least and at most, by two passes over facts.
+
+ghost use Rattle.std.specs.Prelude.{◌≡◌, ◌<◌, ℕ, pos, true, All, Some, get_or, length, nat_eq, IfOk, OnOk, IfSome};
+ghost use Rattle.ix_core.specs.Ints.{least_int, greatest_int};
+ghost use Rattle.ix_facts.specs.Bounds as spec;
+ghost use Rattle.ix_facts.specs.Bounds.{at_least, at_most, is_path, when};
+ghost use Rattle.ix_facts.specs.Small.{HasSmallNumbers, IsEnd, IsLimit};
+ghost use Rattle.ix_path_index.specs.ByPath.{is_near};
+ghost use Rattle.ix_fact_list.specs.NearNumbers.{number_at, told, Raises, Lowers, AreLimits, low_by, high_by, HasEnds, HasLimits};
+
+use ix_bounds::{self, Groups, past, short_of, within};
+use ix_core::{Fact, Path, PathOff};
+use ix_path_index::near_place;
+use std::alloc::{AllocError, Global};
+
+/// The least int.
+const LEAST: i64 = -2147483648;
+
+/// The greatest int.
+const GREATEST: i64 = 2147483647;
+
+/// Makes room for the place.
+fn reach(numbers: &mut Vec<i64>, default: i64, place: usize) -> Result<(), AllocError>
+    requires near { place < 2048 }
+    ensures reached { OnOk result (place < length numbers.new.items) }
+    ensures same { OnOk result ((at : ℕ) → get_or numbers.new.items at default ≡ get_or numbers.old.items at default) }
+{
+    if place < numbers.len() {
+        return Ok(());
+    }
+    numbers.resize(place + 1, default)
+}
+
+fn number_in(numbers: &[i64], default: i64, place: usize) -> i64
+    ensures { result ≡ get_or numbers.now place default }
+{
+    match numbers.get(place) {
+        Some(n) => *n,
+        None => default,
+    }
+}
+
+fn raise_at(numbers: &mut Vec<i64>, default: i64, place: usize, low: i64) -> Result<(), AllocError>
+    requires near { place < 2048 }
+    ensures { OnOk result ((at : ℕ) → get_or numbers.new.items at default ≡ at_least (get_or numbers.old.items at default) (when (nat_eq place at) (Some low))) }
+{
+    reach(numbers, default, place)?;
+    let raised = number_in(numbers, default, place).max(low);
+    numbers[place] = raised;
+    Ok(())
+}
+
+fn lower_at(numbers: &mut Vec<i64>, default: i64, place: usize, high: i64) -> Result<(), AllocError>
+    requires near { place < 2048 }
+    ensures { OnOk result ((at : ℕ) → get_or numbers.new.items at default ≡ at_most (get_or numbers.old.items at default) (when (nat_eq place at) (Some high))) }
+{
+    reach(numbers, default, place)?;
+    let lowered = number_in(numbers, default, place).min(high);
+    numbers[place] = lowered;
+    Ok(())
+}
+
+/// Raises the number of the path to this one, where it is a near path.
+fn raise(numbers: &mut Vec<i64>, default: i64, p: &Path, low: i64) -> Result<(), AllocError>
+    ensures raised { OnOk result (Raises numbers.old.items numbers.new.items default (λ q. when (is_path p.now q) (Some low))) }
+    ensures small { OnOk result (IsLimit low → AreLimits numbers.old.items default → AreLimits numbers.new.items default) }
+{
+    match near_place(p) {
+        Some(place) => raise_at(numbers, default, place, low),
+        None => Ok(()),
+    }
+}
+
+/// Lowers it.
+fn lower(numbers: &mut Vec<i64>, default: i64, p: &Path, high: i64) -> Result<(), AllocError>
+    ensures lowered { OnOk result (Lowers numbers.old.items numbers.new.items default (λ q. when (is_path p.now q) (Some high))) }
+    ensures small { OnOk result (IsLimit high → AreLimits numbers.old.items default → AreLimits numbers.new.items default) }
+{
+    match near_place(p) {
+        Some(place) => lower_at(numbers, default, place, high),
+        None => Ok(()),
+    }
+}
+
+/// The number of the path, where it is a near path.
+fn number_of(numbers: &[i64], default: i64, p: &Path) -> Option<i64>
+    ensures near { IfSome result (λ _n. is_near p.now ≡ true) }
+    ensures number { IfSome result (λ n. n ≡ number_at numbers.now default p.now) }
+{
+    match near_place(p) {
+        Some(place) => Some(number_in(numbers, default, place)),
+        None => None,
+    }
+}
+
+/// The ends of the ranges of near paths.
+#[derive(Drop)]
+pub(crate) struct NearEnds {
+    pub(crate) lows: Vec<i64>,
+    pub(crate) highs: Vec<i64>,
+    pub(crate) length_lows: Vec<i64>,
+    pub(crate) length_highs: Vec<i64>,
+}
+
+/// What each near int is at least and at most.
+#[derive(Drop)]
+pub(crate) struct Limits {
+    pub(crate) lows: Vec<i64>,
+    pub(crate) highs: Vec<i64>,
+}
+
+/// Raises the low end of the int's range.
+fn put_range_low(lows: &mut Vec<i64>, fact: &Fact) -> Result<(), AllocError>
+    ensures { OnOk result (Raises lows.old.items lows.new.items least_int (λ p. spec.range_low_by p fact.now)) }
+{
+    match *fact {
+        Fact::Rng(p, low, _) => raise(lows, LEAST, &p, low),
+        Fact::Low(p, low) => raise(lows, LEAST, &p, low as i64),
+        _ => Ok(()),
+    }
+}
+
+/// Lowers the high end of the int's range.
+fn put_range_high(highs: &mut Vec<i64>, fact: &Fact) -> Result<(), AllocError>
+    ensures { OnOk result (Lowers highs.old.items highs.new.items greatest_int (λ p. spec.range_high_by p fact.now)) }
+{
+    match *fact {
+        Fact::Rng(p, _, high) => lower(highs, GREATEST, &p, high),
+        _ => Ok(()),
+    }
+}
+
+/// Raises the low end of the length's range.
+fn put_length_low(lows: &mut Vec<i64>, fact: &Fact) -> Result<(), AllocError>
+    ensures { OnOk result (Raises lows.old.items lows.new.items (pos 0) (λ p. spec.length_low_by p fact.now)) }
+{
+    match *fact {
+        Fact::LenRng(a, low, _) => raise(lows, 0, &a, low),
+        _ => Ok(()),
+    }
+}
+
+/// Lowers the high end of the length's range.
+fn put_length_high(highs: &mut Vec<i64>, fact: &Fact) -> Result<(), AllocError>
+    ensures { OnOk result (Lowers highs.old.items highs.new.items greatest_int (λ p. spec.length_high_by p fact.now)) }
+{
+    match *fact {
+        Fact::LenRng(a, _, high) => lower(highs, GREATEST, &a, high),
+        _ => Ok(()),
+    }
+}
+
+impl NearEnds {
+    /// Counts the fact in.
+    fn put(&mut self, fact: &Fact) -> Result<(), AllocError>
+        ensures lows { OnOk result (Raises self.old.lows.items self.new.lows.items least_int (λ p. spec.range_low_by p fact.now)) }
+        ensures highs { OnOk result (Lowers self.old.highs.items self.new.highs.items greatest_int (λ p. spec.range_high_by p fact.now)) }
+        ensures length_lows { OnOk result (Raises self.old.length_lows.items self.new.length_lows.items (pos 0) (λ p. spec.length_low_by p fact.now)) }
+        ensures length_highs { OnOk result (Lowers self.old.length_highs.items self.new.length_highs.items greatest_int (λ p. spec.length_high_by p fact.now)) }
+    {
+        put_range_low(&mut self.lows, fact)?;
+        put_range_high(&mut self.highs, fact)?;
+        put_length_low(&mut self.length_lows, fact)?;
+        put_length_high(&mut self.length_highs, fact)
+    }
+
+    /// By all facts.
+    fn of(alloc: Global, facts: &[Fact]) -> Result<NearEnds, AllocError>
+        ensures { IfOk result (HasEnds facts.now) }
+    {
+        let mut ends = NearEnds {
+            lows: Vec::new(alloc),
+            highs: Vec::new(alloc),
+            length_lows: Vec::new(alloc),
+            length_highs: Vec::new(alloc),
+        };
+        for fact in facts {
+            ends.put(fact)?;
+        }
+        Ok(ends)
+    }
+
+    fn low<G: Groups>(&self, facts: &G, p: &Path) -> i64
+        requires ends { HasEnds (G.all facts.now) self.now }
+        requires small { All HasSmallNumbers (G.all facts.now) }
+        ensures value { result ≡ spec.range_low (G.all facts.now) p.now }
+        ensures small { IsEnd result }
+    {
+        match number_of(&self.lows, LEAST, p) {
+            Some(low) => low,
+            None => ix_bounds::range_low(facts, p),
+        }
+    }
+
+    fn high<G: Groups>(&self, facts: &G, p: &Path) -> i64
+        requires ends { HasEnds (G.all facts.now) self.now }
+        requires small { All HasSmallNumbers (G.all facts.now) }
+        ensures value { result ≡ spec.range_high (G.all facts.now) p.now }
+        ensures small { IsEnd result }
+    {
+        match number_of(&self.highs, GREATEST, p) {
+            Some(high) => high,
+            None => ix_bounds::range_high(facts, p),
+        }
+    }
+
+    fn length_low<G: Groups>(&self, facts: &G, a: &Path) -> i64
+        requires ends { HasEnds (G.all facts.now) self.now }
+        requires small { All HasSmallNumbers (G.all facts.now) }
+        ensures value { result ≡ spec.length_low (G.all facts.now) a.now }
+        ensures small { IsEnd result }
+    {
+        match number_of(&self.length_lows, 0, a) {
+            Some(low) => low,
+            None => ix_bounds::length_low(facts, a),
+        }
+    }
+
+    fn length_high<G: Groups>(&self, facts: &G, a: &Path) -> i64
+        requires ends { HasEnds (G.all facts.now) self.now }
+        requires small { All HasSmallNumbers (G.all facts.now) }
+        ensures value { result ≡ spec.length_high (G.all facts.now) a.now }
+        ensures small { IsEnd result }
+    {
+        match number_of(&self.length_highs, GREATEST, a) {
+            Some(high) => high,
+            None => ix_bounds::length_high(facts, a),
+        }
+    }
+}
+
+/// The int that the fact bounds from below, and by which number.
+fn low_told<G: Groups>(ends: &NearEnds, facts: &G, fact: &Fact) -> Option<(Path, i64)>
+    requires ends { HasEnds (G.all facts.now) ends.now }
+    requires small { All HasSmallNumbers (G.all facts.now) }
+    requires fact { HasSmallNumbers fact.now }
+    ensures low { (p : Path) → told result p ≡ low_by (G.all facts.now) p fact.now }
+    ensures small { IfSome result (λ low. IsLimit low.1) }
+{
+    match *fact {
+        Fact::Rng(p, low, _) => Some((p, low)),
+        Fact::Low(p, low) => Some((p, low as i64)),
+        Fact::Less(q, r, c) => Some((r, past(ends.low(facts, &q), c as i64))),
+        Fact::IsLen(r, a) => Some((r, ends.length_low(facts, &a))),
+        _ => None,
+    }
+}
+
+/// The int that the fact bounds from above, and by which number.
+fn high_told<G: Groups>(ends: &NearEnds, facts: &G, fact: &Fact) -> Option<(Path, i64)>
+    requires ends { HasEnds (G.all facts.now) ends.now }
+    requires small { All HasSmallNumbers (G.all facts.now) }
+    requires fact { HasSmallNumbers fact.now }
+    ensures high { (p : Path) → told result p ≡ high_by (G.all facts.now) p fact.now }
+    ensures small { IfSome result (λ high. IsLimit high.1) }
+{
+    match *fact {
+        Fact::Rng(p, _, high) => Some((p, high)),
+        Fact::Less(q, r, c) => Some((q, short_of(ends.high(facts, &r), c as i64))),
+        Fact::Upper(r, a, PathOff::Nothing, c) => {
+            Some((r, within(ends.length_high(facts, &a), c as i64)))
+        }
+        Fact::IsLen(r, a) => Some((r, ends.length_high(facts, &a))),
+        _ => None,
+    }
+}
+
+/// Raises the number of the int that the fact bounds from below.
+fn put_low<G: Groups>(
+    lows: &mut Vec<i64>,
+    ends: &NearEnds,
+    facts: &G,
+    fact: &Fact,
+) -> Result<(), AllocError>
+    requires ends { HasEnds (G.all facts.now) ends.now }
+    requires small { All HasSmallNumbers (G.all facts.now) }
+    requires fact { HasSmallNumbers fact.now }
+    ensures raised { OnOk result (Raises lows.old.items lows.new.items least_int (λ p. low_by (G.all facts.now) p fact.now)) }
+    ensures small { OnOk result (AreLimits lows.old.items least_int → AreLimits lows.new.items least_int) }
+{
+    match low_told(ends, facts, fact) {
+        Some((p, low)) => raise(lows, LEAST, &p, low),
+        None => Ok(()),
+    }
+}
+
+/// Lowers the number of the int that the fact bounds from above.
+fn put_high<G: Groups>(
+    highs: &mut Vec<i64>,
+    ends: &NearEnds,
+    facts: &G,
+    fact: &Fact,
+) -> Result<(), AllocError>
+    requires ends { HasEnds (G.all facts.now) ends.now }
+    requires small { All HasSmallNumbers (G.all facts.now) }
+    requires fact { HasSmallNumbers fact.now }
+    ensures lowered { OnOk result (Lowers highs.old.items highs.new.items greatest_int (λ p. high_by (G.all facts.now) p fact.now)) }
+    ensures small { OnOk result (AreLimits highs.old.items greatest_int → AreLimits highs.new.items greatest_int) }
+{
+    match high_told(ends, facts, fact) {
+        Some((p, high)) => lower(highs, GREATEST, &p, high),
+        None => Ok(()),
+    }
+}
+
+impl Limits {
+    /// By all facts in all their orders. The only error is want of memory.
+    pub(crate) fn of<G: Groups>(
+        alloc: Global,
+        groups: &G,
+        facts: &[Fact],
+    ) -> Result<Limits, AllocError>
+        requires all { G.all groups.now ≡ facts.now }
+        requires small { All HasSmallNumbers facts.now }
+        ensures limits { IfOk result (HasLimits facts.now) }
+    {
+        let ends = NearEnds::of(alloc, facts)?;
+        let mut lows = Vec::new(alloc);
+        let mut highs = Vec::new(alloc);
+        for fact in facts {
+            put_low(&mut lows, &ends, groups, fact)?;
+            put_high(&mut highs, &ends, groups, fact)?;
+        }
+        Ok(Limits { lows, highs })
+    }
+
+    /// What the int is at least, where its path is a near one.
+    pub(crate) fn low(&self, p: &Path) -> Option<i64>
+        ensures near { IfSome result (λ _low. is_near p.now ≡ true) }
+        ensures low { IfSome result (λ low. low ≡ number_at self.now.lows.items least_int p.now) }
+    {
+        number_of(&self.lows, LEAST, p)
+    }
+
+    /// What it is at most.
+    pub(crate) fn high(&self, p: &Path) -> Option<i64>
+        ensures near { IfSome result (λ _high. is_near p.now ≡ true) }
+        ensures high { IfSome result (λ high. high ≡ number_at self.now.highs.items greatest_int p.now) }
+    {
+        number_of(&self.highs, GREATEST, p)
+    }
+}

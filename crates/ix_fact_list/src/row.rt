@@ -1,0 +1,95 @@
+//! Facts in all their orders, of which all are on each path.
+
+ghost use Rattle.std.specs.Prelude.{◌≡◌, All, List, IfOk};
+ghost use Rattle.ix_core.specs.declared.fact.Path.{Path};
+ghost use Rattle.ix_core.specs.declared.fact.Fact.{Fact};
+ghost use Rattle.ix_facts.specs.Facts.{in_orders};
+ghost use Rattle.ix_facts.specs.Small.{HasSmallNumbers};
+ghost use Rattle.ix_bounds.specs.Ends.{ends_in};
+ghost use Rattle.ix_path_index.specs.Grouped.{on_grouped, on_list};
+
+use crate::ends::ends_of;
+use ix_bounds::Groups;
+use ix_core::{Fact, Path};
+use ix_path_index::{Grouped, in_all_orders};
+use std::alloc::{AllocError, Global};
+use std::marker::Model;
+
+/// Facts in all their orders, as they stand, with the ranges and classes on each path at hand.
+#[derive(Drop)]
+pub(crate) struct Row {
+    pub(crate) ordered: Vec<Fact>,
+    pub(crate) ends: Grouped,
+}
+
+impl Model for Row {
+    ghost Value = { List Fact };
+
+    ghost view = { λ row. row.ordered.items };
+
+    ghost invariant = { λ row. All HasSmallNumbers row.ordered.items × ((p : Path) → on_grouped row.ends p ≡ on_list (ends_in row.ordered.items) p) };
+}
+
+impl Row {
+    /// All orders of the facts. The only error is want of memory.
+    #[tactic(auto, using(ix_bounds::proofs::BoundSteps::in_orders_small))]
+    pub(crate) fn of(alloc: Global, facts: &[Fact]) -> Result<Row, AllocError>
+        requires small { All HasSmallNumbers facts.now }
+        ensures orders { IfOk result (λ row. row ≡ in_orders facts.now) }
+    {
+        let ordered = in_all_orders(alloc, facts)?;
+        let ends = Grouped::of(alloc, ends_of(alloc, &ordered)?)?;
+        Ok(Row { ordered, ends })
+    }
+
+    /// The facts.
+    pub(crate) fn facts(&self) -> &[Fact]
+        ensures facts { result.now ≡ self.now }
+        ensures small { All HasSmallNumbers result.now }
+    {
+        &self.ordered
+    }
+
+    /// The facts, and the ranges and classes on each path.
+    pub(crate) fn into_parts(self) -> (Vec<Fact>, Grouped)
+        ensures facts { result.0.items ≡ self }
+        ensures ends { (p : Path) → on_grouped result.1 p ≡ on_list (ends_in self) p }
+    {
+        (self.ordered, self.ends)
+    }
+}
+
+impl Groups for Row {
+    ghost use Rattle.std.specs.Prelude.{refl};
+    ghost use Rattle.ix_bounds.specs.Ends.{ends_in};
+    ghost use Rattle.ix_path_index.specs.Grouped.{on_list};
+    ghost use Rattle.ix_fact_list.specs.GroupLaws.{ends_named};
+
+    ghost all = { λ row. row };
+
+    ghost group = { λ row p. row };
+
+    fn on_path(&self, _p: &Path) -> &[Fact] {
+        &self.ordered
+    }
+
+    ghost ends = { λ row p. on_list (ends_in row) p };
+
+    fn ends_on(&self, p: &Path) -> &[Fact] {
+        self.ends.on(p)
+    }
+
+    ghost links = { λ row p. row };
+
+    fn links_on(&self, _p: &Path) -> &[Fact] {
+        &self.ordered
+    }
+
+    ghost named = { λ row p. refl };
+
+    ghost named_ends = { λ row p. ends_named p row };
+
+    ghost named_links = { λ row p. refl };
+
+    ghost only = { λ row p f i. i };
+}
