@@ -15,6 +15,6 @@ returns-in-Ok c =
     let named = c.requires.named in
     let same : c.deref.result.now ≡ named.tokens = c.deref.ensures.value ∙ c.in-Ok.ensures.only_tokens named.tokens named.lexed named.few in
     let written =
-      subst (λ (tokens : List Token). (tree : HaveNamedTree tokens) → IfOk c.of_tokens.result (λ text. text.items ≡ guarded_by c.args.bytes.now tree.source c.args.errors.now)) same c.of_tokens.ensures named.tree
+    subst (λ (tokens : List Token). (tree : HaveNamedTree tokens) → IfOk c.of_tokens.result (λ text. text.items ≡ guarded_by c.args.bytes.now tree.source c.args.errors.now)) same c.of_tokens.ensures named.tree
     in
     IfOk-weaker c.of_tokens.result _ _ (λ text is. record { named = named; text_is = is }) written
