@@ -1,0 +1,2 @@
+pub mod SignFronts
+pub mod LongestAgain
