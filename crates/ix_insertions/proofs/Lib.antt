@@ -1,2 +1,4 @@
 pub mod SignFronts
 pub mod LongestAgain
+pub mod Escapes
+pub mod Gaps

@@ -1,0 +1,2 @@
+-- Texts that are inserted between the tokens of a text.
+pub mod Woven
