@@ -136,9 +136,9 @@ gap_plain open_string e d more l s = refl
 gap_plain (sign k) e d more l s = cc
 
 -- behind a gap, the text goes on as it did or with what comes behind the gaps
-pub front_behind : (gap left new : Text) → Front element.Gap left new → Front element.Gap (gap ++ left) (gap ++ new)
+pub front_behind : (skipped left new : Text) → Front element.Gap left new → Front element.Gap (skipped ++ left) (skipped ++ new)
 front_behind [] left new f = f
-front_behind (c ∷ gap) left new f = same
+front_behind (c ∷ skipped) left new f = same
 
 -- The gaps at the front of a text, which are read before anything that goes on so.
 pub record Gaps (at : ℕ) (text : Text) (mid : ℕ) (left : Text) : Type 0 where
@@ -194,8 +194,8 @@ pub record Step (at : ℕ) (text : Text) (t : Token) (ts : List Token) (end : �
   pub to : t.span.to ≡ mid + size word
   pub later : Reads t.span.to rest ts end last
 
-tokens_same : (a t : Token) (as ts : List Token) → a ∷ as ≡ t ∷ ts → (a ≡ t) × (as ≡ ts)
-tokens_same a t as ts e = (cc, cc)
+tokens_same : (a t : Token) (us ts : List Token) → a ∷ us ≡ t ∷ ts → (a ≡ t) × (us ≡ ts)
+tokens_same a t us ts e = (cc, cc)
 
 pub step : {at end : ℕ} {text last : Text} {tokens : List Token} → Reads at text tokens end last → (t : Token) (ts : List Token) → tokens ≡ t ∷ ts → Step at text t ts end last
 step none t ts e = cc

@@ -151,7 +151,7 @@ white_low c h =
       ]
     ]
 
-not_wordy_white : (c : ℕ) → is_white_space c ≡ true → (starts_identifier c || is_ascii_digit c) ≡ true → ⊥
+pub not_wordy_white : (c : ℕ) → is_white_space c ≡ true → (starts_identifier c || is_ascii_digit c) ≡ true → ⊥
 not_wordy_white c h s =
     let low = white_low c h in
     let e = agree_below_at (λ x. is_white_space x && (begins_word x || is_ascii_digit x)) (λ x. false) 128 c refl low in
@@ -293,7 +293,7 @@ not_word which d h w t =
       | inl f ↦ let e : goes_on 32 ≡ true = subst (λ n. goes_on n ≡ true) (eqb-true d 32 f) g in cc
       | inr k ↦ elim (or_cases _ _ k) [
         | inl f ↦ let e : goes_on 123 ≡ true = subst (λ n. goes_on n ≡ true) (eqb-true d 123 f) g in cc
-        | inr f ↦ let e : not (is_wordy which) ≡ true = (and_parts _ _ f).1 in let r : is_wordy which ≡ false = not_true _ e in cc
+        | inr f ↦ let e : not (is_wordy which) ≡ true = (and_parts (d == 105) (not (is_wordy which)) f).1 in let r : is_wordy which ≡ false = not_true (is_wordy which) e in cc
       ]
     ]
 

@@ -51,9 +51,9 @@ pub data Woven : Bool → ℕ → List Token → List Added → List Token → B
   keep : {word last : Bool} {at end : ℕ} {olds news : List Token} {added : List Added} (token : Token) → Woven (is_word_like token.kind) token.span.to olds added news last end
       → Woven word at (token ∷ olds) added (token ∷ news) last end
   -- before a token
-  open : {word last : Bool} {at end : ℕ} {olds news : List Token} {added : List Added} (token : Token) (new : Added) (first : ℕ) (tokens : List Token) → new.place ≡ token.span.from
+  before : {word last : Bool} {at end : ℕ} {olds news : List Token} {added : List Added} (token : Token) (new : Added) (first : ℕ) (tokens : List Token) → new.place ≡ token.span.from
       → IsInserted new.bytes first tokens → may_open word first ≡ true → Woven (is_word_like token.kind) token.span.to olds added news last end
       → Woven word at (token ∷ olds) (new ∷ added) (tokens ++ token ∷ news) last end
   -- behind a token
-  close : {word last : Bool} {at end : ℕ} {olds news : List Token} {added : List Added} (new : Added) (tokens : List Token) → new.place ≡ at → IsInserted new.bytes 32 tokens
+  behind : {word last : Bool} {at end : ℕ} {olds news : List Token} {added : List Added} (new : Added) (tokens : List Token) → new.place ≡ at → IsInserted new.bytes 32 tokens
       → Woven word at olds added news last end → Woven word at olds (new ∷ added) (tokens ++ news) last end
