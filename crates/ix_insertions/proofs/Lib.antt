@@ -3,3 +3,5 @@ pub mod LongestAgain
 pub mod Escapes
 pub mod Gaps
 pub mod InsertedTexts
+pub mod Readings
+pub mod NamedTokens
