@@ -31,24 +31,26 @@ use Rattle.ix_bare.proofs.AnnotsAgain.{SameValue, SameNotes, SameBase, named_at,
 
 -- ---- nodes
 
-abbrev bare_kind : ExprKind → ExprKind
+abbrev pub bare_kind : ExprKind → ExprKind
 bare_kind = fold.of_kind kind_step init_step expr_step
 
 pub record SameFound (x y : Found) : Type 0 where
   pub expr : bare_expr x.expr ≡ bare_expr y.expr
   pub form : x.form ≡ y.form
 
--- two nodes whose kinds are the same
-made : {k l : ExprKind} {f : Form} {m n : ℕ} {p q : Span} → bare_kind k ≡ bare_kind l → SameFound (record { expr = record { kind = k; span = p }; form = f; height = m; outer = p }) (record { expr = record { kind = l; span = q }; form = f; height = n; outer = q })
-made {k} {l} {f} {m} {n} {p} {q} is = record {
-  expr = fold.expr_is kind_step init_step expr_step k p ∙ ap (λ (x : ExprKind). let y : Expr = record { kind = x; span = nowhere } in y) is ∙ sym (fold.expr_is kind_step init_step expr_step l q);
-  form = refl;
-}
+pub node_same : (k l : ExprKind) (p q : Span) → bare_kind k ≡ bare_kind l → bare_expr (record { kind = k; span = p }) ≡ bare_expr (record { kind = l; span = q })
+node_same k l p q is =
+    fold.expr_is kind_step init_step expr_step k p ∙ ap (λ (x : ExprKind). let y : Expr = record { kind = x; span = nowhere } in y) is ∙ sym (fold.expr_is kind_step init_step expr_step l q)
 
-name_same : (x : Ident) (span : Span) → bare_kind (e.Name x) ≡ bare_kind (e.Name (record { text = x.text; span = span }))
+-- two nodes whose kinds are the same
+made : {k l : ExprKind} {f : Form} {m n : ℕ} {p q : Span} → bare_kind k ≡ bare_kind l
+    → SameFound (record { expr = record { kind = k; span = p }; form = f; height = m; outer = p }) (record { expr = record { kind = l; span = q }; form = f; height = n; outer = q })
+made {k} {l} {f} {m} {n} {p} {q} is = record { expr = node_same k l p q is; form = refl }
+
+pub name_same : (x : Ident) (span : Span) → bare_kind (e.Name x) ≡ bare_kind (e.Name (record { text = x.text; span = span }))
 name_same x span = fold.name_kind kind_step init_step expr_step x ∙ sym (fold.name_kind kind_step init_step expr_step (record { text = x.text; span = span }))
 
-select_same : (f h : Expr) (x : Ident) (span : Span) → bare_expr f ≡ bare_expr h → bare_kind (e.Select f x) ≡ bare_kind (e.Select h (record { text = x.text; span = span }))
+pub select_same : (f h : Expr) (x : Ident) (span : Span) → bare_expr f ≡ bare_expr h → bare_kind (e.Select f x) ≡ bare_kind (e.Select h (record { text = x.text; span = span }))
 select_same f h x span is = fold.select_kind kind_step init_step expr_step f x ∙ ap (λ y. e.Select y (bare_name x)) is ∙ sym (fold.select_kind kind_step init_step expr_step h (record { text = x.text; span = span }))
 
 index_same : (f h p q : Expr) → bare_expr f ≡ bare_expr p → bare_expr h ≡ bare_expr q → bare_kind (e.Index f h) ≡ bare_kind (e.Index p q)
@@ -72,7 +74,7 @@ new_items_same t u xs ys one is = fold.new_items_kind kind_step init_step expr_s
 unary_same : (op : _) (f h : Expr) → bare_expr f ≡ bare_expr h → bare_kind (e.Unary op f) ≡ bare_kind (e.Unary op h)
 unary_same op f h is = fold.unary_kind kind_step init_step expr_step op f ∙ ap (λ y. e.Unary op y) is ∙ sym (fold.unary_kind kind_step init_step expr_step op h)
 
-binary_same : (op : _) (f h p q : Expr) → bare_expr f ≡ bare_expr p → bare_expr h ≡ bare_expr q → bare_kind (e.Binary op f h) ≡ bare_kind (e.Binary op p q)
+pub binary_same : (op : _) (f h p q : Expr) → bare_expr f ≡ bare_expr p → bare_expr h ≡ bare_expr q → bare_kind (e.Binary op f h) ≡ bare_kind (e.Binary op p q)
 binary_same op f h p q one two = fold.binary_kind kind_step init_step expr_step op f h ∙ (rw (one, two) refl) ∙ sym (fold.binary_kind kind_step init_step expr_step op p q)
 
 assign_same : (op : _) (f h p q : Expr) → bare_expr f ≡ bare_expr p → bare_expr h ≡ bare_expr q → bare_kind (e.Assign op f h) ≡ bare_kind (e.Assign op p q)
