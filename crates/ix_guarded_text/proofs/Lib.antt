@@ -1,3 +1,5 @@
 pub mod NamedAccesses
 pub mod TestTokens
 pub mod TestTexts
+pub mod FirstTokens
+pub mod Tests

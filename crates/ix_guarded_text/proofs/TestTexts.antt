@@ -47,7 +47,7 @@ name_read : {bytes : List ℕ} (name : IsName bytes) (d : ℕ) (rest : Text) {wh
     → (at : ℕ) → ReadsAs at ((name.start ∷ name.later) ++ d ∷ rest) (kind.Ident bytes ∷ what) left
 name_read {bytes} name d rest low e later = read_one element.Word (name.start ∷ name.later) (d ∷ rest) (kind.Ident bytes) (longest_word name.start name.later d rest name.starts name.continues (stops d low e)) name.kind later
 
-blank : (rest : Text) {what : List TokenKind} {left : Text} → ((at : ℕ) → ReadsAs at rest what left) → (at : ℕ) → ReadsAs at (32 ∷ rest) what left
+pub blank : (rest : Text) {what : List TokenKind} {left : Text} → ((at : ℕ) → ReadsAs at rest what left) → (at : ℕ) → ReadsAs at (32 ∷ rest) what left
 blank rest later = read_gap (32 ∷ []) rest (longest_blank rest) later
 
 -- signs of one character that begin no other
@@ -59,11 +59,11 @@ close_paren : (rest : Text) {what : List TokenKind} {left : Text} → ((at : ℕ
 unfolding sign signs
 close_paren rest later = read_one element.Sign (41 ∷ []) rest (kind.Fixed CLOSE_PAREN) (longest_sign 41 [] rest (lit< tt) refl refl refl refl refl refl) refl later
 
-open_brace : (rest : Text) {what : List TokenKind} {left : Text} → ((at : ℕ) → ReadsAs at rest what left) → (at : ℕ) → ReadsAs at (123 ∷ rest) (kind.Fixed OPEN_BRACE ∷ what) left
+pub open_brace : (rest : Text) {what : List TokenKind} {left : Text} → ((at : ℕ) → ReadsAs at rest what left) → (at : ℕ) → ReadsAs at (123 ∷ rest) (kind.Fixed OPEN_BRACE ∷ what) left
 unfolding sign signs
 open_brace rest later = read_one element.Sign (123 ∷ []) rest (kind.Fixed OPEN_BRACE) (longest_sign 123 [] rest (lit< tt) refl refl refl refl refl refl) refl later
 
-close_brace : (rest : Text) {what : List TokenKind} {left : Text} → ((at : ℕ) → ReadsAs at rest what left) → (at : ℕ) → ReadsAs at (125 ∷ rest) (kind.Fixed CLOSE_BRACE ∷ what) left
+pub close_brace : (rest : Text) {what : List TokenKind} {left : Text} → ((at : ℕ) → ReadsAs at rest what left) → (at : ℕ) → ReadsAs at (125 ∷ rest) (kind.Fixed CLOSE_BRACE ∷ what) left
 unfolding sign signs
 close_brace rest later = read_one element.Sign (125 ∷ []) rest (kind.Fixed CLOSE_BRACE) (longest_sign 125 [] rest (lit< tt) refl refl refl refl refl refl) refl later
 
@@ -143,10 +143,10 @@ high_read rest later = blank (codes ">= " ++ rest) (at_least rest (blank rest la
 
 -- ---- the whole
 
-abbrev text_of : Text → Text → Text → Text
+abbrev pub text_of : Text → Text → Text → Text
 text_of a i rest = codes "if (" ++ (a ++ (codes " == null || " ++ (i ++ (codes " < 0 || " ++ (i ++ (codes " >= " ++ (a ++ (codes ".length) throw new IndexOutOfBoundsException(\"guard\"); " ++ rest))))))))
 
-text_behind : (a i rest : Text) → text_of a i [] ++ rest ≡ text_of a i rest
+pub text_behind : (a i rest : Text) → text_of a i [] ++ rest ≡ text_of a i rest
 text_behind a i rest =
     let d : Text = codes ".length) throw new IndexOutOfBoundsException(\"guard\"); " in
     let c : Text = codes " >= " ++ (a ++ d) in
@@ -157,7 +157,7 @@ text_behind a i rest =
     ∙ ap (λ t. i ++ (codes " < 0 || " ++ t)) (append_assoc i c rest
     ∙ ap (λ t. i ++ (codes " >= " ++ t)) (append_assoc a d rest))))
 
-test_read : (access : Access) (a : IsName access.array.text) (i : IsName access.index.text) (rest : Text) (at : ℕ) → ReadsAs at (text_of (a.start ∷ a.later) (i.start ∷ i.later) rest) (kinds (test_tokens access)) rest
+pub test_read : (access : Access) (a : IsName access.array.text) (i : IsName access.index.text) (rest : Text) (at : ℕ) → ReadsAs at (text_of (a.start ∷ a.later) (i.start ∷ i.later) rest) (kinds (test_tokens access)) rest
 test_read access a i rest =
     let d : Text = codes ".length) throw new IndexOutOfBoundsException(\"guard\"); " ++ rest in
     let c : Text = (a.start ∷ a.later) ++ d in
@@ -183,17 +183,17 @@ later_plain (c ∷ cs) h =
     let w = and_parts (continues_identifier c) (list_all continues_identifier cs) h in
     rw (not_backslash c continues_identifier w.0 (continues_ascii 92 (lit< tt)), later_plain cs w.1) refl
 
-name_plain : {bytes : List ℕ} (n : IsName bytes) → list_all (λ c. not (c == backslash)) (n.start ∷ n.later) ≡ true
+pub name_plain : {bytes : List ℕ} (n : IsName bytes) → list_all (λ c. not (c == backslash)) (n.start ∷ n.later) ≡ true
 name_plain n = rw (not_backslash n.start starts_identifier n.starts (starts_ascii 92 (lit< tt)), later_plain n.later n.continues) refl
 
 spelled_both : (u x : Text) (b y : List ℕ) → encode_utf8_all u ≡ b → encode_utf8_all x ≡ y → encode_utf8_all (u ++ x) ≡ b ++ y
 spelled_both u x b y e f = encodes-append u x ∙ ap (λ l. l ++ encode_utf8_all x) e ∙ ap (λ l. b ++ l) f
 
-scalars_both : (u v : Text) → all_scalars u ≡ true → all_scalars v ≡ true → all_scalars (u ++ v) ≡ true
+pub scalars_both : (u v : Text) → all_scalars u ≡ true → all_scalars v ≡ true → all_scalars (u ++ v) ≡ true
 scalars_both [] v h k = k
 scalars_both (c ∷ u) v h k = let w = and_parts _ (all_scalars u) h in rw (w.0, scalars_both u v w.1 k) refl
 
-plain_both : (u v : Text) → list_all (λ c. not (c == backslash)) u ≡ true → list_all (λ c. not (c == backslash)) v ≡ true → list_all (λ c. not (c == backslash)) (u ++ v) ≡ true
+pub plain_both : (u v : Text) → list_all (λ c. not (c == backslash)) u ≡ true → list_all (λ c. not (c == backslash)) v ≡ true → list_all (λ c. not (c == backslash)) (u ++ v) ≡ true
 plain_both [] v h k = k
 plain_both (c ∷ u) v h k = let w = and_parts (not (c == backslash)) (list_all (λ c. not (c == backslash)) u) h in rw (w.0, plain_both u v w.1 k) refl
 
@@ -203,8 +203,20 @@ from_right a i s t u v =
     append_assoc (((((a ++ s) ++ i) ++ t) ++ i) ++ u) a v ∙ append_assoc ((((a ++ s) ++ i) ++ t) ++ i) u (a ++ v) ∙ append_assoc (((a ++ s) ++ i) ++ t) i (u ++ (a ++ v))
     ∙ append_assoc ((a ++ s) ++ i) t (i ++ (u ++ (a ++ v))) ∙ append_assoc (a ++ s) i (t ++ (i ++ (u ++ (a ++ v)))) ∙ append_assoc a s (i ++ (t ++ (i ++ (u ++ (a ++ v)))))
 
-pub test_piece : (access : Access) → IsName access.array.text → IsName access.index.text → Piece (test access) (test_tokens access)
+pub test_spelled : (access : Access) (a : IsName access.array.text) (i : IsName access.index.text) → encode_utf8_all (text_of (a.start ∷ a.later) (i.start ∷ i.later) []) ≡ test access
 unfolding lib.Utf8.encode
+test_spelled access a i =
+    let x : Text = a.start ∷ a.later in
+    let y : Text = i.start ∷ i.later in
+    let d : Text = codes ".length) throw new IndexOutOfBoundsException(\"guard\"); " in
+    let c : Text = codes " >= " ++ (x ++ d) in
+    let b : Text = codes " < 0 || " ++ (y ++ c) in
+    let e : Text = codes " == null || " ++ (y ++ b) in
+    spelled_both (codes "if (") (x ++ e) (codes "if (") _ refl (spelled_both x e access.array.text _ a.spelled (spelled_both (codes " == null || ") (y ++ b) (codes " == null || ") _ refl (spelled_both y b access.index.text _ i.spelled
+    (spelled_both (codes " < 0 || ") (y ++ c) (codes " < 0 || ") _ refl (spelled_both y c access.index.text _ i.spelled (spelled_both (codes " >= ") (x ++ d) (codes " >= ") _ refl (spelled_both x d access.array.text d a.spelled refl)))))))
+    ∙ ap (λ l. codes "if (" ++ l) (sym (from_right access.array.text access.index.text (codes " == null || ") (codes " < 0 || ") (codes " >= ") d))
+
+abbrev pub test_piece : (access : Access) → IsName access.array.text → IsName access.index.text → Piece (test access) (test_tokens access)
 test_piece access a i =
     let x : Text = a.start ∷ a.later in
     let y : Text = i.start ∷ i.later in
@@ -214,9 +226,7 @@ test_piece access a i =
     let e : Text = codes " == null || " ++ (y ++ b) in
     record {
       text = text_of x y [];
-      spelled = spelled_both (codes "if (") (x ++ e) (codes "if (") _ refl (spelled_both x e access.array.text _ a.spelled (spelled_both (codes " == null || ") (y ++ b) (codes " == null || ") _ refl (spelled_both y b access.index.text _ i.spelled
-          (spelled_both (codes " < 0 || ") (y ++ c) (codes " < 0 || ") _ refl (spelled_both y c access.index.text _ i.spelled (spelled_both (codes " >= ") (x ++ d) (codes " >= ") _ refl (spelled_both x d access.array.text d a.spelled refl)))))))
-          ∙ ap (λ l. codes "if (" ++ l) (sym (from_right access.array.text access.index.text (codes " == null || ") (codes " < 0 || ") (codes " >= ") d));
+      spelled = test_spelled access a i;
       scalars = scalars_both (codes "if (") (x ++ e) refl (scalars_both x e a.scalars (scalars_both (codes " == null || ") (y ++ b) refl (scalars_both y b i.scalars
           (scalars_both (codes " < 0 || ") (y ++ c) refl (scalars_both y c i.scalars (scalars_both (codes " >= ") (x ++ d) refl (scalars_both x d a.scalars refl)))))));
       plain = plain_both (codes "if (") (x ++ e) refl (plain_both x e (name_plain a) (plain_both (codes " == null || ") (y ++ b) refl (plain_both y b (name_plain i)
@@ -232,21 +242,27 @@ open_token = record { kind = kind.Fixed OPEN_BRACE; span = nowhere }
 abbrev pub close_token : Token
 close_token = record { kind = kind.Fixed CLOSE_BRACE; span = nowhere }
 
-pub open_piece : Piece (codes "{ ") (open_token ∷ [])
+pub open_spelled : encode_utf8_all (codes "{ ") ≡ codes "{ "
 unfolding lib.Utf8.encode
+open_spelled = refl
+
+pub close_spelled : encode_utf8_all (codes " }") ≡ codes " }"
+unfolding lib.Utf8.encode
+close_spelled = refl
+
+abbrev pub open_piece : Piece (codes "{ ") (open_token ∷ [])
 open_piece = record {
   text = codes "{ ";
-  spelled = refl;
+  spelled = open_spelled;
   scalars = refl;
   plain = refl;
   read = λ at rest. read_as (codes "{ ") (open_token ∷ []) at rest (open_brace (32 ∷ rest) (blank rest (read_none rest)) at);
 }
 
-pub close_piece : Piece (codes " }") (close_token ∷ [])
-unfolding lib.Utf8.encode
+abbrev pub close_piece : Piece (codes " }") (close_token ∷ [])
 close_piece = record {
   text = codes " }";
-  spelled = refl;
+  spelled = close_spelled;
   scalars = refl;
   plain = refl;
   read = λ at rest. read_as (codes " }") (close_token ∷ []) at rest (blank (125 ∷ rest) (close_brace rest (read_none rest)) at);

@@ -91,19 +91,19 @@ read_as text tokens at rest r =
 
 -- ---- pieces
 
-kinds_both : (ts us : List Token) → kinds (ts ++ us) ≡ kinds ts ++ kinds us
+pub kinds_both : (ts us : List Token) → kinds (ts ++ us) ≡ kinds ts ++ kinds us
 kinds_both [] us = refl
 kinds_both (t ∷ ts) us = ap (λ l. t.kind ∷ l) (kinds_both ts us)
 
-both_all : (test : ℕ → Bool) (u v : Text) → list_all test u ≡ true → list_all test v ≡ true → list_all test (u ++ v) ≡ true
+pub both_all : (test : ℕ → Bool) (u v : Text) → list_all test u ≡ true → list_all test v ≡ true → list_all test (u ++ v) ≡ true
 both_all test [] v h k = k
 both_all test (c ∷ u) v h k = let w = and_parts (test c) (list_all test u) h in rw (w.0, both_all test u v w.1 k) refl
 
-both_scalars : (u v : Text) → all_scalars u ≡ true → all_scalars v ≡ true → all_scalars (u ++ v) ≡ true
+pub both_scalars : (u v : Text) → all_scalars u ≡ true → all_scalars v ≡ true → all_scalars (u ++ v) ≡ true
 both_scalars [] v h k = k
 both_scalars (c ∷ u) v h k = let w = and_parts _ (all_scalars u) h in rw (w.0, both_scalars u v w.1 k) refl
 
-pub no_piece : Piece [] []
+abbrev pub no_piece : Piece [] []
 no_piece = record {
   text = [];
   spelled = refl;
@@ -112,7 +112,7 @@ no_piece = record {
   read = λ at rest. read_as [] [] at rest (read_none rest at);
 }
 
-pub two_pieces : (bytes others : List ℕ) (tokens later : List Token) → Piece bytes tokens → Piece others later → Piece (bytes ++ others) (tokens ++ later)
+abbrev pub two_pieces : (bytes others : List ℕ) (tokens later : List Token) → Piece bytes tokens → Piece others later → Piece (bytes ++ others) (tokens ++ later)
 two_pieces bytes others tokens later p q = record {
   text = p.text ++ q.text;
   spelled = encodes-append p.text q.text ∙ ap (λ l. l ++ encode_utf8_all q.text) p.spelled ∙ ap (λ l. bytes ++ l) q.spelled;
