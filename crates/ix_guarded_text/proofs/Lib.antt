@@ -3,3 +3,5 @@ pub mod TestTokens
 pub mod TestTexts
 pub mod FirstTokens
 pub mod Tests
+pub mod Wrapped
+pub mod GuardedStatements
