@@ -138,10 +138,10 @@ module _ (site : Site) where
   in_list_alone : (x : Guarded) → x.declares ≡ false → alone x ∷ [] ≡ in_list x
   in_list_alone x e = ap (λ b. if b then x.tests ++ x.itself ∷ [] else alone x ∷ []) (sym e)
 
-  abbrev AllInListOf : List Token → Stmts → Type 0
+  abbrev pub AllInListOf : List Token → Stmts → Type 0
   AllInListOf ts found = AllInList ts (added (each_listed (map (inserting site) found.stmts))) (each_in_list (map (guarding site) found.stmts))
 
-  abbrev GuardsOf : List Token → FoundStmt → Bool → Bool → Type 0
+  abbrev pub GuardsOf : List Token → FoundStmt → Bool → Bool → Type 0
   GuardsOf ts found listed ends = Guards ts (added (inserting site found.stmt listed)) found.stmt.span.to (guarding site found.stmt) ends
 
   -- ---- a declaration in a list
@@ -191,7 +191,7 @@ module _ (site : Site) where
       (with_guards _ [] span (statement kind span) false f.expr core (accesses_named ts f d h))
 
   mutual
-    stmt_guarded : (ends : Bool) (ts : List Token) (found : FoundStmt) → IsStmt ends ts found → HaveNames ts → (listed : Bool) → GuardsOf ts found listed ends
+    pub stmt_guarded : (ends : Bool) (ts : List Token) (found : FoundStmt) → IsStmt ends ts found → HaveNames ts → (listed : Bool) → GuardsOf ts found listed ends
     stmt_guarded _ _ _ (g.block left right {ts} {found} d) h listed =
         let span = across left right in
         let inner = stmts_guarded ts found d (names_split ts (sign CLOSE_BRACE right ∷ []) h.1).0 in
@@ -410,7 +410,7 @@ module _ (site : Site) where
               subst (λ t. Listed one.news t) (in_list_alone (guarding site found.stmt) one.plain) l;
         }
 
-    stmts_guarded : (ts : List Token) (found : Stmts) → IsStmts ts found → HaveNames ts → AllInListOf ts found
+    pub stmts_guarded : (ts : List Token) (found : Stmts) → IsStmts ts found → HaveNames ts → AllInListOf ts found
     stmts_guarded _ _ g.none h = record { news = []; woven = λ at. (at, done); listed = no_statements }
     stmts_guarded _ _ (g.one_more {ts} {us} {found} {last} d x) h =
         let n = names_split ts us h in

@@ -5,3 +5,5 @@ pub mod FirstTokens
 pub mod Tests
 pub mod Wrapped
 pub mod GuardedStatements
+pub mod GuardedMembers
+pub mod GuardedSources
