@@ -7,3 +7,4 @@ pub mod Wrapped
 pub mod GuardedStatements
 pub mod GuardedMembers
 pub mod GuardedSources
+pub mod DerivedAnswers
