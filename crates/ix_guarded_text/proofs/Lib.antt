@@ -1,0 +1,10 @@
+pub mod NamedAccesses
+pub mod TestTokens
+pub mod TestTexts
+pub mod FirstTokens
+pub mod Tests
+pub mod Wrapped
+pub mod GuardedStatements
+pub mod GuardedMembers
+pub mod GuardedSources
+pub mod DerivedAnswers

@@ -1,0 +1,2 @@
+-- What bytes derive, up to places.
+pub mod Derived
