@@ -1,2 +1,3 @@
+pub mod DerivedGuards
 mod NamedSources
 pub mod OneGuarded

@@ -7,6 +7,7 @@ use Rattle.ix_tree.specs.declared.decl.Unit.{Unit as Source}
 use Rattle.ix_grammar.specs.Refusals.{HasTree}
 use Rattle.ix_meaning.specs.Resolved.{names, Accepts}
 use Rattle.ix_guard.specs.Guards.{guarded}
+use Rattle.ix_guard.specs.Trees.{guarded_tree}
 
 -- The tokens have a tree, and its names have no errors.
 pub record HaveNamedTree (tokens : List Token) : Type 0 where
@@ -29,3 +30,7 @@ guarded_by bytes source errors = guarded bytes source (names source) errors
 pub record IsGuarded (bytes : List ℕ) (errors : List Error) (text : List ℕ) : Type 0 where
   pub named : IsNamed bytes
   pub text_is : text ≡ guarded_by bytes named.tree.source errors
+
+-- The tree of these bytes, with the tests.
+abbrev pub tree_by : {bytes : List ℕ} → IsNamed bytes → List Error → Source
+tree_by named errors = guarded_tree named.tree.source (names named.tree.source) errors

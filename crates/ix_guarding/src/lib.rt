@@ -1,8 +1,8 @@
 //! The guarded text of the bytes of a source.
 //!
 //! What goes in: the bytes of a source without errors on names, and the errors of its program. What comes out: the bytes with the guards.
-//! The contract: `IsGuarded` of `specs/Guarding.antt`; only want of memory stands in the way.
-//! It stands on the lexer, the parser and names for the tree and the table, on `ix_guard` for the guards.
+//! The contract: `IsGuarded` of `specs/Guarding.antt`, and that the new bytes derive the guarded tree up to places; only want of memory stands in the way.
+//! It stands on the lexer, the parser and names for the tree and the table, on `ix_guard` for the guards, on `ix_guarded_text` for what their text derives.
 //! It never looks at words or files, and makes no program.
 #![tactic(auto)]
 
@@ -10,7 +10,8 @@ ghost use Rattle.std.specs.Prelude.{◌≡◌, ◌≤◌, length, IfOk};
 ghost use Rattle.ix_lexer.specs.Spans.{InOrder};
 ghost use Rattle.ix_meaning.specs.Resolved.{Accepts};
 ghost use Rattle.ix_tree.specs.Parts.{CanResolve};
-ghost use Rattle.ix_guarding.specs.Guarding.{HaveNamedTree, IsGuarded, IsNamed, guarded_by};
+ghost use Rattle.ix_guarding.specs.Guarding.{HaveNamedTree, IsGuarded, IsNamed, guarded_by, tree_by};
+ghost use Rattle.ix_guarded_text.specs.Derived.{Derives};
 
 use ix_core::Error;
 use ix_guard::guard;
@@ -87,11 +88,12 @@ fn of_tokens(
     }
 }
 
-/// The guarded text of these bytes, which are a source whose names have no errors. The one error is want of memory.
+/// The guarded text of these bytes, which are a source whose names have no errors: it derives, up to places, their tree with the tests. The one error is want of memory.
 pub fn guarded(alloc: Global, bytes: &[u8], errors: &[Error]) -> Result<Vec<u8>, AllocError>
     requires short { length bytes.now ≤ 1048576 }
     requires named { IsNamed bytes.now }
-    ensures { IfOk result (λ text. IsGuarded bytes.now errors.now text.items) }
+    ensures text { IfOk result (λ text. IsGuarded bytes.now errors.now text.items) }
+    ensures derives { IfOk result (λ text. (named : IsNamed bytes.now) → Derives text.items (tree_by named errors.now)) }
 {
     match lex(alloc, bytes) {
         Ok(tokens) => of_tokens(alloc, bytes, &tokens, errors),

@@ -25,7 +25,7 @@ returns c =
       subst (λ (p : Profile). IsErrorList (IsError c.args.program.now p) errors) c.profile_of-profile.ensures c.in_ok-errors.ensures.errors,
       (
         text,
-        subst (λ (es : List Error). IsGuarded c.args.bytes.now es text) c.deref.ensures.value c.in_ok-text.ensures,
+        subst (λ (es : List Error). IsGuarded c.args.bytes.now es text) c.deref.ensures.value c.in_ok-text.ensures.text,
         finding,
         subst (λ (bytes : List ℕ). Found bytes finding) c.deref-2.ensures.value c.in_ok-finding.ensures.right,
         subst (λ (p : Profile). AnswersFound name text (AnswersGuarded p text) finding (shown reply)) c.profile_of-profile.ensures on,
