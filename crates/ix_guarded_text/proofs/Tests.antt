@@ -33,7 +33,7 @@ behind_bytes : (site : Site) (changes : Changes) (before : List Pair) (accesses 
 behind_bytes site changes before [] = refl
 behind_bytes site changes before (access ∷ rest) =
     elim (is_tested site changes before access) as (λ t. (if t then test access ++ tests_behind site changes (before ++ pair_of site access ∷ []) rest else tests_behind site changes before rest)
-      ≡ bytes_of (if t then access ∷ tested_behind site changes (before ++ pair_of site access ∷ []) rest else tested_behind site changes before rest)) [
+    ≡ bytes_of (if t then access ∷ tested_behind site changes (before ++ pair_of site access ∷ []) rest else tested_behind site changes before rest)) [
       | true ↦ ap (λ l. test access ++ l) (behind_bytes site changes (before ++ pair_of site access ∷ []) rest)
       | false ↦ behind_bytes site changes before rest
     ]
