@@ -164,7 +164,7 @@ mutual
         found = _;
         is = g.array_of_length (at 0) (at3 0) (at4 0) first.is second.is third.is fourth.is;
         same = made (new_array_same (created_type base notes brackets).ty (created_type second.found first.found fourth.found).ty h.expr third.found.expr
-        (type_same base second.found notes first.found brackets fourth.found second.same first.same fourth.same) third.same.expr);
+            (type_same base second.found notes first.found brackets fourth.found second.same first.same fourth.same) third.same.expr);
       })
   expr_stays _ _ _ (g.array_of_items start open_at {before} {base_tokens} {tokens} {us} {notes} {base} {brackets} {s} d b m x) at =
       let at1 = next at in
@@ -180,7 +180,7 @@ mutual
         found = _;
         is = g.array_of_items (at 0) (at4 0) first.is second.is third.is fourth.is;
         same = made (new_items_same (created_type base notes brackets).ty (created_type second.found first.found third.found).ty s.items fourth.found.items
-        (type_same base second.found notes first.found brackets third.found second.same first.same third.same) fourth.same);
+            (type_same base second.found notes first.found brackets third.found second.same first.same third.same) fourth.same);
       })
   expr_stays _ _ _ (g.primary {ts} {f} d) at = let inner = expr_stays g.Primary ts f d at in record { found = inner.found; is = g.primary inner.is; same = inner.same }
   expr_stays _ _ _ (g.least minus literal) at = record { found = _; is = g.least (at 0) (next at 0); same = made refl }

@@ -1,5 +1,5 @@
 -- What the lexer and the parser may answer to bytes that derive a tree: that tree up to places, or that they are too many tokens or too deep.
-use Rattle.std.proofs.Common.{◌≡◌, ◌≢◌, ℕ, ◌+◌, ◌≤◌, ◌<◌, List, [], ◌∷◌, ◌++◌, length, take, Option, Some, None, Ok, Err, refl, sym, ap, subst, ◌∙◌, length-append, arith, ◌⊎◌, inl, inr}
+use Rattle.std.proofs.Common.{◌≡◌, ℕ, ◌+◌, List, [], ◌∷◌, ◌++◌, length, take, Option, Some, None, Ok, Err, refl, sym, ap, subst, ◌∙◌, length-append, arith, ◌⊎◌, inl, inr}
 use Rattle.ix_lexer.specs.declared.elements.Element.{Element}
 use Rattle.ix_lexer.specs.declared.elements.Element.TheVariants as element
 use Rattle.ix_lexer.specs.declared.token.Token.{Token}
@@ -97,9 +97,9 @@ stops_before (error.BadNumber place) count at text s which w l known =
     absurd (elim known [
       | inl g ↦ (let f : element.Number ≡ element.Gap = e.0 ∙ g in cc)
       | inr k ↦ (
-            let f : kind_of element.Number s.1.0 ≡ Some k.0 = ap (kind_of element.Number) e.1 ∙ ap (λ x. kind_of x w) e.0 ∙ k.1 in
-            let n : number_of s.1.0 ≡ None = s.1.2 in
-            let h : kind_of element.Number s.1.0 ≡ None = ap (number_kind (is_hexadecimal s.1.0)) n in cc
+          let f : kind_of element.Number s.1.0 ≡ Some k.0 = ap (kind_of element.Number) e.1 ∙ ap (λ x. kind_of x w) e.0 ∙ k.1 in
+          let n : number_of s.1.0 ≡ None = s.1.2 in
+          let h : kind_of element.Number s.1.0 ≡ None = ap (number_kind (is_hexadecimal s.1.0)) n in cc
           )
     ])
 stops_before (error.TooMany place) count at text s which w l known = (place, refl)

@@ -4,8 +4,6 @@ use Rattle.ix_text.specs.declared.span.Span.{Span}
 use Rattle.ix_lexer.specs.declared.token.Token.{Token}
 use Rattle.ix_lexer.specs.declared.fixed.TheConstants.{CLASS, VOID, SUPER, SEMICOLON, OPEN_BRACE, CLOSE_BRACE}
 use Rattle.ix_tree.specs.declared.annot.Ident.{Ident}
-use Rattle.ix_tree.specs.declared.annot.TypeTree.{TypeTree}
-use Rattle.ix_tree.specs.declared.decl.ClassDecl.{ClassDecl}
 use Rattle.ix_tree.specs.declared.decl.LocalDecl.{LocalDecl}
 use Rattle.ix_tree.specs.declared.decl.Member.{Member}
 use Rattle.ix_tree.specs.declared.decl.Member.TheVariants.{Field, Method}
@@ -111,10 +109,10 @@ module _ (site : Site) where
       record {
         news = sign OPEN_BRACE left ∷ sign SUPER super ∷ (before ++ sign SEMICOLON end ∷ (inner.news ++ sign CLOSE_BRACE right ∷ []));
         woven = λ word at. (
-              false,
-              right.to,
-              keep (sign OPEN_BRACE left) (keep (sign SUPER super) (keeps before (λ word at. keep (sign SEMICOLON end) (chained_kept (inner.woven end.to).1 (λ word at. keep (sign CLOSE_BRACE right) done))) _ _)),
-            );
+          false,
+          right.to,
+          keep (sign OPEN_BRACE left) (keep (sign SUPER super) (keeps before (λ word at. keep (sign SEMICOLON end) (chained_kept (inner.woven end.to).1 (λ word at. keep (sign CLOSE_BRACE right) done))) _ _)),
+        );
         found = g.body_with args inner.listed.found right;
         is = g.with_super left super end right a (from_stmts inner.news inner.listed.found inner.listed.is);
         parent_args = refl;

@@ -1,21 +1,23 @@
 -- The guarded text of a source is a source, whose tree is the guarded one up to places.
-use Rattle.std.proofs.Common.{◌≡◌, ℕ, ◌-◌, Bool, true, false, List, [], ◌∷◌, ◌++◌, map, take, drop, refl, sym, ap, subst, ◌∙◌, append_assoc, append-nil}
+use Rattle.std.proofs.Common.{◌≡◌, ℕ, ◌-◌, true, List, [], ◌∷◌, ◌++◌, map, take, drop, refl, sym, ap, subst, ◌∙◌, append_assoc, append-nil}
 use Rattle.ix_lexer.specs.declared.token.Token.{Token}
 use Rattle.ix_lexer.specs.Tokens.{Tokens}
 use Rattle.ix_tree.specs.declared.decl.ClassDecl.{ClassDecl}
+use Rattle.ix_tree.specs.declared.decl.Unit.{Unit as Source}
 use Rattle.ix_grammar.specs.declared.classes.Classes.{Classes}
 use Rattle.ix_grammar.specs.declared.classes.FoundUnit.{FoundUnit}
 use Rattle.ix_grammar.specs.Lists.{IsRepeated, no_item, one_more}
 use Rattle.ix_grammar.specs.ClassGrammar as g
 use Rattle.ix_grammar.specs.ClassGrammar.{IsClass, no_classes, with_class}
 use Rattle.ix_grammar.specs.SourceGrammar.{source_parts, IsSource}
+use Rattle.ix_grammar.specs.Refusals.{HasTree}
 use Rattle.ix_core.specs.declared.error.Error.{Error}
-use Rattle.ix_meaning.specs.Resolved.{Names}
+use Rattle.ix_meaning.specs.Resolved.{Names, names}
 use Rattle.ix_bare.specs.Bare.{bare_class, bare_source}
 use Rattle.ix_bare.proofs.ListsAgain.{map_joined}
 use Rattle.ix_bare.proofs.SourcesAgain.{source_again}
 use Rattle.ix_insertions.specs.Names.{HaveNames}
-use Rattle.ix_insertions.specs.Woven.{Added, with_added, kinds}
+use Rattle.ix_insertions.specs.Woven.{with_added}
 use Rattle.ix_insertions.proofs.InsertedTexts.{inserted_tokens}
 use Rattle.ix_insertions.proofs.NamedTokens.{token_names}
 use Rattle.ix_guard.specs.declared.insertion.Insertion.{Insertion}
@@ -80,10 +82,10 @@ texts_added at bytes [] = refl
 texts_added at bytes (i ∷ new) = ap (λ l. take (i.place - at) bytes ++ (i.text ++ l)) (texts_added i.place (drop (i.place - at) bytes) new)
 
 -- The guarded bytes derive the guarded tree, up to places.
-pub guarded_source : (bytes : List ℕ) (tokens : List Token) (found : FoundUnit) (names : Names) (errors : List Error) → Tokens bytes tokens → IsSource tokens found
-    → Derives (guarded bytes found.unit names errors) (guarded_tree found.unit names errors)
-guarded_source bytes tokens found names errors t d =
-    let site : Site = record { names = names; errors = errors } in
+pub guarded_source : (bytes : List ℕ) (tokens : List Token) (found : FoundUnit) (meanings : Names) (errors : List Error) → Tokens bytes tokens → IsSource tokens found
+    → Derives (guarded bytes found.unit meanings errors) (guarded_tree found.unit meanings errors)
+guarded_source bytes tokens found meanings errors t d =
+    let site : Site = record { names = meanings; errors = errors } in
     let guards = source_guarded site tokens found d (token_names bytes tokens t) in
     let woven = guards.woven true 0 in
     let new = insertions site found.unit in
@@ -96,3 +98,8 @@ guarded_source bytes tokens found names errors t d =
       is = again.is;
       same = sym again.same ∙ guards.same;
     }
+
+-- The same of a source whose tree is low enough to be read, by what its names mean in it.
+pub guarded_derives : (bytes : List ℕ) (tokens : List Token) (unit : Source) (errors : List Error) → Tokens bytes tokens → HasTree tokens unit
+    → Derives (guarded bytes unit (names unit) errors) (guarded_tree unit (names unit) errors)
+guarded_derives bytes tokens unit errors t (height, low) = guarded_source bytes tokens (record { unit = unit; height = height }) (names unit) errors t low.0

@@ -3,8 +3,6 @@ use Rattle.std.proofs.Common.{◌≡◌, ℕ, Bool, true, false, if◌then◌els
 use Rattle.ix_text.specs.declared.span.Span.{Span}
 use Rattle.ix_lexer.specs.declared.token.Token.{Token}
 use Rattle.ix_lexer.specs.declared.fixed.TheConstants.{IF, ELSE, WHILE, DO, FOR, BREAK, CONTINUE, RETURN, THROW, NEW, DOT, SEMICOLON, OPEN_PAREN, CLOSE_PAREN, OPEN_BRACE, CLOSE_BRACE}
-use Rattle.ix_tree.specs.declared.annot.Ident.{Ident}
-use Rattle.ix_tree.specs.declared.decl.LocalDecl.{LocalDecl}
 use Rattle.ix_tree.specs.declared.expr.Expr.{Expr}
 use Rattle.ix_tree.specs.declared.stmt.Stmt.{Stmt}
 use Rattle.ix_tree.specs.declared.stmt.StmtKind.{StmtKind}
@@ -19,17 +17,17 @@ use Rattle.ix_grammar.specs.declared.found.FoundType.{FoundType}
 use Rattle.ix_grammar.specs.Nodes.{across}
 use Rattle.ix_grammar.specs.Patterns.{sign, name_token}
 use Rattle.ix_grammar.specs.Lists.{IsSeparated, first_item, next_item}
-use Rattle.ix_grammar.specs.ExprGrammar.{Whole, IsExpr, IsStatementExpr}
+use Rattle.ix_grammar.specs.ExprGrammar.{Whole, IsStatementExpr}
 use Rattle.ix_grammar.specs.StmtGrammar as g
 use Rattle.ix_grammar.specs.StmtGrammar.{SYSTEM, OUT, PRINTLN, word_token, maybe_expr, run_part, one_run, with_run, local_stmt, IsLocal, IsForFirst, IsMaybe, IsStmt, IsBlockStmt, IsStmts}
 use Rattle.ix_bare.specs.Bare.{bare_stmt}
 use Rattle.ix_bare.proofs.ListsAgain.{map_joined}
-use Rattle.ix_bare.proofs.StmtsAgain.{bare_stmt_kind, node_same, block_same, if_same, if_else_same, while_same, do_same, for_same}
+use Rattle.ix_bare.proofs.StmtsAgain.{node_same, block_same, if_same, if_else_same, while_same, do_same, for_same}
 use Rattle.ix_insertions.specs.Names.{HaveNames}
-use Rattle.ix_insertions.specs.Woven.{Added, is_word_like, Woven, done, keep, before, behind}
+use Rattle.ix_insertions.specs.Woven.{Added, is_word_like, Woven, done, keep, before}
 use Rattle.ix_guard.specs.declared.insertion.Insertion.{Insertion}
-use Rattle.ix_guard.specs.Accesses.{Access, parts_of, all_decl_parts}
-use Rattle.ix_guard.specs.Tests.{Site, expression_tests, declaration_tests}
+use Rattle.ix_guard.specs.Accesses.{Access, parts_of}
+use Rattle.ix_guard.specs.Tests.{Site, expression_tests}
 use Rattle.ix_guard.specs.Guards as text
 use Rattle.ix_guard.specs.Guards.{Inserting, inserting, opening, closing, together, each_listed}
 use Rattle.ix_guard.specs.Trees as tree

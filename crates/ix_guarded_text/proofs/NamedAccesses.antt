@@ -1,8 +1,8 @@
 -- The names of the accesses in an expression of the grammar are read as identifiers.
-use Rattle.std.proofs.Common.{◌≡◌, ℕ, suc, negsuc, Bool, true, false, if◌then◌else◌, List, [], ◌∷◌, ◌++◌, map, Option, Some, None, refl, sym, ap, subst, ◌∙◌}
+use Rattle.std.proofs.Common.{◌≡◌, suc, negsuc, true, false, if◌then◌else◌, List, [], ◌∷◌, ◌++◌, map, Option, Some, None, sym, subst, ◌∙◌}
 use Rattle.ix_text.specs.declared.span.Span.{Span}
 use Rattle.ix_lexer.specs.declared.token.Token.{Token}
-use Rattle.ix_lexer.specs.declared.fixed.TheConstants.{DOT, COMMA, SEMICOLON, CLOSE_PAREN, OPEN_BRACKET, CLOSE_BRACKET, OPEN_BRACE, CLOSE_BRACE}
+use Rattle.ix_lexer.specs.declared.fixed.TheConstants.{DOT, COMMA, CLOSE_PAREN, OPEN_BRACKET, CLOSE_BRACKET, OPEN_BRACE, CLOSE_BRACE}
 use Rattle.ix_tree.specs.declared.annot.Ident.{Ident}
 use Rattle.ix_tree.specs.declared.decl.LocalDecl.{LocalDecl}
 use Rattle.ix_tree.specs.declared.expr.BinaryOp.{BinaryOp}
@@ -23,7 +23,7 @@ use Rattle.ix_grammar.specs.declared.found.FoundType.{FoundType}
 use Rattle.ix_grammar.specs.declared.found.Several.{Several}
 use Rattle.ix_grammar.specs.Nodes.{across}
 use Rattle.ix_grammar.specs.Patterns.{sign, name_token}
-use Rattle.ix_grammar.specs.Lists.{IsSeparated, first_item, next_item}
+use Rattle.ix_grammar.specs.Lists.{first_item, next_item}
 use Rattle.ix_grammar.specs.ExprNodes.{created_type}
 use Rattle.ix_grammar.specs.ExprGrammar as g
 use Rattle.ix_grammar.specs.ExprGrammar.{Kind, IsExpr, IsExprs, IsArgs, IsInit, IsInits, IsItems}
@@ -32,7 +32,7 @@ use Rattle.ix_grammar.specs.DeclGrammar.{shared, IsDecl, IsDecls, one_decl, with
 use Rattle.ix_grammar.specs.StmtGrammar as s
 use Rattle.ix_grammar.specs.StmtGrammar.{IsLocal}
 use Rattle.ix_insertions.specs.Names.{IsName, HaveNames}
-use Rattle.ix_guard.specs.Accesses.{Access, Parts, Reading, nothing, both, all, each, called, is_always, operands, as_target, own_access, or_inside, accessing, unnamed, kind_step, init_step, expr_step, reading, init_parts, parts_of, maybe, decl_parts, all_decl_parts}
+use Rattle.ix_guard.specs.Accesses.{Access, Parts, Reading, nothing, both, all, each, called, is_always, operands, as_target, own_access, or_inside, accessing, unnamed, kind_step, init_step, expr_step, reading, init_parts, parts_of, decl_parts, all_decl_parts}
 
 -- ---- lists
 

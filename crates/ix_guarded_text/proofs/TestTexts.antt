@@ -1,5 +1,5 @@
 -- The text of a test is read as the test's tokens, wherever it stands.
-use Rattle.std.proofs.Common.{◌≡◌, ℕ, suc, zero, ◌+◌, ◌<◌, ◌==◌, ◌&&◌, not, nat_lt, Bool, true, false, List, [], ◌∷◌, ◌++◌, map, Option, Some, None, refl, sym, ap, subst, ◌∙◌, append_assoc, append-nil, arith, lit<}
+use Rattle.std.proofs.Common.{◌≡◌, ℕ, ◌<◌, ◌==◌, ◌&&◌, not, nat_lt, Bool, true, false, List, [], ◌∷◌, ◌++◌, refl, sym, ap, subst, ◌∙◌, append_assoc, lit<}
 use Rattle.std.specs.Prelude.{codes, pos}
 use Rattle.std.specs.List.{list_all}
 use Rattle.std.specs.Str.{encode_utf8_all, all_scalars}
@@ -12,18 +12,17 @@ use Rattle.ix_lexer.specs.declared.token.TokenKind.{TokenKind}
 use Rattle.ix_lexer.specs.declared.token.TokenKind.TheVariants as kind
 use Rattle.ix_lexer.specs.declared.fixed.TheConstants.{IF, NULL, THROW, NEW, DOT, SEMICOLON, OPEN_PAREN, CLOSE_PAREN, OPEN_BRACE, CLOSE_BRACE, EQUAL, LESS, GREATER_OR_EQUAL, OR_ELSE}
 use Rattle.ix_lexer.specs.Characters.{Text, backslash, starts_identifier, continues_identifier}
-use Rattle.ix_lexer.specs.Elements.{signs, IsStringBody, nothing, plain}
+use Rattle.ix_lexer.specs.Elements.{signs, nothing, plain}
 use Rattle.ix_lexer.specs.Scan.{sign}
-use Rattle.ix_lexer.specs.Tokens.{Longest, kind_of, words}
-use Rattle.ix_lexer.proofs.LongestElement.{found}
-use Rattle.ix_insertions.specs.Woven.{kinds, IsInserted}
+use Rattle.ix_lexer.specs.Tokens.{Longest, words}
+use Rattle.ix_insertions.specs.Woven.{kinds}
 use Rattle.ix_insertions.specs.Names.{IsName, Piece}
 use Rattle.ix_insertions.proofs.LongestAgain.{starts_ascii, continues_ascii, goes_on}
 use Rattle.ix_insertions.proofs.SignFronts.{begins_word}
-use Rattle.ix_insertions.proofs.Readings.{longest_word, longest_zero, longest_blank, longest_string, longest_sign, ReadsAs, read_none, read_gap, read_one, read_as, two_pieces, inserted_piece}
+use Rattle.ix_insertions.proofs.Readings.{longest_word, longest_zero, longest_blank, longest_string, longest_sign, ReadsAs, read_none, read_gap, read_one, read_as}
 use Rattle.ix_bare.specs.Bare.{nowhere}
 use Rattle.ix_guard.specs.Accesses.{Access}
-use Rattle.ix_guard.specs.Tests.{test_of, test}
+use Rattle.ix_guard.specs.Tests.{test}
 use Rattle.ix_guarded_text.proofs.TestTokens.{test_tokens}
 
 -- ---- signs and words that are written out

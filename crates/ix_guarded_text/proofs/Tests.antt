@@ -1,9 +1,8 @@
 -- The tests before a statement: their bytes are their tokens, and these are statements.
-use Rattle.std.proofs.Common.{◌≡◌, ℕ, Bool, true, false, if◌then◌else◌, List, [], ◌∷◌, ◌++◌, map, Option, Some, None, refl, sym, ap, subst, ◌∙◌, append_assoc, append-nil}
+use Rattle.std.proofs.Common.{◌≡◌, ℕ, true, false, if◌then◌else◌, List, [], ◌∷◌, ◌++◌, map, refl, sym, ap, subst, ◌∙◌, append_assoc, append-nil}
 use Rattle.std.specs.Prelude.{codes}
 use Rattle.ix_text.specs.declared.span.Span.{Span}
 use Rattle.ix_lexer.specs.declared.token.Token.{Token}
-use Rattle.ix_lexer.specs.Characters.{Text}
 use Rattle.ix_tree.specs.declared.decl.LocalDecl.{LocalDecl}
 use Rattle.ix_tree.specs.declared.expr.Expr.{Expr}
 use Rattle.ix_tree.specs.declared.stmt.Stmt.{Stmt}
@@ -34,7 +33,7 @@ behind_bytes : (site : Site) (changes : Changes) (before : List Pair) (accesses 
 behind_bytes site changes before [] = refl
 behind_bytes site changes before (access ∷ rest) =
     elim (is_tested site changes before access) as (λ t. (if t then test access ++ tests_behind site changes (before ++ pair_of site access ∷ []) rest else tests_behind site changes before rest)
-      ≡ bytes_of (if t then access ∷ tested_behind site changes (before ++ pair_of site access ∷ []) rest else tested_behind site changes before rest)) [
+    ≡ bytes_of (if t then access ∷ tested_behind site changes (before ++ pair_of site access ∷ []) rest else tested_behind site changes before rest)) [
       | true ↦ ap (λ l. test access ++ l) (behind_bytes site changes (before ++ pair_of site access ∷ []) rest)
       | false ↦ behind_bytes site changes before rest
     ]

@@ -1,14 +1,12 @@
 -- A statement with its tests in a block: the tokens that are put around it, and what they are.
-use Rattle.std.proofs.Common.{◌≡◌, ℕ, Bool, true, false, List, [], ◌∷◌, ◌++◌, map, Option, Some, None, refl, sym, ap, subst, ◌∙◌, append_assoc, append-nil}
+use Rattle.std.proofs.Common.{◌≡◌, ℕ, Bool, false, List, [], ◌∷◌, ◌++◌, map, refl, sym, ap, subst, append_assoc, append-nil}
 use Rattle.std.specs.Prelude.{codes}
 use Rattle.ix_text.specs.declared.span.Span.{Span}
 use Rattle.ix_lexer.specs.declared.token.Token.{Token}
-use Rattle.ix_lexer.specs.declared.fixed.TheConstants.{OPEN_BRACE, CLOSE_BRACE}
 use Rattle.ix_tree.specs.declared.stmt.Stmt.{Stmt}
 use Rattle.ix_tree.specs.declared.stmt.StmtKind.TheVariants as s
 use Rattle.ix_grammar.specs.declared.found.FoundStmt.{FoundStmt}
 use Rattle.ix_grammar.specs.Nodes.{across}
-use Rattle.ix_grammar.specs.Patterns.{sign}
 use Rattle.ix_grammar.specs.StmtGrammar as g
 use Rattle.ix_grammar.specs.StmtGrammar.{IsStmt, IsStmts}
 use Rattle.ix_bare.specs.Bare.{nowhere, bare_stmt}
@@ -16,11 +14,11 @@ use Rattle.ix_bare.proofs.StmtsAgain.{node_same, block_same}
 use Rattle.ix_insertions.specs.Woven.{Added, is_word_like, Woven, done, keep, before, behind}
 use Rattle.ix_guard.specs.declared.insertion.Insertion.{Insertion}
 use Rattle.ix_guard.specs.Accesses.{Access}
-use Rattle.ix_guard.specs.Guards.{inserted, opening, closing}
-use Rattle.ix_guard.specs.Trees.{Guarded, alone, in_block, test_tree, test_trees}
+use Rattle.ix_guard.specs.Guards.{opening, closing}
+use Rattle.ix_guard.specs.Trees.{Guarded, alone, test_trees}
 use Rattle.ix_guarded_text.proofs.NamedAccesses.{AllNamed}
 use Rattle.ix_guarded_text.proofs.TestTexts.{open_token, close_token}
-use Rattle.ix_guarded_text.proofs.Tests.{bytes_of, tokens_of, opening_inserted, closing_inserted, Listed, one_statement, listed_both, tests_listed}
+use Rattle.ix_guarded_text.proofs.Tests.{bytes_of, tokens_of, opening_inserted, closing_inserted, one_statement, listed_both, tests_listed}
 
 -- ---- insertions
 

@@ -1,9 +1,9 @@
 -- A text has no escape where its pieces have none and each ends in another character than a backslash.
-use Rattle.std.proofs.Common.{◌≡◌, ℕ, ◌+◌, ◌==◌, ◌&&◌, ◌||◌, not, Bool, true, false, if◌then◌else◌, List, [], ◌∷◌, ◌++◌, length, Option, Some, None, refl, sym, ap, subst, ◌∙◌, arith, inl, inr}
+use Rattle.std.proofs.Common.{◌≡◌, ℕ, ◌+◌, ◌==◌, ◌&&◌, ◌||◌, not, Bool, true, false, if◌then◌else◌, [], ◌∷◌, ◌++◌, Some, None, refl, sym, ap, ◌∙◌}
 use Rattle.std.specs.List.{list_all}
 use Rattle.std.proofs.lemmas.Bool.{and_parts, or_parts}
 use Rattle.ix_lexer.specs.Characters.{Text, backslash, first}
-use Rattle.ix_lexer.specs.Tokens.{size, escape_from, first_escape}
+use Rattle.ix_lexer.specs.Tokens.{size, escape_from}
 use Rattle.ix_lexer.proofs.Scans.{not_true}
 
 -- whether there is an escape, behind an even number of backslashes or behind an odd one

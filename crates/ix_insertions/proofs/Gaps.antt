@@ -1,13 +1,13 @@
 -- Tokens off the front of a text, with the gaps before them.
-use Rattle.std.proofs.Common.{◌≡◌, ℕ, zero, suc, ◌+◌, ◌<◌, ◌≤◌, ◌==◌, ◌&&◌, ◌||◌, not, nat_lt, Bool, true, false, List, [], ◌∷◌, ◌++◌, length, Option, Some, None, refl, sym, ap, subst, ◌∙◌, append_assoc, append-nil, length-append, if◌then◌else◌, arith, inl, inr, lit<}
-use Rattle.std.specs.List.{list_all, Contains, position_from}
+use Rattle.std.proofs.Common.{◌≡◌, ℕ, ◌+◌, ◌<◌, ◌≤◌, ◌==◌, ◌&&◌, ◌||◌, not, nat_lt, Bool, true, false, List, [], ◌∷◌, ◌++◌, length, Option, Some, None, refl, sym, ap, subst, ◌∙◌, append_assoc, append-nil, length-append, if◌then◌else◌, arith, lit<}
+use Rattle.std.specs.List.{list_all, Contains}
 use Rattle.std.specs.Char.{is_ascii_digit}
 use Rattle.std.specs.Cmp.Lexicographic.{pointwise}
 use Rattle.std.specs.Prelude.{nat_eq}
 use Rattle.std.specs.Str.{encode_utf8_all}
 use borrow.Author.Tests.{eqb-true}
 use Rattle.std.specs.Int.{cast_signed, w32}
-use Rattle.std.proofs.lemmas.Bool.{and_parts, or_cases, ltb-true}
+use Rattle.std.proofs.lemmas.Bool.{and_parts}
 use Rattle.ix_lexer.specs.declared.elements.Element.{Element}
 use Rattle.ix_lexer.specs.declared.elements.Element.TheVariants as element
 use Rattle.ix_lexer.specs.declared.token.Token.{Token}
@@ -22,8 +22,8 @@ use Rattle.ix_lexer.proofs.Scans.{not_true}
 use Rattle.ix_lexer.proofs.ReadingSteps.{size_append}
 use Rattle.ix_insertions.specs.Woven.{is_word_like}
 use Rattle.ix_insertions.proofs.SignFronts.{holds_in, sign_parts}
-use Rattle.ix_insertions.proofs.LongestAgain.{is_closed, is_wordy, InLine, Front, ends, same, inserted, longest_again, starts_ascii, continues_ascii, goes_on, digit_starts_none, digit_low, white_low, not_wordy_white, not_empty}
-use Rattle.ix_insertions.proofs.Escapes.{ends_plain, ends_both}
+use Rattle.ix_insertions.proofs.LongestAgain.{is_closed, is_wordy, Front, same, longest_again, starts_ascii, continues_ascii, digit_starts_none, not_wordy_white, not_empty}
+use Rattle.ix_insertions.proofs.Escapes.{ends_plain}
 
 -- ---- what a token's element is
 

@@ -1,6 +1,5 @@
 -- The tokens of a text in which texts are inserted between its tokens.
-use Rattle.std.proofs.Common.{◌≡◌, ℕ, zero, suc, ◌+◌, ◌-◌, ◌<◌, ◌≤◌, ◌==◌, ◌&&◌, ◌||◌, not, Bool, true, false, List, [], ◌∷◌, ◌++◌, length, map, take, drop, Option, Some, None, refl, sym, ap, subst, ◌∙◌, append_assoc, append-nil, length-append, arith, inl, inr}
-use Rattle.std.specs.List.{list_all}
+use Rattle.std.proofs.Common.{◌≡◌, ℕ, zero, suc, ◌+◌, ◌-◌, ◌≤◌, ◌==◌, ◌&&◌, ◌||◌, not, Bool, true, false, List, [], ◌∷◌, ◌++◌, length, take, drop, Some, refl, sym, ap, subst, ◌∙◌, append_assoc, arith, inl, inr}
 use Rattle.std.specs.Str.{encode_utf8_all, all_scalars}
 use Rattle.std.proofs.lemmas.Bool.{and_parts, or_cases}
 use Rattle.std.proofs.lemmas.Str.{encodes-append}
@@ -8,16 +7,14 @@ use Rattle.ix_lexer.specs.declared.elements.Element.{Element}
 use Rattle.ix_lexer.specs.declared.elements.Element.TheVariants as element
 use Rattle.ix_lexer.specs.declared.token.Token.{Token}
 use Rattle.ix_lexer.specs.declared.token.TokenKind.{TokenKind}
-use Rattle.ix_lexer.specs.Characters.{Text, backslash}
+use Rattle.ix_lexer.specs.Characters.{Text}
 use Rattle.ix_lexer.specs.Scan.{stays_in_line}
-use Rattle.ix_lexer.specs.Elements.{IsElement}
-use Rattle.ix_lexer.specs.Tokens.{Longest, kind_of, size, token, Reads, none, gap, one, first_escape, Spells, Complete, Tokens}
+use Rattle.ix_lexer.specs.Tokens.{Longest, kind_of, size, token, Reads, one, Tokens}
 use Rattle.ix_lexer.proofs.OneReading.{reads_on}
-use Rattle.ix_lexer.proofs.ReadingSteps.{size_append}
-use Rattle.ix_insertions.specs.Woven.{kinds, Added, with_added, IsReadAs, IsInserted, is_word_like, may_open, Woven, done, keep, before, behind}
-use Rattle.ix_insertions.proofs.LongestAgain.{is_closed, is_wordy, opens, InLine, Front, ends, same, inserted, longest_again}
-use Rattle.ix_insertions.proofs.Escapes.{escapes, none_escapes, escapes_none, ends_plain, behind_plain, both_plain, ends_both, no_backslash}
-use Rattle.ix_insertions.proofs.Gaps.{IsTokenElement, token_element, begins_in_line, token_ends_plain, Gaps, Step, step, only_gaps, wordy_kind}
+use Rattle.ix_insertions.specs.Woven.{kinds, Added, with_added, IsInserted, is_word_like, may_open, Woven, done, keep, before, behind}
+use Rattle.ix_insertions.proofs.LongestAgain.{is_wordy, opens, Front, ends, same, inserted, longest_again}
+use Rattle.ix_insertions.proofs.Escapes.{escapes, none_escapes, escapes_none, ends_plain, behind_plain, both_plain, no_backslash}
+use Rattle.ix_insertions.proofs.Gaps.{IsTokenElement, token_element, begins_in_line, token_ends_plain, Step, step, only_gaps, wordy_kind}
 
 -- ---- lists
 

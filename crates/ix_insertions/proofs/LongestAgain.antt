@@ -1,13 +1,13 @@
 -- The longest element at the front of a text is the longest one of another text that goes on behind it with the same character, or with one of those with which an inserted text begins.
-use Rattle.std.proofs.Common.{◌≡◌, ℕ, zero, suc, ◌+◌, ◌<◌, ◌≤◌, ◌==◌, ◌&&◌, ◌||◌, not, nat_lt, nat_le, Bool, true, false, List, [], ◌∷◌, ◌++◌, length, Option, Some, None, refl, sym, ap, subst, ◌∙◌, append_assoc, length-append, arith, inl, inr, lit<}
+use Rattle.std.proofs.Common.{◌≡◌, ℕ, ◌+◌, ◌<◌, ◌≤◌, ◌==◌, ◌&&◌, ◌||◌, not, nat_lt, nat_le, Bool, true, false, [], ◌∷◌, ◌++◌, length, Some, refl, sym, ap, subst, ◌∙◌, append_assoc, length-append, arith, inl, inr, lit<}
 use Rattle.std.specs.List.{list_all, Contains}
-use Rattle.std.specs.Char.{is_ascii_digit, is_ascii_alphabetic, is_ascii_alphanumeric}
+use Rattle.std.specs.Char.{is_ascii_digit, is_ascii_alphanumeric}
 use Rattle.std.proofs.lemmas.Bool.{and_parts, or_cases, ltb-true, ltb-false, leb-true, agree_below_at}
 use borrow.Author.Tests.{eqb-true}
 use Rattle.unicode_ident.proofs.IdentLemmas.{is_xid_start-ascii, is_xid_continue-ascii}
 use Rattle.ix_lexer.specs.declared.elements.Element.{Element}
 use Rattle.ix_lexer.specs.declared.elements.Element.TheVariants as element
-use Rattle.ix_lexer.specs.Characters.{Text, first, starts_identifier, continues_identifier, is_white_space, ends_line}
+use Rattle.ix_lexer.specs.Characters.{Text, starts_identifier, continues_identifier, is_white_space}
 use Rattle.ix_lexer.specs.Elements.{IsElement, IsStringBody, closes_comment, signs, white_space, line_comment, comment, open_comment, word, number, quoted, open_string, sign}
 use Rattle.ix_lexer.specs.Scan.{stays_in_line, closing_quote, comment_end}
 use Rattle.ix_lexer.specs.Tokens.{Longest}

@@ -1,5 +1,5 @@
 -- The text of an identifier among the tokens of a text is one that is read as an identifier.
-use Rattle.std.proofs.Common.{◌≡◌, ℕ, ◌+◌, ◌==◌, ◌&&◌, not, Bool, true, false, List, [], ◌∷◌, ◌++◌, length, Option, Some, None, refl, sym, ap, subst, ◌∙◌, if◌then◌else◌}
+use Rattle.std.proofs.Common.{◌≡◌, ℕ, ◌==◌, ◌&&◌, not, Bool, true, false, List, [], ◌∷◌, ◌++◌, Option, Some, None, refl, sym, ap, subst, ◌∙◌, if◌then◌else◌}
 use Rattle.std.specs.List.{list_all}
 use Rattle.std.specs.Int.{cast_signed, w32}
 use Rattle.std.specs.Str.{encode_utf8_all, all_scalars}
@@ -12,7 +12,7 @@ use Rattle.ix_lexer.specs.declared.token.TokenKind.TheVariants as kind
 use Rattle.ix_lexer.specs.Characters.{Text, starts_identifier, continues_identifier}
 use Rattle.ix_lexer.specs.Elements.{IsElement, white_space, line_comment, comment, open_comment, word, number, quoted, open_string, sign}
 use Rattle.ix_lexer.specs.Numbers.{number_of, is_hexadecimal}
-use Rattle.ix_lexer.specs.Tokens.{Longest, kind_of, fixed_or, number_kind, number_in, words, between_quotes, token, Reads, none, gap, one, Tokens}
+use Rattle.ix_lexer.specs.Tokens.{kind_of, fixed_or, number_kind, number_in, words, between_quotes, Reads, none, gap, one, Tokens}
 use Rattle.ix_insertions.specs.Names.{IsName, IsNamed, HaveNames}
 
 scalars_both : (u v : Text) → all_scalars (u ++ v) ≡ true → (all_scalars u ≡ true) × (all_scalars v ≡ true)

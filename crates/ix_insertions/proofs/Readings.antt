@@ -1,5 +1,5 @@
 -- Readings of texts that are written out, and pieces put together.
-use Rattle.std.proofs.Common.{◌≡◌, ℕ, zero, suc, ◌+◌, ◌<◌, ◌≤◌, ◌==◌, ◌&&◌, ◌||◌, not, Bool, true, false, List, [], ◌∷◌, ◌++◌, length, take, map, Option, Some, None, refl, sym, ap, subst, ◌∙◌, append_assoc, append-nil, length-append, arith, if◌then◌else◌, lit<}
+use Rattle.std.proofs.Common.{◌≡◌, ℕ, ◌+◌, ◌<◌, ◌==◌, not, Bool, true, false, List, [], ◌∷◌, ◌++◌, length, Some, refl, sym, ap, subst, ◌∙◌, append_assoc, length-append, arith, lit<}
 use Rattle.std.specs.List.{list_all, prefix_len}
 use Rattle.std.specs.Char.{is_ascii_digit}
 use Rattle.std.specs.Str.{encode_utf8_all, all_scalars}
@@ -9,18 +9,17 @@ use Rattle.ix_lexer.specs.declared.elements.Element.{Element}
 use Rattle.ix_lexer.specs.declared.elements.Element.TheVariants as element
 use Rattle.ix_lexer.specs.declared.token.Token.{Token}
 use Rattle.ix_lexer.specs.declared.token.TokenKind.{TokenKind}
-use Rattle.ix_lexer.specs.declared.token.TokenKind.TheVariants as kind
 use Rattle.ix_lexer.specs.Characters.{Text, backslash, starts_identifier, continues_identifier, is_white_space}
 use Rattle.ix_lexer.specs.Elements.{IsStringBody}
-use Rattle.ix_lexer.specs.Scan.{Found, quoted, closing_quote, sign, element_at}
+use Rattle.ix_lexer.specs.Scan.{quoted, closing_quote, sign, element_at}
 use Rattle.ix_lexer.specs.Tokens.{Longest, kind_of, size, token, Reads, none, gap, one}
 use Rattle.ix_lexer.proofs.LongestElement.{found}
 use Rattle.ix_lexer.proofs.OneReading.{take_front, reads_on}
 use Rattle.ix_lexer.proofs.ReadingSteps.{size_append, longest_take}
 use Rattle.ix_lexer.proofs.Scans.{quote_found}
 use Rattle.ix_insertions.specs.Woven.{kinds, IsReadAs, IsInserted}
-use Rattle.ix_insertions.specs.Names.{IsName, Piece}
-use Rattle.ix_insertions.proofs.LongestAgain.{starts_ascii, continues_ascii, goes_on}
+use Rattle.ix_insertions.specs.Names.{Piece}
+use Rattle.ix_insertions.proofs.LongestAgain.{starts_ascii}
 use Rattle.ix_insertions.proofs.SignFronts.{begins_word}
 
 -- ---- what is found is the longest
@@ -138,4 +137,3 @@ inserted_piece bytes first later tokens p is = record {
   plain = ap (list_all (λ c. not (c == backslash))) (sym is) ∙ p.plain;
   read = λ at rest. subst (λ t. IsReadAs t tokens at rest) is (p.read at rest);
 }
-

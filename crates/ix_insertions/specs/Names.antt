@@ -1,5 +1,5 @@
 -- Texts that are identifiers, and pieces of text that are read as tokens wherever they stand.
-use Rattle.std.specs.Prelude.{◌≡◌, ℕ, ◌==◌, Bool, true, not, List, [], ◌∷◌, Some}
+use Rattle.std.specs.Prelude.{◌≡◌, ℕ, ◌==◌, true, not, List, [], ◌∷◌, Some}
 use Rattle.std.specs.List.{list_all}
 use Rattle.std.specs.Str.{encode_utf8_all, all_scalars}
 use Rattle.ix_lexer.specs.declared.elements.Element.TheVariants as element
