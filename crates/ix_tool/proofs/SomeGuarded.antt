@@ -52,7 +52,7 @@ pub named_bytes : (bytes : List ℕ) (program : Program) → Found bytes (Whole 
 named_bytes bytes program found = whole_named bytes program (Whole program) found refl
 
 some_guarded : (bytes : List ℕ) (errors : List Error) → IsNamed bytes → (text : List ℕ) × IsGuarded bytes errors text
-some_guarded bytes errors named = (guarded_by bytes named.tree.source errors, record { named = named; text_is = refl })
+some_guarded bytes errors whole = (guarded_by bytes whole.tree.source errors, record { named = whole; text_is = refl })
 
 -- ---- the answer
 
