@@ -1,0 +1,4 @@
+pub mod NotesAlike
+pub mod AnnotsAlike
+pub mod TypesAlike
+pub mod ScopesAlike

@@ -1,0 +1,2 @@
+-- Notes without their places.
+pub mod Alike
