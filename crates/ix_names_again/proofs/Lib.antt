@@ -2,3 +2,4 @@ pub mod NotesAlike
 pub mod AnnotsAlike
 pub mod TypesAlike
 pub mod ScopesAlike
+pub mod ExpressionsAlike
