@@ -153,7 +153,7 @@ variable_alike s assigned name = by (is_pending s.pending name.text)
     by true = record { ty = refl; notes = is_wrong rule.UnknownName name.span nowhere }
     by false = known_alike s assigned name (meant name.text s.names)
 
-some_bare : {A B : Type 0} (f : A → B) (x : Option A) → is_some (bare_maybe f x) ≡ is_some x
+pub some_bare : {A B : Type 0} (f : A → B) (x : Option A) → is_some (bare_maybe f x) ≡ is_some x
 some_bare f None = refl
 some_bare f (Some x) = refl
 

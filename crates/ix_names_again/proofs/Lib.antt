@@ -3,3 +3,5 @@ pub mod AnnotsAlike
 pub mod TypesAlike
 pub mod ScopesAlike
 pub mod ExpressionsAlike
+pub mod DeclaratorsAlike
+pub mod StatementsAlike

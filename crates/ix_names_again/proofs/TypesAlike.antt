@@ -1,5 +1,5 @@
 -- Types and declarations of variables say the same wherever they stand.
-use Rattle.std.proofs.Common.{◌≡◌, ℕ, Bool, true, false, List, [], ◌∷◌, ◌++◌, map, Option, Some, None, refl, sym, ap}
+use Rattle.std.proofs.Common.{◌≡◌, ℕ, Bool, true, false, List, [], ◌∷◌, ◌++◌, map, Option, Some, None, refl, sym, ap, subst}
 use Rattle.ix_text.specs.declared.span.Span.{Span}
 use Rattle.ix_core.specs.declared.claim.Claim.{Claim}
 use Rattle.ix_tree.specs.declared.annot.Annot.{Annot}
@@ -7,10 +7,11 @@ use Rattle.ix_tree.specs.declared.annot.BaseTree.{BaseTree}
 use Rattle.ix_tree.specs.declared.annot.BaseTree.TheVariants as tree
 use Rattle.ix_tree.specs.declared.annot.TypeTree.{TypeTree}
 use Rattle.ix_annot.specs.declared.scope.Target.{Target}
+use Rattle.ix_annot.specs.declared.scope.Target.TheVariants as on
 use Rattle.ix_annot.specs.Named.{Names}
 use Rattle.ix_meaning.specs.declared.note.Meaning.TheVariants.{ClassNamed}
 use Rattle.ix_meaning.specs.declared.note.Rule.TheVariants as rule
-use Rattle.ix_meaning.specs.Annotated.{Declaration, given, aimed, names_nothing, is_int_tree, target_before, class_use, based, written, element_claims, declaration}
+use Rattle.ix_meaning.specs.Annotated.{Declaration, given, aimed, names_nothing, is_int_tree, target_before, class_use, based, written, element_claims, declaration, variable}
 use Rattle.ix_bare.specs.Bare.{bare_annot, bare_base, bare_type}
 use Rattle.ix_names_again.specs.Alike.{AreAlike}
 use Rattle.ix_names_again.proofs.NotesAlike.{none, both, used, is_wrong, SameJudged}
@@ -55,3 +56,11 @@ declaration_alike class names first second before ty =
       claims = rw (one.claims, two.claims) refl;
       notes = both (written_alike class ty []).notes (both one.notes two.notes);
     }
+
+-- of a variable that isn't static
+pub variable_alike : (class : List ℕ → Option ℕ) (names others : Names) → others ≡ names → (before : List Annot) (ty : TypeTree)
+    → SameDeclaration (variable class names before ty) (variable class others (map bare_annot before) (bare_type ty))
+variable_alike class names others e before ty =
+    let was = variable class names before ty in
+    subst (λ n. SameDeclaration was (variable class n (map bare_annot before) (bare_type ty))) (sym e)
+    (subst (λ t. SameDeclaration was (declaration class names t on.Array (map bare_annot before) (bare_type ty))) (sym (target_bare ty)) (declaration_alike class names (target_before ty) on.Array before ty))
