@@ -5,3 +5,5 @@ pub mod ScopesAlike
 pub mod ExpressionsAlike
 pub mod DeclaratorsAlike
 pub mod StatementsAlike
+pub mod LiteralsAlike
+pub mod MembersAlike
