@@ -7,3 +7,6 @@ pub mod DeclaratorsAlike
 pub mod StatementsAlike
 pub mod LiteralsAlike
 pub mod MembersAlike
+pub mod FieldsAgain
+pub mod WorldsAgain
+pub mod SourcesAlike

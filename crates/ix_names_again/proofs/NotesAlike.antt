@@ -24,8 +24,8 @@ both {a} {b} {c} {d} x y = record { same = map_both bare_note a c ∙ ap₂ (λ 
 pub flipped : {a b : List Note} → AreAlike a b → AreAlike b a
 flipped x = record { same = sym x.same }
 
-pub then : {a b c : List Note} → AreAlike a b → AreAlike b c → AreAlike a c
-then x y = record { same = x.same ∙ y.same }
+pub chained : {a b c : List Note} → AreAlike a b → AreAlike b c → AreAlike a c
+chained x y = record { same = x.same ∙ y.same }
 
 pub used : {a b : List Note} (p q : Span) (m : Meaning) → AreAlike a b → AreAlike (Use p m ∷ a) (Use q m ∷ b)
 used p q m x = record { same = ap (λ l. Use nowhere m ∷ l) x.same }
