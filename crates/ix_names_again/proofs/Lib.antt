@@ -10,3 +10,6 @@ pub mod MembersAlike
 pub mod FieldsAgain
 pub mod WorldsAgain
 pub mod SourcesAlike
+pub mod ErrorsAgain
+pub mod LimitsAgain
+pub mod MeansAgain

@@ -1,2 +1,3 @@
--- Notes without their places.
+-- Notes without their places, and what tables of names say of their places.
 pub mod Alike
+pub mod Same
