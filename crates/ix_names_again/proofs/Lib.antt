@@ -13,3 +13,4 @@ pub mod SourcesAlike
 pub mod ErrorsAgain
 pub mod LimitsAgain
 pub mod MeansAgain
+pub mod UncountedAnnots
