@@ -14,3 +14,5 @@ pub mod ErrorsAgain
 pub mod LimitsAgain
 pub mod MeansAgain
 pub mod UncountedAnnots
+pub mod CountedAnnots
+pub mod JointFields
