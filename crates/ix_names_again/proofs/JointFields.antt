@@ -75,10 +75,10 @@ trimmed_or_not (Some x) d shares w then_so else_so =
 
 -- ---- declarations
 
-abbrev first_target : LocalDecl → Target
+abbrev pub first_target : LocalDecl → Target
 first_target d = if d.mods.is_static then on.Other else target_before d.ty
 
-abbrev second_target : LocalDecl → Target
+abbrev pub second_target : LocalDecl → Target
 second_target d = if d.mods.is_static then on.Other else on.Array
 
 before_is_variable : (ty : TypeTree) → is_variable (target_before ty) ≡ true
@@ -89,7 +89,7 @@ before_is_variable ty = by (is_int_tree ty.base) (ty.depth == 0)
     by true false = refl
     by false b = refl
 
-abbrev Fine : Target → Target → List Annot → TypeTree → Type 0
+abbrev pub Fine : Target → Target → List Annot → TypeTree → Type 0
 Fine first second before ty = AllSettled first before × AllSettled second ty.annots
 
 module _ (class : ClassOf) (names : Names) (first second : Target) (one : is_variable first ≡ true) (two : is_variable second ≡ true) (before : List Annot) (ty : TypeTree) where
@@ -206,3 +206,79 @@ clean_field l f d same fine clean =
     let rest : AllOf IsClean (declares_note d.name.span f.ty (of_variable (if f.is_static then [] else (field_declaration l f d).claims)) ++ init_notes d.init (member_scope l (not f.is_static)) f.ty) =
         subst (λ (claims : List Claim). AllOf IsClean (declares_note d.name.span f.ty (of_variable (if f.is_static then [] else claims)) ++ init_notes d.init (member_scope l (not f.is_static)) f.ty)) t.claims c.1 in
     all_clean_both wrong _ a.0 (all_clean_both double _ b.0 (all_clean_both (field_declaration l f d).notes _ (t.clean fine c.0) rest))
+
+-- ---- all members of a class
+
+abbrev FineOf : Mods → TypeTree → Type 0
+FineOf mods ty = Fine (if mods.is_static then on.Other else target_before ty) (if mods.is_static then on.Other else on.Array) mods.annots ty
+
+-- Nothing is wrong with what the field says that began the declaration.
+abbrev FineFirst : Option LocalDecl → Type 0
+FineFirst None = Unit {0}
+FineFirst (Some first) = FineOf first.mods first.ty
+
+module _ (l : Place) (named : List ℕ → Option ℕ) where
+  abbrev field_named : ℕ → ℕ → LocalDecl → List Note
+  field_named i next d = named_member l named i next (member.Field d)
+
+  abbrev double : ℕ → LocalDecl → List Note
+  double i d = duplicate_name (is_taken (named d.name.text) i) d.name.span
+
+  trim_one : (i next : ℕ) (d : LocalDecl) → AllOf IsClean (field_named i next d) → field_named i next (trimmed d) ≡ field_named i next d
+  trim_one i next d clean =
+      let c = clean_parts (double i d) _ clean in
+      ap (λ (f : Field). double i d ++ field_notes l f (trimmed d)) (field_trimmed l.world.class l.class next d)
+      ∙ ap (λ (ns : List Note). double i d ++ ns) (notes_trim l (field_of l.world.class l.class next d) d refl c.1)
+
+  trim_field : (i next : ℕ) (first : Option LocalDecl) (d : LocalDecl) → SharesWith first d → is_written_type d.ty ≡ true → AllOf IsClean (field_named i next d) → field_named i next (field_in first d) ≡ field_named i next d
+  trim_field i next first d shares w clean =
+      trimmed_or_not first d shares w (λ x is m t e f. ap (field_named i next) e ∙ trim_one i next d clean) (λ e f. ap (field_named i next) e)
+
+  pub members_trim : (i next : ℕ) (first : Option LocalDecl) (ms : List Member) → AllShare first ms → AllOf IsClean (member_notes l named i next ms)
+      → member_notes l named i next (members_behind first ms) ≡ member_notes l named i next ms
+  members_trim i next first [] shares clean = refl
+  members_trim i next first (member.Field d ∷ ms) shares clean =
+      let c = clean_parts (field_named i next d) (member_notes l named (i + 1) (next_field next d) ms) clean in
+      ap₂ (λ (xs : List Note) (ys : List Note). xs ++ ys) (trim_field i next first d shares.0 shares.1 c.0) (members_trim (i + 1) (next_field next d) (Some (first_of first d)) ms shares.2 c.1)
+  members_trim i next first (member.Method m ∷ ms) shares clean =
+      let c = clean_parts (named_member l named i next (member.Method m)) (member_notes l named (i + 1) next ms) clean in
+      ap (λ (ys : List Note). named_member l named i next (member.Method m) ++ ys) (members_trim (i + 1) next None ms shares c.1)
+
+  -- one field, by itself, and the field that begins its declaration
+  abbrev IsFine : ℕ → ℕ → Option LocalDecl → LocalDecl → Type 0
+  IsFine i next first d = AllOf IsClean (field_named i next d) × FineFirst (Some (first_of first d))
+
+  fine_again : (i next : ℕ) (first : Option LocalDecl) (d : LocalDecl) → FineFirst first → AllOf IsClean (field_named i next (field_in first d)) → (x : LocalDecl) → first ≡ Some x → x.mods ≡ d.mods → x.ty ≡ d.ty
+      → field_in first d ≡ trimmed d → first_of first d ≡ x → IsFine i next first d
+  fine_again i next first d fine clean x is m t e f =
+      let fine_x : FineOf x.mods x.ty = subst FineFirst is fine in
+      let fine_d : FineOf d.mods d.ty = subst (λ (mods : Mods). FineOf mods d.ty) m (subst (λ (ty : TypeTree). FineOf x.mods ty) t fine_x) in
+      let kept : AllOf IsClean (double i d ++ field_notes l (field_of l.world.class l.class next (trimmed d)) (trimmed d)) = subst (λ (y : LocalDecl). AllOf IsClean (field_named i next y)) e clean in
+      let c = clean_parts (double i d) _ kept in
+      let own : AllOf IsClean (field_notes l (field_of l.world.class l.class next d) (trimmed d)) = subst (λ (y : Field). AllOf IsClean (field_notes l y (trimmed d))) (field_trimmed l.world.class l.class next d) c.1 in
+      (all_clean_both (double i d) _ c.0 (clean_field l (field_of l.world.class l.class next d) d refl fine_d own), subst (λ (y : LocalDecl). FineOf y.mods y.ty) (sym f) fine_x)
+
+  fine_alone : (i next : ℕ) (first : Option LocalDecl) (d : LocalDecl) → AllOf IsClean (field_named i next (field_in first d)) → field_in first d ≡ d → first_of first d ≡ d → IsFine i next first d
+  fine_alone i next first d clean e f =
+      let kept : AllOf IsClean (field_named i next d) = subst (λ (y : LocalDecl). AllOf IsClean (field_named i next y)) e clean in
+      let c = clean_parts (double i d) _ kept in
+      (kept, subst (λ (y : LocalDecl). FineOf y.mods y.ty) (sym f) (fine_field l (field_of l.world.class l.class next d) d refl c.1))
+
+  pub members_clean : (i next : ℕ) (first : Option LocalDecl) (ms : List Member) → FineFirst first → AllShare first ms → AllOf IsClean (member_notes l named i next (members_behind first ms))
+      → AllOf IsClean (member_notes l named i next ms)
+  members_clean i next first [] fine shares clean = tt
+  members_clean i next first (member.Field d ∷ ms) fine shares clean =
+      let c = clean_parts (field_named i next (field_in first d)) (member_notes l named (i + 1) (next_field next d) (members_behind (Some (first_of first d)) ms)) clean in
+      let here : IsFine i next first d = trimmed_or_not first d shares.0 shares.1 (fine_again i next first d fine c.0) (fine_alone i next first d c.0) in
+      all_clean_both (field_named i next d) (member_notes l named (i + 1) (next_field next d) ms) here.0 (members_clean (i + 1) (next_field next d) (Some (first_of first d)) ms here.1 shares.2 c.1)
+  members_clean i next first (member.Method m ∷ ms) fine shares clean =
+      let c = clean_parts (named_member l named i next (member.Method m)) (member_notes l named (i + 1) next (members_behind None ms)) clean in
+      all_clean_both (named_member l named i next (member.Method m)) (member_notes l named (i + 1) next ms) c.0 (members_clean (i + 1) next None ms tt shares c.1)
+
+pub fields_trim : (class : ClassOf) (c next : ℕ) (first : Option LocalDecl) (ms : List Member) → AllShare first ms → fields_in class c next (members_behind first ms) ≡ fields_in class c next ms
+fields_trim class c next first [] shares = refl
+fields_trim class c next first (member.Field d ∷ ms) shares =
+    ap₂ (λ (f : Field) (fs : List Field). f ∷ fs)
+    (trimmed_or_not first d shares.0 shares.1 (λ x is m t e f. ap (field_of class c next) e ∙ field_trimmed class c next d) (λ e f. ap (field_of class c next) e))
+    (fields_trim class c (next_field next d) (Some (first_of first d)) ms shares.2)
+fields_trim class c next first (member.Method m ∷ ms) shares = fields_trim class c next None ms shares

@@ -16,3 +16,4 @@ pub mod MeansAgain
 pub mod UncountedAnnots
 pub mod CountedAnnots
 pub mod JointFields
+pub mod NotesAnywhere

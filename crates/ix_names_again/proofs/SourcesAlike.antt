@@ -55,7 +55,7 @@ default_alike w c k =
     by false = implicit_alike w (w.parent c) k.name.span nowhere
 
 -- the notes of a class that has these members
-abbrev class_notes_of : World → List (Option ℕ) → List Signature → ℕ → ℕ → ClassDecl → List Member → List Note
+abbrev pub class_notes_of : World → List (Option ℕ) → List Signature → ℕ → ℕ → ClassDecl → List Member → List Note
 class_notes_of w ps ms c next k members =
     head_notes w (is_cyclic ps c) c k ++ (member_notes (place w ms c k) (member_named k.members) 0 next members ++ default_notes_of w c k)
 
@@ -63,10 +63,9 @@ place_bare : (w : World) (ms : List Signature) (c : ℕ) (k : ClassDecl) → pla
 place_bare w ms c k =
     ap (λ (b : Bool). let l : Place = record { world = bare_world w; methods = map bare_signature ms; class = c; class_name = k.name.text; extends = b } in l) (some_bare bare_name k.parent)
 
-class_alike : (w : World) (ps : List (Option ℕ)) (ms : List Signature) (c next : ℕ) (k : ClassDecl)
-    → AreAlike (class_notes w ps ms c next k) (class_notes_of (bare_world w) ps (map bare_signature ms) c next (bare_class k) (map bare_member (declared.members k.members)))
-class_alike w ps ms c next k =
-    let own = declared.members k.members in
+pub class_alike : (w : World) (ps : List (Option ℕ)) (ms : List Signature) (c next : ℕ) (k : ClassDecl) (own : List Member)
+    → AreAlike (class_notes_of w ps ms c next k own) (class_notes_of (bare_world w) ps (map bare_signature ms) c next (bare_class k) (map bare_member own))
+class_alike w ps ms c next k own =
     let was = member_notes (place w ms c k) (member_named k.members) 0 next own in
     both (head_alike w (is_cyclic ps c) c k)
     (both
@@ -94,7 +93,7 @@ classes_again w x worlds ps ms ns signatures c next (u ∷ us) (v ∷ vs) e j =
         ap₂ (λ (y : World) (ss : List Signature). class_notes_of y ps ss c next (bare_class u) (map bare_member (declared.members u.members))) worlds signatures
         ∙ ap₂ (λ (k : ClassDecl) (members : List Member). class_notes_of (bare_world x) ps (map bare_signature ns) c next k members) here own in
     let first : AreAlike (class_notes w ps ms c next u) (class_notes x ps ns c next v) =
-        chained (subst (AreAlike (class_notes w ps ms c next u)) equal (class_alike w ps ms c next u)) (flipped (class_alike x ps ns c next v)) in
+        chained (subst (AreAlike (class_notes w ps ms c next u)) equal (class_alike w ps ms c next u (declared.members u.members))) (flipped (class_alike x ps ns c next v (declared.members v.members))) in
     both first
     (subst (λ n. AreAlike (notes_from w ps ms (c + 1) (next_fields next u.members) us) (notes_from x ps ns (c + 1) n vs)) (next_again next u.members v.members same)
     (classes_again w x worlds ps ms ns signatures (c + 1) (next_fields next u.members) us vs later later_joined))

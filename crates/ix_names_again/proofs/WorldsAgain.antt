@@ -57,7 +57,7 @@ methods_bare cs = ap (λ (class : ClassOf). methods_from class 0 (map bare_class
 
 -- ---- fields
 
-fields_in_bare : (class : ClassOf) (c next : ℕ) (ms : List Member) → fields_in class c next (map bare_member ms) ≡ map bare_field (fields_in class c next ms)
+pub fields_in_bare : (class : ClassOf) (c next : ℕ) (ms : List Member) → fields_in class c next (map bare_member ms) ≡ map bare_field (fields_in class c next ms)
 fields_in_bare class c next [] = refl
 fields_in_bare class c next (member.Field d ∷ ms) = ap₂ (λ (f : Field) (fs : List Field). f ∷ fs) (field_of_bare class c next d) (fields_in_bare class c (next_field next d) ms)
 fields_in_bare class c next (member.Method m ∷ ms) = fields_in_bare class c next ms
@@ -164,10 +164,14 @@ module _ (cs : List ClassDecl) where
       ap (λ (f : ℕ → List ℕ → Option Field). with f (bare_world (world cs)).method (bare_world (world cs)).constructor) field_is
       ∙ ap₂ (λ (m : ℕ → List ℕ → Option Callee) (k : ℕ → Option Callee). with (λ c name. own_field (map bare_field (fields cs)) c name) m k) method_is constructor_is
 
-pub world_again : (us vs : List ClassDecl) → map bare_class us ≡ map bare_class vs → map joined us ≡ map joined vs → bare_world (world us) ≡ bare_world (world vs)
-world_again us vs e j =
+-- where the fields are the same up to places
+pub world_with : (us vs : List ClassDecl) → map bare_class us ≡ map bare_class vs → map bare_field (fields us) ≡ map bare_field (fields vs) → bare_world (world us) ≡ bare_world (world vs)
+world_with us vs e same =
     world_is us
     ∙ ap₂ (λ (class : ClassOf) (ps : List (Option ℕ)). world_of class ps (map bare_field (fields us)) (map bare_signature (methods us)) (λ c. class_name (slice_get us c))) (class_named_again us vs e) (parents_again us vs e)
-    ∙ ap₂ (λ (fs : List Field) (ms : List Signature). world_of (class_named vs) (parents vs) fs ms (λ c. class_name (slice_get us c))) (fields_again us vs e j) (methods_again us vs e)
+    ∙ ap₂ (λ (fs : List Field) (ms : List Signature). world_of (class_named vs) (parents vs) fs ms (λ c. class_name (slice_get us c))) same (methods_again us vs e)
     ∙ ap (λ (names : ℕ → List ℕ). world_of (class_named vs) (parents vs) (map bare_field (fields vs)) (map bare_signature (methods vs)) names) (fun_ext (class_name_again us vs e))
     ∙ sym (world_is vs)
+
+pub world_again : (us vs : List ClassDecl) → map bare_class us ≡ map bare_class vs → map joined us ≡ map joined vs → bare_world (world us) ≡ bare_world (world vs)
+world_again us vs e j = world_with us vs e (fields_again us vs e j)
