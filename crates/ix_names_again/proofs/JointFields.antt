@@ -42,10 +42,10 @@ use Rattle.ix_names_again.proofs.CountedAnnots.{all_clean_both, Clean, claims_co
 -- ---- the annotations of a further field, where it has those of the first one
 
 -- without the annotations that count no claim
-abbrev trimmed_type : TypeTree → TypeTree
+abbrev pub trimmed_type : TypeTree → TypeTree
 trimmed_type ty = record ty { annots = counting ty.annots }
 
-abbrev trimmed : LocalDecl → LocalDecl
+abbrev pub trimmed : LocalDecl → LocalDecl
 trimmed d = record d { mods = record d.mods { annots = counting d.mods.annots }; ty = trimmed_type d.ty }
 
 behind_is : (ty : TypeTree) → is_written_type ty ≡ true → (if nat_lt 0 ty.depth then counting ty.annots else []) ≡ counting ty.annots
@@ -65,7 +65,7 @@ abbrev field_by : Bool → LocalDecl → LocalDecl → LocalDecl
 field_by b first d = with_annots (if b then counting first.mods.annots else d.mods.annots) (if b then counting_behind first d else d.ty.annots) d
 
 -- What a further field is: itself without those annotations, or a field that begins a declaration.
-trimmed_or_not : {G : Type 0} (first : Option LocalDecl) (d : LocalDecl) → SharesWith first d → is_written_type d.ty ≡ true
+pub trimmed_or_not : {G : Type 0} (first : Option LocalDecl) (d : LocalDecl) → SharesWith first d → is_written_type d.ty ≡ true
     → ((x : LocalDecl) → first ≡ Some x → (x.mods ≡ d.mods) → (x.ty ≡ d.ty) → field_in first d ≡ trimmed d → first_of first d ≡ x → G) → (field_in first d ≡ d → first_of first d ≡ d → G) → G
 trimmed_or_not None d shares w then_so else_so = else_so refl refl
 trimmed_or_not (Some x) d shares w then_so else_so =

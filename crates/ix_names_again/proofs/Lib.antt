@@ -17,3 +17,4 @@ pub mod UncountedAnnots
 pub mod CountedAnnots
 pub mod JointFields
 pub mod NotesAnywhere
+pub mod AcceptsAnywhere

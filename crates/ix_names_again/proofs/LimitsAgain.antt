@@ -43,7 +43,7 @@ or_else_which : (a b : Option Passed) → passed_which (or_else a b) ≡ or_else
 or_else_which None b = refl
 or_else_which (Some p) b = refl
 
-either_which : (a b c d : Option Passed) → passed_which a ≡ passed_which b → passed_which c ≡ passed_which d → passed_which (or_else a c) ≡ passed_which (or_else b d)
+pub either_which : (a b c d : Option Passed) → passed_which a ≡ passed_which b → passed_which c ≡ passed_which d → passed_which (or_else a c) ≡ passed_which (or_else b d)
 either_which a b c d e f = or_else_which a c ∙ ap₂ (λ (x : Option Which) (y : Option Which). or_else x y) e f ∙ sym (or_else_which b d)
 
 -- ---- names
@@ -97,10 +97,10 @@ claims_in_which before (a ∷ annots) =
     by true rest = refl
     by false rest = rest
 
-abbrev all_bare : List (List Annot) → List (List Annot)
+abbrev pub all_bare : List (List Annot) → List (List Annot)
 all_bare lists = map (map bare_annot) lists
 
-claims_which : (lists : List (List Annot)) → passed_which (past_claims (all_bare lists)) ≡ passed_which (past_claims lists)
+pub claims_which : (lists : List (List Annot)) → passed_which (past_claims (all_bare lists)) ≡ passed_which (past_claims lists)
 claims_which [] = refl
 claims_which (annots ∷ lists) = either_which _ _ _ _ (claims_in_which 0 annots) (claims_which lists)
 
@@ -191,7 +191,7 @@ result_bare : (result : Option TypeTree) → result_annots (bare_maybe bare_type
 result_bare None = refl
 result_bare (Some ty) = refl
 
-members_bare : (ms : List Member) → member_annots (map bare_member ms) ≡ all_bare (member_annots ms)
+pub members_bare : (ms : List Member) → member_annots (map bare_member ms) ≡ all_bare (member_annots ms)
 members_bare [] = refl
 members_bare (member.Field d ∷ ms) = ap₂ (λ (l : List Annot) (ls : Annots). l ∷ ls) (declared_bare d) (members_bare ms)
 members_bare (member.Method m ∷ ms) =
@@ -234,12 +234,16 @@ all_params_which : (cs : List ClassDecl) → passed_which (past_params (all_meth
 all_params_which cs = ap (λ (ms : List MethodDecl). passed_which (past_params ms)) (all_methods_bare cs) ∙ params_which (all_methods cs)
 
 -- The same limit is passed, or none.
-pub limit_again : (us vs : List ClassDecl) → map bare_class us ≡ map bare_class vs → map joined us ≡ map joined vs → passed_which (limit us) ≡ passed_which (limit vs)
-limit_again us vs e j =
+pub limit_with : (us vs : List ClassDecl) → map bare_class us ≡ map bare_class vs → passed_which (past_claims (all_annots us)) ≡ passed_which (past_claims (all_annots vs)) → passed_which (limit us) ≡ passed_which (limit vs)
+limit_with us vs e claims =
     either_which _ _ _ _ (sym (classes_which us) ∙ ap (λ (cs : List ClassDecl). class_limit (class_names cs)) e ∙ classes_which vs)
     (either_which _ _ _ _ (sym (methods_which us) ∙ ap (λ (cs : List ClassDecl). method_limit (method_names (all_methods cs))) e ∙ methods_which vs)
     (either_which _ _ _ _ (sym (all_params_which us) ∙ ap (λ (cs : List ClassDecl). passed_which (past_params (all_methods cs))) e ∙ all_params_which vs)
-    (sym (claims_which (all_annots us)) ∙ ap (λ (l : Annots). passed_which (past_claims l)) (annots_again us vs e j) ∙ claims_which (all_annots vs))))
+    claims))
+
+pub limit_again : (us vs : List ClassDecl) → map bare_class us ≡ map bare_class vs → map joined us ≡ map joined vs → passed_which (limit us) ≡ passed_which (limit vs)
+limit_again us vs e j =
+    limit_with us vs e (sym (claims_which (all_annots us)) ∙ ap (λ (l : Annots). passed_which (past_claims l)) (annots_again us vs e j) ∙ claims_which (all_annots vs))
 
 inheritance_which : (ps : List (Option ℕ)) (c : ℕ) (cs : List ClassDecl) → passed_which (past_inheritance ps c (map bare_class cs)) ≡ passed_which (past_inheritance ps c cs)
 inheritance_which ps c [] = refl
@@ -257,7 +261,7 @@ inheritance_limit_again us vs e =
     ∙ ap₂ (λ (ps : List (Option ℕ)) (cs : List ClassDecl). passed_which (past_inheritance ps 0 cs)) (parents_again us vs e) e
     ∙ inheritance_which (parents vs) 0 vs
 
-none_passed : (p q : Option Passed) → passed_which p ≡ passed_which q → p ≡ None → q ≡ None
+pub none_passed : (p q : Option Passed) → passed_which p ≡ passed_which q → p ≡ None → q ≡ None
 none_passed p None e none = refl
 none_passed None (Some q) e none = cc
 none_passed (Some p) (Some q) e none = cc
