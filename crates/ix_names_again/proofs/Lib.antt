@@ -18,3 +18,4 @@ pub mod CountedAnnots
 pub mod JointFields
 pub mod NotesAnywhere
 pub mod AcceptsAnywhere
+pub mod JointSources
