@@ -19,3 +19,4 @@ pub mod JointFields
 pub mod NotesAnywhere
 pub mod AcceptsAnywhere
 pub mod JointSources
+pub mod PartsAgain

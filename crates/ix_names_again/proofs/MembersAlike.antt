@@ -161,15 +161,15 @@ return_need_bare : (m : Signature) (result : Option TypeTree) → return_need (b
 return_need_bare m None = refl
 return_need_bare m (Some ty) = refl
 
-head_bare : (l : Place) (m : Signature) (d : MethodDecl) → head_scope (bare_place l) (bare_signature m) (bare_method d) ≡ bare_scope (head_scope l m d)
+pub head_bare : (l : Place) (m : Signature) (d : MethodDecl) → head_scope (bare_place l) (bare_signature m) (bare_method d) ≡ bare_scope (head_scope l m d)
 head_bare l m d = ap (λ (names : List Known). record (bare_scope (member_scope l (not (m.is_static || m.constructor)))) { names = names }) (params_from_bare l 0 d.params)
 
-body_bare : (l : Place) (m : Signature) (d : MethodDecl) → body_scope (bare_place l) (bare_signature m) (bare_method d) ≡ bare_scope (body_scope l m d)
+pub body_bare : (l : Place) (m : Signature) (d : MethodDecl) → body_scope (bare_place l) (bare_signature m) (bare_method d) ≡ bare_scope (body_scope l m d)
 body_bare l m d =
     ap₂ (λ (names : List Known) (result : Option Need). record (bare_scope (member_scope l (not m.is_static))) { in_constructor = m.constructor; result = result; names = names })
     (params_from_bare l 0 d.params) (return_need_bare m d.result)
 
-result_alike : (l : Place) (s : Scope) (annots : List Annot) (result : Option TypeTree)
+pub result_alike : (l : Place) (s : Scope) (annots : List Annot) (result : Option TypeTree)
     → SameDeclaration (result_of l s annots result) (result_of (bare_place l) (bare_scope s) (map bare_annot annots) (bare_maybe bare_type result))
 result_alike l s annots None = record {
   ty = refl;
@@ -296,7 +296,7 @@ super_notes_alike l s d = by d.constructor
 marks_same : (g h : Given) → SameGiven g h → marked [] g ≡ marked [] h
 marks_same g h e = ap₂ (λ (free : Bool) (posts : List Post). let claims : Claims = record { list = []; effect_free = free; posts = distinct_posts posts } in claims) e.effect_free e.posts
 
-method_alike : (l : Place) (m : Signature) (d : MethodDecl) → AreAlike (method_notes l m d) (method_notes (bare_place l) (bare_signature m) (bare_method d))
+pub method_alike : (l : Place) (m : Signature) (d : MethodDecl) → AreAlike (method_notes l m d) (method_notes (bare_place l) (bare_signature m) (bare_method d))
 method_alike l m d =
     let head = head_scope l m d in
     let body = body_scope l m d in
@@ -341,7 +341,7 @@ first_bare name found i (m ∷ ms) =
 pub member_named_bare : (ms : List Member) → member_named (map bare_member ms) ≡ member_named ms
 member_named_bare ms = fun_ext (λ name. first_bare name None 0 ms)
 
-one_alike : (l : Place) (next : ℕ) (m : Member) → AreAlike (one_member l next m) (one_member (bare_place l) next (bare_member m))
+pub one_alike : (l : Place) (next : ℕ) (m : Member) → AreAlike (one_member l next m) (one_member (bare_place l) next (bare_member m))
 one_alike l next (member.Field d) =
     subst (λ (f : Field). AreAlike (one_member l next (member.Field d)) (field_notes (bare_place l) f (bare_decl d))) (sym (field_of_bare l.world.class l.class next d))
     (field_notes_alike l (field_of l.world.class l.class next d) d)
