@@ -1,7 +1,8 @@
 -- An accepted source is accepted at other places, and its names mean the same there, whichever of its fields are declared together.
-use Rattle.std.proofs.Common.{◌≡◌, ◌≤◌, ℕ, ◌+◌, Bool, true, false, List, [], ◌∷◌, ◌++◌, map, filter, Option, Some, None, refl, sym, ap, ap₂, ◌∙◌, subst, arith}
+use Rattle.std.proofs.Common.{◌≡◌, ◌≤◌, ℕ, ◌+◌, Bool, true, false, List, [], ◌∷◌, ◌++◌, map, filter, Option, Some, None, refl, sym, ap, ap₂, ◌∙◌, arith}
 use Rattle.std.specs.Prelude.{if◌then◌else◌, nat_lt}
 use Rattle.std.proofs.lemmas.Bool.Decides.{nat_tests}
+use Rattle.std.proofs.lemmas.List.{map-append}
 use Rattle.ix_core.proofs.Cases.{by_test}
 use Rattle.ix_annot.specs.Named.{or_else}
 use Rattle.ix_annot.specs.Table.{counted, most_claims}
@@ -23,12 +24,12 @@ use Rattle.ix_formed.specs.Additions.{AllOf}
 use Rattle.ix_formed.specs.Written.{is_written_type}
 use Rattle.ix_formed.proofs.CleanNotes.{all_clean}
 use Rattle.ix_formed.proofs.NamesAgree.{notes_agree}
-use Rattle.ix_bare.specs.Bare.{bare_annot, bare_member, bare_class, bare_source}
+use Rattle.ix_bare.specs.Bare.{bare_annot, bare_class, bare_source}
 use Rattle.ix_names_again.specs.Same.{AllPairs, SaySame}
 use Rattle.ix_names_again.specs.Joint.{SharesWith, AllShare, ClassShares, IsJoint}
-use Rattle.ix_names_again.proofs.NotesAlike.{map_both}
 use Rattle.ix_names_again.proofs.ErrorsAgain.{clean_again, none_derived}
-use Rattle.ix_names_again.proofs.LimitsAgain.{passed_which, either_which, all_bare, claims_which, members_bare, limit_with, inheritance_limit_again, none_passed}
+use Rattle.ix_names_again.proofs.LimitsAgain.{passed_which, or_else_which, either_which, all_bare, claims_which, members_bare, limit_with, inheritance_limit_again, none_passed}
+use Rattle.ix_names_again.proofs.CountedAnnots.{none_counted}
 use Rattle.ix_names_again.proofs.MeansAgain.{pairs_again}
 use Rattle.ix_names_again.proofs.JointFields.{trimmed, trimmed_or_not}
 use Rattle.ix_names_again.proofs.NotesAnywhere.{notes_anywhere}
@@ -41,9 +42,6 @@ not_past before n low none = grind (arith, nat_tests)
 still_low : (before n : ℕ) → nat_lt most_claims (before + n) ≡ false → before + n ≤ most_claims
 still_low before n e = grind (arith, nat_tests)
 
-no_count : (n : ℕ) → nat_lt 0 n ≡ false → n ≡ 0
-no_count n e = grind (arith, nat_tests)
-
 abbrev past_or : ℕ → Bool → ℕ → List Annot → Option Passed
 past_or place b before annots = if b then Some (record { which = which.Claims; place = place }) else past_claims_in before annots
 
@@ -52,18 +50,18 @@ counted_alone before low [] = refl
 counted_alone before low (a ∷ annots) =
     by_test (nat_lt 0 (counted a))
     (λ t.
-        ap (λ b. passed_which (past_claims_in before (if b then a ∷ counting annots else counting annots))) t
-        ∙ by_test (nat_lt most_claims (before + counted a))
-        (λ p. ap (λ b. passed_which (past_or a.span.from b (before + counted a) (counting annots))) p ∙ sym (ap (λ b. passed_which (past_or a.span.from b (before + counted a) annots)) p))
-        (λ p. ap (λ b. passed_which (past_or a.span.from b (before + counted a) (counting annots))) p ∙ counted_alone (before + counted a) (still_low before (counted a) p) annots
-        ∙ sym (ap (λ b. passed_which (past_or a.span.from b (before + counted a) annots)) p)))
+    ap (λ b. passed_which (past_claims_in before (if b then a ∷ counting annots else counting annots))) t
+    ∙ by_test (nat_lt most_claims (before + counted a))
+    (λ p. ap (λ b. passed_which (past_or a.span.from b (before + counted a) (counting annots))) p ∙ sym (ap (λ b. passed_which (past_or a.span.from b (before + counted a) annots)) p))
+    (λ p. ap (λ b. passed_which (past_or a.span.from b (before + counted a) (counting annots))) p ∙ counted_alone (before + counted a) (still_low before (counted a) p) annots
+    ∙ sym (ap (λ b. passed_which (past_or a.span.from b (before + counted a) annots)) p)))
     (λ f.
-        let none = no_count (counted a) f in
-        let same : before ≡ before + counted a = omega (arith, none) in
-        ap (λ b. passed_which (past_claims_in before (if b then a ∷ counting annots else counting annots))) f
-        ∙ counted_alone before low annots
-        ∙ ap (λ n. passed_which (past_claims_in n annots)) same
-        ∙ sym (ap (λ b. passed_which (past_or a.span.from b (before + counted a) annots)) (not_past before (counted a) low none)))
+    let none = none_counted (counted a) f in
+    let same : before ≡ before + counted a = omega (arith, none) in
+    ap (λ b. passed_which (past_claims_in before (if b then a ∷ counting annots else counting annots))) f
+    ∙ counted_alone before low annots
+    ∙ ap (λ n. passed_which (past_claims_in n annots)) same
+    ∙ sym (ap (λ b. passed_which (past_or a.span.from b (before + counted a) annots)) (not_past before (counted a) low none)))
 
 filter_both : (test : Annot → Bool) (xs ys : List Annot) → filter test xs ++ filter test ys ≡ filter test (xs ++ ys)
 filter_both test [] ys = refl
@@ -87,10 +85,6 @@ field_which first d shares w =
 
 abbrev Annots : Type 0
 Annots = List (List Annot)
-
-or_else_which : (a b : Option Passed) → passed_which (or_else a b) ≡ or_else (passed_which a) (passed_which b)
-or_else_which None b = refl
-or_else_which (Some p) b = refl
 
 or_else_third : (a b c : Option Which) → or_else a (or_else b c) ≡ or_else (or_else a b) c
 or_else_third None b c = refl
@@ -129,7 +123,7 @@ alone_which (k ∷ ks) shares = claims_both (member_annots (declared.members k.m
 
 alone_bare : (ks : List ClassDecl) → alone_annots (map bare_class ks) ≡ all_bare (alone_annots ks)
 alone_bare [] = refl
-alone_bare (k ∷ ks) = ap₂ (λ (x : Annots) (y : Annots). x ++ y) (members_bare k.members) (alone_bare ks) ∙ sym (map_both (map bare_annot) (member_annots k.members) (alone_annots ks))
+alone_bare (k ∷ ks) = ap₂ (λ (x : Annots) (y : Annots). x ++ y) (members_bare k.members) (alone_bare ks) ∙ sym (map-append (map bare_annot) (member_annots k.members) (alone_annots ks))
 
 claims_anywhere : (us vs : List ClassDecl) → map bare_class us ≡ map bare_class vs → AllOf ClassShares us → AllOf ClassShares vs → passed_which (past_claims (all_annots us)) ≡ passed_which (past_claims (all_annots vs))
 claims_anywhere us vs e one two =

@@ -1,10 +1,9 @@
 -- Annotations mean the same wherever they stand.
-use Rattle.std.proofs.Common.{◌≡◌, ℕ, Bool, true, false, List, [], ◌∷◌, ◌++◌, map, filter, Option, Some, None, Result, Ok, Err, refl, sym, ap, ap₂, ◌∙◌, subst}
-use Rattle.std.specs.Prelude.{if◌then◌else◌, codes, bytes_eq, not, nat_lt}
+use Rattle.std.proofs.Common.{◌≡◌, ℕ, Bool, true, false, List, [], ◌∷◌, map, filter, Option, Some, None, Result, Ok, Err, refl, ap}
+use Rattle.std.specs.Prelude.{if◌then◌else◌, not, nat_lt}
 use Rattle.ix_text.specs.declared.span.Span.{Span}
 use Rattle.ix_tree.specs.declared.annot.Annot.{Annot}
 use Rattle.ix_tree.specs.declared.annot.AnnotArg.{AnnotArg}
-use Rattle.ix_tree.specs.declared.annot.AnnotValue.{AnnotValue}
 use Rattle.ix_tree.specs.declared.annot.Ident.{Ident}
 use Rattle.ix_annot.specs.declared.scope.AnnotError.{AnnotError}
 use Rattle.ix_annot.specs.declared.scope.Claims.{Claims}
@@ -13,12 +12,12 @@ use Rattle.ix_annot.specs.declared.table.Says.{Says}
 use Rattle.ix_annot.specs.declared.table.Says.TheVariants.{Nothing, EffectFree, AtLeast, Between, LengthAtLeast, Arrays, Offsets, Bounds, Ensures, EnsuresIf}
 use Rattle.ix_annot.specs.Named.{Names}
 use Rattle.ix_annot.specs.Table.{arg_name, argument, row_named, counted, counted_in, counted_of}
-use Rattle.ix_annot.specs.Arguments.{takes, are_taken, plan_of, plan}
+use Rattle.ix_annot.specs.Arguments.{are_taken, plan_of, plan}
 use Rattle.ix_annot.specs.Expansion.{expanded, with_row}
 use Rattle.ix_meaning.specs.Annotated.{Given, given, errors_from, is_of_method, of_method, of_result}
 use Rattle.ix_meaning.specs.Declarators.{counting}
 use Rattle.ix_bare.specs.Bare.{nowhere, bare_maybe, bare_name, bare_arg, bare_annot}
-use Rattle.ix_names_again.specs.Alike.{bare_note, AreAlike}
+use Rattle.ix_names_again.specs.Alike.{AreAlike}
 use Rattle.ix_names_again.proofs.NotesAlike.{none, both}
 
 arg_name_bare : (name : Option Ident) → arg_name (bare_maybe bare_name name) ≡ arg_name name

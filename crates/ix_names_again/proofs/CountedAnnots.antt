@@ -1,5 +1,5 @@
 -- What annotations on a variable give without those that count no claim.
-use Rattle.std.proofs.Common.{◌≡◌, ℕ, Bool, true, false, List, [], ◌∷◌, ◌++◌, Result, Ok, Err, refl, sym, ap, ap₂, ◌∙◌, subst, arith}
+use Rattle.std.proofs.Common.{◌≡◌, ℕ, true, false, List, [], ◌∷◌, ◌++◌, Result, Ok, Err, refl, sym, ap, ap₂, ◌∙◌, subst, arith}
 use Rattle.std.specs.Prelude.{if◌then◌else◌, nat_lt}
 use Rattle.std.proofs.lemmas.Bool.Decides.{nat_tests}
 use Rattle.ix_text.specs.declared.span.Span.{Span}
@@ -18,13 +18,10 @@ use Rattle.ix_meaning.specs.Declarators.{counting}
 use Rattle.ix_formed.specs.Additions.{AllOf}
 use Rattle.ix_formed.specs.NoErrors.{IsClean}
 use Rattle.ix_formed.proofs.CleanNotes.{clean_parts}
+use Rattle.ix_formed.proofs.NumberLists.{all_joined}
 use Rattle.ix_names_again.proofs.UncountedAnnots.{is_variable, uncounted}
 
-pub all_clean_both : (xs ys : List Note) → AllOf IsClean xs → AllOf IsClean ys → AllOf IsClean (xs ++ ys)
-all_clean_both [] ys a b = b
-all_clean_both (x ∷ xs) ys a b = (a.0, all_clean_both xs ys a.1 b)
-
-none_counted : (n : ℕ) → nat_lt 0 n ≡ false → n ≡ 0
+pub none_counted : (n : ℕ) → nat_lt 0 n ≡ false → n ≡ 0
 none_counted n e = grind (arith, nat_tests)
 
 -- ---- claims
@@ -36,9 +33,9 @@ claims_counted names variable (a ∷ annots) =
     by_test (nat_lt 0 (counted a))
     (λ t. ap (λ b. (given names (if b then a ∷ counting annots else counting annots)).claims) t ∙ ap (λ (cs : List Claim). claims_from (expanded a names) ++ cs) rest)
     (λ f.
-        ap (λ b. (given names (if b then a ∷ counting annots else counting annots)).claims) f
-        ∙ rest
-        ∙ ap (λ (cs : List Claim). cs ++ (given names annots).claims) (sym (uncounted a names variable (none_counted (counted a) f)).nothing))
+    ap (λ b. (given names (if b then a ∷ counting annots else counting annots)).claims) f
+    ∙ rest
+    ∙ ap (λ (cs : List Claim). cs ++ (given names annots).claims) (sym (uncounted a names variable (none_counted (counted a) f)).nothing))
 
 -- ---- errors
 
@@ -54,7 +51,7 @@ counting_clean names (a ∷ annots) clean =
     let parts = clean_parts (errors_from (expanded a names) a.span) (given names annots).notes clean in
     let rest = counting_clean names annots parts.1 in
     by_test (nat_lt 0 (counted a))
-    (λ t. subst (λ b. Clean names (if b then a ∷ counting annots else counting annots)) (sym t) (all_clean_both (errors_from (expanded a names) a.span) (given names (counting annots)).notes parts.0 rest))
+    (λ t. subst (λ b. Clean names (if b then a ∷ counting annots else counting annots)) (sym t) (all_joined IsClean (errors_from (expanded a names) a.span) (given names (counting annots)).notes parts.0 rest))
     (λ f. subst (λ b. Clean names (if b then a ∷ counting annots else counting annots)) (sym f) rest)
 
 -- Those that count no claim are right, whatever names mean.
@@ -73,14 +70,14 @@ clean_again names variable [] all clean = tt
 clean_again names variable (a ∷ annots) all clean =
     by_test (nat_lt 0 (counted a))
     (λ t.
-        let kept : Clean names (a ∷ counting annots) = subst (λ b. Clean names (if b then a ∷ counting annots else counting annots)) t clean in
-        let parts = clean_parts (errors_from (expanded a names) a.span) (given names (counting annots)).notes kept in
-        all_clean_both (errors_from (expanded a names) a.span) (given names annots).notes parts.0 (clean_again names variable annots all.1 parts.1))
+    let kept : Clean names (a ∷ counting annots) = subst (λ b. Clean names (if b then a ∷ counting annots else counting annots)) t clean in
+    let parts = clean_parts (errors_from (expanded a names) a.span) (given names (counting annots)).notes kept in
+    all_joined IsClean (errors_from (expanded a names) a.span) (given names annots).notes parts.0 (clean_again names variable annots all.1 parts.1))
     (λ f.
-        let kept : Clean names (counting annots) = subst (λ b. Clean names (if b then a ∷ counting annots else counting annots)) f clean in
-        let none = none_counted (counted a) f in
-        let here : CleanOne names a = subst (λ (r : Result Claims AnnotError). AllOf IsClean (errors_from r a.span)) (sym (uncounted a names variable none).same) (all.0 none) in
-        all_clean_both (errors_from (expanded a names) a.span) (given names annots).notes here (clean_again names variable annots all.1 kept))
+    let kept : Clean names (counting annots) = subst (λ b. Clean names (if b then a ∷ counting annots else counting annots)) f clean in
+    let none = none_counted (counted a) f in
+    let here : CleanOne names a = subst (λ (r : Result Claims AnnotError). AllOf IsClean (errors_from r a.span)) (sym (uncounted a names variable none).same) (all.0 none) in
+    all_joined IsClean (errors_from (expanded a names) a.span) (given names annots).notes here (clean_again names variable annots all.1 kept))
 
 no_errors : (r : Result Claims AnnotError) (span : Span) → AllOf IsClean (errors_from r span) → errors_from r span ≡ []
 no_errors (Ok claims) span clean = refl

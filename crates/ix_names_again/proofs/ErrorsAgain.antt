@@ -1,5 +1,5 @@
 -- A source without errors on names has none at other places.
-use Rattle.std.proofs.Common.{◌≡◌, List, [], ◌∷◌, ◌++◌, map, refl, sym, ap₂, ◌∙◌, subst}
+use Rattle.std.proofs.Common.{◌≡◌, List, [], ◌∷◌, ◌++◌, map, refl, ap₂, subst}
 use Rattle.ix_tree.specs.declared.decl.Unit.{Unit as Source}
 use Rattle.ix_meaning.specs.declared.note.NameError.{NameError}
 use Rattle.ix_meaning.specs.declared.note.Note.{Note}
@@ -10,7 +10,7 @@ use Rattle.ix_meaning.specs.Source.{notes}
 use Rattle.ix_formed.specs.Additions.{AllOf}
 use Rattle.ix_formed.specs.NoErrors.{IsClean}
 use Rattle.ix_formed.proofs.CleanNotes.{all_clean}
-use Rattle.ix_names_again.specs.Alike.{bare_note, AreAlike, AreSame}
+use Rattle.ix_names_again.specs.Alike.{bare_note, AreSame}
 use Rattle.ix_names_again.proofs.SourcesAlike.{notes_again}
 
 bare_clean : (n : Note) → IsClean n → IsClean (bare_note n)

@@ -214,9 +214,9 @@ selection_alike : (r t : Reading) → ReadingsAlike r t → (name : Ident) (assi
 selection_alike r t h name assigned s =
     let o = h.receiver s in
     let inner : SameJudged (values.selected s assigned r.is_this name (r.receiver s).object) (values.selected (bare_scope s) assigned t.is_this (bare_name name) (t.receiver (bare_scope s)).object) =
-        subst (λ b. SameJudged (values.selected s assigned r.is_this name (r.receiver s).object) (values.selected (bare_scope s) assigned b (bare_name name) (t.receiver (bare_scope s)).object)) h.is_this
-        (subst (λ object. SameJudged (values.selected s assigned r.is_this name (r.receiver s).object) (values.selected (bare_scope s) assigned r.is_this (bare_name name) object)) o.object
-        (selected_alike s assigned r.is_this name (r.receiver s).object)) in
+    subst (λ b. SameJudged (values.selected s assigned r.is_this name (r.receiver s).object) (values.selected (bare_scope s) assigned b (bare_name name) (t.receiver (bare_scope s)).object)) h.is_this
+    (subst (λ object. SameJudged (values.selected s assigned r.is_this name (r.receiver s).object) (values.selected (bare_scope s) assigned r.is_this (bare_name name) object)) o.object
+    (selected_alike s assigned r.is_this name (r.receiver s).object)) in
     record { ty = inner.ty; notes = both o.notes inner.notes }
 
 -- ---- calls
@@ -383,9 +383,9 @@ equality_alike a b c d x y s p q =
     let t = bare_scope s in
     let was = compared_at s.world a.is_null c.is_null (a.judge s) (c.judge s) a.span c.span p in
     let inner : AreAlike was (compared_at (bare_world s.world) b.is_null d.is_null (b.judge t) (d.judge t) b.span d.span q) =
-        subst (λ n. AreAlike was (compared_at (bare_world s.world) n d.is_null (b.judge t) (d.judge t) b.span d.span q)) x.is_null
-        (subst (λ n. AreAlike was (compared_at (bare_world s.world) a.is_null n (b.judge t) (d.judge t) b.span d.span q)) y.is_null
-        (compared_alike s.world a.is_null c.is_null (a.judge s) (b.judge t) (c.judge s) (d.judge t) a.span b.span c.span d.span p q (x.judge s) (y.judge s))) in
+    subst (λ n. AreAlike was (compared_at (bare_world s.world) n d.is_null (b.judge t) (d.judge t) b.span d.span q)) x.is_null
+    (subst (λ n. AreAlike was (compared_at (bare_world s.world) a.is_null n (b.judge t) (d.judge t) b.span d.span q)) y.is_null
+    (compared_alike s.world a.is_null c.is_null (a.judge s) (b.judge t) (c.judge s) (d.judge t) a.span b.span c.span d.span p q (x.judge s) (y.judge s))) in
     record { ty = refl; notes = inner }
 
 binary_alike : (op : BinaryOp) (a b c d : Reading) → ReadingsAlike a b → ReadingsAlike c d → (s : Scope) (p q : Span) → SameJudged (values.binary op a c s p) (values.binary op b d (bare_scope s) q)
@@ -534,11 +534,15 @@ module _ {K I E : Type 0} (kind : K → ExprKind) (init : I → Init) (expr : E 
   init_layer : (y : Init-F K I E) → let layer = map-Init K I E ExprKind Init Expr kind init expr y in
       FillingsAlike (values.init_step (map-Init ExprKind Init Expr KindReading Filling Reading kind_reading filling reading layer))
       (filling (bare.init_step (map-Init ExprKind Init Expr ExprKind Init Expr kind_bare bare_init bare_expr layer)))
-  init_layer (Init-F.Value e) = record { at = λ s ty.
-      subst (AreAlike (check (of_expr e) s (need_like ty)).notes) (sym (equations.value_init (bare_of e) (bare_scope s) ty)) (check_alike (of_expr e) (of_bare e) (expr_is e) s (need_like ty)).notes }
-  init_layer (Init-F.Items items span) = record { at = λ s ty.
-      subst (AreAlike (rules.list_mismatch (need_like ty) span ++ values.fillings (map filling (map init items)) s (element_in ty))) (sym (equations.items_init (map bare_init (map init items)) nowhere (bare_scope s) ty))
-      (both (list_mismatches (need_like ty) span nowhere) (fillings_alike (map filling (map init items)) (map filling (map bare_init (map init items))) (items_alike items) s (element_in ty))) }
+  init_layer (Init-F.Value e) = record {
+    at = λ s ty.
+        subst (AreAlike (check (of_expr e) s (need_like ty)).notes) (sym (equations.value_init (bare_of e) (bare_scope s) ty)) (check_alike (of_expr e) (of_bare e) (expr_is e) s (need_like ty)).notes;
+  }
+  init_layer (Init-F.Items items span) = record {
+    at = λ s ty.
+        subst (AreAlike (rules.list_mismatch (need_like ty) span ++ values.fillings (map filling (map init items)) s (element_in ty))) (sym (equations.items_init (map bare_init (map init items)) nowhere (bare_scope s) ty))
+        (both (list_mismatches (need_like ty) span nowhere) (fillings_alike (map filling (map init items)) (map filling (map bare_init (map init items))) (items_alike items) s (element_in ty)));
+  }
 
   init_rolled : (y : Init-F K I E) → InitIs (roll-Init (map-Init K I E ExprKind Init Expr kind init expr y))
   init_rolled y =

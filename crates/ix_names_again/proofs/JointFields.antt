@@ -1,14 +1,12 @@
 -- A further field of a declaration says what it would say by itself, where nothing is wrong.
-use Rattle.std.proofs.Common.{◌≡◌, ℕ, ◌+◌, Bool, true, false, List, [], ◌∷◌, ◌++◌, Option, Some, None, refl, sym, ap, ap₂, ◌∙◌, subst, arith}
+use Rattle.std.proofs.Common.{◌≡◌, ℕ, ◌+◌, Bool, true, false, List, [], ◌∷◌, ◌++◌, Option, Some, None, refl, sym, ap, ap₂, ◌∙◌, subst}
 use Rattle.std.specs.Prelude.{if◌then◌else◌, nat_lt, not, ◌||◌, ◌==◌}
 use Rattle.std.proofs.lemmas.Bool.{false≢true}
-use Rattle.std.proofs.lemmas.Bool.Decides.{nat_tests}
 use Rattle.ix_core.specs.declared.claim.Claim.{Claim}
 use Rattle.ix_core.specs.declared.claim.Name.TheVariants as name
 use Rattle.ix_core.specs.declared.claim.Type_.{Type_}
 use Rattle.ix_core.proofs.Cases.{by_test}
 use Rattle.ix_tree.specs.declared.annot.Annot.{Annot}
-use Rattle.ix_tree.specs.declared.annot.BaseTree.{BaseTree}
 use Rattle.ix_tree.specs.declared.annot.Mods.{Mods}
 use Rattle.ix_tree.specs.declared.annot.TypeTree.{TypeTree}
 use Rattle.ix_tree.specs.declared.decl.LocalDecl.{LocalDecl}
@@ -21,10 +19,10 @@ use Rattle.ix_core.specs.SameClaims.{distinct}
 use Rattle.ix_meaning.specs.declared.members.Field.{Field}
 use Rattle.ix_meaning.specs.declared.note.Note.{Note}
 use Rattle.ix_meaning.specs.declared.note.Rule.TheVariants as rule
-use Rattle.ix_meaning.specs.Annotated.{Declaration, given, aimed, names_nothing, written, element_claims, is_element, unless, is_int_tree, target_before, declaration, static_field, variable, of_variable}
+use Rattle.ix_meaning.specs.Annotated.{Declaration, given, aimed, names_nothing, written, is_element, unless, is_int_tree, target_before, declaration, static_field, variable, of_variable}
 use Rattle.ix_meaning.specs.Bodies.{declares_note, init_notes}
-use Rattle.ix_meaning.specs.Declarators.{counting, counting_behind, with_annots, further, is_further, field_in, first_of, member_in, first_behind, members_behind}
-use Rattle.ix_meaning.specs.Members.{ClassOf, field_type, field_meaning, field_of, next_field, next_member, fields_in}
+use Rattle.ix_meaning.specs.Declarators.{counting, counting_behind, with_annots, further, is_further, field_in, first_of, members_behind}
+use Rattle.ix_meaning.specs.Members.{ClassOf, field_type, field_of, next_field, fields_in}
 use Rattle.ix_meaning.specs.Rules.{duplicate_name}
 use Rattle.ix_meaning.specs.Scope.{annot_names}
 use Rattle.ix_meaning.specs.Source as source
@@ -35,9 +33,10 @@ use Rattle.ix_formed.specs.Additions.{AllOf}
 use Rattle.ix_formed.specs.NoErrors.{IsClean}
 use Rattle.ix_formed.specs.Written.{is_empty, is_written_type}
 use Rattle.ix_formed.proofs.CleanNotes.{clean_parts}
+use Rattle.ix_formed.proofs.NumberLists.{all_joined}
 use Rattle.ix_names_again.specs.Joint.{SharesWith, AllShare}
 use Rattle.ix_names_again.proofs.UncountedAnnots.{is_variable}
-use Rattle.ix_names_again.proofs.CountedAnnots.{all_clean_both, Clean, claims_counted, counting_clean, AllSettled, settled, clean_again, no_notes}
+use Rattle.ix_names_again.proofs.CountedAnnots.{Clean, claims_counted, counting_clean, AllSettled, settled, clean_again, no_notes}
 
 -- ---- the annotations of a further field, where it has those of the first one
 
@@ -99,9 +98,6 @@ module _ (class : ClassOf) (names : Names) (first second : Target) (one : is_var
   abbrev part : Declaration
   part = declaration class names first second (counting before) (trimmed_type ty)
 
-  elements_trimmed : element_claims first (counting before) ≡ element_claims first before
-  elements_trimmed = ap (λ (cs : List Claim). if is_element first then distinct cs else []) (claims_counted (names_nothing first) one before)
-
   claims_trimmed : part.claims ≡ whole.claims
   claims_trimmed =
       ap₂ (λ (cs : List Claim) (ds : List Claim). distinct (unless (is_element first) cs ++ ds)) (claims_counted (aimed names first) one before) (claims_counted (aimed names second) two ty.annots)
@@ -127,8 +123,8 @@ module _ (class : ClassOf) (names : Names) (first second : Target) (one : is_var
   whole_clean fine clean =
       let a = clean_parts (written class ty []).notes ((given (aimed names first) (counting before)).notes ++ (given (aimed names second) (counting ty.annots)).notes) clean in
       let b = clean_parts (given (aimed names first) (counting before)).notes (given (aimed names second) (counting ty.annots)).notes a.1 in
-      all_clean_both (written class ty []).notes ((given (aimed names first) before).notes ++ (given (aimed names second) ty.annots).notes) a.0
-      (all_clean_both (given (aimed names first) before).notes (given (aimed names second) ty.annots).notes (clean_again (aimed names first) one before fine.0 b.0) (clean_again (aimed names second) two ty.annots fine.1 b.1))
+      all_joined IsClean (written class ty []).notes ((given (aimed names first) before).notes ++ (given (aimed names second) ty.annots).notes) a.0
+      (all_joined IsClean (given (aimed names first) before).notes (given (aimed names second) ty.annots).notes (clean_again (aimed names first) one before fine.0 b.0) (clean_again (aimed names second) two ty.annots fine.1 b.1))
 
 -- what a declaration and the one without those annotations have in common
 record Trims (part whole : Declaration) (first second : Target) (d : LocalDecl) : Type 0 where
@@ -204,8 +200,8 @@ clean_field l f d same fine clean =
     let b = clean_parts double _ a.1 in
     let c = clean_parts said _ b.1 in
     let rest : AllOf IsClean (declares_note d.name.span f.ty (of_variable (if f.is_static then [] else (field_declaration l f d).claims)) ++ init_notes d.init (member_scope l (not f.is_static)) f.ty) =
-        subst (λ (claims : List Claim). AllOf IsClean (declares_note d.name.span f.ty (of_variable (if f.is_static then [] else claims)) ++ init_notes d.init (member_scope l (not f.is_static)) f.ty)) t.claims c.1 in
-    all_clean_both wrong _ a.0 (all_clean_both double _ b.0 (all_clean_both (field_declaration l f d).notes _ (t.clean fine c.0) rest))
+    subst (λ (claims : List Claim). AllOf IsClean (declares_note d.name.span f.ty (of_variable (if f.is_static then [] else claims)) ++ init_notes d.init (member_scope l (not f.is_static)) f.ty)) t.claims c.1 in
+    all_joined IsClean wrong _ a.0 (all_joined IsClean double _ b.0 (all_joined IsClean (field_declaration l f d).notes _ (t.clean fine c.0) rest))
 
 -- ---- all members of a class
 
@@ -256,7 +252,7 @@ module _ (l : Place) (named : List ℕ → Option ℕ) where
       let kept : AllOf IsClean (double i d ++ field_notes l (field_of l.world.class l.class next (trimmed d)) (trimmed d)) = subst (λ (y : LocalDecl). AllOf IsClean (field_named i next y)) e clean in
       let c = clean_parts (double i d) _ kept in
       let own : AllOf IsClean (field_notes l (field_of l.world.class l.class next d) (trimmed d)) = subst (λ (y : Field). AllOf IsClean (field_notes l y (trimmed d))) (field_trimmed l.world.class l.class next d) c.1 in
-      (all_clean_both (double i d) _ c.0 (clean_field l (field_of l.world.class l.class next d) d refl fine_d own), subst (λ (y : LocalDecl). FineOf y.mods y.ty) (sym f) fine_x)
+      (all_joined IsClean (double i d) _ c.0 (clean_field l (field_of l.world.class l.class next d) d refl fine_d own), subst (λ (y : LocalDecl). FineOf y.mods y.ty) (sym f) fine_x)
 
   fine_alone : (i next : ℕ) (first : Option LocalDecl) (d : LocalDecl) → AllOf IsClean (field_named i next (field_in first d)) → field_in first d ≡ d → first_of first d ≡ d → IsFine i next first d
   fine_alone i next first d clean e f =
@@ -270,10 +266,10 @@ module _ (l : Place) (named : List ℕ → Option ℕ) where
   members_clean i next first (member.Field d ∷ ms) fine shares clean =
       let c = clean_parts (field_named i next (field_in first d)) (member_notes l named (i + 1) (next_field next d) (members_behind (Some (first_of first d)) ms)) clean in
       let here : IsFine i next first d = trimmed_or_not first d shares.0 shares.1 (fine_again i next first d fine c.0) (fine_alone i next first d c.0) in
-      all_clean_both (field_named i next d) (member_notes l named (i + 1) (next_field next d) ms) here.0 (members_clean (i + 1) (next_field next d) (Some (first_of first d)) ms here.1 shares.2 c.1)
+      all_joined IsClean (field_named i next d) (member_notes l named (i + 1) (next_field next d) ms) here.0 (members_clean (i + 1) (next_field next d) (Some (first_of first d)) ms here.1 shares.2 c.1)
   members_clean i next first (member.Method m ∷ ms) fine shares clean =
       let c = clean_parts (named_member l named i next (member.Method m)) (member_notes l named (i + 1) next (members_behind None ms)) clean in
-      all_clean_both (named_member l named i next (member.Method m)) (member_notes l named (i + 1) next ms) c.0 (members_clean (i + 1) next None ms tt shares c.1)
+      all_joined IsClean (named_member l named i next (member.Method m)) (member_notes l named (i + 1) next ms) c.0 (members_clean (i + 1) next None ms tt shares c.1)
 
 pub fields_trim : (class : ClassOf) (c next : ℕ) (first : Option LocalDecl) (ms : List Member) → AllShare first ms → fields_in class c next (members_behind first ms) ≡ fields_in class c next ms
 fields_trim class c next first [] shares = refl

@@ -1,20 +1,17 @@
 -- In the tree of tokens that lie in order, fields whose types stand at one place are those of one declaration.
 use Rattle.std.proofs.Common.{◌≡◌, ◌≤◌, ◌<◌, ℕ, Bool, true, false, List, [], ◌∷◌, ◌++◌, Option, Some, None, refl, sym, ap, ◌∙◌, subst, arith}
-use Rattle.std.specs.Prelude.{if◌then◌else◌, ◌==◌, ◌&&◌}
-use Rattle.std.proofs.lemmas.Bool.{and_parts, false≢true}
-use Rattle.ix_text.specs.declared.span.Span.{Span}
+use Rattle.std.specs.Prelude.{if◌then◌else◌, ◌==◌}
+use Rattle.std.proofs.lemmas.Bool.{and_parts}
 use Rattle.ix_lexer.specs.declared.token.Token.{Token}
 use Rattle.ix_lexer.specs.declared.fixed.TheConstants.{CLASS, SEMICOLON, OPEN_BRACE, CLOSE_BRACE}
 use Rattle.ix_lexer.specs.Spans.{InOrder}
-use Rattle.ix_lexer.proofs.SplitInOrder.{order_within, order_both}
+use Rattle.ix_lexer.proofs.SplitInOrder.{order_both}
 use Rattle.ix_core.proofs.Cases.{by_test, equal}
-use Rattle.ix_tree.specs.declared.annot.Mods.{Mods}
 use Rattle.ix_tree.specs.declared.annot.TypeTree.{TypeTree}
 use Rattle.ix_tree.specs.declared.decl.ClassDecl.{ClassDecl}
 use Rattle.ix_tree.specs.declared.decl.LocalDecl.{LocalDecl}
 use Rattle.ix_tree.specs.declared.decl.Member.{Member}
 use Rattle.ix_tree.specs.declared.decl.Member.TheVariants as member
-use Rattle.ix_tree.specs.declared.decl.Unit.{Unit as Source}
 use Rattle.ix_tree.proofs.Layouts.{Lies}
 use Rattle.ix_grammar.specs.declared.classes.Classes.{Classes}
 use Rattle.ix_grammar.specs.declared.classes.FoundClass.{FoundClass}
@@ -31,13 +28,16 @@ use Rattle.ix_grammar.specs.ExprGrammar.{IsInit}
 use Rattle.ix_grammar.specs.ClassGrammar as g
 use Rattle.ix_grammar.specs.ClassGrammar.{IsMember, IsClass, fields, no_members, with_members, no_classes, with_class}
 use Rattle.ix_grammar.specs.SourceGrammar.{source_parts, IsSource}
+use Rattle.ix_meaning.specs.Resolved.{Accepts}
 use Rattle.ix_meaning.specs.Declarators.{is_further, first_of, first_behind}
 use Rattle.ix_formed.specs.Additions.{AllOf}
 use Rattle.ix_formed.specs.Written.{is_written_type}
 use Rattle.ix_parsed.proofs.ParsedStatements.{type_found}
 use Rattle.ix_places.proofs.TypePlaces.{type_stands}
 use Rattle.ix_places.proofs.StmtPlaces.{order_at}
-use Rattle.ix_names_again.specs.Joint.{SharesWith, AllShare, ClassShares, IsJoint}
+use Rattle.ix_bare.specs.Bare.{bare_source}
+use Rattle.ix_names_again.specs.Joint.{AllShare, ClassShares, IsJoint}
+use Rattle.ix_names_again.proofs.AcceptsAnywhere.{accepts_anywhere}
 
 -- The type of the field that began the last declaration stands before that place.
 abbrev Before : ℕ → Option LocalDecl → Type 0
@@ -175,3 +175,9 @@ source_is_joint lo hi _ _ (g.program {first} {second} {third} {name} {imports} {
     let (one, a, b, q, s) = order_both lo hi first (second ++ third) o in
     let (two, c, e, t, u) = order_both one hi second third s in
     classes_share two hi third classes r u
+
+-- Of two texts whose trees are the same up to places both are accepted, or none.
+pub source_accepted_again : (lo hi from to : ℕ) (tokens others : List Token) (found other : FoundUnit) → IsSource tokens found → InOrder lo hi tokens → IsSource others other → InOrder from to others
+    → bare_source found.unit ≡ bare_source other.unit → Accepts found.unit → Accepts other.unit
+source_accepted_again lo hi from to tokens others found other d o e p same =
+    accepts_anywhere found.unit other.unit same (source_is_joint lo hi tokens found d o) (source_is_joint from to others other e p)

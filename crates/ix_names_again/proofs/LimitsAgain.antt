@@ -2,6 +2,7 @@
 use Rattle.std.proofs.Common.{◌≡◌, ℕ, ◌+◌, Bool, true, false, List, [], ◌∷◌, ◌++◌, map, length, Option, Some, None, option_map, refl, sym, ap, ap₂, ◌∙◌, subst}
 use Rattle.std.proofs.lemmas.Option.{slice_get-map}
 use Rattle.std.specs.Prelude.{if◌then◌else◌, nat_lt, slice_get}
+use Rattle.std.proofs.lemmas.List.{map-append}
 use Rattle.ix_annot.specs.Named.{or_else}
 use Rattle.ix_annot.specs.Table.{counted, most_claims}
 use Rattle.ix_tree.specs.declared.annot.Annot.{Annot}
@@ -27,7 +28,6 @@ use Rattle.ix_meaning.specs.Resolved.{Accepts}
 use Rattle.ix_bare.specs.Bare as bare
 use Rattle.ix_bare.specs.Bare.{nowhere, bare_maybe, bare_name, bare_annot, bare_type, bare_expr, bare_decl, bare_stmt, bare_method, bare_member, bare_class}
 use Rattle.ix_names_again.specs.Alike.{joined, AreSame}
-use Rattle.ix_names_again.proofs.NotesAlike.{map_both}
 use Rattle.ix_names_again.proofs.AnnotsAlike.{counted_bare}
 use Rattle.ix_names_again.proofs.DeclaratorsAlike.{declarators_bare}
 use Rattle.ix_names_again.proofs.FieldsAgain.{members_again}
@@ -39,7 +39,7 @@ abbrev pub passed_which : Option Passed → Option Which
 passed_which None = None
 passed_which (Some p) = Some p.which
 
-or_else_which : (a b : Option Passed) → passed_which (or_else a b) ≡ or_else (passed_which a) (passed_which b)
+pub or_else_which : (a b : Option Passed) → passed_which (or_else a b) ≡ or_else (passed_which a) (passed_which b)
 or_else_which None b = refl
 or_else_which (Some p) b = refl
 
@@ -66,7 +66,7 @@ methods_of_bare (member.Method m ∷ ms) = ap (λ (l : List MethodDecl). bare_me
 
 all_methods_bare : (cs : List ClassDecl) → all_methods (map bare_class cs) ≡ map bare_method (all_methods cs)
 all_methods_bare [] = refl
-all_methods_bare (c ∷ cs) = ap₂ (λ (x : List MethodDecl) (y : List MethodDecl). x ++ y) (methods_of_bare c.members) (all_methods_bare cs) ∙ sym (map_both bare_method (methods_of c.members) (all_methods cs))
+all_methods_bare (c ∷ cs) = ap₂ (λ (x : List MethodDecl) (y : List MethodDecl). x ++ y) (methods_of_bare c.members) (all_methods_bare cs) ∙ sym (map-append bare_method (methods_of c.members) (all_methods cs))
 
 method_names_bare : (ms : List MethodDecl) → method_names (map bare_method ms) ≡ map bare_name (method_names ms)
 method_names_bare [] = refl
@@ -105,14 +105,14 @@ claims_which [] = refl
 claims_which (annots ∷ lists) = either_which _ _ _ _ (claims_in_which 0 annots) (claims_which lists)
 
 declared_bare : (d : LocalDecl) → declared_annots (bare_decl d) ≡ map bare_annot (declared_annots d)
-declared_bare d = sym (map_both bare_annot d.mods.annots d.ty.annots)
+declared_bare d = sym (map-append bare_annot d.mods.annots d.ty.annots)
 
 each_bare : (ds : List LocalDecl) → each_annots (map bare_decl ds) ≡ all_bare (each_annots ds)
 each_bare [] = refl
 each_bare (d ∷ ds) = ap₂ (λ (l : List Annot) (ls : List (List Annot)). l ∷ ls) (declared_bare d) (each_bare ds)
 
 joined_bare : (xs ys us vs : List (List Annot)) → xs ≡ all_bare us → ys ≡ all_bare vs → xs ++ ys ≡ all_bare (us ++ vs)
-joined_bare xs ys us vs e f = ap₂ (λ (x : List (List Annot)) (y : List (List Annot)). x ++ y) e f ∙ sym (map_both (map bare_annot) us vs)
+joined_bare xs ys us vs e f = ap₂ (λ (x : List (List Annot)) (y : List (List Annot)). x ++ y) e f ∙ sym (map-append (map bare_annot) us vs)
 
 -- ---- claims in statements
 
@@ -196,7 +196,7 @@ members_bare [] = refl
 members_bare (member.Field d ∷ ms) = ap₂ (λ (l : List Annot) (ls : Annots). l ∷ ls) (declared_bare d) (members_bare ms)
 members_bare (member.Method m ∷ ms) =
     ap₂ (λ (l : List Annot) (ls : Annots). l ∷ ls)
-    (ap (λ (l : List Annot). map bare_annot m.mods.annots ++ l) (result_bare m.result) ∙ sym (map_both bare_annot m.mods.annots (result_annots m.result)))
+    (ap (λ (l : List Annot). map bare_annot m.mods.annots ++ l) (result_bare m.result) ∙ sym (map-append bare_annot m.mods.annots (result_annots m.result)))
     (joined_bare _ _ (each_annots m.params) (body_annots m.body ++ member_annots ms) (each_bare m.params) (joined_bare _ _ (body_annots m.body) (member_annots ms) (body_bare m.body) (members_bare ms)))
 
 annots_again : (us vs : List ClassDecl) → map bare_class us ≡ map bare_class vs → map joined us ≡ map joined vs → all_bare (all_annots us) ≡ all_bare (all_annots vs)
@@ -210,10 +210,10 @@ annots_again (u ∷ us) (v ∷ vs) e j =
     let later_joined : map joined us ≡ map joined vs = cc in
     let same : map bare_member u.members ≡ map bare_member v.members = ap (λ (k : ClassDecl). k.members) here in
     let first : all_bare (member_annots (declared.members u.members)) ≡ all_bare (member_annots (declared.members v.members)) =
-        sym (members_bare (declared.members u.members)) ∙ ap member_annots (members_again u.members v.members same here_joined) ∙ members_bare (declared.members v.members) in
-    map_both (map bare_annot) (member_annots (declared.members u.members)) (all_annots us)
+    sym (members_bare (declared.members u.members)) ∙ ap member_annots (members_again u.members v.members same here_joined) ∙ members_bare (declared.members v.members) in
+    map-append (map bare_annot) (member_annots (declared.members u.members)) (all_annots us)
     ∙ ap₂ (λ (x : Annots) (y : Annots). x ++ y) first (annots_again us vs later later_joined)
-    ∙ sym (map_both (map bare_annot) (member_annots (declared.members v.members)) (all_annots vs))
+    ∙ sym (map-append (map bare_annot) (member_annots (declared.members v.members)) (all_annots vs))
 
 -- ---- the limits
 

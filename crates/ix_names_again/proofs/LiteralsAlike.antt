@@ -1,7 +1,6 @@
 -- An initialiser is the same literal wherever it stands.
-use Rattle.std.proofs.Common.{◌≡◌, ℤ, Bool, List, [], ◌∷◌, map, Option, Some, None, refl, sym, ap, ◌∙◌, subst}
-use Rattle.ix_tree.specs.declared.annot.Ident.{Ident}
-use Rattle.ix_tree.specs.declared.expr.Expr.{Expr, Expr-F, fold-Expr, ind-Expr, map-Expr, roll-Expr, fold-roll-Expr}
+use Rattle.std.proofs.Common.{◌≡◌, ℤ, map, Option, Some, None, sym, ap, ◌∙◌, subst}
+use Rattle.ix_tree.specs.declared.expr.Expr.{Expr, Expr-F, fold-Expr, map-Expr, roll-Expr, fold-roll-Expr}
 use Rattle.ix_tree.specs.declared.expr.ExprKind.{ExprKind, ExprKind-F, map-ExprKind, roll-ExprKind, fold-ExprKind, fold-roll-ExprKind}
 use Rattle.ix_tree.specs.declared.expr.Init.{Init, Init-F, ind-Init, map-Init, roll-Init, fold-roll-Init}
 use Rattle.ix_tree.proofs.FoldsOfForms as fold

@@ -1,5 +1,5 @@
 -- Names mean the same at other places.
-use Rattle.std.proofs.Common.{◌≡◌, ◌≤◌, ℕ, List, [], ◌∷◌, map, Option, Some, None, refl, sym, ap, ◌∙◌}
+use Rattle.std.proofs.Common.{◌≡◌, List, [], ◌∷◌, map, Some, sym, ap, ◌∙◌}
 use Rattle.ix_core.specs.declared.claim.Type_.{Type_}
 use Rattle.ix_tree.specs.declared.decl.Unit.{Unit as Source}
 use Rattle.ix_tree.specs.Parts.{Part, CanResolve, unit_parts}
@@ -12,7 +12,7 @@ use Rattle.ix_meaning.specs.Source.{notes}
 use Rattle.ix_formed.specs.Additions.{AllOf}
 use Rattle.ix_formed.specs.NoErrors.{Agrees}
 use Rattle.ix_formed.proofs.NamesAgree.{notes_agree}
-use Rattle.ix_names_again.specs.Alike.{bare_note, AreAlike, AreSame}
+use Rattle.ix_names_again.specs.Alike.{bare_note, AreSame}
 use Rattle.ix_names_again.specs.Same.{AllPairs, SaySame}
 use Rattle.ix_names_again.proofs.SourcesAlike.{notes_again}
 use Rattle.ix_names_again.proofs.LimitsAgain.{accepts_again}

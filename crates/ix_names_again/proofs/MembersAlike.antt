@@ -3,7 +3,8 @@ use Rattle.std.proofs.Common.{◌≡◌, ℕ, ◌+◌, ℤ, Bool, true, false, L
 use Rattle.std.proofs.Math.Path.{fun_ext}
 use Rattle.std.specs.List.{list_any}
 use Rattle.std.specs.Option.{option_and_then}
-use Rattle.std.specs.Prelude.{if◌then◌else◌, is_some, not, ◌&&◌, ◌||◌, ◌==◌, bytes_eq, option_map}
+use Rattle.std.specs.Prelude.{if◌then◌else◌, is_some, not, ◌&&◌, ◌||◌, bytes_eq, option_map}
+use Rattle.std.proofs.lemmas.List.{map-append}
 use Rattle.ix_text.specs.declared.span.Span.{Span}
 use Rattle.ix_core.specs.declared.claim.Claim.{Claim}
 use Rattle.ix_core.specs.declared.claim.Name.TheVariants as name
@@ -13,7 +14,6 @@ use Rattle.ix_annot.specs.declared.scope.Claims.{Claims}
 use Rattle.ix_annot.specs.declared.scope.Target.TheVariants as on
 use Rattle.ix_annot.specs.Named.{Names}
 use Rattle.ix_tree.specs.declared.annot.Annot.{Annot}
-use Rattle.ix_tree.specs.declared.annot.BaseTree.{BaseTree}
 use Rattle.ix_tree.specs.declared.annot.TypeTree.{TypeTree}
 use Rattle.ix_tree.specs.declared.decl.LocalDecl.{LocalDecl}
 use Rattle.ix_tree.specs.declared.decl.Member.{Member}
@@ -28,11 +28,11 @@ use Rattle.ix_meaning.specs.declared.note.Meaning.TheVariants.{Param, FieldNamed
 use Rattle.ix_meaning.specs.declared.note.Note.{Note}
 use Rattle.ix_meaning.specs.declared.note.Rule.{Rule}
 use Rattle.ix_meaning.specs.declared.note.Rule.TheVariants as rule
-use Rattle.ix_meaning.specs.Annotated.{Declaration, Given, given, aimed, names_nothing, written, element_claims, target_before, is_int_tree, variable, static_field, of_variable, marked, distinct_posts, of_method, of_result}
-use Rattle.ix_meaning.specs.Bodies.{all_told, telling, declares_note, init_notes}
+use Rattle.ix_meaning.specs.Annotated.{Given, given, aimed, names_nothing, written, element_claims, target_before, variable, static_field, of_variable, marked, distinct_posts, of_method, of_result}
+use Rattle.ix_meaning.specs.Bodies.{all_told, telling, declares_note}
 use Rattle.ix_meaning.specs.Classes.{first_or}
-use Rattle.ix_meaning.specs.Inheritance.{hides, clashes_with, clashes_in, clashes, if_instance, overridden, differ, some_differ, differs_from}
-use Rattle.ix_meaning.specs.Members.{ClassOf, World, Callee, literal, is_int_type, constant, field_type, field_meaning, field_of, next_field, next_member, next_fields, param_type, result_type, signature, nearest, constructor_params, is_method_named}
+use Rattle.ix_meaning.specs.Inheritance.{hides, clashes_in, clashes, if_instance, overridden, differs_from}
+use Rattle.ix_meaning.specs.Members.{ClassOf, World, Callee, literal, is_int_type, constant, field_type, field_meaning, field_of, next_member, next_fields, param_type, result_type, signature, nearest, constructor_params}
 use Rattle.ix_meaning.specs.Rules as rules
 use Rattle.ix_meaning.specs.Scope.{Scope, Known, annot_names}
 use Rattle.ix_meaning.specs.Source as source
@@ -41,7 +41,7 @@ use Rattle.ix_meaning.specs.Types.{Need, wrong_if}
 use Rattle.ix_meaning.specs.Values.{arguments, given_to, reading}
 use Rattle.ix_bare.specs.Bare.{nowhere, bare_maybe, bare_name, bare_annot, bare_type, bare_init, bare_expr, bare_stmt, bare_decl, bare_method, bare_member}
 use Rattle.ix_names_again.specs.Alike.{AreAlike}
-use Rattle.ix_names_again.proofs.NotesAlike.{map_both, none, both, used, is_wrong, if_wrong}
+use Rattle.ix_names_again.proofs.NotesAlike.{none, both, if_wrong}
 use Rattle.ix_names_again.proofs.AnnotsAlike.{SameGiven, given_alike, of_method_bare, of_result_bare}
 use Rattle.ix_names_again.proofs.TypesAlike.{int_tree_bare, target_bare, written_alike, element_claims_bare, SameDeclaration, declaration_alike, variable_alike}
 use Rattle.ix_names_again.proofs.ScopesAlike.{bare_field, bare_signature, bare_callee, bare_world, bare_scope, nearest_bare, constructor_bare, annot_names_bare}
@@ -129,7 +129,7 @@ param_notes_alike l s before others e k (d ∷ ds) =
     both (duplicate_alike (is_named_in before d.name.text) (is_named_in others d.name.text) d.name.span nowhere (ap (λ ds. is_named_in ds d.name.text) e ∙ named_in_bare before d.name.text))
     (both said.notes
     (both (declares_alike _ _ _ _ d.name.span nowhere said.ty (ap of_variable said.claims))
-    (param_notes_alike l s (before ++ d ∷ []) (others ++ bare_decl d ∷ []) (ap (λ ds. ds ++ bare_decl d ∷ []) e ∙ sym (map_both bare_decl before (d ∷ []))) (k + 1) ds)))
+    (param_notes_alike l s (before ++ d ∷ []) (others ++ bare_decl d ∷ []) (ap (λ ds. ds ++ bare_decl d ∷ []) e ∙ sym (map-append bare_decl before (d ∷ []))) (k + 1) ds)))
 
 -- ---- methods and constructors
 
@@ -302,28 +302,28 @@ method_alike l m d =
     let body = body_scope l m d in
     let was = method_notes l m d in
     let with_scopes : Scope → Scope → List Note = λ h b.
-        constructor_notes (bare_place l) (bare_method d)
-        ++ (inherited_notes (bare_place l) (bare_signature m)
-        ++ ((result_given (bare_place l) h (bare_signature m) (bare_method d)).notes
-        ++ ((method_given (bare_place l) h (bare_signature m) (map bare_annot d.mods.annots)).notes
-        ++ (declares_note nowhere m.result (marked (result_given (bare_place l) h (bare_signature m) (bare_method d)).claims (method_given (bare_place l) h (bare_signature m) (map bare_annot d.mods.annots)))
-        ++ (param_notes (bare_place l) h [] 0 (map bare_decl d.params)
-        ++ (super_notes (bare_place l) b (bare_method d)
-        ++ (all_told (map telling (map bare_stmt d.body))).notes b)))))) in
+    constructor_notes (bare_place l) (bare_method d)
+    ++ (inherited_notes (bare_place l) (bare_signature m)
+    ++ ((result_given (bare_place l) h (bare_signature m) (bare_method d)).notes
+    ++ ((method_given (bare_place l) h (bare_signature m) (map bare_annot d.mods.annots)).notes
+    ++ (declares_note nowhere m.result (marked (result_given (bare_place l) h (bare_signature m) (bare_method d)).claims (method_given (bare_place l) h (bare_signature m) (map bare_annot d.mods.annots)))
+    ++ (param_notes (bare_place l) h [] 0 (map bare_decl d.params)
+    ++ (super_notes (bare_place l) b (bare_method d)
+    ++ (all_told (map telling (map bare_stmt d.body))).notes b)))))) in
     let result = result_given_alike l head m d in
     let marks = method_given_alike l head m d.mods.annots in
     let claims_same : marked (result_given l head m d).claims (method_given l head m d.mods.annots)
-        ≡ marked (result_given (bare_place l) (bare_scope head) (bare_signature m) (bare_method d)).claims (method_given (bare_place l) (bare_scope head) (bare_signature m) (map bare_annot d.mods.annots)) =
-        ap₂ (λ (cs : List Claim) (f : Claims). record f { list = cs }) result.claims (marks_same _ _ marks) in
+    ≡ marked (result_given (bare_place l) (bare_scope head) (bare_signature m) (bare_method d)).claims (method_given (bare_place l) (bare_scope head) (bare_signature m) (map bare_annot d.mods.annots)) =
+    ap₂ (λ (cs : List Claim) (f : Claims). record f { list = cs }) result.claims (marks_same _ _ marks) in
     let inner : AreAlike was (with_scopes (bare_scope head) (bare_scope body)) =
-        both (constructor_alike l d)
-        (both (inherited_alike l m)
-        (both result.notes
-        (both marks.notes
-        (both (declares_alike m.result m.result _ _ d.name.span nowhere refl claims_same)
-        (both (param_notes_alike l head [] [] refl 0 d.params)
-        (both (super_notes_alike l body d)
-        ((body_alike d.body).notes body))))))) in
+    both (constructor_alike l d)
+    (both (inherited_alike l m)
+    (both result.notes
+    (both marks.notes
+    (both (declares_alike m.result m.result _ _ d.name.span nowhere refl claims_same)
+    (both (param_notes_alike l head [] [] refl 0 d.params)
+    (both (super_notes_alike l body d)
+    ((body_alike d.body).notes body))))))) in
     subst (λ (h : Scope). AreAlike was (with_scopes h (body_scope (bare_place l) (bare_signature m) (bare_method d)))) (sym (head_bare l m d))
     (subst (λ (b : Scope). AreAlike was (with_scopes (bare_scope head) b)) (sym (body_bare l m d)) inner)
 

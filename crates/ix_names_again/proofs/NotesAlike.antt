@@ -1,25 +1,21 @@
 -- Parts of lists of notes that are the same up to places.
-use Rattle.std.proofs.Common.{◌≡◌, Bool, true, false, List, [], ◌∷◌, ◌++◌, map, Option, Some, None, refl, sym, ap, ap₂, ◌∙◌}
+use Rattle.std.proofs.Common.{◌≡◌, Bool, true, false, List, [], ◌∷◌, ◌++◌, Option, Some, None, refl, sym, ap, ap₂, ◌∙◌}
+use Rattle.std.proofs.lemmas.List.{map-append}
 use Rattle.ix_text.specs.declared.span.Span.{Span}
 use Rattle.ix_core.specs.declared.claim.Type_.{Type_}
 use Rattle.ix_meaning.specs.declared.note.Meaning.{Meaning}
-use Rattle.ix_meaning.specs.declared.note.Declared.{Declared}
 use Rattle.ix_meaning.specs.declared.note.Note.{Note}
-use Rattle.ix_meaning.specs.declared.note.Note.TheVariants.{Use, Typed, Declares, Wrong, WrongAnnot}
+use Rattle.ix_meaning.specs.declared.note.Note.TheVariants.{Use}
 use Rattle.ix_meaning.specs.declared.note.Rule.{Rule}
 use Rattle.ix_meaning.specs.Types.{Judged, type_note, wrong, wrong_if}
 use Rattle.ix_bare.specs.Bare.{nowhere}
 use Rattle.ix_names_again.specs.Alike.{bare_note, AreAlike}
 
-pub map_both : {A B : Type 0} (of : A → B) (xs ys : List A) → map of (xs ++ ys) ≡ map of xs ++ map of ys
-map_both of [] ys = refl
-map_both of (x ∷ xs) ys = ap (λ l. of x ∷ l) (map_both of xs ys)
-
 pub none : AreAlike [] []
 none = record { same = refl }
 
 pub both : {a b c d : List Note} → AreAlike a b → AreAlike c d → AreAlike (a ++ c) (b ++ d)
-both {a} {b} {c} {d} x y = record { same = map_both bare_note a c ∙ ap₂ (λ l m. l ++ m) x.same y.same ∙ sym (map_both bare_note b d) }
+both {a} {b} {c} {d} x y = record { same = map-append bare_note a c ∙ ap₂ (λ l m. l ++ m) x.same y.same ∙ sym (map-append bare_note b d) }
 
 pub flipped : {a b : List Note} → AreAlike a b → AreAlike b a
 flipped x = record { same = sym x.same }

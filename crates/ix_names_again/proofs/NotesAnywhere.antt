@@ -1,5 +1,6 @@
 -- Accepted sources with the same tree up to places have notes that are the same up to places, whichever of their fields are declared together.
-use Rattle.std.proofs.Common.{◌≡◌, ℕ, ◌+◌, List, [], ◌∷◌, ◌++◌, map, Option, Some, None, refl, sym, ap, ap₂, ◌∙◌, subst}
+use Rattle.std.proofs.Common.{◌≡◌, ℕ, ◌+◌, List, [], ◌∷◌, ◌++◌, map, Option, None, refl, sym, ap, ap₂, ◌∙◌, subst}
+use Rattle.std.proofs.lemmas.List.{map-append}
 use Rattle.ix_tree.specs.declared.decl.ClassDecl.{ClassDecl}
 use Rattle.ix_tree.specs.declared.decl.Member.{Member}
 use Rattle.ix_tree.specs.declared.decl.Unit.{Unit as Source}
@@ -13,16 +14,16 @@ use Rattle.ix_meaning.specs.Source.{place, head_notes, default_notes_of, member_
 use Rattle.ix_formed.specs.Additions.{AllOf}
 use Rattle.ix_formed.specs.NoErrors.{IsClean}
 use Rattle.ix_formed.proofs.CleanNotes.{clean_parts}
+use Rattle.ix_formed.proofs.NumberLists.{all_joined}
 use Rattle.ix_bare.specs.Bare.{bare_member, bare_class, bare_source}
-use Rattle.ix_names_again.specs.Alike.{bare_note, AreAlike}
+use Rattle.ix_names_again.specs.Alike.{AreAlike}
 use Rattle.ix_names_again.specs.Joint.{ClassShares, IsJoint}
-use Rattle.ix_names_again.proofs.NotesAlike.{map_both, none, both, flipped, chained}
+use Rattle.ix_names_again.proofs.NotesAlike.{none, both, flipped, chained}
 use Rattle.ix_names_again.proofs.ScopesAlike.{bare_field, bare_signature, bare_world}
 use Rattle.ix_names_again.proofs.MembersAlike.{next_fields_bare}
 use Rattle.ix_names_again.proofs.WorldsAgain.{fields_in_bare, class_named_again, parents_again, methods_again, world_with}
 use Rattle.ix_names_again.proofs.SourcesAlike.{class_notes_of, class_alike}
 use Rattle.ix_names_again.proofs.ErrorsAgain.{clean_again}
-use Rattle.ix_names_again.proofs.CountedAnnots.{all_clean_both}
 use Rattle.ix_names_again.proofs.JointFields.{members_trim, members_clean, fields_trim}
 
 -- ---- fields, each by itself
@@ -39,7 +40,7 @@ fields_alone class c next (k ∷ ks) shares =
 alone_bare : (class : ClassOf) (c next : ℕ) (ks : List ClassDecl) → map bare_field (alone_from class c next ks) ≡ alone_from class c next (map bare_class ks)
 alone_bare class c next [] = refl
 alone_bare class c next (k ∷ ks) =
-    map_both bare_field (fields_in class c next k.members) (alone_from class (c + 1) (next_fields next k.members) ks)
+    map-append bare_field (fields_in class c next k.members) (alone_from class (c + 1) (next_fields next k.members) ks)
     ∙ ap₂ (λ (xs : List Field) (ys : List Field). xs ++ ys) (sym (fields_in_bare class c next k.members)) (alone_bare class (c + 1) (next_fields next k.members) ks)
     ∙ ap (λ n. fields_in class c next (map bare_member k.members) ++ alone_from class (c + 1) n (map bare_class ks)) (sym (next_fields_bare next k.members))
 
@@ -88,8 +89,8 @@ module _ (w : World) (ps : List (Option ℕ)) (ms : List Signature) where
   class_clean c next k shares clean =
       let a = clean_parts (head c k) (inner c next k (declared.members k.members) ++ default c k) clean in
       let b = clean_parts (inner c next k (declared.members k.members)) (default c k) a.1 in
-      all_clean_both (head c k) (inner c next k k.members ++ default c k) a.0
-      (all_clean_both (inner c next k k.members) (default c k) (members_clean (place w ms c k) (member_named k.members) 0 next None k.members tt shares b.0) b.1)
+      all_joined IsClean (head c k) (inner c next k k.members ++ default c k) a.0
+      (all_joined IsClean (inner c next k k.members) (default c k) (members_clean (place w ms c k) (member_named k.members) 0 next None k.members tt shares b.0) b.1)
 
   classes_trim : (c next : ℕ) (ks : List ClassDecl) → AllOf ClassShares ks → AllOf IsClean (alone_notes_from w ps ms c next ks) → notes_from w ps ms c next ks ≡ alone_notes_from w ps ms c next ks
   classes_trim c next [] shares clean = refl
@@ -101,7 +102,7 @@ module _ (w : World) (ps : List (Option ℕ)) (ms : List Signature) where
   classes_clean c next [] shares clean = tt
   classes_clean c next (k ∷ ks) shares clean =
       let a = clean_parts (class_notes w ps ms c next k) (notes_from w ps ms (c + 1) (next_fields next k.members) ks) clean in
-      all_clean_both (class_notes_of w ps ms c next k k.members) (alone_notes_from w ps ms (c + 1) (next_fields next k.members) ks) (class_clean c next k shares.0 a.0)
+      all_joined IsClean (class_notes_of w ps ms c next k k.members) (alone_notes_from w ps ms (c + 1) (next_fields next k.members) ks) (class_clean c next k shares.0 a.0)
       (classes_clean (c + 1) (next_fields next k.members) ks shares.1 a.1)
 
 -- ---- whole sources
@@ -112,9 +113,9 @@ alone_notes all = alone_notes_from (world all) (parents all) (methods all) 0 0 a
 alone_again : (us vs : List ClassDecl) → map bare_class us ≡ map bare_class vs → AllOf ClassShares us → AllOf ClassShares vs → AreAlike (alone_notes us) (alone_notes vs)
 alone_again us vs e one two =
     let equal : alone_notes_from (bare_world (world us)) (parents us) (map bare_signature (methods us)) 0 0 (map bare_class us)
-        ≡ alone_notes_from (bare_world (world vs)) (parents vs) (map bare_signature (methods vs)) 0 0 (map bare_class vs) =
-        ap₂ (λ (w : World) (ps : List (Option ℕ)). alone_notes_from w ps (map bare_signature (methods us)) 0 0 (map bare_class us)) (world_anywhere us vs e one two) (parents_again us vs e)
-        ∙ ap₂ (λ (ms : List Signature) (ks : List ClassDecl). alone_notes_from (bare_world (world vs)) (parents vs) ms 0 0 ks) (methods_again us vs e) e in
+    ≡ alone_notes_from (bare_world (world vs)) (parents vs) (map bare_signature (methods vs)) 0 0 (map bare_class vs) =
+    ap₂ (λ (w : World) (ps : List (Option ℕ)). alone_notes_from w ps (map bare_signature (methods us)) 0 0 (map bare_class us)) (world_anywhere us vs e one two) (parents_again us vs e)
+    ∙ ap₂ (λ (ms : List Signature) (ks : List ClassDecl). alone_notes_from (bare_world (world vs)) (parents vs) ms 0 0 ks) (methods_again us vs e) e in
     chained (subst (AreAlike (alone_notes us)) equal (alone_alike (world us) (parents us) (methods us) 0 0 us)) (flipped (alone_alike (world vs) (parents vs) (methods vs) 0 0 vs))
 
 -- Where no note of one is an error, they have as many notes, each the same up to its place.

@@ -1,6 +1,6 @@
 -- Parts of two trees that are the same up to places, at scopes that are the same but for the places of fields and methods: what they say, for an
 -- induction over both trees.
-use Rattle.std.proofs.Common.{◌≡◌, ℕ, ◌+◌, List, [], ◌∷◌, ◌++◌, map, Option, refl, sym, ap, ap₂, ◌∙◌, subst}
+use Rattle.std.proofs.Common.{◌≡◌, ℕ, zero, suc, List, [], ◌∷◌, ◌++◌, map, Option, Some, slice_get, refl, sym, ap, ap₂, ◌∙◌, subst}
 use Rattle.ix_core.specs.declared.claim.Type_.{Type_}
 use Rattle.ix_tree.specs.declared.decl.Member.{Member}
 use Rattle.ix_tree.specs.declared.expr.Expr.{Expr}
@@ -8,7 +8,7 @@ use Rattle.ix_tree.specs.declared.expr.Init.{Init}
 use Rattle.ix_tree.specs.declared.stmt.Stmt.{Stmt}
 use Rattle.ix_meaning.specs.declared.note.Note.{Note}
 use Rattle.ix_meaning.specs.Bodies.{Telling, telling, all_told, after}
-use Rattle.ix_meaning.specs.Scope.{Scope, Known}
+use Rattle.ix_meaning.specs.Scope.{Scope}
 use Rattle.ix_meaning.specs.Source.{Place, one_member}
 use Rattle.ix_meaning.specs.Types.{Need, Judged}
 use Rattle.ix_meaning.specs.Values.{Reading, Received, reading, filling, check}
@@ -17,7 +17,7 @@ use Rattle.ix_names_again.specs.Alike.{bare_note, AreAlike}
 use Rattle.ix_names_again.specs.Same.{AllPairs}
 use Rattle.ix_names_again.proofs.NotesAlike.{flipped, chained, SameJudged}
 use Rattle.ix_names_again.proofs.ScopesAlike.{bare_scope}
-use Rattle.ix_names_again.proofs.ExpressionsAlike.{SameReceived, ReadingsAlike, FillingsAlike, check_alike, expression_alike, initialiser_alike}
+use Rattle.ix_names_again.proofs.ExpressionsAlike.{SameReceived, check_alike, expression_alike, initialiser_alike}
 use Rattle.ix_names_again.proofs.StatementsAlike.{TellsAlike, after_bare, statement_alike, body_alike}
 use Rattle.ix_names_again.proofs.MembersAlike.{bare_place, one_alike}
 
@@ -93,3 +93,20 @@ alike_parts (x ∷ xs) (u ∷ us) ys vs e R all =
     let later : map bare_note xs ≡ map bare_note us = cc in
     let rest = alike_parts xs us ys vs later R all.1 in
     ((all.0, rest.0), rest.1)
+
+-- each note with the note of its number
+pub alike_pairs : (ns ms : List Note) → map bare_note ns ≡ map bare_note ms → AllPairs (λ n m. bare_note n ≡ bare_note m) ns ms
+alike_pairs [] [] e = tt
+alike_pairs [] (m ∷ ms) e = absurd cc
+alike_pairs (n ∷ ns) [] e = absurd cc
+alike_pairs (n ∷ ns) (m ∷ ms) e =
+    let here : bare_note n ≡ bare_note m = cc in
+    let later : map bare_note ns ≡ map bare_note ms = cc in
+    (here, alike_pairs ns ms later)
+
+pub pair_at : {A : Type 0} (R : A → A → Type 0) (xs ys : List A) → AllPairs R xs ys → (i : ℕ) (x : A) → slice_get xs i ≡ Some x → (y : A) × (slice_get ys i ≡ Some y) × R x y
+pair_at R [] [] all i x e = absurd cc
+pair_at R [] (y ∷ ys) all i x e = absurd all
+pair_at R (z ∷ xs) [] all i x e = absurd all
+pair_at R (z ∷ xs) (y ∷ ys) all zero x e = let same : z ≡ x = cc in (y, refl, subst (λ w. R w y) same all.0)
+pair_at R (z ∷ xs) (y ∷ ys) all (suc i) x e = pair_at R xs ys all.1 i x e

@@ -1,7 +1,7 @@
 -- Scopes whose fields and methods have no places, in which names mean the same.
-use Rattle.std.proofs.Common.{◌≡◌, ℕ, Bool, true, false, List, [], ◌∷◌, map, Option, Some, None, refl, sym, ap, ◌∙◌}
+use Rattle.std.proofs.Common.{◌≡◌, ℕ, List, [], ◌∷◌, Option, Some, None, refl, ap, ◌∙◌}
 use Rattle.std.proofs.Math.Path.{fun_ext}
-use Rattle.std.specs.Prelude.{if◌then◌else◌, bytes_eq, ◌==◌, ◌&&◌}
+use Rattle.std.specs.Prelude.{if◌then◌else◌}
 use Rattle.ix_core.specs.declared.claim.Name.{Name}
 use Rattle.ix_annot.specs.declared.scope.Found.{Found}
 use Rattle.ix_annot.specs.declared.scope.Target.TheVariants as on

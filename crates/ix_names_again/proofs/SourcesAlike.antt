@@ -89,11 +89,11 @@ classes_again w x worlds ps ms ns signatures c next (u ∷ us) (v ∷ vs) e j =
     let same : map bare_member u.members ≡ map bare_member v.members = ap (λ (k : ClassDecl). k.members) here in
     let own : map bare_member (declared.members u.members) ≡ map bare_member (declared.members v.members) = members_again u.members v.members same here_joined in
     let equal : class_notes_of (bare_world w) ps (map bare_signature ms) c next (bare_class u) (map bare_member (declared.members u.members))
-        ≡ class_notes_of (bare_world x) ps (map bare_signature ns) c next (bare_class v) (map bare_member (declared.members v.members)) =
-        ap₂ (λ (y : World) (ss : List Signature). class_notes_of y ps ss c next (bare_class u) (map bare_member (declared.members u.members))) worlds signatures
-        ∙ ap₂ (λ (k : ClassDecl) (members : List Member). class_notes_of (bare_world x) ps (map bare_signature ns) c next k members) here own in
+    ≡ class_notes_of (bare_world x) ps (map bare_signature ns) c next (bare_class v) (map bare_member (declared.members v.members)) =
+    ap₂ (λ (y : World) (ss : List Signature). class_notes_of y ps ss c next (bare_class u) (map bare_member (declared.members u.members))) worlds signatures
+    ∙ ap₂ (λ (k : ClassDecl) (members : List Member). class_notes_of (bare_world x) ps (map bare_signature ns) c next k members) here own in
     let first : AreAlike (class_notes w ps ms c next u) (class_notes x ps ns c next v) =
-        chained (subst (AreAlike (class_notes w ps ms c next u)) equal (class_alike w ps ms c next u (declared.members u.members))) (flipped (class_alike x ps ns c next v (declared.members v.members))) in
+    chained (subst (AreAlike (class_notes w ps ms c next u)) equal (class_alike w ps ms c next u (declared.members u.members))) (flipped (class_alike x ps ns c next v (declared.members v.members))) in
     both first
     (subst (λ n. AreAlike (notes_from w ps ms (c + 1) (next_fields next u.members) us) (notes_from x ps ns (c + 1) n vs)) (next_again next u.members v.members same)
     (classes_again w x worlds ps ms ns signatures (c + 1) (next_fields next u.members) us vs later later_joined))

@@ -1,6 +1,6 @@
 -- Declarations of variables and statements say the same wherever they stand.
-use Rattle.std.proofs.Common.{◌≡◌, ℕ, ◌+◌, Bool, true, false, List, [], ◌∷◌, ◌++◌, map, Option, Some, None, refl, sym, ap, ap₂, ◌∙◌, subst}
-use Rattle.std.specs.Prelude.{if◌then◌else◌, is_some, ◌&&◌, not}
+use Rattle.std.proofs.Common.{◌≡◌, ℕ, ◌+◌, Bool, List, [], ◌∷◌, ◌++◌, map, Option, Some, None, refl, sym, ap, ap₂, ◌∙◌, subst}
+use Rattle.std.specs.Prelude.{if◌then◌else◌, ◌&&◌, not}
 use Rattle.ix_text.specs.declared.span.Span.{Span}
 use Rattle.ix_core.specs.declared.claim.Name.TheVariants as name
 use Rattle.ix_core.specs.declared.claim.Type_.{Type_}
@@ -24,7 +24,7 @@ use Rattle.ix_meaning.proofs.Equations as equations
 use Rattle.ix_bare.specs.Bare as bare
 use Rattle.ix_bare.specs.Bare.{nowhere, bare_maybe, bare_name, bare_decl, bare_init, bare_expr, bare_stmt}
 use Rattle.ix_names_again.specs.Alike.{AreAlike}
-use Rattle.ix_names_again.proofs.NotesAlike.{none, both, used, is_wrong, if_wrong}
+use Rattle.ix_names_again.proofs.NotesAlike.{none, both, is_wrong, if_wrong}
 use Rattle.ix_names_again.proofs.TypesAlike.{SameDeclaration, variable_alike}
 use Rattle.ix_names_again.proofs.ScopesAlike.{bare_scope, annot_names_bare}
 use Rattle.ix_names_again.proofs.DeclaratorsAlike.{declarators_bare}

@@ -1,5 +1,5 @@
 -- Types and declarations of variables say the same wherever they stand.
-use Rattle.std.proofs.Common.{◌≡◌, ℕ, Bool, true, false, List, [], ◌∷◌, ◌++◌, map, Option, Some, None, refl, sym, ap, subst}
+use Rattle.std.proofs.Common.{◌≡◌, ℕ, List, [], map, Option, Some, None, refl, sym, subst}
 use Rattle.ix_text.specs.declared.span.Span.{Span}
 use Rattle.ix_core.specs.declared.claim.Claim.{Claim}
 use Rattle.ix_tree.specs.declared.annot.Annot.{Annot}
@@ -11,11 +11,11 @@ use Rattle.ix_annot.specs.declared.scope.Target.TheVariants as on
 use Rattle.ix_annot.specs.Named.{Names}
 use Rattle.ix_meaning.specs.declared.note.Meaning.TheVariants.{ClassNamed}
 use Rattle.ix_meaning.specs.declared.note.Rule.TheVariants as rule
-use Rattle.ix_meaning.specs.Annotated.{Declaration, given, aimed, names_nothing, is_int_tree, target_before, class_use, based, written, element_claims, declaration, variable}
+use Rattle.ix_meaning.specs.Annotated.{Declaration, aimed, names_nothing, is_int_tree, target_before, class_use, based, written, element_claims, declaration, variable}
 use Rattle.ix_bare.specs.Bare.{bare_annot, bare_base, bare_type}
 use Rattle.ix_names_again.specs.Alike.{AreAlike}
 use Rattle.ix_names_again.proofs.NotesAlike.{none, both, used, is_wrong, SameJudged}
-use Rattle.ix_names_again.proofs.AnnotsAlike.{SameGiven, given_alike}
+use Rattle.ix_names_again.proofs.AnnotsAlike.{given_alike}
 
 pub int_tree_bare : (base : BaseTree) → is_int_tree (bare_base base) ≡ is_int_tree base
 int_tree_bare tree.Int = refl

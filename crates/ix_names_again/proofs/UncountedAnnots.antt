@@ -1,13 +1,9 @@
 -- An annotation on a variable that counts no claim claims nothing, and what is wrong with it depends on no name.
-use Rattle.std.proofs.Common.{◌≡◌, ℕ, ◌+◌, Bool, true, false, List, [], ◌∷◌, ◌++◌, length, Option, Some, None, option_map, Result, Ok, Err, codes, refl, sym, ap, ap₂, ◌∙◌, subst, arith}
+use Rattle.std.proofs.Common.{◌≡◌, ℕ, Bool, true, false, List, [], ◌∷◌, length, Option, Some, None, option_map, Result, Ok, Err, codes, refl, sym, ap, ap₂, ◌∙◌, subst, arith}
 use Rattle.std.specs.Option.{option_and_then}
-use Rattle.std.specs.Prelude.{if◌then◌else◌, bytes_eq, ◌&&◌, ◌||◌, ◌==◌, nat_lt, ℤ}
-use Rattle.std.specs.List.{list_any}
+use Rattle.std.specs.Prelude.{if◌then◌else◌, bytes_eq, ◌&&◌, ◌||◌, ◌==◌}
 use Rattle.std.proofs.lemmas.Bool.{false≢true}
-use Rattle.std.proofs.lemmas.Bool.Decides.{nat_tests}
 use Rattle.ix_core.specs.declared.claim.Claim.{Claim}
-use Rattle.ix_core.specs.declared.claim.Name.{Name}
-use Rattle.ix_core.proofs.Cases.{by_test}
 use Rattle.ix_tree.specs.declared.annot.Annot.{Annot}
 use Rattle.ix_tree.specs.declared.annot.AnnotArg.{AnnotArg}
 use Rattle.ix_tree.specs.declared.annot.AnnotValue.{AnnotValue}
@@ -24,8 +20,8 @@ use Rattle.ix_annot.specs.declared.table.Says.{Says}
 use Rattle.ix_annot.specs.declared.table.Says.TheVariants.{Nothing, EffectFree, AtLeast, Between, LengthAtLeast, Arrays, Offsets, Bounds, Ensures, EnsuresIf}
 use Rattle.ix_annot.specs.declared.table.Targets.{Targets}
 use Rattle.ix_annot.specs.declared.table.Targets.TheVariants as targets
-use Rattle.ix_annot.specs.Arguments.{Text, are_taken, texts, texts_or_none, matched, all_written, claims_written, plan_with, plan_of, plan}
-use Rattle.ix_annot.specs.Expansion.{claims_of, with_claims, with_plan, with_row, expanded, is_field, names_inherited, or_bad_name, given}
+use Rattle.ix_annot.specs.Arguments.{Text, are_taken, texts, texts_or_none, matched, claims_written, plan_with, plan_of, plan}
+use Rattle.ix_annot.specs.Expansion.{claims_of, with_claims, with_plan, with_row, expanded, is_field}
 use Rattle.ix_annot.specs.Named.{Names}
 use Rattle.ix_annot.specs.Table.{table, row_in, row_named, fits, argument, entries_in, counted_of, counted_in, counted}
 use Rattle.ix_meaning.specs.Annotated.{names_nothing, claims_from}
@@ -163,8 +159,8 @@ empty_plan free names = by (is_field names.own)
 gives_nothing : (p : Plan) → IsEmpty p → (names : Names) → with_claims names p (claims_of names p.written) ≡ Ok (nothing_claimed p.effect_free)
 gives_nothing p h names =
     let as_empty : p ≡ record { first = []; written = []; effect_free = p.effect_free; promise = None } =
-        ap₂ (λ (first : List Claim) (written : List Written). let q : Plan = record { first = first; written = written; effect_free = p.effect_free; promise = p.promise } in q) h.first h.written
-        ∙ ap (λ (promise : Option Promise). let q : Plan = record { first = []; written = []; effect_free = p.effect_free; promise = promise } in q) h.promise in
+    ap₂ (λ (first : List Claim) (written : List Written). let q : Plan = record { first = first; written = written; effect_free = p.effect_free; promise = p.promise } in q) h.first h.written
+    ∙ ap (λ (promise : Option Promise). let q : Plan = record { first = []; written = []; effect_free = p.effect_free; promise = promise } in q) h.promise in
     ap (λ (q : Plan). with_claims names q (claims_of names q.written)) as_empty ∙ empty_plan p.effect_free names
 
 -- The same is given whatever names mean, and no claim.

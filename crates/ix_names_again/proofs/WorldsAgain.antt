@@ -3,6 +3,7 @@ use Rattle.std.proofs.Common.{◌≡◌, ℕ, ◌+◌, Bool, true, false, List, 
 use Rattle.std.proofs.Math.Path.{fun_ext}
 use Rattle.std.proofs.lemmas.Option.{slice_get-map}
 use Rattle.std.specs.Prelude.{if◌then◌else◌, bytes_eq, ◌==◌, ◌&&◌, slice_get}
+use Rattle.std.proofs.lemmas.List.{map-append}
 use Rattle.ix_tree.specs.declared.annot.Ident.{Ident}
 use Rattle.ix_tree.specs.declared.decl.ClassDecl.{ClassDecl}
 use Rattle.ix_tree.specs.declared.decl.Member.{Member}
@@ -11,10 +12,9 @@ use Rattle.ix_meaning.specs.declared.members.Field.{Field}
 use Rattle.ix_meaning.specs.declared.members.Signature.{Signature}
 use Rattle.ix_meaning.specs.Classes.{first_or, first_class, class_named, parent_in_table, parents_by, parents, parent, supers}
 use Rattle.ix_meaning.specs.Declarators as declared
-use Rattle.ix_meaning.specs.Members.{ClassOf, World, Callee, field_of, next_field, next_fields, fields_in, fields_from, fields, signature, methods_in, methods_from, methods, own_field, callable_if, is_method_named, is_constructor_named, own_method, own_constructor, class_name, world}
-use Rattle.ix_bare.specs.Bare.{bare_maybe, bare_name, bare_decl, bare_method, bare_member, bare_class}
+use Rattle.ix_meaning.specs.Members.{ClassOf, World, Callee, next_field, next_fields, fields_in, fields_from, fields, methods_in, methods_from, methods, own_field, callable_if, is_method_named, is_constructor_named, own_method, own_constructor, class_name, world}
+use Rattle.ix_bare.specs.Bare.{bare_maybe, bare_name, bare_member, bare_class}
 use Rattle.ix_names_again.specs.Alike.{joined}
-use Rattle.ix_names_again.proofs.NotesAlike.{map_both}
 use Rattle.ix_names_again.proofs.ScopesAlike.{bare_field, bare_signature, bare_callee, bare_world}
 use Rattle.ix_names_again.proofs.MembersAlike.{field_of_bare, signature_bare, next_fields_bare}
 use Rattle.ix_names_again.proofs.FieldsAgain.{members_again}
@@ -50,7 +50,7 @@ methods_from_bare : (class : ClassOf) (c : ℕ) (cs : List ClassDecl) → method
 methods_from_bare class c [] = refl
 methods_from_bare class c (k ∷ ks) =
     ap₂ (λ (xs : List Signature) (ys : List Signature). xs ++ ys) (methods_in_bare class c k.members) (methods_from_bare class (c + 1) ks)
-    ∙ sym (map_both bare_signature (methods_in class c k.members) (methods_from class (c + 1) ks))
+    ∙ sym (map-append bare_signature (methods_in class c k.members) (methods_from class (c + 1) ks))
 
 pub methods_bare : (cs : List ClassDecl) → methods (map bare_class cs) ≡ map bare_signature (methods cs)
 methods_bare cs = ap (λ (class : ClassOf). methods_from class 0 (map bare_class cs)) (class_named_bare cs) ∙ methods_from_bare (class_named cs) 0 cs
@@ -77,15 +77,15 @@ fields_from_again class c next (u ∷ us) (v ∷ vs) e j =
     let later_joined : map joined us ≡ map joined vs = cc in
     let same : map bare_member u.members ≡ map bare_member v.members = ap (λ (k : ClassDecl). k.members) here in
     let first : map bare_field (fields_in class c next (declared.members u.members)) ≡ map bare_field (fields_in class c next (declared.members v.members)) =
-        sym (fields_in_bare class c next (declared.members u.members))
-        ∙ ap (fields_in class c next) (members_again u.members v.members same here_joined)
-        ∙ fields_in_bare class c next (declared.members v.members) in
+    sym (fields_in_bare class c next (declared.members u.members))
+    ∙ ap (fields_in class c next) (members_again u.members v.members same here_joined)
+    ∙ fields_in_bare class c next (declared.members v.members) in
     let rest : map bare_field (fields_from class (c + 1) (next_fields next u.members) us) ≡ map bare_field (fields_from class (c + 1) (next_fields next v.members) vs) =
-        fields_from_again class (c + 1) (next_fields next u.members) us vs later later_joined
-        ∙ ap (λ n. map bare_field (fields_from class (c + 1) n vs)) (next_again next u.members v.members same) in
-    map_both bare_field (fields_in class c next (declared.members u.members)) (fields_from class (c + 1) (next_fields next u.members) us)
+    fields_from_again class (c + 1) (next_fields next u.members) us vs later later_joined
+    ∙ ap (λ n. map bare_field (fields_from class (c + 1) n vs)) (next_again next u.members v.members same) in
+    map-append bare_field (fields_in class c next (declared.members u.members)) (fields_from class (c + 1) (next_fields next u.members) us)
     ∙ ap₂ (λ (xs : List Field) (ys : List Field). xs ++ ys) first rest
-    ∙ sym (map_both bare_field (fields_in class c next (declared.members v.members)) (fields_from class (c + 1) (next_fields next v.members) vs))
+    ∙ sym (map-append bare_field (fields_in class c next (declared.members v.members)) (fields_from class (c + 1) (next_fields next v.members) vs))
 
 -- ---- what two sources have in common
 
@@ -160,7 +160,7 @@ module _ (cs : List ClassDecl) where
   world_is : bare_world (world cs) ≡ world_of (class_named cs) (parents cs) (map bare_field (fields cs)) (map bare_signature (methods cs)) (λ c. class_name (slice_get cs c))
   world_is =
       let with : (ℕ → List ℕ → Option Field) → (ℕ → List ℕ → Option Callee) → (ℕ → Option Callee) → World = λ field method constructor.
-          record (bare_world (world cs)) { field = field; method = method; constructor = constructor } in
+      record (bare_world (world cs)) { field = field; method = method; constructor = constructor } in
       ap (λ (f : ℕ → List ℕ → Option Field). with f (bare_world (world cs)).method (bare_world (world cs)).constructor) field_is
       ∙ ap₂ (λ (m : ℕ → List ℕ → Option Callee) (k : ℕ → Option Callee). with (λ c name. own_field (map bare_field (fields cs)) c name) m k) method_is constructor_is
 

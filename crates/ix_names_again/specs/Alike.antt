@@ -1,6 +1,6 @@
 -- Notes with one place everywhere: two notes are the same up to places where these are equal. A note has one place, and in a broken rule's note this
 -- is the place of the error; what a note says beside it (what a use means, a type, what a declaration says, which rule is broken) holds no place.
-use Rattle.std.specs.Prelude.{◌≡◌, Bool, false, Option, Some, None, List, [], ◌∷◌, map}
+use Rattle.std.specs.Prelude.{◌≡◌, Bool, false, Option, None, List, [], ◌∷◌, map}
 use Rattle.ix_annot.specs.ClassDecl.{ClassDecl}
 use Rattle.ix_annot.specs.LocalDecl.{LocalDecl}
 use Rattle.ix_annot.specs.Member.{Member}
