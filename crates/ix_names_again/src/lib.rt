@@ -1,0 +1,10 @@
+//! Laws: what a source's notes say doesn't depend on its places.
+//!
+//! What goes in and what comes out: nothing; these are laws over the notes of a source.
+//! The contract: two sources that are the same up to places have notes that are the same up to places, both are accepted or none, and their names
+//! mean the same. By `notes_again` of `SourcesAlike` and `accepts_again`, where the same fields are declared together, and of accepted sources by
+//! `notes_anywhere`, `accepts_anywhere` and `means_anywhere`, where fields whose types stand at one place are those of one declaration, as in each
+//! tree of a text by `source_is_joint`.
+//! They stand on the notes of `ix_meaning`, the trees without places of `ix_bare`, and on what `ix_formed` says of the notes of accepted sources.
+//! They never look at a text, and at tokens only for where types stand.
+#![tactic(auto)]
