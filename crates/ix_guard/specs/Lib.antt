@@ -2,5 +2,6 @@
 pub mod Accesses
 pub mod Tests
 pub mod Guards
+pub mod Trees
 pub mod Kept
 pub mod Shown

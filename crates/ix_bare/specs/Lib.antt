@@ -1,0 +1,3 @@
+-- Trees without their places, and tokens at other places.
+pub mod Bare
+pub mod Respanned

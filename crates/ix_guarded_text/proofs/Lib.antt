@@ -1,0 +1,3 @@
+pub mod NamedAccesses
+pub mod TestTokens
+pub mod TestTexts
