@@ -1,0 +1,4 @@
+-- What is known along a body with guards.
+pub mod Known
+-- Bodies with guards.
+pub mod Guards
