@@ -1,1 +1,3 @@
 pub mod GuardedFlow
+pub mod KeptFacts
+pub mod KeptRules
