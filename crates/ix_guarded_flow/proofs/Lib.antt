@@ -1,3 +1,6 @@
 pub mod GuardedFlow
 pub mod KeptFacts
 pub mod KeptRules
+pub mod TestFacts
+pub mod InsideProved
+pub mod FinePoints

@@ -2,3 +2,5 @@
 pub mod Known
 -- Bodies with guards.
 pub mod Guards
+-- The errors of bounds.
+pub mod BoundErrors
