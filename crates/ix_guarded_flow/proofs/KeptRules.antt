@@ -111,7 +111,7 @@ module _ (program : Program) (method : Method) where
     kind_stays (op.Print value) place known spares = plain_stays (op.Print value) known (no_target known)
 
     -- nothing is known behind an operation that writes a slot of which something is known
-    kind_unknown : (kind : OpKind) (place : ℕ) (s : Stored) → KindGives program method profile kind place s (Reached [])
+    pub kind_unknown : (kind : OpKind) (place : ℕ) (s : Stored) → KindGives program method profile kind place s (Reached [])
     kind_unknown kind place s = kind_step program method profile kind place s (Reached []) (Reached []) (Reached []) (unknown_above s) (kind_stays kind place Unknown tt) (below_itself (Reached []))
 
     behind_either : (kind : OpKind) (place array index : ℕ) (first second : Bool) → writes kind array ≡ first → writes kind index ≡ second

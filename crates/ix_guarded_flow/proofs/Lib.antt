@@ -4,3 +4,5 @@ pub mod KeptRules
 pub mod TestFacts
 pub mod InsideProved
 pub mod FinePoints
+pub mod TestTells
+pub mod LandmarksExist
