@@ -49,12 +49,16 @@ module _ (error : Error) (rank : ℕ) (bounds : IsOfBounds error) where
       subst (λ i. Refuses (store_of (Inside first second)) (path_claim.Upper (Slot array) Nothing (pos 0)) (Slot i) → ⊥) inside.1
       (subst (λ a. Refuses (store_of (Inside first second)) (path_claim.Upper (Slot a) Nothing (pos 0)) (Slot second) → ⊥) inside.0 (λ r. r (high_proved first second))) refused
 
-  module _ (known : Known) (place : Span) (array index : ℕ) (inside : place ≡ error.span → IsInside known (array, index)) where
-    low_fine : AccessLow index place (store_of known) error rank → ⊥
-    low_fine low = low_proved_there known array index (inside (sym (ap (λ (e : Error). e.span) low.is))) low.refused
+  -- neither claim of the access is refused
+  abbrev Proves : Stored → ℕ × ℕ → Type 0
+  Proves store access = (Refuses store (path_claim.Low (pos 0)) (Slot access.1) → ⊥) × (Refuses store (path_claim.Upper (Slot access.0) Nothing (pos 0)) (Slot access.1) → ⊥)
 
-    high_fine : AccessHigh array index place (store_of known) error rank → ⊥
-    high_fine high = high_proved_there known array index (inside (sym (ap (λ (e : Error). e.span) high.is))) high.refused
+  module _ (store : Stored) (place : Span) (array index : ℕ) (proved : place ≡ error.span → Proves store (array, index)) where
+    low_fine : AccessLow index place store error rank → ⊥
+    low_fine low = (proved (sym (ap (λ (e : Error). e.span) low.is))).0 low.refused
+
+    high_fine : AccessHigh array index place store error rank → ⊥
+    high_fine high = (proved (sym (ap (λ (e : Error). e.span) high.is))).1 high.refused
 
   module _ (program : Program) (method : Method) (number : ℕ) where
     assign_fine : (source : ℕ) (place : Span) (variable : Option (Name × List Claim)) (store : Stored) → AssignClaim method number source place variable store error rank → ⊥
@@ -64,40 +68,45 @@ module _ (error : Error) (rank : ℕ) (bounds : IsOfBounds error) where
     argument_fine : (call : CallOp) (store : Stored) → ArgumentClaim program call store error rank → ⊥
     argument_fine call store claim = claim_other _ claim.param.claims 5 claim.arg.span _ (omega arith) claim.of
 
-    kind_fine : (done : Op) (kind : OpKind) (known : Known) → ((access : ℕ × ℕ) → accessed kind ≡ Some access → done.span ≡ error.span → IsInside known access)
-        → KindErrors program method number done kind (store_of known) error rank → ⊥
-    kind_fine done (op.Load target array index ty) known guarded either = elim either [
-      | inl low ↦ low_fine known done.span array index (guarded (array, index) refl) low
-      | inr high ↦ high_fine known done.span array index (guarded (array, index) refl) high
+    kind_fine : (done : Op) (kind : OpKind) (store : Stored) → ((access : ℕ × ℕ) → accessed kind ≡ Some access → done.span ≡ error.span → Proves store access)
+        → KindErrors program method number done kind store error rank → ⊥
+    kind_fine done (op.Load target array index ty) store guarded either = elim either [
+      | inl low ↦ low_fine store done.span array index (guarded (array, index) refl) low
+      | inr high ↦ high_fine store done.span array index (guarded (array, index) refl) high
     ]
-    kind_fine done (op.Store array index value ty) known guarded either = elim either [
-      | inl low ↦ low_fine known done.span array index (guarded (array, index) refl) low
-      | inr (inl high) ↦ high_fine known done.span array index (guarded (array, index) refl) high
+    kind_fine done (op.Store array index value ty) store guarded either = elim either [
+      | inl low ↦ low_fine store done.span array index (guarded (array, index) refl) low
+      | inr (inl high) ↦ high_fine store done.span array index (guarded (array, index) refl) high
       | inr (inr claim) ↦ claim_other _ _ 16 (part done 0) _ (omega arith) claim
     ]
-    kind_fine done (op.NewArray target ty size) known guarded either = elim either [
+    kind_fine done (op.NewArray target ty size) store guarded either = elim either [
       | inl negative ↦ plain_other 3 done.span (omega arith) negative.is
       | inr fresh ↦ claim_other _ _ 16 done.span _ (omega arith) fresh
     ]
-    kind_fine done (op.Fill target ty entries) known guarded entry = claim_other _ _ 16 (part done entry.at) _ (omega arith) entry.of
-    kind_fine done (op.Copy target source ty) known guarded claim = assign_fine source (part done 1) (variable_at method target done.span.from) (store_of known) claim
-    kind_fine done (op.WriteField object field value) known guarded either = elim either [
+    kind_fine done (op.Fill target ty entries) store guarded entry = claim_other _ _ 16 (part done entry.at) _ (omega arith) entry.of
+    kind_fine done (op.Copy target source ty) store guarded claim = assign_fine source (part done 1) (variable_at method target done.span.from) store claim
+    kind_fine done (op.WriteField object field value) store guarded either = elim either [
       | inl claim ↦ claim_other _ _ 7 (part done 1) _ (omega arith) claim.of
       | inr dependent ↦ claim_other _ _ 8 (part done 1) _ (omega arith) dependent.of
     ]
-    kind_fine done (op.NewObject call) known guarded claim = argument_fine call (store_of known) claim
-    kind_fine done (op.StaticCall call) known guarded claim = argument_fine call (store_of known) claim
-    kind_fine done (op.InstanceCall call) known guarded claim = argument_fine call (store_of known) claim
-    kind_fine done (op.SuperCall call) known guarded claim = argument_fine call (store_of known) claim
-    kind_fine done (op.Const target value) known guarded none = none
-    kind_fine done (op.Num target arith_ left right) known guarded none = none
-    kind_fine done (op.Unary target unary operand) known guarded none = none
-    kind_fine done (op.Length target array) known guarded none = none
-    kind_fine done (op.ReadField target object field) known guarded none = none
-    kind_fine done (op.Print value) known guarded none = none
+    kind_fine done (op.NewObject call) store guarded claim = argument_fine call store claim
+    kind_fine done (op.StaticCall call) store guarded claim = argument_fine call store claim
+    kind_fine done (op.InstanceCall call) store guarded claim = argument_fine call store claim
+    kind_fine done (op.SuperCall call) store guarded claim = argument_fine call store claim
+    kind_fine done (op.Const target value) store guarded none = none
+    kind_fine done (op.Num target arith_ left right) store guarded none = none
+    kind_fine done (op.Unary target unary operand) store guarded none = none
+    kind_fine done (op.Length target array) store guarded none = none
+    kind_fine done (op.ReadField target object field) store guarded none = none
+    kind_fine done (op.Print value) store guarded none = none
 
     pub guarded_fine : (done : Op) (known : Known) → IsGuarded error.span known done → GivesNo program method number error rank (Doing done) (store_of known)
-    guarded_fine done known guarded given = kind_fine done done.kind known guarded given
+    guarded_fine done known guarded given =
+        kind_fine done done.kind (store_of known)
+        (λ access is at. (low_proved_there known access.0 access.1 (guarded access is at), high_proved_there known access.0 access.1 (guarded access is at))) given
+
+    pub no_access_fine : (done : Op) (store : Stored) → accessed done.kind ≡ None → GivesNo program method number error rank (Doing done) store
+    no_access_fine done store none given = kind_fine done done.kind store (λ access is at. let no_such : ⊥ = cc in absurd no_such) given
 
     pub returning_fine : (value : Option ℕ) (answer : Option Bool) (span : Span) (store : Stored) → GivesNo program method number error rank (Returning value answer span) store
     returning_fine value answer span store either = elim either [

@@ -116,7 +116,7 @@ near_rises c ms rises = int_rises (c -ℤ pos 1) (with_int c (with_int (c +ℤ p
 
 marks_rise : (numbers : List ℤ) → Rises (marks numbers)
 unfolding marks
-marks_rise [] = (omega (arith, ints), omega (arith, ints), omega (arith, ints), omega (arith, ints), tt)
+marks_rise [] = (omega (arith, ints), (omega (arith, ints), (omega (arith, ints), (omega (arith, ints), tt))))
 marks_rise (c ∷ numbers) = near_rises c (marks numbers) (marks_rise numbers)
 
 -- n is an int at most 1 away from c
@@ -124,7 +124,7 @@ IsNear : ℤ → ℤ → Type 0
 IsNear c n = IsInt n × ((c -ℤ pos 1) ≤ℤ n) × (n ≤ℤ (c +ℤ pos 1))
 
 from_near : (c n : ℤ) (ms : List ℤ) → IsAmong n (with_near c ms) → IsNear c n ⊎ IsAmong n ms
-unfolding (with_near, IsNear)
+unfolding with_near IsNear
 from_near c n ms has =
     ⊎_elim (λ is. let e = is.0 in inl (is.1, omega (arith, ints), omega (arith, ints)))
     (λ more. ⊎_elim (λ is. let e = is.0 in inl (is.1, omega (arith, ints), omega (arith, ints)))
@@ -139,7 +139,7 @@ one_of_three c n from to =
     (λ t. by_test (int_lt c n) (λ u. inr (inr (let above = is_below c n u in omega (arith, ints)))) (λ u. inr (inl (not_below n c t u))))
 
 near_there : (c n : ℤ) (ms : List ℤ) → IsNear c n → IsAmong n (with_near c ms)
-unfolding (with_near, IsNear)
+unfolding with_near IsNear
 near_there c n ms near =
     ⊎_elim (λ is. subst (λ k. IsAmong k (with_int (c -ℤ pos 1) (with_int c (with_int (c +ℤ pos 1) ms)))) (sym is) (the_int (c -ℤ pos 1) (with_int c (with_int (c +ℤ pos 1) ms)) (subst IsInt is near.0)))
     (λ more. ints_there (c -ℤ pos 1) n (with_int c (with_int (c +ℤ pos 1) ms)) (⊎_elim
@@ -163,7 +163,7 @@ more_landmarks c n numbers mark = record {
 }
 
 is_mark : (numbers : List ℤ) (n : ℤ) → IsAmong n (marks numbers) → IsLandmark numbers n
-unfolding (marks, IsNear)
+unfolding marks IsNear
 is_mark [] n (inl is) = record { int = record { from = omega (arith, ints, is); to = omega (arith, ints, is) }; is = inl (inl is) }
 is_mark [] n (inr (inl is)) = record { int = record { from = omega (arith, ints, is); to = omega (arith, ints, is) }; is = inr (inl (omega (arith, ints, is), omega (arith, ints, is))) }
 is_mark [] n (inr (inr (inl is))) = record { int = record { from = omega (arith, ints, is); to = omega (arith, ints, is) }; is = inr (inl (omega (arith, ints, is), omega (arith, ints, is))) }
@@ -192,7 +192,7 @@ first_marks n mark = elim mark.is [
 ]
 
 mark_there : (numbers : List ℤ) (n : ℤ) → IsLandmark numbers n → IsAmong n (marks numbers)
-unfolding (marks, IsNear)
+unfolding marks IsNear
 mark_there [] n mark = first_marks n mark
 mark_there (c ∷ numbers) n mark = elim mark.is [
   | inl end ↦ others_near c n (marks numbers) (mark_there numbers n (record { int = mark.int; is = inl end }))

@@ -6,3 +6,6 @@ pub mod InsideProved
 pub mod FinePoints
 pub mod TestTells
 pub mod LandmarksExist
+pub mod KeptByRules
+pub mod NoTextErrors
+pub mod GuardsAvoid
