@@ -9,3 +9,5 @@ pub mod LandmarksExist
 pub mod KeptByRules
 pub mod NoTextErrors
 pub mod GuardsAvoid
+pub mod NoBoundErrors
+pub mod GuardedPieces

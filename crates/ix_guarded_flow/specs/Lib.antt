@@ -4,3 +4,5 @@ pub mod Known
 pub mod Guards
 -- The errors of bounds.
 pub mod BoundErrors
+-- Pieces of such a body.
+pub mod Pieces
