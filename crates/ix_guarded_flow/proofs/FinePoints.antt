@@ -1,5 +1,5 @@
 -- No error of bounds is given at its place by a guarded operation, nor anywhere by another point.
-use Rattle.std.proofs.Common.{◌≡◌, ◌⊎◌, ℕ, ◌<◌, Bool, List, Option, None, Some, inl, inr, arith, refl, sym, ap, ◌∙◌, subst, ⊎_elim}
+use Rattle.std.proofs.Common.{◌≡◌, ℕ, ◌<◌, Bool, List, Option, None, Some, inl, inr, arith, refl, sym, ap, subst, ⊎_elim}
 use Rattle.std.specs.Prelude.{pos}
 use Rattle.ix_text.specs.declared.span.Span.{Span}
 use Rattle.ix_core.specs.declared.claim.Claim.{Claim}

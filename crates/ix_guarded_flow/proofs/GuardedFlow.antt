@@ -3,7 +3,7 @@ use Rattle.std.proofs.Common.{◌≡◌, ℕ, Bool, true, false, Option, Some, N
 use Rattle.ix_text.specs.declared.span.Span.{Span}
 use Rattle.ix_core.specs.declared.op.Op.{Op}
 use Rattle.ix_core.specs.declared.op.Test.{Test}
-use Rattle.ix_core.specs.Code.{Code, End, Do, If, Break, Continue, Return, Throw, Loop, Condition}
+use Rattle.ix_core.specs.Code.{Code, Condition}
 use Rattle.ix_core.specs.Posts.{last_done, written_answer}
 use Rattle.ix_flow.specs.Flow.{Point, Doing, Returning, Rules, Flows, Asks}
 use Rattle.ix_guarded_flow.specs.Known.{Known, Nowhere, Unknown, Inside, Says, behind}
@@ -33,8 +33,8 @@ pub record Keep (R : Rules) (Fine : Point → R.Store → Type 0) (place : Span)
   pub returning : (value : Option ℕ) (answer : Option Bool) (span : Span) (known : Known) → Fine (Returning value answer span) (store known)
   pub ending : (known : Known) → Fine Rattle.ix_flow.specs.Flow.Ending (store known)
   -- what a guard's test tells where it fails
-  pub fails : (labels : ℕ → R.Store) (last : Option Op) (array index : ℕ) (null zero length : Op) (is_null is_negative is_too_high : Test) (known : Known) → IsTest array index null zero length is_null is_negative is_too_high
-      → Asks R Fine labels last (outside null zero length is_null is_negative is_too_high) (store known) (store Unknown) (store (Inside array index)) (store Unknown) (store Unknown)
+  pub fails : (labels : ℕ → R.Store) (last : Option Op) (array index : ℕ) (null_op zero_op length_op : Op) (is_null is_negative is_too_high : Test) (known : Known) → IsTest array index null_op zero_op length_op is_null is_negative is_too_high
+      → Asks R Fine labels last (outside null_op zero_op length_op is_null is_negative is_too_high) (store known) (store Unknown) (store (Inside array index)) (store Unknown) (store Unknown)
 
 module _ (R : Rules) (Fine : Point → R.Store → Type 0) (place : Span) (store : Known → R.Store) (keep : Keep R Fine place store) where
   -- nothing is known at a loop's head
@@ -57,19 +57,33 @@ module _ (R : Rules) (Fine : Point → R.Store → Type 0) (place : Span) (store
     flows last _ _ _ (continues rest before end next) = (keep.below before Unknown (says_unknown before), unreached rest end (flows None rest Nowhere end next))
     flows last _ _ _ (returns value span rest before end next) = (keep.returning value (written_answer last value) span before, unreached rest end (flows None rest Nowhere end next))
     flows last _ _ _ (throws name span rest before end next) = unreached rest end (flows None rest Nowhere end next)
-    flows last _ _ _ (loops true asked body turn number scope rest before end question one two next) =
-        (store Unknown, store Unknown, store Unknown, store Unknown,
-        (store Unknown, keep.below before Unknown (says_unknown before), keep.below Unknown Unknown tt, keep.rounded scope),
-        asks None asked Unknown Unknown Unknown question, flows None body Unknown Unknown one, flows None turn Unknown Unknown two, flows None rest Unknown end next)
-    flows last _ _ _ (loops false asked body turn number scope rest before end question one two next) =
-        (store Unknown, store Unknown, store Unknown, store Unknown,
-        (store Unknown, keep.below before Unknown (says_unknown before), keep.below Unknown Unknown tt, keep.rounded scope),
-        flows None body Unknown Unknown one, flows None turn Unknown Unknown two, asks None asked Unknown Unknown Unknown question, flows None rest Unknown end next)
+    flows last _ _ _ (loops true asked body turn number scope rest before end question one two next) = (
+      store Unknown,
+      store Unknown,
+      store Unknown,
+      store Unknown,
+      (store Unknown, keep.below before Unknown (says_unknown before), keep.below Unknown Unknown tt, keep.rounded scope),
+      asks None asked Unknown Unknown Unknown question,
+      flows None body Unknown Unknown one,
+      flows None turn Unknown Unknown two,
+      flows None rest Unknown end next,
+    )
+    flows last _ _ _ (loops false asked body turn number scope rest before end question one two next) = (
+      store Unknown,
+      store Unknown,
+      store Unknown,
+      store Unknown,
+      (store Unknown, keep.below before Unknown (says_unknown before), keep.below Unknown Unknown tt, keep.rounded scope),
+      flows None body Unknown Unknown one,
+      flows None turn Unknown Unknown two,
+      asks None asked Unknown Unknown Unknown question,
+      flows None rest Unknown end next,
+    )
 
     pub asks : (last : Option Op) (asked : Condition) (before holds fails : Known) → GuardedAsked place before asked holds fails
         → Asks R Fine no_labels last asked (store before) (store holds) (store fails) (store Unknown) (store Unknown)
-    asks last _ _ _ _ (tests array index null zero length is_null is_negative is_too_high before test) =
-        keep.fails no_labels last array index null zero length is_null is_negative is_too_high before test
+    asks last _ _ _ _ (tests array index null_op zero_op length_op is_null is_negative is_too_high before test) =
+        keep.fails no_labels last array index null_op zero_op length_op is_null is_negative is_too_high before test
     asks last _ _ _ _ (certain true before after says) = keep.below before after says
     asks last _ _ _ _ (certain false before after says) = keep.below before after says
     asks last _ _ _ _ (compares code test before after flow) = (store after, flows last code before after flow, keep.tested true test after, keep.tested false test after)

@@ -1,14 +1,12 @@
 -- Pieces of a body with guards, and how they are put together.
-use Rattle.std.proofs.Common.{◌≡◌, ℕ, Bool, true, false, List, [], ◌∷◌, ◌++◌, Option, Some, refl, sym, ap, ◌∙◌, subst}
-use Rattle.std.specs.Prelude.{◌||◌, if◌then◌else◌}
+use Rattle.std.proofs.Common.{◌≡◌, ℕ, false, List, refl, sym, ◌∙◌, subst}
 use Rattle.ix_text.specs.declared.span.Span.{Span}
-use Rattle.ix_core.specs.declared.code.Item.{Item}
 use Rattle.ix_core.specs.declared.op.Op.{Op}
 use Rattle.ix_core.specs.declared.op.OpKind.{OpKind}
 use Rattle.ix_core.specs.declared.op.Test.{Test}
-use Rattle.ix_core.specs.Code.{Code, End, Do, If, Break, Continue, Return, Throw, Loop, Condition, Known as Certain, Compare, Truth, Both, Either, Opposite, item_code, items_code}
-use Rattle.ix_guarded_flow.specs.Known.{Known, Nowhere, Unknown, Inside, Says, writes, behind, accessed, IsInside}
-use Rattle.ix_guarded_flow.specs.Guards.{Guarded, GuardedAsked, IsGuarded, IsTest, outside, ends, does, chooses, breaks, continues, returns, throws, loops, tests, certain, compares, reads, both, either, opposite}
+use Rattle.ix_core.specs.Code.{Code, End, Do, If, Break, Continue, Return, Throw, Loop, Condition, Known as Certain, Compare, Truth, Both, Either, Opposite}
+use Rattle.ix_guarded_flow.specs.Known.{Known, Nowhere, Unknown, Inside, Says, writes, behind, IsInside}
+use Rattle.ix_guarded_flow.specs.Guards.{Guarded, GuardedAsked, IsTest, outside, ends, does, chooses, breaks, continues, returns, throws, loops, tests, certain, compares, reads, both, either, opposite}
 use Rattle.ix_guarded_flow.specs.Pieces.{EachOp, EachAsked, HasNoLoop, AsksNoLoop, IsElsewhere, Keeps, followed}
 use Rattle.ix_guarded_flow.proofs.GuardedFlow.{says_itself, says_unknown}
 
@@ -65,7 +63,7 @@ module _ (place : Span) where
         loops test_first asked body turn number scope rest strong end question one two next
 
     pub asked_more : (asked : Condition) (strong before holds fails : Known) → Says strong before → GuardedAsked place before asked holds fails → GuardedAsked place strong asked holds fails
-    asked_more _ strong _ _ _ says (tests array index null zero length is_null is_negative is_too_high before test) = tests array index null zero length is_null is_negative is_too_high strong test
+    asked_more _ strong _ _ _ says (tests array index null_op zero_op length_op is_null is_negative is_too_high before test) = tests array index null_op zero_op length_op is_null is_negative is_too_high strong test
     asked_more _ strong _ _ _ says (certain answer before after says_after) = certain answer strong after (says_more strong before after says says_after)
     asked_more _ strong _ _ _ says (compares code test before after flow) = compares code test strong after (guarded_more code strong before after says flow)
     asked_more _ strong _ _ _ says (reads code slot before after flow) = reads code slot strong after (guarded_more code strong before after says flow)
@@ -88,12 +86,12 @@ module _ (place : Span) where
       loops test_first asked body turn number scope (followed code rest) before end question one two (guarded_then code rest Unknown between end next behind_it)
 
   -- A guard, and what stands behind it.
-  pub guard_then : (array index : ℕ) (null zero length : Op) (is_null is_negative is_too_high : Test) (name : List ℕ) (span : Span) (rest : Code) (before end : Known)
-      → IsTest array index null zero length is_null is_negative is_too_high → Guarded place (Inside array index) rest end
-      → Guarded place before (If (outside null zero length is_null is_negative is_too_high) (Throw name span End) End rest) end
-  guard_then array index null zero length is_null is_negative is_too_high name span rest before end test guarded =
-      chooses (outside null zero length is_null is_negative is_too_high) (Throw name span End) End rest before Unknown (Inside array index) (Inside array index) end
-      (tests array index null zero length is_null is_negative is_too_high before test)
+  pub guard_then : (array index : ℕ) (null_op zero_op length_op : Op) (is_null is_negative is_too_high : Test) (name : List ℕ) (span : Span) (rest : Code) (before end : Known)
+      → IsTest array index null_op zero_op length_op is_null is_negative is_too_high → Guarded place (Inside array index) rest end
+      → Guarded place before (If (outside null_op zero_op length_op is_null is_negative is_too_high) (Throw name span End) End rest) end
+  guard_then array index null_op zero_op length_op is_null is_negative is_too_high name span rest before end test guarded =
+      chooses (outside null_op zero_op length_op is_null is_negative is_too_high) (Throw name span End) End rest before Unknown (Inside array index) (Inside array index) end
+      (tests array index null_op zero_op length_op is_null is_negative is_too_high before test)
       (throws name span End Unknown (Inside array index) (ends Nowhere (Inside array index) tt))
       (ends (Inside array index) (Inside array index) (refl, refl)) guarded
 
@@ -147,4 +145,3 @@ module _ (place : Span) where
       keeps_asked (Both first second) each plain = both first second (Inside array index) (Inside array index) (Inside array index) (Inside array index) (keeps_asked first each.0 plain.0) (keeps_asked second each.1 plain.1)
       keeps_asked (Either first second) each plain = either first second (Inside array index) (Inside array index) (Inside array index) (Inside array index) (keeps_asked first each.0 plain.0) (keeps_asked second each.1 plain.1)
       keeps_asked (Opposite asked) each plain = opposite asked (Inside array index) (Inside array index) (Inside array index) (keeps_asked asked each plain)
-

@@ -1,5 +1,5 @@
 -- Where an index is known to be inside an array, neither claim of an access is refused.
-use Rattle.std.proofs.Common.{◌≡◌, ℕ, Bool, true, false, List, [], ◌∷◌, Option, Some, None, arith, refl}
+use Rattle.std.proofs.Common.{◌≡◌, ℕ, true, [], Option, Some, None, arith, refl}
 use Rattle.std.specs.Prelude.{ℤ, pos, ◌≤ℤ◌}
 use Rattle.std.specs.Int.{int_max}
 use Rattle.std.proofs.lemmas.Int.{ints, clamps}
@@ -11,7 +11,7 @@ use Rattle.ix_facts.specs.Bounds.{best}
 use Rattle.ix_facts.specs.AfterOperation.{reaches}
 use Rattle.ix_facts.specs.PathOrder.{path_itself}
 use Rattle.ix_facts.proofs.Tests.{at_most_is}
-use Rattle.ix_facts.specs.Stores.{Stored, Reached, IsProved}
+use Rattle.ix_facts.specs.Stores.{Reached, IsProved}
 use Rattle.ix_guarded_flow.specs.Known.{inside_facts}
 
 pub low_proved : (array index : ℕ) → IsProved (path_claim.Low (pos 0)) (Slot index) (Reached (inside_facts array index))

@@ -1,5 +1,5 @@
 -- The rules of a method are kept by the stores of what is known along a body with guards.
-use Rattle.std.proofs.Common.{◌≡◌, ℕ, [], refl, subst}
+use Rattle.std.proofs.Common.{ℕ, [], refl, subst}
 use Rattle.ix_core.specs.declared.error.Error.{Error}
 use Rattle.ix_core.specs.declared.fact.Profile.{Profile}
 use Rattle.ix_core.specs.declared.program.Method.{Method}
@@ -49,7 +49,7 @@ rules_kept program method number profile error rank bounds = record {
   guarded = guarded_fine error rank bounds program method number;
   returning = λ value answer span known. returning_fine error rank bounds program method number value answer span (store_of known);
   ending = λ known. ending_fine error rank bounds program method number (store_of known);
-  fails = λ labels last array index null zero length is_null is_negative is_too_high known test.
-      test_tells program method profile (GivesNo program method number error rank) labels array index null zero length is_null is_negative is_too_high test
+  fails = λ labels last array index null_op zero_op length_op is_null is_negative is_too_high known test.
+      test_tells program method profile (GivesNo program method number error rank) labels array index null_op zero_op length_op is_null is_negative is_too_high test
       (no_access_fine error rank bounds program method number) last (store_of known);
 }

@@ -1,7 +1,5 @@
 -- What stays known through the steps that all rules of a method are made of: what is known before is known behind, where the slots that it speaks of aren't written.
-use Rattle.std.proofs.Common.{◌≡◌, ℕ, Bool, true, false, List, [], ◌∷◌, ◌++◌, inl, inr, refl, sym, subst, ⊎_elim}
-use Rattle.std.proofs.lemmas.Bool.{false≢true}
-use Rattle.std.specs.Prelude.{◌&&◌, ◌||◌, pos}
+use Rattle.std.proofs.Common.{◌≡◌, ℕ, Bool, false, List, [], ◌∷◌, ◌++◌, inl, inr, refl, sym, subst, ⊎_elim}
 use Rattle.ix_core.specs.declared.claim.Type_.{Type_}
 use Rattle.ix_core.specs.declared.fact.Fact.{Fact}
 use Rattle.ix_core.specs.declared.fact.Path.{Path}
@@ -9,7 +7,7 @@ use Rattle.ix_core.specs.declared.fact.Path.TheVariants.{Slot}
 use Rattle.ix_core.specs.declared.fact.Profile.{Profile}
 use Rattle.ix_core.specs.declared.op.OpKind.{OpKind}
 use Rattle.ix_facts.specs.Facts.{in_orders}
-use Rattle.ix_facts.specs.Closure.{Follows, Said, kept}
+use Rattle.ix_facts.specs.Closure.{Said, kept}
 use Rattle.ix_facts.specs.Forget.{of_path, without}
 use Rattle.ix_facts.specs.After.{of_target, beside_target, kept_new, finished, finished_by}
 use Rattle.ix_facts.specs.AfterOperation.{copied}
@@ -19,7 +17,7 @@ use Rattle.ix_facts.proofs.ClosureLaws.{said_follows}
 use Rattle.ix_facts.proofs.SaidLaws.{says_more}
 use Rattle.ix_facts.proofs.StoreLaws.{below_itself}
 use Rattle.ix_claim_facts.specs.Signs.{Adds, Forgets, Copies}
-use Rattle.ix_guarded_flow.specs.Known.{Known, Nowhere, Unknown, Inside, Says, inside_facts, store_of}
+use Rattle.ix_guarded_flow.specs.Known.{Known, Nowhere, Unknown, Inside, inside_facts, store_of}
 
 -- ---- the store that says nothing
 

@@ -1,10 +1,7 @@
 -- What stays known behind an operation, by the rules of a method.
-use Rattle.std.proofs.Common.{◌≡◌, ℕ, Bool, true, false, Option, Some, None, List, [], ◌∷◌, ◌++◌, refl, sym, subst}
+use Rattle.std.proofs.Common.{◌≡◌, ℕ, Bool, true, false, [], ◌++◌, refl, sym}
 use Rattle.std.proofs.lemmas.Bool.{false≢true}
 use Rattle.std.specs.Prelude.{◌&&◌, ◌||◌, not, ◌==◌, if◌then◌else◌}
-use Rattle.ix_core.specs.declared.claim.Type_.{Type_}
-use Rattle.ix_core.specs.declared.fact.Fact.{Fact}
-use Rattle.ix_core.specs.declared.fact.Path.{Path}
 use Rattle.ix_core.specs.declared.fact.Path.TheVariants.{Slot, FieldOf}
 use Rattle.ix_core.specs.declared.fact.Profile.{Profile}
 use Rattle.ix_core.specs.declared.op.CallOp.{CallOp}
@@ -14,13 +11,11 @@ use Rattle.ix_core.specs.declared.op.OpKind.TheVariants as op
 use Rattle.ix_core.specs.declared.program.Method.{Method}
 use Rattle.ix_core.specs.declared.program.Program.{Program}
 use Rattle.ix_core.specs.Tables.{field_at, method_at}
-use Rattle.ix_core.proofs.Cases.{by_test}
 use Rattle.ix_facts.specs.Exact.{if_so}
 use Rattle.ix_facts.specs.Forget.{of_slot, of_path, of_field, of_this}
 use Rattle.ix_facts.specs.After.{of_target}
 use Rattle.ix_facts.specs.Stores.{Stored, Reached, Gives, operated}
 use Rattle.ix_facts.proofs.StoreLaws.{below_itself}
-use Rattle.ix_facts.proofs.Tests.{neither}
 use Rattle.ix_steps.specs.FieldAccess.{spared_by}
 use Rattle.ix_claim_facts.specs.Names.{is_built}
 use Rattle.ix_claim_facts.specs.Signs.{of_callee, result_facts, read_facts, write_facts, zero_fields, own_fields, fields_facts, inherited_fields}
@@ -92,22 +87,31 @@ module _ (program : Program) (method : Method) where
     kind_stays (op.Fill target ty entries) place known spares = plain_stays (op.Fill target ty entries) known (slot_apart target known spares)
     kind_stays (op.Load target array index ty) place known spares = plain_stays (op.Load target array index ty) known (slot_apart target known spares)
     kind_stays (op.Store array index value ty) place known spares = plain_stays (op.Store array index value ty) known (no_target known)
-    kind_stays (op.ReadField target object field) place known spares =
-        (store_of known, adds_stays (if_so (is_built method object) (read_facts program object field)) (store_of known),
-        copies_stays (field_at program field).ty (Slot target) (FieldOf object field) known (slot_apart target known spares))
-    kind_stays (op.WriteField object field value) place known spares =
-        (store_of known, adds_stays (if_so (is_built method object) (write_facts program object field)) (store_of known),
-        (store_of known, forgets_stays (of_field field (spared_by method object)) known (field_apart field (spared_by method object) known),
-        copies_stays (field_at program field).ty (FieldOf object field) (Slot value) known (written_apart object field known)))
+    kind_stays (op.ReadField target object field) place known spares = (
+      store_of known,
+      adds_stays (if_so (is_built method object) (read_facts program object field)) (store_of known),
+      copies_stays (field_at program field).ty (Slot target) (FieldOf object field) known (slot_apart target known spares),
+    )
+    kind_stays (op.WriteField object field value) place known spares = (
+      store_of known,
+      adds_stays (if_so (is_built method object) (write_facts program object field)) (store_of known),
+      (
+        store_of known,
+        forgets_stays (of_field field (spared_by method object)) known (field_apart field (spared_by method object) known),
+        copies_stays (field_at program field).ty (FieldOf object field) (Slot value) known (written_apart object field known),
+      ),
+    )
     kind_stays (op.NewObject call) place known spares =
         (store_of known, forgets_stays (of_callee program method call) known (call_apart call known spares), adds_stays (result_facts program call) (store_of known))
     kind_stays (op.StaticCall call) place known spares =
         (store_of known, forgets_stays (of_callee program method call) known (call_apart call known spares), adds_stays (result_facts program call) (store_of known))
     kind_stays (op.InstanceCall call) place known spares =
         (store_of known, forgets_stays (of_callee program method call) known (call_apart call known spares), adds_stays (result_facts program call) (store_of known))
-    kind_stays (op.SuperCall call) place known spares =
-        (store_of known, forgets_stays (λ p. of_callee program method call p || of_this p) known (super_apart call known spares),
-        adds_stays (zero_fields program (own_fields program method) ++ fields_facts program (inherited_fields program method)) (store_of known))
+    kind_stays (op.SuperCall call) place known spares = (
+      store_of known,
+      forgets_stays (λ p. of_callee program method call p || of_this p) known (super_apart call known spares),
+      adds_stays (zero_fields program (own_fields program method) ++ fields_facts program (inherited_fields program method)) (store_of known),
+    )
     kind_stays (op.Print value) place known spares = plain_stays (op.Print value) known (no_target known)
 
     -- nothing is known behind an operation that writes a slot of which something is known

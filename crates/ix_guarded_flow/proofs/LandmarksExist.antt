@@ -1,5 +1,5 @@
 -- Each list of numbers has landmarks.
-use Rattle.std.proofs.Common.{◌≡◌, ◌⊎◌, inl, inr, Bool, true, false, ℤ, pos, negsuc, ◌+ℤ◌, ◌-ℤ◌, ◌≤ℤ◌, ◌<ℤ◌, List, [], ◌∷◌, arith, refl, sym, subst, ⊎_elim}
+use Rattle.std.proofs.Common.{◌≡◌, ◌⊎◌, inl, inr, true, false, ℤ, pos, negsuc, ◌+ℤ◌, ◌-ℤ◌, ◌≤ℤ◌, ◌<ℤ◌, List, [], ◌∷◌, arith, refl, sym, subst, ⊎_elim}
 use Rattle.std.specs.Prelude.{int_le, int_lt, cond, ◌&&◌}
 use Rattle.std.proofs.lemmas.Int.{ints}
 use Rattle.ix_core.specs.Ints.{least_int, greatest_int, IsInt}

@@ -11,3 +11,4 @@ pub mod NoTextErrors
 pub mod GuardsAvoid
 pub mod NoBoundErrors
 pub mod GuardedPieces
+mod RowsGuards

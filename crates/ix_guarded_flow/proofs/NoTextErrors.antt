@@ -1,8 +1,7 @@
 -- The text alone gives no error of bounds, and a body with guards flows without one.
-use Rattle.std.proofs.Common.{◌≡◌, ◌⊎◌, ℕ, Option, None, Some, List, inl, inr, arith, refl, ap, ⊎_elim}
+use Rattle.std.proofs.Common.{ℕ, Option, None, Some, List, inl, inr, arith, ⊎_elim}
 use Rattle.ix_text.specs.declared.span.Span.{Span}
 use Rattle.ix_core.specs.declared.error.Error.{Error}
-use Rattle.ix_core.specs.declared.fact.Profile.{Profile}
 use Rattle.ix_core.specs.declared.op.Op.{Op}
 use Rattle.ix_core.specs.declared.op.Test.{Test}
 use Rattle.ix_core.specs.declared.program.Method.{Method}
@@ -11,7 +10,7 @@ use Rattle.ix_core.specs.Code.{Code, End, Do, If, Break, Continue, Return, Throw
 use Rattle.ix_core.specs.Tables.{body_of}
 use Rattle.ix_method.specs.RuleErrors.{Somewhere, SomewhereAsked, OpText, TestEscapes, EscapesAt, OverridesBy, TextErrors, escapes_by, escapes_in}
 use Rattle.ix_guarded_flow.specs.BoundErrors.{IsOfBounds}
-use Rattle.ix_guarded_flow.proofs.FinePoints.{other_rule, plain_other, claim_other}
+use Rattle.ix_guarded_flow.proofs.FinePoints.{plain_other, claim_other}
 
 -- ---- what is nowhere
 

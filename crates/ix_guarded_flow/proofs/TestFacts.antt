@@ -1,6 +1,6 @@
 -- What the three comparisons of a guard's test tell where they fail: `0 <= index` and `index < array.length`.
-use Rattle.std.proofs.Common.{◌≡◌, ℕ, Bool, true, false, List, [], ◌∷◌, ◌++◌, inl, inr, refl, sym, ap, subst, ⊎_elim}
-use Rattle.std.specs.Prelude.{◌==◌, ℤ, pos, negsuc, ◌+ℤ◌, ◌-ℤ◌}
+use Rattle.std.proofs.Common.{◌≡◌, ℕ, false, List, [], ◌∷◌, ◌++◌, inl, inr, refl, sym, subst, ⊎_elim}
+use Rattle.std.specs.Prelude.{◌==◌, pos, negsuc, ◌+ℤ◌, ◌-ℤ◌}
 use Rattle.ix_core.specs.Ints.{greatest_int}
 use Rattle.ix_core.specs.declared.fact.Fact.{Fact}
 use Rattle.ix_core.specs.declared.fact.Fact.TheVariants.{Rng, IsLen, Upper}
@@ -10,16 +10,15 @@ use Rattle.ix_core.specs.declared.fact.PathOff.TheVariants.{Nothing}
 use Rattle.ix_core.specs.declared.fact.Profile.{Profile}
 use Rattle.ix_core.specs.declared.op.Literal.TheVariants as literal
 use Rattle.ix_core.specs.declared.op.OpKind.TheVariants as op
-use Rattle.ix_facts.specs.Facts.{IsIn, in_orders}
-use Rattle.ix_facts.specs.Closure.{Follows, given, kept}
+use Rattle.ix_facts.specs.Facts.{IsIn}
+use Rattle.ix_facts.specs.Closure.{Follows, given}
 use Rattle.ix_facts.specs.Bounds
 use Rattle.ix_facts.specs.Bounds.{is_path}
 use Rattle.ix_facts.specs.Exact.{each}
 use Rattle.ix_facts.specs.Forget.{of_slot, without}
-use Rattle.ix_facts.specs.After.{beside_target, kept_new, finished}
-use Rattle.ix_facts.specs.AfterTest.{Outcome, Below, below_facts, range_part, difference_part, bound_part, length_part, sum_part, at_below, at_above, high_end, low_end, bound_moved, below_by}
+use Rattle.ix_facts.specs.AfterTest.{Below, below_facts, range_part, difference_part, bound_part, length_part, sum_part, at_below, at_above, high_end, low_end, bound_moved, below_by}
 use Rattle.ix_facts.specs.PathOrder.{path_itself}
-use Rattle.ix_facts.specs.Stores.{Stored, Reached, IsAbove, Gives, operated, with_outcome}
+use Rattle.ix_facts.specs.Stores.{Reached, IsAbove, Gives, operated, with_outcome}
 use Rattle.ix_facts.proofs.ClosureLaws.{follows_from, said_follows, in_kept}
 use Rattle.ix_facts.proofs.FactLists.{in_left, in_right}
 use Rattle.ix_facts.proofs.Frame.{without_in}

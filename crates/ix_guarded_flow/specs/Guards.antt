@@ -1,5 +1,5 @@
 -- Bodies in which each access at a place stands behind a guard: a test of its array and its index, with nothing between that writes them.
-use Rattle.std.specs.Prelude.{◌≡◌, ℕ, Bool, true, false, ◌==◌, pos, List, Option, Some}
+use Rattle.std.specs.Prelude.{◌≡◌, ℕ, Bool, false, ◌==◌, pos, List, Option, Some}
 use Rattle.ix_num.specs.declared.rel.Rel.{Rel}
 use Rattle.ix_num.specs.declared.rel.Rel.TheVariants.{Eq, Lt, Ge}
 use Rattle.ix_text.specs.declared.span.Span.{Span}
@@ -22,20 +22,20 @@ pub record Compares (rel : Rel) (left right : ℕ) (ty : Type_) (test : Test) : 
   pub of : test.ty ≡ ty
 
 -- A condition of the form of `array == null || index < 0 || index >= array.length`, where an operation computes the right side of each comparison.
-abbrev pub outside : (null zero length : Op) (is_null is_negative is_too_high : Test) → Condition
-outside null zero length is_null is_negative is_too_high =
-    Either (Either (Compare (Do null End) is_null) (Compare (Do zero End) is_negative)) (Compare (Do length End) is_too_high)
+abbrev pub outside : (null_op zero_op length_op : Op) (is_null is_negative is_too_high : Test) → Condition
+outside null_op zero_op length_op is_null is_negative is_too_high =
+    Either (Either (Compare (Do null_op End) is_null) (Compare (Do zero_op End) is_negative)) (Compare (Do length_op End) is_too_high)
 
 -- It is this test of the array and the index in these slots. The right sides have slots of their own.
-pub record IsTest (array index : ℕ) (null zero length : Op) (is_null is_negative is_too_high : Test) : Type 0 where
+pub record IsTest (array index : ℕ) (null_op zero_op length_op : Op) (is_null is_negative is_too_high : Test) : Type 0 where
   pub null_slot : ℕ
   pub zero_slot : ℕ
   pub length_slot : ℕ
   pub ty : Type_
   pub null_type : Type_
-  pub makes_null : null.kind ≡ op.Const null_slot (literal.NullOf null_type)
-  pub makes_zero : zero.kind ≡ op.Const zero_slot (literal.Int (pos 0))
-  pub makes_length : length.kind ≡ op.Length length_slot array
+  pub makes_null : null_op.kind ≡ op.Const null_slot (literal.NullOf null_type)
+  pub makes_zero : zero_op.kind ≡ op.Const zero_slot (literal.Int (pos 0))
+  pub makes_length : length_op.kind ≡ op.Length length_slot array
   pub asks_null : Compares Eq array null_slot ty is_null
   pub asks_negative : Compares Lt index zero_slot int_type is_negative
   pub asks_too_high : Compares Ge index length_slot int_type is_too_high
@@ -64,8 +64,8 @@ mutual
 
   pub data GuardedAsked (place : Span) : (before : Known) → Condition → (holds fails : Known) → Type 0 where
     -- a guard's test: where it fails the index is inside the array
-    tests : (array index : ℕ) (null zero length : Op) (is_null is_negative is_too_high : Test) (before : Known) → IsTest array index null zero length is_null is_negative is_too_high
-        → GuardedAsked place before (outside null zero length is_null is_negative is_too_high) Unknown (Inside array index)
+    tests : (array index : ℕ) (null_op zero_op length_op : Op) (is_null is_negative is_too_high : Test) (before : Known) → IsTest array index null_op zero_op length_op is_null is_negative is_too_high
+        → GuardedAsked place before (outside null_op zero_op length_op is_null is_negative is_too_high) Unknown (Inside array index)
     certain : (answer : Bool) (before after : Known) → Says before after → GuardedAsked place before (Certain answer) after after
     compares : (code : Code) (test : Test) (before after : Known) → Guarded place before code after → GuardedAsked place before (Compare code test) after after
     reads : (code : Code) (slot : ℕ) (before after : Known) → Guarded place before code after → GuardedAsked place before (Truth code slot) after after
