@@ -11,4 +11,5 @@ pub mod NoTextErrors
 pub mod GuardsAvoid
 pub mod NoBoundErrors
 pub mod GuardedPieces
+pub mod GuardedItems
 mod RowsGuards
