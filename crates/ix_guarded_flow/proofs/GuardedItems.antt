@@ -3,10 +3,10 @@ use Rattle.std.proofs.Common.{◌≡◌, ℕ, List, [], ◌∷◌, ◌++◌, ref
 use Rattle.ix_text.specs.declared.span.Span.{Span}
 use Rattle.ix_core.specs.declared.code.Item.{Item}
 use Rattle.ix_core.specs.declared.code.Item as item
-use Rattle.ix_core.specs.Code.{Code, End, If, Condition, item_code, items_code}
+use Rattle.ix_core.specs.Code.{Code, If, Condition, item_code, items_code}
 use Rattle.ix_guarded_flow.specs.Known.{Known, Unknown, Inside}
-use Rattle.ix_guarded_flow.specs.Guards.{Guarded, GuardedAsked, chooses}
-use Rattle.ix_guarded_flow.specs.Pieces.{EachOp, EachAsked, HasNoLoop, AsksNoLoop, Keeps, followed}
+use Rattle.ix_guarded_flow.specs.Guards.{Guarded, chooses}
+use Rattle.ix_guarded_flow.specs.Pieces.{EachAsked, AsksNoLoop, Keeps, followed}
 use Rattle.ix_guarded_flow.proofs.GuardedPieces.{guarded_more, guarded_then, keeps_asked}
 
 item_followed : (first : Item) (rest next : Code) → followed (item_code first rest) next ≡ item_code first (followed rest next)

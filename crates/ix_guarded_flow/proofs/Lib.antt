@@ -12,4 +12,5 @@ pub mod GuardsAvoid
 pub mod NoBoundErrors
 pub mod GuardedPieces
 pub mod GuardedItems
+pub mod PlacedPieces
 mod RowsGuards

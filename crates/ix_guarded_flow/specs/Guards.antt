@@ -26,7 +26,7 @@ abbrev pub outside : (null_op zero_op length_op : Op) (is_null is_negative is_to
 outside null_op zero_op length_op is_null is_negative is_too_high =
     Either (Either (Compare (Do null_op End) is_null) (Compare (Do zero_op End) is_negative)) (Compare (Do length_op End) is_too_high)
 
--- It is this test of the array and the index in these slots. The right sides have slots of their own.
+-- It is this test of the array and the index in these slots. The length goes into another slot than the index.
 pub record IsTest (array index : ℕ) (null_op zero_op length_op : Op) (is_null is_negative is_too_high : Test) : Type 0 where
   pub null_slot : ℕ
   pub zero_slot : ℕ
