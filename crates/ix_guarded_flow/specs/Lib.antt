@@ -1,0 +1,8 @@
+-- What is known along a body with guards.
+pub mod Known
+-- Bodies with guards.
+pub mod Guards
+-- The errors of bounds.
+pub mod BoundErrors
+-- Pieces of such a body.
+pub mod Pieces
