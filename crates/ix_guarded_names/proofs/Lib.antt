@@ -1,0 +1,3 @@
+pub mod AccessesFit
+pub mod TestsClean
+pub mod KeptScopes
