@@ -1,3 +1,5 @@
 pub mod AccessesFit
 pub mod TestsClean
 pub mod KeptScopes
+pub mod DeclaredAccesses
+pub mod GuardedStatements
