@@ -101,9 +101,6 @@ module _ (site : Site) where
   tested_run : (e : Expr) (s : Scope) → Clean (bodies.run e s) → AllFit s (expression_tested site e)
   tested_run e s said = expression_fit site e s ((expression_finds e).judge s said)
 
-  return_is : (value : Option Expr) (p : Span) → tree.kind_step site (StmtKind-F.Return value) p ≡ with_tests (s.Return value) p (returning site value)
-  return_is value p = refl
-
   module _ {K S : Type 0} (kind : K → StmtKind) (stmt : S → Stmt) (stmt_is : (x : S) → StmtIs (stmt x)) where
     abbrev told : S → Telling
     told x = telling (stmt x)

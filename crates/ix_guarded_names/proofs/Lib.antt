@@ -3,3 +3,4 @@ pub mod TestsClean
 pub mod KeptScopes
 pub mod DeclaredAccesses
 pub mod GuardedStatements
+pub mod KeptWorlds
