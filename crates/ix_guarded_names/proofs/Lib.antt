@@ -4,3 +4,5 @@ pub mod KeptScopes
 pub mod DeclaredAccesses
 pub mod GuardedStatements
 pub mod KeptWorlds
+pub mod KeptLimits
+pub mod GuardedAccepts
