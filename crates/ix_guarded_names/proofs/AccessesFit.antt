@@ -1,5 +1,5 @@
 -- In an expression without errors each access on names is one of an array at an int, by what the names mean where the expression stands.
-use Rattle.std.proofs.Common.{◌≡◌, ℕ, Bool, true, false, List, [], ◌∷◌, ◌++◌, map, length, drop, Option, Some, None, refl, sym, ap, subst, ◌∙◌}
+use Rattle.std.proofs.Common.{◌≡◌, ℕ, Bool, true, false, List, [], ◌∷◌, ◌++◌, map, length, drop, Option, Some, None, refl, sym, ap, subst}
 use Rattle.std.specs.Prelude.{if◌then◌else◌, not, is_some}
 use Rattle.std.proofs.lemmas.Bool.{false≢true}
 use Rattle.ix_text.specs.declared.span.Span.{Span}
@@ -16,7 +16,7 @@ use Rattle.ix_tree.specs.declared.expr.ExprKind.{ExprKind, ExprKind-F, map-ExprK
 use Rattle.ix_tree.specs.declared.expr.Init.{Init, Init-F, ind-Init, map-Init, roll-Init, fold-roll-Init}
 use Rattle.ix_meaning.specs.declared.note.Note.{Note}
 use Rattle.ix_meaning.specs.declared.note.Note.TheVariants.{Use}
-use Rattle.ix_meaning.specs.declared.note.Meaning.TheVariants.{MethodNamed, ClassNamed}
+use Rattle.ix_meaning.specs.declared.note.Meaning.TheVariants.{MethodNamed}
 use Rattle.ix_meaning.specs.declared.note.Rule.{Rule}
 use Rattle.ix_meaning.specs.declared.note.Rule.TheVariants as rule
 use Rattle.ix_meaning.specs.Members.{World, Callee, method_named, constructor_params}
@@ -142,6 +142,10 @@ valued_finds judge assigned g a b = record {
   receiver = λ s p c. a s p (clean_parts (judge s p).notes (values.object_notes (judge s p).ty p) c).0;
 }
 
+-- without parts there is no access
+nothing_found : (k : KindReading) (name : Option Ident) → NamesKind name k → KindFinds k (record { name = name; parts = accesses.nothing })
+nothing_found k name n = record { named = n; null = λ e. refl; judge = λ s p c. tt; assigned = λ s p c. tt; receiver = λ s p c. tt }
+
 -- ---- accesses
 
 array_clean : (a : Reading) (s : Scope) → Clean (values.array_part a s).notes → Clean (a.judge s).notes × Clean (values.no_array (a.judge s).ty a.span)
@@ -177,13 +181,15 @@ access_finds a i g h x y s c = by g.name h.name x.named y.named
     by (Some name) None p q = inside
     by (Some name) (Some other) p q =
         let first = array_clean a s parts.0 in
-        let second = value_clean i s (of int) q.0 parts.1 in
-        (record {
-          array = named_clean s a name (p.1 s) first.0;
-          is_array = no_array_moved (values.variable s false name).ty a.span name.span (subst (λ (j : Judged). Clean (values.no_array j.ty a.span)) (p.1 s) first.1);
-          index = named_clean s i other (q.1 s) second.0;
-          is_int = mismatch_moved s.world (of int) (values.variable s false other).ty i.span other.span (subst (λ (j : Judged). Clean (rules.type_mismatch s.world (of int) j.ty i.span)) (q.1 s) second.1);
-        }, tt)
+        let second = value_clean i s (of int) q.0 parts.1 in (
+          record {
+            array = named_clean s a name (p.1 s) first.0;
+            is_array = no_array_moved (values.variable s false name).ty a.span name.span (subst (λ (j : Judged). Clean (values.no_array j.ty a.span)) (p.1 s) first.1);
+            index = named_clean s i other (q.1 s) second.0;
+            is_int = mismatch_moved s.world (of int) (values.variable s false other).ty i.span other.span (subst (λ (j : Judged). Clean (rules.type_mismatch s.world (of int) j.ty i.span)) (q.1 s) second.1);
+          },
+          tt,
+        )
 
 -- ---- calls and creations
 
@@ -282,7 +288,6 @@ InitIs i = FillFinds (filling i) (init_parts i)
 abbrev ExprIs : Expr → Type 0
 ExprIs e = Finds (reading e) (accesses.reading e)
 
-
 module _ {K I E : Type 0} (kind : K → ExprKind) (init : I → Init) (expr : E → Expr) (init_is : (i : I) → InitIs (init i)) (expr_is : (e : E) → ExprIs (expr e)) where
   abbrev read : E → Reading
   read e = reading (expr e)
@@ -301,14 +306,14 @@ module _ {K I E : Type 0} (kind : K → ExprKind) (init : I → Init) (expr : E 
   kind_layer : (y : ExprKind-F K I E)
       → KindFinds (values.kind_step (map-ExprKind ExprKind Init Expr KindReading Filling Reading kind_reading filling reading (map-ExprKind K I E ExprKind Init Expr kind init expr y)))
       (accesses.kind_step (map-ExprKind ExprKind Init Expr accesses.Reading Parts accesses.Reading kind_accesses init_parts accesses.reading (map-ExprKind K I E ExprKind Init Expr kind init expr y)))
-  kind_layer (ExprKind-F.Int n) = record { named = tt; null = λ f. refl; judge = λ s p c. tt; assigned = λ s p c. tt; receiver = λ s p c. tt }
-  kind_layer (ExprKind-F.Bool b) = record { named = tt; null = λ f. refl; judge = λ s p c. tt; assigned = λ s p c. tt; receiver = λ s p c. tt }
-  kind_layer ExprKind-F.Null = record { named = tt; null = λ f. refl; judge = λ s p c. tt; assigned = λ s p c. tt; receiver = λ s p c. tt }
-  kind_layer ExprKind-F.This = record { named = tt; null = λ f. refl; judge = λ s p c. tt; assigned = λ s p c. tt; receiver = λ s p c. tt }
-  kind_layer (ExprKind-F.Name name) = record { named = (refl, λ s p. refl); null = λ f. refl; judge = λ s p c. tt; assigned = λ s p c. tt; receiver = λ s p c. tt }
+  kind_layer (ExprKind-F.Int n) = nothing_found _ None tt
+  kind_layer (ExprKind-F.Bool b) = nothing_found _ None tt
+  kind_layer ExprKind-F.Null = nothing_found _ None tt
+  kind_layer ExprKind-F.This = nothing_found _ None tt
+  kind_layer (ExprKind-F.Name name) = nothing_found _ (Some name) (refl, λ s p. refl)
   kind_layer (ExprKind-F.Select object name) =
       let selects = λ (assigned : Bool) (s : Scope) (c : Clean (values.selection (read object) name assigned s).notes).
-          (expr_is object).receiver s (clean_parts ((read object).receiver s).notes (values.selected s assigned (read object).is_this name ((read object).receiver s).object).notes c).0 in
+      (expr_is object).receiver s (clean_parts ((read object).receiver s).notes (values.selected s assigned (read object).is_this name ((read object).receiver s).object).notes c).0 in
       valued_finds _ _ (found object).parts (λ s p c. selects false s c) (λ s p c. selects true s c)
   kind_layer (ExprKind-F.Index array index) =
       let finds = access_finds (read array) (read index) (found array) (found index) (expr_is array) (expr_is index) in
@@ -323,8 +328,8 @@ module _ {K I E : Type 0} (kind : K → ExprKind) (init : I → Init) (expr : E 
       let gs = map accesses.reading (map expr args) in
       let r = read object in
       let finds = λ (s : Scope) (c : Clean (values.behind (r.receiver s).notes (values.call_on s name rs (r.receiver s).object)).notes).
-          let parts = clean_parts (r.receiver s).notes (values.call_on s name rs (r.receiver s).object).notes c in
-          fit_both s (found object).parts.accesses (all (each gs)).accesses ((expr_is object).receiver s parts.0) (call_on_finds s name rs gs (all_find args) (r.receiver s).object parts.1) in
+      let parts = clean_parts (r.receiver s).notes (values.call_on s name rs (r.receiver s).object).notes c in
+      fit_both s (found object).parts.accesses (all (each gs)).accesses ((expr_is object).receiver s parts.0) (call_on_finds s name rs gs (all_find args) (r.receiver s).object parts.1) in
       valued_finds _ _ (both (found object).parts (all (each gs))) (λ s p c. finds s c) (λ s p c. finds s c)
   kind_layer (ExprKind-F.New name args) =
       let rs = map reading (map expr args) in
@@ -333,14 +338,14 @@ module _ {K I E : Type 0} (kind : K → ExprKind) (init : I → Init) (expr : E 
       valued_finds _ _ (all (each gs)) (λ s p c. finds s c) (λ s p c. finds s c)
   kind_layer (ExprKind-F.NewArray ty size) =
       let finds = λ (s : Scope) (c : Clean (values.sized (read size) s (values.created s ty)).notes).
-          check_finds (read size) (found size) (expr_is size) s (of int) (clean_parts (values.created s ty).notes (check (read size) s (of int)).notes c).1 in
+      check_finds (read size) (found size) (expr_is size) s (of int) (clean_parts (values.created s ty).notes (check (read size) s (of int)).notes c).1 in
       valued_finds _ _ (found size).parts (λ s p c. finds s c) (λ s p c. finds s c)
   kind_layer (ExprKind-F.NewItems ty items) =
       let fs = map filling (map init items) in
       let gs = map init_parts (map init items) in
       let finds = λ (s : Scope) (c : Clean (values.filled fs s (values.created s ty)).notes).
-          let elements = element_in (values.created s ty).ty in
-          fillings_find s fs gs (all_fill items) elements (clean_parts (values.created s ty).notes (fillings fs s elements) c).1 in
+      let elements = element_in (values.created s ty).ty in
+      fillings_find s fs gs (all_fill items) elements (clean_parts (values.created s ty).notes (fillings fs s elements) c).1 in
       valued_finds _ _ (all gs) (λ s p c. finds s c) (λ s p c. finds s c)
   kind_layer (ExprKind-F.Unary op operand) =
       let finds = unary_finds op (read operand) (found operand) (expr_is operand) in valued_finds _ _ (found operand).parts (λ s p c. finds s c) (λ s p c. finds s c)

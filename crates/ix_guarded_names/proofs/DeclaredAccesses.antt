@@ -1,5 +1,5 @@
 -- Of a declaration of locals and of an expression the accesses that are tested are those of arrays at ints where the statement stands.
-use Rattle.std.proofs.Common.{◌≡◌, ℕ, Bool, true, false, List, [], ◌∷◌, ◌++◌, map, Option, Some, None, refl, sym, ap, ap₂, subst, ◌∙◌}
+use Rattle.std.proofs.Common.{◌≡◌, ℕ, Bool, true, false, List, [], ◌∷◌, ◌++◌, map, Option, Some, None, refl, sym, ap, subst, ◌∙◌}
 use Rattle.std.specs.Prelude.{if◌then◌else◌, not, ◌&&◌, ◌||◌, bytes_eq}
 use Rattle.std.specs.List.{list_any}
 use Rattle.std.proofs.lemmas.Bool.{false≢true, and_parts}
@@ -12,7 +12,7 @@ use Rattle.ix_meaning.specs.Annotated.{of_variable}
 use Rattle.ix_meaning.specs.Bodies as bodies
 use Rattle.ix_meaning.specs.Bodies.{all_declared, declared, after, init_notes, local_known, local_declaration, pending}
 use Rattle.ix_meaning.specs.Declarators.{further, declarators}
-use Rattle.ix_meaning.specs.Members.{World, field_named}
+use Rattle.ix_meaning.specs.Members.{World}
 use Rattle.ix_meaning.specs.Rules as rules
 use Rattle.ix_meaning.specs.Scope.{Scope, Known, meant, is_pending}
 use Rattle.ix_meaning.specs.Types.{int, of, Judged, judged}
@@ -79,7 +79,7 @@ in_own : (s : Scope) (d : LocalDecl) (ds : List LocalDecl) → IsOpen s → (xs 
 in_own s d ds o [] f = tt
 in_own s d ds o (x ∷ xs) f = (
   (λ a i. fits_as s (pending d s) x refl (in_initialiser s d x.array o (either_false (is_called x.array d) (list_any (is_called x.array) ds) a).0)
-  (in_initialiser s d x.index o (either_false (is_called x.index d) (list_any (is_called x.index) ds) i).0) f.0),
+      (in_initialiser s d x.index o (either_false (is_called x.index d) (list_any (is_called x.index) ds) i).0) f.0),
   in_own s d ds o xs f.1,
 )
 

@@ -1,6 +1,6 @@
 -- The guarded tree of an accepted source is accepted, and so is the tree of its guarded text.
 use Rattle.std.proofs.Common.{◌≡◌, ℕ, ◌+◌, Bool, true, List, [], ◌∷◌, ◌++◌, map, Option, Some, None, refl, sym, ap, ap₂, subst, ◌∙◌}
-use Rattle.std.specs.Prelude.{if◌then◌else◌, ◌&&◌}
+use Rattle.std.specs.Prelude.{if◌then◌else◌}
 use Rattle.std.proofs.lemmas.Bool.{and_parts}
 use Rattle.ix_core.specs.declared.error.Error.{Error}
 use Rattle.ix_tree.specs.declared.decl.ClassDecl.{ClassDecl}
@@ -16,7 +16,6 @@ use Rattle.ix_meaning.specs.Bodies.{telling, all_told, declares_note}
 use Rattle.ix_meaning.specs.Classes.{parents, is_cyclic}
 use Rattle.ix_meaning.specs.Declarators as declared
 use Rattle.ix_meaning.specs.Declarators.{first_of, field_in, members_behind}
-use Rattle.ix_meaning.specs.Limits.{limit, inheritance_limit}
 use Rattle.ix_meaning.specs.Members.{World, world, methods, signature, next_member, next_fields}
 use Rattle.ix_meaning.specs.Resolved.{Accepts, Names, names}
 use Rattle.ix_meaning.specs.Rules.{duplicate_name}
@@ -93,8 +92,8 @@ module _ (site : Site) where
       let first = clean_parts head (member_notes l named 0 next own ++ default has) said in
       let second = clean_parts (member_notes l named 0 next own) (default has) first.1 in
       let here : Clean (all named (guarded_members site own) has) =
-          clean_both head (member_notes l named 0 next (guarded_members site own) ++ default has) first.0
-          (clean_both (member_notes l named 0 next (guarded_members site own)) (default has) (members_clean l named 0 next None k.members e second.0) second.1) in
+      clean_both head (member_notes l named 0 next (guarded_members site own) ++ default has) first.0
+      (clean_both (member_notes l named 0 next (guarded_members site own)) (default has) (members_clean l named 0 next None k.members e second.0) second.1) in
       subst (λ (n : List ℕ → Option ℕ). Clean (all n (declared.members (guarded_members site k.members)) (has_constructor (guarded_members site k.members)))) (sym (member_named_kept site k.members))
       (subst (λ (members : List Member). Clean (all named members (has_constructor (guarded_members site k.members)))) (sym (members_kept site k.members))
       (subst (λ (b : Bool). Clean (all named (guarded_members site own) b)) (sym (has_constructor_kept site k.members)) here))

@@ -3,24 +3,20 @@ use Rattle.std.proofs.Common.{◌≡◌, Bool, true, false, List, [], ◌∷◌,
 use Rattle.std.specs.Prelude.{not, ◌&&◌}
 use Rattle.std.proofs.lemmas.Bool.{false≢true, and_parts}
 use Rattle.ix_text.specs.declared.span.Span.{Span}
-use Rattle.ix_tree.specs.declared.decl.LocalDecl.{LocalDecl}
 use Rattle.ix_tree.specs.declared.expr.Expr.{Expr}
 use Rattle.ix_tree.specs.declared.stmt.Stmt.{Stmt, Stmt-F, ind-Stmt, map-Stmt, roll-Stmt, fold-roll-Stmt}
 use Rattle.ix_tree.specs.declared.stmt.StmtKind.{StmtKind, StmtKind-F, map-StmtKind, roll-StmtKind, fold-StmtKind, fold-roll-StmtKind}
 use Rattle.ix_tree.specs.declared.stmt.StmtKind.TheVariants as s
-use Rattle.ix_meaning.specs.declared.note.Note.{Note}
 use Rattle.ix_meaning.specs.Bodies as bodies
 use Rattle.ix_meaning.specs.Bodies.{Telling, telling, kind_telling, all_told, all_declared, after, inside, nothing, noting, then_told, closed, looped, noted_then, then_noted}
 use Rattle.ix_meaning.specs.Declarators.{declarators}
 use Rattle.ix_meaning.specs.Scope.{Scope}
 use Rattle.ix_meaning.specs.Types.{boolean, of, printed}
-use Rattle.ix_meaning.specs.Values.{reading}
 use Rattle.ix_meaning.proofs.Equations as equations
 use Rattle.ix_formed.specs.Readable as readable
 use Rattle.ix_formed.specs.Readable.{Statement, each_fine, is_part, or_part, stmt_shape, is_readable_stmt, is_readable_expr}
 use Rattle.ix_formed.specs.Written.{each_true, maybe_true}
 use Rattle.ix_formed.proofs.CleanNotes.{clean_parts}
-use Rattle.ix_guard.specs.Accesses as accesses
 use Rattle.ix_guard.specs.Accesses.{Access}
 use Rattle.ix_guard.specs.Tests.{Site}
 use Rattle.ix_guard.specs.Trees as tree

@@ -1,7 +1,6 @@
 -- Statements that leave a scope as others do, and say nothing wrong where those don't.
-use Rattle.std.proofs.Common.{◌≡◌, ℕ, ◌+◌, List, [], ◌∷◌, ◌++◌, map, Option, None, refl, sym, ap, ap₂, subst, ◌∙◌, arith}
+use Rattle.std.proofs.Common.{◌≡◌, ℕ, ◌+◌, List, [], ◌∷◌, ◌++◌, map, None, refl, sym, ap, ap₂, subst, ◌∙◌, arith}
 use Rattle.ix_text.specs.declared.span.Span.{Span}
-use Rattle.ix_tree.specs.declared.stmt.Stmt.{Stmt}
 use Rattle.ix_meaning.specs.declared.note.Note.{Note}
 use Rattle.ix_meaning.specs.Bodies.{Telling, telling, all_told, condition, after, nothing, then_told, closed, inside, looped, noted_then, then_noted}
 use Rattle.ix_meaning.specs.Scope.{Scope, Known}

@@ -6,3 +6,4 @@ pub mod GuardedStatements
 pub mod KeptWorlds
 pub mod KeptLimits
 pub mod GuardedAccepts
+pub mod GuardedAgain

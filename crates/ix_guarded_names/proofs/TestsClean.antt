@@ -1,9 +1,8 @@
 -- A test says nothing wrong where its access is one of an array at an int.
-use Rattle.std.proofs.Common.{◌≡◌, ℕ, Bool, true, false, List, [], ◌∷◌, ◌++◌, Option, Some, None, refl, sym, ap, ap₂, subst, ◌∙◌}
+use Rattle.std.proofs.Common.{◌≡◌, Bool, true, false, List, [], ◌∷◌, ◌++◌, Option, Some, None, refl, sym, ap, ap₂, subst, ◌∙◌}
 use Rattle.std.specs.Prelude.{if◌then◌else◌, codes, pos, is_some, ◌||◌}
 use Rattle.ix_text.specs.declared.span.Span.{Span}
 use Rattle.ix_num.specs.declared.rel.Rel.TheVariants.{Eq, Lt, Ge}
-use Rattle.ix_core.specs.declared.claim.Base.TheVariants as base
 use Rattle.ix_core.specs.declared.claim.Type_.{Type_}
 use Rattle.ix_core.specs.declared.claim.Type_.TheVariants as type
 use Rattle.ix_tree.specs.declared.annot.Ident.{Ident}
