@@ -1,0 +1,2 @@
+-- What may be found of a guarded text.
+pub mod Findings
