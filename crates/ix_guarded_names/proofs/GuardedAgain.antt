@@ -23,6 +23,7 @@ use Rattle.ix_names_again.specs.Joint.{AllShare, ClassShares, IsJoint}
 use Rattle.ix_names_again.proofs.AcceptsAnywhere.{accepts_anywhere}
 use Rattle.ix_guarded_names.proofs.KeptWorlds.{guarded_members, guarded_classes}
 use Rattle.ix_guarded_names.proofs.GuardedAccepts.{guarded_accepts_with}
+use Rattle.ix_guarded_names.proofs.ParsedJoint.{parsed_joint}
 
 module _ (site : Site) where
   members_share : (first : Option LocalDecl) (ms : List Member) → AllShare first ms → AllShare first (guarded_members site ms)
@@ -38,15 +39,15 @@ module _ (site : Site) where
 pub guarded_joint : (unit : Source) (meanings : Names) (errors : List Error) → IsJoint unit → IsJoint (guarded_tree unit meanings errors)
 guarded_joint unit meanings errors h = classes_share (record { names = meanings; errors = errors }) unit.classes h
 
--- A tree of bytes that derive the guarded tree is accepted where the source is.
+-- A tree of bytes that derive the guarded tree of an accepted source is accepted.
 pub derived_accepts : (bytes : List ℕ) (unit : Source) (meanings : Names) (errors : List Error) → Derives bytes (guarded_tree unit meanings errors) → is_readable unit.classes ≡ true → IsJoint unit → Accepts unit
-    → (tokens : List Token) (other : Source) → Tokens bytes tokens → HasTree tokens other → IsJoint other → Accepts other
-derived_accepts bytes unit meanings errors derives fine joint accepts tokens other text tree other_joint =
-    accepts_anywhere (guarded_tree unit meanings errors) other (sym (derived_only bytes (guarded_tree unit meanings errors) derives tokens other text tree)) (guarded_joint unit meanings errors joint) other_joint
-    (guarded_accepts_with unit meanings errors fine accepts)
+    → (tokens : List Token) (other : Source) → Tokens bytes tokens → HasTree tokens other → Accepts other
+derived_accepts bytes unit meanings errors derives fine joint accepts tokens other text tree =
+    accepts_anywhere (guarded_tree unit meanings errors) other (sym (derived_only bytes (guarded_tree unit meanings errors) derives tokens other text tree)) (guarded_joint unit meanings errors joint)
+    (parsed_joint bytes tokens other text tree) (guarded_accepts_with unit meanings errors fine accepts)
 
 -- The tree of an accepted source's guarded text is accepted.
-pub guarded_again : (bytes : List ℕ) (tokens : List Token) (unit : Source) (errors : List Error) → Tokens bytes tokens → HasTree tokens unit → is_readable unit.classes ≡ true → IsJoint unit → Accepts unit
-    → (more : List Token) (other : Source) → Tokens (guarded bytes unit (names unit) errors) more → HasTree more other → IsJoint other → Accepts other
-guarded_again bytes tokens unit errors text tree fine joint accepts =
-    derived_accepts (guarded bytes unit (names unit) errors) unit (names unit) errors (guarded_derives bytes tokens unit errors text tree) fine joint accepts
+pub guarded_again : (bytes : List ℕ) (tokens : List Token) (unit : Source) (errors : List Error) → Tokens bytes tokens → HasTree tokens unit → is_readable unit.classes ≡ true → Accepts unit
+    → (more : List Token) (other : Source) → Tokens (guarded bytes unit (names unit) errors) more → HasTree more other → Accepts other
+guarded_again bytes tokens unit errors text tree fine accepts =
+    derived_accepts (guarded bytes unit (names unit) errors) unit (names unit) errors (guarded_derives bytes tokens unit errors text tree) fine (parsed_joint bytes tokens unit text tree) accepts

@@ -6,4 +6,5 @@ pub mod GuardedStatements
 pub mod KeptWorlds
 pub mod KeptLimits
 pub mod GuardedAccepts
+pub mod ParsedJoint
 pub mod GuardedAgain
