@@ -21,7 +21,7 @@ use Rattle.ix_guard.specs.Accesses.{Access}
 use Rattle.ix_guard.specs.Tests.{Site}
 use Rattle.ix_guard.specs.Trees as tree
 use Rattle.ix_guard.specs.Trees.{Guarded, guarding, guarded_body, alone, alone_maybe, in_list, in_block, each_in_list, statement, untested, with_tests, test_tree, test_trees, expression_tested, declaration_tested, returning}
-use Rattle.ix_names_again.proofs.NotesAlike.{map_both}
+use Rattle.std.proofs.lemmas.List.{map-append}
 use Rattle.ix_guarded_names.proofs.AccessesFit.{Clean, AllFit, expression_finds, needed_fit}
 use Rattle.ix_guarded_names.proofs.KeptScopes.{IsOpen, Keeps, kept, kept_as, chained, kept_then, kept_closed, kept_in_block, kept_looped, kept_noted_then, kept_then_noted, one_told, told_both, tests_before}
 use Rattle.ix_guarded_names.proofs.DeclaredAccesses.{expression_fit, declaration_fit}
@@ -51,7 +51,7 @@ untested_guards k p t declares h stays = record { itself = h; alone = h; listed 
 tests_with : (itself : Stmt) (p : Span) (list : List Access) (t : Telling) → Keeps t (telling itself) → ((s : Scope) → IsOpen s → Clean (t.notes s) → AllFit s list)
     → Keeps t (all_told (map telling (test_trees p list ++ itself ∷ [])))
 tests_with itself p list t h fit =
-    kept_as t (all_told (map telling (test_trees p list) ++ telling itself ∷ [])) (all_told (map telling (test_trees p list ++ itself ∷ []))) (ap all_told (map_both telling (test_trees p list) (itself ∷ [])))
+    kept_as t (all_told (map telling (test_trees p list) ++ telling itself ∷ [])) (all_told (map telling (test_trees p list ++ itself ∷ []))) (ap all_told (map-append telling (test_trees p list) (itself ∷ [])))
     (tests_before p list t (telling itself ∷ []) (one_told t (telling itself) h) fit)
 
 wrapped : (k : StmtKind) (p : Span) (list : List Access) (t : Telling) → Keeps t (telling (statement k p)) → Stays t → ((s : Scope) → IsOpen s → Clean (t.notes s) → AllFit s list)
@@ -115,7 +115,7 @@ module _ (site : Site) where
         let later = all_told (map telling (map stmt xs)) in
         let first = in_list (made x) in
         let rest = each_in_list (map (guarding site) (map stmt xs)) in
-        kept_as (then_told (told x) later) (all_told (map telling first ++ map telling rest)) (all_told (map telling (first ++ rest))) (ap all_told (map_both telling first rest))
+        kept_as (then_told (told x) later) (all_told (map telling first ++ map telling rest)) (all_told (map telling (first ++ rest))) (ap all_told (map-append telling first rest))
         (chained (then_told (told x) later) (then_told (all_told (map telling first)) (all_told (map telling rest))) (all_told (map telling first ++ map telling rest))
         (kept_then (told x) (all_told (map telling first)) later (all_told (map telling rest)) (stmt_is x both.0).listed (all_listed xs both.1))
         (told_both (map telling first) (map telling rest)))
@@ -249,7 +249,7 @@ module _ (site : Site) where
       let later = all_told (map telling xs) in
       let first = in_list (guarding site x) in
       let rest = guarded_body site xs in
-      kept_as (then_told (telling x) later) (all_told (map telling first ++ map telling rest)) (all_told (map telling (first ++ rest))) (ap all_told (map_both telling first rest))
+      kept_as (then_told (telling x) later) (all_told (map telling first ++ map telling rest)) (all_told (map telling (first ++ rest))) (ap all_told (map-append telling first rest))
       (chained (then_told (telling x) later) (then_told (all_told (map telling first)) (all_told (map telling rest))) (all_told (map telling first ++ map telling rest))
       (kept_then (telling x) (all_told (map telling first)) later (all_told (map telling rest)) (statement_guards x both.0).listed (body_guards xs both.1))
       (told_both (map telling first) (map telling rest)))

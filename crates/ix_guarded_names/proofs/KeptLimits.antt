@@ -23,7 +23,7 @@ use Rattle.ix_guard.specs.Accesses.{Access}
 use Rattle.ix_guard.specs.Tests.{Site}
 use Rattle.ix_guard.specs.Trees as tree
 use Rattle.ix_guard.specs.Trees.{Guarded, guarding, guarded_body, guarded_member, guarded_class, alone, alone_maybe, in_list, in_block, each_in_list, statement, untested, with_tests, is_outside, test_tree, test_trees, expression_tested, declaration_tested, returning}
-use Rattle.ix_names_again.proofs.NotesAlike.{map_both}
+use Rattle.std.proofs.lemmas.List.{map-append}
 use Rattle.ix_guarded_names.proofs.KeptWorlds.{guarded_members, guarded_classes, parents_kept, members_kept}
 
 abbrev Annots : Type 0
@@ -179,7 +179,7 @@ module _ (site : Site) where
   all_methods_kept : (ks : List ClassDecl) → all_methods (guarded_classes site ks) ≡ map guarded_method (all_methods ks)
   all_methods_kept [] = refl
   all_methods_kept (k ∷ ks) =
-      ap₂ (λ (l : List MethodDecl) (m : List MethodDecl). l ++ m) (methods_of_kept k.members) (all_methods_kept ks) ∙ sym (map_both guarded_method (methods_of k.members) (all_methods ks))
+      ap₂ (λ (l : List MethodDecl) (m : List MethodDecl). l ++ m) (methods_of_kept k.members) (all_methods_kept ks) ∙ sym (map-append guarded_method (methods_of k.members) (all_methods ks))
 
   method_names_kept : (ms : List MethodDecl) → method_names (map guarded_method ms) ≡ method_names ms
   method_names_kept [] = refl
