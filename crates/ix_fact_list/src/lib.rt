@@ -8,9 +8,11 @@
 
 mod ends;
 mod fact_list;
+mod fact_row;
 mod limits;
 mod row;
 
 pub use ends::{before_links, up_to_ends};
 pub use fact_list::FactList;
+pub use fact_row::FactRow;
 pub use ix_path_index::{in_all_orders, ints_and_arrays};
