@@ -12,16 +12,14 @@ ghost use Rattle.ix_bounds.specs.Ends.{ends_in};
 ghost use Rattle.ix_path_index.specs.ByPath.{put_all};
 ghost use Rattle.ix_path_index.specs.Grouped.{on_grouped, on_list};
 ghost use Rattle.ix_path_index.specs.Spared.{some_named};
-ghost use Rattle.ix_fact_list.specs.NearNumbers.{HasLimits};
 
-use crate::limits::Limits;
-use crate::row::Row;
+use crate::ends::ends_of;
 use ix_bounds::{self, Groups, Indexed};
 use ix_core::{Fact, OpKind, Path, PathOff};
 use ix_facts::Know;
 use ix_path_index::{
-    Grouped, assigned_path, ints_and_arrays, names_path, names_target, some_name_path,
-    some_name_target,
+    Grouped, assigned_path, in_all_orders, ints_and_arrays, names_path, names_target,
+    some_name_path, some_name_target,
 };
 use std::alloc::{AllocError, Global};
 use std::marker::Model;
@@ -37,8 +35,6 @@ pub struct FactList {
     /// The ints and arrays that the facts name, each once.
     ints: Vec<Path>,
     arrays: Vec<Path>,
-    /// What each near int is at least and at most.
-    limits: Limits,
 }
 
 impl Model for FactList {
@@ -48,7 +44,7 @@ impl Model for FactList {
 
     ghost invariant = { λ list. (All HasSmallNumbers list.facts.items
         × (((p : Path) → on_grouped list.by_path p ≡ on_list (in_orders list.facts.items) p) × ((p : Path) → on_grouped list.ends p ≡ on_list (ends_in (in_orders list.facts.items)) p)))
-        × (((list.ints.items ≡ put_all [] (named_ints (in_orders list.facts.items))) × (list.arrays.items ≡ put_all [] (named_arrays (in_orders list.facts.items)))) × HasLimits (in_orders list.facts.items) list.limits) };
+        × ((list.ints.items ≡ put_all [] (named_ints (in_orders list.facts.items))) × (list.arrays.items ≡ put_all [] (named_arrays (in_orders list.facts.items)))) };
 }
 
 fn push_beside_changed(facts: &mut Vec<Fact>, kind: &OpKind, fact: &Fact) -> Result<(), AllocError>
@@ -125,10 +121,9 @@ impl FactList {
         requires small { All HasSmallNumbers facts.items }
         ensures facts { IfOk result (λ list. list ≡ facts.items) }
     {
-        let row = Row::of(alloc, &facts)?;
-        let (ints, arrays) = ints_and_arrays(alloc, row.facts())?;
-        let limits = Limits::of(alloc, &row, row.facts())?;
-        let (ordered, ends) = row.into_parts();
+        let ordered = in_all_orders(alloc, &facts)?;
+        let ends = Grouped::of(alloc, ends_of(alloc, &ordered)?)?;
+        let (ints, arrays) = ints_and_arrays(alloc, &ordered)?;
         let by_path = Grouped::of(alloc, ordered)?;
         Ok(FactList {
             facts,
@@ -136,7 +131,6 @@ impl FactList {
             ends,
             ints,
             arrays,
-            limits,
         })
     }
 
@@ -241,17 +235,11 @@ impl Know for FactList {
     }
 
     fn lo(&self, p: &Path) -> i64 {
-        match self.limits.low(p) {
-            Some(low) => low,
-            None => ix_bounds::lower_bound(self, p),
-        }
+        ix_bounds::lower_bound(self, p)
     }
 
     fn hi(&self, p: &Path) -> i64 {
-        match self.limits.high(p) {
-            Some(high) => high,
-            None => ix_bounds::upper_limit(self, p),
-        }
+        ix_bounds::upper_limit(self, p)
     }
 
     fn len_lo(&self, a: &Path) -> i64 {

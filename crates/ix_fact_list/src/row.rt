@@ -49,14 +49,6 @@ impl Row {
     {
         &self.ordered
     }
-
-    /// The facts, and the ranges and classes on each path.
-    pub(crate) fn into_parts(self) -> (Vec<Fact>, Grouped)
-        ensures facts { result.0.items ≡ self }
-        ensures ends { (p : Path) → on_grouped result.1 p ≡ on_list (ends_in self) p }
-    {
-        (self.ordered, self.ends)
-    }
 }
 
 impl Groups for Row {

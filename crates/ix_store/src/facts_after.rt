@@ -19,7 +19,8 @@ use crate::known::{FEW, FEW_FOR_TESTS, Known};
 use ix_after::{facts_after, facts_of_copy, push_claim};
 use ix_core::{Fact, OpKind, Path, PathClaim, Profile, Type_};
 use ix_exact::{push_fact, push_less, push_upper};
-use ix_fact_list::FactList;
+use ix_fact_list::{FactList, FactRow};
+use ix_num::Arith;
 use ix_outcomes::{Outcome, facts_of_outcome};
 use ix_six_tables::{Changed, Tables, all_facts, rounded_facts, some_changes, tables_beside};
 use std::alloc::{AllocError, Global};
@@ -68,6 +69,19 @@ impl Known {
         FactList::new(alloc, all_facts(alloc, rest)?)
     }
 
+    /// The same facts without an index: what a step reads that asks for limits and hardly for facts on a path. The only error is want of memory.
+    fn row_beside(
+        &self,
+        alloc: Global,
+        changed: &Changed,
+        rest: &Tables,
+    ) -> Result<FactRow, AllocError>
+        requires rest { spec.all_facts rest.now ≡ without (is_changed changed.now) (facts_in self.now) }
+        ensures facts { IfOk result (λ row. row ≡ without (is_changed changed.now) (facts_in self.now)) }
+    {
+        FactRow::new(alloc, all_facts(alloc, rest)?)
+    }
+
     /// All facts by the paths that they name: an index for one step. The only error is want of memory.
     fn listed(&self, alloc: Global) -> Result<FactList, AllocError>
         ensures facts { IfOk result (λ list. list ≡ facts_in self.now) }
@@ -87,6 +101,17 @@ impl Known {
         self.ordered.len() <= FEW && !some_changes(&self.tables, changed)
     }
 
+    /// Whether the rule of an operation asks for limits and hardly for facts on a path: a sum looks at bounds of each array. It is for speed alone.
+    fn asks_for_limits(&self, kind: &OpKind) -> bool {
+        match kind {
+            OpKind::Const(_, _) | OpKind::Copy(_, _, _) => true,
+            OpKind::Num(_, arith, _, _) => {
+                !matches!(arith, Arith::Add | Arith::Sub) || self.arrays.is_empty()
+            }
+            _ => false,
+        }
+    }
+
     /// The new facts behind an operation. Those tables have the facts that name no path which it changes.
     pub(crate) fn after(
         &self,
@@ -102,6 +127,11 @@ impl Known {
         let changed = Changed::Target(kind);
         if self.can_be_read(&changed) {
             let new = facts_after(alloc, self, profile, kind)?;
+            return Ok(new);
+        }
+        if self.asks_for_limits(kind) {
+            let row = self.row_beside(alloc, &changed, rest)?;
+            let new = facts_after(alloc, &row, profile, kind)?;
             return Ok(new);
         }
         let list = self.beside(alloc, &changed, rest)?;
@@ -127,8 +157,8 @@ impl Known {
             let new = facts_of_copy(alloc, self, ty, target, source)?;
             return Ok(new);
         }
-        let list = self.beside(alloc, &changed, rest)?;
-        let new = facts_of_copy(alloc, &list, ty, target, source)?;
+        let row = self.row_beside(alloc, &changed, rest)?;
+        let new = facts_of_copy(alloc, &row, ty, target, source)?;
         Ok(new)
     }
 

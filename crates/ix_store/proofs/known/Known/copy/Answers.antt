@@ -31,9 +31,9 @@ same : goal.returns-clause-facts
 same c =
     let known = facts_in c.args.self.now in
     let t = c.args.target.now in
-    let list = c.in_ok-list.list in
+    let list = c.in_ok-row.row in
     let new = c.in_ok-new-2.new.items in
-    let rest : list ≡ without (of_path t) known = c.in_ok-list.ensures.facts in
+    let rest : list ≡ without (of_path t) known = c.in_ok-row.ensures.facts in
     copy_is known list new (without (of_path t) known ++ new) c.args.ty.now t c.args.source.now rest c.in_ok-new-2.ensures.facts (ap (λ l. l ++ new) (sym rest))
 
 pub returns-clause-facts : goal.returns-clause-facts

@@ -7,7 +7,7 @@ use Rattle.ix_facts.specs.Small.{IsBound}
 use Rattle.ix_path_index.specs.ByPath.{near_place}
 use Rattle.ix_fact_list.specs.NearNumbers.{number_at}
 use Rattle.ix_fact_list.proofs.NearRaised.{bound_of_limit}
-use Rattle.ix_fact_list.proofs.fact_list.FactListKnow.hi.Goals as goal
+use Rattle.ix_fact_list.proofs.fact_row.FactRowKnow.hi.Goals as goal
 
 pub returns-in-Some-clause-bound : goal.returns-in-Some-clause-bound
 returns-in-Some-clause-bound c =
