@@ -1,0 +1,4 @@
+-- Notes without their places, and what tables of names say of their places.
+pub mod Alike
+pub mod Same
+pub mod Joint
