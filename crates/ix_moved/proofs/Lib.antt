@@ -1,0 +1,2 @@
+pub mod ListsMoved
+pub mod AnnotsMoved
