@@ -1,2 +1,4 @@
 pub mod ListsMoved
 pub mod AnnotsMoved
+pub mod ExprsMoved
+pub mod DeclsMoved

@@ -1,5 +1,5 @@
 -- Repetitions of the grammar over moved tokens.
-use Rattle.std.proofs.Common.{◌≡◌, List, [], ◌∷◌, ◌++◌, map, sym, subst}
+use Rattle.std.proofs.Common.{◌≡◌, List, [], ◌∷◌, ◌++◌, subst}
 use Rattle.ix_lexer.specs.declared.token.Token.{Token}
 use Rattle.ix_lexer.specs.declared.fixed.TheConstants.{COMMA}
 use Rattle.ix_grammar.specs.Patterns.{sign}
@@ -13,6 +13,10 @@ both move ts us = map_both (moved_token move) ts us
 -- What is in one relation with some tokens is, once it is moved, in the other with the moved tokens.
 abbrev pub Moves : Move → {A : Type 0} → (List Token → A → Type 0) → (List Token → A → Type 0) → (A → A) → Type 0
 Moves move {A = A} Was Is of = (ts : List Token) (x : A) → Was ts x → Is (moved_tokens move ts) (of x)
+
+-- the same tokens in the same relation with what is equal
+pub same_found : {A : Type 0} (Is : List Token → A → Type 0) {ts : List Token} {x y : A} → x ≡ y → Is ts x → Is ts y
+same_found Is {ts} e d = subst (λ z. Is ts z) e d
 
 module _ (move : Move) {A S : Type 0} (Was Is : List Token → A → Type 0) (of : A → A) (moves : Moves move Was Is of) (all : S → S) (add : S → A → S)
     (adds : (s : S) (x : A) → add (all s) (of x) ≡ all (add s x)) where

@@ -1,5 +1,5 @@
 -- Tokens and trees whose places are moved: where something begins by one function of places, where it ends by another.
-use Rattle.std.specs.Prelude.{ℕ, List, map, Option, Some, None}
+use Rattle.std.specs.Prelude.{ℕ, List, map}
 use Rattle.ix_text.specs.declared.span.Span.{Span}
 use Rattle.ix_lexer.specs.declared.token.Token.{Token}
 use Rattle.ix_tree.specs.declared.annot.Annot.{Annot}

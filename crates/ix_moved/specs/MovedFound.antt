@@ -1,5 +1,5 @@
 -- What the rules of the grammar find, with its places moved: the heights stay.
-use Rattle.std.specs.Prelude.{List, map, Option}
+use Rattle.std.specs.Prelude.{map}
 use Rattle.ix_tree.specs.declared.annot.BaseTree.{BaseTree}
 use Rattle.ix_grammar.specs.declared.classes.Behind.{Behind}
 use Rattle.ix_grammar.specs.declared.classes.Body.{Body}
