@@ -76,7 +76,7 @@ module _ (move : Move) where
 
   -- ---- lists and initialisers
 
-  exprs_joined : (s : Several) (f : Found) → with_expr (moved_several move s) (moved_found move f) ≡ moved_several move (with_expr s f)
+  pub exprs_joined : (s : Several) (f : Found) → with_expr (moved_several move s) (moved_found move f) ≡ moved_several move (with_expr s f)
   exprs_joined s f = ap (λ (l : List Expr). let x : Several = record { items = l; height = max s.height f.height } in x) (sym (map_joined (moved_expr move) s.items f.expr))
 
   inits_joined : (s : FoundItems) (i : FoundInit) → with_init (moved_items move s) (moved_found_init move i) ≡ moved_items move (with_init s i)

@@ -2,3 +2,4 @@ pub mod ListsMoved
 pub mod AnnotsMoved
 pub mod ExprsMoved
 pub mod DeclsMoved
+pub mod StmtsMoved
