@@ -22,7 +22,6 @@ use Rattle.ix_moved.specs.MovedFound.{moved_at, moved_found_base, moved_notes, m
 use Rattle.ix_moved.proofs.ListsMoved.{both, Moves, repeated, separated}
 
 module _ (move : Move) where
-
   -- ---- annotations
 
   text_moves : Moves move IsText IsText (λ x. x)

@@ -3,3 +3,5 @@ pub mod AnnotsMoved
 pub mod ExprsMoved
 pub mod DeclsMoved
 pub mod StmtsMoved
+pub mod ClassesMoved
+pub mod SourcesMoved
