@@ -1,2 +1,3 @@
--- Where the tokens of a text stand once texts are inserted between them.
+-- Where the tokens of a text stand once texts are inserted between them, and where the parts of a source stand in its guarded text.
 pub mod Interleaved
+pub mod GuardedPlaces

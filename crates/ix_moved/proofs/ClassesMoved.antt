@@ -24,7 +24,7 @@ use Rattle.ix_moved.proofs.StmtsMoved.{stmts_joined, block_stmt_moves}
 module _ (move : Move) where
   -- ---- bodies
 
-  stmts_move : Moves move (g.IsStmts source_parts) (g.IsStmts source_parts) (moved_stmts move)
+  pub stmts_move : Moves move (g.IsStmts source_parts) (g.IsStmts source_parts) (moved_stmts move)
   stmts_move = repeated move IsBlockStmt IsBlockStmt (moved_found_stmt move) (block_stmt_moves move) (moved_stmts move) with_stmt (stmts_joined move) no_stmts refl
 
   body_moves : (constructor : Bool) → Moves move (IsBody source_parts constructor) (IsBody source_parts constructor) (moved_body move)
@@ -48,7 +48,7 @@ module _ (move : Move) where
   abbrev members_of : List Member → ℕ → Members
   members_of members height = record { members = members; height = height }
 
-  member_moves : Moves move (IsMember source_parts) (IsMember source_parts) (moved_members move)
+  pub member_moves : Moves move (IsMember source_parts) (IsMember source_parts) (moved_members move)
   member_moves _ _ (g.some_fields {first} {second} {third} {mods} {ty} {decls} end m t d) =
       rw (both move first (second ++ (third ++ sign SEMICOLON end ∷ [])), both move second (third ++ sign SEMICOLON end ∷ []), both move third (sign SEMICOLON end ∷ []))
       (same_found (IsMember source_parts) (ap (λ l. members_of l decls.height) (fields_moved decls.decls))
@@ -76,10 +76,10 @@ module _ (move : Move) where
   word_moves _ _ (g.public span) = g.public (moved_span move span)
   word_moves _ _ (g.final span) = g.final (moved_span move span)
 
-  words_move : Moves move IsClassWords IsClassWords (maybe (moved_span move))
+  pub words_move : Moves move IsClassWords IsClassWords (maybe (moved_span move))
   words_move = repeated move IsClassWord IsClassWord (moved_span move) word_moves (maybe (moved_span move)) earlier (earlier_moved move) None refl
 
-  parent_moves : Moves move IsParent IsParent (maybe (moved_name move))
+  pub parent_moves : Moves move IsParent IsParent (maybe (moved_name move))
   parent_moves _ _ g.none = g.none
   parent_moves _ _ (g.extends span name) = g.extends (moved_span move span) (moved_name move name)
 

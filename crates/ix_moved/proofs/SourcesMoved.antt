@@ -6,6 +6,7 @@ use Rattle.ix_tree.specs.declared.decl.ClassDecl.{ClassDecl}
 use Rattle.ix_grammar.specs.declared.classes.Classes.{Classes}
 use Rattle.ix_grammar.specs.declared.classes.FoundClass.{FoundClass}
 use Rattle.ix_grammar.specs.Patterns.{sign}
+use Rattle.ix_grammar.specs.Lists.{IsRepeated}
 use Rattle.ix_grammar.specs.DeclGrammar.{nothing_more}
 use Rattle.ix_grammar.specs.ClassGrammar as g
 use Rattle.ix_grammar.specs.ClassGrammar.{IsDotName, IsDotted, IsPackage, IsImported, IsImport, IsClass, no_classes, with_class}
@@ -26,7 +27,7 @@ module _ (move : Move) where
   dotted_moves _ (g.dotted {tokens} {names} name d) =
       g.dotted (moved_name move name) (repeated move IsDotName IsDotName (moved_name move) dot_name_moves (λ x. x) nothing_more (λ s x. refl) tt refl tokens names d)
 
-  package_moves : Moves move IsPackage IsPackage (λ x. x)
+  pub package_moves : Moves move IsPackage IsPackage (λ x. x)
   package_moves _ _ g.none = g.none
   package_moves _ _ (g.package_line {tokens} span end d) =
       rw (both move tokens (sign SEMICOLON end ∷ [])) (g.package_line (moved_span move span) (moved_span move end) (dotted_moves tokens d))
@@ -40,6 +41,9 @@ module _ (move : Move) where
   import_moves _ _ (g.plain {tokens} span d) = g.plain (moved_span move span) (imported_moves tokens d)
   import_moves _ _ (g.static {tokens} span static d) = g.static (moved_span move span) (moved_span move static) (imported_moves tokens d)
 
+  pub imports_move : Moves move (IsRepeated IsImport tt nothing_more) (IsRepeated IsImport tt nothing_more) (λ x. x)
+  imports_move = repeated move IsImport IsImport (λ x. x) import_moves (λ x. x) nothing_more (λ s x. refl) tt refl
+
   -- ---- whole sources
 
   classes_joined : (s : Classes) (x : FoundClass) → with_class (moved_classes move s) (moved_found_class move x) ≡ moved_classes move (with_class s x)
@@ -49,5 +53,5 @@ module _ (move : Move) where
   source_moves _ _ (g.program {first} {second} {third} {name} {imports} {classes} p i r) =
       rw (both move first (second ++ third), both move second third)
       (g.program (package_moves first name p)
-      (repeated move IsImport IsImport (λ x. x) import_moves (λ x. x) nothing_more (λ s x. refl) tt refl second imports i)
+      (imports_move second imports i)
       (repeated move (IsClass source_parts) (IsClass source_parts) (moved_found_class move) (class_moves move) (moved_classes move) with_class classes_joined no_classes refl third classes r))

@@ -58,13 +58,13 @@ module _ (move : Move) where
   pub stmts_joined : (s : Stmts) (x : FoundStmt) → with_stmt (moved_stmts move s) (moved_found_stmt move x) ≡ moved_stmts move (with_stmt s x)
   stmts_joined s x = ap (λ (l : List Stmt). let y : Stmts = record { stmts = l; height = max s.height x.height } in y) (sym (map_joined (moved_stmt move) s.stmts x.stmt))
 
-  local_moved : (mods : FoundMods) (ty : FoundType) (found : FoundDecls) (end : Span)
+  pub local_moved : (mods : FoundMods) (ty : FoundType) (found : FoundDecls) (end : Span)
       → local_stmt (moved_found_mods move mods) (moved_found_type move ty) (moved_decls move found) (moved_span move end) ≡ moved_found_stmt move (local_stmt mods ty found end)
   local_moved mods ty found end =
       stmt_moved (s.Local found.decls) (s.Local (map (moved_decl move) found.decls)) found.height (across (begins mods.first ty.ty.span) end) _ (fold.local_kind (stmt_kind_step move) (stmt_step move) found.decls)
       (ap (λ x. across x (moved_span move end)) (begins_moved move mods.first ty.ty.span))
 
-  local_moves : (ts : List Token) (mods : FoundMods) (ty : FoundType) (found : FoundDecls) → IsLocal ts mods ty found
+  pub local_moves : (ts : List Token) (mods : FoundMods) (ty : FoundType) (found : FoundDecls) → IsLocal ts mods ty found
       → IsLocal (moved_tokens move ts) (moved_found_mods move mods) (moved_found_type move ty) (moved_decls move found)
   local_moves _ _ _ _ (g.local {first} {second} {third} {mods} {ty} {found} m t d) =
       rw (both move first (second ++ third), both move second third)
@@ -73,7 +73,7 @@ module _ (move : Move) where
   part_moved : (f : Found) → run_part (moved_found move f) ≡ moved_found_stmt move (run_part f)
   part_moved f = stmt_moved (s.Run f.expr) (s.Run (moved_expr move f.expr)) f.height f.outer (moved_span move f.outer) (fold.run_kind (stmt_kind_step move) (stmt_step move) f.expr) refl
 
-  first_moves : Moves move IsForFirst IsForFirst (moved_stmts move)
+  pub first_moves : Moves move IsForFirst IsForFirst (moved_stmts move)
   first_moves _ _ g.no_first = g.no_first
   first_moves _ _ (g.locals {ts} {mods} {ty} {found} d) =
       same_found IsForFirst (ap (with_stmt no_stmts) (local_moved mods ty found found.end) ∙ stmts_joined no_stmts (local_stmt mods ty found found.end)) (g.locals (local_moves ts mods ty found d))
@@ -81,11 +81,11 @@ module _ (move : Move) where
       g.runs (separated move IsStatementExpr IsStatementExpr (moved_found move) (run_moves move) (moved_stmts move) with_run
       (λ s x. ap (with_stmt (moved_stmts move s)) (part_moved x) ∙ stmts_joined s (run_part x)) one_run (λ x. ap (with_stmt no_stmts) (part_moved x) ∙ stmts_joined no_stmts (run_part x)) ts found d)
 
-  maybe_moves : Moves move IsMaybe IsMaybe (maybe (moved_found move))
+  pub maybe_moves : Moves move IsMaybe IsMaybe (maybe (moved_found move))
   maybe_moves _ _ g.absent = g.absent
   maybe_moves _ _ (g.present {ts} {f} d) = g.present (expr_moves move Whole ts f d)
 
-  maybe_expr_moved : (value : Option Found) → maybe_expr (maybe (moved_found move) value) ≡ maybe (moved_expr move) (maybe_expr value)
+  pub maybe_expr_moved : (value : Option Found) → maybe_expr (maybe (moved_found move) value) ≡ maybe (moved_expr move) (maybe_expr value)
   maybe_expr_moved None = refl
   maybe_expr_moved (Some f) = refl
 
@@ -93,7 +93,7 @@ module _ (move : Move) where
   maybe_height_moved None = refl
   maybe_height_moved (Some f) = refl
 
-  updates_move : Moves move IsUpdate IsUpdate (moved_several move)
+  pub updates_move : Moves move IsUpdate IsUpdate (moved_several move)
   updates_move _ _ g.no_update = g.no_update
   updates_move _ _ (g.updates {ts} {found} d) =
       g.updates (separated move IsStatementExpr IsStatementExpr (moved_found move) (run_moves move) (moved_several move) with_expr (exprs_joined move) one_expr (λ x. refl) ts found d)
