@@ -1,3 +1,4 @@
 pub mod Shifts
 pub mod PlacedTexts
 pub mod Realisations
+pub mod WrappedPlaces
