@@ -63,3 +63,27 @@ begins_at move at by place far added m le lt h = let f = m.from place le in let 
 
 pub ends_at : (move : Move) (at by place : ℕ) (added : List Added) → Moved move at by added → at < place → AllFrom place added → move.to place ≡ place + by
 ends_at move at by place added m lt h = let f = m.to place lt in let g = none_before place added h in omega (arith, f, g)
+
+-- ---- the order of places stays
+
+part_up_to : (a b place size : ℕ) → a ≤ b → (if nat_lt a place then 0 else size) ≤ (if nat_lt b place then 0 else size)
+part_up_to a b place size le = grind (arith, le)
+
+part_before : (a b place size : ℕ) → a < b → (if nat_lt a place then 0 else size) ≤ (if nat_lt place b then size else 0)
+part_before a b place size lt = grind (arith, lt)
+
+up_to_rises : (added : List Added) (a b : ℕ) → a ≤ b → added_up_to added a ≤ added_up_to added b
+up_to_rises [] a b le = omega arith
+up_to_rises (new ∷ added) a b le = omega (arith, part_up_to a b new.place (length new.bytes) le, up_to_rises added a b le)
+
+up_to_before : (added : List Added) (a b : ℕ) → a < b → added_up_to added a ≤ added_before added b
+up_to_before [] a b lt = omega arith
+up_to_before (new ∷ added) a b lt = omega (arith, part_before a b new.place (length new.bytes) lt, up_to_before added a b lt)
+
+-- What begins later begins later then, so no two places where something begins come to one.
+pub begins_later : (added : List Added) (a b : ℕ) → a < b → (moving added).from a < (moving added).from b
+begins_later added a b lt = let e = up_to_rises added a b (omega (arith, lt)) in omega (arith, e, lt)
+
+-- What isn't empty isn't then.
+pub not_empty : (added : List Added) (a b : ℕ) → a < b → (moving added).from a < (moving added).to b
+not_empty added a b lt = let e = up_to_before added a b lt in omega (arith, e, lt)

@@ -34,15 +34,15 @@ use Rattle.ix_guarded_text.proofs.NamedAccesses.{AllNamed, names_split, accesses
 use Rattle.ix_guarded_text.proofs.FirstTokens.{expr_begins, local_begins}
 use Rattle.ix_guarded_text.proofs.Tests.{bytes_of, expression_bytes, declaration_bytes, expression_named, declaration_named, tokens_of, tests_inserted}
 use Rattle.ix_guarded_text.proofs.Wrapped.{added, added_both}
-use Rattle.ix_moved.specs.Moved.{Move, moved_span, moved_token, moved_tokens, moved_name, moved_expr, moved_decl, stmt_kind_step, stmt_step, moved_stmt}
-use Rattle.ix_moved.specs.MovedFound.{moved_found, moved_several, moved_found_stmt, moved_stmts}
+use Rattle.ix_moved.specs.Moved.{Move, moved_span, moved_tokens, moved_name, moved_expr, moved_decl, stmt_kind_step, stmt_step, moved_stmt}
+use Rattle.ix_moved.specs.MovedFound.{moved_found, moved_several, moved_stmts}
 use Rattle.ix_moved.proofs.ExprsMoved.{expr_moves}
 use Rattle.ix_moved.proofs.StmtsMoved.{moved_stmt_kind, stmt_moved, first_moves, maybe_moves, maybe_expr_moved, updates_move, stmt_moves, block_stmt_moves}
-use Rattle.ix_guarded_places.specs.Interleaved.{Piece, old, new, olds, news, Interleaved, done, keep, before}
+use Rattle.ix_guarded_places.specs.Interleaved.{Piece, old, olds, news, Interleaved, done, keep, before}
 use Rattle.ix_guarded_places.specs.GuardedPlaces as q
 use Rattle.ix_guarded_places.specs.GuardedPlaces.{Inner, Alone, InList}
 use Rattle.ix_guarded_places.proofs.Realisations.{far, realised, real_both, real_olds, old_both, new_both}
-use Rattle.ix_guarded_places.proofs.WrappedPlaces.{chained, chained_kept, keeps, keeps_all, stmts_both, tests_made, InnerMade, AloneMade, Core, Guards, untested_guards, tested_guards}
+use Rattle.ix_guarded_places.proofs.WrappedPlaces.{chained, chained_kept, keeps, keeps_all, stmts_both, tests_made, Core, Guards, untested_guards, tested_guards}
 
 module _ (site : Site) (move : Move) where
   -- ---- what is inserted for a statement

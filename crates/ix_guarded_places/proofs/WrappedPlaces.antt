@@ -1,5 +1,5 @@
 -- A statement with its tests in a block: its pieces, and what the tokens are that these are.
-use Rattle.std.proofs.Common.{◌≡◌, ℕ, Bool, false, List, [], ◌∷◌, ◌++◌, map, refl, sym, ap, subst, ◌∙◌, append_assoc, append-nil}
+use Rattle.std.proofs.Common.{◌≡◌, ℕ, Bool, false, List, [], ◌∷◌, ◌++◌, refl, sym, ap, subst, ◌∙◌, append_assoc, append-nil}
 use Rattle.std.specs.Prelude.{codes}
 use Rattle.ix_text.specs.declared.span.Span.{Span}
 use Rattle.ix_lexer.specs.declared.token.Token.{Token}
@@ -20,12 +20,12 @@ use Rattle.ix_insertions.specs.Woven.{Added, is_word_like}
 use Rattle.ix_guard.specs.Accesses.{Access}
 use Rattle.ix_guard.specs.Guards.{opening, closing}
 use Rattle.ix_guard.specs.Tests.{Site}
-use Rattle.ix_guard.specs.Trees.{statement, test_trees}
+use Rattle.ix_guard.specs.Trees.{statement}
 use Rattle.ix_guarded_text.proofs.NamedAccesses.{AllNamed}
 use Rattle.ix_guarded_text.proofs.TestTexts.{open_token, close_token}
 use Rattle.ix_guarded_text.proofs.Tests.{bytes_of, tokens_of, opening_inserted, closing_inserted, tests_listed}
 use Rattle.ix_guarded_text.proofs.Wrapped.{added}
-use Rattle.ix_moved.specs.Moved.{Move, moved_span, moved_token}
+use Rattle.ix_moved.specs.Moved.{Move}
 use Rattle.ix_guarded_places.specs.Interleaved.{Piece, old, new, olds, news, Interleaved, done, keep, before, behind}
 use Rattle.ix_guarded_places.specs.GuardedPlaces as q
 use Rattle.ix_guarded_places.specs.GuardedPlaces.{AreTests, Inner, Alone}

@@ -1,6 +1,8 @@
 -- The tree of a guarded text beside that of its source: each expression, type and name of the source stands at its place moved, and tests stand before the statements.
-use Rattle.std.specs.Prelude.{◌≡◌, List, [], ◌∷◌, ◌++◌, map, Option, Some, None}
+use Rattle.std.specs.Prelude.{◌≡◌, ℕ, List, [], ◌∷◌, ◌++◌, map, Option, Some, None}
 use Rattle.ix_text.specs.declared.span.Span.{Span}
+use Rattle.ix_lexer.specs.declared.token.Token.{Token}
+use Rattle.ix_lexer.specs.Tokens.{Tokens}
 use Rattle.ix_tree.specs.declared.annot.Ident.{Ident}
 use Rattle.ix_tree.specs.declared.decl.ClassDecl.{ClassDecl}
 use Rattle.ix_tree.specs.declared.decl.LocalDecl.{LocalDecl}
@@ -11,6 +13,8 @@ use Rattle.ix_tree.specs.declared.decl.Unit.{Unit as Source}
 use Rattle.ix_tree.specs.declared.expr.Expr.{Expr}
 use Rattle.ix_tree.specs.declared.stmt.Stmt.{Stmt}
 use Rattle.ix_tree.specs.declared.stmt.StmtKind.TheVariants as s
+use Rattle.ix_grammar.specs.declared.classes.FoundUnit.{FoundUnit}
+use Rattle.ix_grammar.specs.SourceGrammar.{IsSource}
 use Rattle.ix_bare.specs.Bare.{nowhere, bare_maybe as maybe, bare_stmt}
 use Rattle.ix_guard.specs.Accesses.{Access}
 use Rattle.ix_guard.specs.Tests.{Site}
@@ -86,3 +90,11 @@ module _ (site : Site) (move : Move) where
 
   abbrev pub PlacedSource : Source → Source → Type 0
   PlacedSource old new = Each PlacedClass old.classes new.classes
+
+-- The bytes are a source, in whose tree all that this one has stands at its place moved.
+pub record GuardedAt (bytes : List ℕ) (site : Site) (move : Move) (found : FoundUnit) : Type 0 where
+  pub tokens : List Token
+  pub other : FoundUnit
+  pub text : Tokens bytes tokens
+  pub is : IsSource tokens other
+  pub placed : PlacedSource site move found.unit other.unit
