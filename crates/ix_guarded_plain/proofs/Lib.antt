@@ -1,0 +1,6 @@
+pub mod PartsLower
+pub mod Comparisons
+pub mod NothingAssigned
+pub mod TestLowers
+pub mod GuardLowers
+pub mod TestKeeps
