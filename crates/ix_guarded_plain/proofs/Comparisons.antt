@@ -1,5 +1,5 @@
 -- A comparison of a variable with what one operation computes.
-use Rattle.std.proofs.Common.{◌≡◌, ℕ, ◌+◌, Bool, true, false, [], ◌∷◌, refl, sym, ap, subst, ◌∙◌, Ok, Err}
+use Rattle.std.proofs.Common.{◌≡◌, ℕ, ◌+◌, Bool, true, false, [], ◌∷◌, refl, Ok, Err}
 use Rattle.std.specs.Prelude.{if◌then◌else◌, nat_lt}
 use Rattle.ix_num.specs.declared.rel.Rel.{Rel}
 use Rattle.ix_text.specs.declared.span.Span.{Span}

@@ -1,5 +1,5 @@
 -- The statement of a guard's test becomes a choice of the test that throws where it holds and does nothing where it fails.
-use Rattle.std.proofs.Common.{◌≡◌, ℕ, ◌+◌, ◌<◌, List, [], ◌∷◌, ◌++◌, None, Ok, refl, sym, ap, subst, ◌∙◌}
+use Rattle.std.proofs.Common.{◌≡◌, ℕ, ◌+◌, ◌<◌, [], ◌∷◌, ◌++◌, None, Ok, refl, sym, ap, subst, ◌∙◌}
 use Rattle.ix_text.specs.declared.span.Span.{Span}
 use Rattle.ix_core.specs.declared.code.Block.{Block}
 use Rattle.ix_core.specs.declared.code.Item.{Item}
@@ -14,7 +14,6 @@ use Rattle.ix_formed.specs.Additions.{Makes}
 use Rattle.ix_formed.proofs.PlainItems.{makes_then}
 use Rattle.ix_plain.specs.declared.body.Body.{Body}
 use Rattle.ix_plain.specs.Scope.{Site, Scope}
-use Rattle.ix_plain.specs.Parts.{Asked}
 use Rattle.ix_plain.specs.Assigned.{assigns}
 use Rattle.ix_plain.specs.Values.{lowering}
 use Rattle.ix_plain.specs.Statements as statements

@@ -4,3 +4,4 @@ pub mod NothingAssigned
 pub mod TestLowers
 pub mod GuardLowers
 pub mod TestKeeps
+mod RowsTests

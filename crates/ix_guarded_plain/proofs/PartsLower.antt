@@ -1,5 +1,5 @@
 -- What lowering makes of each form of expression in a guard's test.
-use Rattle.std.proofs.Common.{◌≡◌, ℕ, true, false, [], pos, None, Some, refl, ap, ◌∙◌, Option}
+use Rattle.std.proofs.Common.{◌≡◌, ℕ, true, [], pos, None, Some, refl, ap, ◌∙◌, Option}
 use Rattle.std.proofs.lemmas.Bool.{false≢true}
 use Rattle.ix_num.specs.declared.rel.Rel.{Rel}
 use Rattle.ix_text.specs.declared.span.Span.{Span}
@@ -16,7 +16,7 @@ use Rattle.ix_guard.specs.Tests.{is_variable}
 use Rattle.ix_guard.specs.Trees.{expression, named, either}
 use Rattle.ix_plain.specs.declared.made.Made.{Made}
 use Rattle.ix_plain.specs.Scope.{Scope, slot_of, meaning_at, type_at}
-use Rattle.ix_plain.specs.Parts.{Within, ◌>>=◌ as ◌then◌, Value, in_place, computed}
+use Rattle.ix_plain.specs.Parts.{in_place, computed}
 use Rattle.ix_plain.specs.Values as values
 use Rattle.ix_plain.specs.Values.{Lowering, lowering}
 use Rattle.ix_guarded_plain.specs.TestTrees.{IsIn}

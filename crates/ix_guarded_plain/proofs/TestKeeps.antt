@@ -10,12 +10,12 @@ use Rattle.ix_core.specs.declared.op.OpKind.{OpKind}
 use Rattle.ix_core.specs.declared.op.OpKind.TheVariants as op
 use Rattle.ix_core.specs.declared.program.Local.{Local}
 use Rattle.ix_core.specs.Code.{Code, End, If, Throw, Condition, item_code}
-use Rattle.ix_guarded_flow.specs.Known.{Known, Unknown, Inside, accessed, writes}
+use Rattle.ix_guarded_flow.specs.Known.{Known, Inside, accessed, writes}
 use Rattle.ix_guarded_flow.specs.Guards.{Guarded}
 use Rattle.ix_guarded_flow.specs.Pieces.{EachOp, EachAsked, HasNoLoop, IsElsewhere, Keeps}
 use Rattle.ix_guarded_flow.proofs.GuardedPieces.{guard_then}
 use Rattle.ix_plain.specs.declared.body.Body.{Body}
-use Rattle.ix_plain.specs.Scope.{Site, Scope}
+use Rattle.ix_plain.specs.Scope.{Site}
 use Rattle.ix_plain.specs.Statements.{scope_of}
 use Rattle.ix_guarded_plain.specs.TestTrees.{Parts, Means}
 use Rattle.ix_guarded_plain.specs.TestForms.{Tests, Guards}

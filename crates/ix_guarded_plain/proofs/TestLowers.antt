@@ -11,15 +11,17 @@ use Rattle.ix_core.specs.Code.{Condition, Either, cond_code}
 use Rattle.ix_core.specs.Types.{int_type}
 use Rattle.ix_core.proofs.Translated.{cond_code-Either}
 use Rattle.ix_tree.specs.declared.expr.ExprKind.TheVariants as e
-use Rattle.ix_guard.specs.Trees.{expression, named, either}
+use Rattle.ix_text.specs.declared.span.Span.{Span}
+use Rattle.ix_guard.specs.Accesses.{Access}
+use Rattle.ix_guard.specs.Trees.{expression, named, either, is_outside}
 use Rattle.ix_formed.specs.Additions.{Makes}
 use Rattle.ix_formed.proofs.PlainItems.{makes_then}
 use Rattle.ix_plain.specs.Scope.{Scope, type_at}
-use Rattle.ix_plain.specs.Parts.{Within, Asked, empty}
+use Rattle.ix_plain.specs.Parts.{Asked, empty}
 use Rattle.ix_plain.specs.Values as values
 use Rattle.ix_plain.specs.Values.{Lowering, lowering}
-use Rattle.ix_guarded_plain.specs.TestTrees.{Parts, Means, null_test, negative_test, high_test, condition_of}
-use Rattle.ix_guarded_plain.specs.TestForms.{Tests, Asks}
+use Rattle.ix_guarded_plain.specs.TestTrees.{Parts, Means, null_test, negative_test, high_test, condition_of, parts_at}
+use Rattle.ix_guarded_plain.specs.TestForms.{Asks}
 use Rattle.ix_guarded_plain.proofs.PartsLower.{comparison_lowers, either_lowers, name_span, name_value, null_value, zero_value, length_value}
 use Rattle.ix_guarded_plain.proofs.Comparisons.{Comparison, comparison}
 
@@ -119,3 +121,8 @@ module _ (scope : Scope) (array index : ℕ) (parts : Parts) (nothing : scope.as
       (λ first a. makes_then (Comparison Ge index (free + 2) int_type (op.Length (free + 2) array)) (Asks array index free) ((lowering (high_test parts)).condition scope first.free) _
       (subst (λ n. Makes (Comparison Ge index (free + 2) int_type (op.Length (free + 2) array)) ((lowering (high_test parts)).condition scope n)) (sym a.behind) (high_compared (free + 2)))
       (λ last b. three free first last below a b)))
+
+-- as it stands in a guarded tree
+pub outside_lowers : (scope : Scope) (array index : ℕ) (span : Span) (access : Access) → scope.assigned ≡ [] → Means scope array index (parts_at span access)
+    → (free : ℕ) → index < free → Makes (Asks array index free) ((lowering (is_outside span access)).condition scope free)
+outside_lowers scope array index span access nothing means free below = test_lowers scope array index (parts_at span access) nothing means free below
