@@ -25,20 +25,20 @@ use Rattle.ix_guarded_plain.proofs.TestLowers.{test_lowers}
 
 -- ---- the two statements
 
-abbrev thrown : Parts → Item
+abbrev pub thrown : Parts → Item
 thrown parts = item.Throw parts.thrown.text parts.throw
 
-abbrev throwing : Parts → Running
+abbrev pub throwing : Parts → Running
 throwing parts = record { span = parts.throw; run = λ site end body. Ok (with_last body (thrown parts)) }
 
-throw_lowers : (parts : Parts) → statements.statement (throw_of parts) ≡ throwing parts
+pub throw_lowers : (parts : Parts) → statements.statement (throw_of parts) ≡ throwing parts
 throw_lowers parts = fold.stmt_is statements.kind_step statements.stmt_step (s.Throw parts.thrown) parts.throw
     ∙ ap (λ kind. statements.stmt_step (record { kind = kind; span = parts.throw })) (fold.throw_kind statements.kind_step statements.stmt_step parts.thrown)
 
-abbrev choosing : Parts → Running
+abbrev pub choosing : Parts → Running
 choosing parts = record { span = parts.whole; run = λ site end body. chosen (condition_of parts) (statements.statement (throw_of parts)) None site body }
 
-choice_lowers : (parts : Parts) → statements.statement (guard_of parts) ≡ choosing parts
+pub choice_lowers : (parts : Parts) → statements.statement (guard_of parts) ≡ choosing parts
 choice_lowers parts = fold.stmt_is statements.kind_step statements.stmt_step (s.If (condition_of parts) (throw_of parts) None) parts.whole
     ∙ ap (λ kind. statements.stmt_step (record { kind = kind; span = parts.whole })) (fold.if_kind statements.kind_step statements.stmt_step (condition_of parts) (throw_of parts))
 
@@ -49,10 +49,10 @@ module _ (site : Site) (body : Body) (array index : ℕ) (parts : Parts) (means 
     pub tests : Tests array index body.made.free (cond_code asked.cond)
     pub behind_it : asked.body ≡ behind body body.made.items (body.made.free + 3)
 
-  scope_is : scope_for site body (assigns (condition_of parts)).inside ≡ scope_of site body []
+  pub scope_is : scope_for site body (assigns (condition_of parts)).inside ≡ scope_of site body []
   scope_is = ap (scope_of site body) (condition_assigns parts (scope_of site body []) [])
 
-  asked_is : Makes IsAsked (tested site (condition_of parts) body)
+  pub asked_is : Makes IsAsked (tested site (condition_of parts) body)
   asked_is = makes_then (Asks array index body.made.free) IsAsked ((lowering (condition_of parts)).condition (scope_for site body (assigns (condition_of parts)).inside) body.made.free) _
       (subst (λ (scope : Scope). Makes (Asks array index body.made.free) ((lowering (condition_of parts)).condition scope body.made.free)) (sym scope_is)
       (test_lowers (scope_of site body []) array index parts refl means body.made.free below))

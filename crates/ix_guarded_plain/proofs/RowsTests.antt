@@ -12,8 +12,9 @@ use Rattle.ix_plain.specs.Parts.{empty}
 use Rattle.ix_plain.specs.Statements as statements
 use Rattle.ix_plain.specs.Statements.{scope_of}
 use Rattle.ix_guarded_plain.specs.TestTrees.{Parts, Means, guard_of}
-use Rattle.ix_guarded_plain.specs.TestForms.{Guards}
+use Rattle.ix_guarded_plain.specs.TestForms.{Guards, IsMade}
 use Rattle.ix_guarded_plain.proofs.GuardLowers.{guard_lowers}
+use Rattle.ix_guarded_plain.proofs.MadeWithRoom.{guard_made}
 
 abbrev span : ℕ → ℕ → Span
 span from to = record { from = from; to = to }
@@ -69,3 +70,6 @@ below = omega arith
 
 guarded : Makes (Guards 0 1 (codes "IndexOutOfBoundsException") (span 41 86) start) ((statements.statement (guard_of test)).run site 86 start)
 guarded = guard_lowers site start 0 1 test means below 86
+
+made : IsMade ((statements.statement (guard_of test)).run site 86 start)
+made = guard_made site start 0 1 test means below (omega arith) 86

@@ -2,6 +2,7 @@
 use Rattle.std.proofs.Common.{◌≡◌, ℕ, ◌+◌, ◌<◌, false, [], pos, refl, sym, ap, subst, ◌∙◌, arith}
 use Rattle.std.specs.Prelude.{◌==◌}
 use Rattle.std.proofs.lemmas.Bool.Decides.{nat_tests}
+use Rattle.ix_text.specs.declared.span.Span.{Span}
 use Rattle.ix_num.specs.declared.rel.Rel.TheVariants.{Eq, Lt, Ge}
 use Rattle.ix_core.specs.declared.code.Cond.{Cond}
 use Rattle.ix_core.specs.declared.code.Cond.TheVariants as cond
@@ -11,7 +12,6 @@ use Rattle.ix_core.specs.Code.{Condition, Either, cond_code}
 use Rattle.ix_core.specs.Types.{int_type}
 use Rattle.ix_core.proofs.Translated.{cond_code-Either}
 use Rattle.ix_tree.specs.declared.expr.ExprKind.TheVariants as e
-use Rattle.ix_text.specs.declared.span.Span.{Span}
 use Rattle.ix_guard.specs.Accesses.{Access}
 use Rattle.ix_guard.specs.Trees.{expression, named, either, is_outside}
 use Rattle.ix_formed.specs.Additions.{Makes}
@@ -26,7 +26,7 @@ use Rattle.ix_guarded_plain.proofs.PartsLower.{comparison_lowers, either_lowers,
 use Rattle.ix_guarded_plain.proofs.Comparisons.{Comparison, comparison}
 
 module _ (scope : Scope) (array index : ℕ) (parts : Parts) (nothing : scope.assigned ≡ []) (means : Means scope array index parts) where
-  null_compared : (free : ℕ)
+  pub null_compared : (free : ℕ)
       → Makes (Comparison Eq array free (type_at scope parts.null_array.span) (op.Const free (literal.NullOf (type_at scope parts.null)))) ((lowering (null_test parts)).condition scope free)
   null_compared free =
       subst (λ (l : Lowering). Makes (Comparison Eq array free (type_at scope parts.null_array.span) (op.Const free (literal.NullOf (type_at scope parts.null)))) (l.condition scope free))
@@ -36,7 +36,7 @@ module _ (scope : Scope) (array index : ℕ) (parts : Parts) (nothing : scope.as
       (ap (type_at scope) (name_span parts.null_array))
       (null_value scope parts.null (empty free)))
 
-  negative_compared : (free : ℕ) → Makes (Comparison Lt index free int_type (op.Const free (literal.Int (pos 0)))) ((lowering (negative_test parts)).condition scope free)
+  pub negative_compared : (free : ℕ) → Makes (Comparison Lt index free int_type (op.Const free (literal.Int (pos 0)))) ((lowering (negative_test parts)).condition scope free)
   negative_compared free =
       subst (λ (l : Lowering). Makes (Comparison Lt index free int_type (op.Const free (literal.Int (pos 0)))) (l.condition scope free))
       (sym (comparison_lowers Lt (named parts.negative_index) (expression (e.Int (pos 0)) parts.zero) parts.is_negative))
@@ -45,7 +45,7 @@ module _ (scope : Scope) (array index : ℕ) (parts : Parts) (nothing : scope.as
       (ap (type_at scope) (name_span parts.negative_index) ∙ means.negative_type)
       (zero_value scope parts.zero (empty free)))
 
-  high_compared : (free : ℕ) → Makes (Comparison Ge index free int_type (op.Length free array)) ((lowering (high_test parts)).condition scope free)
+  pub high_compared : (free : ℕ) → Makes (Comparison Ge index free int_type (op.Length free array)) ((lowering (high_test parts)).condition scope free)
   high_compared free =
       subst (λ (l : Lowering). Makes (Comparison Ge index free int_type (op.Length free array)) (l.condition scope free))
       (sym (comparison_lowers Ge (named parts.high_index) (expression (e.Select (named parts.length_array) parts.length) parts.selection) parts.is_too_high))
@@ -65,7 +65,7 @@ module _ (scope : Scope) (array index : ℕ) (parts : Parts) (nothing : scope.as
     pub negative_compares : Comparison Lt index (free + 1) int_type (op.Const (free + 1) (literal.Int (pos 0))) negative_asked
     pub behind : asked.free ≡ free + 2
 
-  first_two : (free : ℕ) → Makes (FirstTwo free) (values.either (lowering (null_test parts)) (lowering (negative_test parts)) scope free)
+  pub first_two : (free : ℕ) → Makes (FirstTwo free) (values.either (lowering (null_test parts)) (lowering (negative_test parts)) scope free)
   first_two free =
       makes_then (Comparison Eq array free (type_at scope parts.null_array.span) (op.Const free (literal.NullOf (type_at scope parts.null)))) (FirstTwo free) ((lowering (null_test parts)).condition scope free) _ (null_compared free)
       (λ one a. makes_then (Comparison Lt index (free + 1) int_type (op.Const (free + 1) (literal.Int (pos 0)))) (FirstTwo free) ((lowering (negative_test parts)).condition scope one.free) _

@@ -1,5 +1,5 @@
 -- What the tree of a guard's test becomes.
-use Rattle.std.specs.Prelude.{◌≡◌, ℕ, ◌+◌, max, List, [], ◌∷◌, ◌++◌}
+use Rattle.std.specs.Prelude.{◌≡◌, ℕ, ◌+◌, max, List, [], ◌∷◌, ◌++◌, Result, Ok, Err}
 use Rattle.ix_text.specs.declared.span.Span.{Span}
 use Rattle.ix_core.specs.declared.code.Item.{Item}
 use Rattle.ix_core.specs.declared.op.Op.{Op}
@@ -8,6 +8,11 @@ use Rattle.ix_core.specs.Code.{Code, End, If, Throw, Condition, item_code, cond_
 use Rattle.ix_guarded_flow.specs.Guards.{IsTest, outside}
 use Rattle.ix_plain.specs.declared.body.Body.{Body}
 use Rattle.ix_plain.specs.Parts.{Asked}
+
+-- Lowering refuses nothing.
+abbrev pub IsMade : {A E : Type 0} → Result A E → Type 0
+IsMade (Ok made) = Unit {0}
+IsMade (Err limit) = ⊥
 
 -- The condition is a guard's test of these slots, whose operations take the three slots from a free one on.
 pub record Tests (array index free : ℕ) (asked : Condition) : Type 0 where
