@@ -1,0 +1,295 @@
+-- What each form of an expression adds writes neither slot, if what its parts add writes neither.
+use Rattle.std.proofs.Common.{◌≡◌, ℕ, ◌+◌, ℤ, pos, Bool, true, false, List, [], ◌∷◌, ◌++◌, Option, Some, None, Ok, Err, Result, refl, sym, subst, arith}
+use Rattle.std.specs.Prelude.{if◌then◌else◌, ◌==◌}
+use Rattle.ix_text.specs.declared.span.Span.{Span}
+use Rattle.ix_num.specs.declared.arith.Arith.{Arith}
+use Rattle.ix_num.specs.declared.arith.Arith.TheVariants.{Add, Sub}
+use Rattle.ix_num.specs.declared.rel.Rel.{Rel}
+use Rattle.ix_core.specs.declared.claim.Type_.{Type_}
+use Rattle.ix_core.specs.declared.code.Cond.TheVariants as cond
+use Rattle.ix_core.specs.declared.op.Arg.{Arg}
+use Rattle.ix_core.specs.declared.op.CallOp.{CallOp}
+use Rattle.ix_core.specs.declared.op.Literal.TheVariants as literal
+use Rattle.ix_core.specs.declared.op.OpKind.{OpKind}
+use Rattle.ix_core.specs.declared.op.OpKind.TheVariants as op
+use Rattle.ix_core.specs.declared.op.Test.{Test}
+use Rattle.ix_core.specs.declared.op.UnaryNum.{UnaryNum}
+use Rattle.ix_core.specs.declared.op.UnaryNum.TheVariants as unary
+use Rattle.ix_core.specs.Types.{int_type, cell_type}
+use Rattle.ix_core.proofs.Translated.{cond_code-Compare, cond_code-Both, cond_code-Either, cond_code-Opposite}
+use Rattle.ix_tree.specs.declared.annot.Ident.{Ident}
+use Rattle.ix_tree.specs.declared.expr.BinaryOp.{BinaryOp}
+use Rattle.ix_tree.specs.declared.expr.BinaryOp.TheVariants as binary
+use Rattle.ix_tree.specs.declared.expr.UnaryOp.{UnaryOp}
+use Rattle.ix_tree.specs.declared.expr.UnaryOp.TheVariants as operator
+use Rattle.ix_meaning.specs.declared.note.Meaning.{Meaning}
+use Rattle.ix_meaning.specs.declared.note.Meaning.TheVariants as meaning
+use Rattle.ix_plain.specs.declared.made.Made.{Made}
+use Rattle.ix_plain.specs.declared.made.Spot.{Spot}
+use Rattle.ix_plain.specs.Scope.{Scope, slot_of, meaning_at, type_at, head_at, constructor_at, is_among}
+use Rattle.ix_plain.specs.Parts.{Within, ◌>>=◌, Value, Asked, Target, empty, block, with_item, in_place, done, computed, write, read}
+use Rattle.ix_plain.specs.Values as values
+use Rattle.ix_plain.specs.Values.{Lowering, Filling, Arguments, without_value, int_value}
+use Rattle.ix_formed.specs.Additions.{Makes, AllOf}
+use Rattle.ix_formed.proofs.PlainItems.{makes_then, makes_both}
+use Rattle.ix_guarded_flow.specs.Known.{writes}
+use Rattle.ix_guarded_flow.specs.Pieces.{EachAsked, AsksNoLoop}
+use Rattle.ix_kept_slots.specs.KeptSlots.{WritesNeither, AreBelow, Leaves, LeavesAsked, Leaving, FillsLeaving}
+use Rattle.ix_kept_slots.specs.Targets.{IsApart}
+use Rattle.ix_kept_slots.proofs.KeptItems.{ValueLeaves, below_on, leaves_none, leaves_both, then_known, then_leaves, then_value, done_leaves, computed_leaves, block_each, block_no_loop, computes_leaves, asks_leaves, write_leaves, read_leaves}
+
+-- What an assignment writes to is apart from both slots.
+abbrev pub AimsApart : (array index : ℕ) → Scope → Lowering → Type 0
+AimsApart array index scope l = (made : Made) → Makes (λ t. IsApart array index t.spot) (l.target scope made)
+
+abbrev pub OptionLeaves : (array index : ℕ) → Scope → Option Lowering → Type 0
+OptionLeaves array index scope None = Unit {0}
+OptionLeaves array index scope (Some object) = Leaving array index scope object
+
+module _ {array index : ℕ} (scope : Scope) where
+  -- ---- names
+
+  pub int_leaves : (n : ℤ) (span : Span) (made : Made) → AreBelow array index made.free → ValueLeaves array index made (int_value n span made)
+  int_leaves n span made below = computed_leaves made (op.Const made.free (literal.Int n)) span below (λ slot. refl)
+
+  copied_or_not : (b : Bool) (span : Span) (from : ℕ) (made : Made) → AreBelow array index made.free
+      → ValueLeaves array index made (if b then computed made (op.Copy made.free from (type_at scope span)) span else in_place made from)
+  copied_or_not true span from made below = computed_leaves made (op.Copy made.free from (type_at scope span)) span below (λ slot. refl)
+  copied_or_not false span from made below = leaves_none made
+
+  variable_leaves : (span : Span) (from : ℕ) (made : Made) → AreBelow array index made.free → ValueLeaves array index made (values.variable scope span from made)
+  variable_leaves span from made below = copied_or_not (is_among from scope.assigned) span from made below
+
+  named_leaves : (span : Span) (m : Option Meaning) (made : Made) → AreBelow array index made.free → ValueLeaves array index made (values.named scope span m made)
+  named_leaves span (Some (meaning.Constant n)) made below = int_leaves n span made below
+  named_leaves span (Some (meaning.FieldNamed field)) made below = computed_leaves made (op.ReadField made.free 0 field) span below (λ slot. refl)
+  named_leaves span other made below = variable_leaves span (slot_of scope other) made below
+
+  unused_leaves : (made : Made) (r : Within Value) → AreBelow array index made.free → ValueLeaves array index made r → Makes (Leaves array index made) (r >>= without_value)
+  unused_leaves made r below leaves = then_leaves (λ v. v.made) (λ m. m) made r without_value below leaves (λ v on. leaves_none v.made)
+
+  named_unused_leaves : (span : Span) (m : Option Meaning) (made : Made) → AreBelow array index made.free → Makes (Leaves array index made) (values.named_unused scope span m made)
+  named_unused_leaves span (Some (meaning.ClassNamed class)) made below = leaves_none made
+  named_unused_leaves span other made below = unused_leaves made (values.named scope span other made) below (named_leaves span other made below)
+
+  pub name_leaves : (ident : Ident) (span : Span) → Leaving array index scope (values.name ident span)
+  name_leaves ident span =
+      let computed = computes_leaves scope (λ at made. values.named at span (meaning_at at ident.span) made) span (λ made below. named_leaves span (meaning_at scope ident.span) made below) in
+      record {
+        value = computed.value;
+        condition = computed.condition;
+        target = λ made below. leaves_none made;
+        unused = λ made below. named_unused_leaves span (meaning_at scope ident.span) made below;
+      }
+
+  -- ---- selections and arrays
+
+  selected_leaves : (object : Lowering) → Leaving array index scope object → (span : Span) (m : Option Meaning) (made : Made) → AreBelow array index made.free
+      → ValueLeaves array index made (values.selected object span scope m made)
+  selected_leaves object l span (Some (meaning.Constant n)) made below =
+      then_leaves (λ m. m) (λ v. v.made) made (object.unused scope made) _ below (l.unused made below) (λ before on. int_leaves n span before on)
+  selected_leaves object l span (Some (meaning.FieldNamed field)) made below =
+      then_value made (object.value scope made) _ below (l.value made below) (λ o on. computed_leaves o.made (op.ReadField o.made.free o.slot field) span on (λ slot. refl))
+  selected_leaves object l span other made below =
+      then_value made (object.value scope made) _ below (l.value made below) (λ o on. computed_leaves o.made (op.Length o.made.free o.slot) span on (λ slot. refl))
+
+  pub selection_leaves : (object : Lowering) (ident : Ident) (span : Span) → Leaving array index scope object → Leaving array index scope (values.selection object ident span)
+  selection_leaves object ident span l =
+      let computed = computes_leaves scope (λ at made. values.selected object span at (meaning_at at ident.span) made) span (λ made below. selected_leaves object l span (meaning_at scope ident.span) made below) in
+      record {
+        value = computed.value;
+        condition = computed.condition;
+        unused = computed.unused;
+        target = λ made below. then_leaves (λ v. v.made) (λ t. t.made) made (object.value scope made) _ below (l.value made below) (λ o on. leaves_none o.made);
+      }
+
+  pub element_leaves : (of at : Lowering) (span : Span) → Leaving array index scope of → Leaving array index scope at → Leaving array index scope (values.element of at span)
+  element_leaves of at span a i =
+      let computed = computes_leaves scope _ span (λ made below. then_value made (of.value scope made) _ below (a.value made below)
+      (λ x on. then_value x.made (at.value scope x.made) _ on (i.value x.made on)
+      (λ y next. computed_leaves y.made (op.Load y.made.free x.slot y.slot (type_at scope of.span)) at.span next (λ slot. refl)))) in
+      record {
+        value = computed.value;
+        condition = computed.condition;
+        unused = computed.unused;
+        target = λ made below. then_leaves (λ v. v.made) (λ t. t.made) made (of.value scope made) _ below (a.value made below)
+            (λ x on. then_leaves (λ v. v.made) (λ t. t.made) x.made (at.value scope x.made) _ on (i.value x.made on) (λ y next. leaves_none y.made));
+      }
+
+  pub new_array_leaves : (size : Lowering) (span : Span) → Leaving array index scope size → Leaving array index scope (values.new_array size span)
+  new_array_leaves size span l = computes_leaves scope _ span (λ made below. then_value made (size.value scope made) _ below (l.value made below)
+      (λ n on. computed_leaves n.made (op.NewArray n.made.free (type_at scope span) n.slot) size.span on (λ slot. refl)))
+
+  entries_leave : (slots : List ℕ) (entries : List Filling) → AllOf (FillsLeaving array index scope) entries → (ty : Type_) (made : Made) → AreBelow array index made.free
+      → Makes (λ e. Leaves array index made e.made) (values.entries_from slots entries scope ty made)
+  entries_leave slots [] all ty made below = leaves_none made
+  entries_leave slots (entry ∷ entries) all ty made below =
+      then_leaves (λ v. v.made) (λ e. e.made) made (entry.value scope ty made) _ below (all.0 ty made below) (λ v on. entries_leave (slots ++ v.slot ∷ []) entries all.1 ty v.made on)
+
+  pub filled_leaves : (entries : List Filling) (span : Span) → AllOf (FillsLeaving array index scope) entries → (ty : Type_) (made : Made) → AreBelow array index made.free
+      → ValueLeaves array index made (values.filled entries span scope ty made)
+  filled_leaves entries span all ty made below =
+      then_leaves (λ e. e.made) (λ v. v.made) made (values.entries_from [] entries scope (cell_type ty) made) _ below (entries_leave [] entries all (cell_type ty) made below)
+      (λ given on. done_leaves given.made (op.Fill given.made.free ty given.slots) span (values.spans entries) on (λ slot. refl))
+
+  -- ---- operators
+
+  with_one_leaves : (operator : UnaryNum) (operand : Lowering) (span : Span) → Leaving array index scope operand → Leaving array index scope (values.with_one operator operand span)
+  with_one_leaves operator operand span l = computes_leaves scope _ span (λ made below. then_value made (operand.value scope made) _ below (l.value made below)
+      (λ y on. computed_leaves y.made (op.Unary y.made.free operator y.slot) span on (λ slot. refl)))
+
+  arithmetic_leaves : (arith : Arith) (left right : Lowering) (span : Span) → Leaving array index scope left → Leaving array index scope right
+      → Leaving array index scope (values.arithmetic arith left right span)
+  arithmetic_leaves arith left right span a b = computes_leaves scope _ span (λ made below. then_value made (left.value scope made) _ below (a.value made below)
+      (λ y on. then_value y.made (right.value scope y.made) _ on (b.value y.made on)
+      (λ z next. computed_leaves z.made (op.Num z.made.free arith y.slot z.slot) span next (λ slot. refl))))
+
+  compare_leaves : (free : ℕ) (made : Made) (test : Test) → Leaves array index (empty free) made → LeavesAsked array index free (record { cond = cond.Compare (block made) test; free = made.free })
+  compare_leaves free made test a = record {
+    each = subst (EachAsked (WritesNeither array index)) (sym (cond_code-Compare (block made) test)) (block_each free made a);
+    no_loop = subst AsksNoLoop (sym (cond_code-Compare (block made) test)) (block_no_loop free made a);
+    up = a.up;
+  }
+
+  compared_leaves : (rel : Rel) (left right : Lowering) → Leaving array index scope left → Leaving array index scope right → (free : ℕ) → AreBelow array index free
+      → Makes (LeavesAsked array index free) (values.compared rel left right scope free)
+  compared_leaves rel left right a b free below =
+      makes_then (λ y. Leaves array index (empty free) y.made) (LeavesAsked array index free) (left.value scope (empty free)) _ (a.value (empty free) below)
+      (λ y first. makes_then (λ z. Leaves array index y.made z.made) (LeavesAsked array index free) (right.value scope y.made) _ (b.value y.made (below_on free y.made.free below first.up))
+      (λ z second. compare_leaves free z.made _ (leaves_both (empty free) y.made z.made first second)))
+
+  both_leave : (left right : Lowering) → Leaving array index scope left → Leaving array index scope right → (free : ℕ) → AreBelow array index free
+      → Makes (LeavesAsked array index free) (values.both left right scope free)
+  both_leave left right a b free below =
+      makes_then (LeavesAsked array index free) (LeavesAsked array index free) (left.condition scope free) _ (a.condition free below)
+      (λ c first. makes_then (LeavesAsked array index c.free) (LeavesAsked array index free) (right.condition scope c.free) _ (b.condition c.free (below_on free c.free below first.up))
+      (λ d second. record {
+        each = subst (EachAsked (WritesNeither array index)) (sym (cond_code-Both c.cond d.cond)) (first.each, second.each);
+        no_loop = subst AsksNoLoop (sym (cond_code-Both c.cond d.cond)) (first.no_loop, second.no_loop);
+        up = let x = first.up in let y = second.up in omega (arith, x, y);
+      }))
+
+  either_leave : (left right : Lowering) → Leaving array index scope left → Leaving array index scope right → (free : ℕ) → AreBelow array index free
+      → Makes (LeavesAsked array index free) (values.either left right scope free)
+  either_leave left right a b free below =
+      makes_then (LeavesAsked array index free) (LeavesAsked array index free) (left.condition scope free) _ (a.condition free below)
+      (λ c first. makes_then (LeavesAsked array index c.free) (LeavesAsked array index free) (right.condition scope c.free) _ (b.condition c.free (below_on free c.free below first.up))
+      (λ d second. record {
+        each = subst (EachAsked (WritesNeither array index)) (sym (cond_code-Either c.cond d.cond)) (first.each, second.each);
+        no_loop = subst AsksNoLoop (sym (cond_code-Either c.cond d.cond)) (first.no_loop, second.no_loop);
+        up = let x = first.up in let y = second.up in omega (arith, x, y);
+      }))
+
+  opposite_leaves : (operand : Lowering) → Leaving array index scope operand → (free : ℕ) → AreBelow array index free → Makes (LeavesAsked array index free) (values.opposite operand scope free)
+  opposite_leaves operand l free below =
+      makes_then (LeavesAsked array index free) (LeavesAsked array index free) (operand.condition scope free) _ (l.condition free below)
+      (λ c a. record {
+        each = subst (EachAsked (WritesNeither array index)) (sym (cond_code-Opposite c.cond)) a.each;
+        no_loop = subst AsksNoLoop (sym (cond_code-Opposite c.cond)) a.no_loop;
+        up = a.up;
+      })
+
+  pub unary_leaves : (operator : UnaryOp) (operand : Lowering) (span : Span) → Leaving array index scope operand → Leaving array index scope (values.unary_of operator operand span)
+  unary_leaves operator.Plus operand span l = computes_leaves scope _ span (λ made below. l.value made below)
+  unary_leaves operator.Minus operand span l = with_one_leaves unary.Neg operand span l
+  unary_leaves operator.Flip operand span l = with_one_leaves unary.Flip operand span l
+  unary_leaves operator.Not operand span l = asks_leaves scope (values.opposite operand) span (opposite_leaves operand l)
+
+  pub binary_leaves : (operator : BinaryOp) (left right : Lowering) (span : Span) → Leaving array index scope left → Leaving array index scope right
+      → Leaving array index scope (values.binary_of operator left right span)
+  binary_leaves (binary.Num arith) left right span a b = arithmetic_leaves arith left right span a b
+  binary_leaves (binary.Compare rel) left right span a b = asks_leaves scope (values.compared rel left right) span (compared_leaves rel left right a b)
+  binary_leaves binary.AndAlso left right span a b = asks_leaves scope (values.both left right) span (both_leave left right a b)
+  binary_leaves binary.OrElse left right span a b = asks_leaves scope (values.either left right) span (either_leave left right a b)
+
+  -- ---- assignments, to what is apart from both slots
+
+  -- the parts of a target, and behind them what adds to them
+  then_target : (target : Lowering) (made : Made) (next : Target → Within Value) → Leaving array index scope target → AimsApart array index scope target → AreBelow array index made.free
+      → ((t : Target) → AreBelow array index t.made.free → IsApart array index t.spot → ValueLeaves array index t.made (next t)) → ValueLeaves array index made (target.target scope made >>= next)
+  then_target target made next l aims below second =
+      then_known (λ t. t.made) (λ v. v.made) (λ t. IsApart array index t.spot) made (target.target scope made) next below
+      (makes_both (λ t. Leaves array index made t.made) (λ t. IsApart array index t.spot) (target.target scope made) (l.target made below) (aims made)) second
+
+  assignment_leaves : (target value : Lowering) (span : Span) → Leaving array index scope target → AimsApart array index scope target → Leaving array index scope value
+      → Leaving array index scope (values.assignment target value span)
+  assignment_leaves target value span t aims v = computes_leaves scope _ span (λ made below. then_target target made _ t aims below
+      (λ place on apart. then_value place.made (value.value scope place.made) _ on (v.value place.made on)
+      (λ w next. write_leaves w.made place.spot w.slot (type_at scope value.span) span target.span value.span apart)))
+
+  compound_leaves : (arith : Arith) (target value : Lowering) (span : Span) → Leaving array index scope target → AimsApart array index scope target → Leaving array index scope value
+      → Leaving array index scope (values.compound arith target value span)
+  compound_leaves arith target value span t aims v = computes_leaves scope _ span (λ made below. then_target target made _ t aims below
+      (λ place on apart. then_value place.made (read place.spot target.span place.made) _ on (read_leaves place.spot target.span place.made on)
+      (λ y read_on. then_value y.made (value.value scope y.made) _ read_on (v.value y.made read_on)
+      (λ z next. then_value z.made (computed z.made (op.Num z.made.free arith y.slot z.slot) span) _ next (computed_leaves z.made (op.Num z.made.free arith y.slot z.slot) span next (λ slot. refl))
+      (λ w last. write_leaves w.made place.spot w.slot int_type span target.span span apart)))))
+
+  pub assign_leaves : (operator : Option Arith) (target value : Lowering) (span : Span) → Leaving array index scope target → AimsApart array index scope target → Leaving array index scope value
+      → Leaving array index scope (values.assign_of operator target value span)
+  assign_leaves None target value span t aims v = assignment_leaves target value span t aims v
+  assign_leaves (Some arith) target value span t aims v = compound_leaves arith target value span t aims v
+
+  pub step_leaves : (up after : Bool) (target : Lowering) (span : Span) → Leaving array index scope target → AimsApart array index scope target → Leaving array index scope (values.step up after target span)
+  step_leaves up after target span t aims = computes_leaves scope _ span (λ made below. then_target target made _ t aims below
+      (λ place on apart. then_value place.made (read place.spot target.span place.made) _ on (read_leaves place.spot target.span place.made on)
+      (λ y read_on. then_value y.made (int_value (pos 1) span y.made) _ read_on (int_leaves (pos 1) span y.made read_on)
+      (λ one next. then_value one.made (computed one.made (op.Num one.made.free (if up then Add else Sub) y.slot one.slot) span) _ next
+      (computed_leaves one.made (op.Num one.made.free (if up then Add else Sub) y.slot one.slot) span next (λ slot. refl))
+      (λ w last. write_leaves w.made place.spot w.slot int_type span target.span span apart)))))
+
+  -- ---- calls
+
+  pub arguments_leave : (given : List Arg) (args : List Lowering) → AllOf (Leaving array index scope) args → (made : Made) → AreBelow array index made.free
+      → Makes (λ a. Leaves array index made a.made) (values.arguments_from given args scope made)
+  arguments_leave given [] all made below = leaves_none made
+  arguments_leave given (first ∷ rest) all made below =
+      then_leaves (λ v. v.made) (λ a. a.made) made (first.value scope made) _ below (all.0.value made below)
+      (λ v on. arguments_leave (given ++ record { slot = v.slot; span = first.span } ∷ []) rest all.1 v.made on)
+
+  calling_leaves : (kind : CallOp → OpKind) → ((call : CallOp) (slot : ℕ) → writes (kind call) slot ≡ (slot == call.target)) → (method : ℕ) (receiver : Option ℕ) (class : ℕ) (span : Span)
+      (given : Arguments) → AreBelow array index given.made.free → ValueLeaves array index given.made (values.calling kind method receiver class span given)
+  calling_leaves kind target method receiver class span given below =
+      let call : CallOp = record { target = given.made.free; method = method; receiver = receiver; args = given.args; class = class; span = span } in
+      computed_leaves given.made (kind call) span below (target call)
+
+  unused_object_leaves : (object : Option Lowering) → OptionLeaves array index scope object → (made : Made) → AreBelow array index made.free
+      → Makes (Leaves array index made) (values.unused_object object scope made)
+  unused_object_leaves None l made below = leaves_none made
+  unused_object_leaves (Some object) l made below = l.unused made below
+
+  object_leaves : (object : Option Lowering) → OptionLeaves array index scope object → (made : Made) → AreBelow array index made.free
+      → ValueLeaves array index made (values.object_value object scope made)
+  object_leaves None l made below = leaves_none made
+  object_leaves (Some object) l made below = l.value made below
+
+  static_leaves : (object : Option Lowering) → OptionLeaves array index scope object → (args : List Lowering) → AllOf (Leaving array index scope) args
+      → (method class : ℕ) (span : Span) (made : Made) → AreBelow array index made.free → ValueLeaves array index made (values.static_call object method args class span scope made)
+  static_leaves object l args all method class span made below = then_leaves (λ m. m) (λ v. v.made) made (values.unused_object object scope made) _ below (unused_object_leaves object l made below)
+      (λ before on. then_leaves (λ a. a.made) (λ v. v.made) before (values.arguments_from [] args scope before) _ on (arguments_leave [] args all before on)
+      (λ given next. calling_leaves op.StaticCall (λ call slot. refl) method None class span given next))
+
+  instance_leaves : (object : Option Lowering) → OptionLeaves array index scope object → (args : List Lowering) → AllOf (Leaving array index scope) args
+      → (method : ℕ) (span : Span) (made : Made) → AreBelow array index made.free → ValueLeaves array index made (values.instance_call object method args span scope made)
+  instance_leaves object l args all method span made below = then_leaves (λ v. v.made) (λ v. v.made) made (values.object_value object scope made) _ below (object_leaves object l made below)
+      (λ o on. then_leaves (λ a. a.made) (λ v. v.made) o.made (values.arguments_from [] args scope o.made) _ on (arguments_leave [] args all o.made on)
+      (λ given next. calling_leaves op.InstanceCall (λ call slot. refl) method (Some o.slot) (values.object_class object scope) span given next))
+
+  static_or_instance : (b : Bool) (object : Option Lowering) → OptionLeaves array index scope object → (args : List Lowering) → AllOf (Leaving array index scope) args
+      → (class method : ℕ) (span : Span) (made : Made) → AreBelow array index made.free
+      → ValueLeaves array index made (if b then values.static_call object method args class span scope made else values.instance_call object method args span scope made)
+  static_or_instance true object l args all class method span made below = static_leaves object l args all method class span made below
+  static_or_instance false object l args all class method span made below = instance_leaves object l args all method span made below
+
+  pub call_leaves : (object : Option Lowering) → OptionLeaves array index scope object → (args : List Lowering) → AllOf (Leaving array index scope) args
+      → (ident : Ident) (span : Span) → Leaving array index scope (values.call object ident args span)
+  call_leaves object l args all ident span = computes_leaves scope _ span (λ made below.
+      let method = values.method_number (meaning_at scope ident.span) in
+      let head = head_at scope.site method in
+      static_or_instance head.is_static object l args all head.class method ident.span made below)
+
+  pub new_object_leaves : (ident : Ident) (args : List Lowering) (span : Span) → AllOf (Leaving array index scope) args → Leaving array index scope (values.new_object ident args span)
+  new_object_leaves ident args span all = computes_leaves scope _ span (λ made below.
+      then_leaves (λ a. a.made) (λ v. v.made) made (values.arguments_from [] args scope made) _ below (arguments_leave [] args all made below)
+      (λ given on. calling_leaves op.NewObject (λ call slot. refl) (constructor_at scope.site (values.class_number (meaning_at scope ident.span))) None
+      (values.class_number (meaning_at scope ident.span)) span given on))

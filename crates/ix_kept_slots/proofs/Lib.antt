@@ -1,0 +1,4 @@
+pub mod KeptItems
+pub mod KeptForms
+pub mod KeptExpressions
+pub mod KeptPieces
