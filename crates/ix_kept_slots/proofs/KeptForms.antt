@@ -74,10 +74,10 @@ module _ {array index : ℕ} (scope : Scope) where
 
   pub name_leaves : (ident : Ident) (span : Span) → Leaving array index scope (values.name ident span)
   name_leaves ident span =
-      let computed = computes_leaves scope (λ at made. values.named at span (meaning_at at ident.span) made) span (λ made below. named_leaves span (meaning_at scope ident.span) made below) in
+      let by_value = computes_leaves scope (λ at made. values.named at span (meaning_at at ident.span) made) span (λ made below. named_leaves span (meaning_at scope ident.span) made below) in
       record {
-        value = computed.value;
-        condition = computed.condition;
+        value = by_value.value;
+        condition = by_value.condition;
         target = λ made below. leaves_none made;
         unused = λ made below. named_unused_leaves span (meaning_at scope ident.span) made below;
       }
@@ -95,23 +95,25 @@ module _ {array index : ℕ} (scope : Scope) where
 
   pub selection_leaves : (object : Lowering) (ident : Ident) (span : Span) → Leaving array index scope object → Leaving array index scope (values.selection object ident span)
   selection_leaves object ident span l =
-      let computed = computes_leaves scope (λ at made. values.selected object span at (meaning_at at ident.span) made) span (λ made below. selected_leaves object l span (meaning_at scope ident.span) made below) in
+      let by_value = computes_leaves scope (λ at made. values.selected object span at (meaning_at at ident.span) made) span (λ made below. selected_leaves object l span (meaning_at scope ident.span) made below) in
       record {
-        value = computed.value;
-        condition = computed.condition;
-        unused = computed.unused;
+        value = by_value.value;
+        condition = by_value.condition;
+        unused = by_value.unused;
         target = λ made below. then_leaves (λ v. v.made) (λ t. t.made) made (object.value scope made) _ below (l.value made below) (λ o on. leaves_none o.made);
       }
 
   pub element_leaves : (of at : Lowering) (span : Span) → Leaving array index scope of → Leaving array index scope at → Leaving array index scope (values.element of at span)
   element_leaves of at span a i =
-      let computed = computes_leaves scope _ span (λ made below. then_value made (of.value scope made) _ below (a.value made below)
+      let by_value = computes_leaves scope
+      (λ here made. of.value here made >>= (λ x. at.value here x.made >>= (λ y. computed y.made (op.Load y.made.free x.slot y.slot (type_at here of.span)) at.span))) span
+      (λ made below. then_value made (of.value scope made) _ below (a.value made below)
       (λ x on. then_value x.made (at.value scope x.made) _ on (i.value x.made on)
       (λ y next. computed_leaves y.made (op.Load y.made.free x.slot y.slot (type_at scope of.span)) at.span next (λ slot. refl)))) in
       record {
-        value = computed.value;
-        condition = computed.condition;
-        unused = computed.unused;
+        value = by_value.value;
+        condition = by_value.condition;
+        unused = by_value.unused;
         target = λ made below. then_leaves (λ v. v.made) (λ t. t.made) made (of.value scope made) _ below (a.value made below)
             (λ x on. then_leaves (λ v. v.made) (λ t. t.made) x.made (at.value scope x.made) _ on (i.value x.made on) (λ y next. leaves_none y.made));
       }

@@ -64,6 +64,15 @@ other_slot slot free low = grind (arith, nat_tests)
 abbrev pub ValueLeaves : (array index : ℕ) → Made → Within Value → Type 0
 ValueLeaves array index made r = Makes (λ v. Leaves array index made v.made) r
 
+taken : (array index : ℕ) (made : Made) (first : Item) (b : Bool) → EachOp (WritesNeither array index) (item_code first End) → HasNoLoop (item_code first End)
+    → ValueLeaves array index made (if b then Ok (record { made = record { items = made.items ++ first ∷ []; free = made.free + 1 }; slot = made.free }) else Err which.Slots)
+taken array index made first true each no_loop = record { items = first ∷ []; appended = refl; each = each; no_loop = no_loop; up = omega arith }
+taken array index made first false each no_loop = tt
+
+pub taking_leaves : (array index : ℕ) (made : Made) (first : Item) → EachOp (WritesNeither array index) (item_code first End) → HasNoLoop (item_code first End)
+    → ValueLeaves array index made (taking made first)
+taking_leaves array index made first each no_loop = taken array index made first (nat_lt made.free most_slots) each no_loop
+
 module _ {array index : ℕ} where
   -- ---- what is below the first free slot
 
@@ -117,19 +126,11 @@ module _ {array index : ℕ} where
 
   -- ---- one item
 
-  taken : (made : Made) (first : Item) (b : Bool) → EachOp (WritesNeither array index) (item_code first End) → HasNoLoop (item_code first End)
-      → ValueLeaves array index made (if b then Ok (record { made = record { items = made.items ++ first ∷ []; free = made.free + 1 }; slot = made.free }) else Err which.Slots)
-  taken made first true each no_loop = record { items = first ∷ []; appended = refl; each = each; no_loop = no_loop; up = omega arith }
-  taken made first false each no_loop = tt
-
-  pub taking_leaves : (made : Made) (first : Item) → EachOp (WritesNeither array index) (item_code first End) → HasNoLoop (item_code first End) → ValueLeaves array index made (taking made first)
-  taking_leaves made first each no_loop = taken made first (nat_lt made.free most_slots) each no_loop
-
   -- an operation that takes the first free slot
   pub done_leaves : (made : Made) (kind : OpKind) (span : Span) (parts : List Span) → AreBelow array index made.free → ((slot : ℕ) → writes kind slot ≡ (slot == made.free))
       → ValueLeaves array index made (taking made (done kind span parts))
   done_leaves made kind span parts below target =
-      taking_leaves made (done kind span parts) (writes_fresh made.free (record { kind = kind; span = span; parts = parts }) below target, tt) tt
+      taking_leaves array index made (done kind span parts) (writes_fresh made.free (record { kind = kind; span = span; parts = parts }) below target, tt) tt
 
   pub computed_leaves : (made : Made) (kind : OpKind) (span : Span) → AreBelow array index made.free → ((slot : ℕ) → writes kind slot ≡ (slot == made.free)) → ValueLeaves array index made (computed made kind span)
   computed_leaves made kind span below target = done_leaves made kind span [] below target
@@ -162,12 +163,14 @@ module _ {array index : ℕ} where
       let first : Block = record { items = one ∷ [] } in
       let second : Block = record { items = two ∷ [] } in
       let is = sym (item_code-If asked.cond first second End) in
-      let each_one : WritesNeither array index (record { kind = op.Const asked.free (literal.Bool true); span = span; parts = [] }) = writes_fresh asked.free _ on (λ slot. refl) in
-      let each_two : WritesNeither array index (record { kind = op.Const asked.free (literal.Bool false); span = span; parts = [] }) = writes_fresh asked.free _ on (λ slot. refl) in
+      let op_one : Op = record { kind = op.Const asked.free (literal.Bool true); span = span; parts = [] } in
+      let op_two : Op = record { kind = op.Const asked.free (literal.Bool false); span = span; parts = [] } in
+      let each_one : WritesNeither array index op_one = writes_fresh asked.free op_one on (λ slot. refl) in
+      let each_two : WritesNeither array index op_two = writes_fresh asked.free op_two on (λ slot. refl) in
       makes_more (λ v. Leaves array index start v.made) (λ v. Leaves array index made v.made)
       (λ v b. record { items = b.items; appended = b.appended; each = b.each; no_loop = b.no_loop; up = let x = a.up in let y = b.up in omega (arith, x, y) })
       (truth_value made.items span asked)
-      (taking_leaves start (truth_item asked.cond asked.free span)
+      (taking_leaves array index start (truth_item asked.cond asked.free span)
       (subst (EachOp (WritesNeither array index)) is (a.each, ((each_one, tt), ((each_two, tt), tt))))
       (subst HasNoLoop is (a.no_loop, (tt, (tt, tt)))))
 
