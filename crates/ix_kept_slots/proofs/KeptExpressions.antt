@@ -1,15 +1,13 @@
 -- The plain code of an expression that assigns neither variable writes neither slot, and has no loop.
-use Rattle.std.proofs.Common.{◌≡◌, ℕ, Bool, true, false, List, [], ◌∷◌, ◌++◌, map, Option, Some, None, Ok, Err, Result, refl, sym, subst, arith}
+use Rattle.std.proofs.Common.{◌≡◌, ℕ, Bool, true, List, [], ◌∷◌, ◌++◌, map, Some, None, Ok, Err, Result, refl, sym, subst, arith}
 use Rattle.std.specs.Prelude.{◌&&◌}
 use Rattle.std.proofs.lemmas.Bool.{and_parts, false≢true}
 use Rattle.ix_text.specs.declared.span.Span.{Span}
 use Rattle.ix_core.specs.declared.op.Literal.TheVariants as literal
 use Rattle.ix_core.specs.declared.op.OpKind.TheVariants as op
-use Rattle.ix_core.specs.declared.claim.Type_.{Type_}
 use Rattle.ix_tree.specs.declared.expr.Expr.{Expr, Expr-F, ind-Expr, map-Expr, roll-Expr, fold-roll-Expr}
 use Rattle.ix_tree.specs.declared.expr.ExprKind.{ExprKind, ExprKind-F, map-ExprKind, roll-ExprKind, fold-ExprKind, fold-roll-ExprKind}
 use Rattle.ix_tree.specs.declared.expr.Init.{Init, Init-F, ind-Init, map-Init, roll-Init, fold-roll-Init}
-use Rattle.ix_plain.specs.declared.made.Made.{Made}
 use Rattle.ix_plain.specs.Scope.{Scope, type_at}
 use Rattle.ix_plain.specs.Parts.{◌>>=◌, computed}
 use Rattle.ix_plain.specs.Values as values
@@ -18,11 +16,10 @@ use Rattle.ix_formed.specs.Additions.{Makes, AllOf}
 use Rattle.ix_formed.specs.Written.{all_true}
 use Rattle.ix_formed.specs.Readable as readable
 use Rattle.ix_formed.specs.Readable.{Shape, shape, all_fine, is_readable_expr, is_readable_init}
-use Rattle.ix_formed.proofs.PlainItems.{makes_then}
 use Rattle.ix_formed.proofs.NumberLists.{all_split}
 use Rattle.ix_guard.specs.Accesses as accesses
 use Rattle.ix_guard.specs.Accesses.{Parts, Reading, reading, parts_of, init_parts, all_parts, place_of}
-use Rattle.ix_kept_slots.specs.KeptSlots.{AreBelow, Leaves, LeavesAsked, Leaving, FillsLeaving}
+use Rattle.ix_kept_slots.specs.KeptSlots.{Leaving, FillsLeaving}
 use Rattle.ix_kept_slots.specs.Targets.{IsApart, MeansApart, AssignsApart}
 use Rattle.ix_kept_slots.proofs.KeptItems.{leaves_none, computed_leaves, computes_leaves}
 use Rattle.ix_kept_slots.proofs.KeptForms.{AimsApart, int_leaves, name_leaves, selection_leaves, element_leaves, new_array_leaves, filled_leaves, unary_leaves, binary_leaves, assign_leaves, step_leaves, call_leaves, new_object_leaves}

@@ -1,5 +1,5 @@
 -- What each form of an expression adds writes neither slot, if what its parts add writes neither.
-use Rattle.std.proofs.Common.{◌≡◌, ℕ, ◌+◌, ℤ, pos, Bool, true, false, List, [], ◌∷◌, ◌++◌, Option, Some, None, Ok, Err, Result, refl, sym, subst, arith}
+use Rattle.std.proofs.Common.{◌≡◌, ℕ, ℤ, pos, Bool, true, false, List, [], ◌∷◌, ◌++◌, Option, Some, None, refl, sym, subst, arith}
 use Rattle.std.specs.Prelude.{if◌then◌else◌, ◌==◌}
 use Rattle.ix_text.specs.declared.span.Span.{Span}
 use Rattle.ix_num.specs.declared.arith.Arith.{Arith}
@@ -25,9 +25,8 @@ use Rattle.ix_tree.specs.declared.expr.UnaryOp.TheVariants as operator
 use Rattle.ix_meaning.specs.declared.note.Meaning.{Meaning}
 use Rattle.ix_meaning.specs.declared.note.Meaning.TheVariants as meaning
 use Rattle.ix_plain.specs.declared.made.Made.{Made}
-use Rattle.ix_plain.specs.declared.made.Spot.{Spot}
 use Rattle.ix_plain.specs.Scope.{Scope, slot_of, meaning_at, type_at, head_at, constructor_at, is_among}
-use Rattle.ix_plain.specs.Parts.{Within, ◌>>=◌, Value, Asked, Target, empty, block, with_item, in_place, done, computed, write, read}
+use Rattle.ix_plain.specs.Parts.{Within, ◌>>=◌, Value, Target, empty, block, in_place, computed, read}
 use Rattle.ix_plain.specs.Values as values
 use Rattle.ix_plain.specs.Values.{Lowering, Filling, Arguments, without_value, int_value}
 use Rattle.ix_formed.specs.Additions.{Makes, AllOf}

@@ -1,26 +1,25 @@
 -- Items that write neither slot, one behind the other.
-use Rattle.std.proofs.Common.{◌≡◌, ◌≤◌, ◌<◌, ℕ, ◌+◌, true, false, Bool, List, [], ◌∷◌, ◌++◌, Option, Ok, Err, refl, sym, ap, subst, ◌∙◌, arith, append_assoc}
+use Rattle.std.proofs.Common.{◌≡◌, ◌≤◌, ◌<◌, ℕ, ◌+◌, true, false, Bool, List, [], ◌∷◌, ◌++◌, Ok, Err, refl, sym, ap, subst, ◌∙◌, arith, append_assoc}
 use Rattle.std.specs.Prelude.{if◌then◌else◌, nat_lt, ◌==◌}
 use Rattle.std.proofs.lemmas.Bool.Decides.{nat_tests}
 use Rattle.std.proofs.lemmas.List.{append-nil}
 use Rattle.ix_text.specs.declared.span.Span.{Span}
 use Rattle.ix_core.specs.declared.claim.Type_.{Type_}
 use Rattle.ix_core.specs.declared.code.Block.{Block}
-use Rattle.ix_core.specs.declared.code.Cond.{Cond}
 use Rattle.ix_core.specs.declared.code.Item.{Item}
 use Rattle.ix_core.specs.declared.op.Literal.TheVariants as literal
 use Rattle.ix_core.specs.declared.op.Op.{Op}
 use Rattle.ix_core.specs.declared.op.OpKind.{OpKind}
 use Rattle.ix_core.specs.declared.op.OpKind.TheVariants as op
-use Rattle.ix_core.specs.Code.{Code, End, Do, If, Break, Continue, Return, Throw, Loop, item_code, items_code, block_code, cond_code}
+use Rattle.ix_core.specs.Code.{Code, End, Do, If, Break, Continue, Return, Throw, Loop, item_code, items_code}
 use Rattle.ix_core.proofs.Translated.{item_code-If, cond_code-Truth}
 use Rattle.ix_meaning.specs.declared.note.Which.TheVariants as which
 use Rattle.ix_plain.specs.declared.made.Made.{Made}
 use Rattle.ix_plain.specs.declared.made.Spot.{Spot}
 use Rattle.ix_plain.specs.declared.made.Spot.TheVariants as spot
 use Rattle.ix_plain.specs.Scope.{Scope}
-use Rattle.ix_plain.specs.Parts.{Within, ◌>>=◌, Value, Asked, empty, block, with_item, in_place, done, taking, computed, truth_item, truth_value, truth_of, read, write, most_slots}
-use Rattle.ix_plain.specs.Values.{Lowering, computes, asks, asked_value, without_value}
+use Rattle.ix_plain.specs.Parts.{Within, ◌>>=◌, Value, Asked, empty, block, with_item, done, taking, computed, truth_item, truth_value, truth_of, read, write, most_slots}
+use Rattle.ix_plain.specs.Values.{computes, asks, asked_value, without_value}
 use Rattle.ix_formed.specs.Additions.{Makes}
 use Rattle.ix_formed.proofs.PlainItems.{makes_more, makes_then}
 use Rattle.ix_core.specs.Types.{int_type}

@@ -1,5 +1,5 @@
 -- Full expressions that assign neither variable keep what a guard's test tells, where each access at the place is of the two slots.
-use Rattle.std.proofs.Common.{◌≡◌, ℕ, true, List, [], ◌∷◌, ◌++◌, map, Ok, Err, refl, arith}
+use Rattle.std.proofs.Common.{◌≡◌, ℕ, true, Ok, arith}
 use Rattle.ix_text.specs.declared.span.Span.{Span}
 use Rattle.ix_core.specs.declared.claim.Type_.{Type_}
 use Rattle.ix_core.specs.declared.code.Item.{Item}
@@ -10,7 +10,7 @@ use Rattle.ix_tree.specs.declared.expr.Init.{Init}
 use Rattle.ix_plain.specs.declared.body.Body.{Body}
 use Rattle.ix_plain.specs.declared.made.Made.{Made}
 use Rattle.ix_plain.specs.Scope.{Site}
-use Rattle.ix_plain.specs.Parts.{◌>>=◌, Asked, with_item}
+use Rattle.ix_plain.specs.Parts.{Asked, with_item}
 use Rattle.ix_plain.specs.Values.{lowering, filling}
 use Rattle.ix_plain.specs.Assigned.{assigns, init_assigns}
 use Rattle.ix_plain.specs.Statements.{scope_for, evaluated, behind_value, init_evaluated, with_last, used, ran, tested}
@@ -20,7 +20,7 @@ use Rattle.ix_formed.proofs.PlainItems.{makes_then}
 use Rattle.ix_guard.specs.Accesses.{parts_of, init_parts}
 use Rattle.ix_guarded_flow.specs.Known.{Inside}
 use Rattle.ix_guarded_flow.specs.Guards.{IsGuarded, Guarded, GuardedAsked}
-use Rattle.ix_guarded_flow.specs.Pieces.{EachOp, EachAsked, HasNoLoop, AsksNoLoop, Keeps}
+use Rattle.ix_guarded_flow.specs.Pieces.{EachOp, EachAsked, HasNoLoop, Keeps}
 use Rattle.ix_guarded_flow.proofs.GuardedPieces.{keeps, keeps_asked}
 use Rattle.ix_kept_slots.specs.KeptSlots.{WritesNeither, AreBelow, Leaves, LeavesAsked}
 use Rattle.ix_kept_slots.specs.Targets.{AssignsApart}
