@@ -57,7 +57,7 @@ each_items P items more first second = subst (EachOp P) (sym (items_followed ite
 pub no_loop_items : (items more : List Item) → HasNoLoop (items_code items) → HasNoLoop (items_code more) → HasNoLoop (items_code (items ++ more))
 no_loop_items items more first second = subst HasNoLoop (sym (items_followed items more)) (no_loop_followed (items_code items) (items_code more) first second)
 
-other_slot : (slot free : ℕ) → slot < free → (slot == free) ≡ false
+pub other_slot : (slot free : ℕ) → slot < free → (slot == free) ≡ false
 other_slot slot free low = grind (arith, nat_tests)
 
 abbrev pub ValueLeaves : (array index : ℕ) → Made → Within Value → Type 0

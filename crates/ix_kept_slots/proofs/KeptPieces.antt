@@ -69,7 +69,7 @@ module _ (array index : ℕ) (site : Site) (body : Body) (below : AreBelow array
   -- ---- full expressions in a body
 
   -- what is free again behind it plays no part
-  freed : (after : Made) → Leaves array index body.made after → Leaves array index body.made (record { items = after.items; free = body.made.free })
+  pub freed : (after : Made) → Leaves array index body.made after → Leaves array index body.made (record { items = after.items; free = body.made.free })
   freed after l = record { items = l.items; appended = l.appended; each = l.each; no_loop = l.no_loop; up = omega arith }
 
   pub evaluated_leaves : (e : Expr) → is_readable_expr e ≡ true → AssignsApart array index (scope_for site body (assigns e).inside) (parts_of e).assigned

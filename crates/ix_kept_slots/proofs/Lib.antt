@@ -2,3 +2,4 @@ pub mod KeptItems
 pub mod KeptForms
 pub mod KeptExpressions
 pub mod KeptPieces
+pub mod KeptDeclarations

@@ -1,11 +1,17 @@
 -- Where the names that an expression assigns are, beside the slots of an array and an index.
-use Rattle.std.specs.Prelude.{◌≡◌, ℕ, false, ◌==◌, List}
+use Rattle.std.specs.Prelude.{◌≡◌, ℕ, false, ◌==◌, List, [], ◌∷◌, Option, None, Some}
 use Rattle.ix_text.specs.declared.span.Span.{Span}
+use Rattle.ix_tree.specs.declared.decl.LocalDecl.{LocalDecl}
+use Rattle.ix_tree.specs.declared.expr.Init.{Init}
+use Rattle.ix_plain.specs.declared.body.Body.{Body}
 use Rattle.ix_plain.specs.declared.made.Spot.{Spot}
 use Rattle.ix_plain.specs.declared.made.Spot.TheVariants as spot
-use Rattle.ix_plain.specs.Scope.{Scope, meaning_at}
+use Rattle.ix_plain.specs.Scope.{Site, Scope, meaning_at}
+use Rattle.ix_plain.specs.Assigned.{init_assigns}
 use Rattle.ix_plain.specs.Values.{named_spot}
-use Rattle.ix_formed.specs.Additions.{AllOf}
+use Rattle.ix_plain.specs.Statements.{scope_for, with_local, declaration}
+use Rattle.ix_formed.specs.Additions.{Makes, AllOf}
+use Rattle.ix_guard.specs.Accesses.{init_parts}
 
 -- The spot is a field, a cell, or a variable in neither slot.
 abbrev pub IsApart : (array index : ℕ) → Spot → Type 0
@@ -20,3 +26,18 @@ MeansApart array index scope span = IsApart array index (named_spot scope (meani
 -- so of each of these places of names, as those that an expression assigns
 abbrev pub AssignsApart : (array index : ℕ) → Scope → List Span → Type 0
 AssignsApart array index scope spans = AllOf (MeansApart array index scope) spans
+
+-- ---- declarations of locals
+
+-- so of an initialiser, in the body where its local is in scope
+abbrev pub InitApart : (array index : ℕ) → Site → Option Init → Body → Type 0
+InitApart array index site None body = Unit {0}
+InitApart array index site (Some init) body = AssignsApart array index (scope_for site body (init_assigns init)) (init_parts init).assigned
+
+abbrev pub DeclApart : (array index : ℕ) → Site → (end : ℕ) → LocalDecl → Body → Type 0
+DeclApart array index site end decl body = Makes (InitApart array index site decl.init) (with_local decl.name end site body)
+
+-- one after the other
+abbrev pub DeclsApart : (array index : ℕ) → Site → (end : ℕ) → List LocalDecl → Body → Type 0
+DeclsApart array index site end [] body = Unit {0}
+DeclsApart array index site end (decl ∷ decls) body = DeclApart array index site end decl body × Makes (DeclsApart array index site end decls) (declaration decl site end body)
