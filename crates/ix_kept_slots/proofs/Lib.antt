@@ -3,3 +3,4 @@ pub mod KeptForms
 pub mod KeptExpressions
 pub mod KeptPieces
 pub mod KeptDeclarations
+pub mod KeptNames

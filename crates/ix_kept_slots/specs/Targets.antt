@@ -3,15 +3,18 @@ use Rattle.std.specs.Prelude.{◌≡◌, ℕ, false, ◌==◌, List, [], ◌∷�
 use Rattle.ix_text.specs.declared.span.Span.{Span}
 use Rattle.ix_tree.specs.declared.decl.LocalDecl.{LocalDecl}
 use Rattle.ix_tree.specs.declared.expr.Init.{Init}
+use Rattle.ix_meaning.specs.declared.note.Meaning.{Meaning}
+use Rattle.ix_meaning.specs.declared.note.Meaning.TheVariants as meaning
 use Rattle.ix_plain.specs.declared.body.Body.{Body}
 use Rattle.ix_plain.specs.declared.made.Spot.{Spot}
 use Rattle.ix_plain.specs.declared.made.Spot.TheVariants as spot
-use Rattle.ix_plain.specs.Scope.{Site, Scope, meaning_at}
+use Rattle.ix_plain.specs.Scope.{Site, Scope, slot_of, meaning_at}
 use Rattle.ix_plain.specs.Assigned.{init_assigns}
 use Rattle.ix_plain.specs.Values.{named_spot}
 use Rattle.ix_plain.specs.Statements.{scope_for, with_local, declaration}
 use Rattle.ix_formed.specs.Additions.{Makes, AllOf}
 use Rattle.ix_guard.specs.Accesses.{init_parts}
+use Rattle.ix_guard.specs.Tests.{same_variable}
 
 -- The spot is a field, a cell, or a variable in neither slot.
 abbrev pub IsApart : (array index : ℕ) → Spot → Type 0
@@ -41,3 +44,18 @@ DeclApart array index site end decl body = Makes (InitApart array index site dec
 abbrev pub DeclsApart : (array index : ℕ) → Site → (end : ℕ) → List LocalDecl → Body → Type 0
 DeclsApart array index site end [] body = Unit {0}
 DeclsApart array index site end (decl ∷ decls) body = DeclApart array index site end decl body × Makes (DeclsApart array index site end decls) (declaration decl site end body)
+
+-- ---- variables by what their names mean
+
+-- What is assigned is a field or a variable, and where that is another variable than this one, its slot is another.
+abbrev pub OwnsSlot : Scope → (variable assigned : Option Meaning) → Type 0
+OwnsSlot scope variable (Some (meaning.FieldNamed field)) = Unit {0}
+OwnsSlot scope variable (Some (meaning.Local number)) =
+    same_variable variable (Some (meaning.Local number)) ≡ false → (slot_of scope variable == slot_of scope (Some (meaning.Local number))) ≡ false
+OwnsSlot scope variable (Some (meaning.Param number)) =
+    same_variable variable (Some (meaning.Param number)) ≡ false → (slot_of scope variable == slot_of scope (Some (meaning.Param number))) ≡ false
+OwnsSlot scope variable _ = ⊥
+
+-- so of each of these places of names
+abbrev pub OwnsAmong : Scope → Option Meaning → List Span → Type 0
+OwnsAmong scope variable spans = AllOf (λ span. OwnsSlot scope variable (meaning_at scope span)) spans
