@@ -4,3 +4,4 @@ pub mod KeptExpressions
 pub mod KeptPieces
 pub mod KeptDeclarations
 pub mod KeptNames
+pub mod KeptSound
