@@ -5,3 +5,4 @@ pub mod KeptPieces
 pub mod KeptDeclarations
 pub mod KeptNames
 pub mod KeptSound
+pub mod KeptAccesses
