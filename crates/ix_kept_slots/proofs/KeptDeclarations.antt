@@ -1,5 +1,5 @@
 -- Declarations of locals, each of which takes a new slot, write neither slot.
-use Rattle.std.proofs.Common.{◌≡◌, ℕ, ◌+◌, Bool, true, false, List, [], ◌∷◌, ◌++◌, Option, Some, None, Ok, Err, Result, refl, ap, ◌∙◌, arith}
+use Rattle.std.proofs.Common.{◌≡◌, ℕ, ◌+◌, Bool, true, false, List, [], ◌∷◌, ◌++◌, Option, Some, None, Ok, Err, refl, ap, ◌∙◌, arith}
 use Rattle.std.specs.Prelude.{if◌then◌else◌, nat_lt}
 use Rattle.std.proofs.lemmas.Bool.{and_parts}
 use Rattle.ix_text.specs.declared.span.Span.{Span}
@@ -68,11 +68,11 @@ module _ (array index : ℕ) (site : Site) where
       makes_then (λ inner. TakesOne body inner × InitApart array index site decl.init inner) (λ after. Leaves array index body.made after.made) (with_local decl.name end site body) _
       (makes_both (TakesOne body) (InitApart array index site decl.init) (with_local decl.name end site body) (local_takes decl.name end body) apart)
       (λ inner known.
-          let ty = declared_type (site.names.declared decl.name.span) in
-          let on = below_on body.made.free inner.made.free below (let y = known.0.free in omega (arith, y)) in
-          makes_more (λ after. Leaves array index inner.made after.made) (λ after. Leaves array index body.made after.made) (λ after l. behind_local body inner after known.0 l)
-          (initialised body.made.free ty decl.name.span decl.init site inner)
-          (initialised_leaves body.made.free ty decl.name.span decl.init inner on below fine known.1))
+      let ty = declared_type (site.names.declared decl.name.span) in
+      let on = below_on body.made.free inner.made.free below (let y = known.0.free in omega (arith, y)) in
+      makes_more (λ after. Leaves array index inner.made after.made) (λ after. Leaves array index body.made after.made) (λ after l. behind_local body inner after known.0 l)
+      (initialised body.made.free ty decl.name.span decl.init site inner)
+      (initialised_leaves body.made.free ty decl.name.span decl.init inner on below fine known.1))
 
   pub declarations_leave : (end : ℕ) (decls : List LocalDecl) (body : Body) → AreBelow array index body.made.free → each_true is_readable_decl decls ≡ true → DeclsApart array index site end decls body
       → Makes (λ after. Leaves array index body.made after.made) (declarations decls site end body)

@@ -1,6 +1,5 @@
 -- What an expression assigns is apart from the slots of two variables that the guard's test of names says it keeps.
-use Rattle.std.proofs.Common.{◌≡◌, ℕ, Bool, false, not, List, [], ◌∷◌, map, Option, Some, None, true, refl, sym, subst}
-use Rattle.std.specs.Prelude.{◌||◌, ◌&&◌}
+use Rattle.std.proofs.Common.{◌≡◌, Bool, false, not, List, [], ◌∷◌, map, Option, Some, None, true, refl, sym, subst}
 use Rattle.std.specs.List.{list_any}
 use Rattle.std.proofs.lemmas.Bool.{or_parts, and_parts}
 use Rattle.ix_text.specs.declared.span.Span.{Span}
