@@ -2,3 +2,6 @@
 pub mod Flawless
 -- Answers of audits that say the same.
 pub mod Alike
+-- Passed on from ix_audit.
+pub use Rattle.ix_audit.specs.Audited
+pub use Rattle.ix_audit.specs.declared.answer.Audit

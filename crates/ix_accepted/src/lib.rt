@@ -8,4 +8,5 @@
 
 mod laws;
 
+pub use ix_audit::{Audit, audit};
 pub use laws::{labels_are_judged_alike, what_is_written_is_accepted};

@@ -13,10 +13,10 @@ use Rattle.ix_method.specs.MethodRules.{method_rules}
 use Rattle.ix_store.specs.declared.store.Store.{Store}
 use Rattle.ix_store.specs.StoredFacts.{stored}
 use Rattle.ix_cert.specs.Labellings.{loops_of}
-use Rattle.ix_loop_labels.specs.LoopLabels.{AreLoopLabels}
-use Rattle.ix_errors.specs.MethodErrors.{IsError}
-use Rattle.ix_accepted.specs.Flawless.{IsLeastFlawless, AreLeastFlawless}
-use Rattle.ix_accepted.proofs.Accepted.{least_accepted}
+use Rattle.ix_check.specs.LoopLabels.{AreLoopLabels}
+use Rattle.ix_check.specs.MethodErrors.{IsError}
+use Rattle.ix_verify.specs.Flawless.{IsLeastFlawless, AreLeastFlawless}
+use Rattle.ix_verify.proofs.Accepted.{least_accepted}
 use Rattle.ix_listing.specs.ErrorList.{IsErrorList}
 use Rattle.ix_verify.specs.declared.answer.CertError.{CertError}
 use Rattle.ix_verify.specs.declared.answer.CertError.TheVariants.{Memory}

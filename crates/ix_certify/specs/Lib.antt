@@ -1,2 +1,6 @@
 -- The certificate of the least labels.
 pub mod Certificates
+-- Passed on from ix_verify.
+pub use Rattle.ix_verify.specs.Verdicts
+pub use Rattle.ix_verify.specs.declared.answer.CertError
+pub use Rattle.ix_verify.specs.declared.answer.Verified

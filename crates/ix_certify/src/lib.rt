@@ -9,5 +9,6 @@
 mod laws;
 mod writing;
 
+pub use ix_verify::{CertError, verify};
 pub use laws::can_verify;
 pub use writing::{certificate, write};

@@ -4,9 +4,9 @@ ghost use Rattle.std.specs.Prelude.{◌≡◌, ◌<◌, ℕ, List, length, slice
 ghost use Rattle.ix_core.specs.declared.error.Error.{Error as Found};
 ghost use Rattle.ix_core.specs.Formed.{Formed};
 ghost use Rattle.ix_check.specs.Judged.{CanCheck};
-ghost use Rattle.ix_errors.specs.MethodErrors.{IsError};
+ghost use Rattle.ix_check.specs.MethodErrors.{IsError};
 ghost use Rattle.ix_core.specs.Tables.{method_at};
-ghost use Rattle.ix_loop_labels.specs.LoopLabels.{AreLoopLabels};
+ghost use Rattle.ix_check.specs.LoopLabels.{AreLoopLabels};
 ghost use Rattle.ix_store.specs.declared.store.Store.{Store as Label};
 ghost use Rattle.ix_verify.specs.declared.answer.CertError.{CertError};
 ghost use Rattle.ix_verify.specs.declared.answer.CertError.TheVariants.{Memory};

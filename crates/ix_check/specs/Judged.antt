@@ -2,7 +2,7 @@
 use Rattle.std.specs.Prelude.{◌<◌, ◌^◌, length}
 use Rattle.ix_core.specs.declared.program.Program.{Program}
 use Rattle.ix_ready.specs.Few.{HasFew}
-use Rattle.ix_errors.specs.Sound.{LocalsApart}
+use Rattle.ix_signatures.specs.Sound.{LocalsApart}
 
 -- Methods, locals and fields have numbers of 32 bits, and a claim on a local names no other local of its slot.
 pub record CanCheck (program : Program) : Type 0 where

@@ -5,6 +5,6 @@ pub mod Judged
 -- What is passed on of the places in a program.
 pub use Rattle.ix_code_places.specs.CodePlaces
 -- What is passed on of the errors.
-pub use Rattle.ix_errors.specs.MethodErrors
+pub use Rattle.ix_signatures.specs.MethodErrors
 -- What is passed on of the labels.
 pub use Rattle.ix_loop_labels.specs.LoopLabels

@@ -3,7 +3,7 @@ ghost use Rattle.std.specs.Prelude.{◌≡◌, ◌<◌, length, IfOk};
 ghost use Rattle.ix_core.specs.Formed.{Formed};
 ghost use Rattle.ix_core.specs.Tables.{method_at};
 ghost use Rattle.ix_check.specs.Judged.{CanCheck};
-ghost use Rattle.ix_errors.specs.MethodErrors.{IsErrorOf};
+ghost use Rattle.ix_signatures.specs.MethodErrors.{IsErrorOf};
 ghost use Rattle.ix_listing.specs.ErrorList.{IsErrorList};
 ghost use Rattle.ix_signatures.specs.Signatures.{signatures, ErrorsOf};
 
@@ -36,7 +36,7 @@ fn errors_with<L: Ledger>(
     overridden_is_there();
     loops_are_in_order();
     let mut steps = Steps::<L>::new(blank);
-    let found = ix_errors::method_errors(alloc, program, method, profile, &mut steps)?;
+    let found = ix_signatures::method_errors(alloc, program, method, profile, &mut steps)?;
     list_errors(alloc, found)
 }
 

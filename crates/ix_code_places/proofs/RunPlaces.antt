@@ -48,6 +48,12 @@ module _ (P : Span → Type 0) (Q : ℕ → Type 0) (starts : (span : Span) → 
     through_place (Boolean answer) next on = q
     through_place Null next on = q
 
+    length_place : (target : ℕ) (held : Held) → EffectPlace (machine.assign_length limits tables place slots heap target held)
+    length_place target (At number) = tt
+    length_place target (Num n) = tt
+    length_place target (Boolean answer) = tt
+    length_place target Null = q
+
     index_place : (index : ℤ) (cells : List Held) (next : ℕ → Effect) → ((cell : ℕ) → EffectPlace (next cell)) → EffectPlace (machine.at_index limits tables place slots heap index cells next)
     index_place index cells next on = chosen_place (is_within index (length cells)) _ _ (on _) q
 
@@ -67,7 +73,7 @@ module _ (P : Span → Type 0) (Q : ℕ → Type 0) (starts : (span : Span) → 
     operate_place (op.Copy target source ty) = tt
     operate_place (op.Num target arith left right) = result_place target (exact_of arith (machine.int_at slots left) (machine.int_at slots right))
     operate_place (op.Unary target unary operand) = int_place target (machine.unary_of unary (machine.int_at slots operand))
-    operate_place (op.Length target array) = through_place (value_at slots array) _ (λ number. tt)
+    operate_place (op.Length target array) = length_place target (value_at slots array)
     operate_place (op.NewArray target ty size) = new_place target ty _
     operate_place (op.Fill target ty entries) = allocate_place target ty _ _
     operate_place (op.Load target array index ty) =

@@ -21,7 +21,7 @@ use Rattle.ix_core.specs.declared.op.OpKind.{OpKind}
 use Rattle.ix_core.specs.declared.op.OpKind.TheVariants as op
 use Rattle.ix_core.specs.declared.program.Method.{Method}
 use Rattle.ix_core.specs.Heap.{Held, Num, Boolean, Null, At, Object, Heap, Kind, ObjectOf, ArrayOf, nothing, value_at, object_at, array_at, array_cells, Places, place_in, cell_of, int_of, default_of_base, cell_default, cells_used, is_within, with_cells, write_at}
-use Rattle.ix_core.specs.Machine.{Limits, HeapFull, Effect, Done, Wrapped, Stopped, is_past, is_int, int_at, unary_of, assign_int, assign_result, through, at_place, allocate, new_array, operate, slots_with}
+use Rattle.ix_core.specs.Machine.{Limits, HeapFull, Effect, Done, Wrapped, Stopped, is_past, is_int, int_at, unary_of, assign_length, assign_int, assign_result, through, at_place, allocate, new_array, operate, slots_with}
 use Rattle.ix_core.specs.Numbers.{HasInts, field_of, held_at}
 use Rattle.ix_core.specs.Objects.{IsOn, AllOn, IsIntHeld, KeepsInts, IntsOnly, HeapKeeps, FrameKeeps}
 use Rattle.ix_core.specs.Safe.{Input, Whole, Flag, Ints, AreInts, HaveTypes, input_values, input_heap}
@@ -216,8 +216,11 @@ module _ (limits : Limits) (tables : Tables) (at : ℕ) (slots : List Held) (hea
       keeps_of slots (write_at heap number k (value_at slots v)) keeps.held
       (written_keeps heap number (with_cells object (slice_set object.cells k (value_at slots v))) (set_keeps IsIntHeld object.cells k (value_at slots v) (keeps.held v) (keeps.within number), long) (objects slots heap keeps))
 
-  length_keeps : (t number : ℕ) → KeepsInts (slice_set slots t (Num (pos (length (array_at heap number))))) heap
-  length_keeps t number =
+  length_keeps : (t : ℕ) (held : Held) → Keeps (assign_length limits tables at slots heap t held)
+  length_keeps t (Num n) = assigned_keeps t (Num (pos 0)) record { from = omega (arith, ints); to = omega (arith, ints) }
+  length_keeps t (Boolean answer) = assigned_keeps t (Num (pos 0)) record { from = omega (arith, ints); to = omega (arith, ints) }
+  length_keeps t Null = tt
+  length_keeps t (At number) =
       let h = keeps.sizes number in
       assigned_keeps t (Num (pos (length (array_at heap number)))) record { from = omega (arith, ints); to = omega (arith, ints) }
 
@@ -228,7 +231,7 @@ module _ (limits : Limits) (tables : Tables) (at : ℕ) (slots : List Held) (hea
   operate_keeps (op.Copy t s ty) only = assigned_keeps t (value_at slots s) (keeps.held s)
   operate_keeps (op.Num t arith_op y z) only = result_keeps t (exact_of arith_op (int_at slots y) (int_at slots z))
   operate_keeps (op.Unary t unary y) only = int_keeps t (unary_of unary (int_at slots y))
-  operate_keeps (op.Length t a) only = through_keeps (value_at slots a) _ (λ number. length_keeps t number)
+  operate_keeps (op.Length t a) only = length_keeps t (value_at slots a)
   operate_keeps (op.NewArray t ty n) only = new_keeps t ty (int_at slots n) (int_of_is (value_at slots n) (keeps.held n))
   operate_keeps (op.Fill t ty entries) only = fill_keeps t ty entries only
   operate_keeps (op.Load t a i ty) only =

@@ -19,7 +19,7 @@ use Rattle.ix_core.specs.declared.program.Method.{Method}
 use Rattle.ix_core.specs.declared.program.Program.{Program}
 use Rattle.ix_core.specs.Formed.{is_array_at, reads, is_slot, is_target, variable_type, copy_fits, op_fits, op_types, literal_type, literal_fits, are_entries, field_fits, at_most}
 use Rattle.ix_core.specs.Heap.{Held, Num, Boolean, Null, At, Heap, Object, Kind, ObjectOf, ArrayOf, value_at, object_at, array_at, array_cells, place_in, cell_default, cells_used, is_within, with_cells, write_at}
-use Rattle.ix_core.specs.Machine.{Limits, Effect, Done, Wrapped, Printed, Called, Stopped, is_past, is_int, int_at, literal_value, unary_of, assign_int, assign_result, through, at_place, allocate, new_array, operate}
+use Rattle.ix_core.specs.Machine.{Limits, Effect, Done, Wrapped, Printed, Called, Stopped, is_past, is_int, int_at, literal_value, unary_of, assign_length, assign_int, assign_result, through, at_place, allocate, new_array, operate}
 use Rattle.ix_core.specs.Objects.{Later}
 use Rattle.ix_core.specs.Tables.{Tables, tables_of, field_at, param_slot, param_slots}
 use Rattle.ix_core.specs.Typed.{IsOfType, HeapTyped, SlotsTyped}
@@ -114,6 +114,12 @@ module _ (program : Program) (ends : WaysEnd program) (method : Method) (local_t
     through_good after (Boolean answer) next each = tt
     through_good after Null next each = tt
     through_good after (At number) next each = each number refl
+
+    length_good : (t : ℕ) (held : Held) → CanTake method slots t → Good (with_type t int_type types) (assign_length limits tables place slots heap t held)
+    length_good t (Num n) lt = assigns t int_type (Num (pos 0)) lt tt
+    length_good t (Boolean answer) lt = assigns t int_type (Num (pos 0)) lt tt
+    length_good t Null lt = tt
+    length_good t (At number) lt = assigns t int_type (Num (pos (length (array_at heap number)))) lt tt
 
     allocates : (t : ℕ) (ty : Type_) (count : ℕ) (cells : List Held) → CanTake method slots t → is_array program ty ≡ true → AllTyped program heap (cell_type ty) cells → Good (with_type t ty types) (allocate limits tables place slots heap t ty count cells)
     allocates t ty count cells lt is all =
@@ -311,7 +317,7 @@ module _ (program : Program) (ends : WaysEnd program) (method : Method) (local_t
         let one = and_parts (is_slot program method array) _ e in
         let two = and_parts (is_array_at (Some types) array) _ one.1 in
         let three = and_parts (is_target program method t) _ two.1 in
-        through_good (with_type t int_type types) (value_at slots array) _ (λ number e. assigns t int_type (Num (pos (length (array_at heap number)))) (target_there t three.0) tt)
+        length_good t (value_at slots array) (target_there t three.0)
     operation_good done (op.NewArray t ty count) plain e =
         let one = and_parts (reads program method (Some types) count int_type) _ e in
         let two = and_parts (is_array program ty) _ one.1 in

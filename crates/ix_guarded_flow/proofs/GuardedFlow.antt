@@ -6,18 +6,9 @@ use Rattle.ix_core.specs.declared.op.Test.{Test}
 use Rattle.ix_core.specs.Code.{Code, Condition}
 use Rattle.ix_core.specs.Posts.{last_done, written_answer}
 use Rattle.ix_flow.specs.Flow.{Point, Doing, Returning, Rules, Flows, Asks}
-use Rattle.ix_guarded_flow.specs.Known.{Known, Nowhere, Unknown, Inside, Says, behind}
-use Rattle.ix_guarded_flow.specs.Guards.{Guarded, GuardedAsked, IsGuarded, IsTest, outside, ends, does, chooses, breaks, continues, returns, throws, loops, tests, certain, compares, reads, both, either, opposite}
-
-pub says_itself : (known : Known) → Says known known
-says_itself Nowhere = tt
-says_itself Unknown = tt
-says_itself (Inside array index) = (refl, refl)
-
-pub says_unknown : (known : Known) → Says known Unknown
-says_unknown Nowhere = tt
-says_unknown Unknown = tt
-says_unknown (Inside array index) = tt
+use Rattle.ix_guarded_code.specs.Known.{Known, Nowhere, Unknown, Inside, Says, behind}
+use Rattle.ix_guarded_code.specs.Guards.{Guarded, GuardedAsked, IsGuarded, IsTest, outside, ends, does, chooses, breaks, continues, returns, throws, loops, tests, certain, compares, reads, both, either, opposite}
+use Rattle.ix_guarded_code.proofs.Saying.{says_itself, says_unknown}
 
 -- The rules are kept by the stores of what is known: what stays known is above what each rule gives, at each guarded operation all is fine, and so it is at each
 -- `return` and at the end, whatever is known.

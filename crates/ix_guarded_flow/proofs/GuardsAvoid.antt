@@ -8,8 +8,8 @@ use Rattle.ix_core.specs.Code.{Code}
 use Rattle.ix_facts.specs.Stores.{Stored, Reached}
 use Rattle.ix_flow.specs.Flow.{IsFlow}
 use Rattle.ix_method.specs.MethodRules.{method_rules}
-use Rattle.ix_guarded_flow.specs.Known.{store_of}
-use Rattle.ix_guarded_flow.specs.Guards.{Guards}
+use Rattle.ix_guarded_flow.specs.KnownFacts.{store_of}
+use Rattle.ix_guarded_code.specs.Guards.{Guards}
 use Rattle.ix_guarded_flow.specs.BoundErrors.{IsOfBounds, GivesNo}
 use Rattle.ix_guarded_flow.proofs.GuardedFlow.{body_flows}
 use Rattle.ix_guarded_flow.proofs.KeptByRules.{rules_kept}

@@ -12,7 +12,7 @@ use Rattle.ix_facts.specs.AfterOperation.{reaches}
 use Rattle.ix_facts.specs.PathOrder.{path_itself}
 use Rattle.ix_facts.proofs.Tests.{at_most_is}
 use Rattle.ix_facts.specs.Stores.{Reached, IsProved}
-use Rattle.ix_guarded_flow.specs.Known.{inside_facts}
+use Rattle.ix_guarded_flow.specs.KnownFacts.{inside_facts}
 
 pub low_proved : (array index : ℕ) → IsProved (path_claim.Low (pos 0)) (Slot index) (Reached (inside_facts array index))
 low_proved array index = rw (path_itself (Slot index)) refl

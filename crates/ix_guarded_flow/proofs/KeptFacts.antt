@@ -17,7 +17,8 @@ use Rattle.ix_facts.proofs.ClosureLaws.{said_follows}
 use Rattle.ix_facts.proofs.SaidLaws.{says_more}
 use Rattle.ix_facts.proofs.StoreLaws.{below_itself}
 use Rattle.ix_claim_facts.specs.Signs.{Adds, Forgets, Copies}
-use Rattle.ix_guarded_flow.specs.Known.{Known, Nowhere, Unknown, Inside, inside_facts, store_of}
+use Rattle.ix_guarded_code.specs.Known.{Known, Nowhere, Unknown, Inside}
+use Rattle.ix_guarded_flow.specs.KnownFacts.{inside_facts, store_of}
 
 -- ---- the store that says nothing
 

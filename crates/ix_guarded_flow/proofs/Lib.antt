@@ -10,7 +10,5 @@ pub mod KeptByRules
 pub mod NoTextErrors
 pub mod GuardsAvoid
 pub mod NoBoundErrors
-pub mod GuardedPieces
-pub mod GuardedItems
 pub mod PlacedPieces
 mod RowsGuards

@@ -5,10 +5,10 @@ use Rattle.ix_core.specs.declared.fact.Profile.{Profile}
 use Rattle.ix_core.specs.declared.program.Program.{Program}
 use Rattle.ix_core.specs.Tables.{method_at, body_of}
 use Rattle.ix_errors.specs.MethodErrors.{IsErrorOf, IsError}
-use Rattle.ix_guarded_flow.specs.Guards.{Guards}
-use Rattle.ix_guarded_flow.specs.Pieces.{EachOp, IsElsewhere}
+use Rattle.ix_guarded_code.specs.Guards.{Guards}
+use Rattle.ix_guarded_code.specs.Pieces.{EachOp, IsElsewhere}
 use Rattle.ix_guarded_flow.specs.BoundErrors.{IsOfBounds}
-use Rattle.ix_guarded_flow.proofs.GuardedPieces.{elsewhere}
+use Rattle.ix_guarded_code.proofs.GuardedPieces.{elsewhere}
 use Rattle.ix_guarded_flow.proofs.GuardsAvoid.{nothing_known, guards_flow}
 use Rattle.ix_guarded_flow.proofs.NoTextErrors.{no_text}
 

@@ -22,7 +22,7 @@ use Rattle.ix_facts.specs.Stores.{Reached, IsAbove, Gives, operated, with_outcom
 use Rattle.ix_facts.proofs.ClosureLaws.{follows_from, said_follows, in_kept}
 use Rattle.ix_facts.proofs.FactLists.{in_left, in_right}
 use Rattle.ix_facts.proofs.Frame.{without_in}
-use Rattle.ix_guarded_flow.specs.Known.{inside_facts}
+use Rattle.ix_guarded_flow.specs.KnownFacts.{inside_facts}
 
 -- a store whose facts follow
 pub each_follows : (facts others : List Fact) → ((f : Fact) → IsIn f others → Follows facts f) → IsAbove facts (Reached others)

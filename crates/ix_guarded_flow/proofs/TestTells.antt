@@ -16,8 +16,9 @@ use Rattle.ix_facts.specs.Stores.{Stored, Reached, OutcomesGive, outcomes_of}
 use Rattle.ix_facts.proofs.StoreLaws.{below_itself}
 use Rattle.ix_flow.specs.Flow.{Point, Doing, Asks}
 use Rattle.ix_method.specs.MethodRules.{AfterGives, KindGives, method_rules}
-use Rattle.ix_guarded_flow.specs.Known.{Inside, store_of, accessed}
-use Rattle.ix_guarded_flow.specs.Guards.{Compares, IsTest, outside}
+use Rattle.ix_guarded_code.specs.Known.{Inside, accessed}
+use Rattle.ix_guarded_flow.specs.KnownFacts.{store_of}
+use Rattle.ix_guarded_code.specs.Guards.{Compares, IsTest, outside}
 use Rattle.ix_guarded_flow.proofs.KeptFacts.{unknown_above, more_stays}
 use Rattle.ix_guarded_flow.proofs.KeptRules.{kind_unknown}
 use Rattle.ix_guarded_flow.proofs.TestFacts.{zero_facts, low_facts, length_facts, zero_made, low_told, length_made, high_told}

@@ -1,8 +1,6 @@
--- What is known along a body with guards.
-pub mod Known
--- Bodies with guards.
-pub mod Guards
+-- What is known along a body with guards, as facts.
+pub mod KnownFacts
 -- The errors of bounds.
 pub mod BoundErrors
--- Pieces of such a body.
-pub mod Pieces
+-- Passed on from ix_errors.
+pub use Rattle.ix_errors.specs.MethodErrors

@@ -20,7 +20,7 @@ use Rattle.ix_meaning.specs.Members.{World, world, methods, signature, next_memb
 use Rattle.ix_meaning.specs.Resolved.{Accepts, Names, names}
 use Rattle.ix_meaning.specs.Rules.{duplicate_name}
 use Rattle.ix_meaning.specs.Source as source
-use Rattle.ix_meaning.specs.Source.{Place, place, member_name, member_named, is_taken, one_member, named_member, member_notes, method_notes, class_notes, head_notes, has_constructor, implicit_super_of, default_notes_of, notes_from, notes}
+use Rattle.ix_meaning.specs.Source.{Place, place, member_named, is_taken, named_member, member_notes, method_notes, class_notes, head_notes, has_constructor, implicit_super_of, notes_from, notes}
 use Rattle.ix_formed.specs.Readable.{is_readable_expr, is_readable_stmt, is_readable_method, is_readable_member, is_readable, is_readable_decl}
 use Rattle.ix_formed.specs.Written.{each_true, maybe_true}
 use Rattle.ix_formed.proofs.CleanNotes.{all_clean, clean_parts}

@@ -14,13 +14,13 @@ use Rattle.ix_meaning.specs.Scope.{Scope}
 use Rattle.ix_meaning.specs.Types.{boolean, of, printed}
 use Rattle.ix_meaning.proofs.Equations as equations
 use Rattle.ix_formed.specs.Readable as readable
-use Rattle.ix_formed.specs.Readable.{Statement, each_fine, is_part, or_part, stmt_shape, is_readable_stmt, is_readable_expr}
+use Rattle.ix_formed.specs.Readable.{Statement, each_fine, is_part, stmt_shape, is_readable_stmt, is_readable_expr}
 use Rattle.ix_formed.specs.Written.{each_true, maybe_true}
 use Rattle.ix_formed.proofs.CleanNotes.{clean_parts}
 use Rattle.ix_guard.specs.Accesses.{Access}
 use Rattle.ix_guard.specs.Tests.{Site}
 use Rattle.ix_guard.specs.Trees as tree
-use Rattle.ix_guard.specs.Trees.{Guarded, guarding, guarded_body, alone, alone_maybe, in_list, in_block, each_in_list, statement, untested, with_tests, test_tree, test_trees, expression_tested, declaration_tested, returning}
+use Rattle.ix_guard.specs.Trees.{Guarded, guarding, guarded_body, alone, in_list, in_block, each_in_list, statement, untested, with_tests, test_trees, expression_tested, declaration_tested, returning}
 use Rattle.std.proofs.lemmas.List.{map-append}
 use Rattle.ix_guarded_names.proofs.AccessesFit.{Clean, AllFit, expression_finds, needed_fit}
 use Rattle.ix_guarded_names.proofs.KeptScopes.{IsOpen, Keeps, kept, kept_as, chained, kept_then, kept_closed, kept_in_block, kept_looped, kept_noted_then, kept_then_noted, one_told, told_both, tests_before}

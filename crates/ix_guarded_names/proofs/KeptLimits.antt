@@ -16,13 +16,12 @@ use Rattle.ix_tree.proofs.FoldsOfForms as fold
 use Rattle.ix_meaning.specs.declared.note.Which.TheVariants as which
 use Rattle.ix_meaning.specs.Classes.{parents, supers}
 use Rattle.ix_meaning.specs.Declarators as declared
-use Rattle.ix_meaning.specs.Declarators.{declarators}
 use Rattle.ix_meaning.specs.Limits as limits
-use Rattle.ix_meaning.specs.Limits.{Passed, passed, most_classes, most_methods, most_params, most_inherited, class_names, methods_of, all_methods, method_names, param_names, declared_annots, each_annots, together, maybe, stmt_annots, body_annots, result_annots, member_annots, all_annots, past_names, past_params, past_claims, past_inheritance, limit, inheritance_limit}
+use Rattle.ix_meaning.specs.Limits.{Passed, passed, most_classes, most_methods, most_params, most_inherited, class_names, methods_of, all_methods, method_names, param_names, declared_annots, each_annots, together, stmt_annots, body_annots, result_annots, member_annots, all_annots, past_names, past_params, past_claims, past_inheritance, limit, inheritance_limit}
 use Rattle.ix_guard.specs.Accesses.{Access}
 use Rattle.ix_guard.specs.Tests.{Site}
 use Rattle.ix_guard.specs.Trees as tree
-use Rattle.ix_guard.specs.Trees.{Guarded, guarding, guarded_body, guarded_member, guarded_class, alone, alone_maybe, in_list, in_block, each_in_list, statement, untested, with_tests, is_outside, test_tree, test_trees, expression_tested, declaration_tested, returning}
+use Rattle.ix_guard.specs.Trees.{Guarded, guarding, guarded_body, alone, in_list, in_block, each_in_list, statement, untested, with_tests, test_tree, test_trees, expression_tested, declaration_tested, returning}
 use Rattle.std.proofs.lemmas.List.{map-append}
 use Rattle.ix_guarded_names.proofs.KeptWorlds.{guarded_members, guarded_classes, parents_kept, members_kept}
 

@@ -11,7 +11,7 @@ use Rattle.ix_meaning.specs.declared.members.Field.{Field}
 use Rattle.ix_meaning.specs.declared.members.Signature.{Signature}
 use Rattle.ix_meaning.specs.Classes.{first_or, first_class, class_named, parent_in_table, parents_by, parents, parent, supers}
 use Rattle.ix_meaning.specs.Declarators as declared
-use Rattle.ix_meaning.specs.Declarators.{member_in, first_behind, first_of, field_in, members_behind}
+use Rattle.ix_meaning.specs.Declarators.{first_of, field_in, members_behind}
 use Rattle.ix_meaning.specs.Members.{ClassOf, World, field_of, next_field, next_fields, fields_in, fields_from, fields, signature, methods_in, methods_from, methods, own_field, own_method, own_constructor, class_name, world}
 use Rattle.ix_meaning.specs.Source.{first_member, member_named, has_constructor}
 use Rattle.ix_guard.specs.Tests.{Site}

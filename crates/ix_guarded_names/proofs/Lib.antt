@@ -1,3 +1,5 @@
+pub mod AccessesSaid
+pub mod DeclaredSaid
 pub mod AccessesFit
 pub mod TestsClean
 pub mod KeptScopes

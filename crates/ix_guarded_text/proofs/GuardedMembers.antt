@@ -33,7 +33,8 @@ use Rattle.ix_guard.specs.Tests.{Site}
 use Rattle.ix_guard.specs.Guards.{together, listed, in_member, in_members, in_class}
 use Rattle.ix_guard.specs.Trees.{guarded_body, guarded_member, guarded_class}
 use Rattle.ix_guarded_text.proofs.NamedAccesses.{names_split}
-use Rattle.ix_guarded_text.proofs.Wrapped.{added, added_both, chained, chained_kept, keeps}
+use Rattle.ix_guarded_text.specs.Inserted.{added}
+use Rattle.ix_guarded_text.proofs.Wrapped.{added_both, chained, chained_kept, keeps}
 use Rattle.ix_guarded_text.proofs.GuardedStatements.{AllInList, stmts_guarded}
 
 -- ---- woven tokens from anywhere to somewhere

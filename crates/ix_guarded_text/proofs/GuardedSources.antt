@@ -26,7 +26,8 @@ use Rattle.ix_guard.specs.Guards.{together, in_class, insertions, with_texts, gu
 use Rattle.ix_guard.specs.Trees.{guarded_class, guarded_tree}
 use Rattle.ix_guarded_text.specs.Derived.{Derives}
 use Rattle.ix_guarded_text.proofs.NamedAccesses.{names_split}
-use Rattle.ix_guarded_text.proofs.Wrapped.{added, added_both}
+use Rattle.ix_guarded_text.specs.Inserted.{added}
+use Rattle.ix_guarded_text.proofs.Wrapped.{added_both}
 use Rattle.ix_guarded_text.proofs.GuardedMembers.{Weaves, weaves_none, weaves_before, weaves_both, class_guarded}
 
 module _ (site : Site) where

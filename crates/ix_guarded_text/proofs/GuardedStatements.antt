@@ -35,7 +35,8 @@ use Rattle.ix_guard.specs.Trees.{Guarded, guarding, alone, in_list, in_block, ea
 use Rattle.ix_guarded_text.proofs.NamedAccesses.{AllNamed, names_split, accesses_named, local_named}
 use Rattle.ix_guarded_text.proofs.FirstTokens.{expr_begins, local_begins}
 use Rattle.ix_guarded_text.proofs.Tests.{bytes_of, expression_bytes, declaration_bytes, expression_named, declaration_named, tokens_of, tests_inserted, Listed, no_statements, one_statement, listed_both, tests_listed}
-use Rattle.ix_guarded_text.proofs.Wrapped.{added, added_both, chained, chained_kept, keeps, Core, Guards, guards_as, untested_guards, tested_guards}
+use Rattle.ix_guarded_text.specs.Inserted.{added}
+use Rattle.ix_guarded_text.proofs.Wrapped.{added_both, chained, chained_kept, keeps, Core, Guards, guards_as, untested_guards, tested_guards}
 
 module _ (site : Site) where
   -- ---- what the two folds make of a statement

@@ -16,17 +16,12 @@ use Rattle.ix_guard.specs.declared.insertion.Insertion.{Insertion}
 use Rattle.ix_guard.specs.Accesses.{Access}
 use Rattle.ix_guard.specs.Guards.{opening, closing}
 use Rattle.ix_guard.specs.Trees.{Guarded, alone, test_trees}
+use Rattle.ix_guarded_text.specs.Inserted.{of_insertion, added}
 use Rattle.ix_guarded_text.proofs.NamedAccesses.{AllNamed}
 use Rattle.ix_guarded_text.proofs.TestTexts.{open_token, close_token}
 use Rattle.ix_guarded_text.proofs.Tests.{bytes_of, tokens_of, opening_inserted, closing_inserted, one_statement, listed_both, tests_listed}
 
 -- ---- insertions
-
-abbrev pub of_insertion : Insertion → Added
-of_insertion insertion = record { place = insertion.place; bytes = insertion.text }
-
-abbrev pub added : List Insertion → List Added
-added insertions = map of_insertion insertions
 
 pub added_both : (xs ys : List Insertion) → added (xs ++ ys) ≡ added xs ++ added ys
 added_both [] ys = refl

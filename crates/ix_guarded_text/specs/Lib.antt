@@ -1,2 +1,4 @@
 -- What bytes derive, up to places.
 pub mod Derived
+-- The insertions of a guarded text.
+pub mod Inserted

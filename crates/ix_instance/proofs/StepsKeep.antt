@@ -15,7 +15,7 @@ use Rattle.ix_core.specs.declared.op.OpKind.{OpKind}
 use Rattle.ix_core.specs.declared.program.Method.{Method}
 use Rattle.ix_core.specs.Analysis.{IsWorld}
 use Rattle.ix_core.specs.Heap.{Held, Num, Boolean, Null, At, Heap, Kind, ObjectOf, ArrayOf, Object, cell_default, default_of_base, cells_used, with_cells, array_cells, cell_of, value_at, object_at, array_at, place_in, field_value, is_within, int_of, size_of, write_at}
-use Rattle.ix_core.specs.Machine.{Limits, HeapFull, new_array, is_past, Effect, Done, Stopped, Wrapped, Printed, Called, operate, through, at_place, at_index, int_at}
+use Rattle.ix_core.specs.Machine.{Limits, HeapFull, new_array, is_past, assign_length, Effect, Done, Stopped, Wrapped, Printed, Called, operate, through, at_place, at_index, int_at}
 use Rattle.ix_core.specs.Objects.{IsOn, MeetsElement, AllOn, Later, IsSame, HasField, MeetsField, MeetsFields, field_readings, IsFree, HeapKeeps, FrameKeeps, IsOwn, MayWrite, StepKeeps}
 use Rattle.ix_core.specs.Safe.{IsBad, element_claims}
 use Rattle.ix_core.specs.World.{World, tables_in}
@@ -251,6 +251,20 @@ module _ (world : World) (tables : IsWorld world) (lows : (field : ℕ) → AreL
   assigned : (facts : List Fact) (target : ℕ) (x : Held) → MayAssign method target → IsFree building heap x → AllTrue world facts slots heap → IsGood (only (off_slot target) facts) (Done (slice_set slots target x) heap)
   assigned facts target x may free all = (assign_keeps world building method slots heap keeps frame target x free may.input may.own, off_true target x facts all)
 
+  length_is : (facts : List Fact) (target array : ℕ) → MayAssign method target → (array ≡ target → ⊥) → AllTrue world facts slots heap → (held : Held) → value_at slots array ≡ held
+      → IsGood (IsLength target array ∷ only (off_slot target) facts) (Done (slice_set slots target (Num (size_of heap held))) heap)
+  length_is facts target array may apart all held is =
+      let x : Held = Num (size_of heap held) in
+      let kept = assigned facts target x may tt all in
+      (kept.0, (ap int_of (set_same target x may) ∙ sym (ap (size_of heap) (set_other target array x apart ∙ is)), kept.1))
+
+  length_good : (facts : List Fact) (target array : ℕ) → MayAssign method target → (array ≡ target → ⊥) → AllTrue world facts slots heap → (held : Held) → value_at slots array ≡ held
+      → IsGood (IsLength target array ∷ only (off_slot target) facts) (assign_length limits (tables_in world) place slots heap target held)
+  length_good facts target array may apart all Null is = λ bad. bad
+  length_good facts target array may apart all (Num n) is = length_is facts target array may apart all (Num n) is
+  length_good facts target array may apart all (Boolean answer) is = length_is facts target array may apart all (Boolean answer) is
+  length_good facts target array may apart all (At number) is = length_is facts target array may apart all (At number) is
+
   pub operation_good : (facts after : List Fact) (kind : OpKind) → Step world method kind facts after → AllTrue world facts slots heap → HoldsArray slots heap kind → IsGood after (operate limits (tables_in world) place slots heap kind)
   operation_good facts after kind (rules.new_array _ target size ty may plain low) all arrays = made_good facts target size ty may plain all (int_at slots size) (in_true world facts (NotNegative (Slot size)) slots heap low all)
   operation_good facts after kind (store _ array index value ty hidden low high proves) all arrays =
@@ -263,11 +277,7 @@ module _ (world : World) (tables : IsWorld world) (lows : (field : ℕ) → AreL
   operation_good facts after kind (constant _ target n int may) all arrays = assigned facts target (Num n) may tt all
   operation_good facts after kind (copy _ target source ty may other) all arrays = assigned facts target (value_at slots source) may (frame.free source other) all
   operation_good facts after kind (rules.length _ target array may apart) all arrays =
-      through_good (IsLength target array ∷ only (off_slot target) facts) (value_at slots array) _
-      (λ number is.
-      let x : Held = Num (pos (length (array_at heap number))) in
-      let kept = assigned facts target x may tt all in
-      (kept.0, (ap int_of (set_same target x may) ∙ sym (ap (size_of heap) (set_other target array x apart ∙ is)), kept.1)))
+      length_good facts target array may apart all (value_at slots array) refl
   operation_good facts after kind (load _ target array index ty may low high) all arrays =
       through_good (only (off_slot target) facts) (value_at slots array) _
       (λ number is.

@@ -7,7 +7,7 @@ use Rattle.ix_core.specs.declared.claim.Type_.{Type_}
 use Rattle.ix_core.specs.declared.op.OpKind.{OpKind}
 use Rattle.ix_core.specs.declared.op.OpKind.TheVariants as op
 use Rattle.ix_core.specs.Code.{Code}
-use Rattle.ix_core.specs.Heap.{Held, Num, At, Heap, ArrayOf, value_at, array_at, cell_default}
+use Rattle.ix_core.specs.Heap.{Held, Num, Boolean, Null, At, Heap, ArrayOf, value_at, array_at, cell_default}
 use Rattle.ix_core.specs.Machine.{State, Effect, Done as Did, NullUsed, Negative, no_limits, operate, int_at}
 use Rattle.ix_core.specs.Machine as machine
 use Rattle.ix_core.specs.Tasks.{Tasks, code_then}
@@ -84,14 +84,18 @@ module _ (z : Setting) where
     -- ---- the length of an array
 
     lengths : Span → ℕ → List Held → Heap → Held → Effect
-    lengths span free slots heap held = machine.through no_limits z.tables span.from slots heap held (λ number. machine.assign no_limits z.tables span.from slots heap free (Num (pos (length (array_at heap number)))))
+    lengths span free slots heap held = machine.assign_length no_limits z.tables span.from slots heap free held
 
     pub length_given : (f : Frame) (free array : ℕ) (span : Span) (rest : Code) (tasks : Tasks) (slots : List Held) (now : Now) → z.base ≤ free → free < length slots → Agrees z slots now.variables → (held : Held) → value_at slots array ≡ held
         → Along z f (at f (before z (op.Length free array) span [] rest tasks) slots now.heap now.wrapped) (λ value. code_then rest tasks) (IsIn free) free slots now (length_of span.from held now)
     unfolding lengths
     length_given f free array span rest tasks slots now le room agrees (At number) is =
         gave z set f (op.Length free array) span [] rest tasks slots now now free (Num (pos (length (array_at now.heap number)))) le room agrees (ap (lengths span free slots now.heap) is) refl refl (quiet now)
-    length_given f free array span rest tasks slots now le room agrees held is =
+    length_given f free array span rest tasks slots now le room agrees (Num n) is =
+        gave z set f (op.Length free array) span [] rest tasks slots now now free (Num (pos 0)) le room agrees (ap (lengths span free slots now.heap) is) refl refl (quiet now)
+    length_given f free array span rest tasks slots now le room agrees (Boolean answer) is =
+        gave z set f (op.Length free array) span [] rest tasks slots now now free (Num (pos 0)) le room agrees (ap (lengths span free slots now.heap) is) refl refl (quiet now)
+    length_given f free array span rest tasks slots now le room agrees Null is =
         stopped_at z f (op.Length free array) span [] rest tasks slots now now (NullUsed span.from) (λ value. code_then rest tasks) (IsIn free) free (ap (lengths span free slots now.heap) is) refl (quiet now)
 
     -- ---- new arrays

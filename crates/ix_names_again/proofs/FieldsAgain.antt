@@ -6,8 +6,9 @@ use Rattle.ix_tree.specs.declared.decl.Member.{Member}
 use Rattle.ix_tree.specs.declared.decl.Member.TheVariants as member
 use Rattle.ix_meaning.specs.Declarators.{counting, counting_behind, with_annots, further, is_further, field_in, first_of, member_in, first_behind, members_behind, members}
 use Rattle.ix_bare.specs.Bare.{bare_maybe, bare_decl, bare_member}
+use Rattle.ix_names_moved.proofs.DeclaratorsMove.{further_moved}
 use Rattle.ix_names_again.specs.Alike.{is_joined, joined_behind}
-use Rattle.ix_names_again.proofs.DeclaratorsAlike.{further_bare}
+use Rattle.ix_names_again.specs.Gathered.{gathered}
 
 abbrev field_at : Bool → Option LocalDecl → LocalDecl → LocalDecl
 field_at b None d = d
@@ -32,7 +33,7 @@ field_is None d = refl
 field_is (Some first) d = by (is_further (Some first) d)
   where
     by : (b : Bool) → bare_decl (with_annots (if b then counting first.mods.annots else d.mods.annots) (if b then counting_behind first d else d.ty.annots) d) ≡ field_at b (Some (bare_decl first)) (bare_decl d)
-    by true = sym (further_bare first d)
+    by true = sym (further_moved gathered first d)
     by false = refl
 
 first_is : (first : Option LocalDecl) (d : LocalDecl) → bare_decl (first_of first d) ≡ first_field_at (is_further first d) (bare_maybe bare_decl first) (bare_decl d)

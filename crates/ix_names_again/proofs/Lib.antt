@@ -1,12 +1,4 @@
 pub mod NotesAlike
-pub mod AnnotsAlike
-pub mod TypesAlike
-pub mod ScopesAlike
-pub mod ExpressionsAlike
-pub mod DeclaratorsAlike
-pub mod StatementsAlike
-pub mod LiteralsAlike
-pub mod MembersAlike
 pub mod FieldsAgain
 pub mod WorldsAgain
 pub mod SourcesAlike

@@ -27,9 +27,10 @@ use Rattle.ix_meaning.specs.Limits.{Passed, passed, most_classes, most_methods, 
 use Rattle.ix_meaning.specs.Resolved.{Accepts}
 use Rattle.ix_bare.specs.Bare as bare
 use Rattle.ix_bare.specs.Bare.{nowhere, bare_maybe, bare_name, bare_annot, bare_type, bare_expr, bare_decl, bare_stmt, bare_method, bare_member, bare_class}
+use Rattle.ix_names_moved.proofs.AnnotsMove.{counted_moved}
+use Rattle.ix_names_moved.proofs.DeclaratorsMove.{declarators_moved}
 use Rattle.ix_names_again.specs.Alike.{joined, AreSame}
-use Rattle.ix_names_again.proofs.AnnotsAlike.{counted_bare}
-use Rattle.ix_names_again.proofs.DeclaratorsAlike.{declarators_bare}
+use Rattle.ix_names_again.specs.Gathered.{gathered}
 use Rattle.ix_names_again.proofs.FieldsAgain.{members_again}
 use Rattle.ix_names_again.proofs.WorldsAgain.{parents_again}
 use Rattle.ix_names_again.proofs.ErrorsAgain.{no_errors_again}
@@ -88,7 +89,7 @@ params_which (m ∷ ms) =
 claims_in_which : (before : ℕ) (annots : List Annot) → passed_which (past_claims_in before (map bare_annot annots)) ≡ passed_which (past_claims_in before annots)
 claims_in_which before [] = refl
 claims_in_which before (a ∷ annots) =
-    ap (λ n. passed_which (if nat_lt most_claims (before + n) then Some (record { which = which.Claims; place = 0 }) else past_claims_in (before + n) (map bare_annot annots))) (counted_bare a)
+    ap (λ n. passed_which (if nat_lt most_claims (before + n) then Some (record { which = which.Claims; place = 0 }) else past_claims_in (before + n) (map bare_annot annots))) (counted_moved gathered a)
     ∙ by (nat_lt most_claims (before + counted a)) (claims_in_which (before + counted a) annots)
   where
     by : (b : Bool) → passed_which (past_claims_in (before + counted a) (map bare_annot annots)) ≡ passed_which (past_claims_in (before + counted a) annots)
@@ -144,7 +145,7 @@ module _ {K S : Type 0} (kind : K → StmtKind) (stmt : S → Stmt) (stmt_is : (
       ≡ all_bare (limits.stmt_kind_step (map-StmtKind StmtKind Stmt Annots Annots kind_annots stmt_annots layer))
   kind_layer (StmtKind-F.Block ss) = fold.block_kind limits.stmt_kind_step stmt_of (map bare_stmt (map stmt ss)) ∙ together_bare ss
   kind_layer StmtKind-F.Empty = fold.empty_kind limits.stmt_kind_step stmt_of
-  kind_layer (StmtKind-F.Local ds) = fold.local_kind limits.stmt_kind_step stmt_of (map bare_decl ds) ∙ ap each_annots (declarators_bare ds) ∙ each_bare (declarators ds)
+  kind_layer (StmtKind-F.Local ds) = fold.local_kind limits.stmt_kind_step stmt_of (map bare_decl ds) ∙ ap each_annots (declarators_moved gathered ds) ∙ each_bare (declarators ds)
   kind_layer (StmtKind-F.If c t None) =
       fold.if_kind limits.stmt_kind_step stmt_of (bare_expr c) (bare_stmt (stmt t)) ∙ joined_bare _ [] (stmt_annots (stmt t)) [] (stmt_is t) refl
   kind_layer (StmtKind-F.If c t (Some u)) =

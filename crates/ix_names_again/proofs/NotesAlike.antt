@@ -1,15 +1,12 @@
--- Parts of lists of notes that are the same up to places.
-use Rattle.std.proofs.Common.{◌≡◌, Bool, true, false, List, [], ◌∷◌, ◌++◌, Option, Some, None, refl, sym, ap, ap₂, ◌∙◌}
+-- Lists of notes that are the same up to places: one is so with itself at its places moved to one.
+use Rattle.std.proofs.Common.{◌≡◌, List, [], ◌∷◌, ◌++◌, map, refl, sym, ap, ap₂, ◌∙◌}
 use Rattle.std.proofs.lemmas.List.{map-append}
-use Rattle.ix_text.specs.declared.span.Span.{Span}
-use Rattle.ix_core.specs.declared.claim.Type_.{Type_}
-use Rattle.ix_meaning.specs.declared.note.Meaning.{Meaning}
 use Rattle.ix_meaning.specs.declared.note.Note.{Note}
-use Rattle.ix_meaning.specs.declared.note.Note.TheVariants.{Use}
-use Rattle.ix_meaning.specs.declared.note.Rule.{Rule}
-use Rattle.ix_meaning.specs.Types.{Judged, type_note, wrong, wrong_if}
-use Rattle.ix_bare.specs.Bare.{nowhere}
+use Rattle.ix_meaning.specs.declared.note.Note.TheVariants.{Use, Typed, Declares, Wrong, WrongAnnot}
+use Rattle.ix_meaning.specs.Types.{Judged}
+use Rattle.ix_names_moved.specs.MovedNotes.{moved_note, unplaced, AreMoved}
 use Rattle.ix_names_again.specs.Alike.{bare_note, AreAlike}
+use Rattle.ix_names_again.specs.Gathered.{gathered}
 
 pub none : AreAlike [] []
 none = record { same = refl }
@@ -23,19 +20,34 @@ flipped x = record { same = sym x.same }
 pub chained : {a b c : List Note} → AreAlike a b → AreAlike b c → AreAlike a c
 chained x y = record { same = x.same ∙ y.same }
 
-pub used : {a b : List Note} (p q : Span) (m : Meaning) → AreAlike a b → AreAlike (Use p m ∷ a) (Use q m ∷ b)
-used p q m x = record { same = ap (λ l. Use nowhere m ∷ l) x.same }
+-- ---- with its places moved to one
 
-pub is_wrong : (r : Rule) (p q : Span) → AreAlike (wrong r p) (wrong r q)
-is_wrong r p q = record { same = refl }
+bare_unplaced : (n : Note) → bare_note (unplaced n) ≡ bare_note n
+bare_unplaced (Use span meaning) = refl
+bare_unplaced (Typed span ty) = refl
+bare_unplaced (Declares span declared) = refl
+bare_unplaced (Wrong error) = refl
+bare_unplaced (WrongAnnot error) = refl
 
-pub if_wrong : (b : Bool) (r : Rule) (p q : Span) → AreAlike (wrong_if b r p) (wrong_if b r q)
-if_wrong true r p q = record { same = refl }
-if_wrong false r p q = record { same = refl }
+bare_gathered : (n : Note) → bare_note (moved_note gathered n) ≡ bare_note n
+bare_gathered (Use span meaning) = refl
+bare_gathered (Typed span ty) = refl
+bare_gathered (Declares span declared) = refl
+bare_gathered (Wrong error) = refl
+bare_gathered (WrongAnnot error) = refl
 
-pub type_noted : (t : Option Type_) (p q : Span) → AreAlike (type_note t p) (type_note t q)
-type_noted None p q = none
-type_noted (Some t) p q = record { same = refl }
+all_unplaced : (ns : List Note) → map bare_note (map unplaced ns) ≡ map bare_note ns
+all_unplaced [] = refl
+all_unplaced (n ∷ ns) = ap₂ (λ (m : Note) (ms : List Note). m ∷ ms) (bare_unplaced n) (all_unplaced ns)
+
+all_gathered : (ns : List Note) → map bare_note (map (moved_note gathered) ns) ≡ map bare_note ns
+all_gathered [] = refl
+all_gathered (n ∷ ns) = ap₂ (λ (m : Note) (ms : List Note). m ∷ ms) (bare_gathered n) (all_gathered ns)
+
+pub alike : (a b : List Note) → AreMoved gathered a b → AreAlike a b
+alike a b x = record {
+  same = sym (all_gathered a) ∙ sym (all_unplaced (map (moved_note gathered) a)) ∙ ap (λ (ns : List Note). map bare_note ns) x.same ∙ all_unplaced b;
+}
 
 -- An expression says the same up to places.
 pub record SameJudged (j k : Judged) : Type 0 where

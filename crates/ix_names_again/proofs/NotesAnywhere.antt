@@ -16,13 +16,15 @@ use Rattle.ix_formed.specs.NoErrors.{IsClean}
 use Rattle.ix_formed.proofs.CleanNotes.{clean_parts}
 use Rattle.ix_formed.proofs.NumberLists.{all_joined}
 use Rattle.ix_bare.specs.Bare.{bare_member, bare_class, bare_source}
+use Rattle.ix_names_moved.proofs.MembersMove.{next_fields_moved}
+use Rattle.ix_names_moved.proofs.WorldsMove.{fields_in_moved}
+use Rattle.ix_names_moved.proofs.SourcesMove.{class_notes_of}
 use Rattle.ix_names_again.specs.Alike.{AreAlike}
+use Rattle.ix_names_again.specs.Gathered.{gathered, bare_field, bare_signature, bare_world}
 use Rattle.ix_names_again.specs.Joint.{ClassShares, IsJoint}
 use Rattle.ix_names_again.proofs.NotesAlike.{none, both, flipped, chained}
-use Rattle.ix_names_again.proofs.ScopesAlike.{bare_field, bare_signature, bare_world}
-use Rattle.ix_names_again.proofs.MembersAlike.{next_fields_bare}
-use Rattle.ix_names_again.proofs.WorldsAgain.{fields_in_bare, class_named_again, parents_again, methods_again, world_with}
-use Rattle.ix_names_again.proofs.SourcesAlike.{class_notes_of, class_alike}
+use Rattle.ix_names_again.proofs.WorldsAgain.{class_named_again, parents_again, methods_again, world_with}
+use Rattle.ix_names_again.proofs.SourcesAlike.{class_alike}
 use Rattle.ix_names_again.proofs.ErrorsAgain.{clean_again}
 use Rattle.ix_names_again.proofs.JointFields.{members_trim, members_clean, fields_trim}
 
@@ -41,8 +43,8 @@ alone_bare : (class : ClassOf) (c next : ℕ) (ks : List ClassDecl) → map bare
 alone_bare class c next [] = refl
 alone_bare class c next (k ∷ ks) =
     map-append bare_field (fields_in class c next k.members) (alone_from class (c + 1) (next_fields next k.members) ks)
-    ∙ ap₂ (λ (xs : List Field) (ys : List Field). xs ++ ys) (sym (fields_in_bare class c next k.members)) (alone_bare class (c + 1) (next_fields next k.members) ks)
-    ∙ ap (λ n. fields_in class c next (map bare_member k.members) ++ alone_from class (c + 1) n (map bare_class ks)) (sym (next_fields_bare next k.members))
+    ∙ ap₂ (λ (xs : List Field) (ys : List Field). xs ++ ys) (sym (fields_in_moved gathered class c next k.members)) (alone_bare class (c + 1) (next_fields next k.members) ks)
+    ∙ ap (λ n. fields_in class c next (map bare_member k.members) ++ alone_from class (c + 1) n (map bare_class ks)) (sym (next_fields_moved gathered next k.members))
 
 fields_anywhere : (us vs : List ClassDecl) → map bare_class us ≡ map bare_class vs → AllOf ClassShares us → AllOf ClassShares vs → map bare_field (fields us) ≡ map bare_field (fields vs)
 fields_anywhere us vs e one two =
@@ -66,7 +68,7 @@ alone_alike : (w : World) (ps : List (Option ℕ)) (ms : List Signature) (c next
 alone_alike w ps ms c next [] = none
 alone_alike w ps ms c next (k ∷ ks) =
     both (class_alike w ps ms c next k k.members)
-    (subst (λ n. AreAlike (alone_notes_from w ps ms (c + 1) (next_fields next k.members) ks) (alone_notes_from (bare_world w) ps (map bare_signature ms) (c + 1) n (map bare_class ks))) (sym (next_fields_bare next k.members))
+    (subst (λ n. AreAlike (alone_notes_from w ps ms (c + 1) (next_fields next k.members) ks) (alone_notes_from (bare_world w) ps (map bare_signature ms) (c + 1) n (map bare_class ks))) (sym (next_fields_moved gathered next k.members))
     (alone_alike w ps ms (c + 1) (next_fields next k.members) ks))
 
 module _ (w : World) (ps : List (Option ℕ)) (ms : List Signature) where

@@ -1,4 +1,5 @@
 -- Notes without their places, and what tables of names say of their places.
 pub mod Alike
+pub mod Gathered
 pub mod Same
 pub mod Joint

@@ -5,6 +5,7 @@
 //! mean the same. By `notes_again` of `SourcesAlike` and `accepts_again`, where the same fields are declared together, and of accepted sources by
 //! `notes_anywhere`, `accepts_anywhere` and `means_anywhere`, where fields whose types stand at one place are those of one declaration, as in each
 //! tree of a text by `source_is_joint`.
-//! They stand on the notes of `ix_meaning`, the trees without places of `ix_bare`, and on what `ix_formed` says of the notes of accepted sources.
+//! They stand on `ix_names_moved`, since a tree without places is one whose places are all moved to one, on the notes of `ix_meaning`, and on what
+//! `ix_formed` says of the notes of accepted sources.
 //! They never look at a text, and at tokens only for where types stand.
 #![tactic(auto)]

@@ -4,7 +4,7 @@ ghost use Rattle.std.specs.Prelude.{◌≡◌, true, ◌+◌, ◌<◌, ◌≤◌
 ghost use Rattle.ix_num.specs.Arithmetic.{exact_of};
 ghost use Rattle.ix_core.specs.Heap as cells;
 ghost use Rattle.ix_core.specs.Heap.{value_at, array_at, object_at, place_in, write_at};
-ghost use Rattle.ix_core.specs.Machine.{Limits, assign, assign_int, assign_result, at_array, at_index, at_field, unary_of, int_at, is_int, with_limits, literal_value, new_array, allocate};
+ghost use Rattle.ix_core.specs.Machine.{Limits, assign, assign_length, assign_int, assign_result, at_array, at_index, at_field, unary_of, int_at, is_int, with_limits, literal_value, new_array, allocate};
 ghost use Rattle.ix_core.specs.Machine as model;
 ghost use Rattle.ix_core.specs.Tables.{Tables, tables_of};
 ghost use Rattle.ix_heap.specs.Rows.{held_of};
@@ -132,20 +132,19 @@ fn array_length<'p>(
     target: u32,
     array: u32,
 ) -> Done<'p>
-    ensures done { (limits : Limits) (tables : Tables) → at_array limits tables place (slots_of frame.old) (heap_of heap.now) array
-        (λ number items. assign limits tables place (slots_of frame.old) (heap_of heap.now) target (cells.Num (pos (length items)))) ≡ effect_of result (slots_of frame.new) (heap_of heap.now) }
+    ensures done { (limits : Limits) (tables : Tables) → assign_length limits tables place (slots_of frame.old) (heap_of heap.now) target (value_at (slots_of frame.old) array) ≡ effect_of result (slots_of frame.new) (heap_of heap.now) }
     ensures printed { IsPrinted result → ⊥ }
     ensures stopped { IsStopped result → slots_of frame.new ≡ slots_of frame.old }
     ensures method { frame.new.method ≡ frame.old.method }
     ensures stack { frame.new.stack ≡ frame.old.stack }
 {
-    match frame.value(array) {
-        Held::At(number) => {
-            frame.set(target, Held::Int(heap.array_len(number) as i32));
-            Done::Done
-        }
-        _ => Done::Stopped(Outcome::Null(place)),
-    }
+    let size = match frame.value(array) {
+        Held::Null => return Done::Stopped(Outcome::Null(place)),
+        Held::At(number) => heap.array_len(number) as i32,
+        _ => 0,
+    };
+    frame.set(target, Held::Int(size));
+    Done::Done
 }
 
 /// Reads a cell of an array (JLS 15.10.4).

@@ -59,6 +59,12 @@ module _ (limits : Limits) (tables : Tables) (place : ℕ) (slots : List Held) (
   through_prints (Boolean b) next quiet = refl
   through_prints Null next quiet = refl
 
+  length_prints : (target : ℕ) (held : Held) → prints (machine.assign_length limits tables place slots heap target held) ≡ []
+  length_prints target (At number) = refl
+  length_prints target (Num n) = refl
+  length_prints target (Boolean b) = refl
+  length_prints target Null = refl
+
   place_prints : (cell : Option ℕ) (next : ℕ → Effect) → ((cell : ℕ) → prints (next cell) ≡ []) → prints (at_place limits tables place slots heap cell next) ≡ []
   place_prints None next quiet = refl
   place_prints (Some cell) next quiet = quiet cell
@@ -73,7 +79,7 @@ module _ (limits : Limits) (tables : Tables) (place : ℕ) (slots : List Held) (
   op_shows (op.Copy target source ty) = refl
   op_shows (op.Num target arith left right) = sym (ap printed_seen (result_prints target (exact_of arith (int_at slots left) (int_at slots right))))
   op_shows (op.Unary target unary operand) = sym (ap printed_seen (result_prints target (Some (unary_of unary (int_at slots operand)))))
-  op_shows (op.Length target array) = sym (ap printed_seen (through_prints (value_at slots array) _ (λ number. refl)))
+  op_shows (op.Length target array) = sym (ap printed_seen (length_prints target (value_at slots array)))
   op_shows (op.NewArray target ty size) = sym (ap printed_seen (array_prints target ty (int_at slots size)))
   op_shows (op.Fill target ty entries) = sym (ap printed_seen (either_prints (is_past limits.cells (cells_used heap + (length entries + 1))) _ _ refl refl))
   op_shows (op.Load target array index ty) =

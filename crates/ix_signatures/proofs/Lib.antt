@@ -3,3 +3,5 @@ mod DeclaredNames
 mod SameSignature
 mod SameErrors
 mod JudgedAlone
+-- Passed on from ix_errors.
+pub use Rattle.ix_errors.proofs.ErrorPlaces

@@ -15,7 +15,7 @@ use Rattle.ix_core.specs.declared.op.OpKind.TheVariants as op
 use Rattle.ix_core.specs.declared.program.Method.{Method}
 use Rattle.ix_core.specs.Analysis.{IsWorld}
 use Rattle.ix_core.specs.Heap.{Held, Num, Boolean, Null, At, Heap, Kind, ObjectOf, ArrayOf, cell_default, default_of_base, cells_used, array_cells, value_at, object_at, array_at, place_in, is_within, size_of, write_at}
-use Rattle.ix_core.specs.Machine.{Limits, HeapFull, Effect, Done, Stopped, Wrapped, Printed, Called, allocate, new_array, is_past, is_int, operate, through, at_place, at_index, assign_int, assign_result, literal_value, unary_of, int_at}
+use Rattle.ix_core.specs.Machine.{Limits, HeapFull, Effect, Done, Stopped, Wrapped, Printed, Called, allocate, new_array, is_past, is_int, operate, through, at_place, at_index, assign_length, assign_int, assign_result, literal_value, unary_of, int_at}
 use Rattle.ix_core.specs.Objects.{IsOn, MeetsElement, AllOn, IsFree, HeapKeeps, FrameKeeps, IsOwn, StepKeeps}
 use Rattle.ix_core.specs.Safe.{IsBad, element_claims}
 use Rattle.ix_core.specs.World.{World, tables_in}
@@ -109,6 +109,12 @@ module _ (world : World) (tables : IsWorld world) (limits : Limits) (place : ℕ
     through_kept (Boolean answer) next each = λ bad. bad
     through_kept Null next each = λ bad. bad
 
+    length_kept : (t : ℕ) (held : Held) → MayTake method slots t → Keeps Wraps (assign_length limits (tables_in world) place slots heap t held)
+    length_kept t (Num n) may = assigned t (Num (pos 0)) may tt
+    length_kept t (Boolean answer) may = assigned t (Num (pos 0)) may tt
+    length_kept t Null may = λ bad. bad
+    length_kept t (At number) may = assigned t (Num (pos (length (array_at heap number)))) may tt
+
     place_kept : (found : Option ℕ) (next : ℕ → Effect) → ((cell : ℕ) → found ≡ Some cell → Keeps Wraps (next cell)) → Keeps Wraps (at_place limits (tables_in world) place slots heap found next)
     place_kept None next each = λ bad. bad
     place_kept (Some cell) next each = each cell refl
@@ -148,7 +154,7 @@ module _ (world : World) (tables : IsWorld world) (limits : Limits) (place : ℕ
   operation_keeps (op.Copy t s ty) plain may hides shown = assigned t (value_at slots s) may (frame.free s hides)
   operation_keeps (op.Num t arith_op y z) plain may hides shown = result_kept (Unit {0}) tt t (exact_of arith_op (int_at slots y) (int_at slots z)) may
   operation_keeps (op.Unary t unary y) plain may hides shown = int_kept (Unit {0}) tt t (unary_of unary (int_at slots y)) may
-  operation_keeps (op.Length t a) plain may hides shown = through_kept ⊥ (value_at slots a) _ (λ number is. assigned t (Num (pos (length (array_at heap number)))) may tt)
+  operation_keeps (op.Length t a) plain may hides shown = length_kept ⊥ t (value_at slots a) may
   operation_keeps (op.NewArray t ty n) plain may hides shown = made ⊥ t ty (int_at slots n) may shown.0 shown.1
   operation_keeps (op.Fill t ty entries) plain may hides shown = allocated ⊥ t ty (length entries) (map (value_at slots) entries) may (entries_free entries hides) (entries_meet (element_claims ty) entries shown)
   operation_keeps (op.Load t a i ty) plain may hides shown =

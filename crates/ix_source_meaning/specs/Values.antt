@@ -8,7 +8,7 @@ use Rattle.ix_num.specs.Arithmetic.{exact_of, wrap_of}
 use Rattle.ix_core.specs.declared.claim.Type_.{Type_}
 use Rattle.ix_core.specs.declared.op.UnaryNum.{UnaryNum}
 use Rattle.ix_core.specs.declared.op.UnaryNum.TheVariants.{Neg, Flip}
-use Rattle.ix_core.specs.Heap.{Held, Num, Boolean, Null, At, Kind, ObjectOf, ArrayOf, Object, value_at, object_at, array_at, place_in, int_of, cell_default, is_within, write_at}
+use Rattle.ix_core.specs.Heap.{Held, Num, Boolean, Null, At, Kind, ObjectOf, ArrayOf, Object, value_at, object_at, array_at, place_in, int_of, size_of, cell_default, is_within, write_at}
 use Rattle.ix_core.specs.Machine.{Outside, Negative, NullUsed, ZeroDivisor, is_int, unary_of, is_true, test_of}
 use Rattle.ix_core.specs.Types.{cell_type}
 use Rattle.ix_tree.specs.declared.annot.Ident.{Ident}
@@ -21,7 +21,7 @@ use Rattle.ix_tree.specs.declared.expr.ExprKind.{ExprKind-F}
 use Rattle.ix_tree.specs.declared.expr.Init.{Init, Init-F, fold-Init}
 use Rattle.ix_meaning.specs.declared.note.Meaning.{Meaning}
 use Rattle.ix_meaning.specs.declared.note.Meaning.TheVariants as meaning
-use Rattle.ix_source_meaning.specs.Runs.{access, Gives, Action, ◌>>=◌, gives, stops, held_by, assigns, sees, with_heap, wraps}
+use Rattle.ix_source_meaning.specs.Runs.{access, Gives, Stops, Action, ◌>>=◌, gives, stops, held_by, assigns, sees, with_heap, wraps}
 use Rattle.ix_source_meaning.specs.Context.{Context, meaning_at, type_at}
 
 -- What an assignment writes, once its parts are evaluated: a local or a parameter; a field of an object; a cell of an array, with the place of its index.
@@ -121,8 +121,10 @@ get_field context place object field = through place object (λ number. field_ce
 abbrev pub put_field : Context → ℕ → Held → ℕ → Held → Action Unit
 put_field context place object field value = through place object (λ number. field_cell context place field number (λ cell. written value number cell))
 
+-- the length of what isn't null (JLS 10.7, 15.11)
 abbrev pub length_of : ℕ → Held → Action Held
-length_of place array = through place array (λ number now. Gives (Num (pos (length (array_at now.heap number)))) now)
+length_of place Null now = Stops (NullUsed place) now
+length_of place held now = Gives (Num (size_of now.heap held)) now
 
 -- a new object, which gets the next number
 abbrev pub made : Object → Action Held

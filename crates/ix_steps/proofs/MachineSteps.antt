@@ -21,7 +21,7 @@ use Rattle.ix_core.specs.declared.op.UnaryNum.{UnaryNum}
 use Rattle.ix_core.specs.Claims.{AreTrueOf}
 use Rattle.ix_core.specs.Code.{Code, Do}
 use Rattle.ix_core.specs.Heap.{Held, Num, Boolean, Null, At, Object, Heap, Kind, ObjectOf, ArrayOf, value_at, object_at, array_at, array_cells, Places, place_in, cell_of, field_value, int_of, size_of, cell_default, cells_used, is_within, with_cells, write_at}
-use Rattle.ix_core.specs.Machine.{Limits, Ending, Outside, Effect, Done, Wrapped, Stopped, State, is_past, is_int, int_at, unary_of, assign, assign_int, assign_result, through, at_array, at_index, at_place, allocate, new_array, operate, effect_then, step_tasks, step_from, step, moved}
+use Rattle.ix_core.specs.Machine.{Limits, Ending, Outside, Effect, Done, Wrapped, Stopped, State, is_past, is_int, int_at, unary_of, assign, assign_length, assign_int, assign_result, through, at_array, at_index, at_place, allocate, new_array, operate, effect_then, step_tasks, step_from, step, moved}
 use Rattle.ix_core.specs.Numbers.{Numbers, HasInts, field_of, held_at, numbers_of}
 use Rattle.ix_core.specs.Objects.{IsOn, AllOn}
 use Rattle.ix_core.specs.Tables.{Tables}
@@ -155,6 +155,12 @@ module _ (later : List Held) (after : Heap) where
         → (number : ℕ) × (value_at slots slot ≡ At number) × (next number (array_at heap number) ≡ Done later after)
     of_array slot next e = of_through (value_at slots slot) (λ number. next number (array_at heap number)) e
 
+    of_length : (t : ℕ) (held : Held) → assign_length limits tables at slots heap t held ≡ Done later after → assign limits tables at slots heap t (Num (size_of heap held)) ≡ Done later after
+    of_length t (Num n) e = e
+    of_length t (Boolean answer) e = e
+    of_length t Null e = absurd cc
+    of_length t (At number) e = e
+
     of_index : (index : ℤ) (cells : List Held) (next : ℕ → Effect) → at_index limits tables at slots heap index cells next ≡ Done later after
         → (is_within index (length cells) ≡ true) × (next (unsigned_abs index) ≡ Done later after)
     of_index index cells next e = of_within (is_within index (length cells)) (next (unsigned_abs index)) (Outside index (pos (length cells)) at) e
@@ -250,9 +256,9 @@ module _ (profile : Profile) (limits : Limits) (tables : Tables) (at : ℕ) (slo
   length_step : (t a : ℕ) → t < length slots → Does (op.Length t a) → IsStep (op.Length t a)
   unfolding Does
   length_step t a h e =
-      let x = of_array later after limits tables at slots heap a (λ number cells. assign limits tables at slots heap t (Num (pos (length cells)))) e in
-      let size : Held = Num (pos (length (array_at heap x.0))) in
-      stays_of (op.Length t a) (others_stay t h size x.2) (ap int_of (target_holds t h size x.2) ∙ ap (size_of heap) (sym x.1))
+      let size : Held = Num (size_of heap (value_at slots a)) in
+      let x = of_length later after limits tables at slots heap t (value_at slots a) e in
+      stays_of (op.Length t a) (others_stay t h size x) (ap int_of (target_holds t h size x))
 
   -- a new array's length is the number that was asked for
   module _ (t : ℕ) (ty : Type_) (size : ℕ) (cells : List Held) (h : t < length slots) (all : AllOn slots heap) (e : allocate limits tables at slots heap t ty size cells ≡ Done later after) where
@@ -347,6 +353,12 @@ module _ (later : List Held) (after : Heap) where
     not_through Null next none e = cc
     not_through (At number) next none e = none number e
 
+    not_length : (t : ℕ) (held : Held) → assign_length limits tables at slots heap t held ≡ Wrapped later after → ⊥
+    not_length t (Num n) e = cc
+    not_length t (Boolean answer) e = cc
+    not_length t Null e = cc
+    not_length t (At number) e = cc
+
     not_place : (found : Option ℕ) (next : ℕ → Effect) → ((k : ℕ) → next k ≡ Wrapped later after → ⊥) → at_place limits tables at slots heap found next ≡ Wrapped later after → ⊥
     not_place None next none e = cc
     not_place (Some k) next none e = none k e
@@ -378,7 +390,7 @@ module _ (limits : Limits) (tables : Tables) (at : ℕ) (slots : List Held) (hea
   wrapped_step (op.Unary t unary y) h e = wrapped_done (op.Unary t unary y) t (unary_of unary (int_at slots y)) h e (λ p n. n) (λ c. c)
   wrapped_step (op.Const t value) h e = absurd cc
   wrapped_step (op.Copy t s ty) h e = absurd cc
-  wrapped_step (op.Length t a) h e = absurd (not_through later after limits tables at slots heap (value_at slots a) _ (λ number. not_done later after _ _) e)
+  wrapped_step (op.Length t a) h e = absurd (not_length later after limits tables at slots heap t (value_at slots a) e)
   wrapped_step (op.NewArray t ty n) h e = absurd (not_new later after limits tables at slots heap t ty (int_at slots n) e)
   wrapped_step (op.Fill t ty entries) h e = absurd (not_limit later after (is_past limits.cells (cells_used heap + (length entries + 1))) _ _ _ e)
   wrapped_step (op.Load t a i ty) h e =

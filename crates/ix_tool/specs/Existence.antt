@@ -11,10 +11,10 @@ use Rattle.ix_finding.specs.MethodErrors.{IsError}
 use Rattle.ix_listing.specs.ErrorList.{IsErrorList}
 use Rattle.ix_guarding.specs.Guarding.{IsGuarded}
 use Rattle.ix_certify.specs.Certificates.{IsLeastCertificate}
-use Rattle.ix_verify.specs.Verdicts.{IsVerified, IsRefused}
-use Rattle.ix_verify.specs.declared.answer.CertError.{CertError}
-use Rattle.ix_verify.specs.declared.answer.CertError.TheVariants as refusal
-use Rattle.ix_verify.specs.declared.answer.Verified.{Verified}
+use Rattle.ix_certify.specs.Verdicts.{IsVerified, IsRefused}
+use Rattle.ix_certify.specs.CertError.{CertError}
+use Rattle.ix_certify.specs.CertError.TheVariants as refusal
+use Rattle.ix_certify.specs.Verified.{Verified}
 use Rattle.ix_tool.specs.Answers.{Answers, source_bytes}
 use Rattle.ix_tool.specs.Judgements.{profile_of}
 

@@ -11,9 +11,9 @@ use Rattle.ix_core.specs.Safe.{Safe}
 use Rattle.ix_facts.specs.Stores.{Stored}
 use Rattle.ix_cert.specs.Labellings.{IsLabelling}
 use Rattle.ix_sound.specs.Sound.{HasNoErrors, LocalsApart}
-use Rattle.ix_audit.specs.declared.answer.Audit.{Audit}
-use Rattle.ix_audit.specs.declared.answer.Audit.TheVariants as audit
-use Rattle.ix_audit.specs.Audited.{IsAudit}
+use Rattle.ix_accepted.specs.Audit.{Audit}
+use Rattle.ix_accepted.specs.Audit.TheVariants as audit
+use Rattle.ix_accepted.specs.Audited.{IsAudit}
 use Rattle.ix_accepted.specs.Flawless.{AreFlawless}
 use Rattle.ix_accepted.proofs.Accepted.{flawless_accepted}
 use Rattle.ix_verify.specs.declared.answer.CertError.{CertError}

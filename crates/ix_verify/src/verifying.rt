@@ -13,7 +13,7 @@ ghost use Rattle.ix_verify.specs.Verdicts as spec;
 ghost use Rattle.ix_verify.specs.Verdicts.{CanVerify, IsVerified, IsRefused, labels_in};
 
 use crate::answer::{CertError, Verified};
-use ix_audit::{Audit, audit};
+use ix_accepted::{Audit, audit};
 use ix_cert::read;
 use ix_core::{Error, List, Method, Profile, Program};
 use ix_sound::soundness;

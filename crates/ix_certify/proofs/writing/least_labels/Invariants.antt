@@ -1,6 +1,6 @@
 use Rattle.std.proofs.Common.{◌≡◌, ℕ, List, length, slice_get, Some}
 use Rattle.ix_core.specs.Tables.{method_at}
-use Rattle.ix_loop_labels.specs.LoopLabels.{AreLoopLabels}
+use Rattle.ix_check.specs.LoopLabels.{AreLoopLabels}
 use Rattle.ix_store.specs.declared.store.Store.{Store}
 use Rattle.ix_certify.proofs.writing.least_labels.Given as goal
 

@@ -2,7 +2,7 @@ use Rattle.std.proofs.Common.{rules, ◌≡◌, ◌≢◌, ◌≤◌, ◌∙◌,
 use Rattle.std.proofs.lemmas.Result.{IfOk-weaker}
 use Rattle.ix_answer.specs.declared.status.Status.TheVariants.{Done, Rejected}
 use Rattle.ix_outside.specs.Reading.{most_certificate}
-use Rattle.ix_verify.specs.declared.answer.CertError.TheVariants as refusal
+use Rattle.ix_certify.specs.CertError.TheVariants as refusal
 use Rattle.ix_tool.specs.Answers.{Verifies, too_long, verified, refused}
 use Rattle.ix_tool.proofs.Answered.{status_is}
 use Rattle.ix_tool.proofs.answering.verify_reply.Goals as goal

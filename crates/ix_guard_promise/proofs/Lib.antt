@@ -1,0 +1,2 @@
+mod GuardedTrees
+pub mod PromiseKept

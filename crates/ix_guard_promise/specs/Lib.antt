@@ -1,0 +1,2 @@
+-- What is promised of a guarded text.
+pub mod Promise

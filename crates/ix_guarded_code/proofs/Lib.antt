@@ -1,0 +1,3 @@
+pub mod Saying
+pub mod GuardedPieces
+pub mod GuardedItems

@@ -1,0 +1,10 @@
+pub mod Shifts
+pub mod PlacedTexts
+pub mod WovenPieces
+pub mod Realisations
+pub mod WrittenTests
+pub mod WrappedPlaces
+pub mod StatementPlaces
+pub mod MemberPlaces
+pub mod SourcePlaces
+pub mod PartsMoved

@@ -1,0 +1,3 @@
+-- Runs of guarded texts.
+pub mod Follows
+pub mod Behind

@@ -1,0 +1,2 @@
+-- Notes with others between them that stand at new places.
+pub mod WithNew

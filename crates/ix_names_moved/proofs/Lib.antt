@@ -1,0 +1,14 @@
+pub mod NotesMove
+pub mod AnnotsMove
+pub mod TypesMove
+pub mod ScopesMove
+pub mod LiteralsMove
+pub mod DeclaratorsMove
+pub mod ExpressionsMove
+pub mod StatementsMove
+pub mod MembersMove
+pub mod SpansMove
+pub mod FieldsMove
+pub mod WorldsMove
+pub mod SourcesMove
+pub mod AcceptedMoved
