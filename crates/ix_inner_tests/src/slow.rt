@@ -1,11 +1,12 @@
-//! A source that hands out one byte a read, and a sink that takes one byte a write: the answers are those of any other.
+//! A source that hands out one byte a read, and a sink that takes one byte a write: a file is read and a text written as by any other.
 ghost use Rattle.std.specs.Prelude.{◌≡◌, None};
 
-use crate::calls::{one_file, words_of};
+use crate::faults::file;
 use ix_outside::{
-    Failed, OpenError, Sink, SinkLog, Source, SourceLog, SureSink, SureSource, WriteError,
+    Failed, MOST_BYTES, OpenError, Sink, SinkLog, Source, SourceLog, SureSink, SureSource,
+    WriteError, read_file, write_all,
 };
-use ix_tool::{Status, run_tool};
+use ix_text::List;
 use std::test::Fail;
 
 /// Hands out one byte of the source below it at a time.
@@ -83,26 +84,25 @@ impl Sink for SlowSink {
     }
 }
 
-// A source with two errors, a byte at a time on both ends.
 #[test]
 fn a_byte_at_a_time(rt: HostRuntime) -> Result<(), Fail> {
     let alloc = rt.alloc();
-    let words = words_of(alloc, &["check", "A.java"])?;
     let text = b"class A { static int get(int[] a, int i) { return a[i]; } }";
+    let mut list = List::new(alloc);
+    list.push(file(alloc, "A.java", text)?)?;
     let mut files = SlowSource {
-        files: SureSource::new(one_file(alloc, text)?),
+        files: SureSource::new(list),
         log: SourceLog::new(),
     };
+    assert_eq!(rt;
+        read_file(alloc, &mut files, "A.java", MOST_BYTES)?.as_slice(),
+        text.as_slice()
+    );
     let mut out = SlowSink {
         sink: SureSink::new(alloc),
         log: SinkLog::new(),
     };
-    let mut err = SureSink::new(alloc);
-    let status = run_tool(alloc, &words, &mut files, &mut out, &mut err);
-    assert!(rt; status == Status::Rejected && err.taken().is_empty());
-    assert_eq!(rt;
-        out.sink.taken(),
-        b"A.java:1:53: access.low\nA.java:1:53: access.high\nrejected: 2 errors\n".as_slice()
-    );
+    assert!(rt; write_all(&mut out, text) == Ok(()));
+    assert_eq!(rt; out.sink.taken(), text.as_slice());
     Ok(())
 }

@@ -1,0 +1,18 @@
+//! What no call of the program shows: lists and boxes that hold themselves, and their copies; places within a line end or a character; sources and sinks of
+//! which any call fails, or that hand on a byte at a time; the text of the workload; the order of sweeps.
+//!
+//! What goes in: nothing. The contract: each row is answered as it says, by values worked out apart from the code.
+//! It stands on `ix_text`, `ix_outside`, `ix_gen` and `ix_graph`, and goes from a text to a graph by the crates of the tool. It has no code of its own, so that
+//! no other crate is proved a second time with its tests. It never looks at the inside of any of them.
+#![tactic(auto)]
+
+#[cfg(test)]
+mod faults;
+#[cfg(test)]
+mod slow;
+#[cfg(test)]
+mod sweeps;
+#[cfg(test)]
+mod texts;
+#[cfg(test)]
+mod workload;
