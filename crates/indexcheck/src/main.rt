@@ -1,20 +1,16 @@
 //! The program: words, files and standard streams of the process, handed to `run_tool`.
 //!
 //! What goes in: the process's words and files. What comes out: its two streams and its status.
-//! The contract: none of its own. `FileSource` and `StdSink` are the trusted edge: their logs say what the system's calls handed out and took.
-//! It stands on `ix_tool` and `ix_outside`, and never looks at what it hands on.
+//! The contract: none of its own. `FileSource` and `StdSink` of `ix_streams` are the trusted edge: their logs say what the system's calls handed out and took.
+//! It stands on `ix_tool` and `ix_streams`, and never looks at what it hands on.
 #![tactic(auto)]
 
-mod files;
-mod streams;
-
-use files::FileSource;
+use ix_streams::{FileSource, StdSink};
 use ix_tool::{Status, run_tool, wanting};
 use std::alloc::Global;
 use std::env;
 use std::io::ErrorKind;
 use std::process::ExitCode;
-use streams::StdSink;
 
 /// The words behind the program's name: none where memory is wanting, and no word at all where one of them, or the program's own name, isn't
 /// UTF-8, so that such words are no command.

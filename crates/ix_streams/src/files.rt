@@ -7,7 +7,7 @@ use std::io::{self, ErrorKind, Read};
 
 /// Files by their paths. It tells nothing of what they hold, and no name is sure: its log says what the system handed out.
 #[derive(Drop)]
-pub(crate) struct FileSource<'a> {
+pub struct FileSource<'a> {
     rt: &'a HostRuntime,
     opened: Option<File>,
     faults: u64,
@@ -15,7 +15,8 @@ pub(crate) struct FileSource<'a> {
 }
 
 impl<'a> FileSource<'a> {
-    pub(crate) fn new(rt: &'a HostRuntime) -> FileSource<'a>
+    /// No file is open, and nothing was read.
+    pub fn new(rt: &'a HostRuntime) -> FileSource<'a>
         ensures names { ⟦<FileSource<'a> as Source>⟧.names result ≡ [] }
         ensures given { ⟦<FileSource<'a> as Source>⟧.given result ≡ [] }
         ensures reads { ⟦<FileSource<'a> as Source>⟧.reads result ≡ 0 }

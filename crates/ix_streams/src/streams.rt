@@ -6,14 +6,15 @@ use std::io::{self, ErrorKind, Write};
 
 /// A stream of the process: its log says what the system took. A write that takes nothing counts as a fault.
 #[derive(Drop)]
-pub(crate) struct StdSink<W> {
+pub struct StdSink<W> {
     stream: W,
     faults: u64,
     log: SinkLog,
 }
 
 impl<W: Write> StdSink<W> {
-    pub(crate) fn new(stream: W) -> StdSink<W>
+    /// Nothing was written.
+    pub fn new(stream: W) -> StdSink<W>
         ensures taken { ⟦<StdSink<W> as Sink>⟧.taken result ≡ [] }
     {
         StdSink {
