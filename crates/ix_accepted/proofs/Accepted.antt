@@ -13,11 +13,11 @@ use Rattle.ix_facts.proofs.StoreLaws.{below_below}
 use Rattle.ix_flow.specs.Flow.{Point, Rules, RulesLaws, IsFlow, IsLeastFlow, Anything, Avoids}
 use Rattle.ix_given.specs.Given.{judging, IsDerivedAt}
 use Rattle.ix_given.proofs.GivenLabels.{all_judged}
-use Rattle.ix_method.specs.MethodRules.{method_rules}
-use Rattle.ix_method.proofs.ErrorsWeaker.{errors_weaker}
-use Rattle.ix_method.proofs.MethodLaws.{method_laws}
-use Rattle.ix_method_errors.specs.Ranked.{Ranked}
-use Rattle.ix_sound.specs.Errors.{NoErrors}
+use Rattle.ix_audit.specs.MethodRules.{method_rules}
+use Rattle.ix_audit.proofs.ErrorsWeaker.{errors_weaker}
+use Rattle.ix_audit.proofs.MethodLaws.{method_laws}
+use Rattle.ix_audit.specs.Ranked.{Ranked}
+use Rattle.ix_audit.specs.Errors.{NoErrors}
 use Rattle.ix_cert.specs.Labellings.{loops_of}
 use Rattle.ix_cert.specs.SameLabels.{SameForMethod, SameLabels}
 use Rattle.ix_cert.proofs.FormedLoops.{HasFormedLoops, formed_loops}

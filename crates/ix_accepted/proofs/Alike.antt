@@ -13,12 +13,12 @@ use Rattle.ix_facts.specs.Stores.{Stored, IsBelow, SayTheSame}
 use Rattle.ix_flow.specs.Flow.{Point, Rules, RulesLaws, IsFlow, Anything, Avoids}
 use Rattle.ix_given.specs.Given.{judging, numbered}
 use Rattle.ix_given.proofs.GivenLabels.{all_judged}
-use Rattle.ix_method.specs.MethodRules.{method_rules}
-use Rattle.ix_method.proofs.ErrorsWeaker.{errors_weaker}
-use Rattle.ix_method.proofs.MethodLaws.{method_laws}
-use Rattle.ix_method_errors.specs.Ranked.{Ranked}
-use Rattle.ix_listing.specs.ErrorList.{HasRank, IsErrorList}
-use Rattle.ix_listing.proofs.Lists.{one_list, none_derived}
+use Rattle.ix_audit.specs.MethodRules.{method_rules}
+use Rattle.ix_audit.proofs.ErrorsWeaker.{errors_weaker}
+use Rattle.ix_audit.proofs.MethodLaws.{method_laws}
+use Rattle.ix_audit.specs.Ranked.{Ranked}
+use Rattle.ix_audit.specs.ErrorList.{HasRank, IsErrorList}
+use Rattle.ix_audit.specs.Lists.{one_list, none_derived}
 use Rattle.ix_cert.specs.Labellings.{loops_of}
 use Rattle.ix_cert.specs.SameLabels.{SameStores, SameForMethod, SameLabels}
 use Rattle.ix_cert.proofs.FormedLoops.{HasFormedLoops, formed_loops}

@@ -6,9 +6,9 @@ use Rattle.ix_core.specs.declared.program.Program.{Program}
 use Rattle.ix_core.specs.Tables.{method_at, body_of}
 use Rattle.ix_facts.specs.Stores.{Stored}
 use Rattle.ix_flow.specs.Flow.{IsFlow, IsLeastFlow, IsDerived}
-use Rattle.ix_method.specs.MethodRules.{method_rules}
-use Rattle.ix_method.specs.RuleErrors.{TextErrors}
-use Rattle.ix_sound.specs.Errors.{NoErrors}
+use Rattle.ix_audit.specs.MethodRules.{method_rules}
+use Rattle.ix_audit.specs.RuleErrors.{TextErrors}
+use Rattle.ix_audit.specs.Errors.{NoErrors}
 use Rattle.ix_audit.specs.AtLabels.{Derives}
 use Rattle.ix_audit.specs.Audited.{NoneFails, IsErrorBelow}
 

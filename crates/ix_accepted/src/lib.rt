@@ -8,5 +8,6 @@
 
 mod laws;
 
-pub use ix_audit::{Audit, audit};
+pub use ix_audit::{Audit, Store, audit, soundness};
+pub use ix_cert::read;
 pub use laws::{labels_are_judged_alike, what_is_written_is_accepted};

@@ -2,16 +2,16 @@
 use Rattle.std.specs.Prelude.{◌≡◌, ℤ, pos, negsuc, ◌+ℤ◌, ◌-ℤ◌, int_le, List, [], ◌∷◌, ◌++◌, refl}
 use Rattle.std.specs.Int.{int_min, int_max}
 use Rattle.std.proofs.Common.{ap, ◌∙◌}
-use Rattle.ix_num.specs.Ints.{least_int, greatest_int}
-use Rattle.ix_core.specs.declared.claim.Type_.{Type_}
-use Rattle.ix_core.specs.declared.fact.Path.{Path}
-use Rattle.ix_core.specs.declared.fact.Path.TheVariants.{Slot}
-use Rattle.ix_core.specs.declared.fact.PathOff.TheVariants.{Nothing}
-use Rattle.ix_core.specs.declared.fact.Fact.{Fact}
-use Rattle.ix_core.specs.declared.fact.Fact.TheVariants.{Rng, LenRng, Low, Same, IsLen, Less, Sum, Search, Neg, Upper}
-use Rattle.ix_core.specs.declared.op.Literal.TheVariants as literal
-use Rattle.ix_core.specs.declared.op.OpKind.{OpKind}
-use Rattle.ix_core.specs.declared.op.OpKind.TheVariants as op
+use Rattle.ix_facts.specs.Ints.{least_int, greatest_int}
+use Rattle.ix_facts.specs.Type_.{Type_}
+use Rattle.ix_facts.specs.Path.{Path}
+use Rattle.ix_facts.specs.Path.TheVariants.{Slot}
+use Rattle.ix_facts.specs.PathOff.TheVariants.{Nothing}
+use Rattle.ix_facts.specs.Fact.{Fact}
+use Rattle.ix_facts.specs.Fact.TheVariants.{Rng, LenRng, Low, Same, IsLen, Less, Sum, Search, Neg, Upper}
+use Rattle.ix_facts.specs.Literal.TheVariants as literal
+use Rattle.ix_facts.specs.OpKind.{OpKind}
+use Rattle.ix_facts.specs.OpKind.TheVariants as op
 use Rattle.ix_facts.specs.Bounds
 use Rattle.ix_facts.specs.Bounds.{is_path, at_least, at_most, range_low_by, range_high_by, length_low_by}
 use Rattle.ix_facts.specs.Exact.{if_so, each, each_path, named_ints, named_arrays}
@@ -19,7 +19,7 @@ use Rattle.ix_facts.specs.AfterOperation.{is_int, is_array, holds_arrays}
 use Rattle.ix_facts.specs.After.{holds_ints, finished_by, finished}
 use Rattle.ix_facts.specs.Finish as rule
 use Rattle.ix_facts.specs.Named.{IsEachOnce}
-use Rattle.ix_index.specs.OnPaths.{HasNamed, each_on}
+use Rattle.ix_finish.specs.OnPaths.{HasNamed, each_on}
 use Rattle.ix_finish.specs.OverNamed as over
 use Rattle.ix_facts.specs.SameFacts.{AreSame}
 use Rattle.ix_facts.proofs.Members.{same_itself, same_equal, same_trans, same_app, same_if, same_each, same_once, each_equal}

@@ -7,9 +7,8 @@ ghost use Rattle.ix_facts.specs.AfterOperation.{copied};
 ghost use Rattle.ix_facts.specs.After.{kept_new, finished, finished_by};
 ghost use Rattle.ix_facts.specs.SameFacts.{AreSame};
 
-use ix_core::{Fact, OpKind, Path, Profile, Type_};
-use ix_finish::{push_finished, push_finished_by};
-use ix_index::Indexed;
+use ix_facts::{Fact, OpKind, Path, Profile, Type_};
+use ix_finish::{Indexed, push_finished, push_finished_by};
 use ix_rules::{push_copied, push_new_facts};
 use std::alloc::{AllocError, Global};
 

@@ -3,8 +3,8 @@ use Rattle.std.proofs.Common.{◌≡◌, ◌⊎◌, inl, inr, ◌↔◌, ℕ, ze
 use Rattle.std.proofs.lemmas.Bool.{cases_Bool, false≢true}
 use Rattle.ix_facts.specs.Stores.{Stored, Unreachable, IsBelow, IsRounded}
 use Rattle.ix_given.specs.Walk.{IsIn, Joins}
-use Rattle.ix_method.specs.Store.{Store}
-use Rattle.ix_method.specs.StoredFacts.{stored}
+use Rattle.ix_method_errors.specs.Store.{Store}
+use Rattle.ix_method_errors.specs.StoredFacts.{stored}
 use Rattle.ix_audit.specs.declared.walk.Walk.{Walk}
 use Rattle.ix_audit.specs.AtLabels.{label_of}
 use Rattle.ix_audit.specs.Walking.{IsWalk, labels_in, rules, one_unless, JudgesLoop}

@@ -10,3 +10,6 @@ mod Programs
 mod Results
 mod Stores
 mod TextItems
+-- Passed on from ix_method_errors.
+pub use Rattle.ix_method_errors.proofs.ErrorsWeaker
+pub use Rattle.ix_method_errors.proofs.MethodLaws

@@ -12,10 +12,10 @@ use Rattle.ix_flow.specs.Flow.{Point, Rules, RulesLaws}
 use Rattle.ix_given.specs.Given.{Fails, IsDerivedAt}
 use Rattle.ix_given.specs.Walk.{IsIn}
 use Rattle.ix_given.proofs.WalkExact.{failed_fails, fails_failed, listed_derived, derived_listed, clean_flow}
-use Rattle.ix_method.specs.MethodRules.{method_rules}
-use Rattle.ix_method.specs.RuleErrors.{OverridesBy, TextErrors}
-use Rattle.ix_method.proofs.ErrorsWeaker.{errors_weaker}
-use Rattle.ix_method.proofs.MethodLaws.{method_laws}
+use Rattle.ix_method_errors.specs.MethodRules.{method_rules}
+use Rattle.ix_method_errors.specs.RuleErrors.{OverridesBy, TextErrors}
+use Rattle.ix_method_errors.proofs.ErrorsWeaker.{errors_weaker}
+use Rattle.ix_method_errors.proofs.MethodLaws.{method_laws}
 use Rattle.ix_method_errors.specs.Ranked.{Ranked}
 use Rattle.ix_method_errors.specs.Exactly.{IsListed}
 use Rattle.ix_sound.specs.Errors.{NoErrors}

@@ -14,12 +14,12 @@ use Rattle.ix_facts.proofs.StoreLaws.{below_itself, store_above, store_least, jo
 use Rattle.ix_flow.specs.Flow.{Rules}
 use Rattle.ix_given.specs.Walk.{IsIn, IsLeast, Joins}
 use Rattle.ix_lattice.specs.Lattice.{IsJoin}
-use Rattle.ix_method.specs.MethodRules.{RoundedGives, method_rules}
-use Rattle.ix_method.specs.Signs as signs
-use Rattle.ix_method.specs.Signs.{Adds, entry_facts, told_facts}
-use Rattle.ix_method.specs.Store.{Store}
-use Rattle.ix_method.specs.StoredFacts.{stored}
-use Rattle.ix_method.specs.StoreOrder.{StoreBelow}
+use Rattle.ix_method_errors.specs.MethodRules.{RoundedGives, method_rules}
+use Rattle.ix_method_errors.specs.Signs as signs
+use Rattle.ix_method_errors.specs.Signs.{Adds, entry_facts, told_facts}
+use Rattle.ix_method_errors.specs.Store.{Store}
+use Rattle.ix_method_errors.specs.StoredFacts.{stored}
+use Rattle.ix_method_errors.specs.StoreOrder.{StoreBelow}
 use Rattle.ix_audit.proofs.OneLandmarks.{one_landmarks}
 
 module _ (program : Program) (method : Method) (profile : Profile) where

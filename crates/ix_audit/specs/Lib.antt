@@ -4,3 +4,13 @@ pub mod AtLabels
 pub mod Audited
 -- The walk over a body, as the code has it.
 pub mod Walking
+-- Passed on from ix_listing.
+pub use Rattle.ix_listing.specs.Ranked
+pub use Rattle.ix_listing.specs.ErrorList
+pub use Rattle.ix_listing.proofs.Lists
+-- Passed on from ix_sound.
+pub use Rattle.ix_sound.specs.Errors
+pub use Rattle.ix_sound.specs.Sound
+-- Passed on from ix_method_errors.
+pub use Rattle.ix_method_errors.specs.MethodRules
+pub use Rattle.ix_method_errors.specs.RuleErrors

@@ -13,10 +13,10 @@ use Rattle.ix_facts.specs.MethodLandmarks.{AreLandmarksOf}
 use Rattle.ix_facts.specs.Stores.{Stored, Unreachable}
 use Rattle.ix_flow.specs.Flow.{Point, Rules}
 use Rattle.ix_given.specs.Walk.{Notes, IsIn, Joins, Adds, Judges, Walks, Splits, WalksBody}
-use Rattle.ix_method.specs.MethodRules.{method_rules}
-use Rattle.ix_method.specs.Naming.{HasSmallNames, HaveSmallNames}
-use Rattle.ix_method.specs.RuleErrors.{OpText, TestEscapes, Somewhere, SomewhereAsked}
-use Rattle.ix_method.specs.StoredFacts.{stored}
+use Rattle.ix_method_errors.specs.MethodRules.{method_rules}
+use Rattle.ix_method_errors.specs.Naming.{HasSmallNames, HaveSmallNames}
+use Rattle.ix_method_errors.specs.RuleErrors.{OpText, TestEscapes, Somewhere, SomewhereAsked}
+use Rattle.ix_method_errors.specs.StoredFacts.{stored}
 use Rattle.ix_method_errors.specs.Ranked.{Ranked}
 use Rattle.ix_method_errors.specs.Exactly.{IsListed}
 use Rattle.ix_audit.specs.declared.walk.Found.{Found}

@@ -1,14 +1,14 @@
 //! The audit of a whole program.
 
 ghost use Rattle.std.specs.Prelude.{◌≡◌, ◌+◌, [], map, slice_get, unwrap_or, IfOk};
-ghost use Rattle.ix_method.specs.StoredFacts.{stored};
+ghost use Rattle.ix_method_errors.specs.StoredFacts.{stored};
 ghost use Rattle.ix_audit.specs.Audited as spec;
 
 use crate::answer::Audit;
 use crate::method::audit_method;
 use ix_core::{List, Profile, Program};
 use ix_listing::list_errors;
-use ix_method::Store;
+use ix_method_errors::Store;
 use ix_method_errors::signs::Ranked;
 use std::alloc::{AllocError, Global};
 

@@ -15,4 +15,5 @@ mod walk;
 
 pub use answer::Audit;
 pub use audited::audit;
-pub use ix_method::Store;
+pub use ix_method_errors::Store;
+pub use ix_sound::soundness;

@@ -4,9 +4,9 @@ ghost use Rattle.std.specs.Prelude.{◌≡◌, ◌<◌, [], length, IfOk, IfNone
 ghost use Rattle.std.specs.Option.{ForSome};
 ghost use Rattle.ix_core.specs.declared.error.Error.{Error};
 ghost use Rattle.ix_core.specs.Tables.{method_at};
-ghost use Rattle.ix_method.specs.Naming.{HasSmallNames, HaveSmallNames};
-ghost use Rattle.ix_method.specs.RuleErrors.{OverridesBy};
-ghost use Rattle.ix_method.specs.StoredFacts.{stored};
+ghost use Rattle.ix_method_errors.specs.Naming.{HasSmallNames, HaveSmallNames};
+ghost use Rattle.ix_method_errors.specs.RuleErrors.{OverridesBy};
+ghost use Rattle.ix_method_errors.specs.StoredFacts.{stored};
 ghost use Rattle.ix_sound.specs.Sound.{HasNoErrors};
 ghost use Rattle.ix_audit.specs.AtLabels as at;
 ghost use Rattle.ix_audit.specs.Walking as spec;
@@ -15,7 +15,7 @@ use crate::texts::push_of_block;
 use crate::walk::{Findings, Walk};
 use ix_core::{Method, Profile, Program};
 use ix_landmarks::landmarks;
-use ix_method::Store;
+use ix_method_errors::Store;
 use ix_method_errors::signs::{Ranked, push_override_errors};
 use std::alloc::{AllocError, Global};
 

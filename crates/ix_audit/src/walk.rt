@@ -6,7 +6,7 @@ ghost use Rattle.ix_flow.specs.Flow.{Doing, Returning, Ending};
 ghost use Rattle.ix_core.specs.Tables.{body_of};
 ghost use Rattle.ix_given.specs.Walk.{IsLeast, Joins, WalksBody};
 ghost use Rattle.ix_method_errors.specs.Exactly.{IsListed};
-ghost use Rattle.ix_method.specs.StoredFacts.{stored};
+ghost use Rattle.ix_method_errors.specs.StoredFacts.{stored};
 ghost use Rattle.ix_audit.specs.AtLabels.{label_of};
 ghost use Rattle.ix_audit.specs.Walking as spec;
 
@@ -14,12 +14,10 @@ use crate::done::{last_op, op_of, written_answer};
 use ix_core::{Block, Cond, Item, Method, Op, Profile, Program};
 use ix_facts::Landmarks;
 use ix_lattice::Lattice;
-use ix_method::signs::{enter, tell};
-use ix_method::{Store, after};
-use ix_method_errors::push_op_errors;
 use ix_method_errors::signs::{
     Ranked, push_constructor_errors, push_missing_return, push_post_errors, push_return_errors,
 };
+use ix_method_errors::{Store, after, enter, push_op_errors, tell};
 use ix_refine::branch_test;
 use ix_text::Span;
 use std::alloc::{AllocError, Global};

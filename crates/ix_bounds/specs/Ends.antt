@@ -1,7 +1,7 @@
 -- Ranges and classes: the facts that alone give the ends of an int's or a length's range.
 use Rattle.std.specs.Prelude.{Bool, true, false, List, filter}
-use Rattle.ix_core.specs.declared.fact.Fact.{Fact}
-use Rattle.ix_core.specs.declared.fact.Fact.TheVariants.{Rng, LenRng, Low}
+use Rattle.ix_index.specs.Fact.{Fact}
+use Rattle.ix_index.specs.Fact.TheVariants.{Rng, LenRng, Low}
 
 -- The fact is a range, or the class of an int.
 abbrev pub is_end : Fact → Bool

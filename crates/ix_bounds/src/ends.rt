@@ -6,8 +6,7 @@ ghost use Rattle.ix_index.specs.Small.{IsEnd, HasSmallNumbers};
 
 use crate::groups::Groups;
 use crate::numbers::{at_least, at_most};
-use ix_core::{Fact, Path};
-use ix_index::is_same_path;
+use ix_index::{Fact, Path, is_same_path};
 
 /// The least int.
 const LEAST: i64 = -2147483648;

@@ -1,8 +1,8 @@
 //! Facts by the paths that they name.
 
 ghost use Rattle.std.specs.Prelude.{◌≡◌, All, List, filter};
-ghost use Rattle.ix_core.specs.declared.fact.Path.{Path};
-ghost use Rattle.ix_core.specs.declared.fact.Fact.{Fact};
+ghost use Rattle.ix_index.specs.Path.{Path};
+ghost use Rattle.ix_index.specs.Fact.{Fact};
 ghost use Rattle.ix_index.specs.Bounds.{is_path};
 ghost use Rattle.ix_index.specs.Facts.{IsIn};
 ghost use Rattle.ix_index.specs.Forget.{names};
@@ -10,7 +10,7 @@ ghost use Rattle.ix_index.specs.Small.{HasSmallNumbers};
 ghost use Rattle.ix_bounds.specs.Ends.{ends_in};
 ghost use Rattle.ix_bounds.specs.Links.{links_in};
 
-use ix_core::{Fact, Path};
+use ix_index::{Fact, Path};
 
 /// Facts in all their orders, with those on each path at hand. No call takes memory.
 pub trait Groups {

@@ -18,7 +18,7 @@ mod upper;
 
 pub use ends::{length_high, length_low, range_high, range_low};
 pub use groups::Groups;
-pub use ix_index::Indexed;
+pub use ix_index::{Indexed, Know, Path, PathClaim, PathOff};
 pub use limits::{lower_bound, upper_limit};
 pub use numbers::{past, short_of, within};
 pub use said::{has_length, has_negative, has_search, stored_same};

@@ -2,16 +2,15 @@
 
 ghost use Rattle.std.specs.Prelude.{◌≡◌, IfSome, pos, ◌-ℤ◌};
 ghost use Rattle.std.specs.Option.{option_map};
-ghost use Rattle.ix_num.specs.Ints.{IsInt};
-ghost use Rattle.ix_core.specs.declared.fact.PathOff.TheVariants.{Nothing};
+ghost use Rattle.ix_index.specs.Ints.{IsInt};
+ghost use Rattle.ix_index.specs.PathOff.TheVariants.{Nothing};
 ghost use Rattle.ix_index.specs.Bounds as spec;
 ghost use Rattle.ix_index.specs.Small.{IsEnd};
 
 use crate::groups::Groups;
 use crate::numbers::negated;
 use crate::said::are_same;
-use ix_core::{Fact, Path, PathOff};
-use ix_index::{greater, is_same_offset, is_same_path, lesser};
+use ix_index::{Fact, Path, PathOff, greater, is_same_offset, is_same_path, lesser};
 
 fn stored_upper_by<G: Groups>(
     facts: &G,

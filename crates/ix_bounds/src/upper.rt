@@ -12,8 +12,7 @@ use crate::numbers::{apart, at_most};
 use crate::said::are_same;
 use crate::shifted::shifted_upper;
 use crate::stored::{stored_less, stored_upper};
-use ix_core::{Fact, Path, PathOff};
-use ix_index::{greater, is_same_path};
+use ix_index::{Fact, Path, PathOff, greater, is_same_path};
 
 /// A bound at an offset as one without, and the bound of a sum as one of its parts.
 fn upper_by<G: Groups>(facts: &G, p: &Path, a: &Path, offset: &PathOff, fact: &Fact) -> Option<i64>

@@ -8,3 +8,7 @@ pub mod Adding
 pub mod Reading
 -- Labels that say the same.
 pub mod SameLabels
+-- Passed on from ix_store.
+pub use Rattle.ix_store.specs.declared.store.Store
+pub use Rattle.ix_store.specs.StoredFacts
+pub use Rattle.ix_store.specs.WholeStores

@@ -18,6 +18,7 @@ mod reading;
 mod stop;
 mod words;
 
+pub use ix_store::Store;
 pub use laws::{formed_paths_are_small, labels_have_one_text, texts_have_one_meaning};
 pub use line::add_fact;
 pub use printing::print;

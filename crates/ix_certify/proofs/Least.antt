@@ -9,15 +9,15 @@ use Rattle.ix_core.specs.Formed.{Formed}
 use Rattle.ix_core.specs.Tables.{method_at, body_of}
 use Rattle.ix_facts.specs.Stores.{Stored}
 use Rattle.ix_flow.specs.Flow.{IsLeastFlow}
-use Rattle.ix_method.specs.MethodRules.{method_rules}
-use Rattle.ix_store.specs.declared.store.Store.{Store}
-use Rattle.ix_store.specs.StoredFacts.{stored}
-use Rattle.ix_cert.specs.Labellings.{loops_of}
+use Rattle.ix_check.specs.MethodRules.{method_rules}
+use Rattle.ix_least.specs.Store.{Store}
+use Rattle.ix_least.specs.StoredFacts.{stored}
+use Rattle.ix_least.specs.Labellings.{loops_of}
 use Rattle.ix_check.specs.LoopLabels.{AreLoopLabels}
 use Rattle.ix_check.specs.MethodErrors.{IsError}
 use Rattle.ix_verify.specs.Flawless.{IsLeastFlawless, AreLeastFlawless}
 use Rattle.ix_verify.proofs.Accepted.{least_accepted}
-use Rattle.ix_listing.specs.ErrorList.{IsErrorList}
+use Rattle.ix_check.specs.ErrorList.{IsErrorList}
 use Rattle.ix_verify.specs.declared.answer.CertError.{CertError}
 use Rattle.ix_verify.specs.declared.answer.CertError.TheVariants.{Memory}
 use Rattle.ix_verify.specs.Verdicts.{CanVerify, IsRefused}

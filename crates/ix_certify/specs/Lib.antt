@@ -4,3 +4,5 @@ pub mod Certificates
 pub use Rattle.ix_verify.specs.Verdicts
 pub use Rattle.ix_verify.specs.declared.answer.CertError
 pub use Rattle.ix_verify.specs.declared.answer.Verified
+-- Passed on from ix_check.
+pub use Rattle.ix_check.specs.ErrorList

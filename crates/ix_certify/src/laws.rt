@@ -5,7 +5,7 @@ ghost use Rattle.ix_core.specs.Formed.{Formed};
 ghost use Rattle.ix_check.specs.Judged.{CanCheck};
 ghost use Rattle.ix_verify.specs.Verdicts.{CanVerify};
 
-use ix_ready::{names_are_small, overridden_is_there};
+use ix_check::{names_are_small, overridden_is_there};
 
 /// A formed program that can be checked can be verified by a certificate.
 pub fn can_verify()

@@ -6,5 +6,10 @@ pub mod Judged
 pub use Rattle.ix_code_places.specs.CodePlaces
 -- What is passed on of the errors.
 pub use Rattle.ix_signatures.specs.MethodErrors
+pub use Rattle.ix_signatures.specs.MethodRules
 -- What is passed on of the labels.
 pub use Rattle.ix_loop_labels.specs.LoopLabels
+-- Passed on from ix_listing.
+pub use Rattle.ix_listing.specs.ErrorList
+pub use Rattle.ix_listing.specs.Ranked
+pub use Rattle.ix_listing.specs.Exactly

@@ -14,6 +14,9 @@ mod whole;
 
 pub use alone::method_errors;
 pub use counts::{Counts, count_program};
+pub use ix_listing::list_errors;
 pub use ix_loop_labels::Store;
+pub use ix_ready::{names_are_small, overridden_is_there};
+pub use ix_signatures::{Ranked, method_errors as ranked_errors};
 pub use loops::{labels, method_labels};
 pub use whole::{check, check_program};

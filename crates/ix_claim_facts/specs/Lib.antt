@@ -8,3 +8,6 @@ pub mod Signs
 pub mod SignErrors
 -- What the rules owe.
 pub mod SignLaws
+-- Passed on from ix_steps.
+pub use Rattle.ix_steps.specs.MachineSteps
+pub use Rattle.ix_steps.specs.FieldAccess

@@ -2,7 +2,7 @@
 -- declaration, by which errors of one place, rule and subject are ordered. A claim that isn't proved is an error (Checker Framework manual, "How the
 -- checker framework works": an assignment, an argument, a result whose annotation isn't met).
 use Rattle.std.specs.Prelude.{◌≡◌, ◌⊎◌, ℕ, Bool, true, false, not, ◌&&◌, ◌||◌, ◌==◌, List, slice_get, unwrap_or, Option, None, Some, ◌++◌}
-use Rattle.ix_text.specs.declared.span.Span.{Span}
+use Rattle.ix_core.specs.Span.{Span}
 use Rattle.ix_core.specs.declared.claim.Claim.{Claim}
 use Rattle.ix_core.specs.declared.claim.Name.{Name}
 use Rattle.ix_core.specs.declared.claim.Name.TheVariants as name

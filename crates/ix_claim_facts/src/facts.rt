@@ -13,9 +13,8 @@ ghost use Rattle.ix_claim_facts.specs.Signs.{claims_facts, params_facts, receive
 use crate::naming::Naming;
 use crate::paths::param_slot;
 use ix_core::{Claim, Fact, Local, Method, Path, Program, Type_};
-use ix_exact::push_if;
 use ix_facts::{is_array, is_int};
-use ix_rules::push_claim;
+use ix_rules::{push_claim, push_if};
 use std::alloc::AllocError;
 
 /// What claims of a path add. The only error is want of memory.

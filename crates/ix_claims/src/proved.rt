@@ -1,14 +1,13 @@
 //! Which claims what is known proves.
 
 ghost use Rattle.std.specs.Prelude.{◌≡◌, ◌||◌, int_le, []};
-ghost use Rattle.ix_facts.specs.Bounds as spec;
-ghost use Rattle.ix_facts.specs.Facts.{in_orders};
-ghost use Rattle.ix_facts.specs.AfterOperation as after;
-ghost use Rattle.ix_facts.specs.Assume as claims;
-ghost use Rattle.ix_facts.specs.Assume.{has};
+ghost use Rattle.ix_bounds.specs.Bounds as spec;
+ghost use Rattle.ix_bounds.specs.Facts.{in_orders};
+ghost use Rattle.ix_bounds.specs.AfterOperation as after;
+ghost use Rattle.ix_bounds.specs.Assume as claims;
+ghost use Rattle.ix_bounds.specs.Assume.{has};
 
-use ix_core::{Path, PathClaim, PathOff};
-use ix_facts::Know;
+use ix_bounds::{Know, Path, PathClaim, PathOff};
 
 fn reaches(number: Option<i64>, n: i64) -> bool
     ensures { result ≡ after.reaches [] number n }

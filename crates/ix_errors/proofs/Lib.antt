@@ -8,3 +8,5 @@ mod FlowPlaces
 mod PointPlaces
 mod TextPlaces
 pub mod ErrorPlaces
+-- Passed on from ix_method_errors.
+pub use Rattle.ix_method_errors.proofs.Refused

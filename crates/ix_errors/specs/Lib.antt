@@ -6,3 +6,12 @@ pub mod MethodErrors
 pub mod Visits
 -- Passed on from ix_sound.
 pub use Rattle.ix_sound.specs.Sound
+-- Passed on from ix_method_errors.
+pub use Rattle.ix_method_errors.specs.Ranked
+pub use Rattle.ix_method_errors.specs.Names
+pub use Rattle.ix_method_errors.specs.Signs
+pub use Rattle.ix_method_errors.specs.Exactly
+-- Passed on from ix_labels.
+pub use Rattle.ix_labels.specs.MethodRules
+pub use Rattle.ix_labels.specs.RuleErrors
+pub use Rattle.ix_labels.specs.SignErrors

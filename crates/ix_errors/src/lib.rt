@@ -10,5 +10,6 @@ mod method;
 mod nodes;
 mod program;
 
+pub use ix_method_errors::signs::Ranked;
 pub use ix_sound::soundness;
 pub use program::{method_errors, program_errors};

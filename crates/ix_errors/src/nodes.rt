@@ -86,7 +86,7 @@ fn push_of_node(
     push_of_text(out, program, within, kind)
 }
 
-/// Those of all nodes, each by its label, which is made by that of the node before it where it is not kept.
+/// Those of all nodes, each by its label, which is made by that of the node before it in turn where it is not kept.
 pub(crate) fn push_of_nodes(
     alloc: Global,
     out: &mut Vec<Ranked>,
@@ -101,7 +101,8 @@ pub(crate) fn push_of_nodes(
 {
     let nodes = labels.nodes();
     let mut label = Store::unreachable();
-    for at in 0..nodes.len() {
+    for turn in 0..nodes.len() {
+        let at = labels.node_in_turn(turn);
         label = labels.label(alloc, at, &label)?;
         push_of_node(alloc, out, program, within, number, &nodes[at].kind, &label)?;
     }

@@ -2,3 +2,6 @@ mod KnownFacts
 mod SmallFacts
 mod PartsTaken
 mod NearRaised
+-- Passed on from ix_bounds.
+pub use Rattle.ix_bounds.proofs.BoundSteps
+mod EndsOfPart

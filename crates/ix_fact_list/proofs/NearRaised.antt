@@ -1,5 +1,5 @@
 -- Numbers of near paths, raised and lowered fact by fact.
-use Rattle.std.specs.Prelude.{◌≡◌, ◌≢◌, ◌<◌, ℕ, ◌+◌, ℤ, ◌+ℤ◌, ◌-ℤ◌, pos, true, false, nat_eq, get_or, length, drop, slice_set, slice_index_or, All, IfSome, Option, Some, None, List, [], ◌∷◌, refl}
+use Rattle.std.specs.Prelude.{◌≡◌, ◌≢◌, ◌<◌, ℕ, ◌+◌, ℤ, ◌+ℤ◌, ◌-ℤ◌, pos, true, false, nat_eq, get_or, length, drop, slice_set, slice_index_or, filter, All, IfSome, Option, Some, None, List, [], ◌∷◌, refl}
 use Rattle.std.specs.Int.{int_min, int_max}
 use Rattle.std.proofs.Common.{add-one, arith, ap, sym, subst, ◌∙◌}
 use Rattle.std.proofs.Math.Seq.{drop-cons}
@@ -14,12 +14,17 @@ use Rattle.ix_core.specs.declared.fact.Fact.{Fact}
 use Rattle.ix_core.specs.declared.fact.Fact.TheVariants.{Rng, LenRng, Low, Same, IsLen, Less, Sum, Search, Neg, Upper}
 use Rattle.ix_core.proofs.Cases.{by_test}
 use Rattle.ix_facts.specs.Bounds.{is_path, when, best, best_of, greatest, least, at_least, at_most, range_low_by, range_high_by, length_low_by, length_high_by, range_low, range_high, length_low, length_high, lower_by, lower_bound, limit_by, upper_limit}
+use Rattle.ix_facts.specs.Forget.{names}
 use Rattle.ix_facts.specs.PathOrder.{path_same}
 use Rattle.ix_facts.specs.Small.{HasSmallNumbers, IsClass, IsEnd, IsLimit, IsBound}
+use Rattle.ix_bounds.specs.Ends.{is_end, ends_in}
 use Rattle.ix_bounds.proofs.BestOfParts.{joined, least_joined, low_joined, high_joined}
+use Rattle.ix_bounds.proofs.PartsAlone.{length_low_of, length_high_of, range_low_of, range_high_of}
 use Rattle.ix_path_index.specs.ByPath.{is_near, near_place}
 use Rattle.ix_path_index.proofs.NearPlaces.{number_itself, number_same, place_tells}
-use Rattle.ix_fact_list.specs.NearNumbers.{number_at, Raises, Lowers, AreLimits, low_by, high_by}
+use Rattle.ix_fact_list.specs.declared.limits.NearEnds.{NearEnds}
+use Rattle.ix_fact_list.specs.GroupLaws.{filtered_once}
+use Rattle.ix_fact_list.specs.NearNumbers.{number_at, Raises, Lowers, AreLimits, HasEnds, low_by, high_by}
 
 -- ---- one number
 
@@ -109,14 +114,17 @@ next_falls by of old new d fact rest more now p near =
 
 -- ---- no fact yet
 
-pub rising_at_first : (by : Path → Fact → Option ℤ) (of : Path → ℤ) (numbers : List ℤ) (d : ℤ) (facts : List Fact) → numbers ≡ [] → ((p : Path) → at_least d (greatest (by p) facts) ≡ of p) → Rising by of numbers d facts
-rising_at_first by of numbers d facts none all = subst (λ l. Rising by of l d facts) (sym none) (λ p near. all p)
+abbrev pub AreNone : List ℤ → ℤ → Type 0
+AreNone numbers d = (at : ℕ) → get_or numbers at d ≡ d
 
-pub falling_at_first : (by : Path → Fact → Option ℤ) (of : Path → ℤ) (numbers : List ℤ) (d : ℤ) (facts : List Fact) → numbers ≡ [] → ((p : Path) → at_most d (least (by p) facts) ≡ of p) → Falling by of numbers d facts
-falling_at_first by of numbers d facts none all = subst (λ l. Falling by of l d facts) (sym none) (λ p near. all p)
+pub rising_at_first : (by : Path → Fact → Option ℤ) (of : Path → ℤ) (numbers : List ℤ) (d : ℤ) (facts : List Fact) → AreNone numbers d → ((p : Path) → at_least d (greatest (by p) facts) ≡ of p) → Rising by of numbers d facts
+rising_at_first by of numbers d facts none all p near = ap (λ x. at_least x (greatest (by p) facts)) (none (near_place p)) ∙ all p
 
-pub small_at_first : (numbers : List ℤ) (d : ℤ) → numbers ≡ [] → IsLimit d → AreLimits numbers d
-small_at_first numbers d none small = subst (λ l. AreLimits l d) (sym none) (λ at. small)
+pub falling_at_first : (by : Path → Fact → Option ℤ) (of : Path → ℤ) (numbers : List ℤ) (d : ℤ) (facts : List Fact) → AreNone numbers d → ((p : Path) → at_most d (least (by p) facts) ≡ of p) → Falling by of numbers d facts
+falling_at_first by of numbers d facts none all p near = ap (λ x. at_most x (least (by p) facts)) (none (near_place p)) ∙ all p
+
+pub small_at_first : (numbers : List ℤ) (d : ℤ) → AreNone numbers d → IsLimit d → AreLimits numbers d
+small_at_first numbers d none small at = subst IsLimit (sym (none at)) small
 
 -- ---- one fact further
 
@@ -223,6 +231,21 @@ module _ (facts : List Fact) (fact : Fact) where
 
   pub high_of_length : (r a : Path) (n : ℤ) → fact ≡ IsLen r a → n ≡ length_high facts a → (p : Path) → when (is_path r p) (Some n) ≡ high_by facts p fact
   high_of_length r a n e m p = subst (λ f. when (is_path r p) (Some n) ≡ high_by facts p f) (sym e) (ap (λ x. when (is_path r p) (Some x)) m)
+
+-- ---- a difference raises the one int and lowers the other
+
+module _ (facts : List Fact) (fact : Fact) (q r : Path) (c : ℤ) (is : fact ≡ Less q r c) (m : ℤ) (same : m ≡ c) (small great : ℕ) (of_q : is_near q ≡ true) (of_r : is_near r ≡ true) (at_q : small ≡ near_place q) (at_r : great ≡ near_place r) (old new : List ℤ) (numbers : List ℤ) (d : ℤ) where
+  pub less_raised : get_or numbers small d ≡ range_low facts q → ((at : ℕ) → get_or new at d ≡ at_least (get_or old at d) (when (nat_eq great at) (Some (get_or numbers small d -ℤ m +ℤ pos 1)))) → Raises old new d (λ p. low_by facts p fact)
+  less_raised low put =
+      let n = get_or numbers small d -ℤ m +ℤ pos 1 in
+      raised_as old new d (λ p. when (is_path r p) (Some n)) (λ p. low_by facts p fact) (low_of_less facts fact q r c n is (ap (λ x. x -ℤ m +ℤ pos 1) low ∙ ap (λ k. range_low facts q -ℤ k +ℤ pos 1) same))
+      (raised old new d r n of_r (λ at. put at ∙ ap (λ k. at_least (get_or old at d) (when (nat_eq k at) (Some n))) at_r))
+
+  pub less_lowered : get_or numbers great d ≡ range_high facts r → ((at : ℕ) → get_or new at d ≡ at_most (get_or old at d) (when (nat_eq small at) (Some (get_or numbers great d +ℤ m -ℤ pos 1)))) → Lowers old new d (λ p. high_by facts p fact)
+  less_lowered high put =
+      let n = get_or numbers great d +ℤ m -ℤ pos 1 in
+      lowered_as old new d (λ p. when (is_path q p) (Some n)) (λ p. high_by facts p fact) (high_of_less facts fact q r c n is (ap (λ x. x +ℤ m -ℤ pos 1) high ∙ ap (λ k. range_high facts r +ℤ k -ℤ pos 1) same))
+      (lowered old new d q n of_q (λ at. put at ∙ ap (λ k. at_most (get_or old at d) (when (nat_eq k at) (Some n))) at_q))
 
 -- ---- the ends of ranges are small
 
@@ -334,3 +357,16 @@ module _ (facts : List Fact) (p : Path) (s : All HasSmallNumbers facts) where
 
   pub length_high_small : IsEnd (length_high facts p)
   length_high_small = high_end greatest_int (least (length_high_by p) facts) greatest_small (best_small int_min min_end (length_high_by p) (length_high_each p) facts s)
+
+-- ---- the ends of ranges by ranges and classes alone
+
+-- Ends by the ranges and classes among facts are those by all of them.
+pub ends_alone : (facts : List Fact) (ends : NearEnds) → HasEnds (ends_in facts) ends → HasEnds facts ends
+ends_alone facts ends has =
+    let named : (p : Path) → filter (names (is_path p)) (ends_in (ends_in facts)) ≡ filter (names (is_path p)) (ends_in facts) = λ p. ap (filter (names (is_path p))) (filtered_once is_end facts) in
+    record {
+      lows = λ p near. has.lows p near ∙ range_low_of (ends_in facts) facts p (named p);
+      highs = λ p near. has.highs p near ∙ range_high_of (ends_in facts) facts p (named p);
+      length_lows = λ p near. has.length_lows p near ∙ length_low_of (ends_in facts) facts p (named p);
+      length_highs = λ p near. has.length_highs p near ∙ length_high_of (ends_in facts) facts p (named p);
+    }

@@ -19,7 +19,7 @@ filtered_twice is other (fact ∷ facts) =
     (λ t. rw t (by_test (other fact) (λ u. rw u (rw t (ap (λ l. fact ∷ l) (filtered_twice is other facts)))) (λ u. rw u (filtered_twice is other facts))))
     (λ t. rw t (filtered_twice is other facts))
 
-filtered_once : (is : Fact → Bool) (facts : List Fact) → filter is (filter is facts) ≡ filter is facts
+pub filtered_once : (is : Fact → Bool) (facts : List Fact) → filter is (filter is facts) ≡ filter is facts
 filtered_once is [] = refl
 filtered_once is (fact ∷ facts) = by_test (is fact) (λ t. rw t (rw t (ap (λ l. fact ∷ l) (filtered_once is facts)))) (λ t. rw t (filtered_once is facts))
 

@@ -1,6 +1,6 @@
 //! Ranges and classes among facts; where they stand, and where differences and lengths do.
 
-ghost use Rattle.std.specs.Prelude.{◌≡◌, ◌≤◌, true, false, IfOk, length, take, drop};
+ghost use Rattle.std.specs.Prelude.{◌≡◌, ◌≤◌, true, false, IfOk, IfSome, slice_get, length, take, drop};
 ghost use Rattle.ix_bounds.specs.Ends.{is_end, ends_in};
 ghost use Rattle.ix_bounds.specs.Links.{is_link, links_in};
 
@@ -67,6 +67,7 @@ pub fn up_to_ends(facts: &[Fact]) -> usize
 pub fn before_links(facts: &[Fact]) -> usize
     ensures within { result ≤ length facts.now }
     ensures links { links_in (drop result facts.now) ≡ links_in facts.now }
+    ensures first { IfSome (slice_get facts.now result) (λ fact. is_link fact ≡ true) }
 {
     let mut seen = 0;
     for fact in facts {

@@ -8,12 +8,12 @@ ghost use Rattle.ix_facts.specs.Small.{HasSmallNumbers};
 ghost use Rattle.ix_path_index.specs.ByPath.{put_all};
 ghost use Rattle.ix_fact_list.specs.NearNumbers.{HasLimits};
 
-use crate::limits::Limits;
+use crate::limits::{Limits, room_of};
 use crate::row::Row;
 use ix_bounds::{self, Groups, Indexed};
 use ix_core::{Fact, Path, PathOff};
 use ix_facts::Know;
-use ix_path_index::ints_and_arrays;
+use ix_path_index::{in_all_orders, ints_and_arrays};
 use std::alloc::{AllocError, Global};
 use std::marker::Model;
 
@@ -43,13 +43,16 @@ impl Model for FactRow {
 impl FactRow {
     /// The facts, where the ends of ranges lie between -2^36 and 2^36, and what an int is at least is -1, 0 or 1; or want of memory. It takes time linear in
     /// their number.
+    #[tactic(auto, using(ix_bounds::proofs::BoundSteps::in_orders_small))]
     pub fn new(alloc: Global, facts: Vec<Fact>) -> Result<Self, AllocError>
         requires small { All HasSmallNumbers facts.items }
         ensures facts { IfOk result (λ row. row ≡ facts.items) }
     {
-        let row = Row::of(alloc, &facts)?;
-        let (ints, arrays) = ints_and_arrays(alloc, row.facts())?;
-        let limits = Limits::of(alloc, &row, row.facts())?;
+        let ordered = in_all_orders(alloc, &facts)?;
+        let (ints, arrays) = ints_and_arrays(alloc, &ordered)?;
+        let room = room_of(&ints);
+        let row = Row::of(alloc, ordered, room, room_of(&arrays))?;
+        let limits = Limits::of(alloc, &row, row.near(), row.facts(), room)?;
         Ok(FactRow {
             facts,
             row,

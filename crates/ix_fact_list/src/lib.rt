@@ -15,4 +15,6 @@ mod row;
 pub use ends::{before_links, up_to_ends};
 pub use fact_list::FactList;
 pub use fact_row::FactRow;
+pub use ix_bounds as bounds;
 pub use ix_path_index::{in_all_orders, ints_and_arrays};
+pub use limits::Limits;

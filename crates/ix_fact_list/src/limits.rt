@@ -1,10 +1,12 @@
 //! What each near int is at least and at most, by two passes over facts.
 
-ghost use Rattle.std.specs.Prelude.{◌≡◌, ◌<◌, ℕ, pos, true, All, Some, get_or, length, nat_eq, IfOk, OnOk, IfSome};
+ghost use Rattle.std.specs.Prelude.{◌≡◌, ◌<◌, ◌≤◌, ◌+ℤ◌, ◌-ℤ◌, ℕ, pos, true, All, Some, get_or, length, nat_eq, IfOk, OnOk, IfSome};
+ghost use Rattle.ix_core.specs.declared.fact.Fact.TheVariants.{Less};
 ghost use Rattle.ix_core.specs.Ints.{least_int, greatest_int};
 ghost use Rattle.ix_facts.specs.Bounds as spec;
 ghost use Rattle.ix_facts.specs.Bounds.{at_least, at_most, is_path, when};
 ghost use Rattle.ix_facts.specs.Small.{HasSmallNumbers, IsEnd, IsLimit};
+ghost use Rattle.ix_bounds.specs.Ends.{ends_in};
 ghost use Rattle.ix_path_index.specs.ByPath.{is_near};
 ghost use Rattle.ix_fact_list.specs.NearNumbers.{number_at, told, Raises, Lowers, AreLimits, low_by, high_by, HasEnds, HasLimits};
 
@@ -19,7 +21,30 @@ const LEAST: i64 = -2147483648;
 /// The greatest int.
 const GREATEST: i64 = 2147483647;
 
+/// How many places there are up to this path's, where it is a near one, and at least so many. It is for speed alone.
+fn room_with(p: &Path, room: usize) -> usize
+    requires near { room ≤ 2048 }
+    ensures near { result ≤ 2048 }
+{
+    match near_place(p) {
+        Some(place) => room.max(place + 1),
+        None => room,
+    }
+}
+
+/// How many places there are up to that of the last near path. It is for speed alone.
+pub(crate) fn room_of(paths: &[Path]) -> usize
+    ensures near { result ≤ 2048 }
+{
+    let mut room = 0;
+    for p in paths {
+        room = room_with(p, room);
+    }
+    room
+}
+
 /// Makes room for the place.
+#[inline(never)]
 fn reach(numbers: &mut Vec<i64>, default: i64, place: usize) -> Result<(), AllocError>
     requires near { place < 2048 }
     ensures reached { OnOk result (place < length numbers.new.items) }
@@ -40,7 +65,26 @@ fn number_in(numbers: &[i64], default: i64, place: usize) -> i64
     }
 }
 
-fn raise_at(numbers: &mut Vec<i64>, default: i64, place: usize, low: i64) -> Result<(), AllocError>
+/// No number yet, with room for so many.
+fn no_numbers(alloc: Global, default: i64, room: usize) -> Result<Vec<i64>, AllocError>
+    requires near { room ≤ 2048 }
+    ensures { IfOk result (λ numbers. (at : ℕ) → get_or numbers.items at default ≡ default) }
+{
+    let mut numbers = Vec::new(alloc);
+    if room > 0 {
+        reach(&mut numbers, default, room - 1)?;
+    }
+    Ok(numbers)
+}
+
+/// Raises the number at the place, where there is no room for it.
+#[inline(never)]
+fn raise_beyond(
+    numbers: &mut Vec<i64>,
+    default: i64,
+    place: usize,
+    low: i64,
+) -> Result<(), AllocError>
     requires near { place < 2048 }
     ensures { OnOk result ((at : ℕ) → get_or numbers.new.items at default ≡ at_least (get_or numbers.old.items at default) (when (nat_eq place at) (Some low))) }
 {
@@ -50,11 +94,46 @@ fn raise_at(numbers: &mut Vec<i64>, default: i64, place: usize, low: i64) -> Res
     Ok(())
 }
 
-fn lower_at(numbers: &mut Vec<i64>, default: i64, place: usize, high: i64) -> Result<(), AllocError>
+/// Raises the number at the place. Mostly there is room for it.
+#[inline]
+fn raise_at(numbers: &mut Vec<i64>, default: i64, place: usize, low: i64) -> Result<(), AllocError>
+    requires near { place < 2048 }
+    ensures { OnOk result ((at : ℕ) → get_or numbers.new.items at default ≡ at_least (get_or numbers.old.items at default) (when (nat_eq place at) (Some low))) }
+{
+    if place >= numbers.len() {
+        return raise_beyond(numbers, default, place, low);
+    }
+    let raised = number_in(numbers, default, place).max(low);
+    numbers[place] = raised;
+    Ok(())
+}
+
+/// Lowers the number at the place, where there is no room for it.
+#[inline(never)]
+fn lower_beyond(
+    numbers: &mut Vec<i64>,
+    default: i64,
+    place: usize,
+    high: i64,
+) -> Result<(), AllocError>
     requires near { place < 2048 }
     ensures { OnOk result ((at : ℕ) → get_or numbers.new.items at default ≡ at_most (get_or numbers.old.items at default) (when (nat_eq place at) (Some high))) }
 {
     reach(numbers, default, place)?;
+    let lowered = number_in(numbers, default, place).min(high);
+    numbers[place] = lowered;
+    Ok(())
+}
+
+/// Lowers the number at the place.
+#[inline]
+fn lower_at(numbers: &mut Vec<i64>, default: i64, place: usize, high: i64) -> Result<(), AllocError>
+    requires near { place < 2048 }
+    ensures { OnOk result ((at : ℕ) → get_or numbers.new.items at default ≡ at_most (get_or numbers.old.items at default) (when (nat_eq place at) (Some high))) }
+{
+    if place >= numbers.len() {
+        return lower_beyond(numbers, default, place, high);
+    }
     let lowered = number_in(numbers, default, place).min(high);
     numbers[place] = lowered;
     Ok(())
@@ -104,7 +183,7 @@ pub(crate) struct NearEnds {
 
 /// What each near int is at least and at most.
 #[derive(Drop)]
-pub(crate) struct Limits {
+pub struct Limits {
     pub(crate) lows: Vec<i64>,
     pub(crate) highs: Vec<i64>,
 }
@@ -164,15 +243,26 @@ impl NearEnds {
         put_length_high(&mut self.length_highs, fact)
     }
 
-    /// By all facts.
-    fn of(alloc: Global, facts: &[Fact]) -> Result<NearEnds, AllocError>
+    /// By all ranges and classes, with room for the places of ints and of arrays.
+    pub(crate) fn of(
+        alloc: Global,
+        facts: &[Fact],
+        ints: usize,
+        arrays: usize,
+    ) -> Result<NearEnds, AllocError>
+        requires ints { ints ≤ 2048 }
+        requires arrays { arrays ≤ 2048 }
         ensures { IfOk result (HasEnds facts.now) }
     {
+        let lows = no_numbers(alloc, LEAST, ints)?;
+        let highs = no_numbers(alloc, GREATEST, ints)?;
+        let length_lows = no_numbers(alloc, 0, arrays)?;
+        let length_highs = no_numbers(alloc, GREATEST, arrays)?;
         let mut ends = NearEnds {
-            lows: Vec::new(alloc),
-            highs: Vec::new(alloc),
-            length_lows: Vec::new(alloc),
-            length_highs: Vec::new(alloc),
+            lows,
+            highs,
+            length_lows,
+            length_highs,
         };
         for fact in facts {
             ends.put(fact)?;
@@ -303,29 +393,146 @@ fn put_high<G: Groups>(
     }
 }
 
+/// Raises and lowers the numbers of the ints that the fact bounds.
+#[inline(never)]
+fn put_each<G: Groups>(
+    lows: &mut Vec<i64>,
+    highs: &mut Vec<i64>,
+    ends: &NearEnds,
+    facts: &G,
+    fact: &Fact,
+) -> Result<(), AllocError>
+    requires ends { HasEnds (G.all facts.now) ends.now }
+    requires small { All HasSmallNumbers (G.all facts.now) }
+    requires fact { HasSmallNumbers fact.now }
+    ensures raised { OnOk result (Raises lows.old.items lows.new.items least_int (λ p. low_by (G.all facts.now) p fact.now)) }
+    ensures lowered { OnOk result (Lowers highs.old.items highs.new.items greatest_int (λ p. high_by (G.all facts.now) p fact.now)) }
+    ensures small_lows { OnOk result (AreLimits lows.old.items least_int → AreLimits lows.new.items least_int) }
+    ensures small_highs { OnOk result (AreLimits highs.old.items greatest_int → AreLimits highs.new.items greatest_int) }
+{
+    put_low(lows, ends, facts, fact)?;
+    put_high(highs, ends, facts, fact)
+}
+
+/// Raises and lowers the numbers at the places of two ints, of which the one is less than the other and c.
+#[inline]
+fn put_apart(
+    lows: &mut Vec<i64>,
+    highs: &mut Vec<i64>,
+    ends: &NearEnds,
+    small: usize,
+    great: usize,
+    c: i32,
+) -> Result<(), AllocError>
+    requires small { small < 2048 }
+    requires great { great < 2048 }
+    requires low { IsEnd (get_or ends.now.lows.items small least_int) }
+    requires high { IsEnd (get_or ends.now.highs.items great greatest_int) }
+    ensures raised { OnOk result ((at : ℕ) → get_or lows.new.items at least_int ≡ at_least (get_or lows.old.items at least_int) (when (nat_eq great at) (Some (get_or ends.now.lows.items small least_int -ℤ c +ℤ pos 1)))) }
+    ensures lowered { OnOk result ((at : ℕ) → get_or highs.new.items at greatest_int ≡ at_most (get_or highs.old.items at greatest_int) (when (nat_eq small at) (Some (get_or ends.now.highs.items great greatest_int +ℤ c -ℤ pos 1)))) }
+    ensures small_lows { OnOk result (AreLimits lows.old.items least_int → AreLimits lows.new.items least_int) }
+    ensures small_highs { OnOk result (AreLimits highs.old.items greatest_int → AreLimits highs.new.items greatest_int) }
+{
+    let low = past(number_in(&ends.lows, LEAST, small), c as i64);
+    raise_at(lows, LEAST, great, low)?;
+    let high = short_of(number_in(&ends.highs, GREATEST, great), c as i64);
+    lower_at(highs, GREATEST, small, high)
+}
+
+/// The same, where the fact is a difference of two ints. Mostly both are near.
+#[inline]
+fn put_less<G: Groups>(
+    lows: &mut Vec<i64>,
+    highs: &mut Vec<i64>,
+    ends: &NearEnds,
+    facts: &G,
+    fact: &Fact,
+    q: &Path,
+    r: &Path,
+    c: i32,
+) -> Result<(), AllocError>
+    requires ends { HasEnds (G.all facts.now) ends.now }
+    requires small { All HasSmallNumbers (G.all facts.now) }
+    requires fact { HasSmallNumbers fact.now }
+    requires less { fact.now ≡ Less q.now r.now c }
+    ensures raised { OnOk result (Raises lows.old.items lows.new.items least_int (λ p. low_by (G.all facts.now) p fact.now)) }
+    ensures lowered { OnOk result (Lowers highs.old.items highs.new.items greatest_int (λ p. high_by (G.all facts.now) p fact.now)) }
+    ensures small_lows { OnOk result (AreLimits lows.old.items least_int → AreLimits lows.new.items least_int) }
+    ensures small_highs { OnOk result (AreLimits highs.old.items greatest_int → AreLimits highs.new.items greatest_int) }
+{
+    match (near_place(q), near_place(r)) {
+        (Some(small), Some(great)) => put_apart(lows, highs, ends, small, great, c),
+        _ => put_each(lows, highs, ends, facts, fact),
+    }
+}
+
+/// The same. Most facts are differences.
+#[inline]
+fn put<G: Groups>(
+    lows: &mut Vec<i64>,
+    highs: &mut Vec<i64>,
+    ends: &NearEnds,
+    facts: &G,
+    fact: &Fact,
+) -> Result<(), AllocError>
+    requires ends { HasEnds (G.all facts.now) ends.now }
+    requires small { All HasSmallNumbers (G.all facts.now) }
+    requires fact { HasSmallNumbers fact.now }
+    ensures raised { OnOk result (Raises lows.old.items lows.new.items least_int (λ p. low_by (G.all facts.now) p fact.now)) }
+    ensures lowered { OnOk result (Lowers highs.old.items highs.new.items greatest_int (λ p. high_by (G.all facts.now) p fact.now)) }
+    ensures small_lows { OnOk result (AreLimits lows.old.items least_int → AreLimits lows.new.items least_int) }
+    ensures small_highs { OnOk result (AreLimits highs.old.items greatest_int → AreLimits highs.new.items greatest_int) }
+{
+    match fact {
+        Fact::Less(q, r, c) => put_less(lows, highs, ends, facts, fact, q, r, *c),
+        _ => put_each(lows, highs, ends, facts, fact),
+    }
+}
+
 impl Limits {
-    /// By all facts in all their orders. The only error is want of memory.
+    /// By all facts in all their orders, with room for the places of ints. The only error is want of memory.
     pub(crate) fn of<G: Groups>(
         alloc: Global,
         groups: &G,
+        ends: &NearEnds,
         facts: &[Fact],
+        ints: usize,
     ) -> Result<Limits, AllocError>
         requires all { G.all groups.now ≡ facts.now }
+        requires ends { HasEnds facts.now ends.now }
         requires small { All HasSmallNumbers facts.now }
+        requires ints { ints ≤ 2048 }
         ensures limits { IfOk result (HasLimits facts.now) }
     {
-        let ends = NearEnds::of(alloc, facts)?;
-        let mut lows = Vec::new(alloc);
-        let mut highs = Vec::new(alloc);
+        let mut lows = no_numbers(alloc, LEAST, ints)?;
+        let mut highs = no_numbers(alloc, GREATEST, ints)?;
         for fact in facts {
-            put_low(&mut lows, &ends, groups, fact)?;
-            put_high(&mut highs, &ends, groups, fact)?;
+            put(&mut lows, &mut highs, ends, groups, fact)?;
         }
         Ok(Limits { lows, highs })
     }
 
+    /// The same, where a part of the facts has all ranges and classes. It asks for room once, for these ints and arrays.
+    pub fn by_part<G: Groups>(
+        alloc: Global,
+        groups: &G,
+        facts: &[Fact],
+        part: &[Fact],
+        ints: &[Path],
+        arrays: &[Path],
+    ) -> Result<Limits, AllocError>
+        requires all { G.all groups.now ≡ facts.now }
+        requires part { ends_in part.now ≡ ends_in facts.now }
+        requires small { All HasSmallNumbers facts.now }
+        ensures limits { IfOk result (HasLimits facts.now) }
+    {
+        let room = room_of(ints);
+        let ends = NearEnds::of(alloc, part, room, room_of(arrays))?;
+        Limits::of(alloc, groups, &ends, facts, room)
+    }
+
     /// What the int is at least, where its path is a near one.
-    pub(crate) fn low(&self, p: &Path) -> Option<i64>
+    pub fn low(&self, p: &Path) -> Option<i64>
         ensures near { IfSome result (λ _low. is_near p.now ≡ true) }
         ensures low { IfSome result (λ low. low ≡ number_at self.now.lows.items least_int p.now) }
     {
@@ -333,7 +540,7 @@ impl Limits {
     }
 
     /// What it is at most.
-    pub(crate) fn high(&self, p: &Path) -> Option<i64>
+    pub fn high(&self, p: &Path) -> Option<i64>
         ensures near { IfSome result (λ _high. is_near p.now ≡ true) }
         ensures high { IfSome result (λ high. high ≡ number_at self.now.highs.items greatest_int p.now) }
     {

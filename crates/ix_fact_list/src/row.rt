@@ -1,17 +1,18 @@
 //! Facts in all their orders, of which all are on each path.
 
-ghost use Rattle.std.specs.Prelude.{◌≡◌, All, List, IfOk};
+ghost use Rattle.std.specs.Prelude.{◌≡◌, ◌≤◌, All, List, IfOk};
 ghost use Rattle.ix_core.specs.declared.fact.Path.{Path};
 ghost use Rattle.ix_core.specs.declared.fact.Fact.{Fact};
-ghost use Rattle.ix_facts.specs.Facts.{in_orders};
 ghost use Rattle.ix_facts.specs.Small.{HasSmallNumbers};
 ghost use Rattle.ix_bounds.specs.Ends.{ends_in};
 ghost use Rattle.ix_path_index.specs.Grouped.{on_grouped, on_list};
+ghost use Rattle.ix_fact_list.specs.NearNumbers.{HasEnds};
 
 use crate::ends::ends_of;
+use crate::limits::NearEnds;
 use ix_bounds::Groups;
 use ix_core::{Fact, Path};
-use ix_path_index::{Grouped, in_all_orders};
+use ix_path_index::Grouped;
 use std::alloc::{AllocError, Global};
 use std::marker::Model;
 
@@ -20,6 +21,8 @@ use std::marker::Model;
 pub(crate) struct Row {
     pub(crate) ordered: Vec<Fact>,
     pub(crate) ends: Grouped,
+    /// The ends of the ranges of near paths.
+    pub(crate) near: NearEnds,
 }
 
 impl Model for Row {
@@ -27,19 +30,30 @@ impl Model for Row {
 
     ghost view = { λ row. row.ordered.items };
 
-    ghost invariant = { λ row. All HasSmallNumbers row.ordered.items × ((p : Path) → on_grouped row.ends p ≡ on_list (ends_in row.ordered.items) p) };
+    ghost invariant = { λ row. All HasSmallNumbers row.ordered.items × (((p : Path) → on_grouped row.ends p ≡ on_list (ends_in row.ordered.items) p) × HasEnds row.ordered.items row.near) };
 }
 
 impl Row {
-    /// All orders of the facts. The only error is want of memory.
-    #[tactic(auto, using(ix_bounds::proofs::BoundSteps::in_orders_small))]
-    pub(crate) fn of(alloc: Global, facts: &[Fact]) -> Result<Row, AllocError>
-        requires small { All HasSmallNumbers facts.now }
-        ensures orders { IfOk result (λ row. row ≡ in_orders facts.now) }
+    /// The facts, which stand in all their orders, with room for the places of ints and of arrays. The only error is want of memory.
+    pub(crate) fn of(
+        alloc: Global,
+        ordered: Vec<Fact>,
+        ints: usize,
+        arrays: usize,
+    ) -> Result<Row, AllocError>
+        requires small { All HasSmallNumbers ordered.items }
+        requires ints { ints ≤ 2048 }
+        requires arrays { arrays ≤ 2048 }
+        ensures facts { IfOk result (λ row. row ≡ ordered.items) }
     {
-        let ordered = in_all_orders(alloc, facts)?;
-        let ends = Grouped::of(alloc, ends_of(alloc, &ordered)?)?;
-        Ok(Row { ordered, ends })
+        let all = ends_of(alloc, &ordered)?;
+        let near = NearEnds::of(alloc, &all, ints, arrays)?;
+        let ends = Grouped::of(alloc, all)?;
+        Ok(Row {
+            ordered,
+            ends,
+            near,
+        })
     }
 
     /// The facts.
@@ -48,6 +62,13 @@ impl Row {
         ensures small { All HasSmallNumbers result.now }
     {
         &self.ordered
+    }
+
+    /// The ends of the ranges of near paths.
+    pub(crate) fn near(&self) -> &NearEnds
+        ensures { HasEnds self.now result.now }
+    {
+        &self.near
     }
 }
 

@@ -1,18 +1,17 @@
 //! Lists of facts as the answers of a system: what each call of `System` makes of the facts of a table.
 
 ghost use Rattle.std.specs.Prelude.{◌≡◌, int_le, ◌++◌, IfOk, IfSome, OnOk, Some, option_to_list};
-ghost use Rattle.ix_core.specs.Ints.{IsInt};
+ghost use Rattle.ix_facts.specs.Ints.{IsInt};
 ghost use Rattle.ix_facts.specs.Bounds.{when};
 ghost use Rattle.ix_facts.specs.Forget.{of_path, without};
 ghost use Rattle.ix_facts.specs.After.{of_target};
-ghost use Rattle.ix_core.specs.declared.fact.Fact.TheVariants.{Rng, LenRng, Less, Upper};
+ghost use Rattle.ix_facts.specs.Fact.TheVariants.{Rng, LenRng, Less, Upper};
 ghost use Rattle.ix_facts.specs.Exact.{if_some};
 ghost use Rattle.ix_facts.specs.Round as round;
 ghost use Rattle.ix_facts.specs.Systems.{system_rounded};
 
 use crate::forget::{names_path, names_target};
-use ix_core::{Fact, OpKind, Path, PathOff};
-use ix_facts::{greater, lesser};
+use ix_facts::{Fact, OpKind, Path, PathOff, greater, lesser};
 use std::alloc::{AllocError, Global};
 
 /// The facts that don't name the path; of a slot also without those that name a field of the object in it.

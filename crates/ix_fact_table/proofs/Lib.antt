@@ -7,4 +7,5 @@ mod KeptFronts
 pub mod OneKind
 pub mod Searches
 mod PutFacts
+mod PiledFacts
 pub mod KeysApart

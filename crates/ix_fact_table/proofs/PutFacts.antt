@@ -17,7 +17,7 @@ use Rattle.ix_fact_table.specs.Meets.{met}
 use Rattle.ix_fact_table.specs.Rising.{rises, is_table_of}
 use Rattle.ix_fact_table.specs.Entries.{HasInt, entry_of}
 use Rattle.ix_fact_table.specs.RisingLaws.{table_rises}
-use Rattle.ix_fact_table.specs.Walks.{HasBoth}
+use Rattle.ix_fact_table.specs.Walks.{ArePast, HasBoth}
 use Rattle.ix_fact_table.proofs.MergedTables.{halves_form, halves_table, one_form, one_table, no_table}
 use Rattle.ix_fact_table.proofs.Searches.{comparisons_rise, earlier}
 use Rattle.ix_fact_table.proofs.WalksAlongBoth.{has_first_alone, Merging, merging_starts, merging_left, merging_right, merging_both, merging_ends}
@@ -33,6 +33,10 @@ drop_each P [] zero all f i = absurd i
 drop_each P (g ∷ facts) zero all f i = ⊎_elim (λ e. subst P (sym e) (all 0 g (omega arith) (omega arith))) (λ j. drop_each P facts zero (λ k d a b. all (suc k) d (omega arith) (omega arith)) f j) i
 drop_each P [] (suc n) all f i = absurd i
 drop_each P (g ∷ facts) (suc n) all f i = drop_each P facts n (λ k d a b. all (suc k) d (omega arith) (omega arith)) f i
+
+all_each : (P : Fact → Type 0) (facts : List Fact) → ((k : ℕ) (d : Fact) → k < length facts → P (get_or facts k d)) → (f : Fact) → IsIn f facts → P f
+all_each P [] all f i = absurd i
+all_each P (g ∷ facts) all f i = ⊎_elim (λ e. subst P (sym e) (all 0 g (omega arith))) (λ j. all_each P facts (λ k d a. all (suc k) d (omega arith)) f j) i
 
 module _ (facts : List Fact) (e : Fact) (rise : rises facts ≡ true) where
   abbrev Whole : List Fact → Type 0
@@ -77,6 +81,9 @@ module _ (facts : List Fact) (e : Fact) (rise : rises facts ≡ true) where
       let less = take_each (λ f. fact_cmp f e ≡ Before) facts at
       (λ k d a b. sym (alike_back (get_or facts at d) e (get_or facts k d) (at_key (get_or facts at d) e (ap is_eq (same d)))) ∙ earlier facts rise k at d a within) in
       subst Whole (sym here) (put_met (take at facts) g (drop (at + 1) facts) whole less (ap (λ f. fact_cmp f e) is ∙ same g))
+
+  pub put_behind : ArePast facts (length facts) e → Whole (facts ++ e ∷ [])
+  put_behind past = put_new facts [] (append-nil facts) (all_each (λ f. fact_cmp f e ≡ Before) facts (λ k d a. past k d a)) (λ f i. absurd i)
 
 -- a fact that is put into a table of its kind makes the table of one fact more
 module _ (own : Kind) (f : Fact) (table : List Fact) (form : is_table_of own table ≡ true) where

@@ -1,5 +1,5 @@
 -- What a binary search finds among facts that rise by key.
-use Rattle.std.specs.Prelude.{◌≡◌, ◌⊎◌, ℕ, zero, suc, ◌+◌, ◌-◌, ◌<◌, ◌≤◌, Bool, true, false, List, [], ◌∷◌, Ok, Err, length, filter, take, drop, get_or, slice_index_or, refl}
+use Rattle.std.specs.Prelude.{◌≡◌, ◌⊎◌, ℕ, zero, suc, ◌+◌, ◌-◌, ◌<◌, ◌≤◌, Bool, true, false, List, [], ◌∷◌, Some, None, Ok, Err, length, filter, take, drop, get_or, slice_get, slice_index_or, refl}
 use Rattle.std.specs.List.Sorted.{IsBinarySearchResult, IsNonDecreasingBy, IsSortedBy, IsPartitionedBy, IsPartitionPoint}
 use Rattle.std.specs.declared.cmp.Ordering.{Ordering}
 use Rattle.std.specs.declared.cmp.Ordering.TheVariants.{Less as Before, Equal, Greater}
@@ -15,7 +15,7 @@ use Rattle.ix_facts.specs.Facts.{IsIn}
 use Rattle.ix_facts.specs.PathOrder.{path_cmp, path_total}
 use Rattle.ix_fact_table.specs.FactOrder.{AtKey, first_path, rest_cmp, fact_cmp, fact_total, at_key, key_equal, alike_back}
 use Rattle.ix_fact_table.specs.Rising.{rises}
-use Rattle.ix_fact_table.specs.RisingLaws.{below_each, rises_parts}
+use Rattle.ix_fact_table.specs.RisingLaws.{is_less as less_is, below_each, rises_parts}
 use Rattle.ix_fact_table.specs.Walks.{ArePast}
 
 in_get : (facts : List Fact) (k : ℕ) (d : Fact) → k < length facts → IsIn (get_or facts k d) facts
@@ -75,6 +75,33 @@ missed_past facts key at r parted k d less = (parted (comparisons_rise facts key
 
 same_or_less : (i j : ℕ) → i ≤ j → (i ≡ j) ⊎ (i < j)
 same_or_less i j h = ⊎_elim (λ less. inr less) (λ from. inl (omega arith)) (cases_lt i j)
+
+at_place : (facts : List Fact) (k : ℕ) (f d : Fact) → slice_get facts k ≡ Some f → get_or facts k d ≡ f
+at_place [] k f d at = cc
+at_place (g ∷ facts) zero f d at = cc
+at_place (g ∷ facts) (suc k) f d at = at_place facts k f d at
+
+no_end : (g : Fact) (facts : List Fact) → slice_get (g ∷ facts) (length facts) ≡ None → ⊥
+no_end g [] at = absurd cc
+no_end g (h ∷ facts) at = no_end h facts at
+
+pub behind_none : (facts : List Fact) (f : Fact) → slice_get facts (length facts - 1) ≡ None → ArePast facts (length facts) f
+behind_none [] f at k d within = absurd (omega arith)
+behind_none (g ∷ facts) f at k d within =
+    let size : length (g ∷ facts) - 1 ≡ length facts = omega arith in
+    absurd (no_end g facts (subst (λ n. slice_get (g ∷ facts) n ≡ None) size at))
+
+-- where the last fact is before the other, all are
+pub behind_last : (facts : List Fact) (f last : Fact) → rises facts ≡ true → slice_get facts (length facts - 1) ≡ Some last → is_lt (fact_cmp last f) ≡ true → ArePast facts (length facts) f
+behind_last facts f last r at test k d within =
+    let end : get_or facts (length facts - 1) d ≡ last = at_place facts (length facts - 1) last d at in
+    let less : fact_cmp last f ≡ Before = less_is (fact_cmp last f) test in
+    ⊎_elim
+    (λ same. subst (λ n. fact_cmp (get_or facts n d) f ≡ Before) (sym same) (ap (λ g. fact_cmp g f) end ∙ less))
+    (λ before_it.
+    let past : fact_cmp (get_or facts k d) (get_or facts (length facts - 1) d) ≡ Before = earlier facts r k (length facts - 1) d before_it (omega arith) in
+    fact_total.trans (get_or facts k d) last f (subst (λ g. fact_cmp (get_or facts k d) g ≡ Before) end past) less)
+    (same_or_less k (length facts - 1) (omega arith))
 
 module _ (p : Path) where
   abbrev pub before : Fact → Bool

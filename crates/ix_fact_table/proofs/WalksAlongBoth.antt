@@ -12,7 +12,7 @@ use Rattle.ix_fact_table.specs.Meets.{met, common}
 use Rattle.ix_fact_table.specs.Rising.{is_below, rises}
 use Rattle.ix_fact_table.specs.MeetLaws.{met_left, met_right, met_key, common_key, covers_key}
 use Rattle.ix_fact_table.specs.RisingLaws.{below_each, below_from, not_before, rises_parts, rises_from, below_on, below_some, below_at_key, rises_front, rises_other}
-use Rattle.ix_fact_table.specs.Walks.{ArePast, FromBoth, left, right, both, HasBoth, IsShared, HasShared, AllCovered, if_not}
+use Rattle.ix_fact_table.specs.Walks.{ArePast, IsPassed, FromBoth, left, right, both, HasBoth, IsShared, HasShared, AllCovered, if_not}
 
 pub none_left : (facts : List Fact) → length facts ≡ 0 → facts ≡ []
 none_left [] none = refl
@@ -142,6 +142,12 @@ merging_run first second (suc n) (m ∷ ms) theirs t ts all is within past now =
     let one = merging_left first second (m ∷ ms) theirs m ms t ts refl is all (past 0 m (omega arith)) now in
     let run = merging_run first second n ms theirs t ts (all ++ m ∷ []) is (omega arith) (λ k d less. past (suc k) d (omega arith)) one in
     subst (Merging first second (drop n ms) theirs) (append_assoc all (m ∷ []) (take n ms)) run
+
+pub merging_passed : (first second mine theirs rest : List Fact) (t : Fact) (ts all more : List Fact) → theirs ≡ t ∷ ts → IsPassed mine t all more rest → Merging first second mine theirs all → Merging first second rest theirs more
+merging_passed first second mine theirs rest t ts all more is run now = rw (run.run, run.left_over) (merging_run first second run.count mine theirs t ts all is run.within run.before now)
+
+pub none_passed : (facts : List Fact) (other : Fact) (all : List Fact) → IsPassed facts other all all facts
+none_passed facts other all = record { count = 0; within = omega arith; before = λ k d less. absurd (omega arith); run = sym (append-nil all); left_over = refl }
 
 pub merging_ends : (first second mine theirs all : List Fact) → (mine ≡ []) ⊎ (theirs ≡ []) → Merging first second mine theirs all → HasBoth first second ((all ++ mine) ++ theirs) × (rises ((all ++ mine) ++ theirs) ≡ true)
 merging_ends first second mine theirs all none now =

@@ -6,6 +6,7 @@ pub mod MeetLaws
 pub mod EntryLaws
 pub mod RisingLaws
 pub mod Walks
+pub mod Piles
 pub mod FactTables
 pub mod Apart
 pub mod TableLaws

@@ -1,5 +1,5 @@
 -- What walks along two lists of facts give.
-use Rattle.std.specs.Prelude.{◌≡◌, ◌<◌, ℕ, true, false, Bool, cond, int_le, ◌&&◌, List, [], ◌∷◌, get_or}
+use Rattle.std.specs.Prelude.{◌≡◌, ◌<◌, ◌≤◌, ℕ, true, false, Bool, cond, int_le, ◌&&◌, List, [], ◌∷◌, ◌++◌, get_or, length, take, drop}
 use Rattle.std.specs.declared.cmp.Ordering.TheVariants.{Less as Before}
 use Rattle.ix_core.specs.declared.fact.Fact.{Fact}
 use Rattle.ix_core.specs.declared.fact.Fact.TheVariants.{Rng, LenRng, Low, Less, Upper}
@@ -10,6 +10,14 @@ use Rattle.ix_fact_table.specs.Meets.{met, common}
 -- so many facts at the front have keys that are less than the other fact's
 abbrev pub ArePast : List Fact → ℕ → Fact → Type 0
 ArePast facts count other = (k : ℕ) (d : Fact) → k < count → fact_cmp (get_or facts k d) other ≡ Before
+
+-- a run at the front, of facts whose keys are less than the other's, is taken over, and the rest is left
+pub record IsPassed (facts : List Fact) (other : Fact) (all more rest : List Fact) : Type 0 where
+  pub count : ℕ
+  pub within : count ≤ length facts
+  pub before : ArePast facts count other
+  pub run : more ≡ all ++ take count facts
+  pub left_over : rest ≡ drop count facts
 
 -- the fact is one of the two lists, or what a fact of each says together
 pub data FromBoth (first second : List Fact) (f : Fact) : Type 0 where

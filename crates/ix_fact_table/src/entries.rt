@@ -46,11 +46,14 @@ fn within(fact: &Fact) -> Fact
     }
 }
 
-/// The fact as a table keeps it.
+/// The fact as a table keeps it. Most facts are differences, which are kept as they are.
 pub(crate) fn entry_of(fact: &Fact) -> Fact
     ensures { result ≡ spec.entry_of fact.now }
 {
-    within(&in_first_order(fact))
+    match *fact {
+        Fact::Less(_, _, _) => *fact,
+        _ => within(&in_first_order(fact)),
+    }
 }
 
 /// Whether the fact is a range that is said of every path.

@@ -1,15 +1,18 @@
 //! Facts put one by one where their keys belong.
 
-ghost use Rattle.std.specs.Prelude.{◌≡◌, true, List, [], ◌∷◌, ◌++◌, IfOk, OnOk};
+ghost use Rattle.std.specs.Prelude.{◌≡◌, ◌↔◌, true, List, [], ◌∷◌, ◌++◌, length, IsTrue, IfOk, OnOk};
 ghost use Rattle.ix_core.specs.declared.fact.Fact.{Fact};
 ghost use Rattle.ix_facts.specs.Kinds.{of_kind};
 ghost use Rattle.ix_facts.specs.Systems.{HasClass, HaveClasses, IsTable};
 ghost use Rattle.ix_fact_table.specs.Rising.{rises, is_table_of};
-ghost use Rattle.ix_fact_table.specs.Walks.{HasBoth};
+ghost use Rattle.ix_fact_table.specs.Walks.{ArePast, HasBoth};
+ghost use Rattle.ix_fact_table.specs.Piles.{IsPiled, ArePiles};
 
 use crate::entries::{entry_of, int_of, is_said_of_all};
 use crate::meets::met;
 use crate::order::compare_facts;
+use crate::rising::is_before;
+use crate::walks::merged;
 use ix_core::Fact;
 use ix_facts::{Kind, is_of_kind};
 use std::alloc::{AllocError, Global};
@@ -27,12 +30,69 @@ fn put(facts: &mut Vec<Fact>, fact: Fact) -> Result<(), AllocError>
     Ok(())
 }
 
-/// Puts the fact into the table of some facts, where it is of the kind: then it is the table of these and the fact.
-fn put_entry(table: &mut Vec<Fact>, kind: Kind, fact: &Fact) -> Result<(), AllocError>
+/// Whether the fact's key is greater than those of all facts: that of the last one is the greatest.
+fn is_behind(facts: &[Fact], fact: &Fact) -> bool
+    requires rises { rises facts.now ≡ true }
+    ensures behind { IsTrue result → ArePast facts.now (length facts.now) fact.now }
+{
+    match facts.last() {
+        Some(last) => is_before(last, fact),
+        None => true,
+    }
+}
+
+/// Adds a fact whose key is greater than those of all facts.
+fn add_behind(facts: &mut Vec<Fact>, fact: Fact) -> Result<(), AllocError>
+    requires rises { rises facts.old.items ≡ true }
+    requires behind { ArePast facts.old.items (length facts.old.items) fact }
+    ensures both { OnOk result (HasBoth facts.old.items (fact ∷ []) facts.new.items) }
+    ensures rises { OnOk result (rises facts.new.items ≡ true) }
+{
+    facts.push(fact)?;
+    Ok(())
+}
+
+/// Up to how many facts one pile takes all. It is for speed alone: to merge two short piles takes more than to search places in one.
+const SHORT: usize = 16;
+
+fn is_short(facts: &[Fact]) -> bool {
+    facts.len() < SHORT
+}
+
+/// Adds the fact behind the first facts or behind the second ones, where its key is greater than theirs, and else puts it among the first while these are few, and
+/// then among the second. New facts come in runs that rise, of which two may alternate: to add one takes less than to search its place.
+fn pile(first: &mut Vec<Fact>, second: &mut Vec<Fact>, fact: Fact) -> Result<(), AllocError>
+    requires first { rises first.old.items ≡ true }
+    requires second { rises second.old.items ≡ true }
+    ensures piled { OnOk result (IsPiled first.old.items second.old.items fact first.new.items second.new.items) }
+{
+    if is_behind(first, &fact) {
+        add_behind(first, fact)?;
+        return Ok(());
+    }
+    if is_short(first) {
+        put(first, fact)?;
+        return Ok(());
+    }
+    if is_behind(second, &fact) {
+        add_behind(second, fact)?;
+        return Ok(());
+    }
+    put(second, fact)?;
+    Ok(())
+}
+
+/// Puts the fact into one of two tables that are together the table of some facts, where it is of the kind: then they are that of these and the fact.
+fn pile_entry(
+    first: &mut Vec<Fact>,
+    second: &mut Vec<Fact>,
+    kind: Kind,
+    fact: &Fact,
+) -> Result<(), AllocError>
     requires class { HasClass fact.now }
-    requires form { is_table_of kind table.old.items ≡ true }
-    ensures form { OnOk result (is_table_of kind table.new.items ≡ true) }
-    ensures table { OnOk result ((facts : List Fact) → IsTable (of_kind kind facts) table.old.items → IsTable (of_kind kind (facts ++ fact.now ∷ [])) table.new.items) }
+    requires first { is_table_of kind first.old.items ≡ true }
+    requires second { is_table_of kind second.old.items ≡ true }
+    ensures piles { OnOk result ((facts : List Fact) → ArePiles kind facts first.old.items second.old.items → ArePiles kind (facts ++ fact.now ∷ []) first.new.items second.new.items) }
 {
     let _number = int_of(fact);
     if !is_of_kind(kind, fact) {
@@ -41,19 +101,39 @@ fn put_entry(table: &mut Vec<Fact>, kind: Kind, fact: &Fact) -> Result<(), Alloc
     if is_said_of_all(fact) {
         return Ok(());
     }
-    put(table, entry_of(fact))?;
+    pile(first, second, entry_of(fact))?;
     Ok(())
 }
 
-/// The table of the facts of the kind. Each new fact moves those behind it, so that this is for lists that are not long.
+/// Two tables that are together the table of the facts of the kind.
+fn piles(alloc: Global, kind: Kind, facts: &[Fact]) -> Result<(Vec<Fact>, Vec<Fact>), AllocError>
+    requires classes { HaveClasses facts.now }
+    ensures piles { IfOk result (λ both. ArePiles kind facts.now both.0.items both.1.items) }
+{
+    let mut first = Vec::with_capacity(alloc, facts.len())?;
+    let mut second = Vec::new(alloc);
+    for fact in facts {
+        pile_entry(&mut first, &mut second, kind, fact)?;
+    }
+    Ok((first, second))
+}
+
+fn is_none(facts: &[Fact]) -> bool
+    ensures { IsTrue result ↔ (facts.now ≡ []) }
+{
+    facts.is_empty()
+}
+
+/// The table of the facts of the kind. A new fact that is behind neither pile moves those behind it, so that this is for lists that are not long.
 pub(crate) fn inserted(alloc: Global, kind: Kind, facts: &[Fact]) -> Result<Vec<Fact>, AllocError>
     requires classes { HaveClasses facts.now }
     ensures form { IfOk result (λ table. is_table_of kind table.items ≡ true) }
     ensures table { IfOk result (λ table. IsTable (of_kind kind facts.now) table.items) }
 {
-    let mut table = Vec::with_capacity(alloc, facts.len())?;
-    for fact in facts {
-        put_entry(&mut table, kind, fact)?;
+    let (first, second) = piles(alloc, kind, facts)?;
+    if is_none(&second) {
+        return Ok(first);
     }
-    Ok(table)
+    let all = merged(alloc, first.as_slice(), second.as_slice())?;
+    Ok(all)
 }

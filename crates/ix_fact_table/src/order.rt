@@ -1,7 +1,9 @@
 //! The order of facts by their keys.
 
-ghost use Rattle.std.specs.Prelude.{◌≡◌};
+ghost use Rattle.std.specs.Prelude.{◌≡◌, pos};
 ghost use Rattle.std.specs.Ordering.{ordering_then};
+ghost use Rattle.ix_core.specs.declared.fact.Path.TheVariants.{Slot};
+ghost use Rattle.ix_core.specs.declared.fact.Fact.TheVariants.{Less};
 ghost use Rattle.ix_facts.specs.PathOrder.{path_cmp, offset_cmp};
 ghost use Rattle.ix_fact_table.specs.FactOrder as spec;
 ghost use Rattle.ix_fact_table.specs.FactOrder.{third, fact_cmp, rest_cmp};
@@ -116,13 +118,49 @@ fn compare_rest(fact: &Fact, other: &Fact) -> Ordering
     }
 }
 
-/// The order of facts by their keys: by the first path, then by form, then by the other paths. Numbers don't count.
-pub fn compare_facts(fact: &Fact, other: &Fact) -> Ordering
+/// The order of two facts of any form, by the same rule.
+#[inline(never)]
+fn compare_parts(fact: &Fact, other: &Fact) -> Ordering
     ensures { result ≡ fact_cmp fact.now other.now }
 {
     match path_order(first_path(fact), first_path(other)) {
         Ordering::Less => Ordering::Less,
         Ordering::Greater => Ordering::Greater,
         Ordering::Equal => compare_rest(fact, other),
+    }
+}
+
+/// The order of the differences of the slots p and q, and r and s.
+#[inline(always)]
+fn compare_slots(p: u32, q: u32, r: u32, s: u32) -> Ordering
+    ensures { result ≡ fact_cmp (Less (Slot p) (Slot q) (pos 0)) (Less (Slot r) (Slot s) (pos 0)) }
+{
+    if p < r {
+        return Ordering::Less;
+    }
+    if p > r {
+        return Ordering::Greater;
+    }
+    if q < s {
+        return Ordering::Less;
+    }
+    if q > s {
+        return Ordering::Greater;
+    }
+    Ordering::Equal
+}
+
+/// The order of facts by their keys: by the first path, then by form, then by the other paths. Numbers don't count. Most facts that are compared are differences
+/// of slots: these are compared by their numbers, where the call stands.
+#[inline(always)]
+pub fn compare_facts(fact: &Fact, other: &Fact) -> Ordering
+    ensures { result ≡ fact_cmp fact.now other.now }
+{
+    match (*fact, *other) {
+        (
+            Fact::Less(Path::Slot(p), Path::Slot(q), _),
+            Fact::Less(Path::Slot(r), Path::Slot(s), _),
+        ) => compare_slots(p, q, r, s),
+        _ => compare_parts(fact, other),
     }
 }

@@ -3,7 +3,7 @@
 ghost use Rattle.std.specs.Prelude.{◌≡◌, ◌≤◌, true, ◌↔◌, ◌++◌, length, IsTrue, IfOk, OnOk};
 ghost use Rattle.ix_facts.specs.Facts.{is_default};
 ghost use Rattle.ix_fact_table.specs.Rising.{rises};
-ghost use Rattle.ix_fact_table.specs.Walks.{ArePast, HasBoth, HasShared, AllCovered, if_not};
+ghost use Rattle.ix_fact_table.specs.Walks.{ArePast, IsPassed, HasBoth, HasShared, AllCovered, if_not};
 
 use crate::entries::is_said_of_all;
 use crate::meets::{common, is_as_strong, met};
@@ -34,19 +34,33 @@ fn is_long_before(facts: &[Fact], other: &Fact) -> bool {
     }
 }
 
-/// How many facts at the front have keys that are less than the other's: all that have, where these are not few.
+/// How many facts at the front have keys that are less than the other's.
 fn run_before(facts: &[Fact], other: &Fact) -> usize
     requires rises { rises facts.now ≡ true }
     ensures within { result ≤ length facts.now }
     ensures before { ArePast facts.now result other.now }
 {
-    if !is_long_before(facts, other) {
-        return 0;
-    }
     match facts.binary_search_by(|fact| compare_facts(fact, other)) {
         Ok(place) => place,
         Err(place) => place,
     }
+}
+
+/// Takes over the facts at the front whose keys are less than the other's, where these are not few. It answers those that are left.
+fn passed<'a>(
+    all: &mut Vec<Fact>,
+    facts: &'a [Fact],
+    other: &Fact,
+) -> Result<&'a [Fact], AllocError>
+    requires rises { rises facts.now ≡ true }
+    ensures run { IfOk result (λ rest. IsPassed facts.now other.now all.old.items all.new.items rest.now) }
+{
+    if !is_long_before(facts, other) {
+        return Ok(facts);
+    }
+    let (run, rest) = facts.split_at(run_before(facts, other));
+    all.extend_from_slice(run)?;
+    Ok(rest)
 }
 
 /// The facts of both lists, at each key one: what both say together.
@@ -70,9 +84,7 @@ pub(crate) fn merged(
         match compare_facts(fact, other) {
             Ordering::Less => {
                 all.push(*fact)?;
-                let (run, behind) = more.split_at(run_before(more, other));
-                all.extend_from_slice(run)?;
-                mine = behind;
+                mine = passed(&mut all, more, other)?;
             }
             Ordering::Greater => {
                 all.push(*other)?;

@@ -12,8 +12,8 @@ use Rattle.ix_core.specs.Ints.{least_int, greatest_int}
 use Rattle.ix_core.specs.Arithmetic.{exact_of, flip_of}
 use Rattle.ix_core.specs.Intervals.{Includes, IsWithin, interval, normal, all_ints}
 use Rattle.ix_core.specs.OpRanges.{op_range}
-use Rattle.ix_num.proofs.Members.{within_by_ends, normal_in, normal_out, low_end, high_end}
-use Rattle.ix_num.proofs.OpRangeLaws.{op_range_includes, op_range_monotone, wrap_of_int}
+use Rattle.ix_tables.specs.Members.{within_by_ends, normal_in, normal_out, low_end, high_end}
+use Rattle.ix_tables.specs.OpRangeLaws.{op_range_includes, op_range_monotone, wrap_of_int}
 use Rattle.ix_core.specs.declared.fact.Path.{Path}
 use Rattle.ix_core.specs.declared.fact.PathOff.TheVariants.{Plus, Minus}
 use Rattle.ix_core.specs.declared.fact.Fact.{Fact}

@@ -8,7 +8,7 @@ use Rattle.ix_core.specs.Arith.{Arith}
 use Rattle.ix_core.specs.Arith.TheVariants.{Add, Sub, Mul, Div, Rem, And, Or, Xor, Shl, Shr, Ushr}
 use Rattle.ix_core.specs.Ints.{IsInt}
 use Rattle.ix_core.specs.Arithmetic.{exact_of, shift_distance, flip_of}
-use Rattle.ix_num.proofs.OpRangeLaws.{wrap_of_int}
+use Rattle.ix_tables.specs.OpRangeLaws.{wrap_of_int}
 use Rattle.ix_tables.specs.declared.low.Low.TheVariants as class
 use Rattle.ix_tables.specs.LowClasses.{AtLeast, class_of}
 use Rattle.ix_tables.proofs.AnswersHold.{low_of_sound}

@@ -6,12 +6,11 @@ ghost use Rattle.ix_facts.specs.Closure.{kept};
 ghost use Rattle.ix_facts.specs.Exact.{if_so, each};
 ghost use Rattle.ix_facts.specs.Finish as rule;
 ghost use Rattle.ix_finish.specs.OverNamed as over;
-ghost use Rattle.ix_core.specs.declared.fact.PathOff.TheVariants.{Nothing, Minus};
-ghost use Rattle.ix_core.specs.declared.fact.Fact.TheVariants.{IsLen, Less, Upper};
+ghost use Rattle.ix_facts.specs.PathOff.TheVariants.{Nothing, Minus};
+ghost use Rattle.ix_facts.specs.Fact.TheVariants.{IsLen, Less, Upper};
 
-use ix_core::{Fact, Path, PathOff};
 use ix_exact::{push_less_if, push_upper_if};
-use ix_facts::is_same_path;
+use ix_facts::{Fact, Path, PathOff, is_same_path};
 use ix_index::Indexed;
 use std::alloc::AllocError;
 

@@ -9,8 +9,7 @@ ghost use Rattle.ix_finish.specs.OverNamed as over;
 use crate::along::push_along;
 use crate::beside::{push_beside_lengths, push_by_ranges};
 use crate::new_ends::{new_high, new_length, new_low};
-use ix_core::{Fact, Literal, OpKind, Path, Type_};
-use ix_facts::{holds_arrays, holds_ints, is_array, is_int};
+use ix_facts::{Fact, Literal, OpKind, Path, Type_, holds_arrays, holds_ints, is_array, is_int};
 use ix_index::Indexed;
 use std::alloc::AllocError;
 

@@ -13,3 +13,4 @@ mod finish;
 mod new_ends;
 
 pub use finish::{push_finish_array, push_finish_int, push_finished, push_finished_by};
+pub use ix_index::Indexed;

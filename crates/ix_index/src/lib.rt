@@ -10,4 +10,6 @@
 mod indexed;
 
 pub use indexed::Indexed;
-pub use ix_facts::{greater, is_same_offset, is_same_path, lesser};
+pub use ix_facts::{
+    Fact, Know, Path, PathClaim, PathOff, greater, is_same_offset, is_same_path, lesser,
+};

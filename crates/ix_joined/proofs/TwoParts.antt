@@ -7,12 +7,12 @@ use Rattle.ix_core.specs.declared.fact.Profile.{Profile}
 use Rattle.ix_core.specs.declared.program.Program.{Program}
 use Rattle.ix_core.specs.Tables.{method_at}
 use Rattle.ix_core.proofs.Cases.{by_test}
-use Rattle.ix_method_errors.specs.Ranked.{Ranked}
-use Rattle.ix_method_errors.specs.Exactly.{AreExactly}
-use Rattle.ix_method_errors.proofs.Refused.{exactly_none, exactly_same, adds_both}
-use Rattle.ix_errors.specs.MethodErrors.{IsErrorOf, IsError}
-use Rattle.ix_listing.specs.ErrorList.{IsErrorList, In}
-use Rattle.ix_listing.proofs.Lists.{same_list}
+use Rattle.ix_check.specs.Ranked.{Ranked}
+use Rattle.ix_check.specs.Exactly.{AreExactly}
+use Rattle.ix_check.proofs.Refused.{exactly_none, exactly_same, adds_both}
+use Rattle.ix_check.specs.MethodErrors.{IsErrorOf, IsError}
+use Rattle.ix_check.specs.ErrorList.{IsErrorList, In}
+use Rattle.ix_check.proofs.Lists.{same_list}
 use Rattle.ix_joined.specs.Parts.{is_of_part, IsErrorOfPart, IsErrorBefore, IsErrorBehind}
 
 module _ (before : Bool) (place : ℕ) (program : Program) (profile : Profile) where

@@ -5,7 +5,7 @@ use Rattle.ix_core.specs.declared.fact.Profile.{Profile}
 use Rattle.ix_core.specs.declared.program.Method.{Method}
 use Rattle.ix_core.specs.declared.program.Program.{Program}
 use Rattle.ix_core.specs.Tables.{method_at}
-use Rattle.ix_errors.specs.MethodErrors.{IsErrorOf}
+use Rattle.ix_check.specs.MethodErrors.{IsErrorOf}
 
 -- the method's name stands before the place, or it doesn't
 abbrev pub is_of_part : Bool → ℕ → Method → Bool

@@ -3,17 +3,15 @@ ghost use Rattle.std.specs.Prelude.{◌≡◌, ◌<◌, ◌⊎◌, ◌↔◌, �
 ghost use Rattle.ix_core.specs.declared.error.Error.{Error as Found};
 ghost use Rattle.ix_core.specs.Formed.{Formed};
 ghost use Rattle.ix_core.specs.Tables.{method_at};
-ghost use Rattle.ix_method_errors.specs.Exactly.{AreExactly};
+ghost use Rattle.ix_check.specs.Exactly.{AreExactly};
 ghost use Rattle.ix_check.specs.Judged.{CanCheck};
-ghost use Rattle.ix_errors.specs.MethodErrors.{IsReady, IsError};
+ghost use Rattle.ix_check.specs.MethodErrors.{IsReady, IsError};
 ghost use Rattle.ix_joined.specs.Parts as spec;
 ghost use Rattle.ix_joined.specs.Parts.{IsErrorOfPart, IsErrorBefore, IsErrorBehind};
-ghost use Rattle.ix_listing.specs.ErrorList.{IsErrorList};
+ghost use Rattle.ix_check.specs.ErrorList.{IsErrorList};
 
+use ix_check::{Ranked, list_errors, ranked_errors};
 use ix_core::{Error, Method, Profile, Program};
-use ix_errors::method_errors;
-use ix_listing::list_errors;
-use ix_method_errors::signs::Ranked;
 use ix_ready::{loops_are_in_order, names_are_small, overridden_is_there};
 use ix_solve::Steps;
 use std::alloc::{AllocError, Global};
@@ -49,7 +47,7 @@ fn errors_of_part<L: Ledger>(
     let mut out = Vec::new(alloc);
     for number in 0..program.methods.len() as u32 {
         if is_of_part(before, place, method_of(program, number)) {
-            let mut found = method_errors(alloc, program, number, profile, steps)?;
+            let mut found = ranked_errors(alloc, program, number, profile, steps)?;
             out.append(&mut found)?;
         }
     }

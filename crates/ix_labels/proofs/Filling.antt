@@ -1,6 +1,6 @@
 -- Labels that are made one after the other are those of all nodes, and are the least of the method.
 use Rattle.std.proofs.Common.{◌≡◌, ◌⊎◌, inl, inr, ◌+◌, ◌*◌, ◌-◌, ◌<◌, ◌≤◌, ℕ, zero, suc, true, false, List, [], ◌∷◌, ◌++◌, Some, length, map, slice_get, unwrap_or, arith, refl, sym, ap, subst, ◌∙◌}
-use Rattle.std.proofs.lemmas.Bool.{cases_Bool, cases_lt}
+use Rattle.std.proofs.lemmas.Bool.{cases_Bool, cases_lt, false≢true}
 use Rattle.std.proofs.lemmas.List.{length-map}
 use Rattle.std.proofs.lemmas.Option.{slice_get_within}
 use Rattle.ix_core.specs.declared.fact.Profile.{Profile}
@@ -23,13 +23,14 @@ use Rattle.ix_labels.specs.declared.problem.Problem.{Problem}
 use Rattle.ix_labels.specs.declared.kept.RunLabels.{RunLabels}
 use Rattle.ix_labels.specs.Problem.{rules_of, kinds_at, kind_in, kept_in, readers_of, readers_in, parts_of}
 use Rattle.ix_labels.specs.ProblemLaws.{laws_with, parts_below}
-use Rattle.ix_labels.specs.Runs.{is_kept}
+use Rattle.ix_labels.specs.Runs.{is_kept, node_before, node_in_turn, AreKept}
 use Rattle.ix_labels.specs.RunAsks.{Onto}
 use Rattle.ix_labels.specs.RunLaws.{there}
-use Rattle.ix_labels.specs.Filled.{nodes_of, AreRunLabels, IsLabel, before_in, AreFilledTo, AreFilled, run_visits}
+use Rattle.ix_labels.specs.Filled.{nodes_of, AreRunLabels, IsLabel, AreFilled, run_visits}
 use Rattle.ix_labels.specs.Labels.{AreLabelsOf}
 use Rattle.ix_labels.specs.Visits.{readers_by, visits_by}
 use Rattle.ix_labels.proofs.Bounded.{readers_are}
+use Rattle.ix_labels.proofs.Turns.{turn_of, turn_within, turn_back, turn_down, in_order, order_many, order_there}
 use Rattle.ix_labels.proofs.Filled.{graph_solution, graph_least}
 use Rattle.ix_labels.proofs.Solved.{solved, least}
 
@@ -44,6 +45,11 @@ pub get_last : (xs : List Store) (x : Store) → slice_get (xs ++ x ∷ []) (len
 get_last [] x = refl
 get_last (y ∷ xs) x = get_last xs x
 
+-- the label of the turn before
+abbrev pub before_in : List Store → ℕ → Store
+before_in made zero = nowhere
+before_in made (suc turn) = unwrap_or (slice_get made turn) nowhere
+
 before_front : (xs : List Store) (x : Store) (k : ℕ) → k < suc (length xs) → before_in (xs ++ x ∷ []) k ≡ before_in xs k
 before_front xs x zero within = refl
 before_front xs x (suc k) within = ap (λ o. unwrap_or o nowhere) (get_front xs x k (omega (arith, within)))
@@ -52,25 +58,31 @@ pub one_longer : (xs : List Store) (x : Store) → length (xs ++ x ∷ []) ≡ s
 one_longer [] x = refl
 one_longer (y ∷ xs) x = ap (λ n. suc n) (one_longer xs x)
 
-pub none_filled : (labels : RunLabels) → AreFilledTo labels 0 []
-none_filled labels = record { many = refl; each = λ at label found. absurd (let within = slice_get_within [] at label found in omega (arith, within)) }
+-- These are the labels of the first nodes in turn, so many of them, each by the one before.
+pub record AreMade (labels : RunLabels) (count : ℕ) (made : List Store) : Type 0 where
+  pub many : length made ≡ count
+  pub each : (turn : ℕ) (label : Store) → slice_get made turn ≡ Some label → IsLabel labels (node_in_turn (length (nodes_of labels)) turn) (before_in made turn) label
 
-pub one_filled : (labels : RunLabels) (count : ℕ) (all : List Store) (label : Store) → AreFilledTo labels count all → IsLabel labels count (before_in all count) label → AreFilledTo labels (count + 1) (all ++ label ∷ [])
-one_filled labels count all label filled last = record {
-  many = let n = one_longer all label in let m = filled.many in omega (arith, n, m);
+pub none_made : (labels : RunLabels) → AreMade labels 0 []
+none_made labels = record { many = refl; each = λ at label found. absurd (let within = slice_get_within [] at label found in omega (arith, within)) }
+
+pub one_made : (labels : RunLabels) (count : ℕ) (made : List Store) (label : Store) → AreMade labels count made → IsLabel labels (node_in_turn (length (nodes_of labels)) count) (before_in made count) label → AreMade labels (count + 1) (made ++ label ∷ [])
+one_made labels count made label are last = record {
+  many = let n = one_longer made label in let m = are.many in omega (arith, n, m);
   each = λ at other found.
-      let n = one_longer all label in
-      let m = filled.many in
-      let within = slice_get_within (all ++ label ∷ []) at other found in
-      elim (cases_lt at (length all)) [
-        | inl low ↦ subst (λ b. IsLabel labels at b other) (sym (before_front all label at (omega (arith, low)))) (filled.each at other (sym (get_front all label at low) ∙ found))
+      let n = one_longer made label in
+      let m = are.many in
+      let size = length (nodes_of labels) in
+      let within = slice_get_within (made ++ label ∷ []) at other found in
+      elim (cases_lt at (length made)) [
+        | inl low ↦ subst (λ b. IsLabel labels (node_in_turn size at) b other) (sym (before_front made label at (omega (arith, low)))) (are.each at other (sym (get_front made label at low) ∙ found))
         | inr high ↦
-            let is : length all ≡ at = omega (arith, high, within, n) in
-            let same : Some label ≡ Some other = sym (get_last all label) ∙ ap (slice_get (all ++ label ∷ [])) is ∙ found in
+            let is : length made ≡ at = omega (arith, high, within, n) in
+            let same : Some label ≡ Some other = sym (get_last made label) ∙ ap (slice_get (made ++ label ∷ [])) is ∙ found in
             let label_is : label ≡ other = cc in
             let count_is : count ≡ at = sym m ∙ is in
-            subst (λ l. IsLabel labels at (before_in (all ++ label ∷ []) at) l) label_is
-            (subst (λ b. IsLabel labels at b label) (sym (before_front all label at (omega (arith, is)))) (subst (λ k. IsLabel labels k (before_in all k) label) count_is last))
+            subst (λ l. IsLabel labels (node_in_turn size at) (before_in (made ++ label ∷ []) at) l) label_is
+            (subst (λ b. IsLabel labels (node_in_turn size at) b label) (sym (before_front made label at (omega (arith, is)))) (subst (λ k. IsLabel labels (node_in_turn size k) (before_in made k) label) count_is last))
       ];
 }
 
@@ -78,6 +90,42 @@ pub last_label : (all : List Store) (label : Store) (count : ℕ) → length all
 last_label all label count is =
     let e : suc (length all) ≡ count + 1 = omega (arith, is) in
     ap (λ o. unwrap_or o nowhere) (sym (get_last all label)) ∙ ap (before_in (all ++ label ∷ [])) e
+
+-- ---- labels in turn are those of all nodes
+
+abbrev pub ordered : ℕ → List Store → List Store
+ordered = in_order nowhere
+
+pub ordered_there : (count : ℕ) (made : List Store) (at : ℕ) → length made ≡ count → at < count → slice_get (ordered count made) at ≡ slice_get made (turn_of count at)
+ordered_there = order_there nowhere
+
+pub all_filled : (labels : RunLabels) (made : List Store) → AreMade labels (length (nodes_of labels)) made → AreFilled labels (ordered (length (nodes_of labels)) made)
+all_filled labels made are =
+    let count = length (nodes_of labels) in
+    let all = ordered count made in
+    let many = order_many nowhere count made in
+    let label_of : (at : ℕ) (label : Store) → slice_get all at ≡ Some label → IsLabel labels at (before_in made (turn_of count at)) label = λ at label found.
+    let within : at < count = let low = slice_get_within all at label found in omega (arith, low, many) in
+    subst (λ n. IsLabel labels n (before_in made (turn_of count at)) label) (turn_back count at within)
+    (are.each (turn_of count at) label (sym (ordered_there count made at are.many within) ∙ found)) in
+    record {
+      many = many;
+      kept = λ at label found holds. (label_of at label found).kept holds;
+      passed = λ at label before found there_before fails.
+          let within : at < count = let low = slice_get_within all at label found in omega (arith, low, many) in
+          let node = there (nodes_of labels) at within in
+          let some = (labels.problem.through.passed at node.0 node.1 fails).follows.from.some in
+          let turn = turn_of count at in
+          let down = turn_down count turn some in
+          let last = turn_within count at within in
+          let was : slice_get made (turn_of count turn) ≡ Some before = sym (ordered_there count made turn are.many last) ∙ there_before in
+          let is : before_in made turn ≡ before = ap (before_in made) down ∙ ap (λ o. unwrap_or o nowhere) was in
+          subst (λ b. IsLeastOf IsBelow (Onto (rules_of labels.problem) (kinds_at labels.problem) (node_before count at) (stored b)) (stored label)) is ((label_of at label found).passed fails);
+    }
+
+-- labels that are all kept
+pub kept_filled : (labels : RunLabels) → AreKept (kept_in labels.problem) → AreFilled labels labels.stores.items
+kept_filled labels kept = record { many = labels.all; kept = λ at label found holds. found; passed = λ at label before found there_before fails. absurd (false≢true (sym fails ∙ kept at)) }
 
 -- ---- all labels
 
@@ -102,17 +150,20 @@ module _ (labels : RunLabels) (all : List Store) (filled : AreFilled labels all)
   same : (at : ℕ) → at < length (nodes_of labels) → is_kept (kept_in labels.problem) at ≡ true → label_at (rules_of labels.problem) (map stored all) at ≡ label_at (rules_of labels.problem) (map stored labels.stores.items) at
   same at within holds =
       let l = there all at (let m = filled.many in omega (arith, within, m)) in
-      said_at all at l.0 l.1 ∙ sym (said_at labels.stores.items at l.0 ((filled.each at l.0 l.1).kept holds))
+      said_at all at l.0 l.1 ∙ sym (said_at labels.stores.items at l.0 (filled.kept at l.0 l.1 holds))
 
-  least_there : (last : ℕ) → suc last < length (nodes_of labels) → is_kept (kept_in labels.problem) (suc last) ≡ false
-      → IsLeastOf IsBelow (Onto (rules_of labels.problem) (kinds_at labels.problem) last (label_at (rules_of labels.problem) (map stored all) last)) (label_at (rules_of labels.problem) (map stored all) (suc last))
-  least_there last within fails =
+  least_there : (at : ℕ) → at < length (nodes_of labels) → is_kept (kept_in labels.problem) at ≡ false
+      → IsLeastOf IsBelow (Onto (rules_of labels.problem) (kinds_at labels.problem) (node_before (length (nodes_of labels)) at) (label_at (rules_of labels.problem) (map stored all) (node_before (length (nodes_of labels)) at)))
+      (label_at (rules_of labels.problem) (map stored all) at)
+  least_there at within fails =
+      let count = length (nodes_of labels) in
+      let from = node_before count at in
       let m = filled.many in
-      let l = there all (suc last) (omega (arith, within, m)) in
-      let b = there all last (omega (arith, within, m)) in
-      let before : stored (before_in all (suc last)) ≡ label_at (rules_of labels.problem) (map stored all) last = ap (λ o. stored (unwrap_or o nowhere)) b.1 ∙ sym (said_at all last b.0 b.1) in
-      subst (λ s. IsLeastOf IsBelow (Onto (rules_of labels.problem) (kinds_at labels.problem) last (label_at (rules_of labels.problem) (map stored all) last)) s) (sym (said_at all (suc last) l.0 l.1))
-      (subst (λ s. IsLeastOf IsBelow (Onto (rules_of labels.problem) (kinds_at labels.problem) last s) (stored l.0)) before ((filled.each (suc last) l.0 l.1).passed last refl fails))
+      let low = turn_within count at within in
+      let l = there all at (omega (arith, within, m)) in
+      let b = there all from (omega (arith, low, m)) in
+      subst (λ s. IsLeastOf IsBelow (Onto (rules_of labels.problem) (kinds_at labels.problem) from (label_at (rules_of labels.problem) (map stored all) from)) s) (sym (said_at all at l.0 l.1))
+      (subst (λ s. IsLeastOf IsBelow (Onto (rules_of labels.problem) (kinds_at labels.problem) from s) (stored l.0)) (sym (said_at all from b.0 b.1)) (filled.passed at l.0 b.0 l.1 b.1 fails))
 
   many_said : length (map stored all) ≡ length (nodes_of labels)
   many_said = length-map all stored ∙ filled.many
@@ -189,7 +240,7 @@ each_no_more labels all filled k few by store label at_few at_by at_store at_lab
     let through = labels.problem.through.through k node.0 few node.1 at_few in
     elim (cases_Bool (is_kept (kept_in labels.problem) k)) [
       | inl holds ↦
-          let same : Some store ≡ Some label = sym at_store ∙ (filled.each k label at_label).kept holds in
+          let same : Some store ≡ Some label = sym at_store ∙ filled.kept k label at_label holds in
           let is : store ≡ label = cc in
           inr ((through.ends holds).many ∙ ap length node.2, is)
       | inr fails ↦ inl (through.none fails)

@@ -6,7 +6,7 @@ use Rattle.std.proofs.lemmas.Option.{slice_get_within}
 use Rattle.std.proofs.Math.Seq.{take-suc}
 use Rattle.std.specs.declared.alloc.Global.{Global}
 use Rattle.ix_graph.specs.declared.node.Node.{Node}
-use Rattle.ix_labels.specs.Runs.{is_kept, Passes, PassesAt, ArePassed, EndsAt, AreEnds, ReadsThrough, readers_through}
+use Rattle.ix_labels.specs.Runs.{is_kept, AreKept, Passes, PassesAt, ArePassed, EndsAt, AreEnds, ReadsThrough, readers_through}
 
 kept_front : (kept : List Bool) (b : Bool) (at : ℕ) → at < length kept → is_kept (kept ++ b ∷ []) at ≡ is_kept kept at
 kept_front [] b at within = absurd (omega (arith, within))
@@ -28,8 +28,22 @@ kept_read [] at b within is = absurd (omega (arith, within))
 kept_read (x ∷ kept) zero b within is = sym is
 kept_read (x ∷ kept) (suc at) b within is = kept_read kept at b (omega (arith, within)) is
 
-pub passed_next : (nodes : List Node) (kept : List Bool) (b : Bool) → ArePassed nodes kept → (b ≡ false → PassesAt nodes (length kept)) → ArePassed nodes (kept ++ b ∷ [])
-passed_next nodes kept b passed last at node found fails = elim (cases_lt at (length kept)) [
+kept_stays : (kept : List Bool) (b : Bool) (at : ℕ) → is_kept kept at ≡ false → is_kept (kept ++ b ∷ []) at ≡ false
+kept_stays [] b at fails = cc
+kept_stays (x ∷ kept) b zero fails = fails
+kept_stays (x ∷ kept) b (suc at) fails = kept_stays kept b at fails
+
+passes_still : (count : ℕ) (kept : List Bool) (b : Bool) (at : ℕ) (node : Node) → Passes count kept at node → Passes count (kept ++ b ∷ []) at node
+passes_still count kept b at node passes = record {
+  follows = passes.follows;
+  leads = record {
+    some = passes.leads.some;
+    last = λ reader has other. let last = passes.leads.last reader has other in (last.0, kept_stays kept b 1 last.1);
+  };
+}
+
+pub passed_next : (nodes : List Node) (kept : List Bool) (b : Bool) → ArePassed nodes kept → (b ≡ false → PassesAt nodes kept (length kept)) → ArePassed nodes (kept ++ b ∷ [])
+passed_next nodes kept b passed last at node found fails = passes_still (length nodes) kept b at node (elim (cases_lt at (length kept)) [
   | inl low ↦ passed at node found (sym (kept_front kept b at low) ∙ fails)
   | inr high ↦ elim (cases_lt (length kept) at) [
     | inl past ↦ absurd (false≢true (sym fails ∙ kept_past kept b at past))
@@ -38,7 +52,20 @@ passed_next nodes kept b passed last at node found fails = elim (cases_lt at (le
         let here = last (sym (kept_last kept b) ∙ ap (is_kept (kept ++ b ∷ [])) is ∙ fails) in
         let same : Some here.0 ≡ Some node = sym here.1 ∙ ap (slice_get nodes) is ∙ found in
         let node_is : here.0 ≡ node = cc in
-        subst (λ (n : Node). Passes at n) node_is (subst (λ k. Passes k here.0) is here.2)
+        subst (λ (n : Node). Passes (length nodes) kept at n) node_is (subst (λ k. Passes (length nodes) kept k here.0) is here.2)
+  ]
+])
+
+-- where all are kept
+pub none_passed : (kept : List Bool) → kept ≡ [] → AreKept kept
+none_passed kept is at = ap (λ ks. is_kept ks at) is
+
+pub kept_next : (kept : List Bool) (b : Bool) → AreKept kept → b ≡ true → AreKept (kept ++ b ∷ [])
+kept_next kept b before is at = elim (cases_lt at (length kept)) [
+  | inl low ↦ kept_front kept b at low ∙ before at
+  | inr high ↦ elim (cases_lt (length kept) at) [
+    | inl past ↦ kept_past kept b at past
+    | inr back ↦ let same : length kept ≡ at = omega (arith, high, back) in ap (is_kept (kept ++ b ∷ [])) (sym same) ∙ kept_last kept b ∙ is
   ]
 ]
 
@@ -59,26 +86,26 @@ end_longer : (xs : List ℕ) (x : ℕ) → length (xs ++ x ∷ []) ≡ suc (leng
 end_longer [] x = refl
 end_longer (y ∷ xs) x = ap (λ n. suc n) (end_longer xs x)
 
-pub no_ends : (kept : List Bool) → AreEnds kept [] []
-no_ends kept = record { many = refl; each = λ k from found at_from at_found. absurd (let within = slice_get_within [] k from at_from in omega (arith, within)) }
+pub no_ends : (nodes : List Node) (kept : List Bool) → AreEnds nodes kept [] []
+no_ends nodes kept = record { many = refl; each = λ k from found at_from at_found. absurd (let within = slice_get_within [] k from at_from in omega (arith, within)) }
 
-pub ends_next : (kept : List Bool) (nodes ends : List ℕ) (node end : ℕ) → AreEnds kept nodes ends → EndsAt kept node end → AreEnds kept (nodes ++ node ∷ []) (ends ++ end ∷ [])
-ends_next kept nodes ends node end before last = record {
-  many = let m = before.many in let a = end_longer ends end in let b = end_longer nodes node in omega (arith, m, a, b);
+pub ends_next : (nodes : List Node) (kept : List Bool) (begins ends : List ℕ) (node end : ℕ) → AreEnds nodes kept begins ends → EndsAt nodes kept node end → AreEnds nodes kept (begins ++ node ∷ []) (ends ++ end ∷ [])
+ends_next nodes kept begins ends node end before last = record {
+  many = let m = before.many in let a = end_longer ends end in let b = end_longer begins node in omega (arith, m, a, b);
   each = λ k from found at_from at_found.
       let m = before.many in
-      let within = slice_get_within (nodes ++ node ∷ []) k from at_from in
-      let b = end_longer nodes node in
-      elim (cases_lt k (length nodes)) [
-        | inl low ↦ before.each k from found (sym (end_front nodes node k low) ∙ at_from) (sym (end_front ends end k (omega (arith, low, m))) ∙ at_found)
+      let within = slice_get_within (begins ++ node ∷ []) k from at_from in
+      let b = end_longer begins node in
+      elim (cases_lt k (length begins)) [
+        | inl low ↦ before.each k from found (sym (end_front begins node k low) ∙ at_from) (sym (end_front ends end k (omega (arith, low, m))) ∙ at_found)
         | inr high ↦
-            let is : k ≡ length nodes = omega (arith, high, within, b) in
+            let is : k ≡ length begins = omega (arith, high, within, b) in
             let also : k ≡ length ends = omega (arith, is, m) in
-            let one : Some node ≡ Some from = sym (end_last nodes node k is) ∙ at_from in
+            let one : Some node ≡ Some from = sym (end_last begins node k is) ∙ at_from in
             let two : Some end ≡ Some found = sym (end_last ends end k also) ∙ at_found in
             let node_is : node ≡ from = cc in
             let end_is : end ≡ found = cc in
-            subst (λ n. EndsAt kept n found) node_is (subst (λ e. EndsAt kept node e) end_is last)
+            subst (λ n. EndsAt nodes kept n found) node_is (subst (λ e. EndsAt nodes kept node e) end_is last)
       ];
 }
 
@@ -92,7 +119,7 @@ next_taken xs k d within = (let e : k + 1 ≡ suc k = omega arith in ap (λ j. t
 
 -- the readers of the first nodes, and the next
 abbrev pub ThroughTo : List Node → List Bool → List (List ℕ) → Type 0
-ThroughTo nodes kept readers = (at : ℕ) (node : Node) (by : List ℕ) → slice_get nodes at ≡ Some node → slice_get readers at ≡ Some by → ReadsThrough kept at node.readers.items by
+ThroughTo nodes kept readers = (at : ℕ) (node : Node) (by : List ℕ) → slice_get nodes at ≡ Some node → slice_get readers at ≡ Some by → ReadsThrough nodes kept at node.readers.items by
 
 list_front : (xs : List (List ℕ)) (x : List ℕ) (k : ℕ) → k < length xs → slice_get (xs ++ x ∷ []) k ≡ slice_get xs k
 list_front [] x k within = absurd (omega (arith, within))
@@ -103,7 +130,7 @@ list_last : (xs : List (List ℕ)) (x : List ℕ) → slice_get (xs ++ x ∷ [])
 list_last [] x = refl
 list_last (y ∷ xs) x = list_last xs x
 
-pub through_next : (nodes : List Node) (kept : List Bool) (readers : List (List ℕ)) (node : Node) (by : List ℕ) → ThroughTo nodes kept readers → slice_get nodes (length readers) ≡ Some node → ReadsThrough kept (length readers) node.readers.items by
+pub through_next : (nodes : List Node) (kept : List Bool) (readers : List (List ℕ)) (node : Node) (by : List ℕ) → ThroughTo nodes kept readers → slice_get nodes (length readers) ≡ Some node → ReadsThrough nodes kept (length readers) node.readers.items by
     → ThroughTo nodes kept (readers ++ by ∷ [])
 through_next nodes kept readers node by before there last at other more found at_more =
     let within = slice_get_within (readers ++ by ∷ []) at more at_more in
@@ -116,7 +143,7 @@ through_next nodes kept readers node by before there last at other more found at
           let two : Some by ≡ Some more = sym (list_last readers by) ∙ ap (slice_get (readers ++ by ∷ [])) is ∙ at_more in
           let node_is : node ≡ other = cc in
           let by_is : by ≡ more = cc in
-          subst (λ b. ReadsThrough kept at other.readers.items b) by_is (subst (λ (n : Node). ReadsThrough kept at n.readers.items by) node_is (subst (λ k. ReadsThrough kept k node.readers.items by) is last))
+          subst (λ b. ReadsThrough nodes kept at other.readers.items b) by_is (subst (λ (n : Node). ReadsThrough nodes kept at n.readers.items by) node_is (subst (λ k. ReadsThrough nodes kept k node.readers.items by) is last))
     ]
 
 pub through_pushed : (rows more : List (Vec ℕ Global)) (row : Vec ℕ Global) → more ≡ rows ++ row ∷ [] → readers_through more ≡ readers_through rows ++ row.items ∷ []

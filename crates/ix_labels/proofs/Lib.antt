@@ -3,6 +3,7 @@ mod SameLandmarks
 mod KeptNodes
 mod Solved
 mod Filled
+pub mod Turns
 pub mod Filling
 pub mod Bounded
 -- Passed on from ix_method.

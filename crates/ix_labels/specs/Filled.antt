@@ -1,5 +1,5 @@
 -- The labels of all nodes, by those that are kept.
-use Rattle.std.specs.Prelude.{◌≡◌, ℕ, zero, suc, ◌+◌, true, false, List, length, map, slice_get, Some, unwrap_or}
+use Rattle.std.specs.Prelude.{◌≡◌, ℕ, ◌+◌, true, false, List, length, map, slice_get, Some}
 use Rattle.ix_core.specs.declared.fact.Profile.{Profile}
 use Rattle.ix_core.specs.declared.program.Method.{Method}
 use Rattle.ix_core.specs.declared.program.Program.{Program}
@@ -12,13 +12,13 @@ use Rattle.ix_graph.specs.Built.{kinds_of}
 use Rattle.ix_graph.specs.Linked.{kinds_in}
 use Rattle.ix_method.specs.Store.{Store}
 use Rattle.ix_method.specs.StoredFacts.{stored}
-use Rattle.ix_method.specs.StoreOrder.{nowhere, store_rank, top_rank}
+use Rattle.ix_method.specs.StoreOrder.{store_rank, top_rank}
 use Rattle.ix_solve.specs.Readers.{readings}
 use Rattle.ix_solve.specs.Solutions.{IsSolution, IsLeast, IsLeastOf}
 use Rattle.ix_labels.specs.declared.problem.Problem.{Problem}
 use Rattle.ix_labels.specs.declared.kept.RunLabels.{RunLabels}
 use Rattle.ix_labels.specs.Problem.{rules_of, kinds_at, kept_in, readers_of, Asks}
-use Rattle.ix_labels.specs.Runs.{is_kept}
+use Rattle.ix_labels.specs.Runs.{is_kept, node_before}
 use Rattle.ix_labels.specs.RunAsks.{Onto}
 
 abbrev pub nodes_of : RunLabels → List Node
@@ -38,23 +38,18 @@ pub record AreRunLabels (program : Program) (method : Method) (profile : Profile
   pub solution : IsSolution IsBelow (length (nodes_of labels)) (Asks labels.problem) (map stored labels.stores.items)
   pub least : IsLeast IsBelow (length (nodes_of labels)) (Asks labels.problem) (map stored labels.stores.items)
 
--- The label of a node is the one that is kept, or the least by that of the node before it.
+-- The label of a node is the one that is kept, or the least by that of the node before it in turn.
 pub record IsLabel (labels : RunLabels) (at : ℕ) (before label : Store) : Type 0 where
   pub kept : is_kept (kept_in labels.problem) at ≡ true → slice_get labels.stores.items at ≡ Some label
-  pub passed : (last : ℕ) → at ≡ suc last → is_kept (kept_in labels.problem) at ≡ false → IsLeastOf IsBelow (Onto (rules_of labels.problem) (kinds_at labels.problem) last (stored before)) (stored label)
+  pub passed : is_kept (kept_in labels.problem) at ≡ false
+      → IsLeastOf IsBelow (Onto (rules_of labels.problem) (kinds_at labels.problem) (node_before (length (nodes_of labels)) at) (stored before)) (stored label)
 
--- the label of the node before
-abbrev pub before_in : List Store → ℕ → Store
-before_in all zero = nowhere
-before_in all (suc at) = unwrap_or (slice_get all at) nowhere
-
--- these are the labels of the first so many nodes, and of all nodes
-pub record AreFilledTo (labels : RunLabels) (count : ℕ) (all : List Store) : Type 0 where
-  pub many : length all ≡ count
-  pub each : (at : ℕ) (label : Store) → slice_get all at ≡ Some label → IsLabel labels at (before_in all at) label
-
-abbrev pub AreFilled : RunLabels → List Store → Type 0
-AreFilled labels all = AreFilledTo labels (length (nodes_of labels)) all
+-- These are the labels of all nodes: each is the one that is kept, or the least by that of the node before it in turn.
+pub record AreFilled (labels : RunLabels) (all : List Store) : Type 0 where
+  pub many : length all ≡ length (nodes_of labels)
+  pub kept : (at : ℕ) (label : Store) → slice_get all at ≡ Some label → is_kept (kept_in labels.problem) at ≡ true → slice_get labels.stores.items at ≡ Some label
+  pub passed : (at : ℕ) (label before : Store) → slice_get all at ≡ Some label → slice_get all (node_before (length (nodes_of labels)) at) ≡ Some before → is_kept (kept_in labels.problem) at ≡ false
+      → IsLeastOf IsBelow (Onto (rules_of labels.problem) (kinds_at labels.problem) (node_before (length (nodes_of labels)) at) (stored before)) (stored label)
 
 -- a visit of each node, and of each that reads a label one more for each step that the label can have risen
 abbrev pub run_visits : RunLabels → ℕ

@@ -2,7 +2,7 @@
 pub mod Problem
 pub mod ProblemLaws
 pub mod SmallOnce
--- Straight runs of operations, within which labels are passed.
+-- Straight runs of nodes, within which labels are passed.
 pub mod Runs
 pub mod RunAsks
 pub mod RunLaws

@@ -1,7 +1,7 @@
 -- What is asked where labels within runs are passed is monotone, and depends on what is read.
 use Rattle.std.specs.List.{AllZip}
-use Rattle.std.proofs.Common.{◌≡◌, ◌⊎◌, inl, inr, ◌<◌, ◌≤◌, ◌-◌, ℕ, zero, suc, Bool, true, false, List, [], ◌∷◌, None, Some, length, slice_get, unwrap_or, arith, refl, sym, ap, subst, ◌∙◌}
-use Rattle.std.proofs.lemmas.Bool.{cases_Bool}
+use Rattle.std.proofs.Common.{◌≡◌, ◌⊎◌, inl, inr, ◌<◌, ◌≤◌, ℕ, zero, suc, Bool, true, false, List, [], ◌∷◌, None, Some, length, slice_get, unwrap_or, arith, refl, sym, ap, subst, ◌∙◌}
+use Rattle.std.proofs.lemmas.Bool.{cases_Bool, cases_eq, cases_lt, false≢true}
 use Rattle.std.proofs.lemmas.Option.{get_or_from_slice_get}
 use Rattle.ix_core.specs.Posts.{last_done}
 use Rattle.ix_flow.specs.Flow.{Rules, RulesLaws, Anything}
@@ -16,7 +16,7 @@ use Rattle.ix_graph.specs.Linked.{HaveEdges}
 use Rattle.ix_graph.proofs.AsProblem.{Among, LeadTo, all_lead}
 use Rattle.ix_solve.specs.Solutions.{IsMonotone}
 use Rattle.ix_solve.specs.Readers.{DependsOnRead, AgreeWhereRead}
-use Rattle.ix_labels.specs.Runs.{is_kept, AreRuns, IsEnd, Passes}
+use Rattle.ix_labels.specs.Runs.{is_kept, node_before, AreRuns, IsEnd}
 use Rattle.ix_labels.specs.RunAsks.{Either, Onto, RunsTo, RunsBring, RunAsks}
 
 -- ---- one of two
@@ -50,6 +50,14 @@ place_of : (n : ℕ) (ms : List ℕ) → Among n ms → (k : ℕ) × (k < length
 place_of n [] has = absurd has
 place_of n (m ∷ ms) (inl is) = (0, omega arith, ap (λ j. Some j) (sym is))
 place_of n (m ∷ ms) (inr has) = let r = place_of n ms has in (suc r.0, omega (arith, r.1), r.2)
+
+none_among : (ms : List ℕ) → ((n : ℕ) → Among n ms → ⊥) → ms ≡ []
+none_among [] none = refl
+none_among (m ∷ ms) none = absurd (none m (inl refl))
+
+came_back : (count at : ℕ) → 1 < suc at → node_before count (suc at) ≡ at
+came_back count zero more = absurd (omega (arith, more))
+came_back count (suc at) more = refl
 
 module _ (R : Rules) (L : RulesLaws R) where
   pub label_below : (a b : List R.Store) (k : ℕ) → AllZip R.Below a b → R.Below (label_at R a k) (label_at R b k)
@@ -99,12 +107,39 @@ module _ (R : Rules) (L : RulesLaws R) where
           (λ holds r. (r.0, all_more a b (edges at) r.0 zip r.1, settles_up (kinds at) r.0 v w r.2 up))
           (λ fails r. r) asks
 
+    -- ---- nodes that are passed
+
+    module _ (nodes : List Node) (readers : List (List ℕ)) (runs : AreRuns nodes kept readers) where
+      pub first_kept : 0 < length nodes → is_kept kept 0 ≡ true
+      first_kept within = elim (cases_Bool (is_kept kept 0)) [
+        | inl holds ↦ holds
+        | inr fails ↦ let n = there nodes 0 within in let some = (runs.passed 0 n.0 n.1 fails).follows.from.some in absurd (omega (arith, some))
+      ]
+
+      module _ (parts : List Part) (have : HaveEdges nodes (edges_of parts)) (below : AreBelow (length nodes) parts) where
+        -- the one edge to a node that is passed
+        pub edge_is : (at : ℕ) → at < length nodes → is_kept kept at ≡ false → edges_to at (edges_of parts) ≡ (node_before (length nodes) at, Next) ∷ []
+        edge_is at within fails = let n = there nodes at within in sym (have at n.0 n.1).from ∙ (runs.passed at n.0 n.1 fails).follows.from.one
+
+        -- the node that it comes from
+        pub edge_leads : (at : ℕ) → at < length nodes → is_kept kept at ≡ false → (node_before (length nodes) at < length nodes) × Among at (targets_from (node_before (length nodes) at) (edges_of parts))
+        edge_leads at within fails = let lead = subst (LeadTo (length nodes) at (edges_of parts)) (edge_is at within fails) (all_lead (length nodes) at parts below) in (lead.0, lead.1)
+
+        -- it is the one of the number before, if the label is read
+        pub behind : (at reader : ℕ) → suc at < length nodes → is_kept kept (suc at) ≡ false → Among reader (targets_from (suc at) (edges_of parts)) → node_before (length nodes) (suc at) ≡ at
+        behind at reader within fails has =
+            let n = there nodes (suc at) within in
+            came_back (length nodes) at ((runs.passed (suc at) n.0 n.1 fails).leads.some reader (subst (Among reader) (sym (have (suc at) n.0 n.1).readers) has))
+
+        pub lead_before : (at reader : ℕ) → suc at < length nodes → is_kept kept (suc at) ≡ false → Among reader (targets_from (suc at) (edges_of parts)) → Among (suc at) (targets_from at (edges_of parts))
+        lead_before at reader within fails has = subst (λ n. Among (suc at) (targets_from n (edges_of parts))) (behind at reader within fails has) (edge_leads (suc at) within fails).1
+
     -- ---- what is read
 
     module _ (nodes : List Node) (readers : List (List ℕ)) (parts : List Part) (runs : AreRuns nodes kept readers) (have : HaveEdges nodes (edges_of parts)) (below : AreBelow (length nodes) parts)
         (at : ℕ) (a b : List R.Store) (agree : AgreeWhereRead readers at a b) where
       -- a label that is kept, from which a run leads to the node
-      kept_reads : (from reader : ℕ) → from < length nodes → is_kept kept from ≡ true → Among reader (targets_from from (edges_of parts)) → IsEnd kept reader at → label_at R a from ≡ label_at R b from
+      kept_reads : (from reader : ℕ) → from < length nodes → is_kept kept from ≡ true → Among reader (targets_from from (edges_of parts)) → IsEnd nodes kept reader at → label_at R a from ≡ label_at R b from
       kept_reads from reader within holds has end =
           let n = there nodes from within in
           let inside : from < length readers = omega (arith, within, runs.many) in
@@ -118,29 +153,22 @@ module _ (R : Rules) (L : RulesLaws R) where
           let found : slice_get by.0 k ≡ Some at = e.1 ∙ ap (λ j. Some j) is in
           ap (λ o. unwrap_or o R.nowhere) (agree from by.0 by.1 (k, here, get_or_from_slice_get by.0 k at at found))
 
-      only_reader : (reader other : ℕ) → Among reader (other ∷ []) → reader ≡ other
-      only_reader reader other (inl is) = is
-      only_reader reader other (inr none) = absurd none
-
-      no_first : (node : Node) → Passes 0 node → ⊥
-      no_first node passes = let some = passes.from.some in omega (arith, some)
-
-      -- the node before one that is passed, and that it leads there
-      edge_before : (from : ℕ) (node : Node) → slice_get nodes (suc from) ≡ Some node → Passes (suc from) node → Among (suc from) (targets_from from (edges_of parts))
-      edge_before from node found passes =
-          let back : suc from - 1 ≡ from = omega arith in
-          let is : edges_to (suc from) (edges_of parts) ≡ (from, Next) ∷ [] = sym (have (suc from) node found).from ∙ passes.from.one ∙ ap (λ n. (n, Next) ∷ []) back in
-          (subst (LeadTo (length nodes) (suc from) (edges_of parts)) is (all_lead (length nodes) (suc from) parts below)).1
-
       -- the end of a run from one node earlier
-      end_before : (from : ℕ) → is_kept kept from ≡ false → IsEnd kept (suc from) at → IsEnd kept from at
-      end_before from fails end = record {
+      end_before : (from reader : ℕ) (node : Node) → slice_get nodes from ≡ Some node → Among reader node.readers.items → is_kept kept from ≡ false → IsEnd nodes kept (suc from) at → IsEnd nodes kept from at
+      end_before from reader node found has fails end = record {
         on = let on = end.on in omega (arith, on);
         within = end.within;
         kept_there = end.kept_there;
         passed = λ k low high. elim (between from k low) [
           | inl is ↦ subst (λ n. is_kept kept n ≡ false) is fails
           | inr more ↦ end.passed k more high
+        ];
+        leads = λ k other low high there empty. elim (between from k low) [
+          | inl is ↦
+              let one : Some node ≡ Some other = sym found ∙ ap (slice_get nodes) is ∙ there in
+              let same : node ≡ other = cc in
+              subst (Among reader) (ap (λ (n : Node). n.readers.items) same ∙ empty) has
+          | inr more ↦ end.leads k other more high there empty
         ];
       }
         where
@@ -153,28 +181,44 @@ module _ (R : Rules) (L : RulesLaws R) where
             | inr more ↦ inr (omega (arith, more))
           ]
 
-      runs_same : (from reader : ℕ) (v : R.Store) → from < length nodes → Among reader (targets_from from (edges_of parts)) → IsEnd kept reader at → RunsTo R kinds kept a from v → RunsTo R kinds kept b from v
-      runs_same zero reader v within has end runs_to = elim (cases_Bool (is_kept kept 0)) [
-        | inl holds ↦ subst (λ s. R.Below s v) (kept_reads 0 reader within holds has end) runs_to
-        | inr fails ↦ let n = there nodes 0 within in absurd (no_first n.0 (runs.passed 0 n.0 n.1 fails))
+      -- no run leads to a node that is kept through the end of the body, if that is passed
+      not_end : 1 < length nodes → is_kept kept 1 ≡ false → IsEnd nodes kept 1 at → ⊥
+      not_end many fails end = elim (cases_lt 1 at) [
+        | inl more ↦
+            let n = there nodes 1 many in
+            let leads = (runs.passed 1 n.0 n.1 fails).leads in
+            end.leads 1 n.0 (omega arith) more n.1 (none_among n.0.readers.items (λ reader has. let one = leads.some reader has in omega (arith, one)))
+        | inr low ↦
+            let on = end.on in
+            let is : at ≡ 1 = omega (arith, low, on) in
+            false≢true (sym fails ∙ ap (is_kept kept) (sym is) ∙ end.kept_there)
       ]
+
+      runs_same : (from reader : ℕ) (v : R.Store) → from < length nodes → Among reader (targets_from from (edges_of parts)) → IsEnd nodes kept reader at → RunsTo R kinds kept a from v → RunsTo R kinds kept b from v
+      runs_same zero reader v within has end runs_to = subst (λ s. R.Below s v) (kept_reads 0 reader within (first_kept nodes readers runs within) has end) runs_to
       runs_same (suc from) reader v within has end runs_to =
           let n = there nodes (suc from) within in
+          let reads = subst (Among reader) (sym (have (suc from) n.0 n.1).readers) has in
           each_of_two (is_kept kept (suc from)) (R.Below (label_at R a (suc from)) v) ((before : R.Store) × RunsTo R kinds kept a from before × Onto R kinds from before v)
           (R.Below (label_at R b (suc from)) v) ((before : R.Store) × RunsTo R kinds kept b from before × Onto R kinds from before v)
           (λ holds low. subst (λ s. R.Below s v) (kept_reads (suc from) reader within holds has end) low)
           (λ fails r.
-          let passes = runs.passed (suc from) n.0 n.1 fails in
-          let is : reader ≡ suc (suc from) = only_reader reader (suc (suc from)) (subst (Among reader) (sym (have (suc from) n.0 n.1).readers ∙ passes.readers) has) in
-          let next = end_before (suc from) fails (subst (λ m. IsEnd kept m at) is end) in
-          (r.0, runs_same from (suc from) r.0 (omega (arith, within)) (edge_before from n.0 n.1 passes) next r.1, r.2)) runs_to
+          let leads = (runs.passed (suc from) n.0 n.1 fails).leads in
+          let lead = lead_before nodes readers runs parts have below from reader within fails has in
+          elim (cases_eq reader (suc (suc from))) [
+            | inl is ↦ (r.0, runs_same from (suc from) r.0 (omega (arith, within)) lead (end_before (suc from) reader n.0 n.1 reads fails (subst (λ m. IsEnd nodes kept m at) is end)) r.1, r.2)
+            | inr other ↦
+                let last = leads.last reader reads other in
+                let some = leads.some reader reads in
+                absurd (not_end (omega (arith, within, some)) last.1 (subst (λ m. IsEnd nodes kept m at) last.0 end))
+          ]) runs_to
 
-      all_same : (froms : List (ℕ × Edge)) (joined : R.Store) → IsEnd kept at at → LeadTo (length nodes) at (edges_of parts) froms → RunsBring R kinds kept a froms joined → RunsBring R kinds kept b froms joined
+      all_same : (froms : List (ℕ × Edge)) (joined : R.Store) → IsEnd nodes kept at at → LeadTo (length nodes) at (edges_of parts) froms → RunsBring R kinds kept a froms joined → RunsBring R kinds kept b froms joined
       all_same [] joined end lead all = tt
       all_same (from ∷ froms) joined end lead all = ((all.0.0, runs_same from.0 at all.0.0 lead.0 lead.1 end all.0.1, all.0.2), all_same froms joined end lead.2 all.1)
 
-      itself_end : at < length kept → is_kept kept at ≡ true → IsEnd kept at at
-      itself_end within holds = record { on = omega arith; within = within; kept_there = holds; passed = λ k low high. absurd (omega (arith, low, high)) }
+      itself_end : at < length kept → is_kept kept at ≡ true → IsEnd nodes kept at at
+      itself_end within holds = record { on = omega arith; within = within; kept_there = holds; passed = λ k low high. absurd (omega (arith, low, high)); leads = λ k node low high. absurd (omega (arith, low, high)) }
 
       pub asks_same : (value : R.Store) → at < length nodes → RunAsks R kinds kept (λ n. edges_to n (edges_of parts)) at a value → RunAsks R kinds kept (λ n. edges_to n (edges_of parts)) at b value
       asks_same value within asks =

@@ -7,7 +7,7 @@ ghost use Rattle.ix_method.specs.Naming.{HasSmallNames, HaveSmallNames};
 ghost use Rattle.ix_labels.specs.Labels.{AreLabels};
 ghost use Rattle.ix_labels.specs.Visits.{visits_by};
 
-use crate::run_labels::label_runs;
+use crate::run_labels::solved;
 use ix_core::{Method, Profile, Program};
 use ix_graph::Graph;
 use ix_method::Store;
@@ -37,8 +37,7 @@ pub fn label_nodes<'a, L: Ledger>(
     ensures at_least { IfOk result (λ labels. steps.old + behind_code (block_code within.now.body) 2 ≤ steps.new) }
     ensures at_most { IfOk result (λ labels. steps.new ≤ steps.old + visits_by (block_code within.now.body) labels.stores.items) }
 {
-    let labels = label_runs(alloc, program, within, profile, steps)?;
-    let stores = labels.all(alloc)?;
-    let graph = labels.into_graph();
+    let labels = solved(alloc, program, within, profile, false, steps)?;
+    let (graph, stores) = labels.into_parts();
     Ok(Labels { graph, stores })
 }

@@ -1,14 +1,16 @@
 //! The least labels of a method, of which those within straight runs of a large graph are not kept.
 
-ghost use Rattle.std.specs.Prelude.{◌≡◌, ◌+◌, ◌<◌, ◌≤◌, IfOk, length};
+ghost use Rattle.std.specs.Prelude.{◌≡◌, ◌+◌, ◌<◌, ◌≤◌, false, IfOk, length};
 ghost use Rattle.ix_core.specs.Code.{block_code};
 ghost use Rattle.ix_graph.specs.Graph.{behind_code};
 ghost use Rattle.ix_method.specs.Naming.{HasSmallNames, HaveSmallNames};
-ghost use Rattle.ix_labels.specs.Filled.{IsProblemOf, AreRunLabels, IsLabel, AreFilled, nodes_of, run_visits};
+ghost use Rattle.ix_labels.specs.Filled.{IsProblemOf, AreRunLabels, IsLabel, nodes_of, run_visits};
+ghost use Rattle.ix_labels.specs.Problem.{kept_in};
+ghost use Rattle.ix_labels.specs.Runs.{AreKept, node_in_turn};
 
 use crate::kept::RunLabels;
 use crate::problem::Problem;
-use crate::runs::runs_in;
+use crate::runs::{node_before, runs_in};
 use ix_core::{Method, Profile, Program};
 use ix_graph::{Edge, Graph, Node, graph, sweep_parts};
 use ix_landmarks::landmarks;
@@ -28,7 +30,22 @@ impl<'a> RunLabels<'a> {
         self.problem.graph.nodes.as_slice()
     }
 
-    /// The label of a node, by that of the node before it.
+    /// The node whose turn it is, where labels are made one after the other, each by the one before: that of the end of the body last.
+    pub fn node_in_turn(&self, turn: usize) -> usize
+        requires { turn < length (nodes_of self.now) }
+        ensures node { result ≡ node_in_turn (length (nodes_of self.now)) turn }
+        ensures within { result < length (nodes_of self.now) }
+    {
+        if turn == 0 {
+            0
+        } else if turn + 1 == self.problem.graph.nodes.len() {
+            1
+        } else {
+            turn + 1
+        }
+    }
+
+    /// The label of a node, by that of the node before it in turn.
     pub fn label(&self, alloc: Global, at: usize, before: &Store) -> Result<Store, AllocError>
         requires { at < length (nodes_of self.now) }
         ensures { IfOk result (IsLabel self.now at before.now) }
@@ -36,46 +53,43 @@ impl<'a> RunLabels<'a> {
         if self.problem.runs.kept[at] {
             self.stores[at].share()
         } else {
-            self.problem.brought(alloc, (at - 1, Edge::Next), before)
+            let from = node_before(self.problem.graph.nodes.len(), at);
+            self.problem.brought(alloc, (from, Edge::Next), before)
         }
     }
 
-    /// The labels of all nodes.
-    pub(crate) fn all(&self, alloc: Global) -> Result<Vec<Store>, AllocError>
-        ensures { IfOk result (λ stores. AreFilled self.now stores.items) }
+    /// The graph, and what is kept.
+    pub(crate) fn into_parts(self) -> (Graph<'a>, Vec<Store>)
+        ensures graph { result.0 ≡ self.entry.problem.graph }
+        ensures stores { result.1 ≡ self.entry.stores }
     {
-        let mut stores = Vec::new(alloc);
-        let mut label = Store::unreachable();
-        for at in 0..self.problem.graph.nodes.len() {
-            label = self.label(alloc, at, &label)?;
-            stores.push(label.share()?)?;
-        }
-        Ok(stores)
-    }
-
-    pub(crate) fn into_graph(self) -> Graph<'a>
-        ensures { result ≡ self.entry.problem.graph }
-    {
-        let RunLabels { problem, .. } = self;
+        let RunLabels {
+            problem,
+            stores,
+            ..
+        } = self;
         let Problem { graph, .. } = problem;
-        graph
+        (graph, stores)
     }
 }
 
-/// The method as a problem.
+/// The method as a problem, whose labels are all kept if no runs are wanted.
 fn problem_of<'a>(
     alloc: Global,
     program: &'a Program,
     within: &'a Method,
     profile: Profile,
+    passing: bool,
 ) -> Result<Problem<'a>, AllocError>
     requires program { HaveSmallNames program.now }
     requires method { HasSmallNames within.now }
-    ensures { IfOk result (IsProblemOf program.now within.now profile) }
+    ensures problem { IfOk result (IsProblemOf program.now within.now profile) }
+    ensures all { IfOk result (λ problem. passing ≡ false → AreKept (kept_in problem)) }
 {
     let marks = landmarks(alloc, program, within)?;
     let graph = graph(alloc, within)?;
-    let runs = runs_in(alloc, graph.nodes.as_slice(), graph.nodes.len() >= MANY)?;
+    let wanted = passing && graph.nodes.len() >= MANY;
+    let runs = runs_in(alloc, graph.nodes.as_slice(), wanted)?;
     Ok(Problem {
         program,
         within,
@@ -84,6 +98,28 @@ fn problem_of<'a>(
         graph,
         runs,
     })
+}
+
+/// The least labels of a method in a profile, all of which are kept if no runs are wanted.
+pub(crate) fn solved<'a, L: Ledger>(
+    alloc: Global,
+    program: &'a Program,
+    within: &'a Method,
+    profile: Profile,
+    passing: bool,
+    steps: &mut Steps<L>,
+) -> Result<RunLabels<'a>, AllocError>
+    requires program { HaveSmallNames program.now }
+    requires method { HasSmallNames within.now }
+    ensures labels { IfOk result (AreRunLabels program.now within.now profile) }
+    ensures all { IfOk result (λ labels. passing ≡ false → AreKept (kept_in labels.problem)) }
+    ensures at_least { IfOk result (λ labels. steps.old + behind_code (block_code within.now.body) 2 ≤ steps.new) }
+    ensures at_most { IfOk result (λ labels. steps.new ≤ steps.old + run_visits labels) }
+{
+    let problem = problem_of(alloc, program, within, profile, passing)?;
+    let parts = sweep_parts(alloc, &problem.graph)?;
+    let stores = solve_graph(alloc, &problem, &parts, steps)?;
+    Ok(RunLabels { problem, stores })
 }
 
 /// The least labels of a method in a profile. The one error is want of memory. Each node is visited at least once, and then only where a label that it reads
@@ -101,8 +137,5 @@ pub fn label_runs<'a, L: Ledger>(
     ensures at_least { IfOk result (λ labels. steps.old + behind_code (block_code within.now.body) 2 ≤ steps.new) }
     ensures at_most { IfOk result (λ labels. steps.new ≤ steps.old + run_visits labels) }
 {
-    let problem = problem_of(alloc, program, within, profile)?;
-    let parts = sweep_parts(alloc, &problem.graph)?;
-    let stores = solve_graph(alloc, &problem, &parts, steps)?;
-    Ok(RunLabels { problem, stores })
+    solved(alloc, program, within, profile, true, steps)
 }

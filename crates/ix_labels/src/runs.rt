@@ -1,13 +1,15 @@
-//! Straight runs of operations: of which nodes labels are kept, and which nodes read them.
+//! Straight runs of nodes: of which nodes labels are kept, and which nodes read them.
 
-ghost use Rattle.std.specs.Prelude.{◌≡◌, ◌⊎◌, ◌<◌, ◌≤◌, ℕ, IfOk, List, Vec, All, length, map, true, false, ◌+◌, ◌∷◌, []};
-ghost use Rattle.std.specs.declared.alloc.Global.{Global};
+ghost use Rattle.std.specs.Prelude.{◌≡◌, ◌<◌, IfOk, List, All, length, true, false, ◌∷◌, []};
 ghost use Rattle.ix_graph.specs.Built.{kind_of};
 ghost use Rattle.ix_graph.specs.declared.node.Edge.TheVariants as edge;
 ghost use Rattle.ix_labels.specs.Runs as spec;
 
 use ix_graph::{Edge, Node, NodeKind};
 use std::alloc::{AllocError, Global};
+
+/// The node that stands for the end of the body.
+const END: usize = 1;
 
 /// Of each node whether its label is kept, and the nodes that read it.
 #[derive(Drop)]
@@ -16,12 +18,14 @@ pub(crate) struct Runs {
     pub(crate) readers: Vec<Vec<usize>>,
 }
 
-fn is_operation(kind: &NodeKind<'_>) -> bool
-    ensures { result ≡ spec.is_operation (kind_of kind.now) }
+/// Whether the label of such a node is the store above what its edges bring.
+fn is_plain(kind: &NodeKind<'_>) -> bool
+    ensures { result ≡ spec.is_plain (kind_of kind.now) }
 {
     match kind {
-        NodeKind::Do(_) => true,
-        _ => false,
+        NodeKind::Entry => false,
+        NodeKind::Head(_, _) => false,
+        _ => true,
     }
 }
 
@@ -34,75 +38,109 @@ fn is_next(way: Edge) -> bool
     }
 }
 
-/// Whether one edge leads to the node, from the node before it.
-fn comes_from_before(from: &[(usize, Edge)], at: usize) -> bool
-    ensures { result ≡ true → spec.ComesFromBefore at from.now }
+/// The node before one of so many, in the order in which labels are made one after the other, that of the end of the body last.
+pub(crate) fn node_before(count: usize, at: usize) -> usize
+    requires { at < count }
+    ensures node { result ≡ spec.node_before count at }
+    ensures within { result < count }
 {
-    if at == 0 || from.len() != 1 {
+    if at == 0 {
+        0
+    } else if at == END {
+        count - 1
+    } else {
+        at - 1
+    }
+}
+
+/// Whether one edge leads to the node, from the node before it, which is one of the code's.
+fn comes_from_before(from: &[(usize, Edge)], count: usize, at: usize) -> bool
+    requires { at < count }
+    ensures { result ≡ true → spec.ComesFromBefore count at from.now }
+{
+    if from.len() != 1 {
         return false;
     }
     let (before, way) = from[0];
-    before == at - 1 && is_next(way)
+    before > END && before == node_before(count, at) && is_next(way)
 }
 
-/// Whether the node behind this one is its only reader.
-fn leads_on(readers: &[usize], at: usize) -> bool
-    ensures { result ≡ true → readers.now ≡ (at + 1) ∷ [] }
+/// Whether a node is one more of a run.
+fn goes_on(node: &Node<'_>, count: usize, at: usize) -> bool
+    requires { at < count }
+    ensures { result ≡ true → spec.GoesOn count at node.now }
 {
-    if readers.len() != 1 {
-        return false;
-    }
-    let reader = readers[0];
-    reader > at && reader - 1 == at
+    is_plain(&node.kind) && comes_from_before(node.from.as_slice(), count, at)
 }
 
-/// Whether a node may be passed.
-fn passes(node: &Node<'_>, at: usize) -> bool
-    ensures { result ≡ true → spec.Passes at node.now }
+/// Whether this node is the only reader.
+fn only_reads(reader: usize, readers: &[usize]) -> bool
+    ensures { result ≡ true → readers.now ≡ reader ∷ [] }
 {
-    is_operation(&node.kind)
-        && comes_from_before(node.from.as_slice(), at)
-        && leads_on(node.readers.as_slice(), at)
+    readers.len() == 1 && readers[0] == reader
 }
 
-/// Whether the node is one more of a run.
-fn goes_on(nodes: &[Node<'_>], at: usize) -> bool {
-    at < nodes.len()
-        && is_operation(&nodes[at].kind)
-        && comes_from_before(nodes[at].from.as_slice(), at)
-}
-
-/// Whether the label of a node is kept, which all are if no runs are wanted. The last of a run is, since all that it leads to would walk the run again.
-fn is_kept(nodes: &[Node<'_>], at: usize, runs: bool) -> bool
-    requires { at < length nodes.now }
-    ensures { result ≡ false → spec.PassesAt nodes.now at }
+/// Whether a node's label is read by no node, or by one alone to which only this node leads: the next of the code, or the end of the body, if that one is passed.
+fn leads_on(nodes: &[Node<'_>], kept: &[bool], at: usize, readers: &[usize]) -> bool
+    requires node { at < length nodes.now }
+    requires kept { length kept.now ≡ at }
+    ensures { result ≡ true → spec.LeadsOn kept.now at readers.now }
 {
-    if !runs || !goes_on(nodes, at + 1) {
+    if readers.len() == 0 {
         return true;
     }
-    !passes(&nodes[at], at)
+    if at <= END {
+        return false;
+    }
+    if only_reads(END, readers) {
+        return !kept[END];
+    }
+    at + 1 < nodes.len()
+        && only_reads(at + 1, readers)
+        && goes_on(&nodes[at + 1], nodes.len(), at + 1)
+}
+
+/// Whether the label of a node is kept, which all are if no runs are wanted. That of the last node of a run is where others lead to the same node as well,
+/// since that node would walk the run again at each of its visits.
+fn is_kept(nodes: &[Node<'_>], kept: &[bool], at: usize, runs: bool) -> bool
+    requires node { at < length nodes.now }
+    requires kept { length kept.now ≡ at }
+    ensures passed { result ≡ false → spec.PassesAt nodes.now kept.now at }
+    ensures all { runs ≡ false → result ≡ true }
+{
+    if !runs {
+        return true;
+    }
+    let node = &nodes[at];
+    if !goes_on(node, nodes.len(), at) {
+        return true;
+    }
+    !leads_on(nodes, kept, at, node.readers.as_slice())
 }
 
 /// Of each node whether its label is kept: of all of them, if no runs are wanted.
 fn kept_of(alloc: Global, nodes: &[Node<'_>], runs: bool) -> Result<Vec<bool>, AllocError>
-    ensures all { IfOk result (λ kept. length kept.items ≡ length nodes.now) }
+    ensures many { IfOk result (λ kept. length kept.items ≡ length nodes.now) }
     ensures passed { IfOk result (λ kept. spec.ArePassed nodes.now kept.items) }
+    ensures all { IfOk result (λ kept. runs ≡ false → spec.AreKept kept.items) }
 {
     let mut kept = Vec::new(alloc);
     for at in 0..nodes.len() {
-        kept.push(is_kept(nodes, at, runs))?;
+        let here = is_kept(nodes, kept.as_slice(), at, runs);
+        kept.push(here)?;
     }
     Ok(kept)
 }
 
-/// The end of the run that begins with a node: the first from there on whose label is kept.
-fn end_of(kept: &[bool], from: usize) -> usize
-    requires { from < length kept.now }
+/// The end of the run that begins with a node: the first from there on whose label is kept, or which leads nowhere.
+fn end_of(nodes: &[Node<'_>], kept: &[bool], from: usize) -> usize
+    requires from { from < length kept.now }
+    requires all { length kept.now ≡ length nodes.now }
     ensures within { result < length kept.now }
-    ensures end { spec.EndsAt kept.now from result }
+    ensures end { spec.EndsAt nodes.now kept.now from result }
 {
     for at in from..kept.len() {
-        if kept[at] {
+        if kept[at] || nodes[at].readers.len() == 0 {
             return at;
         }
     }
@@ -110,14 +148,20 @@ fn end_of(kept: &[bool], from: usize) -> usize
 }
 
 /// The ends of the runs that begin with these nodes.
-fn ends_of(alloc: Global, kept: &[bool], nodes: &[usize]) -> Result<Vec<usize>, AllocError>
-    requires { All (λ node. node < length kept.now) nodes.now }
+fn ends_of(
+    alloc: Global,
+    nodes: &[Node<'_>],
+    kept: &[bool],
+    begins: &[usize],
+) -> Result<Vec<usize>, AllocError>
+    requires begins { All (λ node. node < length kept.now) begins.now }
+    requires all { length kept.now ≡ length nodes.now }
     ensures within { IfOk result (λ ends. All (λ node. node < length kept.now) ends.items) }
-    ensures ends { IfOk result (λ ends. spec.AreEnds kept.now nodes.now ends.items) }
+    ensures ends { IfOk result (λ ends. spec.AreEnds nodes.now kept.now begins.now ends.items) }
 {
     let mut ends = Vec::new(alloc);
-    for node in nodes {
-        ends.push(end_of(kept, *node))?;
+    for node in begins {
+        ends.push(end_of(nodes, kept, *node))?;
     }
     Ok(ends)
 }
@@ -125,17 +169,19 @@ fn ends_of(alloc: Global, kept: &[bool], nodes: &[usize]) -> Result<Vec<usize>, 
 /// The nodes that read a label: none, if it is not kept.
 fn readers_of(
     alloc: Global,
+    nodes: &[Node<'_>],
     kept: &[bool],
     at: usize,
     readers: &[usize],
 ) -> Result<Vec<usize>, AllocError>
     requires node { at < length kept.now }
     requires readers { All (λ node. node < length kept.now) readers.now }
+    requires all { length kept.now ≡ length nodes.now }
     ensures within { IfOk result (λ by. All (λ node. node < length kept.now) by.items) }
-    ensures through { IfOk result (λ by. spec.ReadsThrough kept.now at readers.now by.items) }
+    ensures through { IfOk result (λ by. spec.ReadsThrough nodes.now kept.now at readers.now by.items) }
 {
     if kept[at] {
-        ends_of(alloc, kept, readers)
+        ends_of(alloc, nodes, kept, readers)
     } else {
         Ok(Vec::new(alloc))
     }
@@ -144,12 +190,19 @@ fn readers_of(
 /// Of which nodes labels are kept, of all if no runs are wanted, and which nodes read them.
 pub(crate) fn runs_in(alloc: Global, nodes: &[Node<'_>], passing: bool) -> Result<Runs, AllocError>
     requires { spec.AreLinked nodes.now }
-    ensures { IfOk result (λ runs. spec.AreRuns nodes.now runs.kept.items (spec.readers_through runs.readers.items)) }
+    ensures runs { IfOk result (λ runs. spec.AreRuns nodes.now runs.kept.items (spec.readers_through runs.readers.items)) }
+    ensures all { IfOk result (λ runs. passing ≡ false → spec.AreKept runs.kept.items) }
 {
     let kept = kept_of(alloc, nodes, passing)?;
     let mut readers = Vec::new(alloc);
     for at in 0..nodes.len() {
-        readers.push(readers_of(alloc, kept.as_slice(), at, nodes[at].readers.as_slice())?)?;
+        readers.push(readers_of(
+            alloc,
+            nodes,
+            kept.as_slice(),
+            at,
+            nodes[at].readers.as_slice(),
+        )?)?;
     }
     Ok(Runs { kept, readers })
 }

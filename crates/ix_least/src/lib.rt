@@ -9,4 +9,5 @@
 
 mod laws;
 
+pub use ix_cert::print;
 pub use laws::least_labels_may_be_written;

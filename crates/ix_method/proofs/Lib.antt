@@ -1,4 +1,5 @@
 pub mod MethodLaws
 pub mod ErrorsWeaker
 mod AfterRules
-pub use Rattle.ix_claim_facts.proofs.SignTruth
+-- Passed on from ix_sign.
+pub use Rattle.ix_sign.proofs.SignTruth

@@ -15,7 +15,7 @@ use Rattle.ix_core.specs.declared.op.Op.{Op}
 use Rattle.ix_core.specs.declared.program.Method.{Method}
 use Rattle.ix_facts.specs.AfterOperation.{loaded_claims}
 use Rattle.ix_facts.specs.Stores.{Stored}
-use Rattle.ix_steps.specs.MachineSteps.{on_paths, own_path}
+use Rattle.ix_sign_errors.specs.MachineSteps.{on_paths, own_path}
 use Rattle.ix_sign_errors.specs.Exactly.{AreExactly}
 use Rattle.ix_sign_errors.specs.Refusals.{refusals, not_proved}
 use Rattle.ix_method.specs.SignErrors.{Refuses, part}

@@ -3,3 +3,13 @@ pub mod Lists
 -- Passed on from ix_sign_errors.
 pub use Rattle.ix_sign_errors.specs.Exactly
 pub use Rattle.ix_sign_errors.specs.declared.ranked.Ranked
+-- Passed on from ix_method.
+pub use Rattle.ix_method.specs.Names
+pub use Rattle.ix_method.specs.Signs
+pub use Rattle.ix_method.specs.Store
+pub use Rattle.ix_method.specs.StoredFacts
+pub use Rattle.ix_method.specs.MethodRules
+pub use Rattle.ix_method.specs.RuleErrors
+pub use Rattle.ix_method.specs.StoreOrder
+pub use Rattle.ix_method.specs.Naming
+pub use Rattle.ix_method.specs.SignErrors

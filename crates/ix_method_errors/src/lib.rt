@@ -10,5 +10,7 @@ mod accesses;
 mod elements;
 mod op_errors;
 
+pub use ix_method::signs::{enter, tell};
+pub use ix_method::{Store, after};
 pub use ix_sign_errors as signs;
 pub use op_errors::push_op_errors;

@@ -1,17 +1,16 @@
 -- Parts of bounds whose constants are kept are, as far as theirs are kept, those of all bounds.
 use Rattle.std.specs.Prelude.{◌≡◌, true, false, ℤ, int_lt, List, [], ◌∷◌, ◌++◌, refl}
-use Rattle.std.specs.Int.{int_min, int_max}
+use Rattle.std.specs.Int.{int_min}
 use Rattle.std.proofs.Common.{ap, sym, ◌∙◌, arith}
 use Rattle.std.proofs.lemmas.Int.{ints, clamps}
-use Rattle.ix_num.specs.Ints.{least_int, greatest_int}
+use Rattle.ix_facts.specs.Ints.{least_int, greatest_int}
 use Rattle.ix_core.specs.declared.fact.Path.{Path}
-use Rattle.ix_core.specs.declared.fact.PathOff.{PathOff}
 use Rattle.ix_core.specs.declared.fact.PathOff.TheVariants.{Nothing, Plus, Minus}
 use Rattle.ix_core.specs.declared.fact.Fact.{Fact}
 use Rattle.ix_core.specs.declared.fact.Fact.TheVariants.{Rng, LenRng, Low, Same, IsLen, Less, Sum, Search, Neg, Upper}
 use Rattle.ix_facts.specs.Bounds.{is_path}
 use Rattle.ix_facts.specs.Closure.{kept, kept_fact}
-use Rattle.ix_facts.specs.Exact.{if_so, each}
+use Rattle.ix_facts.specs.Exact.{each}
 use Rattle.std.proofs.lemmas.List.{append_assoc}
 use Rattle.ix_exact.specs.KeptLaws.{kept_joined}
 use Rattle.ix_core.proofs.Cases.{by_test}

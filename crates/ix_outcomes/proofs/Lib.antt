@@ -1,5 +1,6 @@
 mod PathsRead
 mod OverAll
+mod ReadFacts
 mod KeptParts
 mod NewLengths
 pub mod OutcomeIs

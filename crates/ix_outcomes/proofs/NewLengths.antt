@@ -1,15 +1,15 @@
 -- The lengths that new ranges give, one int after the other, are those that the rule gives of both at once.
-use Rattle.std.specs.Prelude.{◌≡◌, ◌⊎◌, Bool, true, false, ◌||◌, cond, ℤ, pos, int_lt, Option, Some, None, List, [], ◌∷◌, ◌++◌, refl}
+use Rattle.std.specs.Prelude.{◌≡◌, ◌⊎◌, Bool, true, false, ◌||◌, ℤ, int_lt, Option, Some, None, List, [], ◌∷◌, ◌++◌, refl}
 use Rattle.std.specs.Int.{int_min, int_max}
 use Rattle.std.proofs.Common.{inl, inr, ap, sym, ◌∙◌, subst, ⊎_elim, arith}
 use Rattle.std.proofs.lemmas.Int.{ints, clamps}
-use Rattle.ix_num.specs.Ints.{least_int, greatest_int}
+use Rattle.ix_facts.specs.Ints.{least_int, greatest_int}
 use Rattle.ix_core.specs.declared.fact.Path.{Path}
 use Rattle.ix_core.specs.declared.fact.Fact.{Fact}
 use Rattle.ix_core.specs.declared.fact.Fact.TheVariants.{Rng, LenRng, Low, Same, IsLen, Less, Sum, Search, Neg, Upper}
 use Rattle.ix_facts.specs.Bounds
 use Rattle.ix_facts.specs.Bounds.{is_path, best, best_of, greatest, least, at_least, at_most, own_low_by, range_high_by}
-use Rattle.ix_facts.specs.Closure.{kept, kept_fact}
+use Rattle.ix_facts.specs.Closure.{kept}
 use Rattle.ix_facts.specs.Exact.{if_so, each}
 use Rattle.ix_facts.specs.Facts.{IsIn}
 use Rattle.ix_facts.specs.PathOrder.{path_same}
@@ -175,6 +175,10 @@ module _ (low high : Path → ℤ) (p q : Path) where
     back = merged_back (over.length_at p (low p) (high p)) (over.length_at q (low q) (high q)) by back facts;
   }
 
+-- the lengths that are x
+abbrev pub length_part : List Fact → (Path → List Fact) → Path → Path → ℤ → Path → List Fact
+length_part facts on p q k x = over.length_by (on x) (kept (over.range_part facts (on p) (on q) p q k)) x
+
 module _ (facts : List Fact) (on : Path → List Fact) (named : (p : Path) → HasNamed p (on p) facts) (p q : Path) (k : ℤ) where
   abbrev low_end : Path → ℤ
   low_end x = Bounds.own_low (rule.range_part facts p q k ++ facts) x
@@ -182,17 +186,17 @@ module _ (facts : List Fact) (on : Path → List Fact) (named : (p : Path) → H
   abbrev high_end : Path → ℤ
   high_end x = Bounds.range_high (rule.range_part facts p q k ++ facts) x
 
-  low_is : (x : Path) → at_least (Bounds.own_low (kept (over.range_part facts on p q k)) x) (greatest (own_low_by x) (on x)) ≡ low_end x
+  low_is : (x : Path) → at_least (Bounds.own_low (kept (over.range_part facts (on p) (on q) p q k)) x) (greatest (own_low_by x) (on x)) ≡ low_end x
   low_is x =
       ap (λ l. at_least (Bounds.own_low (kept l) x) (greatest (own_low_by x) (on x))) (ranges_are facts on named p q k)
       ∙ (ap (at_least (Bounds.own_low (kept (rule.range_part facts p q k)) x)) (best_on int_max x (own_low_by x) (on x) facts (looks_low x) (named x)) ∙ low_of_both x (rule.range_part facts p q k) facts)
 
-  high_is : (x : Path) → at_most (Bounds.range_high (kept (over.range_part facts on p q k)) x) (least (range_high_by x) (on x)) ≡ high_end x
+  high_is : (x : Path) → at_most (Bounds.range_high (kept (over.range_part facts (on p) (on q) p q k)) x) (least (range_high_by x) (on x)) ≡ high_end x
   high_is x =
       ap (λ l. at_most (Bounds.range_high (kept l) x) (least (range_high_by x) (on x))) (ranges_are facts on named p q k)
       ∙ (ap (at_most (Bounds.range_high (kept (rule.range_part facts p q k)) x)) (best_on int_min x (range_high_by x) (on x) facts (looks_high x) (named x)) ∙ high_of_both x (rule.range_part facts p q k) facts)
 
-  pub length_is : (x : Path) → over.length_part facts on p q k x ≡ each (over.length_at x (low_end x) (high_end x)) facts
+  pub length_is : (x : Path) → length_part facts on p q k x ≡ each (over.length_at x (low_end x) (high_end x)) facts
   length_is x =
-      ap (λ n. each (over.length_at x n (at_most (Bounds.range_high (kept (over.range_part facts on p q k)) x) (least (range_high_by x) (on x)))) (on x)) (low_is x)
+      ap (λ n. each (over.length_at x n (at_most (Bounds.range_high (kept (over.range_part facts (on p) (on q) p q k)) x) (least (range_high_by x) (on x)))) (on x)) (low_is x)
       ∙ (ap (λ n. each (over.length_at x (low_end x) n) (on x)) (high_is x) ∙ each_on x (over.length_at x (low_end x) (high_end x)) (on x) facts (reads_length x (low_end x) (high_end x)) (named x))

@@ -21,7 +21,7 @@ use Rattle.ix_outcomes.specs.OverGroups as over
 use Rattle.ix_outcomes.proofs.PathsRead.{reads_passed}
 use Rattle.ix_outcomes.proofs.OverAll.{ranges_are, differences_are, bounds_are, parts_are}
 use Rattle.ix_outcomes.proofs.KeptParts.{parts_kept}
-use Rattle.ix_outcomes.proofs.NewLengths.{length_is, lengths_same, merged_there, merged_back}
+use Rattle.ix_outcomes.proofs.NewLengths.{length_part, length_is, lengths_same, merged_there, merged_back}
 
 -- ---- equal ints
 
@@ -64,13 +64,13 @@ shared_parts y z (Sum t u v) f i = absurd i
 -- ---- an outcome
 
 module _ (facts : List Fact) (on : Path → List Fact) (named : (p : Path) → HasNamed p (on p) facts) where
-  lengths_are : (p q : Path) (k : ℤ) → AreSame (kept (over.length_part facts on p q k p) ++ kept (over.length_part facts on p q k q)) (kept (rule.length_part facts p q k))
+  lengths_are : (p q : Path) (k : ℤ) → AreSame (kept (length_part facts on p q k p) ++ kept (length_part facts on p q k q)) (kept (rule.length_part facts p q k))
   lengths_are p q k =
       same_trans _ _ _
-      (same_equal _ _ (sym (kept_joined (over.length_part facts on p q k p) (over.length_part facts on p q k q))))
+      (same_equal _ _ (sym (kept_joined (length_part facts on p q k p) (length_part facts on p q k q))))
       (same_kept _ _
       (same_trans _ _ _
-      (same_equal _ _ (ap (λ l. l ++ over.length_part facts on p q k q) (length_is facts on named p q k p) ∙ ap (λ l. each (over.length_at p (low p) (high p)) facts ++ l) (length_is facts on named p q k q)))
+      (same_equal _ _ (ap (λ l. l ++ length_part facts on p q k q) (length_is facts on named p q k p) ∙ ap (λ l. each (over.length_at p (low p) (high p)) facts ++ l) (length_is facts on named p q k q)))
       (lengths_same low high p q facts)))
     where
       low : Path → ℤ
@@ -79,9 +79,9 @@ module _ (facts : List Fact) (on : Path → List Fact) (named : (p : Path) → H
       high : Path → ℤ
       high x = Bounds.range_high (rule.range_part facts p q k ++ facts) x
 
-  parts_all : (p q : Path) (k : ℤ) → kept (each (over.parts_by p (on p)) (kept (over.bound_part on p q k))) ≡ kept (rule.sum_part facts p q k)
+  parts_all : (p q : Path) (k : ℤ) → kept (each (over.parts_by p (on p)) (kept (over.bound_part (on p) (on q) p q k))) ≡ kept (rule.sum_part facts p q k)
   parts_all p q k =
-      parts_kept p (on p) (over.bound_part on p q k) ∙ (ap (λ l. kept (each (over.parts_by p (on p)) l)) (bounds_are facts on named p q k) ∙ ap kept (parts_are facts on named p q k (rule.bound_part facts p q k)))
+      parts_kept p (on p) (over.bound_part (on p) (on q) p q k) ∙ (ap (λ l. kept (each (over.parts_by p (on p)) l)) (bounds_are facts on named p q k) ∙ ap kept (parts_are facts on named p q k (rule.bound_part facts p q k)))
 
   below_kept : (p q : Path) (k : ℤ) → kept (rule.below_facts facts p q k) ≡ kept (rule.range_part facts p q k) ++ (kept (rule.difference_part facts p q k) ++ (kept (rule.bound_part facts p q k) ++ (kept (rule.length_part facts p q k) ++ kept (rule.sum_part facts p q k))))
   below_kept p q k =
@@ -96,7 +96,7 @@ module _ (facts : List Fact) (on : Path → List Fact) (named : (p : Path) → H
       (same_app _ _ _ _ (same_equal _ _ (ap kept (ranges_are facts on named p q k)))
       (same_app _ _ _ _ (same_equal _ _ (ap kept (differences_are facts on named p q k)))
       (same_app _ _ _ _ (same_equal _ _ (ap kept (bounds_are facts on named p q k)))
-      (same_trans _ _ _ (same_equal _ _ (sym (append_assoc (kept (over.length_part facts on p q k p)) (kept (over.length_part facts on p q k q)) _)))
+      (same_trans _ _ _ (same_equal _ _ (sym (append_assoc (kept (length_part facts on p q k p)) (kept (length_part facts on p q k q)) _)))
       (same_app _ _ _ _ (lengths_are p q k) (same_equal _ _ (parts_all p q k)))))))
       (same_equal _ _ (sym (below_kept p q k)))
 

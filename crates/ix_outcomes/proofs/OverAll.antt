@@ -1,6 +1,6 @@
 -- What the facts on each path give is what all facts give: ranges, differences, bounds, parts and what equal ints share.
-use Rattle.std.specs.Prelude.{◌≡◌, Bool, true, false, ℤ, pos, ◌+ℤ◌, ◌-ℤ◌, List, [], ◌∷◌, ◌++◌, refl}
-use Rattle.std.proofs.Common.{ap, sym, ◌∙◌}
+use Rattle.std.specs.Prelude.{◌≡◌, ℤ, pos, ◌+ℤ◌, ◌-ℤ◌, List, ◌++◌, refl}
+use Rattle.std.proofs.Common.{ap, ◌∙◌}
 use Rattle.ix_core.specs.declared.fact.Path.{Path}
 use Rattle.ix_core.specs.declared.fact.PathOff.TheVariants.{Nothing, Plus, Minus}
 use Rattle.ix_core.specs.declared.fact.Fact.{Fact}
@@ -28,7 +28,7 @@ below_equal first second p h (Search q a) = refl
 below_equal first second p h (Neg q a) = refl
 below_equal first second p h (Upper q a o c) = refl
 
-at_below_equal : (first second : Path → ℤ → List Fact) (p : Path) → ((r : Path) (c : ℤ) → first r c ≡ second r c) → (facts : List Fact) → at_below first facts p ≡ at_below second facts p
+pub at_below_equal : (first second : Path → ℤ → List Fact) (p : Path) → ((r : Path) (c : ℤ) → first r c ≡ second r c) → (facts : List Fact) → at_below first facts p ≡ at_below second facts p
 at_below_equal first second p h facts =
     ap (λ l. l ++ each (below_by first p) facts) (h p (pos 1)) ∙ ap (λ l. second p (pos 1) ++ l) (each_equal (below_by first p) (below_by second p) (below_equal first second p h) facts)
 
@@ -39,17 +39,17 @@ module _ (facts : List Fact) (on : Path → List Fact) (named : (p : Path) → H
   above_on : (first : Path → ℤ → List Fact) (q : Path) → at_above first (on q) q ≡ at_above first facts q
   above_on first q = ap (λ l. first q (pos 1) ++ l) (each_on q (above_by first q) (on q) facts (reads_above first q) (named q))
 
-  pub ranges_are : (p q : Path) (k : ℤ) → over.range_part facts on p q k ≡ rule.range_part facts p q k
+  pub ranges_are : (p q : Path) (k : ℤ) → over.range_part facts (on p) (on q) p q k ≡ rule.range_part facts p q k
   ranges_are p q k =
       ap (λ l. l ++ at_above (rule.low_end facts p q k) (on q) q) (below_on (rule.high_end facts p q k) p)
       ∙ ap (λ l. at_below (rule.high_end facts p q k) facts p ++ l) (above_on (rule.low_end facts p q k) q)
 
-  pub differences_are : (p q : Path) (k : ℤ) → over.difference_part on p q k ≡ rule.difference_part facts p q k
+  pub differences_are : (p q : Path) (k : ℤ) → over.difference_part (on p) (on q) p q k ≡ rule.difference_part facts p q k
   differences_are p q k =
       at_below_equal (λ r c. at_above (over.between k r c) (on q) q) (λ r c. at_above (over.between k r c) facts q) p (λ r c. above_on (over.between k r c) q) (on p)
       ∙ below_on (λ r c. at_above (over.between k r c) facts q) p
 
-  pub bounds_are : (p q : Path) (k : ℤ) → over.bound_part on p q k ≡ rule.bound_part facts p q k
+  pub bounds_are : (p q : Path) (k : ℤ) → over.bound_part (on p) (on q) p q k ≡ rule.bound_part facts p q k
   bounds_are p q k =
       at_below_equal (λ r c. each (bound_moved r (c +ℤ k -ℤ pos 2) q) (on q)) (λ r c. each (bound_moved r (c +ℤ k -ℤ pos 2) q) facts) p
       (λ r c. each_on q (bound_moved r (c +ℤ k -ℤ pos 2) q) (on q) facts (reads_moved r (c +ℤ k -ℤ pos 2) q) (named q)) (on p)

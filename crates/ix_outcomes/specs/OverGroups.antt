@@ -1,6 +1,6 @@
 -- What `p < q + k` and equal ints give, with the facts on each path as lists of their own: the facts that name a path give what all facts give.
-use Rattle.std.specs.Prelude.{not, ℤ, pos, int_le, ◌+ℤ◌, ◌-ℤ◌, List, [], ◌∷◌, ◌++◌}
-use Rattle.ix_num.specs.Ints.{least_int, greatest_int}
+use Rattle.std.specs.Prelude.{Bool, false, not, ℤ, pos, int_le, ◌+ℤ◌, ◌-ℤ◌, List, [], ◌∷◌, ◌++◌}
+use Rattle.ix_facts.specs.Ints.{least_int, greatest_int}
 use Rattle.ix_core.specs.declared.fact.Path.{Path}
 use Rattle.ix_core.specs.declared.fact.PathOff.TheVariants.{Nothing, Plus}
 use Rattle.ix_core.specs.declared.fact.Fact.{Fact}
@@ -46,25 +46,44 @@ passed_by y z (Search p a) = if_so (is_path p y) (Search z a ∷ [])
 passed_by y z (Neg p a) = if_so (is_path p y) (Neg z a ∷ [])
 passed_by y z _ = []
 
+-- ---- the facts that are read
+
+-- What is read of the facts on p: the differences below p, its ranges, whether it is a length or a sum.
+abbrev pub is_read_below : Path → Fact → Bool
+is_read_below p (Less r x c) = is_path x p
+is_read_below p (Rng x l h) = is_path x p
+is_read_below p (IsLen x a) = is_path x p
+is_read_below p (Sum x y z) = is_path x p
+is_read_below p _ = false
+
+-- And of those on q: the differences above q, its ranges and bounds, whether it is a length.
+abbrev pub is_read_above : Path → Fact → Bool
+is_read_above q (Less x s d) = is_path x q
+is_read_above q (Rng x l h) = is_path x q
+is_read_above q (IsLen x a) = is_path x q
+is_read_above q (Upper x a o e) = is_path x q
+is_read_above q _ = false
+
 -- ---- all of them
 
-module _ (facts : List Fact) (on : Path → List Fact) (p q : Path) (k : ℤ) where
+module _ (facts on_p on_q : List Fact) (p q : Path) (k : ℤ) where
   abbrev pub range_part : List Fact
-  range_part = at_below (range_to (Bounds.upper_limit facts q) k) (on p) p ++ at_above (range_from (Bounds.lower_bound facts p) k) (on q) q
+  range_part = at_below (range_to (Bounds.upper_limit facts q) k) on_p p ++ at_above (range_from (Bounds.lower_bound facts p) k) on_q q
 
-  abbrev pub length_part : Path → List Fact
-  length_part x = length_by (on x) (kept range_part) x
-
-module _ (on : Path → List Fact) (p q : Path) (k : ℤ) where
+module _ (on_p on_q : List Fact) (p q : Path) (k : ℤ) where
   abbrev pub difference_part : List Fact
-  difference_part = at_below (λ r c. at_above (between k r c) (on q) q) (on p) p
+  difference_part = at_below (λ r c. at_above (between k r c) on_q q) on_p p
 
   abbrev pub bound_part : List Fact
-  bound_part = at_below (λ r c. each (bound_moved r (c +ℤ k -ℤ pos 2) q) (on q)) (on p) p
+  bound_part = at_below (λ r c. each (bound_moved r (c +ℤ k -ℤ pos 2) q) on_q) on_p p
+
+-- by the facts on p and on q
+abbrev pub read_facts : List Fact → List Fact → List Fact → Path → Path → ℤ → List Fact
+read_facts facts on_p on_q p q k =
+    kept (range_part facts on_p on_q p q k) ++ (kept (difference_part on_p on_q p q k) ++ (kept (bound_part on_p on_q p q k) ++ (kept (length_by on_p (kept (range_part facts on_p on_q p q k)) p) ++ (kept (length_by on_q (kept (range_part facts on_p on_q p q k)) q) ++ kept (each (parts_by p on_p) (kept (bound_part on_p on_q p q k)))))))
 
 abbrev pub below_facts : List Fact → (Path → List Fact) → Path → Path → ℤ → List Fact
-below_facts facts on p q k =
-    kept (range_part facts on p q k) ++ (kept (difference_part on p q k) ++ (kept (bound_part on p q k) ++ (kept (length_part facts on p q k p) ++ (kept (length_part facts on p q k q) ++ kept (each (parts_by p (on p)) (kept (bound_part on p q k)))))))
+below_facts facts on p q k = read_facts facts (on p) (on q) p q k
 
 abbrev pub outcome_facts : List Fact → (Path → List Fact) → Outcome → List Fact
 outcome_facts facts on (Below p q k) = below_facts facts on p q k

@@ -1,9 +1,8 @@
 //! What `p < q + k` gives.
 
-ghost use Rattle.std.specs.Prelude.{◌≡◌, ◌++◌, IfOk, OnOk};
+ghost use Rattle.std.specs.Prelude.{◌≡◌, ◌++◌, filter, IfOk, OnOk};
 ghost use Rattle.ix_facts.specs.Bounds as spec;
 ghost use Rattle.ix_facts.specs.Closure.{kept};
-ghost use Rattle.ix_facts.specs.Exact.{each};
 ghost use Rattle.ix_facts.specs.Facts.{in_orders};
 ghost use Rattle.ix_facts.specs.AfterTest.{at_below, at_above};
 ghost use Rattle.ix_outcomes.specs.OverGroups as over;
@@ -13,6 +12,7 @@ use crate::differences::push_differences;
 use crate::lengths::push_lengths;
 use crate::parts::push_parts;
 use crate::ranges::{push_ranges_from, push_ranges_to};
+use crate::read::{read_above, read_below};
 use ix_core::{Fact, Path};
 use ix_index::Indexed;
 use std::alloc::{AllocError, Global};
@@ -21,12 +21,13 @@ fn push_low_side<K: Indexed>(
     out: &mut Vec<Fact>,
     know: &K,
     p: &Path,
+    on_p: &[Fact],
     q: &Path,
     k: &i32,
 ) -> Result<(), AllocError>
-    ensures { OnOk result (out.new.items ≡ out.old.items ++ kept (at_below (over.range_to (spec.upper_limit (in_orders (K.known know.now)) q.now) k.now) (K.on_path know.now p.now) p.now)) }
+    ensures { OnOk result (out.new.items ≡ out.old.items ++ kept (at_below (over.range_to (spec.upper_limit (in_orders (K.known know.now)) q.now) k.now) on_p.now p.now)) }
 {
-    push_ranges_to(out, &know.hi(q), k, p, know.on(p))
+    push_ranges_to(out, &know.hi(q), k, p, on_p)
 }
 
 fn push_high_side<K: Indexed>(
@@ -34,39 +35,43 @@ fn push_high_side<K: Indexed>(
     know: &K,
     p: &Path,
     q: &Path,
+    on_q: &[Fact],
     k: &i32,
 ) -> Result<(), AllocError>
-    ensures { OnOk result (out.new.items ≡ out.old.items ++ kept (at_above (over.range_from (spec.lower_bound (in_orders (K.known know.now)) p.now) k.now) (K.on_path know.now q.now) q.now)) }
+    ensures { OnOk result (out.new.items ≡ out.old.items ++ kept (at_above (over.range_from (spec.lower_bound (in_orders (K.known know.now)) p.now) k.now) on_q.now q.now)) }
 {
-    push_ranges_from(out, &know.lo(p), k, q, know.on(q))
+    push_ranges_from(out, &know.lo(p), k, q, on_q)
 }
 
 fn new_ranges<K: Indexed>(
     alloc: Global,
     know: &K,
     p: &Path,
+    on_p: &[Fact],
     q: &Path,
+    on_q: &[Fact],
     k: &i32,
 ) -> Result<Vec<Fact>, AllocError>
-    ensures { IfOk result (λ ranges. ranges.items ≡ kept (over.range_part (in_orders (K.known know.now)) (K.on_path know.now) p.now q.now k.now)) }
+    ensures { IfOk result (λ ranges. ranges.items ≡ kept (over.range_part (in_orders (K.known know.now)) on_p.now on_q.now p.now q.now k.now)) }
 {
     let mut ranges = Vec::new(alloc);
-    push_low_side(&mut ranges, know, p, q, k)?;
-    push_high_side(&mut ranges, know, p, q, k)?;
+    push_low_side(&mut ranges, know, p, on_p, q, k)?;
+    push_high_side(&mut ranges, know, p, q, on_q, k)?;
     Ok(ranges)
 }
 
-fn new_bounds<K: Indexed>(
+fn new_bounds(
     alloc: Global,
-    know: &K,
     p: &Path,
+    on_p: &[Fact],
     q: &Path,
+    on_q: &[Fact],
     k: &i32,
 ) -> Result<Vec<Fact>, AllocError>
-    ensures { IfOk result (λ bounds. bounds.items ≡ kept (over.bound_part (K.on_path know.now) p.now q.now k.now)) }
+    ensures { IfOk result (λ bounds. bounds.items ≡ kept (over.bound_part on_p.now on_q.now p.now q.now k.now)) }
 {
     let mut bounds = Vec::new(alloc);
-    push_bounds(&mut bounds, k, p, know.on(p), q, know.on(q))?;
+    push_bounds(&mut bounds, k, p, on_p, q, on_q)?;
     Ok(bounds)
 }
 
@@ -76,38 +81,42 @@ fn push_all(out: &mut Vec<Fact>, facts: &[Fact]) -> Result<(), AllocError>
     out.extend_from_slice(facts)
 }
 
-fn push_differences_of<K: Indexed>(
+/// Those of the facts on p that are read.
+fn read_on_p<K: Indexed>(alloc: Global, know: &K, p: &Path) -> Result<Vec<Fact>, AllocError>
+    ensures { IfOk result (λ read. read.items ≡ filter (over.is_read_below p.now) (K.on_path know.now p.now)) }
+{
+    read_below(alloc, p, know.on(p))
+}
+
+/// And of those on q.
+fn read_on_q<K: Indexed>(alloc: Global, know: &K, q: &Path) -> Result<Vec<Fact>, AllocError>
+    ensures { IfOk result (λ read. read.items ≡ filter (over.is_read_above q.now) (K.on_path know.now q.now)) }
+{
+    read_above(alloc, q, know.on(q))
+}
+
+/// What `p < q + k` gives, by the facts that are read.
+fn push_read<K: Indexed>(
+    alloc: Global,
     out: &mut Vec<Fact>,
     know: &K,
     p: &Path,
+    on_p: &[Fact],
     q: &Path,
+    on_q: &[Fact],
     k: &i32,
 ) -> Result<(), AllocError>
-    ensures { OnOk result (out.new.items ≡ out.old.items ++ kept (over.difference_part (K.on_path know.now) p.now q.now k.now)) }
+    ensures { OnOk result (out.new.items ≡ out.old.items ++ over.read_facts (in_orders (K.known know.now)) on_p.now on_q.now p.now q.now k.now) }
 {
-    push_differences(out, k, p, know.on(p), q, know.on(q))
-}
-
-fn push_lengths_of<K: Indexed>(
-    out: &mut Vec<Fact>,
-    know: &K,
-    x: &Path,
-    ranges: &[Fact],
-) -> Result<(), AllocError>
-    ensures { OnOk result (out.new.items ≡ out.old.items ++ kept (over.length_by (K.on_path know.now x.now) ranges.now x.now)) }
-{
-    push_lengths(out, x, know.on(x), ranges)
-}
-
-fn push_parts_of<K: Indexed>(
-    out: &mut Vec<Fact>,
-    know: &K,
-    p: &Path,
-    bounds: &[Fact],
-) -> Result<(), AllocError>
-    ensures { OnOk result (out.new.items ≡ out.old.items ++ kept (each (over.parts_by p.now (K.on_path know.now p.now)) bounds.now)) }
-{
-    push_parts(out, p, know.on(p), bounds)
+    let ranges = new_ranges(alloc, know, p, on_p, q, on_q, k)?;
+    let bounds = new_bounds(alloc, p, on_p, q, on_q, k)?;
+    push_all(out, &ranges)?;
+    push_differences(out, k, p, on_p, q, on_q)?;
+    push_all(out, &bounds)?;
+    push_lengths(out, p, on_p, &ranges)?;
+    push_lengths(out, q, on_q, &ranges)?;
+    push_parts(out, p, on_p, &bounds)?;
+    Ok(())
 }
 
 /// The ranges, differences, bounds, lengths and parts that `p < q + k` gives.
@@ -121,13 +130,8 @@ pub(crate) fn push_below<K: Indexed>(
 ) -> Result<(), AllocError>
     ensures { OnOk result (out.new.items ≡ out.old.items ++ over.below_facts (in_orders (K.known know.now)) (K.on_path know.now) p.now q.now k.now) }
 {
-    let ranges = new_ranges(alloc, know, p, q, k)?;
-    let bounds = new_bounds(alloc, know, p, q, k)?;
-    push_all(out, &ranges)?;
-    push_differences_of(out, know, p, q, k)?;
-    push_all(out, &bounds)?;
-    push_lengths_of(out, know, p, &ranges)?;
-    push_lengths_of(out, know, q, &ranges)?;
-    push_parts_of(out, know, p, &bounds)?;
+    let on_p = read_on_p(alloc, know, p)?;
+    let on_q = read_on_q(alloc, know, q)?;
+    push_read(alloc, out, know, p, &on_p, q, &on_q, k)?;
     Ok(())
 }

@@ -14,9 +14,11 @@ mod lengths;
 mod outcome;
 mod parts;
 mod ranges;
+mod read;
 mod shared;
 mod tests;
 
 pub use facts::facts_of_outcome;
+pub use ix_exact::{push_fact, push_less, push_upper};
 pub use outcome::Outcome;
 pub use tests::outcomes;

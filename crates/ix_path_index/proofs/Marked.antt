@@ -1,12 +1,17 @@
 -- A set stays in order, and its marks true, when a path is put into it and marked.
-use Rattle.std.specs.Prelude.{◌≡◌, ◌⊎◌, Bool, List}
+use Rattle.std.specs.Prelude.{◌≡◌, ◌⊎◌, Bool, true, false, List, get_or}
 use Rattle.std.proofs.Common.{sym, subst, ⊎_elim}
+use Rattle.std.proofs.lemmas.Bool.{and_parts}
 use Rattle.std.specs.BTreeSet.{insert_key}
 use Rattle.ix_core.specs.declared.fact.Path.{Path}
-use Rattle.ix_facts.specs.Named.{IsAmongPaths}
-use Rattle.ix_facts.specs.PathOrder.{path_cmp}
-use Rattle.ix_path_index.specs.Marks.{IsMarked, AreMarked}
+use Rattle.ix_fact_paths.specs.Named.{IsAmongPaths}
+use Rattle.ix_fact_paths.specs.PathOrder.{path_cmp}
+use Rattle.ix_path_index.specs.ByPath.{near_place}
+use Rattle.ix_path_index.specs.Marks.{has_place, is_marked, IsMarked, AreMarked}
 use Rattle.ix_path_index.specs.PutLaws.{IsRising, put_here, put_stays, put_rises}
+
+pub marked_told : (marks : List Bool) (p : Path) → is_marked marks p ≡ true → IsMarked marks p
+marked_told marks p told = and_parts (has_place p) (get_or marks (near_place p) false) told
 
 pub put_marked : (paths next : List Path) (marks marked : List Bool) (p : Path) → IsRising paths × AreMarked marks paths → next ≡ insert_key path_cmp paths p
     → ((q : Path) → IsMarked marked q → IsMarked marks q ⊎ (q ≡ p)) → IsRising next × AreMarked marked next

@@ -5,9 +5,8 @@ ghost use Rattle.ix_core.specs.declared.fact.Path.{Path};
 ghost use Rattle.ix_core.specs.declared.fact.Fact.{Fact};
 ghost use Rattle.ix_path_index.specs.ByPath.{is_near, near_place, at_two, at_three, at_bound, at_paths, facts_at, Adds, on_it};
 
-use ix_core::{Fact, Path, PathOff};
-use ix_facts::is_same_path;
-use ix_text::List;
+use ix_core::{Fact, List, Path, PathOff};
+use ix_fact_paths::is_same_path;
 use std::alloc::{AllocError, Global};
 use std::marker::Model;
 

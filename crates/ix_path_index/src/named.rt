@@ -1,7 +1,7 @@
 //! The ints and the arrays that facts name, each once.
 
 ghost use Rattle.std.specs.Prelude.{◌≡◌, ◌∷◌, [], IsTrue, IfOk, OnOk};
-ghost use Rattle.ix_facts.specs.Exact.{offset_paths, ints_of, arrays_of, named_ints, named_arrays};
+ghost use Rattle.ix_fact_paths.specs.Exact.{offset_paths, ints_of, arrays_of, named_ints, named_arrays};
 ghost use Rattle.ix_path_index.specs.ByPath.{put_all};
 
 use crate::path_set::PathSet;
@@ -79,39 +79,23 @@ fn is_offset_marked(paths: &PathSet, offset: &PathOff) -> bool
     }
 }
 
-/// Whether the ints that the fact names are marked as put.
-fn are_ints_marked(ints: &PathSet, fact: &Fact) -> bool
-    ensures { IsTrue result → put_all ints.now (ints_of fact.now) ≡ ints.now }
+/// Whether the ints and the arrays that the fact names are marked as put.
+fn are_marked(ints: &PathSet, arrays: &PathSet, fact: &Fact) -> bool
+    ensures ints { IsTrue result → put_all ints.now (ints_of fact.now) ≡ ints.now }
+    ensures arrays { IsTrue result → put_all arrays.now (arrays_of fact.now) ≡ arrays.now }
 {
     match fact {
         Fact::Rng(p, _, _) => ints.is_marked(p),
-        Fact::LenRng(_, _, _) => true,
+        Fact::LenRng(a, _, _) => arrays.is_marked(a),
         Fact::Low(p, _) => ints.is_marked(p),
-        Fact::Same(_, _) => true,
-        Fact::IsLen(p, _) => ints.is_marked(p),
+        Fact::Same(a, b) => arrays.is_marked(a) && arrays.is_marked(b),
+        Fact::IsLen(p, a) => ints.is_marked(p) && arrays.is_marked(a),
         Fact::Less(p, q, _) => ints.is_marked(p) && ints.is_marked(q),
         Fact::Sum(t, y, z) => ints.is_marked(t) && (ints.is_marked(y) && ints.is_marked(z)),
-        Fact::Search(p, _) => ints.is_marked(p),
-        Fact::Neg(p, _) => ints.is_marked(p),
-        Fact::Upper(p, _, offset, _) => ints.is_marked(p) && is_offset_marked(ints, offset),
-    }
-}
-
-/// Whether the arrays that the fact names are marked as put.
-fn are_arrays_marked(arrays: &PathSet, fact: &Fact) -> bool
-    ensures { IsTrue result → put_all arrays.now (arrays_of fact.now) ≡ arrays.now }
-{
-    match fact {
-        Fact::Rng(_, _, _) => true,
-        Fact::LenRng(a, _, _) => arrays.is_marked(a),
-        Fact::Low(_, _) => true,
-        Fact::Same(a, b) => arrays.is_marked(a) && arrays.is_marked(b),
-        Fact::IsLen(_, a) => arrays.is_marked(a),
-        Fact::Less(_, _, _) => true,
-        Fact::Sum(_, _, _) => true,
-        Fact::Search(_, a) => arrays.is_marked(a),
-        Fact::Neg(_, a) => arrays.is_marked(a),
-        Fact::Upper(_, a, _, _) => arrays.is_marked(a),
+        Fact::Search(p, a) => ints.is_marked(p) && arrays.is_marked(a),
+        Fact::Neg(p, a) => ints.is_marked(p) && arrays.is_marked(a),
+        Fact::Upper(p, a, offset, _) => arrays.is_marked(a)
+            && (ints.is_marked(p) && is_offset_marked(ints, offset)),
     }
 }
 
@@ -120,7 +104,7 @@ fn put_new(ints: &mut PathSet, arrays: &mut PathSet, fact: &Fact) -> Result<(), 
     ensures ints { OnOk result (ints.new ≡ put_all ints.old (ints_of fact.now)) }
     ensures arrays { OnOk result (arrays.new ≡ put_all arrays.old (arrays_of fact.now)) }
 {
-    if are_ints_marked(ints, fact) && are_arrays_marked(arrays, fact) {
+    if are_marked(ints, arrays, fact) {
         return Ok(());
     }
     put_named(ints, arrays, fact)
@@ -131,7 +115,7 @@ pub fn ints_and_arrays(alloc: Global, facts: &[Fact]) -> Result<(Vec<Path>, Vec<
     ensures ints { IfOk result (λ named. named.0.items ≡ put_all [] (named_ints facts.now)) }
     ensures arrays { IfOk result (λ named. named.1.items ≡ put_all [] (named_arrays facts.now)) }
 {
-    let mut ints = PathSet::new(alloc);
+    let mut ints = PathSet::with_room(alloc, 16)?;
     let mut arrays = PathSet::new(alloc);
     for fact in facts {
         put_new(&mut ints, &mut arrays, fact)?;

@@ -2,7 +2,7 @@
 
 ghost use Rattle.std.specs.Prelude.{◌≡◌, ◌≤◌, ◌+◌, ◌∷◌, ◌++◌, IfOk, option_to_list};
 ghost use Rattle.std.specs.Vec.{vec_len, vec_capacity};
-ghost use Rattle.ix_facts.specs.Facts.{orders, is_default, in_orders};
+ghost use Rattle.ix_fact_paths.specs.Facts.{orders, is_default, in_orders};
 
 use ix_core::{Fact, PathOff};
 use std::alloc::{AllocError, Global};

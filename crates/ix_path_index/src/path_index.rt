@@ -7,8 +7,7 @@ ghost use Rattle.ix_path_index.specs.ByPath.{IsSorted, on_index, on_it};
 
 use crate::by_path::{facts_beside, facts_of, in_order, paths_of};
 use crate::by_slot::{Places, near_place};
-use ix_core::{Fact, Path};
-use ix_text::List;
+use ix_core::{Fact, List, Path};
 use std::alloc::{AllocError, Global};
 use std::marker::Model;
 

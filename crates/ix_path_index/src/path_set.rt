@@ -1,10 +1,10 @@
 //! A set of paths in order.
 
-ghost use Rattle.std.specs.Prelude.{◌≡◌, ◌⊎◌, ◌<◌, ℕ, true, false, get_or, length, [], ◌∷◌, ◌++◌, List, IsTrue, OnOk, OnErr};
+ghost use Rattle.std.specs.Prelude.{◌≡◌, ◌⊎◌, ◌<◌, ℕ, true, false, get_or, length, [], ◌∷◌, ◌++◌, List, IsTrue, IfOk, OnOk, OnErr};
 ghost use Rattle.std.specs.BTreeSet.{insert_key};
 ghost use Rattle.ix_core.specs.declared.fact.Path.{Path};
-ghost use Rattle.ix_facts.specs.PathOrder.{path_cmp};
-ghost use Rattle.ix_path_index.specs.Marks.{IsMarked, AreMarked};
+ghost use Rattle.ix_fact_paths.specs.PathOrder.{path_cmp};
+ghost use Rattle.ix_path_index.specs.Marks.{is_marked, IsMarked, AreMarked};
 ghost use Rattle.ix_path_index.specs.PutLaws.{IsRising};
 
 use crate::by_path::is_before;
@@ -13,6 +13,11 @@ use ix_core::Path;
 use ix_fact_paths::compare_paths;
 use std::alloc::{AllocError, Global};
 use std::marker::Model;
+
+/// How many marks are made at first, and how many where those are too few.
+const FEW: usize = 64;
+
+const MANY: usize = 256;
 
 /// Paths in order, each once.
 #[derive(Drop)]
@@ -30,6 +35,7 @@ impl Model for PathSet {
     ghost invariant = { λ set. IsRising set.paths.items × AreMarked set.marks.items set.paths.items };
 }
 
+#[inline]
 fn mark_at(marks: &[bool], place: usize) -> bool
     ensures { result ≡ get_or marks.now place false }
 {
@@ -39,12 +45,14 @@ fn mark_at(marks: &[bool], place: usize) -> bool
     }
 }
 
+// What is no near path has a place past all marks: that it is near needs no look.
+#[inline]
 fn is_marked(marks: &[bool], p: &Path) -> bool
-    ensures { IsTrue result → IsMarked marks.now p.now }
+    ensures { result ≡ is_marked marks.now p.now }
 {
-    match near_place(p) {
-        Some(place) => mark_at(marks, place),
-        None => false,
+    match *p {
+        Path::Slot(slot) => mark_at(marks, 2 * slot as usize),
+        Path::FieldOf(slot, field) => slot == 0 && mark_at(marks, 2 * field as usize + 1),
     }
 }
 
@@ -58,7 +66,21 @@ fn mark(marks: &mut Vec<bool>, p: &Path) -> Result<(), AllocError>
     }
 }
 
-/// Makes room for the place.
+/// How many marks are made at once, so that the place is among them: few, or all.
+fn room_for(place: usize) -> usize
+    requires near { place < 2048 }
+    ensures { place < result }
+{
+    if place < FEW {
+        FEW
+    } else if place < MANY {
+        MANY
+    } else {
+        2048
+    }
+}
+
+/// Makes room for the place, and for others at once.
 fn reach(marks: &mut Vec<bool>, place: usize) -> Result<(), AllocError>
     requires near { place < 2048 }
     ensures reached { OnOk result (place < length marks.new.items) }
@@ -67,7 +89,7 @@ fn reach(marks: &mut Vec<bool>, place: usize) -> Result<(), AllocError>
     if place < marks.len() {
         return Ok(());
     }
-    marks.resize(place + 1, false)
+    marks.resize(room_for(place), false)
 }
 
 fn mark_place(marks: &mut Vec<bool>, place: usize) -> Result<(), AllocError>
@@ -117,6 +139,17 @@ impl PathSet {
             paths: Vec::new(alloc),
             marks: Vec::new(alloc),
         }
+    }
+
+    /// No paths, with room for so many.
+    pub(crate) fn with_room(alloc: Global, room: usize) -> Result<PathSet, AllocError>
+        ensures { IfOk result (λ paths. paths ≡ []) }
+    {
+        let paths = Vec::with_capacity(alloc, room)?;
+        Ok(PathSet {
+            paths,
+            marks: Vec::new(alloc),
+        })
     }
 
     /// Puts the path at its place, unless it is there. The only error is want of memory.

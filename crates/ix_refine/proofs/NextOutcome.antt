@@ -2,7 +2,7 @@
 use Rattle.std.specs.Prelude.{◌≡◌, ℕ, zero, suc, ◌<◌, ◌≤◌, ◌+◌, List, [], ◌∷◌, length, drop, slice_index_or, refl}
 use Rattle.std.proofs.Common.{arith, add-one, sym, subst}
 use Rattle.std.proofs.Math.Seq.{drop-cons}
-use Rattle.ix_facts.specs.Stores.{Stored, IsTold, AreTold, none, next}
+use Rattle.ix_store.specs.Stores.{Stored, IsTold, AreTold, none, next}
 use Rattle.ix_store.specs.Outcome.{Outcome as Told}
 use Rattle.ix_store.specs.OverGroups.{outcome_of, outcomes_of}
 

@@ -1,12 +1,11 @@
 //! The stores behind a test.
 
 ghost use Rattle.std.specs.Prelude.{true, false, IfOk};
-ghost use Rattle.ix_facts.specs.Stores.{AreTold, IsTested};
+ghost use Rattle.ix_store.specs.Stores.{AreTold, IsTested};
 ghost use Rattle.ix_store.specs.OverGroups.{outcomes_of};
 ghost use Rattle.ix_store.specs.StoredFacts.{stored};
 
-use ix_core::Test;
-use ix_store::{Outcome, Store, outcomes};
+use ix_store::{Outcome, Store, Test, outcomes};
 use std::alloc::{AllocError, Global};
 
 fn told_all(alloc: Global, store: Store, told: &[Outcome]) -> Result<Store, AllocError>

@@ -17,4 +17,5 @@ mod sums;
 
 pub use claims::push_claim;
 pub use copies::push_copied;
+pub use ix_exact::push_if;
 pub use new_facts::push_new_facts;

@@ -4,8 +4,8 @@ ghost use Rattle.std.specs.Prelude.{◌≡◌, ◌++◌, OnOk};
 ghost use Rattle.ix_facts.specs.Closure.{kept};
 ghost use Rattle.ix_facts.specs.AfterOperation as after;
 
-use ix_core::{Base, Claim, Fact, Path, Type_};
 use ix_exact::{push_fact, push_if};
+use ix_facts::{Base, Claim, Fact, Path, Type_};
 use std::alloc::AllocError;
 
 /// The facts of one claim. Only ranges and low ends can be claimed of the ints in an array.

@@ -1,7 +1,7 @@
 //! What each of the sixteen operations gives by its own rule.
 
 ghost use Rattle.std.specs.Prelude.{◌≡◌, ◌++◌, [], length, OnOk};
-ghost use Rattle.ix_core.specs.declared.fact.Path.TheVariants.{Slot};
+ghost use Rattle.ix_facts.specs.Path.TheVariants.{Slot};
 ghost use Rattle.ix_facts.specs.Closure.{kept};
 ghost use Rattle.ix_facts.specs.Facts.{in_orders};
 ghost use Rattle.ix_rules.specs.OverParts as over;
@@ -10,12 +10,12 @@ use crate::copies::push_copied;
 use crate::lengths::{push_length, push_new_array};
 use crate::loaded::push_loaded;
 use crate::operation::{push_num, push_unary};
-use ix_core::{Fact, Literal, OpKind, Path, Profile, Type_, UnaryNum};
 use ix_exact::{push_fact, push_if};
-use ix_facts::{Know, holds_arrays, is_array};
+use ix_facts::{
+    Arith, Fact, Know, List, Literal, OpKind, Path, Profile, Type_, UnaryNum, holds_arrays,
+    is_array,
+};
 use ix_index::Indexed;
-use ix_num::Arith;
-use ix_text::List;
 use std::alloc::AllocError;
 
 /// A literal.

@@ -12,11 +12,8 @@ ghost use Rattle.ix_rules.specs.OverParts as over;
 use crate::lengths::push_flip;
 use crate::plain::{push_and, push_half, push_product, push_quotient, push_remainder, push_shift};
 use crate::sums::{push_difference, push_sum};
-use ix_core::{Fact, Path, Profile, UnaryNum};
 use ix_exact::{exact_interval, fits, push_low, push_range, table_class, unary_interval};
-use ix_facts::Know;
-use ix_num::{Arith, Interval};
-use ix_tables::Low;
+use ix_facts::{Arith, Fact, Interval, Know, Low, Path, Profile, UnaryNum};
 use std::alloc::AllocError;
 
 /// The range and the classes of a result.

@@ -6,11 +6,10 @@ ghost use Rattle.ix_facts.specs.Closure.{kept};
 ghost use Rattle.ix_facts.specs.Exact.{if_so, each};
 ghost use Rattle.ix_facts.specs.Facts.{in_orders};
 ghost use Rattle.ix_facts.specs.AfterOperation as after;
-ghost use Rattle.ix_core.specs.declared.fact.Fact.TheVariants.{Sum};
+ghost use Rattle.ix_facts.specs.Fact.TheVariants.{Sum};
 
-use ix_core::{Fact, Path};
 use ix_exact::{push_less, push_less_if};
-use ix_facts::{Know, is_same_path};
+use ix_facts::{Fact, Know, Path, is_same_path};
 use std::alloc::AllocError;
 
 pub(crate) fn is_from<K: Know>(know: &K, p: &Path, n: i64) -> bool

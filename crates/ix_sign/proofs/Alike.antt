@@ -10,8 +10,8 @@ use Rattle.ix_core.specs.declared.fact.Fact.TheVariants.{Rng, LenRng, Low, Same,
 use Rattle.ix_core.specs.declared.program.Method.{Method}
 use Rattle.ix_facts.specs.Forget.{offset_names, names, without, of_field, of_call}
 use Rattle.ix_facts.specs.Stores.{Stored, Unreachable, Reached, IsStoreOf, IsForgotten}
-use Rattle.ix_steps.specs.MachineSteps.{own_slot}
-use Rattle.ix_steps.specs.FieldAccess.{spared_by}
+use Rattle.ix_claim_facts.specs.MachineSteps.{own_slot}
+use Rattle.ix_claim_facts.specs.FieldAccess.{spared_by}
 use Rattle.ix_store.specs.ChangedPaths.{is_spared}
 use Rattle.ix_claim_facts.specs.Spared.{this_if}
 

@@ -1,2 +1,4 @@
 mod Alike
 mod Rules
+-- Passed on from ix_claim_facts.
+pub use Rattle.ix_claim_facts.proofs.SignTruth

@@ -7,3 +7,7 @@ pub use Rattle.ix_claim_facts.specs.Names
 pub use Rattle.ix_claim_facts.specs.Naming
 pub use Rattle.ix_claim_facts.specs.Signs
 pub use Rattle.ix_claim_facts.specs.SignErrors
+pub use Rattle.ix_claim_facts.proofs.LeastSteps
+pub use Rattle.ix_claim_facts.proofs.SignSteps
+pub use Rattle.ix_claim_facts.proofs.SignClasses
+pub use Rattle.ix_claim_facts.specs.MachineSteps

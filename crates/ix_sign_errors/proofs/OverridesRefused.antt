@@ -14,7 +14,7 @@ use Rattle.ix_facts.specs.Systems.{HaveClasses}
 use Rattle.ix_facts.specs.Stores.{Stored, IsAbove, IsStoreOf, IsAdded, IsForgotten, Then, IsStep, with_facts}
 use Rattle.ix_facts.proofs.StepLaws.{then_step}
 use Rattle.ix_facts.proofs.StoreLaws.{below_itself, store_above, store_least}
-use Rattle.ix_steps.specs.MachineSteps.{on_paths, own_path}
+use Rattle.ix_claim_facts.specs.MachineSteps.{on_paths, own_path}
 use Rattle.ix_store.specs.ChangedPaths.{of_called}
 use Rattle.ix_sign_errors.specs.Exactly.{AreExactly}
 use Rattle.ix_sign_errors.specs.Refusals.{refusals, not_proved, param_refusals}

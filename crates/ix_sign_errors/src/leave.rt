@@ -14,8 +14,7 @@ ghost use Rattle.ix_claim_facts.specs.SignErrors.{ReturnClaim, ConstructorClaim,
 
 use crate::ranked::Ranked;
 use crate::unproved::{Report, push_unproved};
-use ix_claim_facts::{Naming, claims_of};
-use ix_classes::instance_fields;
+use ix_claim_facts::{Naming, claims_of, instance_fields};
 use ix_core::{Detail, Error, Method, Path, Program, Subject, Type_};
 use ix_store::Store;
 use ix_text::Span;

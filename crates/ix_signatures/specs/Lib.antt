@@ -4,3 +4,4 @@ pub mod Signatures
 pub use Rattle.ix_errors.specs.MethodErrors
 pub use Rattle.ix_errors.specs.Sound
 pub use Rattle.ix_errors.specs.Visits
+pub use Rattle.ix_errors.specs.MethodRules

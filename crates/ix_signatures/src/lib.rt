@@ -9,5 +9,5 @@
 
 mod laws;
 
-pub use ix_errors::{method_errors, program_errors, soundness};
+pub use ix_errors::{Ranked, method_errors, program_errors, soundness};
 pub use laws::judged_alone;

@@ -8,3 +8,6 @@ pub mod CommonParts
 pub mod SixCommon
 -- Passed on from ix_fact_table.
 pub use Rattle.ix_fact_table.specs.Spared
+pub use Rattle.ix_fact_table.specs.Rising
+pub use Rattle.ix_fact_table.specs.Apart
+pub use Rattle.ix_fact_table.specs.EntryLaws

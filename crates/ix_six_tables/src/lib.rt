@@ -13,7 +13,8 @@ mod reading;
 mod tables;
 
 pub use changed::{Changed, some_name_changed, unchanged};
-pub use ix_fact_table::rounded_facts;
+pub use ix_fact_table::{are_apart, are_proper, rounded_facts};
+pub use ix_text::Joint;
 pub use joins::{common, says_all};
 pub use making::{all_facts, has_empty, no_tables, ranges_with, tables_beside, tables_with};
 pub use reading::{count_facts, fact_at, some_changes};

@@ -10,7 +10,7 @@ use Rattle.ix_facts.specs.Forget.{names, without}
 use Rattle.ix_facts.specs.Closure.{IsClosedOf, given}
 use Rattle.ix_facts.specs.Stores.{IsStoreOf, Reached, reached}
 use Rattle.ix_facts.specs.Small.{HasSmallNumbers}
-use Rattle.ix_bounds.proofs.BoundSteps.{in_orders_small}
+use Rattle.ix_fact_list.proofs.BoundSteps.{in_orders_small}
 use Rattle.ix_closure.specs.FactTables.{facts_of}
 use Rattle.ix_store.specs.declared.known.Known.{Known}
 use Rattle.ix_store.specs.StoredFacts.{facts_in}

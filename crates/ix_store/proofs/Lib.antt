@@ -12,3 +12,5 @@ mod KnownStores
 mod WholeStores
 mod BesideTables
 pub mod OwnFacts
+mod SparedFacts
+mod LimitBounds

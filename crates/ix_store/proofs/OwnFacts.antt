@@ -1,7 +1,7 @@
 -- The facts of a store of which none compares an int with itself are what anyone may write down: all facts of a store, each once.
-use Rattle.std.specs.Prelude.{◌≡◌, Bool, true, false, not, ◌&&◌, List, [], ◌∷◌, ◌++◌, Option, Some, None, map, refl}
+use Rattle.std.specs.Prelude.{◌≡◌, true, false, not, ◌&&◌, List, [], ◌∷◌, ◌++◌, Option, Some, None, map, refl}
 use Rattle.std.specs.List.{list_all, IsDistinct, AllByRecursion}
-use Rattle.std.specs.Ordering.{is_lt, is_eq, is_gt, eq_by_cmp}
+use Rattle.std.specs.Ordering.{is_eq, is_gt, eq_by_cmp}
 use Rattle.std.proofs.Common.{inl, inr, ap, sym, ◌∙◌, subst, ⊎_elim}
 use Rattle.std.proofs.lemmas.Bool.{false≢true, and_parts, and_from, not_from_false}
 use Rattle.ix_core.specs.declared.fact.PathOff.TheVariants.{Nothing, Plus, Minus}
@@ -16,15 +16,15 @@ use Rattle.ix_facts.specs.PathOrder.{path_cmp}
 use Rattle.ix_facts.specs.Closure.{Contradicts}
 use Rattle.ix_facts.specs.Stores.{IsStoreOf, Reached, reached}
 use Rattle.ix_facts.proofs.FactLists.{in_either}
-use Rattle.ix_fact_table.specs.declared.fact_table.FactTable.{FactTable}
-use Rattle.ix_fact_table.specs.FactTables.{facts_of, table_kind}
-use Rattle.ix_fact_table.specs.FactOrder.{fact_cmp, at_key}
-use Rattle.ix_fact_table.specs.Entries.{in_first_order, is_first, has_ends, is_entry}
-use Rattle.ix_fact_table.specs.MeetLaws.{entry_parts, key_kind}
-use Rattle.ix_fact_table.specs.Rising.{is_below, rises}
-use Rattle.ix_fact_table.specs.RisingLaws.{below_each, rises_parts, table_rises, table_each}
-use Rattle.ix_fact_table.specs.TableLaws.{all_own}
-use Rattle.ix_fact_table.specs.Apart.{AreApart, compares_two, is_proper}
+use Rattle.ix_closure.specs.FactTable.{FactTable}
+use Rattle.ix_closure.specs.FactTables.{facts_of, table_kind}
+use Rattle.ix_closure.specs.FactOrder.{fact_cmp, at_key}
+use Rattle.ix_closure.specs.Entries.{in_first_order, is_first, has_ends, is_entry}
+use Rattle.ix_closure.specs.MeetLaws.{entry_parts, key_kind}
+use Rattle.ix_six_tables.specs.Rising.{rises}
+use Rattle.ix_closure.specs.RisingLaws.{below_each, rises_parts, table_rises, table_each}
+use Rattle.ix_closure.specs.TableLaws.{all_own}
+use Rattle.ix_six_tables.specs.Apart.{AreApart, compares_two, is_proper}
 use Rattle.ix_six_tables.specs.declared.tables.Tables.{Tables}
 use Rattle.ix_six_tables.specs.AllTables.{all_facts, AreOfKinds}
 use Rattle.ix_store.specs.declared.known.Known.{Known}

@@ -5,8 +5,8 @@ use Rattle.ix_core.specs.declared.fact.Path.{Path}
 use Rattle.ix_facts.specs.Bounds.{is_path}
 use Rattle.ix_facts.specs.Facts.{in_orders}
 use Rattle.ix_facts.specs.Forget.{names}
-use Rattle.ix_bounds.specs.Ends.{ends_in}
-use Rattle.ix_bounds.specs.Links.{links_in}
+use Rattle.ix_fact_list.specs.Ends.{ends_in}
+use Rattle.ix_fact_list.specs.Links.{links_in}
 use Rattle.ix_store.specs.declared.known.Known.{Known}
 use Rattle.ix_store.specs.StoredFacts.{facts_in}
 

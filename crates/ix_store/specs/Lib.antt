@@ -10,3 +10,5 @@ pub use Rattle.ix_six_tables.specs.ChangedPaths
 -- Passed on from ix_outcomes.
 pub use Rattle.ix_outcomes.specs.OverGroups
 pub use Rattle.ix_outcomes.specs.declared.outcome.Outcome
+-- Passed on from ix_facts.
+pub use Rattle.ix_facts.specs.Stores

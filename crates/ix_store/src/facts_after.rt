@@ -15,14 +15,16 @@ ghost use Rattle.ix_six_tables.specs.Spared.{some_named};
 ghost use Rattle.ix_store.specs.StoredFacts.{facts_in};
 ghost use Rattle.ix_outcomes.specs.OverGroups.{outcome_of};
 
-use crate::known::{FEW, FEW_FOR_TESTS, Known};
+use crate::known::{FEW, Known};
+use crate::limited::Limited;
 use ix_after::{facts_after, facts_of_copy, push_claim};
 use ix_core::{Fact, OpKind, Path, PathClaim, Profile, Type_};
-use ix_exact::{push_fact, push_less, push_upper};
 use ix_fact_list::{FactList, FactRow};
-use ix_num::Arith;
-use ix_outcomes::{Outcome, facts_of_outcome};
-use ix_six_tables::{Changed, Tables, all_facts, rounded_facts, some_changes, tables_beside};
+use ix_facts::Arith;
+use ix_outcomes::{Outcome, facts_of_outcome, push_fact, push_less, push_upper};
+use ix_six_tables::{
+    Changed, Tables, all_facts, count_facts, rounded_facts, some_changes, tables_beside,
+};
 use std::alloc::{AllocError, Global};
 
 fn push_kept(out: &mut Vec<Fact>, fact: &Fact) -> Result<(), AllocError>
@@ -82,23 +84,19 @@ impl Known {
         FactRow::new(alloc, all_facts(alloc, rest)?)
     }
 
-    /// All facts by the paths that they name: an index for one step. The only error is want of memory.
-    fn listed(&self, alloc: Global) -> Result<FactList, AllocError>
-        ensures facts { IfOk result (λ list. list ≡ facts_in self.now) }
-    {
-        FactList::new(alloc, all_facts(alloc, &self.tables)?)
-    }
-
-    /// Whether what a test tells can be read off the facts as they stand. It is for speed alone.
-    fn can_be_asked(&self) -> bool {
-        self.ordered.len() <= FEW_FOR_TESTS
-    }
-
     /// Whether a step can read the facts as they stand: few are read as fast as by their paths. It is for speed alone.
     fn can_be_read(&self, changed: &Changed) -> bool
         ensures unchanged { IsTrue result → some_named (is_changed changed.now) (facts_in self.now) ≡ false }
     {
         self.ordered.len() <= FEW && !some_changes(&self.tables, changed)
+    }
+
+    /// Whether the tables without the facts that name a changed path have all facts: then a step can read these as they stand. It is for speed alone.
+    fn is_spared(&self, changed: &Changed, rest: &Tables) -> bool
+        requires rest { spec.all_facts rest.now ≡ without (is_changed changed.now) (facts_in self.now) }
+        ensures unchanged { IsTrue result → some_named (is_changed changed.now) (facts_in self.now) ≡ false }
+    {
+        count_facts(rest) == count_facts(&self.tables)
     }
 
     /// Whether the rule of an operation asks for limits and hardly for facts on a path: a sum looks at bounds of each array. It is for speed alone.
@@ -130,6 +128,11 @@ impl Known {
             return Ok(new);
         }
         if self.asks_for_limits(kind) {
+            if self.is_spared(&changed, rest) {
+                let limited = Limited::of(alloc, self)?;
+                let new = facts_after(alloc, &limited, profile, kind)?;
+                return Ok(new);
+            }
             let row = self.row_beside(alloc, &changed, rest)?;
             let new = facts_after(alloc, &row, profile, kind)?;
             return Ok(new);
@@ -157,6 +160,11 @@ impl Known {
             let new = facts_of_copy(alloc, self, ty, target, source)?;
             return Ok(new);
         }
+        if self.is_spared(&changed, rest) {
+            let limited = Limited::of(alloc, self)?;
+            let new = facts_of_copy(alloc, &limited, ty, target, source)?;
+            return Ok(new);
+        }
         let row = self.row_beside(alloc, &changed, rest)?;
         let new = facts_of_copy(alloc, &row, ty, target, source)?;
         Ok(new)
@@ -167,12 +175,7 @@ impl Known {
         ensures facts { IfOk result (λ new. AreSame (facts_in self.now ++ new.items) (with_outcome (outcome_of outcome.now) (facts_in self.now))) }
         ensures classes { IfOk result (λ new. HaveClasses new.items) }
     {
-        if self.can_be_asked() {
-            let new = facts_of_outcome(alloc, self, outcome)?;
-            return Ok(new);
-        }
-        let list = self.listed(alloc)?;
-        let new = facts_of_outcome(alloc, &list, outcome)?;
+        let new = facts_of_outcome(alloc, self, outcome)?;
         Ok(new)
     }
 

@@ -4,15 +4,14 @@ ghost use Rattle.std.specs.Prelude.{◌≡◌, ◌↔◌, true, IsTrue, IfOk, If
 ghost use Rattle.std.specs.List.{list_all};
 ghost use Rattle.ix_facts.specs.Stores.{Reached, SayTheSame, IsStoreOf};
 ghost use Rattle.ix_facts.specs.Systems.{HaveClasses, IsTable};
-ghost use Rattle.ix_fact_table.specs.Apart.{AreApart, is_proper};
+ghost use Rattle.ix_six_tables.specs.Apart.{AreApart, is_proper};
 ghost use Rattle.ix_six_tables.specs.AllTables.{all_facts, AreOfKinds};
 ghost use Rattle.ix_store.specs.StoredFacts.{stored};
 ghost use Rattle.ix_store.specs.WholeStores.{AreAStore};
 
 use crate::store::Store;
 use ix_core::Fact;
-use ix_fact_table::{are_apart, are_proper};
-use ix_six_tables::{Tables, no_tables, ranges_with, says_all, tables_with};
+use ix_six_tables::{Tables, are_apart, are_proper, no_tables, ranges_with, says_all, tables_with};
 use std::alloc::{AllocError, Global};
 
 /// Facts as tables, without what follows from them.

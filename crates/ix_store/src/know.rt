@@ -2,8 +2,8 @@
 
 use crate::nothing::NoFacts;
 use crate::store::Store;
-use ix_bounds;
 use ix_core::{Fact, Path, PathOff};
+use ix_fact_list::bounds;
 use ix_facts::Know;
 
 impl Know for Store {
@@ -40,42 +40,42 @@ impl Know for Store {
 
     fn lo(&self, p: &Path) -> i64 {
         match &self.known {
-            None => ix_bounds::lower_bound(&NoFacts, p),
+            None => bounds::lower_bound(&NoFacts, p),
             Some(known) => known.get().lo(p),
         }
     }
 
     fn hi(&self, p: &Path) -> i64 {
         match &self.known {
-            None => ix_bounds::upper_limit(&NoFacts, p),
+            None => bounds::upper_limit(&NoFacts, p),
             Some(known) => known.get().hi(p),
         }
     }
 
     fn len_lo(&self, a: &Path) -> i64 {
         match &self.known {
-            None => ix_bounds::length_low(&NoFacts, a),
+            None => bounds::length_low(&NoFacts, a),
             Some(known) => known.get().len_lo(a),
         }
     }
 
     fn len_hi(&self, a: &Path) -> i64 {
         match &self.known {
-            None => ix_bounds::length_high(&NoFacts, a),
+            None => bounds::length_high(&NoFacts, a),
             Some(known) => known.get().len_hi(a),
         }
     }
 
     fn upper(&self, p: &Path, a: &Path, offset: &PathOff) -> Option<i64> {
         match &self.known {
-            None => ix_bounds::upper_bound(&NoFacts, p, a, offset),
+            None => bounds::upper_bound(&NoFacts, p, a, offset),
             Some(known) => known.get().upper(p, a, offset),
         }
     }
 
     fn less(&self, p: &Path, q: &Path) -> Option<i64> {
         match &self.known {
-            None => Some(ix_bounds::less_bound(&NoFacts, p, q)),
+            None => Some(bounds::less_bound(&NoFacts, p, q)),
             Some(known) => known.get().less(p, q),
         }
     }

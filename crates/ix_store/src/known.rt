@@ -3,8 +3,8 @@
 ghost use Rattle.std.specs.Prelude.{◌≡◌, ◌<◌, ◌≤◌, ◌^◌, false, [], length, take, drop};
 ghost use Rattle.ix_facts.specs.Exact.{named_ints, named_arrays};
 ghost use Rattle.ix_facts.specs.Facts.{in_orders};
-ghost use Rattle.ix_bounds.specs.Ends.{ends_in};
-ghost use Rattle.ix_bounds.specs.Links.{links_in};
+ghost use Rattle.ix_fact_list.specs.Ends.{ends_in};
+ghost use Rattle.ix_fact_list.specs.Links.{links_in};
 ghost use Rattle.ix_fact_list.specs.ByPath.{put_all};
 ghost use Rattle.ix_store.specs.ClosedFacts.{AreClosed};
 ghost use Rattle.ix_closure.specs.FactTables.{facts_of};
@@ -16,9 +16,6 @@ use ix_six_tables::Tables;
 
 /// Up to how many facts are few: to go over them costs less than an index of them.
 pub(crate) const FEW: usize = 32;
-
-/// The same for what a test tells, which asks for few bounds.
-pub(crate) const FEW_FOR_TESTS: usize = 512;
 
 /// Closed facts of which no range is empty: in tables, and once as a list, which takes no index of paths.
 #[derive(Drop)]

@@ -1,8 +1,8 @@
 //! The bounds that closed facts give, each by all facts in all their orders.
 
 use crate::known::Known;
-use ix_bounds::{self, Groups, Indexed};
 use ix_core::{Fact, Path, PathOff};
+use ix_fact_list::bounds::{self, Groups, Indexed};
 use ix_facts::Know;
 use ix_six_tables::{count_facts, fact_at};
 
@@ -70,47 +70,47 @@ impl Know for Known {
     }
 
     fn lo(&self, p: &Path) -> i64 {
-        ix_bounds::lower_bound(self, p)
+        bounds::lower_bound(self, p)
     }
 
     fn hi(&self, p: &Path) -> i64 {
-        ix_bounds::upper_limit(self, p)
+        bounds::upper_limit(self, p)
     }
 
     fn len_lo(&self, a: &Path) -> i64 {
-        ix_bounds::length_low(self, a)
+        bounds::length_low(self, a)
     }
 
     fn len_hi(&self, a: &Path) -> i64 {
-        ix_bounds::length_high(self, a)
+        bounds::length_high(self, a)
     }
 
     fn upper(&self, p: &Path, a: &Path, offset: &PathOff) -> Option<i64> {
-        ix_bounds::upper_bound(self, p, a, offset)
+        bounds::upper_bound(self, p, a, offset)
     }
 
     fn less(&self, p: &Path, q: &Path) -> Option<i64> {
-        Some(ix_bounds::less_bound(self, p, q))
+        Some(bounds::less_bound(self, p, q))
     }
 
     fn difference(&self, p: &Path, q: &Path) -> Option<i64> {
-        ix_bounds::fact_less(self, p, q)
+        bounds::fact_less(self, p, q)
     }
 
     fn same(&self, a: &Path, b: &Path) -> bool {
-        ix_bounds::stored_same(self, a, b)
+        bounds::stored_same(self, a, b)
     }
 
     fn is_len(&self, p: &Path, a: &Path) -> bool {
-        ix_bounds::has_length(self, p, a)
+        bounds::has_length(self, p, a)
     }
 
     fn search(&self, p: &Path, a: &Path) -> bool {
-        ix_bounds::has_search(self, p, a)
+        bounds::has_search(self, p, a)
     }
 
     fn negative(&self, p: &Path, a: &Path) -> bool {
-        ix_bounds::has_negative(self, p, a)
+        bounds::has_negative(self, p, a)
     }
 
     fn ints(&self) -> u128 {

@@ -13,10 +13,12 @@ mod know;
 mod known;
 mod known_bounds;
 mod lattice;
+mod limited;
 mod nothing;
 mod rules;
 mod seen;
 mod store;
 
+pub use ix_core::Test;
 pub use ix_outcomes::{Outcome, outcomes};
 pub use store::Store;

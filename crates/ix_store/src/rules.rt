@@ -19,8 +19,7 @@ use ix_closure::are_plain;
 use ix_core::{Fact, OpKind, Path, PathClaim, Profile, Program, Type_};
 use ix_facts::Landmarks;
 use ix_outcomes::Outcome;
-use ix_six_tables::{Changed, Tables, no_tables, some_changes, tables_beside};
-use ix_text::Joint;
+use ix_six_tables::{Changed, Joint, Tables, no_tables, some_changes, tables_beside};
 use std::alloc::{AllocError, Global};
 
 fn reached(alloc: Global, known: Known) -> Result<Store, AllocError>

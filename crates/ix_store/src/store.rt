@@ -1,7 +1,7 @@
 //! The store.
 
 use crate::known::Known;
-use ix_text::Joint;
+use ix_six_tables::Joint;
 
 /// What is known at a place: that no state is there, or closed facts, which several stores may hold jointly.
 #[derive(Drop)]

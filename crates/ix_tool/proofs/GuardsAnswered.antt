@@ -8,7 +8,7 @@ use Rattle.ix_answer.specs.Statuses.{is_answer}
 use Rattle.ix_finding.specs.Found.{Finding, TooLong, Broken, Past, Misnamed, Whole, Found, too_long, no_tokens, lexed}
 use Rattle.ix_finding.specs.MethodErrors.{IsError}
 use Rattle.ix_finding.proofs.OneFinding.{one_finding}
-use Rattle.ix_listing.proofs.Lists.{one_list}
+use Rattle.ix_certify.proofs.Lists.{one_list}
 use Rattle.ix_outside.specs.Reading.{most_bytes}
 use Rattle.ix_guarding.specs.Guarding.{IsGuarded}
 use Rattle.ix_guarding.proofs.OneGuarded.{one_guarded}

@@ -2,7 +2,7 @@
 use Rattle.ix_core.specs.declared.program.Program.{Program}
 use Rattle.ix_core.specs.Formed.{Formed}
 use Rattle.ix_finding.specs.Judged.{CanCheck}
-use Rattle.ix_ready.proofs.Ready.{ready, upper_in_range}
+use Rattle.ix_certify.proofs.Ready.{ready, upper_in_range}
 use Rattle.ix_certify.specs.Verdicts.{CanVerify}
 
 pub can_verify : (program : Program) → Formed program → CanCheck program → CanVerify program

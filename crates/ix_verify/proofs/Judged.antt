@@ -9,8 +9,8 @@ use Rattle.ix_core.specs.declared.program.Program.{Program}
 use Rattle.ix_core.specs.Formed.{Formed, is_formed}
 use Rattle.ix_core.specs.Safe.{Safe}
 use Rattle.ix_facts.specs.Stores.{Stored}
-use Rattle.ix_cert.specs.Labellings.{IsLabelling}
-use Rattle.ix_sound.specs.Sound.{HasNoErrors, LocalsApart}
+use Rattle.ix_accepted.specs.Labellings.{IsLabelling}
+use Rattle.ix_accepted.specs.Sound.{HasNoErrors, LocalsApart}
 use Rattle.ix_accepted.specs.Audit.{Audit}
 use Rattle.ix_accepted.specs.Audit.TheVariants as audit
 use Rattle.ix_accepted.specs.Audited.{IsAudit}

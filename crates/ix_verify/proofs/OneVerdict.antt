@@ -6,10 +6,10 @@ use Rattle.ix_core.specs.declared.fact.Profile.{Profile}
 use Rattle.ix_core.specs.declared.program.Program.{Program}
 use Rattle.ix_core.specs.Formed.{Formed}
 use Rattle.ix_facts.specs.Stores.{Stored}
-use Rattle.ix_cert.specs.Labellings.{IsLabelling}
-use Rattle.ix_cert.specs.SameLabels.{HasSmallPaths, SameLabels}
-use Rattle.ix_cert.proofs.OneMeaning.{one_meaning}
-use Rattle.ix_cert.proofs.SmallPaths.{formed_small}
+use Rattle.ix_accepted.specs.Labellings.{IsLabelling}
+use Rattle.ix_accepted.specs.SameLabels.{HasSmallPaths, SameLabels}
+use Rattle.ix_accepted.proofs.OneMeaning.{one_meaning}
+use Rattle.ix_accepted.proofs.SmallPaths.{formed_small}
 use Rattle.ix_accepted.specs.Audit.{Audit}
 use Rattle.ix_accepted.specs.Audit.TheVariants as audit
 use Rattle.ix_accepted.specs.Audited.{IsAudit}

@@ -2,7 +2,7 @@ use Rattle.std.proofs.Common.{rules, ◌≡◌, ◌<◌, ℕ, Option, None, Some
 use Rattle.std.proofs.lemmas.Result.{IfOk-weaker}
 use Rattle.std.specs.Prelude.{IfNone}
 use Rattle.ix_core.specs.declared.error.Error.{Error}
-use Rattle.ix_method.specs.StoredFacts.{stored}
+use Rattle.ix_method_errors.specs.StoredFacts.{stored}
 use Rattle.ix_sound.specs.Sound.{HasNoErrors}
 use Rattle.ix_audit.specs.AtLabels.{IsErrorAt, IsFirstFailing}
 use Rattle.ix_audit.specs.Audited.{labels_of}

@@ -1,5 +1,5 @@
 use Rattle.std.proofs.Common.{map}
-use Rattle.ix_method.specs.StoredFacts.{stored}
+use Rattle.ix_method_errors.specs.StoredFacts.{stored}
 use Rattle.ix_audit.proofs.Programs.{IsSoFar}
 use Rattle.ix_audit.proofs.audited.audit.Given as goal
 

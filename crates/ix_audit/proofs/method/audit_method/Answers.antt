@@ -2,9 +2,9 @@ use Rattle.std.proofs.Common.{◌≡◌, ◌<◌, length, map, ap, sym, subst, �
 use Rattle.ix_core.specs.declared.program.Method.{Method}
 use Rattle.ix_core.specs.Code.{block_code}
 use Rattle.ix_core.specs.Tables.{method_at}
-use Rattle.ix_method.specs.StoredFacts.{stored}
-use Rattle.ix_method.specs.RuleErrors.{OverridesBy}
-use Rattle.ix_method.specs.Naming.{HasSmallNames}
+use Rattle.ix_method_errors.specs.StoredFacts.{stored}
+use Rattle.ix_method_errors.specs.RuleErrors.{OverridesBy}
+use Rattle.ix_method_errors.specs.Naming.{HasSmallNames}
 use Rattle.ix_audit.specs.Walking.{AddsTo, SomewhereIn, Finds, IsLeastIn}
 use Rattle.ix_audit.proofs.Methods.{method_is, first_failing, all_errors, none_sound}
 use Rattle.ix_audit.proofs.method.audit_method.Goals as goal

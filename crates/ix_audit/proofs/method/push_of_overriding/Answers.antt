@@ -1,9 +1,9 @@
 use Rattle.std.proofs.Common.{◌<◌, ◌⊎◌, length, sym, subst}
 use Rattle.std.proofs.lemmas.Result.{on_ok_weaker}
 use Rattle.ix_core.specs.declared.program.Method.{Method}
-use Rattle.ix_method.specs.RuleErrors.{OverridesBy}
-use Rattle.ix_method.specs.Naming.{HasSmallNames}
-use Rattle.ix_method.specs.SignErrors.{OverrideParameter, OverrideResult, OverrideEffect}
+use Rattle.ix_method_errors.specs.RuleErrors.{OverridesBy}
+use Rattle.ix_method_errors.specs.Naming.{HasSmallNames}
+use Rattle.ix_method_errors.specs.SignErrors.{OverrideParameter, OverrideResult, OverrideEffect}
 use Rattle.ix_audit.specs.Walking.{AddsTo}
 use Rattle.ix_audit.proofs.Lists.{exactly_to}
 use Rattle.ix_audit.proofs.Methods.{method_is}

@@ -1,5 +1,5 @@
 use Rattle.std.proofs.Common.{ap}
-use Rattle.ix_method.specs.StoredFacts.{stored}
+use Rattle.ix_method_errors.specs.StoredFacts.{stored}
 use Rattle.ix_audit.proofs.method.walk.Goals as goal
 
 pub body-requires : goal.body-requires

@@ -1,6 +1,6 @@
 use Rattle.std.proofs.lemmas.Result.{on_ok_weaker}
-use Rattle.ix_method.specs.RuleErrors.{AssignsNamed, OpEscapes}
-use Rattle.ix_method.specs.SignErrors.{EffectWrite}
+use Rattle.ix_method_errors.specs.RuleErrors.{AssignsNamed, OpEscapes}
+use Rattle.ix_method_errors.specs.SignErrors.{EffectWrite}
 use Rattle.ix_method_errors.proofs.Refused.{adds_both}
 use Rattle.ix_audit.proofs.Lists.{exactly_to}
 use Rattle.ix_audit.proofs.texts.push_of_op.Goals as goal

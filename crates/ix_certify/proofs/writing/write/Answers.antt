@@ -1,7 +1,7 @@
 use Rattle.std.proofs.Common.{rules, ◌≡◌, [], vec_len, arith, sym, ◌∙◌}
 use Rattle.ix_core.proofs.Cases.{equal}
 use Rattle.ix_check.specs.MethodErrors.{IsError}
-use Rattle.ix_listing.proofs.Lists.{none_listed}
+use Rattle.ix_check.proofs.Lists.{none_listed}
 use Rattle.ix_certify.proofs.Least.{no_items, some_error, accepted}
 use Rattle.ix_certify.proofs.writing.write.Goals as goal
 

@@ -1,6 +1,6 @@
 use Rattle.std.proofs.Common.{◌≡◌, sym, subst}
-use Rattle.ix_facts.specs.Facts.{in_orders}
-use Rattle.ix_facts.specs.Assume as claims
+use Rattle.ix_bounds.specs.Facts.{in_orders}
+use Rattle.ix_bounds.specs.Assume as claims
 use Rattle.ix_claims.proofs.proved.is_proved.Goals as goal
 
 pub returns-in-Upper : goal.returns-in-Upper

@@ -1,24 +1,30 @@
-use Rattle.std.specs.Prelude.{pos}
-use Rattle.std.proofs.Common.{[], add-one, refl}
-use Rattle.std.proofs.Math.Seq.{take-suc}
-use Rattle.ix_core.specs.declared.fact.Path.TheVariants.{Slot}
-use Rattle.ix_core.specs.declared.fact.Fact.TheVariants.{Rng}
-use Rattle.ix_fact_table.proofs.RisingSteps.{kept_table}
-use Rattle.ix_fact_table.proofs.Searches.{in_place}
+use Rattle.std.proofs.Common.{◌≡◌, [], true, sym, subst, ◌∙◌}
+use Rattle.ix_fact_table.specs.Rising.{rises}
+use Rattle.ix_fact_table.specs.RisingLaws.{table_rises}
+use Rattle.ix_fact_table.proofs.PiledFacts.{piles_form, piles_table, first_alone}
 use Rattle.ix_fact_table.proofs.insertion.inserted.Goals as goal
 
-pub loop-fact-init : goal.loop-fact-init
-loop-fact-init c = rw c.in_ok-table.ensures.items (record { form = refl; table = kept_table c.args.kind [] refl })
+pub returns-then-is_none : goal.returns-then-is_none
+returns-then-is_none c =
+    let now = c.in_ok-first.ensures.piles in
+    let none : c.in_ok-first.second.items ≡ [] = sym c.deref.ensures.value ∙ c.is_none.ensures.0 c.if-is_none.true in
+    record { form = now.first_form; table = first_alone c.args.kind c.args.facts.now c.in_ok-first.first.items c.in_ok-first.second.items now none }
 
-pub put_entry-requires-clause-class : goal.put_entry-requires-clause-class
-put_entry-requires-clause-class c =
-    let k = c.loop-fact.fact-index in
-    let none = Rng (Slot 0) (pos 0) (pos 0) in
-    c.requires.classes _ (in_place c.args.facts.now k none c.loop-fact-test.true)
+pub merged-requires : goal.merged-requires
+merged-requires c =
+    let now = c.in_ok-first.ensures.piles in
+    record {
+      first = subst (λ l. rises l ≡ true) (sym c.as_slice.ensures.value) (table_rises c.args.kind c.in_ok-first.first.items now.first_form);
+      second = subst (λ l. rises l ≡ true) (sym c.as_slice-2.ensures.value) (table_rises c.args.kind c.in_ok-first.second.items now.second_form);
+    }
 
-pub loop-fact-preserved : goal.loop-fact-preserved
-loop-fact-preserved c =
-    let k = c.loop-fact.fact-index in
-    let none = Rng (Slot 0) (pos 0) (pos 0) in
-    rw (add-one, take-suc c.args.facts.now k none c.loop-fact-test.true)
-    (record { form = c.in_ok-put_entry.ensures.form; table = c.in_ok-put_entry.ensures.table _ c.loop-fact.invariant.table })
+pub returns : goal.returns
+returns c =
+    let now = c.in_ok-first.ensures.piles in
+    let first = c.as_slice.ensures.value in
+    let second = c.as_slice-2.ensures.value in
+    let has = rw (first, second) at c.in_ok-all.ensures.both in
+    record {
+      form = piles_form c.args.kind c.args.facts.now c.in_ok-first.first.items c.in_ok-first.second.items now c.in_ok-all.all.items has c.in_ok-all.ensures.rises;
+      table = piles_table c.args.kind c.args.facts.now c.in_ok-first.first.items c.in_ok-first.second.items now c.in_ok-all.all.items has c.in_ok-all.ensures.rises;
+    }

@@ -1,13 +1,12 @@
 use Rattle.std.proofs.Common.{◌≡◌, ◌⊎◌, [], ◌∷◌, ◌++◌, sym, ◌∙◌, inl, inr}
-use Rattle.ix_fact_table.proofs.WalksAlongBoth.{none_left, merging_left, merging_run, merging_right, merging_both, merging_ends}
+use Rattle.ix_fact_table.proofs.WalksAlongBoth.{none_left, merging_left, merging_passed, merging_right, merging_both, merging_ends}
 use Rattle.ix_fact_table.proofs.walks.merged.Goals as goal
 use Rattle.ix_fact_table.proofs.walks.merged.Goals.{in_default, in_default-2}
 
-pub loop-fact-preserved-in_ok-extend_from_slice-in-Less : goal.loop-fact-preserved-in_ok-extend_from_slice-in-Less
-loop-fact-preserved-in_ok-extend_from_slice-in-Less c =
+pub loop-fact-preserved-in_ok-mine-in-Less : goal.loop-fact-preserved-in_ok-mine-in-Less
+loop-fact-preserved-in_ok-mine-in-Less c =
     let one = merging_left c.args.first.now c.args.second.now c.loop-fact.mine.now c.loop-fact.theirs.now c.in-Some-Some.fact.now c.in-Some-Some.more.now c.in-Some-Some.other.now c.in-Some-Some.theirs_more.now c.in-Some-Some.ensures.cases.0 c.in-Some-Some.ensures'.cases.0 c.loop-fact.all.items (sym c.compare_facts.ensures ∙ c.in-Less.is) c.loop-fact.invariant in
-    let run = merging_run c.args.first.now c.args.second.now c.run_before.result c.in-Some-Some.more.now c.loop-fact.theirs.now c.in-Some-Some.other.now c.in-Some-Some.theirs_more.now (c.loop-fact.all.items ++ c.in-Some-Some.fact.now ∷ []) c.in-Some-Some.ensures'.cases.0 c.run_before.ensures.within c.run_before.ensures.before one in
-    rw (c.in_ok-extend_from_slice-in-Less.ensures.items, c.in_ok-push-in-Less.ensures.items, c.split_at.ensures.front, c.split_at.ensures.back) run
+    merging_passed c.args.first.now c.args.second.now c.in-Some-Some.more.now c.loop-fact.theirs.now _ c.in-Some-Some.other.now c.in-Some-Some.theirs_more.now (c.loop-fact.all.items ++ c.in-Some-Some.fact.now ∷ []) _ c.in-Some-Some.ensures'.cases.0 (rw c.in_ok-push-in-Less.ensures.items at c.in_ok-mine-in-Less.ensures.run) one
 
 pub loop-fact-preserved-in_ok-push-in-Greater : goal.loop-fact-preserved-in_ok-push-in-Greater
 loop-fact-preserved-in_ok-push-in-Greater c =

@@ -1,6 +1,6 @@
 use Rattle.std.proofs.Common.{◌≡◌, ◌∙◌, ◌+◌, ap, sym, subst}
 use Rattle.ix_core.specs.Tables.{method_at}
-use Rattle.ix_method_errors.specs.Exactly.{AreExactly}
+use Rattle.ix_check.specs.Exactly.{AreExactly}
 use Rattle.ix_joined.specs.Parts.{is_of_part, IsErrorOfPart}
 use Rattle.ix_joined.proofs.TwoParts.{with_method, past_method}
 use Rattle.ix_joined.proofs.parts.errors_of_part.Goals.{then-is_of_part+in_ok-found+in_ok-append, else-is_of_part}

@@ -1,4 +1,4 @@
-use Rattle.ix_method_errors.specs.Exactly.{AreExactly}
+use Rattle.ix_check.specs.Exactly.{AreExactly}
 use Rattle.ix_joined.specs.Parts.{IsErrorOfPart}
 use Rattle.ix_joined.proofs.parts.errors_of_part.Given as goal
 

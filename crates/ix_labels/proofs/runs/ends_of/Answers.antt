@@ -6,23 +6,25 @@ use Rattle.ix_labels.proofs.runs.ends_of.Goals as goal
 
 pub loop-node-init : goal.loop-node-init
 loop-node-init c =
+    let nodes = c.args.nodes.now in
     let kept = c.args.kept.now in
-    subst (λ ends. All (λ node. node < length kept) ends × AreEnds kept [] ends) (sym c.new-ends.ensures.items) ((λ k d within. absurd (omega (arith, within))), no_ends kept)
+    subst (λ ends. All (λ node. node < length kept) ends × AreEnds nodes kept [] ends) (sym c.new-ends.ensures.items) ((λ k d within. absurd (omega (arith, within))), no_ends nodes kept)
 
 pub end_of-requires : goal.end_of-requires
-end_of-requires c = c.requires c.loop-node.node-index 0 c.loop-node-test.true
+end_of-requires c = record { from = c.requires.begins c.loop-node.node-index 0 c.loop-node-test.true; all = c.requires.all }
 
 pub loop-node-preserved : goal.loop-node-preserved
 loop-node-preserved c =
     let kept = c.args.kept.now in
     let nodes = c.args.nodes.now in
+    let begins = c.args.begins.now in
     let k = c.loop-node.node-index in
     let ends = c.loop-node.ends.items in
     let items : c.push.new.self.items ≡ ends ++ c.end_of.result ∷ [] = c.in_ok-push.ensures.items in
-    subst (λ es. All (λ node. node < length kept) es × AreEnds kept (take (k + 1) nodes) es) (sym items) (
+    subst (λ es. All (λ node. node < length kept) es × AreEnds nodes kept (take (k + 1) begins) es) (sym items) (
       All-push (λ node. node < length kept) ends c.end_of.result c.loop-node.invariant.0 c.end_of.ensures.within,
-      subst (λ ns. AreEnds kept ns (ends ++ c.end_of.result ∷ [])) (sym (next_taken nodes k 0 c.loop-node-test.true))
-          (ends_next kept (take k nodes) ends (get_or nodes k 0) c.end_of.result c.loop-node.invariant.1 c.end_of.ensures.end),
+      subst (λ ns. AreEnds nodes kept ns (ends ++ c.end_of.result ∷ [])) (sym (next_taken begins k 0 c.loop-node-test.true))
+          (ends_next nodes kept (take k begins) ends (get_or begins k 0) c.end_of.result c.loop-node.invariant.1 c.end_of.ensures.end),
     )
 
 pub returns-clause-within : goal.returns-clause-within
@@ -30,4 +32,4 @@ returns-clause-within c = c.loop-node.invariant.0
 
 pub returns-clause-ends : goal.returns-clause-ends
 returns-clause-ends c =
-    subst (λ ns. AreEnds c.args.kept.now ns c.loop-node.ends.items) (take_all c.loop-node.node-index c.args.nodes.now c.loop-node-test.false) c.loop-node.invariant.1
+    subst (λ ns. AreEnds c.args.nodes.now c.args.kept.now ns c.loop-node.ends.items) (take_all c.loop-node.node-index c.args.begins.now c.loop-node-test.false) c.loop-node.invariant.1

@@ -15,12 +15,13 @@ loop-at-init c =
 pub readers_of-requires : goal.readers_of-requires
 readers_of-requires c =
     let nodes = c.args.nodes.now in
-    let all = c.in_ok-kept.ensures.all in
+    let all = c.in_ok-kept.ensures.many in
     let there = slice_get-get_or nodes c.loop-at.at c.index-nodes-at.result c.loop-at-test.true in
     let node = get_or nodes c.loop-at.at c.index-nodes-at.result in
     let kept_is = c.as_slice.ensures.value in
     let readers_are = c.as_slice-in-loop-at.ensures.value in
     record {
+      all = ap length kept_is ∙ all;
       node = let n = ap length kept_is in omega (arith, c.loop-at-test.true, all, n);
       readers = subst (λ ks. All (λ reader. reader < length ks) c.as_slice-in-loop-at.result.now) (sym kept_is)
           (subst (λ rs. All (λ reader. reader < length c.in_ok-kept.kept.items) rs) (sym readers_are) (subst (λ n. All (λ reader. reader < n) node.readers.items) (sym all) (c.requires c.loop-at.at node there)));
@@ -33,17 +34,17 @@ loop-at-preserved c =
     let at = c.loop-at.at in
     let rows = c.loop-at.readers.items in
     let row = c.in_ok-readers_of.field-0 in
-    let all = c.in_ok-kept.ensures.all in
+    let all = c.in_ok-kept.ensures.many in
     let more = through_pushed rows c.push.new.self.items row c.in_ok-push.ensures.items in
     let many = c.loop-at.invariant.0 in
     let count = length_push (readers_through rows) row.items in
     let there = slice_get-get_or nodes at c.index-nodes-at.result c.loop-at-test.true in
     let node = get_or nodes at c.index-nodes-at.result in
     let within = subst (λ n. All (λ reader. reader < n) row.items) (ap length c.as_slice.ensures.value ∙ all) c.in_ok-readers_of.ensures.within in
-    let through = subst (λ ks. ReadsThrough ks at node.readers.items row.items) c.as_slice.ensures.value (subst (λ rs. ReadsThrough c.as_slice.result.now at rs row.items) c.as_slice-in-loop-at.ensures.value c.in_ok-readers_of.ensures.through) in
+    let through = subst (λ ks. ReadsThrough nodes ks at node.readers.items row.items) c.as_slice.ensures.value (subst (λ rs. ReadsThrough nodes c.as_slice.result.now at rs row.items) c.as_slice-in-loop-at.ensures.value c.in_ok-readers_of.ensures.through) in
     subst (λ rs. (length rs ≡ at + 1) × All (All (λ reader. reader < length nodes)) rs × ThroughTo nodes kept rs) (sym more) (
       omega (arith, many, count),
       All-push (All (λ reader. reader < length nodes)) (readers_through rows) row.items c.loop-at.invariant.1 within,
       through_next nodes kept (readers_through rows) node row.items c.loop-at.invariant.2 (ap (slice_get nodes) many ∙ there)
-          (subst (λ k. ReadsThrough kept k node.readers.items row.items) (sym many) through),
+          (subst (λ k. ReadsThrough nodes kept k node.readers.items row.items) (sym many) through),
     )

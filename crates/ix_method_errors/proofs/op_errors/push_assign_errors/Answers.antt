@@ -1,7 +1,7 @@
 use Rattle.std.specs.Prelude.{◌≡◌, ◌++◌, OnOk, Some, option_map}
 use Rattle.std.proofs.Common.{ap, sym, ◌∙◌, subst}
 use Rattle.ix_core.specs.declared.fact.Path.TheVariants.{Slot}
-use Rattle.ix_steps.specs.MachineSteps.{own_path}
+use Rattle.ix_sign_errors.specs.MachineSteps.{own_path}
 use Rattle.ix_method.specs.StoredFacts.{stored}
 use Rattle.ix_sign_errors.specs.Exactly.{AddsExactly}
 use Rattle.ix_method.specs.Names.{variable_at}

@@ -10,9 +10,10 @@ use Rattle.ix_outcomes.proofs.below.new_ranges.Goals as goal
 pub returns : goal.returns
 returns g c =
     let facts = in_orders (g.K.Know.known c.args.know.now) in
-    let on = g.K.Indexed.on_path c.args.know.now in
+    let on_p = c.args.on_p.now in
+    let on_q = c.args.on_q.now in
     let p = c.args.p.now in
     let q = c.args.q.now in
-    joined_two c.new-ranges.result.items c.push_low_side.new.out.items c.push_high_side.new.out.items (at_below (over.range_to (spec.upper_limit facts q) c.args.k.now) (on p) p) (at_above (over.range_from (spec.lower_bound facts p) c.args.k.now) (on q) q)
+    joined_two c.new-ranges.result.items c.push_low_side.new.out.items c.push_high_side.new.out.items (at_below (over.range_to (spec.upper_limit facts q) c.args.k.now) on_p p) (at_above (over.range_from (spec.lower_bound facts p) c.args.k.now) on_q q)
     c.in_ok-push_low_side.ensures c.in_ok-push_high_side.ensures
-    ∙ ap (λ l. l ++ kept (over.range_part facts on p q c.args.k.now)) c.new-ranges.ensures.items
+    ∙ ap (λ l. l ++ kept (over.range_part facts on_p on_q p q c.args.k.now)) c.new-ranges.ensures.items

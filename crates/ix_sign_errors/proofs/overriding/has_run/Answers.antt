@@ -4,7 +4,7 @@ use Rattle.ix_core.specs.declared.fact.Path.TheVariants.{Slot}
 use Rattle.ix_core.specs.Tables.{param_slots}
 use Rattle.ix_facts.specs.Stores.{IsAdded, IsForgotten}
 use Rattle.ix_facts.specs.Systems.{HaveClasses}
-use Rattle.ix_steps.specs.MachineSteps.{own_path}
+use Rattle.ix_claim_facts.specs.MachineSteps.{own_path}
 use Rattle.ix_store.specs.ChangedPaths.{of_called}
 use Rattle.ix_store.specs.StoredFacts.{stored}
 use Rattle.ix_claim_facts.specs.Signs.{received, claims_facts}

@@ -1,5 +1,5 @@
 use Rattle.std.proofs.lemmas.Result.{IfOk-weaker}
-use Rattle.ix_method.specs.StoredFacts.{stored}
+use Rattle.ix_method_errors.specs.StoredFacts.{stored}
 use Rattle.ix_audit.proofs.Lists.{exactly_to}
 use Rattle.ix_audit.proofs.Stores.{after_least}
 use Rattle.ix_audit.proofs.walk.Walk.done.Goals as goal

@@ -1,6 +1,6 @@
 use Rattle.std.proofs.Common.{◌↔◌, IsTrue, subst}
 use Rattle.ix_facts.specs.Stores.{Stored}
-use Rattle.ix_method.specs.StoredFacts.{stored}
+use Rattle.ix_method_errors.specs.StoredFacts.{stored}
 use Rattle.ix_audit.specs.Walking.{rules}
 use Rattle.ix_audit.proofs.Labels.{holds_is}
 use Rattle.ix_audit.proofs.walk.Walk.holds.Goals as goal

@@ -11,10 +11,10 @@ pub loop-fact-init : goal.loop-fact-init
 loop-fact-init g c =
     let facts = c.args.facts.now in
     record {
-      lows = rising_at_first (low_by facts) (lower_bound facts) _ least_int facts c.new-lows.ensures.items (all_lows facts);
-      highs = falling_at_first (high_by facts) (upper_limit facts) _ greatest_int facts c.new-highs.ensures.items (all_highs facts);
-      small_lows = small_at_first _ least_int c.new-lows.ensures.items (limit_of_end least_int least_small);
-      small_highs = small_at_first _ greatest_int c.new-highs.ensures.items (limit_of_end greatest_int greatest_small);
+      lows = rising_at_first (low_by facts) (lower_bound facts) _ least_int facts c.in_ok-lows.ensures (all_lows facts);
+      highs = falling_at_first (high_by facts) (upper_limit facts) _ greatest_int facts c.in_ok-highs.ensures (all_highs facts);
+      small_lows = small_at_first _ least_int c.in_ok-lows.ensures (limit_of_end least_int least_small);
+      small_highs = small_at_first _ greatest_int c.in_ok-highs.ensures (limit_of_end greatest_int greatest_small);
     }
 
 pub loop-fact-preserved : goal.loop-fact-preserved
@@ -25,11 +25,10 @@ loop-fact-preserved g c =
     let none = Rng (Slot 0) (pos 0) (pos 0) in
     let fact = slice_index_or facts k none in
     let more = c.loop-fact-test.true in
-    let low = c.in_ok-put_low.ensures in
-    let high = c.in_ok-put_high.ensures in
+    let both = c.in_ok-put.ensures in
     record {
-      lows = rises (low_by facts) (lower_bound facts) c.loop-fact.lows.items c.put_low.new.lows.items least_int facts k none more (subst (λ a. Raises c.loop-fact.lows.items c.put_low.new.lows.items least_int (λ p. low_by a p fact)) all low.raised) c.loop-fact.invariant.lows;
-      highs = falls (high_by facts) (upper_limit facts) c.loop-fact.highs.items c.put_high.new.highs.items greatest_int facts k none more (subst (λ a. Lowers c.loop-fact.highs.items c.put_high.new.highs.items greatest_int (λ p. high_by a p fact)) all high.lowered) c.loop-fact.invariant.highs;
-      small_lows = low.small c.loop-fact.invariant.small_lows;
-      small_highs = high.small c.loop-fact.invariant.small_highs;
+      lows = rises (low_by facts) (lower_bound facts) c.loop-fact.lows.items c.put.new.lows.items least_int facts k none more (subst (λ a. Raises c.loop-fact.lows.items c.put.new.lows.items least_int (λ p. low_by a p fact)) all both.raised) c.loop-fact.invariant.lows;
+      highs = falls (high_by facts) (upper_limit facts) c.loop-fact.highs.items c.put.new.highs.items greatest_int facts k none more (subst (λ a. Lowers c.loop-fact.highs.items c.put.new.highs.items greatest_int (λ p. high_by a p fact)) all both.lowered) c.loop-fact.invariant.highs;
+      small_lows = both.small_lows c.loop-fact.invariant.small_lows;
+      small_highs = both.small_highs c.loop-fact.invariant.small_highs;
     }

@@ -1,8 +1,18 @@
-use Rattle.std.proofs.Common.{pos}
+use Rattle.std.proofs.Common.{pos, refl}
 use Rattle.ix_core.specs.Ints.{least_int, greatest_int}
 use Rattle.ix_facts.specs.Bounds.{range_low_by, range_high_by, length_low_by, length_high_by, range_low, range_high, length_low, length_high}
-use Rattle.ix_fact_list.proofs.NearRaised.{rises, falls}
+use Rattle.ix_fact_list.proofs.NearRaised.{rising_at_first, falling_at_first, rises, falls}
 use Rattle.ix_fact_list.proofs.limits.NearEnds.of.Goals as goal
+
+pub loop-fact-init : goal.loop-fact-init
+loop-fact-init c =
+    let facts = c.args.facts.now in
+    record {
+      lows = rising_at_first range_low_by (range_low facts) _ least_int facts c.in_ok-lows.ensures (λ p. refl);
+      highs = falling_at_first range_high_by (range_high facts) _ greatest_int facts c.in_ok-highs.ensures (λ p. refl);
+      length_lows = rising_at_first length_low_by (length_low facts) _ (pos 0) facts c.in_ok-length_lows.ensures (λ p. refl);
+      length_highs = falling_at_first length_high_by (length_high facts) _ greatest_int facts c.in_ok-length_highs.ensures (λ p. refl);
+    }
 
 pub loop-fact-preserved : goal.loop-fact-preserved
 loop-fact-preserved c =

@@ -8,4 +8,4 @@ pub returns-clause-small : goal.returns-clause-small
 returns-clause-small c =
     let p = c.args.p.now in
     let facts = c.self.inside.ordered.items in
-    subst (λ l. All HasSmallNumbers l) (sym (c.on.ensures ∙ c.self.invariant.1 p)) (on_list_small p (ends_in facts) (ends_small facts c.self.invariant.0))
+    subst (λ l. All HasSmallNumbers l) (sym (c.on.ensures ∙ c.self.invariant.1.0 p)) (on_list_small p (ends_in facts) (ends_small facts c.self.invariant.0))

@@ -1,4 +1,4 @@
-use Rattle.std.proofs.Common.{◌≡◌, ◌++◌, ap, sym}
+use Rattle.std.proofs.Common.{◌≡◌, ◌++◌, ap, sym, ◌∙◌}
 use Rattle.ix_facts.specs.Forget.{without}
 use Rattle.ix_facts.specs.After.{of_target}
 use Rattle.ix_six_tables.specs.Spared.{spared}
@@ -28,14 +28,34 @@ returns-then-can_be_read-clause-classes c =
     let new = c.in_ok-new.new.items in
     right_have rest new (after_have known (rest ++ new) c.args.profile kind (same-then c) (all_classes c.args.self.now.tables))
 
+spared-then : goal.returns-then-is_spared-clause-facts
+spared-then c =
+    let known = facts_in c.args.self.now in
+    let kind = c.args.kind.now in
+    let new = c.in_ok-new-2.new.items in
+    let rest : known ≡ without (of_target kind) known = sym (spared (of_target kind) known (c.is_spared.ensures.unchanged c.if-is_spared.true)) in
+    let all = ap facts_in c.in_ok-limited.ensures.facts in
+    after_is known (facts_in c.in_ok-limited.limited) new (without (of_target kind) known ++ new) c.args.profile kind (all ∙ rest) c.in_ok-new-2.ensures.facts (ap (λ l. l ++ new) (sym (all ∙ rest)))
+
+pub returns-then-is_spared-clause-facts : goal.returns-then-is_spared-clause-facts
+returns-then-is_spared-clause-facts = spared-then
+
+pub returns-then-is_spared-clause-classes : goal.returns-then-is_spared-clause-classes
+returns-then-is_spared-clause-classes c =
+    let known = facts_in c.args.self.now in
+    let kind = c.args.kind.now in
+    let rest = without (of_target kind) known in
+    let new = c.in_ok-new-2.new.items in
+    right_have rest new (after_have known (rest ++ new) c.args.profile kind (spared-then c) (all_classes c.args.self.now.tables))
+
 same-row : goal.returns-then-asks_for_limits-clause-facts
 same-row c =
     let known = facts_in c.args.self.now in
     let kind = c.args.kind.now in
     let row = c.in_ok-row.row in
-    let new = c.in_ok-new-2.new.items in
+    let new = c.in_ok-new-3.new.items in
     let rest : row ≡ without (of_target kind) known = c.in_ok-row.ensures.facts in
-    after_is known row new (without (of_target kind) known ++ new) c.args.profile kind rest c.in_ok-new-2.ensures.facts (ap (λ l. l ++ new) (sym rest))
+    after_is known row new (without (of_target kind) known ++ new) c.args.profile kind rest c.in_ok-new-3.ensures.facts (ap (λ l. l ++ new) (sym rest))
 
 pub returns-then-asks_for_limits-clause-facts : goal.returns-then-asks_for_limits-clause-facts
 returns-then-asks_for_limits-clause-facts = same-row
@@ -45,7 +65,7 @@ returns-then-asks_for_limits-clause-classes c =
     let known = facts_in c.args.self.now in
     let kind = c.args.kind.now in
     let rest = without (of_target kind) known in
-    let new = c.in_ok-new-2.new.items in
+    let new = c.in_ok-new-3.new.items in
     right_have rest new (after_have known (rest ++ new) c.args.profile kind (same-row c) (all_classes c.args.self.now.tables))
 
 same : goal.returns-clause-facts
@@ -53,9 +73,9 @@ same c =
     let known = facts_in c.args.self.now in
     let kind = c.args.kind.now in
     let list = c.in_ok-list.list in
-    let new = c.in_ok-new-3.new.items in
+    let new = c.in_ok-new-4.new.items in
     let rest : list ≡ without (of_target kind) known = c.in_ok-list.ensures.facts in
-    after_is known list new (without (of_target kind) known ++ new) c.args.profile kind rest c.in_ok-new-3.ensures.facts (ap (λ l. l ++ new) (sym rest))
+    after_is known list new (without (of_target kind) known ++ new) c.args.profile kind rest c.in_ok-new-4.ensures.facts (ap (λ l. l ++ new) (sym rest))
 
 pub returns-clause-facts : goal.returns-clause-facts
 returns-clause-facts = same
@@ -65,5 +85,5 @@ returns-clause-classes c =
     let known = facts_in c.args.self.now in
     let kind = c.args.kind.now in
     let rest = without (of_target kind) known in
-    let new = c.in_ok-new-3.new.items in
+    let new = c.in_ok-new-4.new.items in
     right_have rest new (after_have known (rest ++ new) c.args.profile kind (same c) (all_classes c.args.self.now.tables))

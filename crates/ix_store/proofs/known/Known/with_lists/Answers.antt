@@ -2,8 +2,8 @@ use Rattle.std.specs.Prelude.{[], take, drop}
 use Rattle.std.proofs.Common.{rules, ◌≡◌, ap, subst, ◌∙◌}
 use Rattle.ix_facts.specs.Exact.{named_ints, named_arrays}
 use Rattle.ix_facts.specs.Facts.{in_orders}
-use Rattle.ix_bounds.specs.Ends.{ends_in}
-use Rattle.ix_bounds.specs.Links.{links_in}
+use Rattle.ix_fact_list.specs.Ends.{ends_in}
+use Rattle.ix_fact_list.specs.Links.{links_in}
 use Rattle.ix_fact_list.specs.ByPath.{put_all}
 use Rattle.ix_six_tables.specs.AllTables.{all_facts}
 use Rattle.ix_store.proofs.ClosedTests.{closed_by_test}

@@ -1,4 +1,4 @@
-use Rattle.std.proofs.Common.{◌≡◌, ◌++◌, sym, subst, ap, ◌∙◌}
+use Rattle.std.proofs.Common.{◌≡◌, ◌++◌, sym, subst, ap}
 use Rattle.ix_facts.specs.Closure.{kept}
 use Rattle.ix_facts.specs.Stores.{Reached, with_facts}
 use Rattle.ix_facts.specs.Systems.{HaveClasses}

@@ -1,4 +1,4 @@
-use Rattle.std.proofs.Common.{◌≡◌, ◌++◌, sym, subst}
+use Rattle.std.proofs.Common.{◌≡◌, ◌++◌, subst}
 use Rattle.ix_facts.specs.Stores.{Reached, with_outcome}
 use Rattle.ix_facts.specs.SameFacts.{AreSame}
 use Rattle.ix_outcomes.specs.OverGroups.{outcome_of}
