@@ -11,7 +11,10 @@ pub use Rattle.ix_fact_table.specs.Entries
 pub use Rattle.ix_fact_table.specs.FactOrder
 pub use Rattle.ix_fact_table.specs.FactTables
 pub use Rattle.ix_fact_table.specs.MeetLaws
+pub use Rattle.ix_fact_table.specs.Rising
 pub use Rattle.ix_fact_table.specs.RisingLaws
+pub use Rattle.ix_fact_table.specs.Apart
+pub use Rattle.ix_fact_table.specs.EntryLaws
 pub use Rattle.ix_fact_table.specs.TableLaws
 pub use Rattle.ix_fact_table.specs.Walks
 pub use Rattle.ix_fact_table.specs.declared.fact_table.FactTable

@@ -1,7 +1,7 @@
 mod KnownFacts
 mod SmallFacts
 mod PartsTaken
-mod NearRaised
+pub mod NearRaised
 -- Passed on from ix_bounds.
 pub use Rattle.ix_bounds.proofs.BoundSteps
 mod EndsOfPart

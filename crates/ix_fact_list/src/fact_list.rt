@@ -122,8 +122,25 @@ impl FactList {
         ensures facts { IfOk result (λ list. list ≡ facts.items) }
     {
         let ordered = in_all_orders(alloc, &facts)?;
-        let ends = Grouped::of(alloc, ends_of(alloc, &ordered)?)?;
         let (ints, arrays) = ints_and_arrays(alloc, &ordered)?;
+        FactList::of_lists(alloc, facts, ordered, ints, arrays)
+    }
+
+    /// The same, where the facts in all their orders are at hand, and the ints and arrays that they name.
+    pub fn of_lists(
+        alloc: Global,
+        facts: Vec<Fact>,
+        ordered: Vec<Fact>,
+        ints: Vec<Path>,
+        arrays: Vec<Path>,
+    ) -> Result<Self, AllocError>
+        requires small { All HasSmallNumbers facts.items }
+        requires orders { ordered.items ≡ in_orders facts.items }
+        requires ints { ints.items ≡ put_all [] (named_ints (in_orders facts.items)) }
+        requires arrays { arrays.items ≡ put_all [] (named_arrays (in_orders facts.items)) }
+        ensures facts { IfOk result (λ list. list ≡ facts.items) }
+    {
+        let ends = Grouped::of(alloc, ends_of(alloc, &ordered)?)?;
         let by_path = Grouped::of(alloc, ordered)?;
         Ok(FactList {
             facts,

@@ -1,20 +1,17 @@
-//! Lists of facts as what is known: with the facts on each path at hand, or with each int's limits.
+//! A list of facts as what is known, with the facts on each path at hand, and the limits of ints.
 //!
 //! What goes in: facts. What comes out: the bounds that they give, and the facts that name a path.
-//! The contract: `Know`, `Groups` and `Indexed`, met by `FactList` and `FactRow`.
+//! The contract: `Know`, `Groups` and `Indexed`, met by `FactList`, and `Limits`: what each near int is at least and at most.
 //! It stands on `ix_bounds` for bounds by the facts on a path, on `ix_path_index` for these, on `ix_facts` for facts.
 //! It never looks at a rule: what an operation or a test gives is not told here.
 #![tactic(auto)]
 
 mod ends;
 mod fact_list;
-mod fact_row;
 mod limits;
-mod row;
 
 pub use ends::{before_links, up_to_ends};
 pub use fact_list::FactList;
-pub use fact_row::FactRow;
 pub use ix_bounds as bounds;
-pub use ix_path_index::{in_all_orders, ints_and_arrays};
+pub use ix_path_index::{have_one_order, in_all_orders, ints_and_arrays};
 pub use limits::Limits;

@@ -122,7 +122,7 @@ in_take zero facts f i = absurd i
 in_take (suc n) [] f i = absurd i
 in_take (suc n) (g ∷ facts) f i = ⊎_elim (λ e. inl e) (λ j. inr (in_take n facts f j)) i
 
-in_drop : (n : ℕ) (facts : List Fact) (f : Fact) → IsIn f (drop n facts) → IsIn f facts
+pub in_drop : (n : ℕ) (facts : List Fact) (f : Fact) → IsIn f (drop n facts) → IsIn f facts
 in_drop zero facts f i = i
 in_drop (suc n) [] f i = absurd i
 in_drop (suc n) (g ∷ facts) f i = inr (in_drop n facts f i)

@@ -1,19 +1,20 @@
 -- What a binary search finds among facts that rise by key.
-use Rattle.std.specs.Prelude.{◌≡◌, ◌⊎◌, ℕ, zero, suc, ◌+◌, ◌-◌, ◌<◌, ◌≤◌, Bool, true, false, List, [], ◌∷◌, Some, None, Ok, Err, length, filter, take, drop, get_or, slice_get, slice_index_or, refl}
+use Rattle.std.specs.Prelude.{◌≡◌, ◌⊎◌, ℕ, zero, suc, ◌+◌, ◌-◌, ◌<◌, ◌≤◌, Bool, true, false, List, [], ◌∷◌, Some, None, Ok, Err, length, take, drop, get_or, slice_get, slice_index_or, refl}
 use Rattle.std.specs.List.Sorted.{IsBinarySearchResult, IsNonDecreasingBy, IsSortedBy, IsPartitionedBy, IsPartitionPoint}
 use Rattle.std.specs.declared.cmp.Ordering.{Ordering}
 use Rattle.std.specs.declared.cmp.Ordering.TheVariants.{Less as Before, Equal, Greater}
-use Rattle.std.specs.Ordering.{is_lt, is_eq, ordering_index, ordering_then, ordering_reverse}
+use Rattle.std.specs.Ordering.{is_lt, is_eq, nat_cmp, ordering_index, ordering_then, ordering_reverse}
 use Rattle.std.proofs.Common.{arith, inl, inr, ap, sym, ◌∙◌, subst, ⊎_elim}
 use Rattle.std.proofs.lemmas.Bool.{false≢true, cases_lt}
-use Rattle.std.proofs.lemmas.Cmp.{alike_right}
-use Rattle.std.proofs.lemmas.List.{get_or-drop, length-drop}
+use Rattle.std.proofs.lemmas.Cmp.{nat_cmp_total}
 use Rattle.std.proofs.lemmas.List.Sorted.{searchable_from_sorted}
 use Rattle.ix_core.specs.declared.fact.Path.{Path}
 use Rattle.ix_core.specs.declared.fact.Fact.{Fact}
+use Rattle.ix_core.specs.declared.fact.Fact.TheVariants.{Rng, LenRng, Low, Same, IsLen, Less, Sum, Search, Neg, Upper}
 use Rattle.ix_facts.specs.Facts.{IsIn}
-use Rattle.ix_facts.specs.PathOrder.{path_cmp, path_total}
-use Rattle.ix_fact_table.specs.FactOrder.{AtKey, first_path, rest_cmp, fact_cmp, fact_total, at_key, key_equal, alike_back}
+use Rattle.ix_facts.specs.declared.kind.Kind.TheVariants as kind
+use Rattle.ix_facts.specs.Kinds.{is_of, of_kind}
+use Rattle.ix_fact_table.specs.FactOrder.{AtKey, form, paths_cmp, fact_cmp, comes_before, fact_total, at_key, key_equal, alike_back}
 use Rattle.ix_fact_table.specs.Rising.{rises}
 use Rattle.ix_fact_table.specs.RisingLaws.{is_less as less_is, below_each, rises_parts}
 use Rattle.ix_fact_table.specs.Walks.{ArePast}
@@ -71,8 +72,6 @@ found_past facts key at r within equal k d less =
 pub missed_past : (facts : List Fact) (key : Fact) (at : ℕ) → rises facts ≡ true → IsBinarySearchResult (λ f. fact_cmp f key) facts (Err at) → ArePast facts at key
 missed_past facts key at r parted k d less = (parted (comparisons_rise facts key r)).0 k d (omega arith) less
 
--- ---- the facts on a path
-
 same_or_less : (i j : ℕ) → i ≤ j → (i ≡ j) ⊎ (i < j)
 same_or_less i j h = ⊎_elim (λ less. inr less) (λ from. inl (omega arith)) (cases_lt i j)
 
@@ -103,92 +102,74 @@ behind_last facts f last r at test k d within =
     fact_total.trans (get_or facts k d) last f (subst (λ g. fact_cmp (get_or facts k d) g ≡ Before) end past) less)
     (same_or_less k (length facts - 1) (omega arith))
 
-module _ (p : Path) where
-  abbrev pub before : Fact → Bool
-  before f = is_lt (path_cmp (first_path f) p)
+-- ---- the facts of forms before one
 
-  abbrev pub on : Fact → Bool
-  on f = is_eq (path_cmp (first_path f) p)
+not_after : (first rest : Ordering) → ordering_then first rest ≡ Before → (first ≡ Before) ⊎ (first ≡ Equal)
+not_after Before rest h = inl refl
+not_after Equal rest h = inr refl
+not_after Greater rest h = absurd cc
 
-  not_after : (first rest : Ordering) → ordering_then first rest ≡ Before → (first ≡ Before) ⊎ (first ≡ Equal)
-  not_after Before rest h = inl refl
-  not_after Equal rest h = inr refl
-  not_after Greater rest h = absurd cc
-
-  is_less : (o : Ordering) → is_lt o ≡ true → o ≡ Before
-  is_less Before h = refl
-  is_less Equal h = absurd (false≢true h)
-  is_less Greater h = absurd (false≢true h)
-
-  is_same : (o : Ordering) → is_eq o ≡ true → o ≡ Equal
-  is_same Before h = absurd (false≢true h)
-  is_same Equal h = refl
-  is_same Greater h = absurd (false≢true h)
-
-  before_not_on : (o : Ordering) → is_lt o ≡ true → is_eq o ≡ false
-  before_not_on Before h = refl
-  before_not_on Equal h = absurd (false≢true h)
-  before_not_on Greater h = absurd (false≢true h)
-
-  -- what is before one that is before the path is before it, and what is before one on the path is before it or on it
-  before_before : (f g : Fact) → fact_cmp f g ≡ Before → before g ≡ true → before f ≡ true
-  before_before f g less h =
+module _ (n : ℕ) where
+  -- where a fact's form comes before the one of that number, so do the forms of facts before it
+  forms_rise : (f g : Fact) → fact_cmp f g ≡ Before → comes_before n g ≡ true → comes_before n f ≡ true
+  forms_rise f g less h =
       ⊎_elim
-      (λ first. ap is_lt (path_total.trans (first_path f) (first_path g) p first (is_less (path_cmp (first_path g) p) h)))
-      (λ same. ap is_lt (path_total.congr (first_path f) (first_path g) p same) ∙ h)
-      (not_after (path_cmp (first_path f) (first_path g)) (rest_cmp f g) less)
+      (λ first. ap is_lt (nat_cmp_total.trans (form f) (form g) n first (less_is (nat_cmp (form g) n) h)))
+      (λ same. ap is_lt (nat_cmp_total.congr (form f) (form g) n same) ∙ h)
+      (not_after (nat_cmp (form f) (form g)) (paths_cmp f g) less)
 
-  before_on : (f g : Fact) → fact_cmp f g ≡ Before → on g ≡ true → before f ≡ false → on f ≡ true
-  before_on f g less h not_yet =
+  parted_by_form : (facts : List Fact) → rises facts ≡ true → IsPartitionedBy (comes_before n) facts
+  parted_by_form facts r i j d from within h =
       ⊎_elim
-      (λ first. absurd (false≢true (sym not_yet ∙ ap is_lt (sym (alike_right path_total (first_path g) p (first_path f) (is_same (path_cmp (first_path g) p) h)) ∙ first))))
-      (λ same. ap is_eq (path_total.congr (first_path f) (first_path g) p same) ∙ h)
-      (not_after (path_cmp (first_path f) (first_path g)) (rest_cmp f g) less)
-
-  parted_before : (facts : List Fact) → rises facts ≡ true → IsPartitionedBy before facts
-  parted_before facts r i j d from within h =
-      ⊎_elim
-      (λ same. subst (λ k. before (get_or facts k d) ≡ true) (sym same) h)
-      (λ less. before_before (get_or facts i d) (get_or facts j d) (earlier facts r i j d less within) h)
+      (λ same. subst (λ k. comes_before n (get_or facts k d) ≡ true) (sym same) h)
+      (λ less. forms_rise (get_or facts i d) (get_or facts j d) (earlier facts r i j d less within) h)
       (same_or_less i j from)
 
-  parted_on : (facts : List Fact) → rises facts ≡ true → ((k : ℕ) (d : Fact) → k < length facts → before (get_or facts k d) ≡ false) → IsPartitionedBy on facts
-  parted_on facts r none i j d from within h =
-      ⊎_elim
-      (λ same. subst (λ k. on (get_or facts k d) ≡ true) (sym same) h)
-      (λ less. before_on (get_or facts i d) (get_or facts j d) (earlier facts r i j d less within) h (none i d (omega arith)))
-      (same_or_less i j from)
+  abbrev pub IsFound : List Fact → ℕ → Type 0
+  IsFound facts count = IsPartitionedBy (comes_before n) facts → IsPartitionPoint (λ f. comes_before n f ≡ true) (λ f. comes_before n f ≡ false) facts count
 
-  past_none : (facts : List Fact) (start : ℕ) → ((k : ℕ) (d : Fact) → k < start → k < length facts → on (get_or facts k d) ≡ false) → filter on facts ≡ filter on (drop start facts)
-  past_none facts zero none = refl
-  past_none [] (suc start) none = refl
-  past_none (f ∷ facts) (suc start) none = rw (none 0 f (omega arith) (omega arith)) (past_none facts start (λ k d a b. none (suc k) d (omega arith) (omega arith)))
+-- a range has one of the first two forms
+range_is : (f : Fact) → comes_before 2 f ≡ is_of kind.Range f
+range_is (Rng p l h) = refl
+range_is (LenRng a l h) = refl
+range_is (Low p c) = refl
+range_is (Same a b) = refl
+range_is (IsLen p a) = refl
+range_is (Less p q c) = refl
+range_is (Sum t y z) = refl
+range_is (Search p a) = refl
+range_is (Neg p a) = refl
+range_is (Upper p a o c) = refl
 
-  no_more : (facts : List Fact) → ((k : ℕ) (d : Fact) → k < length facts → on (get_or facts k d) ≡ false) → filter on facts ≡ []
-  no_more [] none = refl
-  no_more (f ∷ facts) none = rw (none 0 f (omega arith)) (no_more facts (λ k d a. none (suc k) d (omega arith)))
+no_ranges : (facts : List Fact) → ((k : ℕ) (d : Fact) → k < length facts → comes_before 2 (get_or facts k d) ≡ false) → of_kind kind.Range facts ≡ []
+no_ranges [] none = refl
+no_ranges (f ∷ facts) none = rw (sym (range_is f) ∙ none 0 f (omega arith)) (no_ranges facts (λ k d a. none (suc k) d (omega arith)))
 
-  front_on : (facts : List Fact) (count : ℕ) → ((k : ℕ) (d : Fact) → k < count → k < length facts → on (get_or facts k d) ≡ true) → ((k : ℕ) (d : Fact) → count ≤ k → k < length facts → on (get_or facts k d) ≡ false) → take count facts ≡ filter on facts
-  front_on facts zero all none = sym (no_more facts (λ k d a. none k d (omega arith) a))
-  front_on [] (suc count) all none = refl
-  front_on (f ∷ facts) (suc count) all none = rw (all 0 f (omega arith) (omega arith)) (ap (λ l. f ∷ l) (front_on facts count (λ k d a b. all (suc k) d (omega arith) (omega arith)) (λ k d a b. none (suc k) d (omega arith) (omega arith))))
+front_ranges : (facts : List Fact) (count : ℕ) → ((k : ℕ) (d : Fact) → k < count → k < length facts → comes_before 2 (get_or facts k d) ≡ true)
+    → ((k : ℕ) (d : Fact) → count ≤ k → k < length facts → comes_before 2 (get_or facts k d) ≡ false) → take count facts ≡ of_kind kind.Range facts
+front_ranges facts zero all none = sym (no_ranges facts (λ k d a. none k d (omega arith) a))
+front_ranges [] (suc count) all none = refl
+front_ranges (f ∷ facts) (suc count) all none =
+    rw (sym (range_is f) ∙ all 0 f (omega arith) (omega arith))
+    (ap (λ l. f ∷ l) (front_ranges facts count (λ k d a b. all (suc k) d (omega arith) (omega arith)) (λ k d a b. none (suc k) d (omega arith) (omega arith))))
 
-  rises_drop : (facts : List Fact) (start : ℕ) → rises facts ≡ true → rises (drop start facts) ≡ true
-  rises_drop facts zero r = r
-  rises_drop [] (suc start) r = r
-  rises_drop (f ∷ facts) (suc start) r = rises_drop facts start (rises_parts f facts r).1
+-- the ranges are the front of facts that rise
+pub ranges_are : (facts : List Fact) (count : ℕ) → rises facts ≡ true → count ≤ length facts → IsFound 2 facts count → take count facts ≡ of_kind kind.Range facts
+ranges_are facts count r within found =
+    let point = found (parted_by_form 2 facts r) in
+    front_ranges facts count (λ k d a b. point.0 k d (omega arith) a) (λ k d a b. point.1 k d a b)
 
-  get_drop : (facts : List Fact) (start k : ℕ) (d : Fact) → get_or (drop start facts) k d ≡ get_or facts (start + k) d
-  get_drop facts start k d = get_or-drop start facts k d
+past_start : (facts : List Fact) (start : ℕ) (f : Fact) → comes_before 7 f ≡ false → ((k : ℕ) (d : Fact) → k < start → k < length facts → comes_before 7 (get_or facts k d) ≡ true) → IsIn f facts → IsIn f (drop start facts)
+past_start facts zero f n before i = i
+past_start [] (suc start) f n before i = absurd i
+past_start (g ∷ facts) (suc start) f n before i =
+    ⊎_elim
+    (λ e. absurd (false≢true (sym n ∙ (ap (comes_before 7) e ∙ before 0 g (omega arith) (omega arith)))))
+    (λ j. past_start facts start f n (λ k d a b. before (suc k) d (omega arith) (omega arith)) j)
+    i
 
-  pub on_is : (facts rest : List Fact) (start count : ℕ) → rises facts ≡ true → rest ≡ drop start facts → (IsPartitionedBy before facts → IsPartitionPoint (λ f. before f ≡ true) (λ f. before f ≡ false) facts start)
-      → (IsPartitionedBy on rest → IsPartitionPoint (λ f. on f ≡ true) (λ f. on f ≡ false) rest count) → take count rest ≡ filter on facts
-  on_is facts rest start count r is first second =
-      let point = first (parted_before facts r) in
-      let rise : rises rest ≡ true = subst (λ l. rises l ≡ true) (sym is) (rises_drop facts start r) in
-      let size : length rest ≡ length facts - start = ap length is ∙ length-drop start facts in
-      let none : (k : ℕ) (d : Fact) → k < length rest → before (get_or rest k d) ≡ false =
-      λ k d within. subst (λ l. before (get_or l k d) ≡ false) (sym is) (subst (λ f. before f ≡ false) (sym (get_drop facts start k d)) (point.1 (start + k) d (omega arith) (omega (arith, size, within)))) in
-      let ends = second (parted_on rest rise none) in
-      front_on rest count (λ k d a b. ends.0 k d (omega arith) a) (λ k d a b. ends.1 k d a b)
-      ∙ (ap (filter on) is ∙ sym (past_none facts start (λ k d a b. before_not_on (path_cmp (first_path (get_or facts k d)) p) (point.0 k d (omega arith) a))))
+-- the answers of searches stand behind the forms before theirs
+pub searches_are : (facts : List Fact) (start : ℕ) → rises facts ≡ true → start ≤ length facts → IsFound 7 facts start → (p a : Path) → IsIn (Search p a) facts → IsIn (Search p a) (drop start facts)
+searches_are facts start r within found p a i =
+    let point = found (parted_by_form 7 facts r) in
+    past_start facts start (Search p a) refl (λ k d x y. point.0 k d (omega arith) x) i

@@ -47,6 +47,20 @@ without_form own is facts form = table_from own (without is facts) (rises_withou
 pub without_table : (own : Kind) (is : Path → Bool) (facts : List Fact) → is_table_of own facts ≡ true → IsTable (without is facts) (without is facts)
 without_table own is facts form = self_table own (without is facts) (without_form own is facts form)
 
+-- ---- the facts of a kind
+
+rises_kind : (part : Kind) (facts : List Fact) → rises facts ≡ true → rises (of_kind part facts) ≡ true
+rises_kind part [] r = refl
+rises_kind part (f ∷ facts) r =
+    let both = rises_parts f facts r in
+    by_test (is_of part f)
+    (λ t. rw t (rises_from f (of_kind part facts) (below_some f facts (of_kind part facts) (λ g i. (in_kind part g facts i).0) both.0) (rises_kind part facts both.1)))
+    (λ t. rw t (rises_kind part facts both.1))
+
+pub kind_form : (own part : Kind) (facts : List Fact) → is_table_of own facts ≡ true → is_table_of part (of_kind part facts) ≡ true
+kind_form own part facts form =
+    table_from part (of_kind part facts) (rises_kind part facts (table_rises own facts form)) (λ f i. let x = in_kind part f facts i in (x.1, (table_each own facts form f x.0).1))
+
 in_same : (own : Kind) (front new other : List Fact) → ((f : Fact) → IsIn f new → IsIn f other) → (f : Fact) → IsIn f (front ++ of_kind own new) → IsIn f (front ++ of_kind own other)
 in_same own front new other more f i =
     ⊎_elim

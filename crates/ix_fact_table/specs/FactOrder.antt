@@ -1,9 +1,9 @@
--- The order of facts by their keys: the first path, the form and the other paths. Numbers don't count: two facts are equal in this order exactly where
--- they say something of the same, perhaps with other numbers.
-use Rattle.std.specs.Prelude.{◌≡◌, ℕ, ℤ, true, refl}
+-- The order of facts by their keys: the form and the paths. So the facts of one form stand together, ranges first. Numbers don't count: two facts are equal in
+-- this order exactly where they say something of the same, perhaps with other numbers.
+use Rattle.std.specs.Prelude.{◌≡◌, ℕ, ℤ, Bool, true, refl}
 use Rattle.std.specs.declared.cmp.Ordering.{Ordering}
 use Rattle.std.specs.declared.cmp.Ordering.TheVariants.{Less as Before, Equal, Greater}
-use Rattle.std.specs.Ordering.{is_eq, nat_cmp, ordering_then, then_cmp, on}
+use Rattle.std.specs.Ordering.{is_lt, is_eq, nat_cmp, ordering_then, then_cmp, on}
 use Rattle.std.specs.Cmp.{IsTotalOrder}
 use Rattle.std.proofs.Common.{arith, ap, sym, ◌∙◌, subst}
 use Rattle.std.proofs.lemmas.Bool.{false≢true}
@@ -57,21 +57,28 @@ third (Upper p a o c) = o
 third _ = Nothing
 
 abbrev pub rest_cmp : Fact → Fact → Ordering
-rest_cmp f g = ordering_then (nat_cmp (form f) (form g)) (ordering_then (path_cmp (second_path f) (second_path g)) (offset_cmp (third f) (third g)))
+rest_cmp f g = ordering_then (path_cmp (second_path f) (second_path g)) (offset_cmp (third f) (third g))
+
+abbrev pub paths_cmp : Fact → Fact → Ordering
+paths_cmp f g = ordering_then (path_cmp (first_path f) (first_path g)) (rest_cmp f g)
 
 abbrev pub fact_cmp : Fact → Fact → Ordering
-fact_cmp f g = ordering_then (path_cmp (first_path f) (first_path g)) (rest_cmp f g)
+fact_cmp f g = ordering_then (nat_cmp (form f) (form g)) (paths_cmp f g)
+
+-- its form stands before the form of this number
+abbrev pub comes_before : ℕ → Fact → Bool
+comes_before n f = is_lt (nat_cmp (form f) n)
 
 -- ---- the order is total
 
 abbrev by_parts : Fact → Fact → Ordering
-by_parts = then_cmp (on first_path path_cmp) (then_cmp (on form nat_cmp) (then_cmp (on second_path path_cmp) (on third offset_cmp)))
+by_parts = then_cmp (on form nat_cmp) (then_cmp (on first_path path_cmp) (then_cmp (on second_path path_cmp) (on third offset_cmp)))
 
 pub fact_total : IsTotalOrder fact_cmp
 fact_total =
     let same : by_parts ≡ fact_cmp = refl in
     subst (λ (cmp : Fact → Fact → Ordering). IsTotalOrder cmp) same
-    (then_total (on_total first_path path_total) (then_total (on_total form nat_cmp_total) (then_total (on_total second_path path_total) (on_total third offset_total))))
+    (then_total (on_total form nat_cmp_total) (then_total (on_total first_path path_total) (then_total (on_total second_path path_total) (on_total third offset_total))))
 
 -- ---- facts at one key
 
@@ -125,12 +132,12 @@ pub record SameParts (f g : Fact) : Type 0 where
 
 same_parts : (f g : Fact) → is_eq (fact_cmp f g) ≡ true → SameParts f g
 same_parts f g h =
-    let a = both_equal (path_cmp (first_path f) (first_path g)) (rest_cmp f g) h in
-    let b = both_equal (nat_cmp (form f) (form g)) (ordering_then (path_cmp (second_path f) (second_path g)) (offset_cmp (third f) (third g))) a.1 in
+    let a = both_equal (nat_cmp (form f) (form g)) (paths_cmp f g) h in
+    let b = both_equal (path_cmp (first_path f) (first_path g)) (rest_cmp f g) a.1 in
     let c = both_equal (path_cmp (second_path f) (second_path g)) (offset_cmp (third f) (third g)) b.1 in
     record {
-      first = path_same (first_path f) (first_path g) a.0;
-      forms = b.0;
+      first = path_same (first_path f) (first_path g) b.0;
+      forms = a.0;
       second = path_same (second_path f) (second_path g) c.0;
       last = offset_same (third f) (third g) c.1;
     }

@@ -6,7 +6,7 @@ ghost use Rattle.ix_fact_table.specs.Rising.{is_table_of};
 use crate::row::Row;
 use ix_facts::Kind;
 
-/// Facts of one kind, of each key one, in the order of keys. Each stands in its first order, and none is said of every path.
+/// Facts of one kind, or of any, of each key one, in the order of keys. Each stands in its first order, and none is said of every path.
 #[derive(Drop)]
 pub struct FactTable {
     pub(crate) kind: Kind,

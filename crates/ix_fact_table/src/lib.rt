@@ -1,4 +1,4 @@
-//! Tables of facts of one kind.
+//! Tables of facts, of one kind or of any.
 //!
 //! What goes in: facts. What comes out: of each key one fact, in the order of keys: what the facts say of it together.
 //! The contract: `IsTable` of `ix_facts`, exactly; the join says what both tables say (`IsCommon`); the order is that of what tables say (`SaysAll`).

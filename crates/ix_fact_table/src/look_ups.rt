@@ -1,18 +1,17 @@
 //! Look-ups among facts that rise by key, by binary search.
 
-ghost use Rattle.std.specs.Prelude.{◌≡◌, ◌<◌, true, length, filter, slice_index_or, IfSome, IfNone};
-ghost use Rattle.std.specs.Ordering.{is_lt, is_eq};
+ghost use Rattle.std.specs.Prelude.{◌≡◌, ◌<◌, true, length, slice_index_or, IfSome, IfNone};
+ghost use Rattle.ix_core.specs.declared.fact.Path.{Path};
 ghost use Rattle.ix_core.specs.declared.fact.Fact.{Fact};
+ghost use Rattle.ix_core.specs.declared.fact.Fact.TheVariants.{Search};
+ghost use Rattle.ix_facts.specs.declared.kind.Kind.TheVariants as kind;
 ghost use Rattle.ix_facts.specs.Facts.{IsIn};
-ghost use Rattle.ix_facts.specs.PathOrder.{path_cmp};
+ghost use Rattle.ix_facts.specs.Kinds.{of_kind};
 ghost use Rattle.ix_fact_table.specs.Rising.{rises};
-ghost use Rattle.ix_fact_table.specs.FactOrder as order;
-ghost use Rattle.ix_fact_table.specs.FactOrder.{AtKey};
+ghost use Rattle.ix_fact_table.specs.FactOrder.{AtKey, comes_before};
 
-use crate::order::{compare_facts, first_path};
-use ix_core::{Fact, Path};
-use ix_fact_paths::compare_paths;
-use std::cmp::Ordering;
+use crate::order::compare_facts;
+use ix_core::Fact;
 
 /// Where the fact at the key stands.
 pub(crate) fn place_of(facts: &[Fact], key: &Fact) -> Option<usize>
@@ -26,34 +25,45 @@ pub(crate) fn place_of(facts: &[Fact], key: &Fact) -> Option<usize>
     }
 }
 
-/// Whether the fact's first path comes before the path.
-fn is_before(fact: &Fact, path: &Path) -> bool
-    ensures { result ≡ is_lt (path_cmp (order.first_path fact.now) path.now) }
+fn is_range(fact: &Fact) -> bool
+    ensures { result ≡ comes_before 2 fact.now }
 {
-    match compare_paths(first_path(fact), path) {
-        Ordering::Less => true,
+    match *fact {
+        Fact::Rng(_, _, _) => true,
+        Fact::LenRng(_, _, _) => true,
         _ => false,
     }
 }
 
-/// Whether it is the path.
-fn is_on(fact: &Fact, path: &Path) -> bool
-    ensures { result ≡ is_eq (path_cmp (order.first_path fact.now) path.now) }
+/// Whether the fact is neither an answer of a search nor a bound from an array's end, which stand behind all others.
+fn is_before_searches(fact: &Fact) -> bool
+    ensures { result ≡ comes_before 7 fact.now }
 {
-    match compare_paths(first_path(fact), path) {
-        Ordering::Equal => true,
-        _ => false,
+    match *fact {
+        Fact::Search(_, _) => false,
+        Fact::Neg(_, _) => false,
+        Fact::Upper(_, _, _, _) => false,
+        _ => true,
     }
 }
 
-/// The facts whose first path is the path.
-pub(crate) fn facts_on<'a>(facts: &'a [Fact], path: &Path) -> &'a [Fact]
+/// The ranges, which stand at the front.
+pub(crate) fn ranges_among(facts: &[Fact]) -> &[Fact]
     requires rises { rises facts.now ≡ true }
-    ensures { result.now ≡ filter (λ fact. is_eq (path_cmp (order.first_path fact) path.now)) facts.now }
+    ensures { result.now ≡ of_kind kind.Range facts.now }
 {
-    let start = facts.partition_point(|fact| is_before(fact, path));
+    let count = facts.partition_point(|fact| is_range(fact));
+    let (ranges, _) = facts.split_at(count);
+    ranges
+}
+
+/// The facts from the first answer of a search on.
+pub(crate) fn from_searches(facts: &[Fact]) -> &[Fact]
+    requires rises { rises facts.now ≡ true }
+    ensures all { (p a : Path) → IsIn (Search p a) facts.now → IsIn (Search p a) result.now }
+    ensures only { (fact : Fact) → IsIn fact result.now → IsIn fact facts.now }
+{
+    let start = facts.partition_point(|fact| is_before_searches(fact));
     let (_, rest) = facts.split_at(start);
-    let count = rest.partition_point(|fact| is_on(fact, path));
-    let (on, _) = rest.split_at(count);
-    on
+    rest
 }

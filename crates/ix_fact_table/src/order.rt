@@ -6,7 +6,7 @@ ghost use Rattle.ix_core.specs.declared.fact.Path.TheVariants.{Slot};
 ghost use Rattle.ix_core.specs.declared.fact.Fact.TheVariants.{Less};
 ghost use Rattle.ix_facts.specs.PathOrder.{path_cmp, offset_cmp};
 ghost use Rattle.ix_fact_table.specs.FactOrder as spec;
-ghost use Rattle.ix_fact_table.specs.FactOrder.{third, fact_cmp, rest_cmp};
+ghost use Rattle.ix_fact_table.specs.FactOrder.{third, fact_cmp, paths_cmp, rest_cmp};
 
 use ix_core::{Fact, Path};
 use ix_fact_paths::{compare_offsets, compare_paths};
@@ -23,7 +23,7 @@ fn path_order(p: &Path, q: &Path) -> Ordering
 }
 
 /// The path that a fact speaks of first.
-pub(crate) fn first_path(fact: &Fact) -> &Path
+fn first_path(fact: &Fact) -> &Path
     ensures { result.now ≡ spec.first_path fact.now }
 {
     match fact {
@@ -92,7 +92,7 @@ fn compare_thirds(fact: &Fact, other: &Fact) -> Ordering
 /// By second and third path.
 fn compare_others(fact: &Fact, other: &Fact) -> Ordering
     requires form { spec.form fact.now ≡ spec.form other.now }
-    ensures { result ≡ ordering_then (path_cmp (spec.second_path fact.now) (spec.second_path other.now)) (offset_cmp (third fact.now) (third other.now)) }
+    ensures { result ≡ rest_cmp fact.now other.now }
 {
     match path_order(second_path(fact), second_path(other)) {
         Ordering::Less => Ordering::Less,
@@ -101,20 +101,26 @@ fn compare_others(fact: &Fact, other: &Fact) -> Ordering
     }
 }
 
-/// By form, second and third path. Facts of one path alone are equal where their forms are.
+/// By second and third path. Facts of one path alone are equal here.
 fn compare_rest(fact: &Fact, other: &Fact) -> Ordering
+    requires form { spec.form fact.now ≡ spec.form other.now }
     ensures { result ≡ rest_cmp fact.now other.now }
 {
-    let place = form(fact);
-    match place.cmp(&form(other)) {
+    if form(fact) < FORMS_OF_ONE_PATH {
+        return Ordering::Equal;
+    }
+    compare_others(fact, other)
+}
+
+/// By all paths.
+fn compare_paths_of(fact: &Fact, other: &Fact) -> Ordering
+    requires form { spec.form fact.now ≡ spec.form other.now }
+    ensures { result ≡ paths_cmp fact.now other.now }
+{
+    match path_order(first_path(fact), first_path(other)) {
         Ordering::Less => Ordering::Less,
         Ordering::Greater => Ordering::Greater,
-        Ordering::Equal => {
-            if place < FORMS_OF_ONE_PATH {
-                return Ordering::Equal;
-            }
-            compare_others(fact, other)
-        }
+        Ordering::Equal => compare_rest(fact, other),
     }
 }
 
@@ -123,10 +129,10 @@ fn compare_rest(fact: &Fact, other: &Fact) -> Ordering
 fn compare_parts(fact: &Fact, other: &Fact) -> Ordering
     ensures { result ≡ fact_cmp fact.now other.now }
 {
-    match path_order(first_path(fact), first_path(other)) {
+    match form(fact).cmp(&form(other)) {
         Ordering::Less => Ordering::Less,
         Ordering::Greater => Ordering::Greater,
-        Ordering::Equal => compare_rest(fact, other),
+        Ordering::Equal => compare_paths_of(fact, other),
     }
 }
 
@@ -150,7 +156,7 @@ fn compare_slots(p: u32, q: u32, r: u32, s: u32) -> Ordering
     Ordering::Equal
 }
 
-/// The order of facts by their keys: by the first path, then by form, then by the other paths. Numbers don't count. Most facts that are compared are differences
+/// The order of facts by their keys: by form, then by their paths. Numbers don't count. Most facts that are compared are differences
 /// of slots: these are compared by their numbers, where the call stands.
 #[inline(always)]
 pub fn compare_facts(fact: &Fact, other: &Fact) -> Ordering

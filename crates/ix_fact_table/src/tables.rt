@@ -1,25 +1,25 @@
 //! Tables of facts: how one is made, changed and compared.
 
-ghost use Rattle.std.specs.Prelude.{◌≡◌, Bool, true, ◌↔◌, ◌++◌, [], filter, IsTrue, IfOk, IfSome, IfNone, IsNone};
-ghost use Rattle.std.specs.Ordering.{is_eq};
+ghost use Rattle.std.specs.Prelude.{◌≡◌, Bool, true, ◌↔◌, ◌++◌, [], IsTrue, IfOk, IfSome, IfNone, IsNone};
 ghost use Rattle.ix_core.specs.declared.fact.Fact.{Fact};
 ghost use Rattle.ix_core.specs.declared.fact.Path.{Path};
+ghost use Rattle.ix_core.specs.declared.fact.Fact.TheVariants.{Search};
 ghost use Rattle.ix_facts.specs.Facts.{IsIn};
-ghost use Rattle.ix_facts.specs.PathOrder.{path_cmp};
 ghost use Rattle.ix_facts.specs.Forget.{of_path, without};
 ghost use Rattle.ix_facts.specs.After.{of_target};
 ghost use Rattle.ix_facts.specs.Kinds.{of_kind};
+ghost use Rattle.ix_facts.specs.declared.kind.Kind.TheVariants as kind;
 ghost use Rattle.ix_facts.specs.Closure.{SaysAll, IsCommon};
 ghost use Rattle.ix_facts.specs.Round.{Rises};
 ghost use Rattle.ix_facts.specs.Systems.{HasClass, HaveClasses, IsTable, system_rounded, system_added};
-ghost use Rattle.ix_fact_table.specs.FactOrder.{AtKey, first_path};
+ghost use Rattle.ix_fact_table.specs.FactOrder.{AtKey};
 ghost use Rattle.ix_fact_table.specs.Entries.{in_first_order};
 ghost use Rattle.ix_fact_table.specs.FactTables.{facts_of, table_kind};
 
 use crate::entries::{in_first_order as first_order, int_of};
 use crate::fact_table::FactTable;
 use crate::filters::{beside_path, beside_target};
-use crate::look_ups::{facts_on, place_of};
+use crate::look_ups::{from_searches, place_of, ranges_among};
 use crate::row::Row;
 use crate::sorted::sorted;
 use crate::walks::{covers_all, merged, shared};
@@ -70,11 +70,29 @@ impl FactTable {
         Some(facts[place])
     }
 
-    /// The facts whose first path is the path, in the order of their keys. It takes no memory.
-    pub fn on(&self, path: &Path) -> &[Fact]
-        ensures facts { result.now ≡ filter (λ fact. is_eq (path_cmp (first_path fact) path.now)) (facts_of self.now) }
+    /// The ranges of ints and of lengths. It takes no memory.
+    pub fn ranges(&self) -> &[Fact]
+        ensures ranges { result.now ≡ of_kind kind.Range (facts_of self.now) }
     {
-        facts_on(self.facts.as_slice(), path)
+        ranges_among(self.facts.as_slice())
+    }
+
+    /// The facts from the first answer of a search on, which are all answers of searches and what stands behind them. It takes no memory.
+    pub fn searches(&self) -> &[Fact]
+        ensures all { (p a : Path) → IsIn (Search p a) (facts_of self.now) → IsIn (Search p a) result.now }
+        ensures only { (fact : Fact) → IsIn fact result.now → IsIn fact (facts_of self.now) }
+    {
+        from_searches(self.facts.as_slice())
+    }
+
+    /// The ranges with more ones. What an int is at least has to be -1, 0 or 1.
+    pub fn ranges_with(&self, alloc: Global, new: &[Fact]) -> Result<Vec<Fact>, AllocError>
+        requires classes { HaveClasses new.now }
+        ensures table { IfOk result (λ ranges. IsTable (of_kind kind.Range (facts_of self.now) ++ of_kind kind.Range new.now) ranges.items) }
+    {
+        let more = sorted(alloc, Kind::Range, new)?;
+        let all = merged(alloc, self.ranges(), &more)?;
+        Ok(all)
     }
 
     /// The table without the facts that name the path; of a slot also without those that name a field of the object in it.

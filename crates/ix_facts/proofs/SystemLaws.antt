@@ -19,6 +19,7 @@ use Rattle.ix_facts.specs.Forget.{of_path, without, SameBut}
 use Rattle.ix_facts.specs.AfterOperation.{copied, new_facts}
 use Rattle.ix_facts.specs.After.{of_target, Step, TargetApart, finished_by, finished, beside_target, kept_new}
 use Rattle.ix_facts.specs.declared.kind.Kind.{Kind}
+use Rattle.ix_facts.specs.declared.kind.Kind.TheVariants as kind
 use Rattle.ix_facts.specs.Kinds.{kind_of, is_kind, is_of, of_kind}
 use Rattle.ix_facts.specs.Systems.{Merges, given, weaker, any_int, any_size, met, len_met, turned, sum_turned, upper_turned, IsTable, system_after, system_copy, system_added}
 use Rattle.ix_facts.proofs.AfterLaws.{results_now, finished_by_holds, finished_holds}
@@ -129,6 +130,11 @@ kind_in own f (g ∷ facts) i t =
     by_test (is_of own g)
     (λ x. rw x (⊎_elim (λ e. inl e) (λ j. inr (kind_in own f facts j t)) i))
     (λ x. ⊎_elim (λ e. absurd (false≢true (sym x ∙ (sym (ap (is_of own) e) ∙ t)))) (λ j. rw x (kind_in own f facts j t)) i)
+
+-- every fact is of any kind
+pub of_any : (facts : List Fact) → of_kind kind.Any facts ≡ facts
+of_any [] = refl
+of_any (f ∷ facts) = ap (λ l. f ∷ l) (of_any facts)
 
 pub kind_stronger : (own : Kind) (strong weak : List Fact) → Stronger strong weak → Stronger (of_kind own strong) (of_kind own weak)
 kind_stronger own strong weak s = record {

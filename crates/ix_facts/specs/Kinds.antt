@@ -1,4 +1,4 @@
--- The kinds of facts: each fact is of just one, in whichever order it stands. A system is a table of the facts of one kind.
+-- The kinds of facts: each fact is of just one of six, in whichever order it stands. A system is a table of the facts of one kind, a store has facts of any.
 use Rattle.std.specs.Prelude.{Bool, true, false, cond, List, [], ◌∷◌}
 use Rattle.ix_core.specs.declared.fact.Fact.{Fact}
 use Rattle.ix_core.specs.declared.fact.Fact.TheVariants.{Rng, LenRng, Low, Same, IsLen, Less, Sum, Search, Neg, Upper}
@@ -18,6 +18,7 @@ kind_of (Neg p a) = kind.Search
 kind_of (Upper p a o c) = kind.Upper
 
 abbrev pub is_kind : Kind → Kind → Bool
+is_kind kind.Any _ = true
 is_kind kind.Range kind.Range = true
 is_kind kind.Low kind.Low = true
 is_kind kind.Length kind.Length = true

@@ -5,7 +5,7 @@ ghost use Rattle.ix_facts.specs.Kinds.{kind_of, is_of};
 
 use ix_core::Fact;
 
-/// What a fact speaks of: each fact is of just one kind, in whichever order it stands.
+/// What facts speak of: each fact is of just one of the first six kinds, in whichever order it stands, and of the last one.
 #[derive(Clone, Copy)]
 pub enum Kind {
     /// Ranges of ints and of lengths.
@@ -20,9 +20,11 @@ pub enum Kind {
     Search,
     /// Bounds from an array's end.
     Upper,
+    /// Any of these.
+    Any,
 }
 
-/// Of which kind the fact is.
+/// Of which of the six kinds the fact is.
 pub fn kind_of_fact(fact: &Fact) -> Kind
     ensures { result ≡ kind_of fact.now }
 {
@@ -45,6 +47,7 @@ pub fn is_of_kind(kind: Kind, fact: &Fact) -> bool
     ensures { result ≡ is_of kind fact.now }
 {
     match (kind, *fact) {
+        (Kind::Any, _) => true,
         (Kind::Range, Fact::Rng(_, _, _)) => true,
         (Kind::Range, Fact::LenRng(_, _, _)) => true,
         (Kind::Low, Fact::Low(_, _)) => true,

@@ -5,3 +5,4 @@ mod Places
 mod Added
 mod Marked
 pub mod NearPlaces
+mod OneOrder

@@ -21,6 +21,6 @@ pub use ix_fact_paths::{
     assigned_path, names_path, names_target, path_order_laws, some_name_path, some_name_target,
 };
 pub use named::ints_and_arrays;
-pub use orders::in_all_orders;
+pub use orders::{have_one_order, in_all_orders};
 pub use path_index::PathIndex;
 pub use path_set::PathSet;

@@ -1,6 +1,6 @@
 //! Facts in all their orders.
 
-ghost use Rattle.std.specs.Prelude.{◌≡◌, ◌≤◌, ◌+◌, ◌∷◌, ◌++◌, IfOk, option_to_list};
+ghost use Rattle.std.specs.Prelude.{◌≡◌, ◌≤◌, ◌+◌, ◌∷◌, ◌++◌, [], false, IsTrue, IfOk, option_to_list};
 ghost use Rattle.std.specs.Vec.{vec_len, vec_capacity};
 ghost use Rattle.ix_fact_paths.specs.Facts.{orders, is_default, in_orders};
 
@@ -28,6 +28,31 @@ fn is_said_of_all(fact: &Fact) -> bool
         Fact::LenRng(_, low, high) => low <= 0 && high >= 2147483647,
         _ => false,
     }
+}
+
+/// Whether the fact stands in one order alone, and is no range that is said of every path.
+fn has_one_order(fact: &Fact) -> bool
+    ensures tells { IsTrue result → is_default fact.now ≡ false }
+    ensures one { IsTrue result → orders fact.now ≡ fact.now ∷ [] }
+{
+    match *fact {
+        Fact::Same(_, _) => false,
+        Fact::Sum(_, _, _) => false,
+        Fact::Upper(_, _, PathOff::Plus(_), _) => false,
+        _ => !is_said_of_all(fact),
+    }
+}
+
+/// Whether the facts are those in all their orders, each in the only one that it has. It takes no memory.
+pub fn have_one_order(facts: &[Fact]) -> bool
+    ensures { IsTrue result → in_orders facts.now ≡ facts.now }
+{
+    for fact in facts {
+        if !has_one_order(fact) {
+            return false;
+        }
+    }
+    true
 }
 
 /// Puts the fact's orders behind the others. There is room for two.

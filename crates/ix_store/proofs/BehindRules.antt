@@ -1,14 +1,13 @@
 -- The facts that code puts together behind a rule are those of the rule.
-use Rattle.std.specs.Prelude.{◌≡◌, List, ◌++◌}
+use Rattle.std.specs.Prelude.{◌≡◌, Bool, List, ◌++◌, Option, Some, None, IfSome, IfNone}
 use Rattle.std.proofs.Common.{sym, subst}
 use Rattle.ix_core.specs.declared.claim.Type_.{Type_}
 use Rattle.ix_core.specs.declared.fact.Path.{Path}
 use Rattle.ix_core.specs.declared.fact.Profile.{Profile}
 use Rattle.ix_core.specs.declared.op.OpKind.{OpKind}
 use Rattle.ix_core.specs.declared.fact.Fact.{Fact}
-use Rattle.ix_facts.specs.AfterOperation.{copied}
 use Rattle.ix_facts.specs.AfterTest.{Outcome, outcome_facts}
-use Rattle.ix_facts.specs.After.{of_target, beside_target, kept_new, finished, finished_by}
+use Rattle.ix_facts.specs.After.{of_target, beside_target}
 use Rattle.ix_facts.specs.Closure.{kept}
 use Rattle.ix_facts.specs.Facts.{in_orders}
 use Rattle.ix_facts.specs.Forget.{of_path, without}
@@ -18,6 +17,9 @@ use Rattle.ix_facts.proofs.ClassesStay.{after_classes, copy_classes}
 use Rattle.ix_facts.proofs.Frame.{in_without}
 use Rattle.ix_facts.specs.SameFacts.{AreSame}
 use Rattle.ix_facts.proofs.Members.{same_itself, same_equal, same_trans, same_app}
+use Rattle.ix_store.specs.declared.known.Known.{Known}
+use Rattle.ix_store.specs.NewFacts.{rest_of, after_new, copy_new}
+use Rattle.ix_store.specs.StoredFacts.{facts_in}
 use Rattle.ix_store.proofs.SameStores.{same_store, same_classes}
 use Rattle.ix_store.proofs.ClassesAfter.{told_classes}
 
@@ -25,10 +27,13 @@ use Rattle.ix_store.proofs.ClassesAfter.{told_classes}
 pub given_by : (rule : List Fact → List Fact) (before after : Stored) (known all : List Fact) → before ≡ Reached known → AreSame all (rule known) → IsStoreOf all after → IsGiven rule before after
 given_by rule before after known all is same made = subst (λ s. IsGiven rule s after) (sym is) (same_store all (rule known) after same made)
 
--- ---- an operation
+-- what is left where some facts go, or none
+pub rest_left : (is : Path → Bool) (known : Known) (fewer : Option Known) → IfNone fewer (without is (facts_in known) ≡ facts_in known) → IfSome fewer (λ rest. facts_in rest ≡ without is (facts_in known))
+    → facts_in (rest_of known fewer) ≡ without is (facts_in known)
+rest_left is known None same left = sym same
+rest_left is known (Some rest) same left = left
 
-abbrev after_new : List Fact → Profile → OpKind → List Fact
-after_new beside profile kind = kept_new beside profile kind ++ kept (finished beside (kept_new beside profile kind) kind)
+-- ---- an operation
 
 pub after_is : (known rest new all : List Fact) (profile : Profile) (kind : OpKind) → rest ≡ without (of_target kind) known → AreSame new (after_new (in_orders rest) profile kind) → all ≡ rest ++ new → AreSame all (operated profile kind known)
 after_is known rest new all profile kind is same made =
@@ -39,9 +44,6 @@ pub after_have : (known all : List Fact) (profile : Profile) (kind : OpKind) →
 after_have known all profile kind same have = same_classes all (operated profile kind known) same (after_classes known profile kind have)
 
 -- ---- a copy
-
-abbrev copy_new : List Fact → Type_ → Path → Path → List Fact
-copy_new facts ty t s = kept (copied (in_orders facts) ty t s) ++ kept (finished_by ty (in_orders facts) (kept (copied (in_orders facts) ty t s)) t)
 
 pub copy_is : (known rest new all : List Fact) (ty : Type_) (t s : Path) → rest ≡ without (of_path t) known → AreSame new (copy_new rest ty t s) → all ≡ rest ++ new → AreSame all (with_copy ty t s known)
 copy_is known rest new all ty t s is same made =

@@ -7,7 +7,7 @@ use Rattle.ix_core.specs.declared.fact.Fact.TheVariants.{Rng, LenRng, Low, Same,
 use Rattle.ix_facts.specs.Facts.{IsIn}
 use Rattle.ix_facts.specs.Closure.{Said, IsCommon}
 use Rattle.ix_facts.proofs.FactLists.{from_in_orders}
-use Rattle.ix_six_tables.specs.EmptyRanges.{is_empty, some_empty}
+use Rattle.ix_store.specs.EmptyRanges.{is_empty, some_empty}
 use Rattle.ix_store.specs.StoreLaws.{each_full}
 use Rattle.ix_store.proofs.StoresOf.{covers_rng, covers_len, range_order}
 

@@ -12,5 +12,4 @@ mod KnownStores
 mod WholeStores
 mod BesideTables
 pub mod OwnFacts
-mod SparedFacts
-mod LimitBounds
+mod WeakerCommon

@@ -6,10 +6,13 @@ use Rattle.std.proofs.lemmas.Int.{ints}
 use Rattle.ix_core.specs.declared.fact.Fact.{Fact}
 use Rattle.ix_core.specs.declared.fact.Fact.TheVariants.{Rng, LenRng}
 use Rattle.ix_facts.specs.Facts.{IsIn, is_default}
-use Rattle.ix_facts.specs.Closure.{Default, Contradicts}
+use Rattle.ix_facts.specs.Closure.{Default, Closed, Contradicts}
 use Rattle.ix_facts.specs.Stores.{Stored, IsStoreOf, unreachable, reached, Reached}
 use Rattle.ix_facts.proofs.SaidLaws.{default_is}
 use Rattle.ix_facts.proofs.StoreSamples.{nothing_follows}
+
+pub closed_none : Closed []
+closed_none f follows = inl (nothing_follows f follows)
 
 no_contradiction : Contradicts [] → ⊥
 no_contradiction c =

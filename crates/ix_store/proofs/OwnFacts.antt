@@ -8,25 +8,18 @@ use Rattle.ix_core.specs.declared.fact.PathOff.TheVariants.{Nothing, Plus, Minus
 use Rattle.ix_core.specs.declared.fact.Fact.{Fact}
 use Rattle.ix_core.specs.declared.fact.Fact.TheVariants.{Rng, LenRng, Low, Same, IsLen, Less, Sum, Search, Neg, Upper}
 use Rattle.ix_core.proofs.Cases.{by_test}
-use Rattle.ix_facts.specs.declared.kind.Kind.{Kind}
-use Rattle.ix_facts.specs.declared.kind.Kind.TheVariants as kind
 use Rattle.ix_facts.specs.Facts.{IsIn, is_default}
-use Rattle.ix_facts.specs.Kinds.{is_kind, kind_of, is_of}
 use Rattle.ix_facts.specs.PathOrder.{path_cmp}
 use Rattle.ix_facts.specs.Closure.{Contradicts}
 use Rattle.ix_facts.specs.Stores.{IsStoreOf, Reached, reached}
-use Rattle.ix_facts.proofs.FactLists.{in_either}
 use Rattle.ix_closure.specs.FactTable.{FactTable}
-use Rattle.ix_closure.specs.FactTables.{facts_of, table_kind}
-use Rattle.ix_closure.specs.FactOrder.{fact_cmp, at_key}
+use Rattle.ix_closure.specs.FactTables.{facts_of}
+use Rattle.ix_closure.specs.FactOrder.{fact_cmp}
 use Rattle.ix_closure.specs.Entries.{in_first_order, is_first, has_ends, is_entry}
-use Rattle.ix_closure.specs.MeetLaws.{entry_parts, key_kind}
-use Rattle.ix_six_tables.specs.Rising.{rises}
+use Rattle.ix_closure.specs.MeetLaws.{entry_parts}
+use Rattle.ix_closure.specs.Rising.{rises}
 use Rattle.ix_closure.specs.RisingLaws.{below_each, rises_parts, table_rises, table_each}
-use Rattle.ix_closure.specs.TableLaws.{all_own}
-use Rattle.ix_six_tables.specs.Apart.{AreApart, compares_two, is_proper}
-use Rattle.ix_six_tables.specs.declared.tables.Tables.{Tables}
-use Rattle.ix_six_tables.specs.AllTables.{all_facts, AreOfKinds}
+use Rattle.ix_closure.specs.Apart.{AreApart, compares_two, is_proper}
 use Rattle.ix_store.specs.declared.known.Known.{Known}
 use Rattle.ix_store.specs.declared.store.Store.{Store}
 use Rattle.ix_store.specs.StoredFacts.{facts_in, stored_in, stored}
@@ -90,100 +83,14 @@ rising_distinct (f ∷ facts) r =
     let parts = rises_parts f facts r in
     (absent_all f facts (λ g i. ap is_eq (below_each f facts parts.0 g i)), rising_distinct facts parts.1)
 
-both_distinct : (a b : List Fact) → IsDistinct (eq_by_cmp fact_cmp) a → IsDistinct (eq_by_cmp fact_cmp) b → ((f : Fact) → IsIn f a → IsAbsent f b) → IsDistinct (eq_by_cmp fact_cmp) (a ++ b)
-unfolding IsDistinct
-both_distinct [] b x y apart = y
-both_distinct (f ∷ a) b x y apart =
-    let here = absent_all f (a ++ b) (λ g i. ⊎_elim (λ j. all_absent f a x.0 g j) (λ j. apart f (inl refl) g j) (in_either g a b i)) in
-    (here, both_distinct a b x.1 y (λ g i. apart g (inr i)))
+-- ---- a table
 
--- ---- six tables
+entries_in : (table : FactTable) → AreEntries (facts_of table)
+entries_in table f i = (table_each table.kind (facts_of table) table.form f i).1
 
--- no fact is of the kind
-abbrev Lacks : Kind → List Fact → Type 0
-Lacks own facts = (f : Fact) → IsIn f facts → is_of own f ≡ false
-
-lacks_both : (own : Kind) (a b : List Fact) → Lacks own a → Lacks own b → Lacks own (a ++ b)
-lacks_both own a b x y f i = ⊎_elim (λ j. x f j) (λ j. y f j) (in_either f a b i)
-
-same_kind : (k j : Kind) → is_kind k j ≡ true → k ≡ j
-same_kind kind.Range kind.Range t = refl
-same_kind kind.Low kind.Low t = refl
-same_kind kind.Length kind.Length t = refl
-same_kind kind.Difference kind.Difference t = refl
-same_kind kind.Search kind.Search t = refl
-same_kind kind.Upper kind.Upper t = refl
-same_kind k j t = absurd (false≢true t)
-
-lacks_other : (own other : Kind) (table : FactTable) → table_kind table ≡ other → is_kind own other ≡ false → Lacks own (facts_of table)
-lacks_other own other table is n f i =
-    let of : is_kind other (kind_of f) ≡ true = subst (λ k. is_of k f ≡ true) is (all_own table f i) in
-    subst (λ k. is_kind own k ≡ false) (same_kind other (kind_of f) of) n
-
--- facts of a table, and others of other kinds
-table_distinct : (own : Kind) (table : FactTable) (rest : List Fact) → table_kind table ≡ own → Lacks own rest → IsDistinct (eq_by_cmp fact_cmp) rest → IsDistinct (eq_by_cmp fact_cmp) (facts_of table ++ rest)
-table_distinct own table rest is lacks distinct =
-    both_distinct (facts_of table) rest (rising_distinct (facts_of table) (table_rises table.kind (facts_of table) table.form)) distinct
-    (λ f i g j.
-    by_test (eq_by_cmp fact_cmp f g)
-    (λ t.
-    let of : is_of own f ≡ true = subst (λ k. is_of k f ≡ true) is (all_own table f i) in
-    absurd (false≢true (sym (lacks g j) ∙ (sym (key_kind own f g (at_key f g t)) ∙ of))))
-    (λ t. t))
-
-module _ (tables : Tables) (kinds : AreOfKinds tables) where
-  abbrev rest4 : List Fact
-  rest4 = facts_of tables.searches ++ facts_of tables.uppers
-
-  abbrev rest3 : List Fact
-  rest3 = facts_of tables.differences ++ rest4
-
-  abbrev rest2 : List Fact
-  rest2 = facts_of tables.lengths ++ rest3
-
-  abbrev rest1 : List Fact
-  rest1 = facts_of tables.lows ++ rest2
-
-  lacks5 : (own : Kind) → is_kind own kind.Upper ≡ false → Lacks own (facts_of tables.uppers)
-  lacks5 own n = lacks_other own kind.Upper tables.uppers kinds.uppers n
-
-  lacks4 : (own : Kind) → is_kind own kind.Search ≡ false → is_kind own kind.Upper ≡ false → Lacks own rest4
-  lacks4 own a n = lacks_both own (facts_of tables.searches) (facts_of tables.uppers) (lacks_other own kind.Search tables.searches kinds.searches a) (lacks5 own n)
-
-  lacks3 : (own : Kind) → is_kind own kind.Difference ≡ false → is_kind own kind.Search ≡ false → is_kind own kind.Upper ≡ false → Lacks own rest3
-  lacks3 own b a n = lacks_both own (facts_of tables.differences) rest4 (lacks_other own kind.Difference tables.differences kinds.differences b) (lacks4 own a n)
-
-  lacks2 : (own : Kind) → is_kind own kind.Length ≡ false → is_kind own kind.Difference ≡ false → is_kind own kind.Search ≡ false → is_kind own kind.Upper ≡ false → Lacks own rest2
-  lacks2 own c b a n = lacks_both own (facts_of tables.lengths) rest3 (lacks_other own kind.Length tables.lengths kinds.lengths c) (lacks3 own b a n)
-
-  lacks1 : (own : Kind) → is_kind own kind.Low ≡ false → is_kind own kind.Length ≡ false → is_kind own kind.Difference ≡ false → is_kind own kind.Search ≡ false → is_kind own kind.Upper ≡ false → Lacks own rest1
-  lacks1 own d c b a n = lacks_both own (facts_of tables.lows) rest2 (lacks_other own kind.Low tables.lows kinds.lows d) (lacks2 own c b a n)
-
-  six_distinct : IsDistinct (eq_by_cmp fact_cmp) (all_facts tables)
-  six_distinct =
-      let d5 = rising_distinct (facts_of tables.uppers) (table_rises tables.uppers.kind (facts_of tables.uppers) tables.uppers.form) in
-      let d4 = table_distinct kind.Search tables.searches (facts_of tables.uppers) kinds.searches (lacks5 kind.Search refl) d5 in
-      let d3 = table_distinct kind.Difference tables.differences rest4 kinds.differences (lacks4 kind.Difference refl refl) d4 in
-      let d2 = table_distinct kind.Length tables.lengths rest3 kinds.lengths (lacks3 kind.Length refl refl refl) d3 in
-      let d1 = table_distinct kind.Low tables.lows rest2 kinds.lows (lacks2 kind.Low refl refl refl refl) d2 in
-      table_distinct kind.Range tables.ranges rest1 kinds.ranges (lacks1 kind.Range refl refl refl refl refl) d1
-
-  entries_in : (table : FactTable) → AreEntries (facts_of table)
-  entries_in table f i = (table_each table.kind (facts_of table) table.form f i).1
-
-  entries_both : (a b : List Fact) → AreEntries a → AreEntries b → AreEntries (a ++ b)
-  entries_both a b x y f i = ⊎_elim (λ j. x f j) (λ j. y f j) (in_either f a b i)
-
-  six_entries : AreEntries (all_facts tables)
-  six_entries =
-      entries_both (facts_of tables.ranges) rest1 (entries_in tables.ranges)
-      (entries_both (facts_of tables.lows) rest2 (entries_in tables.lows)
-      (entries_both (facts_of tables.lengths) rest3 (entries_in tables.lengths)
-      (entries_both (facts_of tables.differences) rest4 (entries_in tables.differences)
-      (entries_both (facts_of tables.searches) (facts_of tables.uppers) (entries_in tables.searches) (entries_in tables.uppers)))))
-
-  six_apart : AreApart (all_facts tables)
-  six_apart = subst (IsDistinct (eq_by_cmp fact_cmp)) (sym (first_orders_fixed (all_facts tables) six_entries)) six_distinct
+table_apart : (table : FactTable) → AreApart (facts_of table)
+table_apart table =
+    subst (IsDistinct (eq_by_cmp fact_cmp)) (sym (first_orders_fixed (facts_of table) (entries_in table))) (rising_distinct (facts_of table) (table_rises table.kind (facts_of table) table.form))
 
 -- ---- a store's own facts
 
@@ -192,8 +99,8 @@ agree facts _ (reached closed n is) = n
 
 known_whole : (known : Known) → list_all compares_two (facts_in known) ≡ true → AreAStore (facts_in known)
 known_whole known two = record {
-  proper = entries_proper (facts_in known) (six_entries known.tables known.kinds) two;
-  apart = six_apart known.tables known.kinds;
+  proper = entries_proper (facts_in known) (entries_in known.table) two;
+  apart = table_apart known.table;
   closed = (closed_of_test (facts_in known) known.closed, agree (facts_in known) (facts_in known) (known_store known));
 }
 

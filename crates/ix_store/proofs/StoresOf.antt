@@ -1,6 +1,6 @@
--- The tables of what follows from facts are the closed list of the facts, and where none of their ranges is empty the facts don't contradict each other.
+-- The table of what follows from facts is the closed list of the facts, and where none of its ranges is empty the facts don't contradict each other.
 use Rattle.std.specs.Prelude.{◌≡◌, ◌⊎◌, true, false, ◌||◌, ℤ, ◌≤ℤ◌, ◌<ℤ◌, int_lt, List, [], ◌∷◌, ◌++◌, refl}
-use Rattle.std.proofs.Common.{arith, inl, inr, sym, ◌∙◌, subst, ⊎_elim}
+use Rattle.std.proofs.Common.{arith, inl, inr, ap, sym, ◌∙◌, subst, ⊎_elim}
 use Rattle.std.proofs.lemmas.Bool.{false≢true}
 use Rattle.std.proofs.lemmas.Int.{ints}
 use Rattle.ix_core.specs.declared.fact.Path.{Path}
@@ -10,11 +10,15 @@ use Rattle.ix_core.specs.declared.fact.Fact.TheVariants.{Rng, LenRng, Low, Same,
 use Rattle.ix_facts.specs.Facts.{IsIn, Covers, rng, len_rng, orders}
 use Rattle.ix_facts.specs.Closure.{Contradicts, IsClosedOf}
 use Rattle.ix_facts.specs.Systems.{IsTable}
+use Rattle.ix_facts.specs.declared.kind.Kind.{Kind}
+use Rattle.ix_facts.specs.declared.kind.Kind.TheVariants as kind
+use Rattle.ix_facts.specs.Kinds.{of_kind}
+use Rattle.ix_facts.proofs.SystemLaws.{of_any}
 use Rattle.ix_facts.specs.Stores.{IsStoreOf, unreachable, reached, Unreachable, Reached}
-use Rattle.ix_facts.proofs.FactLists.{in_left, in_either, from_in_orders}
+use Rattle.ix_facts.proofs.FactLists.{from_in_orders}
 use Rattle.ix_closure.specs.Saturated.{IsSaturated}
 use Rattle.ix_closure.proofs.RangesMet.{merges_follow}
-use Rattle.ix_six_tables.specs.EmptyRanges.{is_empty, some_empty, HasEmpty}
+use Rattle.ix_store.specs.EmptyRanges.{is_empty, some_empty, HasEmpty}
 use Rattle.ix_core.proofs.Cases.{by_test}
 use Rattle.ix_store.specs.StoreLaws.{each_full}
 
@@ -24,6 +28,11 @@ table_closed facts more table is made = record {
   only = λ f i. merges_follow facts more is.only f (made.only f i);
   tells = made.tells;
 }
+
+-- where a table of facts of any kind gets more of them
+pub added_closed : (own : Kind) (known added table : List Fact) → own ≡ kind.Any → IsTable (known ++ of_kind own added) table → (facts : List Fact) → IsSaturated facts (known ++ added) → IsClosedOf facts table
+added_closed own known added table is made facts saturated =
+    table_closed facts (known ++ added) table saturated (subst (λ l. IsTable (known ++ l) table) (ap (λ k. of_kind k added) is ∙ of_any added) made)
 
 -- a range stands in one order alone
 pub range_order : (f g : Fact) (p : Path) (l h : ℤ) → (f ≡ Rng p l h) ⊎ (f ≡ LenRng p l h) → IsIn f (orders g) → g ≡ f
@@ -94,38 +103,40 @@ found [] t = absurd (false≢true t)
 found (f ∷ facts) t =
     by_test (is_empty f) (λ u. (f, inl refl, u)) (λ u. let x = found facts (subst (λ b. (b || some_empty facts) ≡ true) u t) in (x.0, inr x.1, x.2))
 
--- the ranges are the first part of a list whose other facts are no ranges
-pub front_empty : (ranges rest : List Fact) → some_empty ranges ≡ true → HasEmpty (ranges ++ rest)
-front_empty ranges rest t = let x = found ranges t in one_empty x.0 (ranges ++ rest) x.2 (in_left x.0 ranges rest x.1)
-
-abbrev pub IsNoRange : Fact → Type 0
-IsNoRange f = (p : Path) (l h : ℤ) → (f ≡ Rng p l h) ⊎ (f ≡ LenRng p l h) → ⊥
+pub some_has : (facts : List Fact) → some_empty facts ≡ true → HasEmpty facts
+some_has facts t = let x = found facts t in one_empty x.0 facts x.2 x.1
 
 empty_range : (p : Path) (l h : ℤ) → h <ℤ l → int_lt h l ≡ true
 empty_range p l h x = grind (arith, ints, x)
 
-pub none_empty : (ranges rest : List Fact) → some_empty ranges ≡ false → ((f : Fact) → IsIn f rest → IsNoRange f) → ¬ HasEmpty (ranges ++ rest)
-none_empty ranges rest n others e =
+pub none_has : (facts : List Fact) → some_empty facts ≡ false → ¬ HasEmpty facts
+none_has facts n e =
     let p = e.0 in
     let l = e.1 in
     let h = e.2 in
     ⊎_elim
-    (λ i.
-    ⊎_elim
-    (λ j. false≢true (sym (each_full ranges (Rng p l h) n j) ∙ empty_range p l h e.4))
-    (λ j. others (Rng p l h) j p l h (inl refl))
-    (in_either (Rng p l h) ranges rest i))
-    (λ i.
-    ⊎_elim
-    (λ j. false≢true (sym (each_full ranges (LenRng p l h) n j) ∙ empty_range p l h e.4))
-    (λ j. others (LenRng p l h) j p l h (inr refl))
-    (in_either (LenRng p l h) ranges rest i))
+    (λ i. false≢true (sym (each_full facts (Rng p l h) n i) ∙ empty_range p l h e.4))
+    (λ i. false≢true (sym (each_full facts (LenRng p l h) n i) ∙ empty_range p l h e.4))
     e.3
+
+-- no other fact is empty
+pub ranges_alone : (facts : List Fact) → some_empty (of_kind kind.Range facts) ≡ some_empty facts
+ranges_alone [] = refl
+ranges_alone (Rng p l h ∷ facts) = ap (λ b. is_empty (Rng p l h) || b) (ranges_alone facts)
+ranges_alone (LenRng p l h ∷ facts) = ap (λ b. is_empty (LenRng p l h) || b) (ranges_alone facts)
+ranges_alone (Low p c ∷ facts) = ranges_alone facts
+ranges_alone (Same a b ∷ facts) = ranges_alone facts
+ranges_alone (IsLen p a ∷ facts) = ranges_alone facts
+ranges_alone (Less p q c ∷ facts) = ranges_alone facts
+ranges_alone (Sum t y z ∷ facts) = ranges_alone facts
+ranges_alone (Search p a ∷ facts) = ranges_alone facts
+ranges_alone (Neg p a ∷ facts) = ranges_alone facts
+ranges_alone (Upper p a o c ∷ facts) = ranges_alone facts
 
 -- ---- the store
 
-pub closed_unreachable : (facts ranges rest : List Fact) → IsClosedOf facts (ranges ++ rest) → some_empty ranges ≡ true → IsStoreOf facts Unreachable
-closed_unreachable facts ranges rest closed t = unreachable (empty_contradicts facts (ranges ++ rest) closed (front_empty ranges rest t))
+pub closed_unreachable : (facts table : List Fact) → IsClosedOf facts table → some_empty table ≡ true → IsStoreOf facts Unreachable
+closed_unreachable facts table closed t = unreachable (empty_contradicts facts table closed (some_has table t))
 
-pub closed_reached : (facts ranges rest : List Fact) → IsClosedOf facts (ranges ++ rest) → some_empty ranges ≡ false → ((f : Fact) → IsIn f rest → IsNoRange f) → IsStoreOf facts (Reached (ranges ++ rest))
-closed_reached facts ranges rest closed n others = reached (ranges ++ rest) (λ c. none_empty ranges rest n others (contradicts_empty facts (ranges ++ rest) closed c)) closed
+pub closed_reached : (facts table : List Fact) → IsClosedOf facts table → some_empty table ≡ false → IsStoreOf facts (Reached table)
+closed_reached facts table closed n = reached table (λ c. none_has table n (contradicts_empty facts table closed c)) closed

@@ -1,12 +1,14 @@
 pub mod ClosedFacts
+pub mod EmptyRanges
 pub mod StoredFacts
+pub mod NewFacts
 pub mod KnownParts
 pub mod SeenFacts
 pub mod StoreOrder
 pub mod StoreLaws
 pub mod WholeStores
--- Passed on from ix_six_tables.
-pub use Rattle.ix_six_tables.specs.ChangedPaths
+-- Passed on from ix_changes.
+pub use Rattle.ix_changes.specs.ChangedPaths
 -- Passed on from ix_outcomes.
 pub use Rattle.ix_outcomes.specs.OverGroups
 pub use Rattle.ix_outcomes.specs.declared.outcome.Outcome

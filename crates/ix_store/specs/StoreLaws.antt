@@ -9,32 +9,25 @@ use Rattle.ix_facts.specs.Lattice.{LatticeLaws, IsJoin}
 use Rattle.ix_facts.specs.FactMap.{rank_unseen}
 use Rattle.ix_core.specs.declared.fact.Fact.{Fact}
 use Rattle.ix_core.specs.declared.fact.Fact.TheVariants.{Rng, LenRng, Low, Same, IsLen, Less, Sum, Search, Neg, Upper}
-use Rattle.ix_facts.specs.declared.kind.Kind.{Kind}
-use Rattle.ix_facts.specs.declared.kind.Kind.TheVariants as kind
 use Rattle.ix_facts.specs.Facts.{IsIn}
-use Rattle.ix_facts.specs.Kinds.{is_kind, is_of}
-use Rattle.ix_facts.specs.Closure.{SaysAll}
 use Rattle.ix_facts.specs.Stores.{Stored, IsBelow, IsJoined, left, right, both}
 use Rattle.ix_facts.proofs.StoreLaws.{below_itself, below_below, joined_least}
 use Rattle.ix_closure.specs.FactTable.{FactTable}
 use Rattle.ix_closure.specs.FactOrder.{fact_cmp}
-use Rattle.ix_closure.specs.FactTables.{facts_of, table_kind, TableBelow, table_rank, low_within, high_within, numbers_rank, keyed}
+use Rattle.ix_closure.specs.FactTables.{facts_of, table_rank, low_within, high_within, numbers_rank, keyed}
 use Rattle.ix_closure.specs.Entries.{has_ends}
 use Rattle.ix_closure.specs.MeetLaws.{entry_parts, two_ends}
 use Rattle.ix_closure.specs.RisingLaws.{table_each}
-use Rattle.ix_closure.specs.TableLaws.{table_laws, all_own, above_left, above_right}
-use Rattle.ix_six_tables.specs.declared.tables.Tables.{Tables}
+use Rattle.ix_closure.specs.TableLaws.{table_laws, above_left, above_right}
 use Rattle.ix_core.proofs.Cases.{by_test}
 use Rattle.ix_facts.proofs.Tests.{neither}
 use Rattle.ix_store.specs.declared.known.Known.{Known}
 use Rattle.ix_store.specs.declared.store.Store.{Store}
-use Rattle.ix_six_tables.specs.AllTables.{all_facts, AreOfKinds}
-use Rattle.ix_six_tables.specs.EmptyRanges.{is_empty, some_empty}
+use Rattle.ix_store.specs.EmptyRanges.{is_empty, some_empty}
 use Rattle.ix_store.specs.StoredFacts.{facts_in, stored_in, stored}
-use Rattle.ix_store.specs.StoreOrder.{StoreBelow, tables_rank, top_rank, known_rank, store_rank}
-use Rattle.ix_six_tables.specs.SixCommon.{six_say, say_ranges, say_lows, say_lengths, say_differences, say_searches, say_uppers}
+use Rattle.ix_store.specs.StoreOrder.{StoreBelow, top_rank, known_rank, store_rank}
 
--- ---- how large the rank of tables can be
+-- ---- how large the rank of a table can be
 
 -- of a fact whose ends are ints, and that is no empty range
 ends_small : (l h : ℤ) → least_int ≤ℤ l → l ≤ℤ greatest_int → least_int ≤ℤ h → h ≤ℤ greatest_int → unsigned_abs (low_within l -ℤ least_int) + unsigned_abs (greatest_int -ℤ high_within h) < 2 ^ 34
@@ -97,104 +90,25 @@ each_full (g ∷ facts) f full i =
     let parts = neither (is_empty g) (some_empty facts) full in
     ⊎_elim (λ e. ap is_empty e ∙ parts.0) (λ j. each_full facts f parts.1 j) i
 
--- a fact of another kind is no range
-other_full : (own : Kind) → is_kind own kind.Range ≡ false → (f : Fact) → is_of own f ≡ true → is_empty f ≡ false
-other_full own n (Rng p l h) t = absurd (false≢true (sym n ∙ t))
-other_full own n (LenRng a l h) t = absurd (false≢true (sym n ∙ t))
-other_full own n (Low p c) t = refl
-other_full own n (Same a b) t = refl
-other_full own n (IsLen p a) t = refl
-other_full own n (Less p q c) t = refl
-other_full own n (Sum t y z) u = refl
-other_full own n (Search p a) t = refl
-other_full own n (Neg p a) t = refl
-other_full own n (Upper p a o c) t = refl
-
-other_within : (own : Kind) → is_kind own kind.Range ≡ false → (table : FactTable) → table_kind table ≡ own → table_rank table ≤ length (facts_of table) * (2 ^ 34)
-other_within own n table of = table_within table (λ f i. other_full own n f (subst (λ k. is_of k f ≡ true) of (all_own table f i)))
-
-length_both : (a b : List Fact) → length (a ++ b) ≡ length a + length b
-length_both [] b = omega arith
-length_both (f ∷ a) b = let rest = length_both a b in omega (arith, rest)
-
-pub tables_within : (tables : Tables) → AreOfKinds tables → some_empty (facts_of tables.ranges) ≡ false → length (all_facts tables) < 2 ^ 64 → tables_rank tables < top_rank
-tables_within tables kinds full few =
-    let ranges = table_within tables.ranges (λ f i. each_full (facts_of tables.ranges) f full i) in
-    let lows = other_within kind.Low refl tables.lows kinds.lows in
-    let lengths = other_within kind.Length refl tables.lengths kinds.lengths in
-    let differences = other_within kind.Difference refl tables.differences kinds.differences in
-    let searches = other_within kind.Search refl tables.searches kinds.searches in
-    let uppers = other_within kind.Upper refl tables.uppers kinds.uppers in
-    let l4 = length_both (facts_of tables.searches) (facts_of tables.uppers) in
-    let l3 = length_both (facts_of tables.differences) (facts_of tables.searches ++ facts_of tables.uppers) in
-    let l2 = length_both (facts_of tables.lengths) (facts_of tables.differences ++ (facts_of tables.searches ++ facts_of tables.uppers)) in
-    let l1 = length_both (facts_of tables.lows) (facts_of tables.lengths ++ (facts_of tables.differences ++ (facts_of tables.searches ++ facts_of tables.uppers))) in
-    let l0 = length_both (facts_of tables.ranges) (facts_of tables.lows ++ (facts_of tables.lengths ++ (facts_of tables.differences ++ (facts_of tables.searches ++ facts_of tables.uppers)))) in
-    omega (arith, ranges, lows, lengths, differences, searches, uppers, l0, l1, l2, l3, l4, few)
-
 -- ---- the order
 
-module _ (a b : Known) (below : SaysAll (facts_in a) (facts_in b)) where
-  by_ranges : TableBelow a.tables.ranges b.tables.ranges
-  by_ranges = say_ranges a.tables b.tables a.kinds b.kinds below
-
-  by_lows : TableBelow a.tables.lows b.tables.lows
-  by_lows = say_lows a.tables b.tables a.kinds b.kinds below
-
-  by_lengths : TableBelow a.tables.lengths b.tables.lengths
-  by_lengths = say_lengths a.tables b.tables a.kinds b.kinds below
-
-  by_differences : TableBelow a.tables.differences b.tables.differences
-  by_differences = say_differences a.tables b.tables a.kinds b.kinds below
-
-  by_searches : TableBelow a.tables.searches b.tables.searches
-  by_searches = say_searches a.tables b.tables a.kinds b.kinds below
-
-  by_uppers : TableBelow a.tables.uppers b.tables.uppers
-  by_uppers = say_uppers a.tables b.tables a.kinds b.kinds below
-
-  known_falls : tables_rank b.tables ≤ tables_rank a.tables
-  known_falls =
-      omega (
-        arith,
-        table_laws.falls a.tables.ranges b.tables.ranges by_ranges,
-        table_laws.falls a.tables.lows b.tables.lows by_lows,
-        table_laws.falls a.tables.lengths b.tables.lengths by_lengths,
-        table_laws.falls a.tables.differences b.tables.differences by_differences,
-        table_laws.falls a.tables.searches b.tables.searches by_searches,
-        table_laws.falls a.tables.uppers b.tables.uppers by_uppers,
-      )
-
-  known_level : tables_rank a.tables ≤ tables_rank b.tables → SaysAll (facts_in b) (facts_in a)
-  known_level same =
-      let f0 = table_laws.falls a.tables.ranges b.tables.ranges by_ranges in
-      let f1 = table_laws.falls a.tables.lows b.tables.lows by_lows in
-      let f2 = table_laws.falls a.tables.lengths b.tables.lengths by_lengths in
-      let f3 = table_laws.falls a.tables.differences b.tables.differences by_differences in
-      let f4 = table_laws.falls a.tables.searches b.tables.searches by_searches in
-      let f5 = table_laws.falls a.tables.uppers b.tables.uppers by_uppers in
-      six_say b.tables a.tables b.kinds a.kinds
-      (table_laws.level a.tables.ranges b.tables.ranges by_ranges (omega (arith, same, f0, f1, f2, f3, f4, f5)))
-      (table_laws.level a.tables.lows b.tables.lows by_lows (omega (arith, same, f0, f1, f2, f3, f4, f5)))
-      (table_laws.level a.tables.lengths b.tables.lengths by_lengths (omega (arith, same, f0, f1, f2, f3, f4, f5)))
-      (table_laws.level a.tables.differences b.tables.differences by_differences (omega (arith, same, f0, f1, f2, f3, f4, f5)))
-      (table_laws.level a.tables.searches b.tables.searches by_searches (omega (arith, same, f0, f1, f2, f3, f4, f5)))
-      (table_laws.level a.tables.uppers b.tables.uppers by_uppers (omega (arith, same, f0, f1, f2, f3, f4, f5)))
-
-small_rank : (known : Known) → tables_rank known.tables < top_rank
-small_rank known = tables_within known.tables known.kinds known.full known.few
+small_rank : (known : Known) → table_rank known.table < top_rank
+small_rank known =
+    let within = table_within known.table (λ f i. each_full (facts_in known) f known.full i) in
+    let few = known.few in
+    omega (arith, within, few)
 
 falls_by : (a b : Option Known) → IsBelow (stored_in a) (stored_in b) → known_rank b ≤ known_rank a
 falls_by None None below = omega arith
 falls_by None (Some b) below = omega (arith, small_rank b)
 falls_by (Some a) None below = absurd below
-falls_by (Some a) (Some b) below = known_falls a b below
+falls_by (Some a) (Some b) below = table_laws.falls a.table b.table below
 
 level_by : (a b : Option Known) → IsBelow (stored_in a) (stored_in b) → known_rank a ≤ known_rank b → IsBelow (stored_in b) (stored_in a)
 level_by None None below same = tt
 level_by None (Some b) below same = absurd (omega (arith, small_rank b, same))
 level_by (Some a) None below same = absurd below
-level_by (Some a) (Some b) below same = known_level a b below same
+level_by (Some a) (Some b) below same = table_laws.level a.table b.table below same
 
 pub store_laws : LatticeLaws StoreBelow store_rank
 store_laws = record {

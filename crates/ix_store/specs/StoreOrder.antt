@@ -2,7 +2,6 @@
 use Rattle.std.specs.Prelude.{ℕ, ◌+◌, ◌*◌, ◌^◌, Option, Some, None}
 use Rattle.ix_facts.specs.Stores.{IsBelow}
 use Rattle.ix_closure.specs.FactTables.{table_rank}
-use Rattle.ix_six_tables.specs.declared.tables.Tables.{Tables}
 use Rattle.ix_store.specs.declared.known.Known.{Known}
 use Rattle.ix_store.specs.declared.store.Store.{Store}
 use Rattle.ix_store.specs.StoredFacts.{stored}
@@ -15,18 +14,14 @@ StoreBelow low high = IsBelow (stored low) (stored high)
 abbrev pub nowhere : Store
 nowhere = record { known = None }
 
-abbrev pub tables_rank : Tables → ℕ
-tables_rank tables =
-    table_rank tables.ranges + (table_rank tables.lows + (table_rank tables.lengths + (table_rank tables.differences + (table_rank tables.searches + table_rank tables.uppers))))
-
--- more than six tables can have: each has fewer than 2^64 facts, and each of the two ends of a fact is an int
+-- more than a table can have: it has fewer than 2^64 facts, and each of the two ends of a fact is an int
 abbrev pub top_rank : ℕ
 top_rank = (2 ^ 64) * (2 ^ 34)
 
 -- How far a store can still rise.
 abbrev pub known_rank : Option Known → ℕ
 known_rank None = top_rank
-known_rank (Some known) = tables_rank known.tables
+known_rank (Some known) = table_rank known.table
 
 abbrev pub store_rank : Store → ℕ
 store_rank store = known_rank store.known

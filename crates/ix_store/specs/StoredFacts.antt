@@ -2,12 +2,12 @@
 use Rattle.std.specs.Prelude.{List, Option, Some, None}
 use Rattle.ix_core.specs.declared.fact.Fact.{Fact}
 use Rattle.ix_facts.specs.Stores.{Stored, Unreachable, Reached}
+use Rattle.ix_closure.specs.FactTables.{facts_of}
 use Rattle.ix_store.specs.declared.known.Known.{Known}
 use Rattle.ix_store.specs.declared.store.Store.{Store}
-use Rattle.ix_six_tables.specs.AllTables.{all_facts}
 
 abbrev pub facts_in : Known → List Fact
-facts_in known = all_facts known.tables
+facts_in known = facts_of known.table
 
 -- no facts: the place is unreachable
 abbrev pub stored_in : Option Known → Stored

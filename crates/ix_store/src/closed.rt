@@ -1,69 +1,129 @@
 //! Closed facts that don't contradict each other, their order and what two of them have in common.
 
-ghost use Rattle.std.specs.Prelude.{◌≡◌, ◌↔◌, ◌++◌, List, true, false, IsTrue, IfOk};
+ghost use Rattle.std.specs.Prelude.{◌≡◌, ◌↔◌, ◌++◌, List, true, false, IsTrue, IfOk, IfSome, IfNone};
 ghost use Rattle.ix_core.specs.declared.fact.Fact.{Fact};
 ghost use Rattle.ix_facts.specs.declared.kind.Kind.TheVariants as kind;
+ghost use Rattle.ix_facts.specs.Facts.{in_orders};
+ghost use Rattle.ix_facts.specs.Forget.{without};
 ghost use Rattle.ix_facts.specs.Kinds.{of_kind};
 ghost use Rattle.ix_facts.specs.Systems.{HaveClasses, IsTable};
 ghost use Rattle.ix_facts.specs.Stores.{IsStoreOf};
 ghost use Rattle.ix_facts.specs.Closure.{Closed, SaysAll, IsClosedOf, IsCommon};
+ghost use Rattle.ix_changes.specs.ChangedPaths.{is_changed};
 ghost use Rattle.ix_closure.specs.Beside.{are_plain};
 ghost use Rattle.ix_closure.specs.Saturated.{IsSaturated};
-ghost use Rattle.ix_closure.specs.FactTables.{facts_of};
-ghost use Rattle.ix_six_tables.specs.AllTables as spec;
-ghost use Rattle.ix_six_tables.specs.AllTables.{AreOfKinds};
-ghost use Rattle.ix_six_tables.specs.EmptyRanges.{some_empty};
+ghost use Rattle.ix_closure.specs.FactTables.{facts_of, table_kind};
+ghost use Rattle.ix_store.specs.EmptyRanges as spec;
+ghost use Rattle.ix_store.specs.EmptyRanges.{some_empty};
 ghost use Rattle.ix_store.specs.StoredFacts.{facts_in, stored_in};
 
 use crate::known::{FEW, Known};
-use ix_closure::{more_beside, more_that_follows};
+use ix_changes::{Changed, some_name_changed, unchanged};
+use ix_closure::{FactTable, are_plain, more_beside, more_that_follows};
 use ix_core::Fact;
-use ix_fact_list::{before_links, in_all_orders, ints_and_arrays, up_to_ends};
-use ix_six_tables::{self, Tables, all_facts, has_empty, ranges_with, tables_with};
+use ix_fact_list::{before_links, have_one_order, in_all_orders, ints_and_arrays, up_to_ends};
 use std::alloc::{AllocError, Global};
 
-/// The facts of the tables, and new ones behind them.
-fn facts_with(alloc: Global, tables: &Tables, new: &[Fact]) -> Result<Vec<Fact>, AllocError>
-    ensures { IfOk result (λ facts. facts.items ≡ spec.all_facts tables.now ++ new.now) }
+fn is_empty_range(fact: &Fact) -> bool
+    ensures { result ≡ spec.is_empty fact.now }
 {
-    let mut facts = all_facts(alloc, tables)?;
+    match *fact {
+        Fact::Rng(_, low, high) => high < low,
+        Fact::LenRng(_, low, high) => high < low,
+        _ => false,
+    }
+}
+
+fn some_are_empty(facts: &[Fact]) -> bool
+    ensures { result ≡ some_empty facts.now }
+{
+    for fact in facts {
+        if is_empty_range(fact) {
+            return true;
+        }
+    }
+    false
+}
+
+/// Whether a range of the table is empty.
+fn has_empty(table: &FactTable) -> bool
+    ensures { result ≡ some_empty (facts_of table.now) }
+{
+    some_are_empty(table.ranges())
+}
+
+/// The facts of the table, and new ones behind them.
+fn facts_with(alloc: Global, table: &FactTable, new: &[Fact]) -> Result<Vec<Fact>, AllocError>
+    ensures { IfOk result (λ facts. facts.items ≡ facts_of table.now ++ new.now) }
+{
+    let mut facts = Vec::from_slice(alloc, table.as_slice())?;
     facts.extend_from_slice(new)?;
     Ok(facts)
 }
 
-/// New facts, and behind them what follows from them and those of the tables.
-fn added(alloc: Global, tables: &Tables, new: Vec<Fact>) -> Result<Vec<Fact>, AllocError>
+/// New facts, and behind them what follows from them and those of the table.
+fn added(alloc: Global, table: &FactTable, new: Vec<Fact>) -> Result<Vec<Fact>, AllocError>
     requires classes { HaveClasses new.items }
-    ensures saturated { IfOk result (λ added. IsSaturated (spec.all_facts tables.now ++ new.items) (spec.all_facts tables.now ++ added.items)) }
+    ensures saturated { IfOk result (λ added. IsSaturated (facts_of table.now ++ new.items) (facts_of table.now ++ added.items)) }
     ensures classes { IfOk result (λ added. HaveClasses added.items) }
 {
-    let facts = facts_with(alloc, tables, &new)?;
+    let facts = facts_with(alloc, table, &new)?;
     let more = more_that_follows(alloc, &facts)?;
     let mut added = new;
     added.extend_from_slice(&more)?;
     Ok(added)
 }
 
-/// New plain facts, and behind them what follows from them and closed tables, of which those are the ranges with the new facts.
-fn added_beside(
-    alloc: Global,
-    tables: &Tables,
-    ranges: &[Fact],
-    new: Vec<Fact>,
-) -> Result<Vec<Fact>, AllocError>
-    requires kinds { AreOfKinds tables.now }
-    requires closed { Closed (spec.all_facts tables.now) }
+/// New plain facts, and behind them what follows from them and a closed table: only what these add is sought.
+fn added_beside(alloc: Global, table: &FactTable, new: Vec<Fact>) -> Result<Vec<Fact>, AllocError>
+    requires closed { Closed (facts_of table.now) }
     requires classes { HaveClasses new.items }
     requires plain { are_plain new.items ≡ true }
-    requires ranges { IsTable (facts_of tables.now.ranges ++ of_kind kind.Range new.items) ranges.now }
-    ensures saturated { IfOk result (λ added. IsSaturated (spec.all_facts tables.now ++ new.items) (spec.all_facts tables.now ++ added.items)) }
+    ensures saturated { IfOk result (λ added. IsSaturated (facts_of table.now ++ new.items) (facts_of table.now ++ added.items)) }
     ensures classes { IfOk result (λ added. HaveClasses added.items) }
-    ensures ranges { IfOk result (λ added. of_kind kind.Range added.items ≡ of_kind kind.Range new.items) }
 {
-    let more = more_beside(alloc, &new, ranges, tables.searches.get().as_slice())?;
+    let ranges = table.ranges_with(alloc, &new)?;
+    let more = more_beside(alloc, &new, &ranges, table.searches())?;
     let mut added = new;
     added.extend_from_slice(&more)?;
     Ok(added)
+}
+
+/// The table with what follows from it and some facts; none where it has all that.
+fn with_added(
+    alloc: Global,
+    table: &FactTable,
+    added: &[Fact],
+) -> Result<Option<FactTable>, AllocError>
+    requires kind { table_kind table.now ≡ kind.Any }
+    requires classes { HaveClasses added.now }
+    ensures same { IfOk result (λ more. IfNone more ((facts : List Fact) → IsSaturated facts (facts_of table.now ++ added.now) → IsClosedOf facts (facts_of table.now))) }
+    ensures more { IfOk result (λ more. IfSome more (λ more. (facts : List Fact) → IsSaturated facts (facts_of table.now ++ added.now) → IsClosedOf facts (facts_of more))) }
+    ensures kind { IfOk result (λ more. IfSome more (λ more. table_kind more ≡ kind.Any)) }
+{
+    let more = table.with_more(alloc, added)?;
+    Ok(more)
+}
+
+/// The table of all that follows from a closed table and new facts; none where the table says that already. The only error is want of memory.
+pub(crate) fn grown(
+    alloc: Global,
+    table: &FactTable,
+    new: Vec<Fact>,
+) -> Result<Option<FactTable>, AllocError>
+    requires kind { table_kind table.now ≡ kind.Any }
+    requires closed { Closed (facts_of table.now) }
+    requires classes { HaveClasses new.items }
+    ensures same { IfOk result (λ more. IfNone more (IsClosedOf (facts_of table.now ++ new.items) (facts_of table.now))) }
+    ensures more { IfOk result (λ more. IfSome more (λ more. IsClosedOf (facts_of table.now ++ new.items) (facts_of more))) }
+    ensures kind { IfOk result (λ more. IfSome more (λ more. table_kind more ≡ kind.Any)) }
+{
+    if are_plain(&new) {
+        let added = added_beside(alloc, table, new)?;
+        return with_added(alloc, table, &added);
+    }
+    let added = added(alloc, table, new)?;
+    with_added(alloc, table, &added)
 }
 
 /// The facts in no more room than they take, unless they are few.
@@ -73,28 +133,58 @@ fn trimmed(alloc: Global, facts: Vec<Fact>) -> Result<Vec<Fact>, AllocError>
     if facts.len() <= FEW {
         return Ok(facts);
     }
-    let mut trimmed = Vec::with_capacity(alloc, facts.len())?;
-    trimmed.extend_from_slice(&facts)?;
+    let trimmed = Vec::from_slice(alloc, &facts)?;
     Ok(trimmed)
 }
 
+/// The facts in all their orders, where some have two.
+fn turned(alloc: Global, facts: &[Fact]) -> Result<Option<Vec<Fact>>, AllocError>
+    ensures all { IfOk result (λ turned. IfSome turned (λ all. all.items ≡ in_orders facts.now)) }
+    ensures none { IfOk result (λ turned. IfNone turned (facts.now ≡ in_orders facts.now)) }
+{
+    if have_one_order(facts) {
+        return Ok(None);
+    }
+    let all = trimmed(alloc, in_all_orders(alloc, facts)?)?;
+    Ok(Some(all))
+}
+
+fn all_orders<'a>(facts: &'a [Fact], turned: &'a Option<Vec<Fact>>) -> &'a [Fact]
+    requires all { IfSome turned.now (λ all. all.items ≡ in_orders facts.now) }
+    requires none { IfNone turned.now (facts.now ≡ in_orders facts.now) }
+    ensures { result.now ≡ in_orders facts.now }
+{
+    match turned {
+        Some(all) => all,
+        None => facts,
+    }
+}
+
 impl Known {
-    /// Closed tables of which no range is empty, with the lists beside them. The only error is want of memory.
-    fn with_lists(alloc: Global, tables: Tables) -> Result<Known, AllocError>
-        requires kinds { AreOfKinds tables }
-        requires closed { Closed (spec.all_facts tables) }
-        requires full { some_empty (facts_of tables.ranges) ≡ false }
-        ensures tables { IfOk result (λ known. known.tables ≡ tables) }
+    /// The facts in all their orders.
+    pub(crate) fn ordered(&self) -> &[Fact]
+        ensures orders { result.now ≡ in_orders (facts_in self.now) }
     {
-        let all = all_facts(alloc, &tables)?;
-        let _count = all.len();
-        let ordered = trimmed(alloc, in_all_orders(alloc, &all)?)?;
-        let (ints, arrays) = ints_and_arrays(alloc, &ordered)?;
-        let ends = up_to_ends(&ordered);
-        let from_links = before_links(&ordered);
+        all_orders(self.table.as_slice(), &self.turned)
+    }
+
+    /// A closed table of which no range is empty, with the lists beside it. The only error is want of memory.
+    fn with_lists(alloc: Global, table: FactTable) -> Result<Known, AllocError>
+        requires kind { table_kind table ≡ kind.Any }
+        requires closed { Closed (facts_of table) }
+        requires full { some_empty (facts_of table) ≡ false }
+        ensures table { IfOk result (λ known. known.table ≡ table) }
+    {
+        let facts = table.as_slice();
+        let _count = facts.len();
+        let turned = turned(alloc, facts)?;
+        let ordered = all_orders(facts, &turned);
+        let (ints, arrays) = ints_and_arrays(alloc, ordered)?;
+        let ends = up_to_ends(ordered);
+        let from_links = before_links(ordered);
         Ok(Known {
-            tables,
-            ordered,
+            table,
+            turned,
             ends,
             from_links,
             ints,
@@ -102,61 +192,43 @@ impl Known {
         })
     }
 
-    /// The facts of tables that are closed, or none where a range is empty. The only error is want of memory.
-    fn of_tables(alloc: Global, tables: Tables) -> Result<Option<Known>, AllocError>
-        requires kinds { AreOfKinds tables }
-        requires closed { Closed (spec.all_facts tables) }
-        ensures store { IfOk result (λ known. (facts : List Fact) → IsClosedOf facts (spec.all_facts tables) → IsStoreOf facts (stored_in known)) }
+    /// The facts of a closed table, or none where a range is empty. The only error is want of memory.
+    pub(crate) fn of_table(alloc: Global, table: FactTable) -> Result<Option<Known>, AllocError>
+        requires kind { table_kind table ≡ kind.Any }
+        requires closed { Closed (facts_of table) }
+        ensures store { IfOk result (λ known. (facts : List Fact) → IsClosedOf facts (facts_of table) → IsStoreOf facts (stored_in known)) }
     {
-        if has_empty(tables.ranges.get().as_slice()) {
+        if has_empty(&table) {
             return Ok(None);
         }
-        let known = Known::with_lists(alloc, tables)?;
+        let known = Known::with_lists(alloc, table)?;
         Ok(Some(known))
     }
 
-    /// The closed facts of tables and of new facts, or none where an empty range follows. The only error is want of memory.
-    pub(crate) fn closed(
+    /// The facts that name no changed path; none where all facts are such. The only error is want of memory.
+    pub(crate) fn beside(
+        &self,
         alloc: Global,
-        tables: &Tables,
-        new: Vec<Fact>,
+        changed: &Changed,
     ) -> Result<Option<Known>, AllocError>
-        requires kinds { AreOfKinds tables.now }
-        requires classes { HaveClasses new.items }
-        ensures store { IfOk result (λ known. IsStoreOf (spec.all_facts tables.now ++ new.items) (stored_in known)) }
+        ensures same { IfOk result (λ rest. IfNone rest (without (is_changed changed.now) (facts_in self.now) ≡ facts_in self.now)) }
+        ensures fewer { IfOk result (λ rest. IfSome rest (λ rest. facts_in rest ≡ without (is_changed changed.now) (facts_in self.now))) }
     {
-        let added = added(alloc, tables, new)?;
-        let ranges = ranges_with(alloc, tables, &added)?;
-        let more = tables_with(alloc, tables, ranges, &added)?;
-        let known = Known::of_tables(alloc, more)?;
-        Ok(known)
-    }
-
-    /// The same where the tables are closed and the new facts plain: then only what these add is sought.
-    pub(crate) fn closed_beside(
-        alloc: Global,
-        tables: &Tables,
-        new: Vec<Fact>,
-    ) -> Result<Option<Known>, AllocError>
-        requires kinds { AreOfKinds tables.now }
-        requires closed { Closed (spec.all_facts tables.now) }
-        requires classes { HaveClasses new.items }
-        requires plain { are_plain new.items ≡ true }
-        ensures store { IfOk result (λ known. IsStoreOf (spec.all_facts tables.now ++ new.items) (stored_in known)) }
-    {
-        let ranges = ranges_with(alloc, tables, &new)?;
-        let added = added_beside(alloc, tables, ranges.get().as_slice(), new)?;
-        let more = tables_with(alloc, tables, ranges, &added)?;
-        let known = Known::of_tables(alloc, more)?;
-        Ok(known)
+        let facts = self.table.as_slice();
+        if !some_name_changed(facts, changed) {
+            return Ok(None);
+        }
+        let fewer = unchanged(alloc, facts, changed)?;
+        let known = Known::with_lists(alloc, self.table.of_part(fewer))?;
+        Ok(Some(known))
     }
 
     /// What both say. The only error is want of memory.
     pub(crate) fn common(&self, alloc: Global, other: &Known) -> Result<Known, AllocError>
         ensures common { IfOk result (λ known. IsCommon (facts_in self.now) (facts_in other.now) (facts_in known)) }
     {
-        let tables = ix_six_tables::common(alloc, &self.tables, &other.tables)?;
-        let known = Known::with_lists(alloc, tables)?;
+        let table = self.table.common(alloc, &other.table)?;
+        let known = Known::with_lists(alloc, table)?;
         Ok(known)
     }
 
@@ -164,6 +236,6 @@ impl Known {
     pub(crate) fn says_all(&self, other: &Known) -> bool
         ensures below { IsTrue result ↔ SaysAll (facts_in self.now) (facts_in other.now) }
     {
-        ix_six_tables::says_all(&self.tables, &other.tables)
+        self.table.says_all(&other.table)
     }
 }

@@ -1,30 +1,25 @@
 //! The new facts behind each rule, before they are closed.
 
-ghost use Rattle.std.specs.Prelude.{◌≡◌, ◌++◌, ◌∷◌, [], false, IsTrue, IfOk, OnOk};
+ghost use Rattle.std.specs.Prelude.{◌≡◌, ◌++◌, ◌∷◌, [], IfOk, OnOk};
 ghost use Rattle.ix_facts.specs.Assume as claims;
 ghost use Rattle.ix_facts.specs.Closure.{kept};
-ghost use Rattle.ix_facts.specs.After.{of_target};
-ghost use Rattle.ix_facts.specs.Forget.{of_path, without};
+ghost use Rattle.ix_facts.specs.Facts.{in_orders};
 ghost use Rattle.ix_facts.specs.Round.{rounded};
-ghost use Rattle.ix_facts.specs.Stores.{operated, with_copy, with_outcome};
+ghost use Rattle.ix_facts.specs.Stores.{with_outcome};
 ghost use Rattle.ix_facts.specs.Systems.{HaveClasses};
 ghost use Rattle.ix_facts.specs.SameFacts.{AreSame};
-ghost use Rattle.ix_six_tables.specs.AllTables as spec;
-ghost use Rattle.ix_six_tables.specs.ChangedPaths.{is_changed};
-ghost use Rattle.ix_six_tables.specs.Spared.{some_named};
+ghost use Rattle.ix_store.specs.NewFacts.{after_new, copy_new};
 ghost use Rattle.ix_store.specs.StoredFacts.{facts_in};
 ghost use Rattle.ix_outcomes.specs.OverGroups.{outcome_of};
 
 use crate::known::{FEW, Known};
 use crate::limited::Limited;
 use ix_after::{facts_after, facts_of_copy, push_claim};
+use ix_changes::{Changed, rounded_facts, unchanged};
 use ix_core::{Fact, OpKind, Path, PathClaim, Profile, Type_};
-use ix_fact_list::{FactList, FactRow};
+use ix_fact_list::FactList;
 use ix_facts::Arith;
 use ix_outcomes::{Outcome, facts_of_outcome, push_fact, push_less, push_upper};
-use ix_six_tables::{
-    Changed, Tables, all_facts, count_facts, rounded_facts, some_changes, tables_beside,
-};
 use std::alloc::{AllocError, Global};
 
 fn push_kept(out: &mut Vec<Fact>, fact: &Fact) -> Result<(), AllocError>
@@ -49,54 +44,20 @@ pub(crate) fn kept_facts(alloc: Global, facts: &[Fact]) -> Result<Vec<Fact>, All
 }
 
 impl Known {
-    /// The facts that name no changed path. The only error is want of memory.
-    fn unchanged(&self, alloc: Global, changed: &Changed) -> Result<Vec<Fact>, AllocError>
-        ensures facts { IfOk result (λ facts. facts.items ≡ without (is_changed changed.now) (facts_in self.now)) }
+    /// The facts by the paths that they name: an index for one step, which goes with it. The only error is want of memory.
+    fn by_path(&self, alloc: Global) -> Result<FactList, AllocError>
+        ensures facts { IfOk result (λ list. list ≡ facts_in self.now) }
     {
-        let tables = tables_beside(alloc, &self.tables, changed)?;
-        all_facts(alloc, &tables)
-    }
-
-    /// The facts of tables that have all but those that name a changed path, by the paths that they name: an index for one step, which goes with it. The only
-    /// error is want of memory.
-    fn beside(
-        &self,
-        alloc: Global,
-        changed: &Changed,
-        rest: &Tables,
-    ) -> Result<FactList, AllocError>
-        requires rest { spec.all_facts rest.now ≡ without (is_changed changed.now) (facts_in self.now) }
-        ensures facts { IfOk result (λ list. list ≡ without (is_changed changed.now) (facts_in self.now)) }
-    {
-        FactList::new(alloc, all_facts(alloc, rest)?)
-    }
-
-    /// The same facts without an index: what a step reads that asks for limits and hardly for facts on a path. The only error is want of memory.
-    fn row_beside(
-        &self,
-        alloc: Global,
-        changed: &Changed,
-        rest: &Tables,
-    ) -> Result<FactRow, AllocError>
-        requires rest { spec.all_facts rest.now ≡ without (is_changed changed.now) (facts_in self.now) }
-        ensures facts { IfOk result (λ row. row ≡ without (is_changed changed.now) (facts_in self.now)) }
-    {
-        FactRow::new(alloc, all_facts(alloc, rest)?)
+        let facts = Vec::from_slice(alloc, self.table.as_slice())?;
+        let ordered = Vec::from_slice(alloc, self.ordered())?;
+        let ints = Vec::from_slice(alloc, &self.ints)?;
+        let arrays = Vec::from_slice(alloc, &self.arrays)?;
+        FactList::of_lists(alloc, facts, ordered, ints, arrays)
     }
 
     /// Whether a step can read the facts as they stand: few are read as fast as by their paths. It is for speed alone.
-    fn can_be_read(&self, changed: &Changed) -> bool
-        ensures unchanged { IsTrue result → some_named (is_changed changed.now) (facts_in self.now) ≡ false }
-    {
-        self.ordered.len() <= FEW && !some_changes(&self.tables, changed)
-    }
-
-    /// Whether the tables without the facts that name a changed path have all facts: then a step can read these as they stand. It is for speed alone.
-    fn is_spared(&self, changed: &Changed, rest: &Tables) -> bool
-        requires rest { spec.all_facts rest.now ≡ without (is_changed changed.now) (facts_in self.now) }
-        ensures unchanged { IsTrue result → some_named (is_changed changed.now) (facts_in self.now) ≡ false }
-    {
-        count_facts(rest) == count_facts(&self.tables)
+    fn are_few(&self) -> bool {
+        self.table.as_slice().len() <= FEW
     }
 
     /// Whether the rule of an operation asks for limits and hardly for facts on a path: a sum looks at bounds of each array. It is for speed alone.
@@ -110,64 +71,41 @@ impl Known {
         }
     }
 
-    /// The new facts behind an operation. Those tables have the facts that name no path which it changes.
+    /// The new facts behind an operation, of which these are the facts that name no path that it changes.
     pub(crate) fn after(
         &self,
         alloc: Global,
         profile: Profile,
         kind: &OpKind,
-        rest: &Tables,
     ) -> Result<Vec<Fact>, AllocError>
-        requires rest { spec.all_facts rest.now ≡ without (of_target kind.now) (facts_in self.now) }
-        ensures facts { IfOk result (λ new. AreSame (without (of_target kind.now) (facts_in self.now) ++ new.items) (operated profile kind.now (facts_in self.now))) }
-        ensures classes { IfOk result (λ new. HaveClasses new.items) }
+        ensures facts { IfOk result (λ new. AreSame new.items (after_new (in_orders (facts_in self.now)) profile kind.now)) }
     {
-        let changed = Changed::Target(kind);
-        if self.can_be_read(&changed) {
-            let new = facts_after(alloc, self, profile, kind)?;
-            return Ok(new);
+        if self.are_few() {
+            return facts_after(alloc, self, profile, kind);
         }
         if self.asks_for_limits(kind) {
-            if self.is_spared(&changed, rest) {
-                let limited = Limited::of(alloc, self)?;
-                let new = facts_after(alloc, &limited, profile, kind)?;
-                return Ok(new);
-            }
-            let row = self.row_beside(alloc, &changed, rest)?;
-            let new = facts_after(alloc, &row, profile, kind)?;
-            return Ok(new);
+            let limited = Limited::of(alloc, self)?;
+            return facts_after(alloc, &limited, profile, kind);
         }
-        let list = self.beside(alloc, &changed, rest)?;
-        let new = facts_after(alloc, &list, profile, kind)?;
-        Ok(new)
+        let list = self.by_path(alloc)?;
+        facts_after(alloc, &list, profile, kind)
     }
 
-    /// The new facts behind a copy from one path to another. Those tables have the facts that don't name the target.
+    /// The new facts behind a copy from one path to another, of which these are the facts that don't name the target.
     pub(crate) fn copy(
         &self,
         alloc: Global,
         ty: &Type_,
         target: &Path,
         source: &Path,
-        rest: &Tables,
     ) -> Result<Vec<Fact>, AllocError>
-        requires rest { spec.all_facts rest.now ≡ without (of_path target.now) (facts_in self.now) }
-        ensures facts { IfOk result (λ new. AreSame (without (of_path target.now) (facts_in self.now) ++ new.items) (with_copy ty.now target.now source.now (facts_in self.now))) }
-        ensures classes { IfOk result (λ new. HaveClasses new.items) }
+        ensures facts { IfOk result (λ new. AreSame new.items (copy_new (facts_in self.now) ty.now target.now source.now)) }
     {
-        let changed = Changed::At(*target);
-        if self.can_be_read(&changed) {
-            let new = facts_of_copy(alloc, self, ty, target, source)?;
-            return Ok(new);
+        if self.are_few() {
+            return facts_of_copy(alloc, self, ty, target, source);
         }
-        if self.is_spared(&changed, rest) {
-            let limited = Limited::of(alloc, self)?;
-            let new = facts_of_copy(alloc, &limited, ty, target, source)?;
-            return Ok(new);
-        }
-        let row = self.row_beside(alloc, &changed, rest)?;
-        let new = facts_of_copy(alloc, &row, ty, target, source)?;
-        Ok(new)
+        let limited = Limited::of(alloc, self)?;
+        facts_of_copy(alloc, &limited, ty, target, source)
     }
 
     /// The new facts where an outcome is told.
@@ -189,7 +127,7 @@ impl Known {
         ensures facts { IfOk result (λ facts. facts.items ≡ rounded marks.now scope (facts_in self.now)) }
         ensures classes { IfOk result (λ facts. HaveClasses facts.items) }
     {
-        let within = self.unchanged(alloc, &Changed::From(scope))?;
+        let within = unchanged(alloc, self.table.as_slice(), &Changed::From(scope))?;
         let facts = rounded_facts(alloc, &within, marks)?;
         Ok(facts)
     }

@@ -4,26 +4,24 @@ ghost use Rattle.std.specs.Prelude.{◌≡◌, ◌↔◌, true, IsTrue, IfOk, If
 ghost use Rattle.std.specs.List.{list_all};
 ghost use Rattle.ix_facts.specs.Stores.{Reached, SayTheSame, IsStoreOf};
 ghost use Rattle.ix_facts.specs.Systems.{HaveClasses, IsTable};
-ghost use Rattle.ix_six_tables.specs.Apart.{AreApart, is_proper};
-ghost use Rattle.ix_six_tables.specs.AllTables.{all_facts, AreOfKinds};
+ghost use Rattle.ix_closure.specs.Apart.{AreApart, is_proper};
+ghost use Rattle.ix_closure.specs.FactTables.{facts_of};
 ghost use Rattle.ix_store.specs.StoredFacts.{stored};
 ghost use Rattle.ix_store.specs.WholeStores.{AreAStore};
 
 use crate::store::Store;
+use ix_closure::{FactTable, are_apart, are_proper};
 use ix_core::Fact;
-use ix_six_tables::{Tables, are_apart, are_proper, no_tables, ranges_with, says_all, tables_with};
+use ix_facts::Kind;
 use std::alloc::{AllocError, Global};
 
-/// Facts as tables, without what follows from them.
-fn tables_of(alloc: Global, facts: &[Fact]) -> Result<Tables, AllocError>
+/// Facts as a table, without what follows from them.
+fn table_of(alloc: Global, facts: &[Fact]) -> Result<FactTable, AllocError>
     requires classes { HaveClasses facts.now }
-    ensures table { IfOk result (λ tables. IsTable facts.now (all_facts tables)) }
-    ensures kinds { IfOk result AreOfKinds }
+    ensures table { IfOk result (λ table. IsTable facts.now (facts_of table)) }
 {
-    let none = no_tables(alloc)?;
-    let ranges = ranges_with(alloc, &none, facts)?;
-    let tables = tables_with(alloc, &none, ranges, facts)?;
-    Ok(tables)
+    let table = FactTable::of_facts(alloc, Kind::Any, facts)?;
+    Ok(table)
 }
 
 /// Whether facts of which no two are at one key are all that follows from them, where the store is the closed one of these.
@@ -36,8 +34,8 @@ fn is_all(alloc: Global, facts: &[Fact], store: &Store) -> Result<bool, AllocErr
     let Some(known) = &store.known else {
         return Ok(false);
     };
-    let tables = tables_of(alloc, facts)?;
-    let whole = says_all(&tables, &known.get().tables);
+    let table = table_of(alloc, facts)?;
+    let whole = table.says_all(&known.get().table);
     Ok(whole)
 }
 

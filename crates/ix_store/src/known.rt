@@ -1,43 +1,44 @@
 //! Closed facts.
 
-ghost use Rattle.std.specs.Prelude.{◌≡◌, ◌<◌, ◌≤◌, ◌^◌, false, [], length, take, drop};
+ghost use Rattle.std.specs.Prelude.{◌≡◌, ◌<◌, ◌≤◌, ◌^◌, false, [], IfSome, IfNone, length, take, drop};
+ghost use Rattle.ix_facts.specs.declared.kind.Kind.TheVariants as kind;
 ghost use Rattle.ix_facts.specs.Exact.{named_ints, named_arrays};
 ghost use Rattle.ix_facts.specs.Facts.{in_orders};
 ghost use Rattle.ix_fact_list.specs.Ends.{ends_in};
 ghost use Rattle.ix_fact_list.specs.Links.{links_in};
 ghost use Rattle.ix_fact_list.specs.ByPath.{put_all};
+ghost use Rattle.ix_closure.specs.FactTables.{facts_of, table_kind};
 ghost use Rattle.ix_store.specs.ClosedFacts.{AreClosed};
-ghost use Rattle.ix_closure.specs.FactTables.{facts_of};
-ghost use Rattle.ix_six_tables.specs.AllTables.{all_facts, AreOfKinds};
-ghost use Rattle.ix_six_tables.specs.EmptyRanges.{some_empty};
+ghost use Rattle.ix_store.specs.EmptyRanges.{some_empty};
 
+use ix_closure::FactTable;
 use ix_core::{Fact, Path};
-use ix_six_tables::Tables;
 
 /// Up to how many facts are few: to go over them costs less than an index of them.
 pub(crate) const FEW: usize = 32;
 
-/// Closed facts of which no range is empty: in tables, and once as a list, which takes no index of paths.
+/// Closed facts of which no range is empty: a table of facts of any kind, with lists beside it that take no index of paths.
 #[derive(Drop)]
 pub(crate) struct Known {
-    pub(crate) tables: Tables,
-    /// The facts in all their orders.
-    pub(crate) ordered: Vec<Fact>,
-    /// How many of them stand up to the last range or class, and before the first difference or length.
+    pub(crate) table: FactTable,
+    /// The facts in all their orders, where some have two; where none has, the table has them.
+    pub(crate) turned: Option<Vec<Fact>>,
+    /// How many of the facts in all their orders stand up to the last range or class, and before the first difference or length.
     pub(crate) ends: usize,
     pub(crate) from_links: usize,
     /// The ints and arrays that they name, each once.
     pub(crate) ints: Vec<Path>,
     pub(crate) arrays: Vec<Path>,
-    ghost orders: { ordered.items ≡ in_orders (all_facts tables) },
-    ghost in_ends: { ends ≤ length ordered.items },
-    ghost all_ends: { ends_in (take ends ordered.items) ≡ ends_in ordered.items },
-    ghost in_links: { from_links ≤ length ordered.items },
-    ghost all_links: { links_in (drop from_links ordered.items) ≡ links_in ordered.items },
-    ghost each_int: { ints.items ≡ put_all [] (named_ints (in_orders (all_facts tables))) },
-    ghost each_array: { arrays.items ≡ put_all [] (named_arrays (in_orders (all_facts tables))) },
-    ghost kinds: { AreOfKinds tables },
-    ghost full: { some_empty (facts_of tables.ranges) ≡ false },
-    ghost closed: { AreClosed (all_facts tables) },
-    ghost few: { length (all_facts tables) < 2 ^ 64 },
+    ghost kind: { table_kind table ≡ kind.Any },
+    ghost orders: { IfSome turned (λ all. all.items ≡ in_orders (facts_of table)) },
+    ghost one_order: { IfNone turned (facts_of table ≡ in_orders (facts_of table)) },
+    ghost in_ends: { ends ≤ length (in_orders (facts_of table)) },
+    ghost all_ends: { ends_in (take ends (in_orders (facts_of table))) ≡ ends_in (in_orders (facts_of table)) },
+    ghost in_links: { from_links ≤ length (in_orders (facts_of table)) },
+    ghost all_links: { links_in (drop from_links (in_orders (facts_of table))) ≡ links_in (in_orders (facts_of table)) },
+    ghost each_int: { ints.items ≡ put_all [] (named_ints (in_orders (facts_of table))) },
+    ghost each_array: { arrays.items ≡ put_all [] (named_arrays (in_orders (facts_of table))) },
+    ghost full: { some_empty (facts_of table) ≡ false },
+    ghost closed: { AreClosed (facts_of table) },
+    ghost few: { length (facts_of table) < 2 ^ 64 },
 }

@@ -4,7 +4,6 @@ use crate::known::Known;
 use ix_core::{Fact, Path, PathOff};
 use ix_fact_list::bounds::{self, Groups, Indexed};
 use ix_facts::Know;
-use ix_six_tables::{count_facts, fact_at};
 
 impl Groups for Known {
     ghost use Rattle.std.specs.Prelude.{refl, take, drop};
@@ -17,20 +16,20 @@ impl Groups for Known {
     ghost group = { λ known p. in_orders (facts_in known) };
 
     fn on_path(&self, _p: &Path) -> &[Fact] {
-        &self.ordered
+        self.ordered()
     }
 
-    ghost ends = { λ known p. take known.ends known.ordered.items };
+    ghost ends = { λ known p. take known.ends (in_orders (facts_in known)) };
 
     fn ends_on(&self, _p: &Path) -> &[Fact] {
-        let (ends, _) = self.ordered.split_at(self.ends);
+        let (ends, _) = self.ordered().split_at(self.ends);
         ends
     }
 
-    ghost links = { λ known p. drop known.from_links known.ordered.items };
+    ghost links = { λ known p. drop known.from_links (in_orders (facts_in known)) };
 
     fn links_on(&self, _p: &Path) -> &[Fact] {
-        let (_, links) = self.ordered.split_at(self.from_links);
+        let (_, links) = self.ordered().split_at(self.from_links);
         links
     }
 
@@ -62,11 +61,11 @@ impl Know for Known {
     ghost each_array = { λ known. put_once (named_arrays (in_orders (facts_in known))) };
 
     fn facts(&self) -> u128 {
-        count_facts(&self.tables)
+        self.table.as_slice().len() as u128
     }
 
     fn fact(&self, k: u128) -> Fact {
-        fact_at(&self.tables, k)
+        self.table.as_slice()[k as usize]
     }
 
     fn lo(&self, p: &Path) -> i64 {
@@ -138,7 +137,7 @@ impl Indexed for Known {
     ghost on_path = { λ known p. in_orders (facts_in known) };
 
     fn on(&self, _p: &Path) -> &[Fact] {
-        &self.ordered
+        self.ordered()
     }
 
     fn int_list(&self) -> &[Path] {

@@ -10,7 +10,7 @@ ghost use Rattle.ix_store.specs.StoreOrder.{StoreBelow};
 use crate::known::Known;
 use crate::store::Store;
 use ix_facts::Lattice;
-use ix_six_tables::Joint;
+use ix_text::Joint;
 use std::alloc::{AllocError, Global};
 
 fn says_all(first: &Joint<Known>, second: &Joint<Known>) -> bool

@@ -14,7 +14,7 @@ use ix_facts::Know;
 use std::alloc::{AllocError, Global};
 use std::marker::Model;
 
-/// Facts that a step reads where it drops none of them and asks for limits: no fact is copied.
+/// Facts that a step reads where it asks for limits: no fact is copied.
 #[derive(Drop)]
 pub(crate) struct Limited<'a> {
     known: &'a Known,
@@ -34,15 +34,9 @@ impl<'a> Limited<'a> {
     pub(crate) fn of(alloc: Global, known: &'a Known) -> Result<Limited<'a>, AllocError>
         ensures facts { IfOk result (λ limited. limited ≡ known.now) }
     {
-        let (ends, _) = known.ordered.split_at(known.ends);
-        let limits = Limits::by_part(
-            alloc,
-            known,
-            &known.ordered,
-            ends,
-            &known.ints,
-            &known.arrays,
-        )?;
+        let ordered = known.ordered();
+        let (ends, _) = ordered.split_at(known.ends);
+        let limits = Limits::by_part(alloc, known, ordered, ends, &known.ints, &known.arrays)?;
         Ok(Limited { known, limits })
     }
 }
@@ -61,13 +55,13 @@ impl<'a> Groups for Limited<'a> {
         self.known.on_path(p)
     }
 
-    ghost ends = { λ known p. take known.ends known.ordered.items };
+    ghost ends = { λ known p. take known.ends (in_orders (facts_in known)) };
 
     fn ends_on(&self, p: &Path) -> &[Fact] {
         self.known.ends_on(p)
     }
 
-    ghost links = { λ known p. drop known.from_links known.ordered.items };
+    ghost links = { λ known p. drop known.from_links (in_orders (facts_in known)) };
 
     fn links_on(&self, p: &Path) -> &[Fact] {
         self.known.links_on(p)

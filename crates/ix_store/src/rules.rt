@@ -1,25 +1,30 @@
 //! The store behind each rule.
 
-ghost use Rattle.std.specs.Prelude.{◌≡◌, ◌∷◌, ◌++◌, [], ◌↔◌, IsTrue, IfOk};
-ghost use Rattle.ix_facts.specs.Closure.{Closed};
+ghost use Rattle.std.specs.Prelude.{◌≡◌, ◌++◌, [], ◌↔◌, List, IsTrue, IfOk};
+ghost use Rattle.ix_core.specs.declared.fact.Fact.{Fact};
+ghost use Rattle.ix_facts.specs.declared.kind.Kind.TheVariants as kind;
+ghost use Rattle.ix_facts.specs.Closure.{Closed, IsClosedOf};
 ghost use Rattle.ix_facts.specs.Stores.{Unreachable, Reached, IsStoreOf, IsAfter, IsCopied, IsTold, IsAssumed, IsAdded, IsForgotten, IsRounded, IsProved};
 ghost use Rattle.ix_facts.specs.Systems.{HaveClasses};
-ghost use Rattle.ix_facts.specs.Forget.{of_path, of_field, of_call, without};
-ghost use Rattle.ix_six_tables.specs.AllTables.{all_facts, AreOfKinds};
-ghost use Rattle.ix_six_tables.specs.ChangedPaths.{is_spared, is_final, of_called, of_parent, is_changed};
+ghost use Rattle.ix_facts.specs.Forget.{of_path, of_field, of_call};
+ghost use Rattle.ix_changes.specs.ChangedPaths.{is_spared, is_final, of_called, of_parent, is_changed};
+ghost use Rattle.ix_closure.specs.FactTables.{facts_of, table_kind};
+ghost use Rattle.ix_store.specs.NewFacts.{rest_of};
 ghost use Rattle.ix_store.specs.StoredFacts.{facts_in, stored};
 ghost use Rattle.ix_store.specs.StoreOrder.{nowhere};
 ghost use Rattle.ix_outcomes.specs.OverGroups.{outcome_of};
 
+use crate::closed::grown;
 use crate::facts_after::{assumed, kept_facts};
 use crate::known::Known;
 use crate::store::Store;
+use ix_changes::Changed;
 use ix_claims::is_proved;
-use ix_closure::are_plain;
+use ix_closure::FactTable;
 use ix_core::{Fact, OpKind, Path, PathClaim, Profile, Program, Type_};
-use ix_facts::Landmarks;
+use ix_facts::{Kind, Landmarks};
 use ix_outcomes::Outcome;
-use ix_six_tables::{Changed, Joint, Tables, no_tables, some_changes, tables_beside};
+use ix_text::Joint;
 use std::alloc::{AllocError, Global};
 
 fn reached(alloc: Global, known: Known) -> Result<Store, AllocError>
@@ -29,31 +34,38 @@ fn reached(alloc: Global, known: Known) -> Result<Store, AllocError>
     Ok(Store { known: Some(known) })
 }
 
-/// The closed store of tables and of new facts.
-fn closed(alloc: Global, tables: &Tables, new: Vec<Fact>) -> Result<Store, AllocError>
-    requires kinds { AreOfKinds tables.now }
-    requires classes { HaveClasses new.items }
-    ensures store { IfOk result (λ store. IsStoreOf (all_facts tables.now ++ new.items) (stored store)) }
+/// The store of a closed table, unreachable where one of its ranges is empty.
+fn of_table(alloc: Global, table: FactTable) -> Result<Store, AllocError>
+    requires kind { table_kind table ≡ kind.Any }
+    requires closed { Closed (facts_of table) }
+    ensures store { IfOk result (λ store. (facts : List Fact) → IsClosedOf facts (facts_of table) → IsStoreOf facts (stored store)) }
 {
-    match Known::closed(alloc, tables, new)? {
+    match Known::of_table(alloc, table)? {
         None => Ok(Store::unreachable()),
         Some(known) => reached(alloc, known),
     }
 }
 
-/// The same of closed tables.
-fn closed_beside(alloc: Global, tables: &Tables, new: Vec<Fact>) -> Result<Store, AllocError>
-    requires kinds { AreOfKinds tables.now }
-    requires closed { Closed (all_facts tables.now) }
-    requires classes { HaveClasses new.items }
-    ensures store { IfOk result (λ store. IsStoreOf (all_facts tables.now ++ new.items) (stored store)) }
+/// The facts that are left, or all.
+fn rest<'a>(known: &'a Joint<Known>, fewer: &'a Option<Known>) -> &'a Known
+    ensures { result.now ≡ rest_of known.now fewer.now }
 {
-    if !are_plain(&new) {
-        return closed(alloc, tables, new);
+    match fewer {
+        Some(fewer) => fewer,
+        None => known.get(),
     }
-    match Known::closed_beside(alloc, tables, new)? {
-        None => Ok(Store::unreachable()),
-        Some(known) => reached(alloc, known),
+}
+
+/// The store of the facts that are left; held jointly where these are all.
+fn held(alloc: Global, known: &Joint<Known>, fewer: Option<Known>) -> Result<Store, AllocError>
+    ensures { IfOk result (λ store. stored store ≡ Reached (facts_in (rest_of known.now fewer))) }
+{
+    match fewer {
+        Some(fewer) => reached(alloc, fewer),
+        None => {
+            let known = known.join()?;
+            Ok(Store { known: Some(known) })
+        }
     }
 }
 
@@ -63,45 +75,40 @@ fn is_none(facts: &[Fact]) -> bool
     facts.is_empty()
 }
 
-/// The tables of the facts that name no changed path.
-fn beside(alloc: Global, known: &Joint<Known>, changed: &Changed) -> Result<Tables, AllocError>
-    ensures facts { IfOk result (λ rest. all_facts rest ≡ without (is_changed changed.now) (facts_in known.now)) }
-    ensures kinds { IfOk result AreOfKinds }
-{
-    let rest = tables_beside(alloc, &known.get().tables, changed)?;
-    Ok(rest)
-}
-
-/// The closed store of new facts and of those that name no changed path; held jointly where nothing is new and nothing goes.
+/// The closed store of new facts and of those that are left; held jointly where nothing is new and nothing goes.
 fn behind(
     alloc: Global,
     known: &Joint<Known>,
-    changed: &Changed,
-    rest: &Tables,
+    fewer: Option<Known>,
     new: Vec<Fact>,
 ) -> Result<Store, AllocError>
-    requires rest { all_facts rest.now ≡ without (is_changed changed.now) (facts_in known.now) }
-    requires kinds { AreOfKinds rest.now }
     requires classes { HaveClasses new.items }
-    ensures store { IfOk result (λ store. IsStoreOf (without (is_changed changed.now) (facts_in known.now) ++ new.items) (stored store)) }
+    ensures store { IfOk result (λ store. IsStoreOf (facts_in (rest_of known.now fewer) ++ new.items) (stored store)) }
 {
-    if is_none(&new) && !some_changes(&known.get().tables, changed) {
-        let known = known.join()?;
-        return Ok(Store { known: Some(known) });
+    if is_none(&new) {
+        drop(new);
+        let store = held(alloc, known, fewer)?;
+        return Ok(store);
     }
-    closed_beside(alloc, rest, new)
+    match grown(alloc, &rest(known, &fewer).table, new)? {
+        None => {
+            let store = held(alloc, known, fewer)?;
+            Ok(store)
+        }
+        Some(table) => {
+            let store = of_table(alloc, table)?;
+            Ok(store)
+        }
+    }
 }
 
-/// The closed store with new facts; held jointly where there are none.
+/// The closed store with new facts; held jointly where they say nothing new.
 fn with_new(alloc: Global, known: &Joint<Known>, new: Vec<Fact>) -> Result<Store, AllocError>
     requires classes { HaveClasses new.items }
     ensures store { IfOk result (λ store. IsStoreOf (facts_in known.now ++ new.items) (stored store)) }
 {
-    if is_none(&new) {
-        let known = known.join()?;
-        return Ok(Store { known: Some(known) });
-    }
-    closed_beside(alloc, &known.get().tables, new)
+    let store = behind(alloc, known, None, new)?;
+    Ok(store)
 }
 
 impl Store {
@@ -125,10 +132,11 @@ impl Store {
         requires classes { HaveClasses facts.now }
         ensures store { IfOk result (λ store. IsStoreOf facts.now (stored store)) }
     {
-        let mut new = Vec::new(alloc);
-        new.extend_from_slice(facts)?;
-        let tables = no_tables(alloc)?;
-        closed(alloc, &tables, new)
+        let empty = FactTable::new(alloc, Kind::Any);
+        let new = Vec::from_slice(alloc, facts)?;
+        let table = grown(alloc, &empty, new)?.unwrap_or(empty);
+        let store = of_table(alloc, table)?;
+        Ok(store)
     }
 
     /// The store behind an operation that is no call and touches no field. The only error is want of memory.
@@ -139,9 +147,9 @@ impl Store {
             return Ok(Store::unreachable());
         };
         let changed = Changed::Target(kind);
-        let rest = beside(alloc, known, &changed)?;
-        let new = known.get().after(alloc, profile, kind, &rest)?;
-        let store = behind(alloc, known, &changed, &rest, new)?;
+        let fewer = known.get().beside(alloc, &changed)?;
+        let new = rest(known, &fewer).after(alloc, profile, kind)?;
+        let store = behind(alloc, known, fewer, new)?;
         Ok(store)
     }
 
@@ -159,9 +167,9 @@ impl Store {
             return Ok(Store::unreachable());
         };
         let changed = Changed::At(*target);
-        let rest = beside(alloc, known, &changed)?;
-        let new = known.get().copy(alloc, ty, target, source, &rest)?;
-        let store = behind(alloc, known, &changed, &rest, new)?;
+        let fewer = known.get().beside(alloc, &changed)?;
+        let new = rest(known, &fewer).copy(alloc, ty, target, source)?;
+        let store = behind(alloc, known, fewer, new)?;
         Ok(store)
     }
 
@@ -254,8 +262,9 @@ impl Store {
         let Some(known) = &self.known else {
             return Ok(Store::unreachable());
         };
-        let rest = beside(alloc, known, changed)?;
-        behind(alloc, known, changed, &rest, Vec::new(alloc))
+        let fewer = known.get().beside(alloc, changed)?;
+        let store = held(alloc, known, fewer)?;
+        Ok(store)
     }
 
     /// The store of a loop's label: without the facts that name a slot from `scope` on, the constants of the others moved to landmarks. The only error is want of memory.

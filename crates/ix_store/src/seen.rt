@@ -6,7 +6,6 @@ ghost use Rattle.ix_store.specs.StoredFacts.{stored};
 
 use crate::store::Store;
 use ix_core::Fact;
-use ix_six_tables::all_facts;
 use std::alloc::{AllocError, Global};
 
 impl Store {
@@ -27,7 +26,7 @@ impl Store {
         let Some(known) = &self.known else {
             return Ok(None);
         };
-        let facts = all_facts(alloc, &known.get().tables)?;
+        let facts = Vec::from_slice(alloc, known.get().table.as_slice())?;
         Ok(Some(facts))
     }
 }

@@ -1,7 +1,7 @@
 //! The store.
 
 use crate::known::Known;
-use ix_six_tables::Joint;
+use ix_text::Joint;
 
 /// What is known at a place: that no state is there, or closed facts, which several stores may hold jointly.
 #[derive(Drop)]

@@ -1,20 +1,20 @@
 use Rattle.std.proofs.Common.{◌≡◌, ◌++◌, sym, subst, ap, ◌∙◌}
 use Rattle.std.proofs.lemmas.List.{append_assoc}
 use Rattle.ix_facts.specs.Systems.{HaveClasses}
+use Rattle.ix_closure.specs.FactTables.{facts_of}
 use Rattle.ix_closure.specs.Saturated.{IsSaturated}
-use Rattle.ix_six_tables.specs.AllTables.{all_facts}
 use Rattle.ix_facts.proofs.ClassesStay.{app_have}
 use Rattle.ix_store.proofs.SmallNumbers.{all_classes}
 use Rattle.ix_store.proofs.closed.added.Goals as goal
 
 pub more_that_follows-requires : goal.more_that_follows-requires
 more_that_follows-requires c =
-    let tables = c.args.tables.now in
-    record { classes = subst HaveClasses (sym (c.deref-2.ensures.value ∙ (c.in_ok-facts.ensures ∙ ap (λ l. all_facts tables ++ l) c.deref.ensures.value))) (app_have (all_facts tables) c.args.new.items (all_classes tables) c.requires.classes) }
+    let known = facts_of c.args.table.now in
+    record { classes = subst HaveClasses (sym (c.deref-2.ensures.value ∙ (c.in_ok-facts.ensures ∙ ap (λ l. known ++ l) c.deref.ensures.value))) (app_have known c.args.new.items (all_classes c.args.table.now) c.requires.classes) }
 
 pub returns-clause-saturated : goal.returns-clause-saturated
 returns-clause-saturated c =
-    let known = all_facts c.args.tables.now in
+    let known = facts_of c.args.table.now in
     let new = c.args.new.items in
     let more = c.in_ok-more.more.items in
     let facts : c.deref-2.result.now ≡ known ++ new = c.deref-2.ensures.value ∙ (c.in_ok-facts.ensures ∙ ap (λ l. known ++ l) c.deref.ensures.value) in

@@ -12,4 +12,4 @@ returns-clause-facts c = c.in_ok-facts.ensures.facts ∙ ap (system_rounded c.ar
 pub returns-clause-classes : goal.returns-clause-classes
 returns-clause-classes c =
     let is : c.in_ok-facts.facts.items ≡ rounded c.args.marks.now c.args.scope (facts_in c.args.self.now) = c.in_ok-facts.ensures.facts ∙ ap (system_rounded c.args.marks.now) (c.deref.ensures.value ∙ c.in_ok-within.ensures.facts) in
-    subst HaveClasses (sym is) (rounded_classes c.args.marks.now c.args.scope (facts_in c.args.self.now) (all_classes c.args.self.now.tables))
+    subst HaveClasses (sym is) (rounded_classes c.args.marks.now c.args.scope (facts_in c.args.self.now) (all_classes c.args.self.now.table))

@@ -19,4 +19,4 @@ pub returns-clause-classes : goal.returns-clause-classes
 returns-clause-classes c =
     let known = facts_in c.args.self.now in
     let new = c.in_ok-new.new.items in
-    right_have known new (told_have known (known ++ new) (outcome_of c.args.outcome.now) (same c) (all_classes c.args.self.now.tables))
+    right_have known new (told_have known (known ++ new) (outcome_of c.args.outcome.now) (same c) (all_classes c.args.self.now.table))

@@ -6,7 +6,7 @@ use Rattle.ix_facts.specs.Facts.{in_orders}
 use Rattle.ix_facts.specs.Small.{IsBound}
 use Rattle.ix_fact_list.specs.ByPath.{near_place}
 use Rattle.ix_fact_list.specs.NearNumbers.{number_at}
-use Rattle.ix_store.proofs.LimitBounds.{bound_of_limit}
+use Rattle.ix_fact_list.proofs.NearRaised.{bound_of_limit}
 use Rattle.ix_store.specs.StoredFacts.{facts_in}
 use Rattle.ix_store.proofs.limited.LimitedKnow.lo.Goals as goal
 

@@ -1,22 +1,37 @@
-use Rattle.std.proofs.Common.{◌≡◌, ◌++◌, ap, sym, subst, ◌∙◌}
+use Rattle.std.proofs.Common.{◌≡◌, ◌++◌, ap, sym, subst, ◌∙◌, refl}
 use Rattle.ix_facts.specs.After.{of_target}
+use Rattle.ix_facts.specs.Facts.{in_orders}
 use Rattle.ix_facts.specs.Forget.{without}
 use Rattle.ix_facts.specs.Stores.{Reached, operated}
 use Rattle.ix_facts.specs.SameFacts.{AreSame}
+use Rattle.ix_store.specs.NewFacts.{rest_of, after_new}
 use Rattle.ix_store.specs.StoredFacts.{facts_in, stored}
-use Rattle.ix_store.proofs.BehindRules.{given_by}
+use Rattle.ix_store.proofs.BehindRules.{given_by, rest_left, after_is, after_have}
+use Rattle.ix_store.proofs.ClassesAfter.{right_have}
+use Rattle.ix_store.proofs.SmallNumbers.{all_classes}
 use Rattle.ix_store.proofs.store.Store.after.Goals as goal
 
-pub after-requires : goal.after-requires
-after-requires c = record { rest = c.in_ok-rest.ensures.facts ∙ ap (λ k. without (of_target c.args.kind.now) (facts_in k)) (sym c.get.ensures) }
+pub behind-requires-clause-classes : goal.behind-requires-clause-classes
+behind-requires-clause-classes c =
+    let kind = c.args.kind.now in
+    let profile = c.args.profile in
+    let known = c.in-Some.known in
+    let rest = rest_of known c.in_ok-fewer.fewer in
+    let new = c.in_ok-new.new.items in
+    let left : facts_in rest ≡ without (of_target kind) (facts_in known) = rest_left (of_target kind) known c.in_ok-fewer.fewer c.in_ok-fewer.ensures.same c.in_ok-fewer.ensures.fewer in
+    let made : AreSame new (after_new (in_orders (facts_in rest)) profile kind) = subst (λ k. AreSame new (after_new (in_orders (facts_in k)) profile kind)) c.rest.ensures c.in_ok-new.ensures.facts in
+    right_have (facts_in rest) new (after_have (facts_in known) (facts_in rest ++ new) profile kind (after_is (facts_in known) (facts_in rest) new (facts_in rest ++ new) profile kind left made refl) (all_classes known.table))
 
 pub returns : goal.returns
 returns c =
     let i = c.in-Some.is in
     let kind = c.args.kind.now in
-    let rule = operated c.args.profile kind in
+    let profile = c.args.profile in
     let known = c.in-Some.known in
+    let rest = rest_of known c.in_ok-fewer.fewer in
     let new = c.in_ok-new.new.items in
     let is : stored c.args.self.now ≡ Reached (facts_in known) = cc in
-    let same : AreSame (without (of_target kind) (facts_in known) ++ new) (rule (facts_in known)) = subst (λ k. AreSame (without (of_target kind) (facts_in k) ++ new) (rule (facts_in k))) c.get.ensures c.in_ok-new.ensures.facts in
-    record { after = given_by rule (stored c.args.self.now) (stored c.in_ok-store.store) (facts_in known) (without (of_target kind) (facts_in known) ++ new) is same c.in_ok-store.ensures.store }
+    let left : facts_in rest ≡ without (of_target kind) (facts_in known) = rest_left (of_target kind) known c.in_ok-fewer.fewer c.in_ok-fewer.ensures.same c.in_ok-fewer.ensures.fewer in
+    let made : AreSame new (after_new (in_orders (facts_in rest)) profile kind) = subst (λ k. AreSame new (after_new (in_orders (facts_in k)) profile kind)) c.rest.ensures c.in_ok-new.ensures.facts in
+    let same : AreSame (facts_in rest ++ new) (operated profile kind (facts_in known)) = after_is (facts_in known) (facts_in rest) new (facts_in rest ++ new) profile kind left made refl in
+    record { after = given_by (operated profile kind) (stored c.args.self.now) (stored c.in_ok-store.store) (facts_in known) (facts_in rest ++ new) is same c.in_ok-store.ensures.store }

@@ -1,21 +1,37 @@
-use Rattle.std.proofs.Common.{◌≡◌, ◌++◌, ap, sym, subst, ◌∙◌}
+use Rattle.std.proofs.Common.{◌≡◌, ◌++◌, ap, sym, subst, ◌∙◌, refl}
 use Rattle.ix_facts.specs.Forget.{of_path, without}
 use Rattle.ix_facts.specs.Stores.{Reached, with_copy}
 use Rattle.ix_facts.specs.SameFacts.{AreSame}
+use Rattle.ix_store.specs.NewFacts.{rest_of, copy_new}
 use Rattle.ix_store.specs.StoredFacts.{facts_in, stored}
-use Rattle.ix_store.proofs.BehindRules.{given_by}
+use Rattle.ix_store.proofs.BehindRules.{given_by, rest_left, copy_is, copy_have}
+use Rattle.ix_store.proofs.ClassesAfter.{right_have}
+use Rattle.ix_store.proofs.SmallNumbers.{all_classes}
 use Rattle.ix_store.proofs.store.Store.copy.Goals as goal
 
-pub copy-requires : goal.copy-requires
-copy-requires c = record { rest = c.in_ok-rest.ensures.facts ∙ ap (λ k. without (of_path c.args.target.now) (facts_in k)) (sym c.get.ensures) }
+pub behind-requires-clause-classes : goal.behind-requires-clause-classes
+behind-requires-clause-classes c =
+    let target = c.args.target.now in
+    let source = c.args.source.now in
+    let ty = c.args.ty.now in
+    let known = c.in-Some.known in
+    let rest = rest_of known c.in_ok-fewer.fewer in
+    let new = c.in_ok-new.new.items in
+    let left : facts_in rest ≡ without (of_path target) (facts_in known) = rest_left (of_path target) known c.in_ok-fewer.fewer c.in_ok-fewer.ensures.same c.in_ok-fewer.ensures.fewer in
+    let made : AreSame new (copy_new (facts_in rest) ty target source) = subst (λ k. AreSame new (copy_new (facts_in k) ty target source)) c.rest.ensures c.in_ok-new.ensures.facts in
+    right_have (facts_in rest) new (copy_have (facts_in known) (facts_in rest ++ new) ty target source (copy_is (facts_in known) (facts_in rest) new (facts_in rest ++ new) ty target source left made refl) (all_classes known.table))
 
 pub returns : goal.returns
 returns c =
     let i = c.in-Some.is in
     let target = c.args.target.now in
-    let rule = with_copy c.args.ty.now target c.args.source.now in
+    let source = c.args.source.now in
+    let ty = c.args.ty.now in
     let known = c.in-Some.known in
+    let rest = rest_of known c.in_ok-fewer.fewer in
     let new = c.in_ok-new.new.items in
     let is : stored c.args.self.now ≡ Reached (facts_in known) = cc in
-    let same : AreSame (without (of_path target) (facts_in known) ++ new) (rule (facts_in known)) = subst (λ k. AreSame (without (of_path target) (facts_in k) ++ new) (rule (facts_in k))) c.get.ensures c.in_ok-new.ensures.facts in
-    record { after = given_by rule (stored c.args.self.now) (stored c.in_ok-store.store) (facts_in known) (without (of_path target) (facts_in known) ++ new) is same c.in_ok-store.ensures.store }
+    let left : facts_in rest ≡ without (of_path target) (facts_in known) = rest_left (of_path target) known c.in_ok-fewer.fewer c.in_ok-fewer.ensures.same c.in_ok-fewer.ensures.fewer in
+    let made : AreSame new (copy_new (facts_in rest) ty target source) = subst (λ k. AreSame new (copy_new (facts_in k) ty target source)) c.rest.ensures c.in_ok-new.ensures.facts in
+    let same : AreSame (facts_in rest ++ new) (with_copy ty target source (facts_in known)) = copy_is (facts_in known) (facts_in rest) new (facts_in rest ++ new) ty target source left made refl in
+    record { after = given_by (with_copy ty target source) (stored c.args.self.now) (stored c.in_ok-store.store) (facts_in known) (facts_in rest ++ new) is same c.in_ok-store.ensures.store }

@@ -1,7 +1,0 @@
-use Rattle.std.proofs.Common.{◌≡◌, ◌++◌, drop}
-use Rattle.ix_facts.specs.Forget.{without}
-use Rattle.ix_six_tables.specs.ChangedPaths.{is_changed}
-use Rattle.ix_six_tables.proofs.changed.beside_many.Given as goal
-
-abbrev pub invariant-loop-fact : goal.invariant-loop-fact
-invariant-loop-fact l = l.kept.items ++ without (is_changed l.changed) (drop l.fact-index l.facts) ≡ without (is_changed l.changed) l.facts
