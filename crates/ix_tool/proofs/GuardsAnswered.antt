@@ -10,8 +10,8 @@ use Rattle.ix_finding.specs.MethodErrors.{IsError}
 use Rattle.ix_finding.proofs.OneFinding.{one_finding}
 use Rattle.ix_certify.proofs.Lists.{one_list}
 use Rattle.ix_outside.specs.Reading.{most_bytes}
-use Rattle.ix_guarding.specs.Guarding.{IsGuarded}
-use Rattle.ix_guarding.proofs.OneGuarded.{one_guarded}
+use Rattle.ix_guard_promise.specs.Guarding.{IsGuarded}
+use Rattle.ix_guard_promise.proofs.OneGuarded.{one_guarded}
 use Rattle.ix_tool.specs.Answers.{AnswersFound, AnswersGuarded, Guards, guard_status}
 
 -- what is found of a text is that it is too long, or it isn't

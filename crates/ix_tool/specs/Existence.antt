@@ -9,7 +9,7 @@ use Rattle.ix_answer.specs.Answer.{Answer}
 use Rattle.ix_finding.specs.Found.{Whole, Found}
 use Rattle.ix_finding.specs.MethodErrors.{IsError}
 use Rattle.ix_certify.specs.ErrorList.{IsErrorList}
-use Rattle.ix_guarding.specs.Guarding.{IsGuarded}
+use Rattle.ix_guard_promise.specs.Guarding.{IsGuarded}
 use Rattle.ix_certify.specs.Certificates.{IsLeastCertificate}
 use Rattle.ix_certify.specs.Verdicts.{IsVerified, IsRefused}
 use Rattle.ix_certify.specs.CertError.{CertError}

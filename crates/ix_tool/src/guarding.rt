@@ -14,7 +14,7 @@ use crate::reply::{broken_reply, misnamed_reply, past_reply, too_long_reply};
 use ix_answer::{Reply, Status, on_bytes};
 use ix_core::{Error, Profile, Program};
 use ix_finding::{Finding, check_program, of_bytes};
-use ix_guarding::guarded;
+use ix_guard_promise::guarded;
 use ix_words::Sums;
 use std::alloc::{AllocError, Global};
 

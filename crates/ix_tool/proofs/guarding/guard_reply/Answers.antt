@@ -6,7 +6,7 @@ use Rattle.ix_answer.specs.Replies.{shown}
 use Rattle.ix_finding.specs.Findings.{seen}
 use Rattle.ix_finding.specs.Found.{Found}
 use Rattle.ix_finding.specs.MethodErrors.{IsError}
-use Rattle.ix_guarding.specs.Guarding.{IsGuarded}
+use Rattle.ix_guard_promise.specs.Guarding.{IsGuarded}
 use Rattle.ix_certify.specs.ErrorList.{IsErrorList}
 use Rattle.ix_tool.specs.Answers.{AnswersFound, AnswersGuarded}
 use Rattle.ix_tool.proofs.GuardsAnswered.{found_short}
