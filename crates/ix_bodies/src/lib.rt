@@ -10,5 +10,7 @@ mod body;
 mod locals;
 
 pub use body::statements;
-pub use ix_values::{arguments, given_to};
+pub use ix_values::{
+    InAnnotation, Param, Scopes, arguments, given_to, note_declared, wrong, wrong_if,
+};
 pub use locals::initialiser;

@@ -5,4 +5,5 @@ pub use Rattle.ix_verify.specs.Verdicts
 pub use Rattle.ix_verify.specs.declared.answer.CertError
 pub use Rattle.ix_verify.specs.declared.answer.Verified
 -- Passed on from ix_check.
+pub use Rattle.ix_check.specs.MethodErrors
 pub use Rattle.ix_check.specs.ErrorList

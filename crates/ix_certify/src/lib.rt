@@ -9,6 +9,7 @@
 mod laws;
 mod writing;
 
+pub use ix_check::check_program;
 pub use ix_verify::{CertError, verify};
 pub use laws::can_verify;
 pub use writing::{certificate, write};

@@ -1,4 +1,3 @@
-mod FewMethods
 mod Listed
 mod ListedErrors
 -- Passed on from ix_listing.

@@ -6,7 +6,7 @@ use Rattle.ix_core.specs.declared.program.Program.{Program}
 use Rattle.ix_core.specs.Formed.{Formed, is_formed}
 use Rattle.ix_core.specs.Safe.{Safe}
 use Rattle.ix_core.specs.declared.claim.Type_.{Type_}
-use Rattle.ix_check.specs.Judged.{CanCheck}
+use Rattle.ix_ready.specs.Judged.{CanCheck}
 use Rattle.ix_signatures.specs.MethodErrors.{HaveNone}
 use Rattle.ix_listing.specs.Ranked.{Ranked}
 use Rattle.ix_listing.specs.Exactly.{AreExactly}

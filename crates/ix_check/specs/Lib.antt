@@ -1,7 +1,5 @@
--- What an accepted program is counted by.
-pub mod Counts
 -- What is asked of a program that is checked.
-pub mod Judged
+pub use Rattle.ix_ready.specs.Judged
 -- What is passed on of the places in a program.
 pub use Rattle.ix_code_places.specs.CodePlaces
 -- What is passed on of the errors.

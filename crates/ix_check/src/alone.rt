@@ -2,7 +2,7 @@
 ghost use Rattle.std.specs.Prelude.{◌≡◌, ◌<◌, length, IfOk};
 ghost use Rattle.ix_core.specs.Formed.{Formed};
 ghost use Rattle.ix_core.specs.Tables.{method_at};
-ghost use Rattle.ix_check.specs.Judged.{CanCheck};
+ghost use Rattle.ix_ready.specs.Judged.{CanCheck};
 ghost use Rattle.ix_signatures.specs.MethodErrors.{IsErrorOf};
 ghost use Rattle.ix_listing.specs.ErrorList.{IsErrorList};
 ghost use Rattle.ix_signatures.specs.Signatures.{signatures, ErrorsOf};

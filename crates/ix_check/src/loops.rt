@@ -3,7 +3,7 @@ ghost use Rattle.std.specs.Prelude.{◌≡◌, ◌+◌, ◌≤◌, ◌<◌, leng
 ghost use Rattle.ix_core.specs.Code.{block_code};
 ghost use Rattle.ix_core.specs.Formed.{Formed};
 ghost use Rattle.ix_core.specs.Tables.{method_at};
-ghost use Rattle.ix_check.specs.Judged.{CanCheck};
+ghost use Rattle.ix_ready.specs.Judged.{CanCheck};
 ghost use Rattle.ix_loop_labels.specs.Graph.{behind_code};
 ghost use Rattle.ix_loop_labels.specs.LoopLabels.{AreLoopLabels};
 ghost use Rattle.ix_loop_labels.specs.Visits.{VisitsWithin};

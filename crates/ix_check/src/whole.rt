@@ -4,7 +4,7 @@ ghost use Rattle.std.specs.List.{All};
 ghost use Rattle.ix_code_places.specs.CodePlaces.{PlacesWithin};
 ghost use Rattle.ix_core.specs.Formed.{Formed};
 ghost use Rattle.ix_core.specs.Safe.{Safe};
-ghost use Rattle.ix_check.specs.Judged.{CanCheck};
+ghost use Rattle.ix_ready.specs.Judged.{CanCheck};
 ghost use Rattle.ix_signatures.specs.MethodErrors.{IsError, nodes_below};
 ghost use Rattle.ix_signatures.specs.Visits.{AllVisitsWithin};
 ghost use Rattle.ix_listing.specs.ErrorList.{IsErrorList};

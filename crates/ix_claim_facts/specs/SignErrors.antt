@@ -25,8 +25,8 @@ use Rattle.ix_core.specs.declared.program.Program.{Program}
 use Rattle.ix_core.specs.Posts.{same_answer}
 use Rattle.ix_core.specs.Types.{is_void}
 use Rattle.ix_core.specs.Tables.{method_at, field_at, all_fields, param_slot, param_slots}
-use Rattle.ix_facts.specs.Forget.{of_slot, of_call}
-use Rattle.ix_facts.specs.Stores.{Stored, Unreachable, Reached, IsAbove, IsProved, Then}
+use Rattle.ix_steps.specs.Forget.{of_slot, of_call}
+use Rattle.ix_steps.specs.Stores.{Stored, Unreachable, Reached, IsAbove, IsProved, Then}
 use Rattle.ix_steps.specs.MachineSteps.{on_paths, own_path}
 use Rattle.ix_claim_facts.specs.Names.{call_path, object_path, written_path, is_built, names_field}
 use Rattle.ix_claim_facts.specs.Signs.{Adds, Forgets, write_facts, params_facts, received_params, received, claims_facts}

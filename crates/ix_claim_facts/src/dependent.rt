@@ -3,7 +3,7 @@
 ghost use Rattle.std.specs.Prelude.{◌≡◌, ◌++◌, ◌==◌, filter, not, OnOk};
 ghost use Rattle.ix_core.specs.Objects.{offset_names};
 ghost use Rattle.ix_core.specs.declared.fact.Path.TheVariants.{FieldOf};
-ghost use Rattle.ix_facts.specs.Exact.{if_so};
+ghost use Rattle.ix_steps.specs.Exact.{if_so};
 ghost use Rattle.ix_claim_facts.specs.Names as names;
 ghost use Rattle.ix_claim_facts.specs.Names.{object_path, some_field};
 ghost use Rattle.ix_claim_facts.specs.Naming.{path_by, AreSmallClaims, HaveSmallNames};

@@ -6,15 +6,15 @@ ghost use Rattle.ix_core.specs.Tables.{field_at, param_slot as slot_of};
 ghost use Rattle.ix_steps.specs.MachineSteps.{own_path};
 ghost use Rattle.ix_claim_facts.specs.Names.{object_path};
 ghost use Rattle.ix_claim_facts.specs.Naming.{path_by, AreSmallClaims, HasSmallNames, HaveSmallNames};
-ghost use Rattle.ix_facts.specs.AfterOperation.{is_int as is_int_type, is_array as is_array_type};
+ghost use Rattle.ix_steps.specs.AfterOperation.{is_int as is_int_type, is_array as is_array_type};
 ghost use Rattle.ix_claim_facts.specs.Signs as signs;
 ghost use Rattle.ix_claim_facts.specs.Signs.{claims_facts, params_facts, received_params, zero_facts, zero_fields, fields_facts};
 
 use crate::naming::Naming;
 use crate::paths::param_slot;
 use ix_core::{Claim, Fact, Local, Method, Path, Program, Type_};
-use ix_facts::{is_array, is_int};
 use ix_rules::{push_claim, push_if};
+use ix_steps::{is_array, is_int};
 use std::alloc::AllocError;
 
 /// What claims of a path add. The only error is want of memory.

@@ -10,3 +10,4 @@ mod TextPlaces
 pub mod ErrorPlaces
 -- Passed on from ix_method_errors.
 pub use Rattle.ix_method_errors.proofs.Refused
+pub use Rattle.ix_method_errors.proofs.MethodLaws

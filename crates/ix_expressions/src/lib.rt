@@ -13,3 +13,6 @@ pub mod grammar;
 pub mod initialisers;
 pub mod levels;
 pub mod primaries;
+
+pub use ix_nodes::{nodes, statement_nodes};
+pub use ix_reading::{annotations, cursor, modifiers, operators, type_trees};

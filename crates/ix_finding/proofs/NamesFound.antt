@@ -8,8 +8,8 @@ use Rattle.ix_meaning.specs.declared.note.Which.{Which}
 use Rattle.ix_meaning.specs.Limits.{Passed, limit, inheritance_limit}
 use Rattle.ix_meaning.specs.Resolved.{name_errors, Accepts, IsRefused, IsPassed, Refuses, names}
 use Rattle.ix_core.specs.declared.program.Program.{Program}
-use Rattle.ix_lower.specs.declared.source.LowerError.{LowerError}
-use Rattle.ix_lower.specs.declared.source.LowerError.TheVariants as lowering
+use Rattle.ix_source.specs.LowerError.{LowerError}
+use Rattle.ix_source.specs.LowerError.TheVariants as lowering
 use Rattle.ix_plain.specs.Program.{program}
 use Rattle.ix_plain_places.proofs.PlacedPrograms.{placed_limit}
 use Rattle.ix_name_report.specs.Texts.{limit_name}

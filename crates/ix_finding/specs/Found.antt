@@ -15,8 +15,8 @@ use Rattle.ix_meaning.specs.Limits.{Passed, limit, inheritance_limit}
 use Rattle.ix_meaning.specs.Resolved.{name_errors, Accepts, IsRefused, names}
 use Rattle.ix_name_report.specs.Texts.{limit_name}
 use Rattle.ix_core.specs.declared.program.Program.{Program}
-use Rattle.ix_lower.specs.declared.source.LowerError.{LowerError}
-use Rattle.ix_lower.specs.declared.source.LowerError.TheVariants as lowering
+use Rattle.ix_source.specs.LowerError.{LowerError}
+use Rattle.ix_source.specs.LowerError.TheVariants as lowering
 use Rattle.ix_plain.specs.Program.{program}
 use Rattle.ix_outside.specs.Reading.{most_bytes}
 

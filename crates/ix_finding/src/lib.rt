@@ -9,4 +9,3 @@
 mod finding;
 
 pub use finding::{Finding, of_bytes};
-pub use ix_check::{Store, check_program, count_program, method_labels};

@@ -7,3 +7,5 @@ pub mod GuardedAccesses
 pub mod Trees
 pub mod Kept
 pub mod Shown
+-- Passed on from ix_table.
+pub use Rattle.ix_table.specs.Resolved

@@ -14,9 +14,9 @@ use Rattle.ix_core.specs.Tables.{method_at, body_of}
 use Rattle.ix_guard.specs.Accesses.{Access}
 use Rattle.ix_guard.specs.GuardedAccesses.{guarded_accesses}
 use Rattle.ix_guard.specs.Guards.{insertions}
-use Rattle.ix_guarded_text.specs.Inserted.{added}
+use Rattle.ix_guarding.specs.Inserted.{added}
 use Rattle.ix_guarded_says.proofs.MovingApart.{moving_is_injective}
-use Rattle.ix_accesses.specs.SourceGuards.{IsAmong}
+use Rattle.ix_guarded_bodies.specs.SourceGuards.{IsAmong}
 use Rattle.ix_guarded_bodies.proofs.GuardedPrograms.{program_guards}
 use Rattle.ix_access_places.proofs.GuardedSources.{parsed_guards}
 use Rattle.ix_guarded_runs.proofs.GuardedRuns.{guarded_runs_follow}

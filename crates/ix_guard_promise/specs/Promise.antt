@@ -18,9 +18,9 @@ use Rattle.ix_guarded_flow.specs.BoundErrors.{IsOfBounds}
 use Rattle.ix_guard.specs.Accesses.{Access}
 use Rattle.ix_guard.specs.GuardedAccesses.{guarded_accesses}
 use Rattle.ix_guard.specs.Guards.{source_insertions}
-use Rattle.ix_guarded_text.specs.Inserted.{added}
+use Rattle.ix_guarding.specs.Inserted.{added}
 use Rattle.ix_moved.specs.Moved.{Move, moved_span}
-use Rattle.ix_guarded_places.specs.Interleaved.{moving}
+use Rattle.ix_guarded_bodies.specs.Interleaved.{moving}
 use Rattle.ix_guarded_runs.specs.Follows.{FollowsRun}
 use Rattle.ix_guarding.specs.Guarding.{IsGuarded}
 

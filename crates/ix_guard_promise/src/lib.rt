@@ -6,3 +6,5 @@
 //! They stand on `ix_guarded_bodies`, `ix_access_places` and `ix_guarded_flow` for the rules, on `ix_guarded_runs` for runs, and on `ix_guarded_says` for what names mean.
 //! They never look at how a text is written or judged.
 #![tactic(auto)]
+
+pub use ix_guarding::guarded;

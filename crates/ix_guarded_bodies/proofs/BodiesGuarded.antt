@@ -40,9 +40,9 @@ use Rattle.ix_guarded_code.specs.Guards.{Guards, Guarded, does, ends}
 use Rattle.ix_guarded_code.specs.Pieces.{IsElsewhere}
 use Rattle.ix_guarded_code.proofs.GuardedPieces.{elsewhere}
 use Rattle.ix_moved.specs.Moved.{Move, moved_span, moved_expr, moved_init, moved_decl}
-use Rattle.ix_guarded_places.specs.TestParts.{Parts}
-use Rattle.ix_guarded_places.specs.GuardedPlaces as placed
-use Rattle.ix_guarded_places.specs.GuardedPlaces.{Each, PlacedMember, PlacedMethod}
+use Rattle.ix_guarded_plain.specs.TestParts.{Parts}
+use Rattle.ix_guarded_plain.specs.GuardedPlaces as placed
+use Rattle.ix_guarded_plain.specs.GuardedPlaces.{Each, PlacedMember, PlacedMethod}
 use Rattle.ix_accesses.specs.AllAccesses.{all_accesses, init_accesses, decl_accesses, maybe, each_of}
 use Rattle.ix_accesses.specs.AtPlace.{HasNone}
 use Rattle.ix_kept_slots.specs.KeptSlots.{Leaves}

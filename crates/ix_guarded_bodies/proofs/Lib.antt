@@ -14,3 +14,5 @@ pub mod ProgramsGuarded
 pub mod NoneInOutlines
 pub mod LawsHold
 pub mod GuardedPrograms
+-- Passed on from ix_guarded_plain.
+pub use Rattle.ix_guarded_plain.proofs.SourcePlaces

@@ -37,10 +37,10 @@ use Rattle.ix_guard.specs.Tests.{Site}
 use Rattle.ix_guarded_code.specs.Known.{Unknown}
 use Rattle.ix_guarded_code.specs.Guards.{Guards, ends}
 use Rattle.ix_moved.specs.Moved.{Move, moved_span}
-use Rattle.ix_guarded_places.specs.TestParts.{Parts}
-use Rattle.ix_guarded_places.specs.GuardedPlaces as placed
-use Rattle.ix_guarded_places.specs.GuardedPlaces.{Each, PlacedMember, PlacedClass, PlacedSource}
-use Rattle.ix_guarded_places.specs.GuardedNames.{IsMeant}
+use Rattle.ix_guarded_plain.specs.TestParts.{Parts}
+use Rattle.ix_guarded_plain.specs.GuardedPlaces as placed
+use Rattle.ix_guarded_plain.specs.GuardedPlaces.{Each, PlacedMember, PlacedClass, PlacedSource}
+use Rattle.ix_guarded_plain.specs.GuardedNames.{IsMeant}
 use Rattle.ix_accesses.specs.SourceGuards.{MemberGuards, ClassGuards, SourceGuards}
 use Rattle.ix_guarded_bodies.specs.Laws.{Laws}
 use Rattle.ix_guarded_bodies.proofs.BodiesGuarded.{default_guards, written_guards}

@@ -38,9 +38,9 @@ use Rattle.ix_guarded_code.specs.Pieces.{IsElsewhere, Keeps}
 use Rattle.ix_guarded_code.proofs.Saying.{says_unknown}
 use Rattle.ix_moved.specs.Moved as moved
 use Rattle.ix_moved.specs.Moved.{Move, moved_span, moved_expr, moved_decl, moved_stmt}
-use Rattle.ix_guarded_places.specs.TestParts.{Parts}
-use Rattle.ix_guarded_places.specs.GuardedPlaces as placed
-use Rattle.ix_guarded_places.specs.GuardedPlaces.{AreTests, Inner, Alone, InList}
+use Rattle.ix_guarded_plain.specs.TestParts.{Parts}
+use Rattle.ix_guarded_plain.specs.GuardedPlaces as placed
+use Rattle.ix_guarded_plain.specs.GuardedPlaces.{AreTests, Inner, Alone, InList}
 use Rattle.ix_accesses.specs.AllAccesses.{AnyAccess, all_accesses, decl_accesses, maybe, each_of}
 use Rattle.ix_accesses.specs.AtPlace.{IsOff, HasNone}
 use Rattle.ix_kept_slots.specs.KeptSlots.{Leaves, Appends}

@@ -23,7 +23,7 @@ use Rattle.ix_kept_steps.specs.Sound as sound
 use Rattle.ix_kept_steps.specs.Sound.{Soundness, soundness, used, both_used}
 use Rattle.ix_guard.specs.Tests.{is_variable}
 use Rattle.ix_guard.specs.Trees.{expression, named, either}
-use Rattle.ix_guarded_places.specs.TestParts.{Parts, null_test, negative_test, high_test, condition_of}
+use Rattle.ix_guarded_plain.specs.TestParts.{Parts, null_test, negative_test, high_test, condition_of}
 use Rattle.ix_guarded_bodies.specs.Laws.{setting, IsInSlot}
 
 -- ---- a variable that is sound where it is named

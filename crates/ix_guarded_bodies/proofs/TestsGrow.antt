@@ -33,10 +33,10 @@ use Rattle.ix_guarded_plain.specs.TestForms.{Guards}
 use Rattle.ix_guarded_plain.proofs.GuardLowers.{guard_lowers}
 use Rattle.ix_guarded_plain.proofs.TestKeeps.{behind_guard, guard_elsewhere, guard_keeps, guard_no_loop}
 use Rattle.ix_moved.specs.Moved.{Move}
-use Rattle.ix_guarded_places.specs.TestParts.{Parts, condition_of, throw_of, guard_of}
-use Rattle.ix_guarded_places.specs.GuardedPlaces as placed
-use Rattle.ix_guarded_places.specs.GuardedPlaces.{AreTests}
-use Rattle.ix_guarded_places.specs.GuardedNames.{IsMeant}
+use Rattle.ix_guarded_plain.specs.TestParts.{Parts, condition_of, throw_of, guard_of}
+use Rattle.ix_guarded_plain.specs.GuardedPlaces as placed
+use Rattle.ix_guarded_plain.specs.GuardedPlaces.{AreTests}
+use Rattle.ix_guarded_plain.specs.GuardedNames.{IsMeant}
 use Rattle.ix_accesses.specs.SourceGuards.{IsAmong}
 use Rattle.ix_guarded_bodies.specs.Laws.{IsInSlot, AreInSlots}
 use Rattle.ix_guarded_bodies.proofs.Growing.{with_sound, Grows, grows_both}

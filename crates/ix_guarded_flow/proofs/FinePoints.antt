@@ -19,7 +19,7 @@ use Rattle.ix_facts.specs.Stores.{Stored}
 use Rattle.ix_flow.specs.Flow.{Doing, Returning, Ending}
 use Rattle.ix_claim_facts.specs.Names.{variable_at}
 use Rattle.ix_claim_facts.specs.SignErrors.{Refuses, Unproved, ArgumentClaim, plain, part}
-use Rattle.ix_method.specs.RuleErrors.{AccessLow, AccessHigh, AssignClaim, KindErrors}
+use Rattle.ix_errors.specs.RuleErrors.{AccessLow, AccessHigh, AssignClaim, KindErrors}
 use Rattle.ix_guarded_code.specs.Known.{Known, Nowhere, Unknown, Inside, accessed, IsInside}
 use Rattle.ix_guarded_flow.specs.KnownFacts.{store_of}
 use Rattle.ix_guarded_code.specs.Guards.{IsGuarded}

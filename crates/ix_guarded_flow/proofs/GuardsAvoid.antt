@@ -7,7 +7,7 @@ use Rattle.ix_core.specs.declared.program.Program.{Program}
 use Rattle.ix_core.specs.Code.{Code}
 use Rattle.ix_facts.specs.Stores.{Stored, Reached}
 use Rattle.ix_flow.specs.Flow.{IsFlow}
-use Rattle.ix_method.specs.MethodRules.{method_rules}
+use Rattle.ix_errors.specs.MethodRules.{method_rules}
 use Rattle.ix_guarded_flow.specs.KnownFacts.{store_of}
 use Rattle.ix_guarded_code.specs.Guards.{Guards}
 use Rattle.ix_guarded_flow.specs.BoundErrors.{IsOfBounds, GivesNo}

@@ -15,7 +15,7 @@ use Rattle.ix_facts.specs.AfterTest.{Outcome, Below, outcome_facts}
 use Rattle.ix_facts.specs.Stores.{Stored, Reached, OutcomesGive, outcomes_of}
 use Rattle.ix_facts.proofs.StoreLaws.{below_itself}
 use Rattle.ix_flow.specs.Flow.{Point, Doing, Asks}
-use Rattle.ix_method.specs.MethodRules.{AfterGives, KindGives, method_rules}
+use Rattle.ix_errors.specs.MethodRules.{AfterGives, KindGives, method_rules}
 use Rattle.ix_guarded_code.specs.Known.{Inside, accessed}
 use Rattle.ix_guarded_flow.specs.KnownFacts.{store_of}
 use Rattle.ix_guarded_code.specs.Guards.{Compares, IsTest, outside}

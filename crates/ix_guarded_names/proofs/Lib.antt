@@ -10,3 +10,5 @@ pub mod KeptLimits
 pub mod GuardedAccepts
 pub mod ParsedJoint
 pub mod GuardedAgain
+-- Passed on from ix_names_again.
+pub use Rattle.ix_names_again.proofs.AcceptedMoved

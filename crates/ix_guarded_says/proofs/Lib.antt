@@ -11,3 +11,6 @@ pub mod TypedScopes
 pub mod AccessesRead
 pub mod TestsMeant
 pub mod PlacedMeant
+-- Passed on from ix_guarded_names.
+pub use Rattle.ix_guarded_names.proofs.GuardedAgain
+pub use Rattle.ix_guarded_names.proofs.ParsedJoint

@@ -8,8 +8,8 @@ use Rattle.ix_insertions.specs.Woven.{Added}
 use Rattle.ix_moved.specs.Moved.{Move, moved_source, moved_span}
 use Rattle.ix_guarded_places.specs.GuardedNames.{SaysMoved}
 use Rattle.ix_guarded_places.specs.Interleaved.{moving}
-use Rattle.ix_names_moved.specs.MovedNotes.{moved_note, IsInjective}
-use Rattle.ix_names_moved.proofs.AcceptedMoved.{notes_moved, meaning_moved, type_moved, declared_moved}
+use Rattle.ix_guarded_names.specs.MovedNotes.{moved_note, IsInjective}
+use Rattle.ix_guarded_names.proofs.AcceptedMoved.{notes_moved, meaning_moved, type_moved, declared_moved}
 use Rattle.ix_guarded_says.proofs.MovingApart.{moving_is_injective}
 
 -- by any notes that are those of the source, each at its place moved

@@ -6,7 +6,7 @@ use Rattle.ix_text.specs.declared.span.Span.{Span}
 use Rattle.ix_insertions.specs.Woven.{Added}
 use Rattle.ix_guarded_places.specs.Interleaved.{added_before, moving}
 use Rattle.ix_guarded_places.proofs.Shifts.{begins_later}
-use Rattle.ix_names_moved.specs.MovedNotes.{IsInjective}
+use Rattle.ix_guarded_names.specs.MovedNotes.{IsInjective}
 
 part_rises : (a b place size : ℕ) → a ≤ b → (if nat_lt place a then size else 0) ≤ (if nat_lt place b then size else 0)
 part_rises a b place size le = grind (arith, le)

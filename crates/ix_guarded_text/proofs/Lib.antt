@@ -8,3 +8,5 @@ pub mod GuardedStatements
 pub mod GuardedMembers
 pub mod GuardedSources
 pub mod DerivedAnswers
+-- Passed on from ix_parser.
+pub use Rattle.ix_parser.proofs.Laws

@@ -5,3 +5,5 @@
 //! They stand on the texts and trees of `ix_guard`, the insertions of `ix_insertions` and the places of `ix_bare`.
 //! They never look at how a text is read or written, or at what a test does.
 #![tactic(auto)]
+
+pub use ix_parser::{ParseError, parse};

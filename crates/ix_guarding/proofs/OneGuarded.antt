@@ -3,7 +3,7 @@ use Rattle.std.proofs.Common.{◌≡◌, ℕ, List, sym, ap, subst, ◌∙◌}
 use Rattle.ix_core.specs.declared.error.Error.{Error}
 use Rattle.ix_tree.specs.declared.decl.Unit.{Unit as Source}
 use Rattle.ix_grammar.specs.Refusals.{HasTree}
-use Rattle.ix_parser.proofs.Laws.{one_tree}
+use Rattle.ix_guarded_text.proofs.Laws.{one_tree}
 use Rattle.ix_guarded_text.proofs.DerivedAnswers.{one_lexing}
 use Rattle.ix_guarding.specs.Guarding.{IsGuarded, guarded_by}
 

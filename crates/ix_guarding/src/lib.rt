@@ -15,10 +15,10 @@ ghost use Rattle.ix_guarded_text.specs.Derived.{Derives};
 
 use ix_core::Error;
 use ix_guard::guard;
+use ix_guarded_text::{ParseError, parse};
 use ix_lexer::{LexError, Token, lex};
 use ix_meaning::NameErrors;
 use ix_names::resolve;
-use ix_parser::{ParseError, parse};
 use ix_tree::Unit;
 use std::alloc::{AllocError, Global};
 

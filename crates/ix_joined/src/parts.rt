@@ -10,9 +10,10 @@ ghost use Rattle.ix_joined.specs.Parts as spec;
 ghost use Rattle.ix_joined.specs.Parts.{IsErrorOfPart, IsErrorBefore, IsErrorBehind};
 ghost use Rattle.ix_check.specs.ErrorList.{IsErrorList};
 
-use ix_check::{Ranked, list_errors, ranked_errors};
+use ix_check::{
+    Ranked, list_errors, loops_are_in_order, names_are_small, overridden_is_there, ranked_errors,
+};
 use ix_core::{Error, Method, Profile, Program};
-use ix_ready::{loops_are_in_order, names_are_small, overridden_is_there};
 use ix_solve::Steps;
 use std::alloc::{AllocError, Global};
 use std::marker::Brand;

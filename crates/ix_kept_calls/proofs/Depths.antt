@@ -44,7 +44,7 @@ use Rattle.ix_core.specs.Machine.{slots_with}
 use Rattle.ix_kept_steps.specs.SoundStatements.{AssignsOwn, where_made, statement_soundness, each_sound}
 use Rattle.ix_kept_steps.proofs.Made.{block_is}
 use Rattle.ix_kept_steps.proofs.Paths.{here}
-use Rattle.ix_kept_values.proofs.Expressions.{and_first, and_second}
+use Rattle.ix_kept_statements.proofs.Expressions.{and_first, and_second}
 use Rattle.ix_kept_statements.specs.Grounds.{IsGround, placed}
 use Rattle.ix_kept_statements.proofs.FullExpressions.{rooted_behind}
 use Rattle.ix_kept_statements.proofs.Statements.{runs_both}

@@ -38,7 +38,7 @@ use Rattle.ix_kept_steps.specs.Running.{Ground, standing, Runs}
 use Rattle.ix_kept_steps.specs.SoundStatements.{where_made, init_at, init_if}
 use Rattle.ix_kept_steps.proofs.Accesses.{put_given}
 use Rattle.ix_kept_steps.proofs.Made.{done_both, makes_more, before}
-use Rattle.ix_kept_values.proofs.Expressions.{and_first, and_second, initialiser_kept}
+use Rattle.ix_kept_statements.proofs.Expressions.{and_first, and_second, initialiser_kept}
 use Rattle.ix_kept_statements.specs.Grounds.{Rooted, IsGround, within}
 use Rattle.ix_kept_statements.proofs.FullExpressions.{makes_map, then_sound, rooted_behind}
 use Rattle.ix_kept_statements.proofs.Simple.{runs_as, ran_runs}

@@ -36,8 +36,8 @@ use Rattle.ix_kept_steps.specs.Running.{Ground, in_scope, standing, Runs}
 use Rattle.ix_kept_steps.specs.Sound.{soundness, all_used, used, is_class}
 use Rattle.ix_kept_steps.proofs.Made.{then_done, makes_then}
 use Rattle.ix_kept_steps.proofs.Operations.{takes}
-use Rattle.ix_kept_values.proofs.Expressions.{and_first, and_second, used_expression}
-use Rattle.ix_kept_values.proofs.Lists.{AllKept, arguments_done, no_args_stay}
+use Rattle.ix_kept_statements.proofs.Expressions.{and_first, and_second, used_expression}
+use Rattle.ix_kept_statements.proofs.Lists.{AllKept, arguments_done, no_args_stay}
 use Rattle.ix_kept_statements.specs.Grounds.{Rooted, IsGround, within}
 use Rattle.ix_kept_statements.proofs.Scopes.{scope_low, standing_set}
 use Rattle.ix_kept_statements.proofs.Simple.{runs_as, ran_runs}

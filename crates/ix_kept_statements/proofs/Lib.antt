@@ -8,3 +8,6 @@ pub mod StatementForms
 pub mod Declarations
 pub mod Choices
 pub mod StatementsKept
+-- Passed on from ix_kept_values.
+pub use Rattle.ix_kept_values.proofs.Expressions
+pub use Rattle.ix_kept_values.proofs.Lists

@@ -11,7 +11,7 @@ use Rattle.ix_core.specs.Code.{Code, End, item_code, items_code, block_code}
 use Rattle.ix_core.specs.Heap.{Held, Heap, Num}
 use Rattle.ix_core.specs.Machine.{Ending, ZeroDivisor, Done as Did, Wrapped, Stopped, no_limits, moved, effect_then, operate, assign_result, is_int}
 use Rattle.ix_core.specs.Tasks.{Tasks, Run, code_then}
-use Rattle.ix_meaning.specs.declared.note.Which.TheVariants as which
+use Rattle.ix_source_meaning.specs.Which.TheVariants as which
 use Rattle.ix_plain.specs.declared.made.Made.{Made}
 use Rattle.ix_plain.specs.Parts.{Within, ◌>>=◌ as ◌then◌, Value, block, in_place, done, computed, most_slots}
 use Rattle.ix_source_meaning.specs.Runs.{Now, Gives, Stops, Action, ◌>>=◌, wraps}

@@ -11,7 +11,7 @@ use Rattle.ix_core.specs.Heap.{Held, Num, Boolean, Null, At, Heap, ArrayOf, valu
 use Rattle.ix_core.specs.Machine.{State, Effect, Done as Did, NullUsed, Negative, no_limits, operate, int_at}
 use Rattle.ix_core.specs.Machine as machine
 use Rattle.ix_core.specs.Tasks.{Tasks, code_then}
-use Rattle.ix_meaning.specs.declared.note.Which.TheVariants as which
+use Rattle.ix_source_meaning.specs.Which.TheVariants as which
 use Rattle.ix_plain.specs.declared.made.Made.{Made}
 use Rattle.ix_plain.specs.Parts.{Value, done, taking, most_slots}
 use Rattle.ix_source_meaning.specs.Runs.{Now, Result, Gives, Stops, Cuts, Action, gives, with_heap}

@@ -5,8 +5,8 @@ use Rattle.std.proofs.lemmas.List.{length-set}
 use Rattle.ix_core.specs.Heap.{Held, value_at}
 use Rattle.ix_core.proofs.Cases.{by_test, differ, equal}
 use Rattle.ix_core.proofs.Heaps.{value_set, value_other}
-use Rattle.ix_meaning.specs.declared.note.Meaning.{Meaning}
-use Rattle.ix_meaning.specs.declared.note.Meaning.TheVariants as meaning
+use Rattle.ix_source_meaning.specs.Meaning.{Meaning}
+use Rattle.ix_source_meaning.specs.Meaning.TheVariants as meaning
 use Rattle.ix_plain.specs.Scope.{slot_of, is_among}
 use Rattle.ix_source_meaning.specs.Runs.{Variables, set_at, held_by, with_held}
 use Rattle.ix_kept_steps.specs.Along.{Setting, IsSet, Agrees, Keeps, is_variable}

@@ -4,8 +4,8 @@ use Rattle.ix_core.specs.Heap.{Held, value_at}
 use Rattle.ix_core.specs.Machine.{Ending, State}
 use Rattle.ix_core.specs.Tables.{Tables}
 use Rattle.ix_core.specs.Tasks.{Tasks}
-use Rattle.ix_meaning.specs.declared.note.Meaning.{Meaning}
-use Rattle.ix_meaning.specs.declared.note.Meaning.TheVariants as meaning
+use Rattle.ix_source_meaning.specs.Meaning.{Meaning}
+use Rattle.ix_source_meaning.specs.Meaning.TheVariants as meaning
 use Rattle.ix_plain.specs.Scope.{Scope, slot_of, is_among}
 use Rattle.ix_core.specs.Traces.{Observation}
 use Rattle.ix_source_meaning.specs.Runs.{Variables, Now, Result, Gives, Stops, Cuts, held_by}

@@ -6,7 +6,7 @@ use Rattle.ix_core.specs.Code.{Code, item_code, cond_code}
 use Rattle.ix_core.specs.Heap.{Held, Boolean, value_at}
 use Rattle.ix_core.specs.Machine.{is_true}
 use Rattle.ix_core.specs.Tasks.{Tasks, Ask, code_then, followed_by}
-use Rattle.ix_meaning.specs.declared.note.Meaning.{Meaning}
+use Rattle.ix_source_meaning.specs.Meaning.{Meaning}
 use Rattle.ix_plain.specs.declared.made.Made.{Made}
 use Rattle.ix_plain.specs.declared.made.Spot.{Spot}
 use Rattle.ix_plain.specs.declared.made.Spot.TheVariants as spot

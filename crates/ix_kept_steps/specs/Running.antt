@@ -9,8 +9,8 @@ use Rattle.ix_core.specs.Heap.{Held, value_at}
 use Rattle.ix_core.specs.Machine.{Ending, State}
 use Rattle.ix_core.specs.Tables.{Tables}
 use Rattle.ix_core.specs.Tasks.{Tasks, Run, code_then, behind_loop, next_turn}
-use Rattle.ix_meaning.specs.declared.note.Meaning.{Meaning}
-use Rattle.ix_meaning.specs.declared.note.Meaning.TheVariants as meaning
+use Rattle.ix_source_meaning.specs.Meaning.{Meaning}
+use Rattle.ix_source_meaning.specs.Meaning.TheVariants as meaning
 use Rattle.ix_plain.specs.declared.body.Body.{Body}
 use Rattle.ix_plain.specs.Scope.{Site}
 use Rattle.ix_plain.specs.Statements.{scope_of}

@@ -13,8 +13,8 @@ use Rattle.ix_tree.specs.declared.annot.Ident.{Ident}
 use Rattle.ix_tree.specs.declared.expr.Expr.{Expr, Expr-F, fold-Expr}
 use Rattle.ix_tree.specs.declared.expr.ExprKind.{ExprKind-F}
 use Rattle.ix_tree.specs.declared.expr.Init.{Init, Init-F, fold-Init}
-use Rattle.ix_meaning.specs.declared.note.Meaning.{Meaning}
-use Rattle.ix_meaning.specs.declared.note.Meaning.TheVariants as meaning
+use Rattle.ix_source_meaning.specs.Meaning.{Meaning}
+use Rattle.ix_source_meaning.specs.Meaning.TheVariants as meaning
 use Rattle.ix_plain.specs.Scope.{Site, slot_of, meaning_at, type_at, is_among, head_at}
 use Rattle.ix_kept_steps.specs.Along.{Setting}
 

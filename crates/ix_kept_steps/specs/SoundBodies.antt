@@ -9,8 +9,8 @@ use Rattle.ix_tree.specs.declared.decl.Member.{Member}
 use Rattle.ix_tree.specs.declared.decl.Member.TheVariants as member
 use Rattle.ix_tree.specs.declared.decl.MethodDecl.{MethodDecl}
 use Rattle.ix_tree.specs.declared.expr.Expr.{Expr}
-use Rattle.ix_meaning.specs.declared.note.Meaning.{Meaning}
-use Rattle.ix_meaning.specs.declared.note.Meaning.TheVariants as meaning
+use Rattle.ix_source_meaning.specs.Meaning.{Meaning}
+use Rattle.ix_source_meaning.specs.Meaning.TheVariants as meaning
 use Rattle.ix_plain.specs.declared.body.Body.{Body}
 use Rattle.ix_plain.specs.Assigned.{all_assign}
 use Rattle.ix_plain.specs.Members.{next_field, is_static, slot_behind}

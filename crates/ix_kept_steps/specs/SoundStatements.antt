@@ -12,7 +12,7 @@ use Rattle.ix_tree.specs.declared.expr.Expr.{Expr}
 use Rattle.ix_tree.specs.declared.expr.Init.{Init}
 use Rattle.ix_tree.specs.declared.stmt.Stmt.{Stmt, Stmt-F, fold-Stmt}
 use Rattle.ix_tree.specs.declared.stmt.StmtKind.{StmtKind-F, map-StmtKind}
-use Rattle.ix_meaning.specs.declared.note.Meaning.{Meaning}
+use Rattle.ix_source_meaning.specs.Meaning.{Meaning}
 use Rattle.ix_plain.specs.declared.body.Body.{Body}
 use Rattle.ix_plain.specs.Parts.{Within, empty}
 use Rattle.ix_plain.specs.Scope.{declared_type, is_among}

@@ -7,8 +7,7 @@ ghost use Rattle.ix_plain.specs.Scope as scope;
 
 use crate::number::{has_constructor, next_behind, next_field};
 use ix_core::{Claim, Class, Field, Local, Type_};
-use ix_lower_bodies::{copied_text, one_more};
-use ix_lower_values::copied_claims;
+use ix_lower_bodies::{copied_claims, copied_text, one_more};
 use ix_plain::Next;
 use ix_table::Table;
 use ix_text::{List, Span};

@@ -11,7 +11,8 @@ mod note;
 mod span;
 
 pub use ix_annot::{
-    AnnotError, Found, Names, Naming, Target, counted, expand, is_of_method, row_named, same_claim,
+    AnnotError, Claims, Found, Names, Naming, Target, Type_, counted, expand, is_of_method,
+    row_named, same_claim, same_name,
 };
 pub use members::{Field, Signature};
 pub use note::{Declared, Meaning, NameError, NameErrors, Note, Rule, Which};

@@ -2,3 +2,5 @@ pub mod Places
 pub mod Declarations
 pub mod Parents
 pub mod Heads
+-- Passed on from ix_world.
+pub use Rattle.ix_world.specs.World

@@ -14,5 +14,7 @@ mod parents;
 mod places;
 
 pub use fields::field;
+pub use ix_bodies::{wrong, wrong_if};
+pub use ix_world::{World, world_of};
 pub use methods::method;
 pub use parents::implicit_super;

@@ -7,12 +7,12 @@ ghost use Rattle.ix_descent.specs.SourceRules.{parts, super_args as the_args};
 ghost use Rattle.ix_descent.specs.Taking.{Follows};
 
 use ix_descent::stop::Stop;
-use ix_expressions::expressions::args;
 use ix_grammar::classes::{Body, Stmts};
 use ix_grammar::found::{Args, At};
 use ix_lexer::fixed::{CLOSE_BRACE, OPEN_PAREN, SEMICOLON, SUPER};
-use ix_nodes::statement_nodes::{no_stmts, with_stmt};
-use ix_reading::cursor::Cursor;
+use ix_statements::cursor::Cursor;
+use ix_statements::expressions::args;
+use ix_statements::statement_nodes::{no_stmts, with_stmt};
 use ix_statements::statement_rules::block_statement;
 use ix_text::Span;
 use std::alloc::Global;

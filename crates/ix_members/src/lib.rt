@@ -9,3 +9,5 @@ pub mod class_rules;
 pub mod member_rules;
 pub mod parameters;
 pub mod sources;
+
+pub use ix_statements::cursor;

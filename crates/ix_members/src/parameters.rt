@@ -9,13 +9,13 @@ ghost use Rattle.ix_descent.specs.Taking.{Follows};
 
 use ix_descent::aims::Words;
 use ix_descent::stop::Stop;
-use ix_expressions::declarators::{plain_decl, shared};
 use ix_grammar::declarations::{FoundDecl, FoundMods, Params};
 use ix_grammar::found::FoundType;
 use ix_lexer::fixed::{CLOSE_PAREN, COMMA, THROWS};
-use ix_reading::cursor::Cursor;
-use ix_reading::modifiers::mods;
-use ix_reading::type_trees::type_tree;
+use ix_statements::cursor::Cursor;
+use ix_statements::declarators::{plain_decl, shared};
+use ix_statements::modifiers::mods;
+use ix_statements::type_trees::type_tree;
 use ix_text::List;
 use ix_tree::Ident;
 use std::alloc::Global;

@@ -12,7 +12,7 @@ use crate::class_rules::classes;
 use ix_descent::stop::Stop;
 use ix_grammar::classes::{Classes, FoundUnit};
 use ix_lexer::fixed::{DOT, IMPORT, PACKAGE, SEMICOLON, STATIC, TIMES};
-use ix_reading::cursor::Cursor;
+use ix_statements::cursor::Cursor;
 use ix_tree::Unit;
 use std::alloc::Global;
 

@@ -12,8 +12,8 @@ use Rattle.ix_core.specs.declared.program.Local.{Local as Variable}
 use Rattle.ix_core.specs.declared.program.Method.{Method}
 use Rattle.ix_core.specs.declared.program.Program.{Program}
 use Rattle.ix_core.specs.Tables.{param_slot}
-use Rattle.ix_facts.specs.Stores.{Stored, IsAfter, IsAdded, Gives, operated, with_facts}
-use Rattle.ix_facts.specs.Systems.{HaveClasses}
+use Rattle.ix_sign.specs.Stores.{Stored, IsAfter, IsAdded, Gives, operated, with_facts}
+use Rattle.ix_sign.specs.Systems.{HaveClasses}
 use Rattle.ix_sign.specs.MachineSteps.{own_path}
 use Rattle.ix_sign.specs.Store.{Store}
 use Rattle.ix_sign.specs.StoredFacts.{stored}

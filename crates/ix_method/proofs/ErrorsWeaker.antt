@@ -14,7 +14,7 @@ use Rattle.ix_core.specs.declared.fact.PathClaim.TheVariants as path_claim
 use Rattle.ix_core.specs.declared.op.CallOp.{CallOp}
 use Rattle.ix_core.specs.Tables.{field_at}
 use Rattle.ix_num.specs.Ints.{least_int}
-use Rattle.ix_facts.specs.AfterOperation.{loaded_claims}
+use Rattle.ix_sign.specs.AfterOperation.{loaded_claims}
 use Rattle.ix_sign.specs.MachineSteps.{on_paths, own_path}
 use Rattle.ix_core.specs.declared.fact.Fact.{Fact}
 use Rattle.ix_core.specs.declared.fact.Path.{Path}
@@ -24,9 +24,9 @@ use Rattle.ix_core.specs.declared.op.OpKind.{OpKind}
 use Rattle.ix_core.specs.declared.op.OpKind.TheVariants as op
 use Rattle.ix_core.specs.declared.program.Method.{Method}
 use Rattle.ix_core.specs.declared.program.Program.{Program}
-use Rattle.ix_facts.specs.Stores.{Stored, Unreachable, Reached, IsBelow}
-use Rattle.ix_facts.proofs.SplitLaws.{proved_mono}
-use Rattle.ix_facts.proofs.StoreLaws.{below_itself}
+use Rattle.ix_sign.specs.Stores.{Stored, Unreachable, Reached, IsBelow}
+use Rattle.ix_sign.proofs.SplitLaws.{proved_mono}
+use Rattle.ix_sign.specs.StoreLaws.{below_itself}
 use Rattle.ix_flow.specs.Flow.{Point, Doing, Returning, Ending}
 use Rattle.ix_sign.specs.Names.{variable_at, call_path, object_path, written_path}
 use Rattle.ix_sign.specs.Signs.{Adds, write_facts}

@@ -2,7 +2,7 @@
 
 ghost use Rattle.std.specs.Prelude.{◌≡◌, IfOk};
 ghost use Rattle.ix_core.specs.declared.op.OpKind.TheVariants as op;
-ghost use Rattle.ix_facts.specs.Stores.{Gives, Then, operated};
+ghost use Rattle.ix_sign.specs.Stores.{Gives, Then, operated};
 ghost use Rattle.ix_sign.specs.StoredFacts.{stored};
 ghost use Rattle.ix_sign.specs.Naming.{HasSmallNames, HaveSmallNames};
 ghost use Rattle.ix_sign.specs.Signs.{Adds, IsLeastOf};

@@ -6,18 +6,16 @@ ghost use Rattle.indexmap.specs.IndexMap.{get_by_text};
 ghost use Rattle.ix_counts.specs.Few.{DeclaresFew, DeclaresFewInClass};
 ghost use Rattle.ix_meaning.specs.Source as spec;
 ghost use Rattle.ix_meaning.specs.Declarators as declared;
-ghost use Rattle.ix_world.specs.World.{shown};
+ghost use Rattle.ix_member_notes.specs.World.{shown};
 ghost use Rattle.ix_written.specs.Begun.{AllBegin, first_shown};
 ghost use Rattle.ix_member_notes.specs.Places.{at};
 
 use indexmap::IndexMap;
 use ix_meaning::{Meaning, Note, Rule};
-use ix_member_notes::{field, implicit_super, method};
-use ix_scopes::{wrong, wrong_if};
+use ix_member_notes::{World, field, implicit_super, method, wrong, wrong_if};
 use ix_text::List;
 use ix_tree::{ClassDecl, Ident, Member};
 use ix_types::{is_cyclic, note_first};
-use ix_world::World;
 use ix_written::{Begun, declaration_of, field_annotations};
 use std::alloc::{AllocError, Global};
 

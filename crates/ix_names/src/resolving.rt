@@ -11,10 +11,10 @@ ghost use Rattle.ix_meaning.specs.Resolved as spec;
 use crate::classes::notes_in;
 use ix_limits::{inheritance_limit, limit};
 use ix_meaning::{NameErrors, Note};
+use ix_member_notes::world_of;
 use ix_table::{Table, errors_of, table_of};
 use ix_text::List;
 use ix_tree::{ClassDecl, Unit};
-use ix_world::world_of;
 use std::alloc::{AllocError, Global};
 
 /// What a source says.

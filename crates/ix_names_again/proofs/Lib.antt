@@ -12,3 +12,5 @@ pub mod NotesAnywhere
 pub mod AcceptsAnywhere
 pub mod JointSources
 pub mod PartsAgain
+-- Passed on from ix_names_moved.
+pub use Rattle.ix_names_moved.proofs.AcceptedMoved

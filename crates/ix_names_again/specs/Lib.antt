@@ -3,3 +3,5 @@ pub mod Alike
 pub mod Gathered
 pub mod Same
 pub mod Joint
+-- Passed on from ix_names_moved.
+pub use Rattle.ix_names_moved.specs.MovedNotes

@@ -13,8 +13,8 @@ ghost use Rattle.ix_grammar.specs.declared.error.ParseError.TheVariants.{Memory}
 use ix_descent::stop::Stop;
 use ix_grammar::error::ParseError;
 use ix_lexer::Token;
+use ix_members::cursor::Cursor;
 use ix_members::sources::source;
-use ix_reading::cursor::Cursor;
 use ix_tree::Unit;
 use std::alloc::Global;
 

@@ -11,6 +11,10 @@ mod naming;
 mod rules;
 mod scope;
 
+pub use ix_world::{
+    Annotations, Begun, Called, Declaration, World, begin_with, created, further_annotations,
+    of_variable, own_annotations, variable,
+};
 pub use naming::InAnnotation;
 pub use rules::{
     cannot_compare, final_assigned, list_mismatch, not_static, note_declared, note_type, note_use,

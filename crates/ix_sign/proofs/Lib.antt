@@ -2,3 +2,5 @@ mod Alike
 mod Rules
 -- Passed on from ix_claim_facts.
 pub use Rattle.ix_claim_facts.proofs.SignTruth
+-- Passed on from ix_facts.
+pub use Rattle.ix_facts.proofs.SplitLaws

@@ -11,3 +11,12 @@ pub use Rattle.ix_claim_facts.proofs.LeastSteps
 pub use Rattle.ix_claim_facts.proofs.SignSteps
 pub use Rattle.ix_claim_facts.proofs.SignClasses
 pub use Rattle.ix_claim_facts.specs.MachineSteps
+-- Passed on from ix_facts.
+pub use Rattle.ix_facts.specs.Stores
+pub use Rattle.ix_facts.specs.Systems
+pub use Rattle.ix_facts.specs.AfterOperation
+pub use Rattle.ix_facts.proofs.StoreLaws
+pub use Rattle.ix_facts.specs.Round
+pub use Rattle.ix_facts.proofs.SaidRules
+pub use Rattle.ix_facts.proofs.StepLaws
+pub use Rattle.ix_facts.specs.MethodLandmarks

@@ -37,7 +37,7 @@ use Rattle.ix_kept_steps.specs.SoundStatements.{AssignsOwn}
 use Rattle.ix_kept_steps.specs.Running.{Ground, Stands, AlongWith, Follows, IsReturned}
 use Rattle.ix_kept_steps.proofs.Paths.{both, one_step}
 use Rattle.ix_source.specs.Whole.{Meets}
-use Rattle.ix_kept_tables.specs.Declared.{AllClasses}
+use Rattle.ix_kept_calls.specs.Declared.{AllClasses}
 use Rattle.ix_kept_steps.specs.SoundBodies.{IsSoundMethod, IsSoundDefault}
 use Rattle.ix_kept_calls.proofs.Calls.{not_constructor, map_none, map_some}
 use Rattle.ix_kept_calls.proofs.Depths.{declared, body_kept, below_of, one_below, callees_run}

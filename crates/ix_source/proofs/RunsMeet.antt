@@ -27,11 +27,11 @@ use Rattle.ix_source_meaning.specs.Bodies.{Whole, whole, members}
 use Rattle.ix_source_meaning.specs.Source.{source}
 use Rattle.ix_kept_steps.specs.SoundBodies.{IsSoundMethod, IsSoundDefault}
 use Rattle.ix_kept_steps.proofs.Decisions.{start_decides}
-use Rattle.ix_kept_tables.specs.Declared.{AllClasses}
-use Rattle.ix_kept_tables.proofs.AcceptedTables.{method_declared, static_of_declared}
-use Rattle.ix_kept_tables.proofs.DeclaredMembers.{all_counted}
-use Rattle.ix_kept_tables.proofs.JoinedLists.{get_behind, get_so}
-use Rattle.ix_kept_tables.proofs.MethodsFound.{Any, AnyDefault, any_class}
+use Rattle.ix_kept_calls.specs.Declared.{AllClasses}
+use Rattle.ix_kept_calls.proofs.AcceptedTables.{method_declared, static_of_declared}
+use Rattle.ix_kept_calls.proofs.DeclaredMembers.{all_counted}
+use Rattle.ix_kept_calls.proofs.JoinedLists.{get_behind, get_so}
+use Rattle.ix_kept_calls.proofs.MethodsFound.{Any, AnyDefault, any_class}
 use Rattle.ix_well_named.specs.Bodies.{AreSoundClasses}
 use Rattle.ix_well_named.proofs.AssignedOwned.{assigns_own}
 use Rattle.ix_well_named.proofs.SourcesSound.{sound_source}

@@ -9,4 +9,5 @@
 
 mod lowering;
 
+pub use ix_lower::LowerError;
 pub use lowering::lower_kept;

@@ -16,16 +16,16 @@ use crate::high_variables::behind_high_name;
 use crate::locals::{declared, named_type};
 use ix_descent::begun::Begun;
 use ix_descent::stop::Stop;
+use ix_expressions::annotations::no_notes;
+use ix_expressions::cursor::Cursor;
 use ix_expressions::expressions::{
     expr, statement_chain, statement_field, statement_name, to_statement,
 };
+use ix_expressions::modifiers::no_mods;
+use ix_expressions::nodes::{element, named};
+use ix_expressions::type_trees::{array_of, named_base, noted_array, pairs, plain_type};
 use ix_grammar::found::Found;
 use ix_lexer::fixed::{AT, CLOSE_BRACKET, OPEN_BRACKET};
-use ix_nodes::nodes::{element, named};
-use ix_reading::annotations::no_notes;
-use ix_reading::cursor::Cursor;
-use ix_reading::modifiers::no_mods;
-use ix_reading::type_trees::{array_of, named_base, noted_array, pairs, plain_type};
 use ix_tree::Ident;
 use std::alloc::Global;
 

@@ -10,12 +10,12 @@ ghost use Rattle.ix_descent.specs.Taking.{Follows};
 
 use ix_descent::begun::Begun;
 use ix_descent::stop::Stop;
+use ix_expressions::cursor::Cursor;
 use ix_expressions::expressions::expr;
+use ix_expressions::statement_nodes::{local_stmt, print_stmt, run_stmt};
 use ix_grammar::declarations::FoundMods;
 use ix_grammar::found::{Found, FoundDecls, FoundStmt, FoundType};
 use ix_lexer::fixed::{CLOSE_PAREN, SEMICOLON};
-use ix_nodes::statement_nodes::{local_stmt, print_stmt, run_stmt};
-use ix_reading::cursor::Cursor;
 use ix_text::Span;
 use std::alloc::Global;
 

@@ -3,9 +3,9 @@ ghost use Rattle.std.specs.Prelude.{◌≡◌};
 ghost use Rattle.ix_descent.specs.ReadingStatements as spec;
 
 use ix_descent::stop::Stop;
+use ix_expressions::cursor::Cursor;
+use ix_expressions::operators::{assign_sign, step_sign};
 use ix_lexer::fixed::{DOT, OPEN_BRACKET, OPEN_PAREN};
-use ix_reading::cursor::Cursor;
-use ix_reading::operators::{assign_sign, step_sign};
 
 /// Why reading stops behind a variable that is too high.
 fn behind_high(cursor: &Cursor<'_>) -> Stop

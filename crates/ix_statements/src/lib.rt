@@ -15,3 +15,7 @@ pub mod printing;
 pub mod simple_statements;
 pub mod statement_parts;
 pub mod statement_rules;
+
+pub use ix_expressions::{
+    cursor, declarators, expressions, modifiers, statement_nodes, type_trees,
+};

@@ -15,14 +15,14 @@ use crate::plain_statements::begun;
 use crate::statement_parts::Statements;
 use ix_descent::begun::Begun;
 use ix_descent::stop::Stop;
+use ix_expressions::cursor::Cursor;
 use ix_expressions::expressions::{expr, statement_expr};
+use ix_expressions::nodes::{no_exprs, with_expr};
+use ix_expressions::statement_nodes::{for_stmt, local_stmt, no_stmts, run_part, with_stmt};
 use ix_grammar::classes::Stmts;
 use ix_grammar::declarations::FoundMods;
 use ix_grammar::found::{Found, FoundDecls, FoundStmt, FoundType, Several};
 use ix_lexer::fixed::{CLOSE_PAREN, COMMA, OPEN_PAREN, SEMICOLON};
-use ix_nodes::nodes::{no_exprs, with_expr};
-use ix_nodes::statement_nodes::{for_stmt, local_stmt, no_stmts, run_part, with_stmt};
-use ix_reading::cursor::Cursor;
 use ix_text::Span;
 use std::alloc::Global;
 

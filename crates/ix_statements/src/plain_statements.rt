@@ -13,10 +13,10 @@ use crate::locals::{final_local, noted_local, plain_local};
 use crate::printing::{system_part, word};
 use ix_descent::begun::Begun;
 use ix_descent::stop::Stop;
+use ix_expressions::cursor::Cursor;
 use ix_expressions::expressions::statement_expr;
+use ix_expressions::type_trees::based;
 use ix_lexer::fixed::{AT, BOOLEAN, FINAL, INT};
-use ix_reading::cursor::Cursor;
-use ix_reading::type_trees::based;
 use ix_tree::BaseTree;
 use std::alloc::Global;
 

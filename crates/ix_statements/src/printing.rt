@@ -10,10 +10,10 @@ ghost use Rattle.ix_descent.specs.Taking.{Follows};
 use crate::beginnings::{field, named_first};
 use ix_descent::begun::Begun;
 use ix_descent::stop::Stop;
+use ix_expressions::cursor::Cursor;
+use ix_expressions::nodes::{named, selected};
 use ix_grammar::found::Found;
 use ix_lexer::fixed::{DOT, OPEN_PAREN};
-use ix_nodes::nodes::{named, selected};
-use ix_reading::cursor::Cursor;
 use ix_tree::Ident;
 use std::alloc::Global;
 

@@ -13,16 +13,16 @@ ghost use Rattle.ix_descent.specs.Taking.{Follows};
 
 use crate::statement_parts::Statements;
 use ix_descent::stop::Stop;
+use ix_expressions::cursor::Cursor;
 use ix_expressions::expressions::expr;
+use ix_expressions::statement_nodes::{
+    block_stmt, do_stmt, if_else_stmt, if_stmt, no_stmts, return_stmt, stmt_node, throw_stmt,
+    while_stmt, with_stmt,
+};
 use ix_grammar::classes::Stmts;
 use ix_grammar::found::{At, Found, FoundStmt};
 use ix_grammar::spans::across;
 use ix_lexer::fixed::{CLOSE_BRACE, CLOSE_PAREN, ELSE, NEW, OPEN_PAREN, SEMICOLON, WHILE};
-use ix_nodes::statement_nodes::{
-    block_stmt, do_stmt, if_else_stmt, if_stmt, no_stmts, return_stmt, stmt_node, throw_stmt,
-    while_stmt, with_stmt,
-};
-use ix_reading::cursor::Cursor;
 use ix_text::Span;
 use ix_tree::{Ident, StmtKind};
 use std::alloc::Global;

@@ -6,8 +6,8 @@ ghost use Rattle.ix_descent.specs.StmtRules as spec;
 ghost use Rattle.ix_descent.specs.Taking.{Follows};
 
 use ix_descent::stop::Stop;
+use ix_expressions::cursor::Cursor;
 use ix_grammar::found::FoundStmt;
-use ix_reading::cursor::Cursor;
 use std::alloc::Global;
 
 /// The rules for statements of a height of at most `left`, with what reads the statements of a lower height. That is told whether the statement

@@ -11,10 +11,10 @@ use crate::plain_statements::begun;
 use crate::simple_statements::{break_rule, continue_rule, return_rule, throw_rule};
 use crate::statement_parts::Statements;
 use ix_descent::stop::Stop;
+use ix_expressions::cursor::Cursor;
+use ix_expressions::statement_nodes::stmt_node;
 use ix_grammar::found::FoundStmt;
 use ix_lexer::fixed::{BREAK, CONTINUE, DO, FOR, IF, OPEN_BRACE, RETURN, SEMICOLON, THROW, WHILE};
-use ix_nodes::statement_nodes::stmt_node;
-use ix_reading::cursor::Cursor;
 use ix_tree::StmtKind;
 use std::alloc::Global;
 

@@ -10,5 +10,6 @@ mod errors;
 mod listing;
 mod table;
 
+pub use ix_meaning::Meaning;
 pub use listing::errors_of;
 pub use table::{Table, table_of};

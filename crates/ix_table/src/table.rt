@@ -8,8 +8,7 @@ ghost use Rattle.ix_meaning.specs.Resolved.{names_in};
 ghost use Rattle.ix_table.specs.Numbered as spec;
 
 use indexmap::IndexMap;
-use ix_core::Type_;
-use ix_meaning::{Declared, Meaning, Note};
+use ix_meaning::{Declared, Meaning, Note, Type_};
 use ix_text::{List, Span};
 use std::alloc::{AllocError, Global};
 

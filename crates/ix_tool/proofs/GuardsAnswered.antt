@@ -5,13 +5,13 @@ use Rattle.ix_core.specs.declared.program.Program.{Program}
 use Rattle.ix_core.specs.declared.fact.Profile.{Profile}
 use Rattle.ix_answer.specs.Answer.{Answer, out_answer}
 use Rattle.ix_answer.specs.Statuses.{is_answer}
-use Rattle.ix_finding.specs.Found.{Finding, TooLong, Broken, Past, Misnamed, Whole, Found, too_long, no_tokens, lexed}
-use Rattle.ix_finding.specs.MethodErrors.{IsError}
-use Rattle.ix_finding.proofs.OneFinding.{one_finding}
+use Rattle.ix_command_inputs.specs.Found.{Finding, TooLong, Broken, Past, Misnamed, Whole, Found, too_long, no_tokens, lexed}
+use Rattle.ix_certify.specs.MethodErrors.{IsError}
+use Rattle.ix_command_inputs.proofs.OneFinding.{one_finding}
 use Rattle.ix_certify.proofs.Lists.{one_list}
 use Rattle.ix_outside.specs.Reading.{most_bytes}
-use Rattle.ix_guarding.specs.Guarding.{IsGuarded}
-use Rattle.ix_guarding.proofs.OneGuarded.{one_guarded}
+use Rattle.ix_guard_promise.specs.Guarding.{IsGuarded}
+use Rattle.ix_guard_promise.proofs.OneGuarded.{one_guarded}
 use Rattle.ix_tool.specs.Answers.{AnswersFound, AnswersGuarded, Guards, guard_status}
 
 -- what is found of a text is that it is too long, or it isn't

@@ -4,16 +4,18 @@ use Rattle.std.proofs.lemmas.Bool.{cases_lt}
 use Rattle.ix_core.specs.declared.error.Error.{Error}
 use Rattle.ix_core.specs.declared.fact.Profile.{Profile}
 use Rattle.ix_core.specs.declared.program.Program.{Program}
-use Rattle.ix_machine.proofs.SomeStart.{Is, some_start}
+use Rattle.ix_playing.proofs.SomeStart.{Is, some_start}
 use Rattle.ix_words.specs.Commands.{Command, Check, Run, Bench, Verify, Guard}
 use Rattle.ix_answer.specs.Answer.{Answer}
-use Rattle.ix_finding.specs.Found.{Finding, TooLong, Broken, Past, Misnamed, Whole, Found}
-use Rattle.ix_finding.proofs.SomeFinding.{some_finding}
+use Rattle.ix_command_inputs.specs.Found.{Finding, TooLong, Broken, Past, Misnamed, Whole, Found}
+use Rattle.ix_command_inputs.proofs.SomeFinding.{some_finding}
 use Rattle.ix_outside.specs.Reading.{most_certificate}
 use Rattle.ix_tool.specs.Judgements.{profile_of}
-use Rattle.ix_tool.specs.Answers.{AnswersWhole, AnswersOn, Judges, Verifies, too_long as cert_too_long, verified, refused, source_bytes, usage, verdict, bench_verdict}
+use Rattle.ix_tool.specs.Answers.{AnswersWhole, AnswersOn, Judges, Verifies, too_long as cert_too_long, verified, refused}
+use Rattle.ix_command_inputs.specs.Sources.{source_bytes}
+use Rattle.ix_replies.specs.Said.{usage, verdict, bench_verdict}
 use Rattle.ix_tool.specs.Existence.{HasWritten, HasVerdict, HasList, HasListed, Unanswered}
-use Rattle.ix_tool.specs.Runs.{start_answer}
+use Rattle.ix_playing.specs.Runs.{start_answer}
 use Rattle.ix_tool.proofs.SomeGuarded.{some_guarding}
 
 judges : (certificate : Bool) (profile : Profile) (file bytes : List ℕ) (program : Program) (errors : List Error) → HasWritten certificate profile program

@@ -4,9 +4,9 @@ use Rattle.ix_core.specs.declared.error.Error.{Error}
 use Rattle.ix_core.specs.declared.program.Program.{Program}
 use Rattle.ix_core.specs.declared.fact.Profile.{Profile}
 use Rattle.ix_answer.specs.Answer.{Answer, out_answer}
-use Rattle.ix_finding.specs.Found.{Finding, TooLong, Broken, Past, Misnamed, Whole, Found}
-use Rattle.ix_finding.proofs.SomeFinding.{some_finding}
-use Rattle.ix_guarding.specs.Guarding.{IsGuarded, IsNamed, guarded_by}
+use Rattle.ix_command_inputs.specs.Found.{Finding, TooLong, Broken, Past, Misnamed, Whole, Found}
+use Rattle.ix_command_inputs.proofs.SomeFinding.{some_finding}
+use Rattle.ix_guard_promise.specs.Guarding.{IsGuarded, IsNamed, guarded_by}
 use Rattle.ix_tool.specs.Answers.{AnswersFound, AnswersGuarded, Guards, guard_status}
 use Rattle.ix_tool.specs.Existence.{HasGuardedListed}
 use Rattle.ix_tool.proofs.WholeSources.{whole_source}

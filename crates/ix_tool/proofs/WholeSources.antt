@@ -11,7 +11,7 @@ use Rattle.ix_grammar.specs.Refusals.{HasTree}
 use Rattle.ix_tree.specs.declared.decl.Unit.{Unit as Source}
 use Rattle.ix_meaning.specs.Resolved.{Accepts, names}
 use Rattle.ix_plain.specs.Program.{program as program_of}
-use Rattle.ix_finding.specs.Found.{Finding, Whole, Found, too_long, no_tokens, lexed, no_tree, tree, of_lex_error, of_parse_error, FoundIn, passes_limit, misnames, inherits, too_big, named}
+use Rattle.ix_command_inputs.specs.Found.{Finding, Whole, Found, too_long, no_tokens, lexed, no_tree, tree, of_lex_error, of_parse_error, FoundIn, passes_limit, misnames, inherits, too_big, named}
 use Rattle.ix_guard_promise.specs.Promise.{HaveProgram}
 
 lexed_whole : (why : LexError) (finding : Finding) (program : Program) → of_lex_error why ≡ Some finding → finding ≡ Whole program → ⊥

@@ -6,16 +6,17 @@ use Rattle.ix_core.specs.declared.fact.Profile.TheVariants.{Int32}
 use Rattle.ix_core.specs.declared.program.Program.{Program}
 use Rattle.ix_words.specs.Commands.{Command, Check, Run, Bench, Verify, Guard}
 use Rattle.ix_answer.specs.Answer.{Answer}
-use Rattle.ix_finding.specs.Found.{Whole, Found}
-use Rattle.ix_finding.specs.MethodErrors.{IsError}
+use Rattle.ix_command_inputs.specs.Found.{Whole, Found}
+use Rattle.ix_certify.specs.MethodErrors.{IsError}
 use Rattle.ix_certify.specs.ErrorList.{IsErrorList}
-use Rattle.ix_guarding.specs.Guarding.{IsGuarded}
+use Rattle.ix_guard_promise.specs.Guarding.{IsGuarded}
 use Rattle.ix_certify.specs.Certificates.{IsLeastCertificate}
 use Rattle.ix_certify.specs.Verdicts.{IsVerified, IsRefused}
 use Rattle.ix_certify.specs.CertError.{CertError}
 use Rattle.ix_certify.specs.CertError.TheVariants as refusal
 use Rattle.ix_certify.specs.Verified.{Verified}
-use Rattle.ix_tool.specs.Answers.{Answers, source_bytes}
+use Rattle.ix_tool.specs.Answers.{Answers}
+use Rattle.ix_command_inputs.specs.Sources.{source_bytes}
 use Rattle.ix_tool.specs.Judgements.{profile_of}
 
 -- The errors of a program can be listed, where the command asks for them. The check finds that list, with the least labels of all loops, wherever it ends; no

@@ -2,19 +2,20 @@
 ghost use Rattle.std.specs.Prelude.{◌≡◌, ◌≢◌, ◌≤◌, ℕ, List, Option, length, IfOk};
 ghost use Rattle.ix_answer.specs.Replies.{shown};
 ghost use Rattle.ix_core.specs.Formed.{Formed};
-ghost use Rattle.ix_finding.specs.Found.{Found, TooLong, Whole};
-ghost use Rattle.ix_finding.specs.Findings.{seen, IsPlaced, HasFormed};
-ghost use Rattle.ix_finding.specs.Judged.{CanCheck};
+ghost use Rattle.ix_command_inputs.specs.Found.{Found, TooLong, Whole};
+ghost use Rattle.ix_command_inputs.specs.Findings.{seen, IsPlaced, HasFormed};
+ghost use Rattle.ix_command_inputs.specs.Judged.{CanCheck};
 ghost use Rattle.ix_tool.specs.Answers as spec;
 ghost use Rattle.ix_words.specs.Commands.{Guard};
 ghost use Rattle.ix_tool.specs.Judgements.{profile_of};
 
 use crate::judging::profile_of;
-use crate::reply::{broken_reply, misnamed_reply, past_reply, too_long_reply};
 use ix_answer::{Reply, Status, on_bytes};
+use ix_certify::check_program;
+use ix_command_inputs::{Finding, of_bytes};
 use ix_core::{Error, Profile, Program};
-use ix_finding::{Finding, check_program, of_bytes};
-use ix_guarding::guarded;
+use ix_guard_promise::guarded;
+use ix_replies::{broken_reply, misnamed_reply, past_reply, too_long_reply};
 use ix_words::Sums;
 use std::alloc::{AllocError, Global};
 

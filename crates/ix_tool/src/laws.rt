@@ -2,7 +2,7 @@
 
 ghost use Rattle.std.specs.Prelude.{◌≡◌, ℕ, List, Option};
 ghost use Rattle.ix_answer.specs.Answer.{Answer};
-ghost use Rattle.ix_finding.specs.Found.{Finding, Found};
+ghost use Rattle.ix_command_inputs.specs.Found.{Finding, Found};
 ghost use Rattle.ix_words.specs.Commands.{Command};
 ghost use Rattle.ix_tool.specs.Answers.{Answers};
 ghost use Rattle.ix_tool.specs.Existence.{HasListed, Unanswered};

@@ -3,3 +3,4 @@ pub mod Objects
 pub use Rattle.ix_scopes.specs.Here
 pub use Rattle.ix_scopes.specs.declared.scope.Local
 pub use Rattle.ix_scopes.specs.declared.scope.Scopes
+pub use Rattle.ix_scopes.specs.Begun

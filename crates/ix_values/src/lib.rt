@@ -10,5 +10,9 @@ mod names;
 mod selections;
 mod values;
 
-pub use ix_scopes::{InAnnotation, Local, Scopes, note_declared, wrong, wrong_if};
+pub use ix_scopes::{
+    Annotations, Begun, Declaration, InAnnotation, Local, Param, Scopes, World, begin_with,
+    further_annotations, note_declared, of_variable, own_annotations, variable, wrong, wrong_if,
+};
+pub use ix_types::{BOOLEAN, Need};
 pub use values::{arguments, check, fill, given_to, value};

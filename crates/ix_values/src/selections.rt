@@ -6,17 +6,16 @@ ghost use Rattle.ix_meaning.specs.Types as types;
 ghost use Rattle.ix_meaning.specs.Values as spec;
 ghost use Rattle.ix_scopes.specs.Here.{here};
 ghost use Rattle.ix_values.specs.Objects as objects;
-ghost use Rattle.ix_world.specs.World as tables;
+ghost use Rattle.ix_scopes.specs.World as tables;
 
 use crate::names::{Object, field_use};
 use ix_core::{Base, Type_};
 use ix_meaning::{Meaning, Note, Rule};
 use ix_num::Rel;
-use ix_scopes::{Scopes, cannot_compare, null_mismatch, wrong, wrong_if};
+use ix_scopes::{Scopes, World, cannot_compare, null_mismatch, wrong, wrong_if};
 use ix_text::{List, Span};
 use ix_tree::{Expr, ExprKind, Ident};
 use ix_types::{INT, copied_option, element, need_like};
-use ix_world::World;
 use std::alloc::{AllocError, Global};
 
 pub fn is_null(e: &Expr) -> bool

@@ -6,7 +6,7 @@ ghost use Rattle.ix_meaning.specs.Values as spec;
 ghost use Rattle.ix_scopes.specs.Here.{here};
 ghost use Rattle.ix_types.specs.Needs as needs;
 ghost use Rattle.ix_values.specs.Objects as objects;
-ghost use Rattle.ix_world.specs.World as tables;
+ghost use Rattle.ix_scopes.specs.World as tables;
 
 use crate::names::{Object, name_before_dot, object_of, variable};
 use crate::selections::{
@@ -15,13 +15,12 @@ use crate::selections::{
 use ix_core::{Base, Type_};
 use ix_meaning::{Meaning, Note, Rule};
 use ix_scopes::{
-    Scopes, list_mismatch, not_static, note_type, null_mismatch, type_mismatch, wrong, wrong_if,
+    Called, Scopes, World, created, list_mismatch, not_static, note_type, null_mismatch,
+    type_mismatch, wrong, wrong_if,
 };
 use ix_text::{List, Span};
 use ix_tree::{BinaryOp, Expr, ExprKind, Ident, Init, UnaryOp};
 use ix_types::{BOOLEAN, INT, Need, copied_option, need_like};
-use ix_world::{Called, World};
-use ix_written::created;
 use std::alloc::{AllocError, Global};
 
 /// An expression as a value.

@@ -5,7 +5,7 @@ use Rattle.ix_tree.specs.declared.decl.ClassDecl.{ClassDecl}
 use Rattle.ix_tree.specs.declared.decl.LocalDecl.{LocalDecl}
 use Rattle.ix_tree.specs.declared.decl.Member.{Member}
 use Rattle.ix_tree.specs.declared.decl.Member.TheVariants as member
-use Rattle.ix_meaning.specs.Declarators.{first_behind, members_behind, members}
+use Rattle.ix_written.specs.Declarators.{first_behind, members_behind, members}
 use Rattle.ix_types.specs.Members.{ClassOf, next_field, next_fields, fields_in, fields_from, methods_in, methods_from}
 use Rattle.ix_types.specs.Source.{members_in}
 

@@ -5,7 +5,7 @@ use Rattle.std.proofs.lemmas.Option.{slice_get_past}
 use Rattle.ix_tree.specs.declared.decl.ClassDecl.{ClassDecl}
 use Rattle.ix_tree.specs.declared.decl.Member.{Member}
 use Rattle.ix_tree.specs.declared.decl.Member.TheVariants as member
-use Rattle.ix_meaning.specs.Declarators.{members}
+use Rattle.ix_written.specs.Declarators.{members}
 use Rattle.ix_types.specs.Field.{Field}
 use Rattle.ix_types.specs.Signature.{Signature}
 use Rattle.ix_types.specs.Classes.{parents_by, parent, parent_in, onward, way_up, unseen, supers}

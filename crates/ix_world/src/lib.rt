@@ -11,5 +11,9 @@ mod lists;
 mod named;
 mod world;
 
+pub use ix_written::{
+    Annotations, Begun, Declaration, begin_with, created, further_annotations, of_variable,
+    own_annotations, variable,
+};
 pub use lists::{field_of, fields, method_of, methods, param_type};
 pub use world::{Called, ClassWorld, World, world_of};

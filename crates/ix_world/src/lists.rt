@@ -4,7 +4,7 @@ ghost use Rattle.std.specs.Prelude.{◌≡◌, ◌++◌, ◌+◌, ◌<◌, ◌�
 ghost use Rattle.indexmap.specs.IndexMap.{get_by_text};
 ghost use Rattle.ix_types.specs.Members as spec;
 ghost use Rattle.ix_types.specs.Source.{members_in};
-ghost use Rattle.ix_meaning.specs.Declarators as declared;
+ghost use Rattle.ix_written.specs.Declarators as declared;
 ghost use Rattle.ix_written.specs.Begun.{AllBegin, annotated, first_shown};
 
 use crate::constant::constant;

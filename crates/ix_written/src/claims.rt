@@ -9,10 +9,10 @@ ghost use Rattle.ix_meaning.specs.Expansion.{expanded};
 ghost use Rattle.ix_meaning.specs.Annotated as spec;
 ghost use Rattle.ix_written.specs.Seen.{seen, unseen, seen_post, unseen_posts};
 
-use ix_annot::{Claims, same_name};
 use ix_core::{Claim, Name, Post};
 use ix_meaning::{
-    AnnotError, Found, NameError, Names, Naming, Note, Rule, Target, expand, same_claim,
+    AnnotError, Claims, Found, NameError, Names, Naming, Note, Rule, Target, expand, same_claim,
+    same_name,
 };
 use ix_text::List;
 use ix_tree::Annot;

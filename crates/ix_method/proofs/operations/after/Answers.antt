@@ -1,7 +1,7 @@
 use Rattle.std.proofs.Common.{sym, subst, ◌∙◌}
 use Rattle.std.specs.Prelude.{IfOk}
-use Rattle.ix_facts.specs.Stores.{IsAdded}
-use Rattle.ix_facts.specs.Systems.{HaveClasses}
+use Rattle.ix_sign.specs.Stores.{IsAdded}
+use Rattle.ix_sign.specs.Systems.{HaveClasses}
 use Rattle.ix_sign.specs.StoredFacts.{stored}
 use Rattle.ix_sign.specs.Signs.{IsLeastOf}
 use Rattle.ix_method.specs.MethodRules.{copied_claims, KindGives}

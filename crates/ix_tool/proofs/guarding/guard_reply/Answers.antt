@@ -3,10 +3,10 @@ use Rattle.std.proofs.lemmas.Result.{IfOk-weaker}
 use Rattle.ix_core.specs.declared.error.Error.{Error}
 use Rattle.ix_core.specs.declared.fact.Profile.{Profile}
 use Rattle.ix_answer.specs.Replies.{shown}
-use Rattle.ix_finding.specs.Findings.{seen}
-use Rattle.ix_finding.specs.Found.{Found}
-use Rattle.ix_finding.specs.MethodErrors.{IsError}
-use Rattle.ix_guarding.specs.Guarding.{IsGuarded}
+use Rattle.ix_command_inputs.specs.Findings.{seen}
+use Rattle.ix_command_inputs.specs.Found.{Found}
+use Rattle.ix_certify.specs.MethodErrors.{IsError}
+use Rattle.ix_guard_promise.specs.Guarding.{IsGuarded}
 use Rattle.ix_certify.specs.ErrorList.{IsErrorList}
 use Rattle.ix_tool.specs.Answers.{AnswersFound, AnswersGuarded}
 use Rattle.ix_tool.proofs.GuardsAnswered.{found_short}

@@ -1,4 +1,4 @@
-use Rattle.ix_finding.proofs.SomeFinding.{some_finding}
+use Rattle.ix_command_inputs.proofs.SomeFinding.{some_finding}
 use Rattle.ix_tool.proofs.SomeAnswer.{some_answer}
 use Rattle.ix_tool.proofs.laws.there_is_an_answer.Goals as goal
 

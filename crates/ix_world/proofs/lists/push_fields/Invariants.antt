@@ -1,6 +1,6 @@
 use Rattle.std.proofs.Common.{◌≡◌, ◌++◌, ◌+◌, ◌≤◌, drop, option_map}
 use Rattle.indexmap.specs.IndexMap.{get_by_text}
-use Rattle.ix_meaning.specs.Declarators as declared
+use Rattle.ix_written.specs.Declarators as declared
 use Rattle.ix_types.specs.Members as spec
 use Rattle.ix_written.specs.Begun.{AllBegin, first_shown}
 use Rattle.ix_world.proofs.lists.push_fields.Given as goal

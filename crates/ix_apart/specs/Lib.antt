@@ -1,0 +1,2 @@
+-- Passed on from ix_ready.
+pub use Rattle.ix_ready.specs.Judged

@@ -1,0 +1,2 @@
+-- Passed on from ix_names_again.
+pub use Rattle.ix_names_again.specs.MovedNotes

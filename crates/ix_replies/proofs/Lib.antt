@@ -1,0 +1,2 @@
+mod FewMethods
+pub mod Verdicts

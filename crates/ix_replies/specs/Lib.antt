@@ -1,0 +1,4 @@
+-- What an accepted program is counted by.
+pub mod Counts
+-- What is said of a program, and where there is none.
+pub mod Said
