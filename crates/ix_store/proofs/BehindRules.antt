@@ -1,6 +1,6 @@
 -- The facts that code puts together behind a rule are those of the rule.
 use Rattle.std.specs.Prelude.{◌≡◌, Bool, List, ◌++◌, Option, Some, None, IfSome, IfNone}
-use Rattle.std.proofs.Common.{sym, subst}
+use Rattle.std.proofs.Common.{ap, sym, ◌∙◌, subst}
 use Rattle.ix_core.specs.declared.claim.Type_.{Type_}
 use Rattle.ix_core.specs.declared.fact.Path.{Path}
 use Rattle.ix_core.specs.declared.fact.Profile.{Profile}
@@ -28,10 +28,10 @@ pub given_by : (rule : List Fact → List Fact) (before after : Stored) (known a
 given_by rule before after known all is same made = subst (λ s. IsGiven rule s after) (sym is) (same_store all (rule known) after same made)
 
 -- what is left where some facts go, or none
-pub rest_left : (is : Path → Bool) (known : Known) (fewer : Option Known) → IfNone fewer (without is (facts_in known) ≡ facts_in known) → IfSome fewer (λ rest. facts_in rest ≡ without is (facts_in known))
+pub rest_left : (is : Path → Bool) (known got : Known) (fewer : Option Known) → got ≡ known → IfNone fewer (without is (facts_in got) ≡ facts_in got) → IfSome fewer (λ rest. facts_in rest ≡ without is (facts_in got))
     → facts_in (rest_of known fewer) ≡ without is (facts_in known)
-rest_left is known None same left = sym same
-rest_left is known (Some rest) same left = left
+rest_left is known got None e same left = sym (subst (λ k. without is (facts_in k) ≡ facts_in k) e same)
+rest_left is known got (Some rest) e same left = left ∙ ap (λ k. without is (facts_in k)) e
 
 -- ---- an operation
 

@@ -13,3 +13,5 @@ mod WholeStores
 mod BesideTables
 pub mod OwnFacts
 mod WeakerCommon
+mod GrownTables
+mod MadeStores

@@ -1,5 +1,6 @@
 pub mod ClosedFacts
 pub mod EmptyRanges
+pub mod Orders
 pub mod StoredFacts
 pub mod NewFacts
 pub mod KnownParts

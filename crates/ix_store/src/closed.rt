@@ -17,11 +17,12 @@ ghost use Rattle.ix_store.specs.EmptyRanges as spec;
 ghost use Rattle.ix_store.specs.EmptyRanges.{some_empty};
 ghost use Rattle.ix_store.specs.StoredFacts.{facts_in, stored_in};
 
-use crate::known::{FEW, Known};
+use crate::known::Known;
+use crate::orders::{ordered, orders_beside};
 use ix_changes::{Changed, some_name_changed, unchanged};
 use ix_closure::{FactTable, are_plain, more_beside, more_that_follows};
 use ix_core::Fact;
-use ix_fact_list::{before_links, have_one_order, in_all_orders, ints_and_arrays, up_to_ends};
+use ix_fact_list::{before_links, ints_and_arrays, up_to_ends};
 use std::alloc::{AllocError, Global};
 
 fn is_empty_range(fact: &Fact) -> bool
@@ -118,46 +119,13 @@ pub(crate) fn grown(
     ensures more { IfOk result (λ more. IfSome more (λ more. IsClosedOf (facts_of table.now ++ new.items) (facts_of more))) }
     ensures kind { IfOk result (λ more. IfSome more (λ more. table_kind more ≡ kind.Any)) }
 {
-    if are_plain(&new) {
-        let added = added_beside(alloc, table, new)?;
-        return with_added(alloc, table, &added);
-    }
-    let added = added(alloc, table, new)?;
-    with_added(alloc, table, &added)
-}
-
-/// The facts in no more room than they take, unless they are few.
-fn trimmed(alloc: Global, facts: Vec<Fact>) -> Result<Vec<Fact>, AllocError>
-    ensures { IfOk result (λ trimmed. trimmed.items ≡ facts.items) }
-{
-    if facts.len() <= FEW {
-        return Ok(facts);
-    }
-    let trimmed = Vec::from_slice(alloc, &facts)?;
-    Ok(trimmed)
-}
-
-/// The facts in all their orders, where some have two.
-fn turned(alloc: Global, facts: &[Fact]) -> Result<Option<Vec<Fact>>, AllocError>
-    ensures all { IfOk result (λ turned. IfSome turned (λ all. all.items ≡ in_orders facts.now)) }
-    ensures none { IfOk result (λ turned. IfNone turned (facts.now ≡ in_orders facts.now)) }
-{
-    if have_one_order(facts) {
-        return Ok(None);
-    }
-    let all = trimmed(alloc, in_all_orders(alloc, facts)?)?;
-    Ok(Some(all))
-}
-
-fn all_orders<'a>(facts: &'a [Fact], turned: &'a Option<Vec<Fact>>) -> &'a [Fact]
-    requires all { IfSome turned.now (λ all. all.items ≡ in_orders facts.now) }
-    requires none { IfNone turned.now (facts.now ≡ in_orders facts.now) }
-    ensures { result.now ≡ in_orders facts.now }
-{
-    match turned {
-        Some(all) => all,
-        None => facts,
-    }
+    let added = if are_plain(&new) {
+        added_beside(alloc, table, new)?
+    } else {
+        added(alloc, table, new)?
+    };
+    let more = with_added(alloc, table, &added)?;
+    Ok(more)
 }
 
 impl Known {
@@ -165,7 +133,7 @@ impl Known {
     pub(crate) fn ordered(&self) -> &[Fact]
         ensures orders { result.now ≡ in_orders (facts_in self.now) }
     {
-        all_orders(self.table.as_slice(), &self.turned)
+        ordered(self.table.as_slice(), &self.turned)
     }
 
     /// A closed table of which no range is empty, with the lists beside it. The only error is want of memory.
@@ -177,11 +145,11 @@ impl Known {
     {
         let facts = table.as_slice();
         let _count = facts.len();
-        let turned = turned(alloc, facts)?;
-        let ordered = all_orders(facts, &turned);
-        let (ints, arrays) = ints_and_arrays(alloc, ordered)?;
-        let ends = up_to_ends(ordered);
-        let from_links = before_links(ordered);
+        let turned = orders_beside(alloc, facts)?;
+        let all = ordered(facts, &turned);
+        let (ints, arrays) = ints_and_arrays(alloc, all)?;
+        let ends = up_to_ends(all);
+        let from_links = before_links(all);
         Ok(Known {
             table,
             turned,

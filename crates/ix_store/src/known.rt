@@ -1,6 +1,6 @@
 //! Closed facts.
 
-ghost use Rattle.std.specs.Prelude.{◌≡◌, ◌<◌, ◌≤◌, ◌^◌, false, [], IfSome, IfNone, length, take, drop};
+ghost use Rattle.std.specs.Prelude.{◌≡◌, ◌<◌, ◌≤◌, ◌^◌, false, [], length, take, drop};
 ghost use Rattle.ix_facts.specs.declared.kind.Kind.TheVariants as kind;
 ghost use Rattle.ix_facts.specs.Exact.{named_ints, named_arrays};
 ghost use Rattle.ix_facts.specs.Facts.{in_orders};
@@ -10,9 +10,11 @@ ghost use Rattle.ix_fact_list.specs.ByPath.{put_all};
 ghost use Rattle.ix_closure.specs.FactTables.{facts_of, table_kind};
 ghost use Rattle.ix_store.specs.ClosedFacts.{AreClosed};
 ghost use Rattle.ix_store.specs.EmptyRanges.{some_empty};
+ghost use Rattle.ix_store.specs.Orders.{ordered_by};
 
+use crate::orders::Orders;
 use ix_closure::FactTable;
-use ix_core::{Fact, Path};
+use ix_core::Path;
 
 /// Up to how many facts are few: to go over them costs less than an index of them.
 pub(crate) const FEW: usize = 32;
@@ -22,7 +24,7 @@ pub(crate) const FEW: usize = 32;
 pub(crate) struct Known {
     pub(crate) table: FactTable,
     /// The facts in all their orders, where some have two; where none has, the table has them.
-    pub(crate) turned: Option<Vec<Fact>>,
+    pub(crate) turned: Option<Orders>,
     /// How many of the facts in all their orders stand up to the last range or class, and before the first difference or length.
     pub(crate) ends: usize,
     pub(crate) from_links: usize,
@@ -30,8 +32,7 @@ pub(crate) struct Known {
     pub(crate) ints: Vec<Path>,
     pub(crate) arrays: Vec<Path>,
     ghost kind: { table_kind table ≡ kind.Any },
-    ghost orders: { IfSome turned (λ all. all.items ≡ in_orders (facts_of table)) },
-    ghost one_order: { IfNone turned (facts_of table ≡ in_orders (facts_of table)) },
+    ghost orders: { ordered_by (facts_of table) turned ≡ in_orders (facts_of table) },
     ghost in_ends: { ends ≤ length (in_orders (facts_of table)) },
     ghost all_ends: { ends_in (take ends (in_orders (facts_of table))) ≡ ends_in (in_orders (facts_of table)) },
     ghost in_links: { from_links ≤ length (in_orders (facts_of table)) },

@@ -1,9 +1,22 @@
 //! The bounds that closed facts give, each by all facts in all their orders.
 
+ghost use Rattle.std.specs.Prelude.{◌≡◌, ◌<◌, Some, length, slice_get};
+ghost use Rattle.ix_store.specs.StoredFacts.{facts_in};
+
 use crate::known::Known;
 use ix_core::{Fact, Path, PathOff};
 use ix_fact_list::bounds::{self, Groups, Indexed};
 use ix_facts::Know;
+
+impl Known {
+    /// The fact of this number, from 0, in the order of the table.
+    fn fact_numbered(&self, k: u128) -> Fact
+        requires number { k < length (facts_in self.now) }
+        ensures fact { slice_get (facts_in self.now) k ≡ Some result }
+    {
+        self.table.as_slice()[k as usize]
+    }
+}
 
 impl Groups for Known {
     ghost use Rattle.std.specs.Prelude.{refl, take, drop};
@@ -65,7 +78,7 @@ impl Know for Known {
     }
 
     fn fact(&self, k: u128) -> Fact {
-        self.table.as_slice()[k as usize]
+        self.fact_numbered(k)
     }
 
     fn lo(&self, p: &Path) -> i64 {

@@ -15,6 +15,7 @@ mod known_bounds;
 mod lattice;
 mod limited;
 mod nothing;
+mod orders;
 mod rules;
 mod seen;
 mod store;

@@ -34,9 +34,9 @@ impl<'a> Limited<'a> {
     pub(crate) fn of(alloc: Global, known: &'a Known) -> Result<Limited<'a>, AllocError>
         ensures facts { IfOk result (λ limited. limited ≡ known.now) }
     {
-        let ordered = known.ordered();
-        let (ends, _) = ordered.split_at(known.ends);
-        let limits = Limits::by_part(alloc, known, ordered, ends, &known.ints, &known.arrays)?;
+        let all = known.ordered();
+        let (ends, _) = all.split_at(known.ends);
+        let limits = Limits::by_part(alloc, known, all, ends, &known.ints, &known.arrays)?;
         Ok(Limited { known, limits })
     }
 }

@@ -87,18 +87,11 @@ fn behind(
 {
     if is_none(&new) {
         drop(new);
-        let store = held(alloc, known, fewer)?;
-        return Ok(store);
+        return held(alloc, known, fewer);
     }
     match grown(alloc, &rest(known, &fewer).table, new)? {
-        None => {
-            let store = held(alloc, known, fewer)?;
-            Ok(store)
-        }
-        Some(table) => {
-            let store = of_table(alloc, table)?;
-            Ok(store)
-        }
+        None => held(alloc, known, fewer),
+        Some(table) => of_table(alloc, table),
     }
 }
 
@@ -107,8 +100,7 @@ fn with_new(alloc: Global, known: &Joint<Known>, new: Vec<Fact>) -> Result<Store
     requires classes { HaveClasses new.items }
     ensures store { IfOk result (λ store. IsStoreOf (facts_in known.now ++ new.items) (stored store)) }
 {
-    let store = behind(alloc, known, None, new)?;
-    Ok(store)
+    behind(alloc, known, None, new)
 }
 
 impl Store {
@@ -133,10 +125,11 @@ impl Store {
         ensures store { IfOk result (λ store. IsStoreOf facts.now (stored store)) }
     {
         let empty = FactTable::new(alloc, Kind::Any);
-        let new = Vec::from_slice(alloc, facts)?;
-        let table = grown(alloc, &empty, new)?.unwrap_or(empty);
-        let store = of_table(alloc, table)?;
-        Ok(store)
+        let told = Vec::from_slice(alloc, facts)?;
+        match grown(alloc, &empty, told)? {
+            None => of_table(alloc, empty),
+            Some(table) => of_table(alloc, table),
+        }
     }
 
     /// The store behind an operation that is no call and touches no field. The only error is want of memory.

@@ -1,17 +1,21 @@
-use Rattle.std.proofs.Common.{◌≡◌, ◌++◌, sym, subst, ap, ◌∙◌}
+use Rattle.std.proofs.Common.{◌≡◌, ◌++◌, sym, subst, ◌∙◌}
 use Rattle.ix_facts.specs.Closure.{Closed, IsClosedOf}
-use Rattle.ix_facts.specs.Stores.{Stored, Reached, IsStoreOf}
+use Rattle.ix_facts.specs.Stores.{Reached}
+use Rattle.ix_facts.proofs.ClosureLaws.{is_closed}
 use Rattle.ix_closure.specs.FactTables.{facts_of}
 use Rattle.ix_store.specs.NewFacts.{rest_of}
 use Rattle.ix_store.specs.StoredFacts.{facts_in}
 use Rattle.ix_store.proofs.ClosedTests.{closed_of_test}
+use Rattle.ix_store.proofs.GrownTables.{at_none, at_some}
 use Rattle.ix_store.proofs.KnownStores.{known_closed, known_with_none}
+use Rattle.ix_store.proofs.MadeStores.{made_as, made_of}
 use Rattle.ix_store.proofs.rules.behind.Goals as goal
 
 pub returns-then-is_none : goal.returns-then-is_none
 returns-then-is_none c =
     let rest = rest_of c.args.known.now c.args.fewer in
-    record { store = subst (IsStoreOf (facts_in rest ++ c.args.new.items)) (sym c.in_ok-store.ensures) (known_with_none rest c.args.new.items (sym c.deref.ensures.value ∙ c.is_none.ensures.0 c.if-is_none.true)) }
+    let new = c.args.new.items in
+    record { store = made_as c.held.result (facts_in rest ++ new) (Reached (facts_in rest)) c.held.ensures (known_with_none rest new (sym c.deref.ensures.value ∙ c.is_none.ensures.0 c.if-is_none.true)) }
 
 pub grown-requires-clause-kind : goal.grown-requires-clause-kind
 grown-requires-clause-kind c = rw c.rest.ensures (rest_of c.args.known.now c.args.fewer).kind
@@ -25,12 +29,21 @@ pub returns-in-None : goal.returns-in-None
 returns-in-None c =
     let rest = rest_of c.args.known.now c.args.fewer in
     let new = c.args.new.items in
-    let closed : IsClosedOf (facts_in rest ++ new) (facts_in rest) = subst (λ k. IsClosedOf (facts_in k ++ new) (facts_in k)) c.rest.ensures c.in-None.ensures.same in
-    record { store = subst (IsStoreOf (facts_in rest ++ new)) (sym c.in_ok-store-2.ensures) (known_closed rest (facts_in rest ++ new) closed) }
+    let closed : IsClosedOf (facts_in rest ++ new) (facts_in rest) = subst (λ k. IsClosedOf (facts_in k ++ new) (facts_in k)) c.rest.ensures (at_none _ _ c.in-None.is c.in_ok-grown.ensures.same) in
+    record { store = made_as c.held-2.result (facts_in rest ++ new) (Reached (facts_in rest)) c.held-2.ensures (known_closed rest (facts_in rest ++ new) closed) }
+
+pub of_table-requires-clause-closed : goal.of_table-requires-clause-closed
+of_table-requires-clause-closed c =
+    let rest = rest_of c.args.known.now c.args.fewer in
+    let new = c.args.new.items in
+    let table = c.in-Some.table in
+    let closed : IsClosedOf (facts_in rest ++ new) (facts_of table) = subst (λ k. IsClosedOf (facts_in k ++ new) (facts_of table)) c.rest.ensures (at_some _ table (λ more. IsClosedOf (facts_in c.rest.result.now ++ new) (facts_of more)) c.in-Some.is c.in_ok-grown.ensures.more) in
+    is_closed (facts_in rest ++ new) (facts_of table) closed
 
 pub returns-in-Some : goal.returns-in-Some
 returns-in-Some c =
     let rest = rest_of c.args.known.now c.args.fewer in
     let new = c.args.new.items in
-    let closed : IsClosedOf (facts_in rest ++ new) (facts_of c.in-Some.table) = subst (λ k. IsClosedOf (facts_in k ++ new) (facts_of c.in-Some.table)) c.rest.ensures c.in-Some.ensures.more in
-    record { store = c.in_ok-store-3.ensures.store (facts_in rest ++ new) closed }
+    let table = c.in-Some.table in
+    let closed : IsClosedOf (facts_in rest ++ new) (facts_of table) = subst (λ k. IsClosedOf (facts_in k ++ new) (facts_of table)) c.rest.ensures (at_some _ table (λ more. IsClosedOf (facts_in c.rest.result.now ++ new) (facts_of more)) c.in-Some.is c.in_ok-grown.ensures.more) in
+    record { store = made_of c.of_table.result (facts_in rest ++ new) (facts_of table) c.of_table.ensures.store closed }

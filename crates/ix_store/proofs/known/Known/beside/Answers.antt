@@ -15,3 +15,17 @@ pub returns-then-not-some_name_changed-clause-same : goal.returns-then-not-some_
 returns-then-not-some_name_changed-clause-same c =
     let is = is_changed c.args.changed.now in
     spared is (facts_in c.args.self.now) (ap (some_named is) (sym c.as_slice-facts.ensures.facts) ∙ (sym c.some_name_changed.ensures ∙ c.if-not-some_name_changed.true))
+
+pub with_lists-requires-clause-closed : goal.with_lists-requires-clause-closed
+with_lists-requires-clause-closed c =
+    let is = is_changed c.args.changed.now in
+    let known = c.args.self.now in
+    let fewer : facts_of c.of_part.result ≡ without is (facts_in known) = c.of_part.ensures.facts ∙ (c.in_ok-fewer.ensures ∙ ap (without is) c.as_slice-facts.ensures.facts) in
+    subst Closed (sym fewer) (without_closed is (facts_in known) (closed_of_test (facts_in known) known.closed))
+
+pub with_lists-requires-clause-full : goal.with_lists-requires-clause-full
+with_lists-requires-clause-full c =
+    let is = is_changed c.args.changed.now in
+    let known = c.args.self.now in
+    let fewer : facts_of c.of_part.result ≡ without is (facts_in known) = c.of_part.ensures.facts ∙ (c.in_ok-fewer.ensures ∙ ap (without is) c.as_slice-facts.ensures.facts) in
+    ap some_empty fewer ∙ without_full is (facts_in known) known.full

@@ -11,16 +11,16 @@ use Rattle.ix_store.proofs.ClassesAfter.{right_have}
 use Rattle.ix_store.proofs.SmallNumbers.{all_classes}
 use Rattle.ix_store.proofs.store.Store.after.Goals as goal
 
-pub behind-requires-clause-classes : goal.behind-requires-clause-classes
-behind-requires-clause-classes c =
+pub behind-requires : goal.behind-requires
+behind-requires c =
     let kind = c.args.kind.now in
     let profile = c.args.profile in
     let known = c.in-Some.known in
     let rest = rest_of known c.in_ok-fewer.fewer in
     let new = c.in_ok-new.new.items in
-    let left : facts_in rest ≡ without (of_target kind) (facts_in known) = rest_left (of_target kind) known c.in_ok-fewer.fewer c.in_ok-fewer.ensures.same c.in_ok-fewer.ensures.fewer in
+    let left : facts_in rest ≡ without (of_target kind) (facts_in known) = rest_left (of_target kind) known c.get.result.now c.in_ok-fewer.fewer c.get.ensures c.in_ok-fewer.ensures.same c.in_ok-fewer.ensures.fewer in
     let made : AreSame new (after_new (in_orders (facts_in rest)) profile kind) = subst (λ k. AreSame new (after_new (in_orders (facts_in k)) profile kind)) c.rest.ensures c.in_ok-new.ensures.facts in
-    right_have (facts_in rest) new (after_have (facts_in known) (facts_in rest ++ new) profile kind (after_is (facts_in known) (facts_in rest) new (facts_in rest ++ new) profile kind left made refl) (all_classes known.table))
+    record { classes = right_have (facts_in rest) new (after_have (facts_in known) (facts_in rest ++ new) profile kind (after_is (facts_in known) (facts_in rest) new (facts_in rest ++ new) profile kind left made refl) (all_classes known.table)) }
 
 pub returns : goal.returns
 returns c =
@@ -31,7 +31,7 @@ returns c =
     let rest = rest_of known c.in_ok-fewer.fewer in
     let new = c.in_ok-new.new.items in
     let is : stored c.args.self.now ≡ Reached (facts_in known) = cc in
-    let left : facts_in rest ≡ without (of_target kind) (facts_in known) = rest_left (of_target kind) known c.in_ok-fewer.fewer c.in_ok-fewer.ensures.same c.in_ok-fewer.ensures.fewer in
+    let left : facts_in rest ≡ without (of_target kind) (facts_in known) = rest_left (of_target kind) known c.get.result.now c.in_ok-fewer.fewer c.get.ensures c.in_ok-fewer.ensures.same c.in_ok-fewer.ensures.fewer in
     let made : AreSame new (after_new (in_orders (facts_in rest)) profile kind) = subst (λ k. AreSame new (after_new (in_orders (facts_in k)) profile kind)) c.rest.ensures c.in_ok-new.ensures.facts in
     let same : AreSame (facts_in rest ++ new) (operated profile kind (facts_in known)) = after_is (facts_in known) (facts_in rest) new (facts_in rest ++ new) profile kind left made refl in
     record { after = given_by (operated profile kind) (stored c.args.self.now) (stored c.in_ok-store.store) (facts_in known) (facts_in rest ++ new) is same c.in_ok-store.ensures.store }

@@ -9,17 +9,17 @@ use Rattle.ix_store.proofs.ClassesAfter.{right_have}
 use Rattle.ix_store.proofs.SmallNumbers.{all_classes}
 use Rattle.ix_store.proofs.store.Store.copy.Goals as goal
 
-pub behind-requires-clause-classes : goal.behind-requires-clause-classes
-behind-requires-clause-classes c =
+pub behind-requires : goal.behind-requires
+behind-requires c =
     let target = c.args.target.now in
     let source = c.args.source.now in
     let ty = c.args.ty.now in
     let known = c.in-Some.known in
     let rest = rest_of known c.in_ok-fewer.fewer in
     let new = c.in_ok-new.new.items in
-    let left : facts_in rest ≡ without (of_path target) (facts_in known) = rest_left (of_path target) known c.in_ok-fewer.fewer c.in_ok-fewer.ensures.same c.in_ok-fewer.ensures.fewer in
+    let left : facts_in rest ≡ without (of_path target) (facts_in known) = rest_left (of_path target) known c.get.result.now c.in_ok-fewer.fewer c.get.ensures c.in_ok-fewer.ensures.same c.in_ok-fewer.ensures.fewer in
     let made : AreSame new (copy_new (facts_in rest) ty target source) = subst (λ k. AreSame new (copy_new (facts_in k) ty target source)) c.rest.ensures c.in_ok-new.ensures.facts in
-    right_have (facts_in rest) new (copy_have (facts_in known) (facts_in rest ++ new) ty target source (copy_is (facts_in known) (facts_in rest) new (facts_in rest ++ new) ty target source left made refl) (all_classes known.table))
+    record { classes = right_have (facts_in rest) new (copy_have (facts_in known) (facts_in rest ++ new) ty target source (copy_is (facts_in known) (facts_in rest) new (facts_in rest ++ new) ty target source left made refl) (all_classes known.table)) }
 
 pub returns : goal.returns
 returns c =
@@ -31,7 +31,7 @@ returns c =
     let rest = rest_of known c.in_ok-fewer.fewer in
     let new = c.in_ok-new.new.items in
     let is : stored c.args.self.now ≡ Reached (facts_in known) = cc in
-    let left : facts_in rest ≡ without (of_path target) (facts_in known) = rest_left (of_path target) known c.in_ok-fewer.fewer c.in_ok-fewer.ensures.same c.in_ok-fewer.ensures.fewer in
+    let left : facts_in rest ≡ without (of_path target) (facts_in known) = rest_left (of_path target) known c.get.result.now c.in_ok-fewer.fewer c.get.ensures c.in_ok-fewer.ensures.same c.in_ok-fewer.ensures.fewer in
     let made : AreSame new (copy_new (facts_in rest) ty target source) = subst (λ k. AreSame new (copy_new (facts_in k) ty target source)) c.rest.ensures c.in_ok-new.ensures.facts in
     let same : AreSame (facts_in rest ++ new) (with_copy ty target source (facts_in known)) = copy_is (facts_in known) (facts_in rest) new (facts_in rest ++ new) ty target source left made refl in
     record { after = given_by (with_copy ty target source) (stored c.args.self.now) (stored c.in_ok-store.store) (facts_in known) (facts_in rest ++ new) is same c.in_ok-store.ensures.store }

@@ -15,6 +15,6 @@ returns c =
     let known = c.in-Some.known in
     let rest = rest_of known c.in_ok-fewer.fewer in
     let reached : stored c.args.self.now ≡ Reached (facts_in known) = cc in
-    let left : facts_in rest ≡ without is (facts_in known) = rest_left is known c.in_ok-fewer.fewer c.in_ok-fewer.ensures.same c.in_ok-fewer.ensures.fewer in
+    let left : facts_in rest ≡ without is (facts_in known) = rest_left is known c.get.result.now c.in_ok-fewer.fewer c.get.ensures c.in_ok-fewer.ensures.same c.in_ok-fewer.ensures.fewer in
     let store : IsStoreOf (without is (facts_in known)) (stored c.in_ok-store.store) = subst (λ l. IsStoreOf l (stored c.in_ok-store.store)) left (subst (IsStoreOf (facts_in rest)) (sym c.in_ok-store.ensures) (known_store rest)) in
     record { after = subst (λ s. IsForgotten is s (stored c.in_ok-store.store)) (sym reached) store }
