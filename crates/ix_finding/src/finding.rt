@@ -25,7 +25,6 @@ use ix_tree::Unit;
 use std::alloc::{AllocError, Global};
 
 /// What the bytes of a file turn out to be.
-#[derive(Drop)]
 pub enum Finding {
     /// More bytes than a source may have.
     TooLong,
@@ -37,6 +36,18 @@ pub enum Finding {
     Misnamed(List<NameError>),
     /// A source without these: its program.
     Whole(Program),
+}
+
+impl Drop for Finding {
+    fn drop(self) {
+        match self {
+            Finding::TooLong => {}
+            Finding::Broken(_, _) => {}
+            Finding::Past(_, _) => {}
+            Finding::Misnamed(errors) => drop(errors),
+            Finding::Whole(program) => drop(program),
+        }
+    }
 }
 
 /// What a text without tokens is; nothing where memory is wanting.

@@ -16,7 +16,7 @@ use Rattle.ix_core.proofs.Cases.{by_test}
 use Rattle.ix_core.proofs.FormedParts.{locals_of, method_is, posts_are, fields_all}
 use Rattle.ix_graph.specs.Graph.{method_parts}
 use Rattle.ix_graph.specs.Heads.{AreInOrder}
-use Rattle.ix_claim_facts.specs.Naming.{HasSmallNames, HaveSmallNames}
+use Rattle.ix_sound.specs.Naming.{HasSmallNames, HaveSmallNames}
 use Rattle.ix_ready.specs.Few.{HasFew}
 use Rattle.ix_ready.proofs.LoopsInOrder.{body_in_order}
 use Rattle.ix_ready.proofs.NamesInRange.{params_small, locals_small, result_small, promises_small, as_many_types, few_params, fields_small}

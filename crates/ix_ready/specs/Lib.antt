@@ -5,4 +5,4 @@ pub mod Judged
 -- Passed on from ix_sound.
 pub use Rattle.ix_sound.specs.Sound
 -- What is passed on of names.
-pub use Rattle.ix_claim_facts.specs.Naming
+pub use Rattle.ix_sound.specs.Naming

@@ -14,3 +14,5 @@ pub mod Known
 -- The promise.
 pub mod Sound
 pub mod Stands
+-- Passed on from ix_method.
+pub use Rattle.ix_method.specs.Naming
