@@ -6,8 +6,7 @@ ghost use Rattle.ix_facts.specs.Small.{HasSmallNumbers};
 use crate::does::{Does, operation};
 use crate::known::small_facts;
 use crate::said::says_all;
-use ix_after::facts_after;
-use ix_after::push_claim;
+use ix_after::{facts_after, push_claim};
 use ix_claims::is_proved;
 use ix_core::{Fact, Path, PathClaim, Profile};
 use ix_fact_list::FactList;
@@ -97,12 +96,7 @@ fn wants(walk: &mut Walk, fact: &Fact) -> Result<bool, AllocError> {
 }
 
 /// Takes a step: whether it is as it says.
-fn take<R: Abort>(
-    rt: &R,
-    alloc: Global,
-    walk: &mut Walk,
-    step: &Step,
-) -> Result<bool, AllocError> {
+fn take<R: Abort>(rt: &R, alloc: Global, walk: &mut Walk, step: &Step) -> Result<bool, AllocError> {
     match *step {
         Step::New => {
             begun(walk);

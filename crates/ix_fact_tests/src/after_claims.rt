@@ -1,9 +1,9 @@
 //! What claims add, and which are proved.
 
-use crate::paths::{S0, S1, S2, S5, S6, S9F0, S9F1};
 use crate::after::Step::{Claimed, End, Has, Known, New, Proves};
-use ix_core::Fact::{IsLen, LenRng, Less, Low, Neg, Rng, Same, Search, Upper};
 use crate::after::{Step, agree};
+use crate::paths::{S0, S1, S2, S5, S6, S9F0, S9F1};
+use ix_core::Fact::{IsLen, LenRng, Less, Low, Neg, Rng, Same, Search, Upper};
 use ix_core::{PathClaim, PathOff};
 
 /// A claim, its path, and the facts that it adds.

@@ -1,10 +1,10 @@
 //! What operators give.
 
+use crate::after::Step::{After, End, Has, Known, New};
+use crate::after::{Step, agree};
 use crate::does::Does;
 use crate::paths::{S0, S1, S2, S3, S5, S6, S9F0, S9F1};
-use crate::after::Step::{After, End, Has, Known, New};
 use ix_core::Fact::{IsLen, Less, Low, Rng, Same, Sum, Upper};
-use crate::after::{Step, agree};
 use ix_core::{PathOff, Profile};
 use ix_num::Arith;
 

@@ -50,11 +50,7 @@ pub fn is_proper(fact: &Fact) -> bool
 
 /// The facts, whose numbers have to be small.
 #[tactic(auto, using(ix_systems::proofs::KnownClasses::small_classes))]
-pub fn small_facts<R: Abort>(
-    rt: &R,
-    alloc: Global,
-    facts: &[Fact],
-) -> Result<Vec<Fact>, AllocError>
+pub fn small_facts<R: Abort>(rt: &R, alloc: Global, facts: &[Fact]) -> Result<Vec<Fact>, AllocError>
     ensures same { IfOk result (λ known. known.items ≡ facts.now) }
     ensures small { IfOk result (λ known. All HasSmallNumbers known.items) }
     ensures classes { IfOk result (λ known. HaveClasses known.items) }
@@ -81,11 +77,7 @@ fn told<R: Abort, S: System>(
     FactList::new(alloc, small)
 }
 
-fn all_facts<S: System>(
-    alloc: Global,
-    table: &S,
-    others: &[Fact],
-) -> Result<Vec<Fact>, AllocError>
+fn all_facts<S: System>(alloc: Global, table: &S, others: &[Fact]) -> Result<Vec<Fact>, AllocError>
     ensures facts { IfOk result (λ facts. facts.items ≡ S.known table.now ++ others.now) }
 {
     let mut facts = own_facts(alloc, table)?;
@@ -146,7 +138,10 @@ pub fn landmarks<R: Abort>(
 ) -> Result<Landmarks, AllocError>
     ensures { IfOk result (λ marks. Rises marks.ints) }
 {
-    assert!(rt; first < second && second < third && third < fourth, "landmarks don't rise");
+    assert!(rt;
+        first < second && second < third && third < fourth,
+        "landmarks don't rise"
+    );
     let mut ints = List::new(alloc);
     ints.push(first)?;
     ints.push(second)?;

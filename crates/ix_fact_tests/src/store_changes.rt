@@ -2,12 +2,14 @@
 
 use crate::does::Holds;
 use crate::paths::{S0, S0F0, S0F1, S0F2, S0F7, S1, S1F0, S2, S3, S3F0, S3F1, S4, S4F0, S4F1, S5};
-use crate::stores::Step::{Ask, Call, Called, Copied, Facts, Field, Forget, Has, Know, New, Parent};
-use ix_core::Fact::{IsLen, LenRng, Less, Low, Rng, Same, Sum, Upper};
+use crate::stores::Step::{
+    Ask, Call, Called, Copied, Facts, Field, Forget, Has, Know, New, Parent,
+};
 use crate::stores::{Question, Step, in_both};
+use ix_core::Fact::{IsLen, LenRng, Less, Low, Rng, Same, Sum, Upper};
 use ix_core::PathOff;
 
-/// In both profiles.
+/// Rows of both profiles.
 #[rattlefmt::skip]
 const ROWS: &[Step] = &[
     New, Know(Rng(S0F0, 1, 2)), Copied(S1, S0F0, Holds::Ints), Field(0, None), Facts(2), Has(Low(S1, 1)), Has(Rng(S1, 1, 2)),

@@ -3,11 +3,11 @@
 use crate::does::Does;
 use crate::paths::{S0, S0F1, S1, S5, S6, S7};
 use crate::stores::Step::{Ask, Assume, Do, Facts, Has, New, Nowhere, Proves};
-use ix_core::Fact::{IsLen, LenRng, Less, Low, Neg, Rng, Same, Search, Upper};
 use crate::stores::{Question, Step, in_both};
+use ix_core::Fact::{IsLen, LenRng, Less, Low, Neg, Rng, Same, Search, Upper};
 use ix_core::{PathClaim, PathOff};
 
-/// In both profiles.
+/// Rows of both profiles.
 #[rattlefmt::skip]
 const ROWS: &[Step] = &[
     New, Assume(S0, PathClaim::Range(0, 9)), Proves(S0, PathClaim::Range(-1, 9), true), Proves(S0, PathClaim::Range(1, 9), false), Facts(2), Has(Low(S0, 0)), Has(Rng(S0, 0, 9)),

@@ -2,11 +2,11 @@
 
 use crate::paths::{S0, S1, S2, S3, S5, S6, S7, S8};
 use crate::stores::Step::{Ask, Facts, Has, Know, New, Proves};
-use ix_core::Fact::{IsLen, LenRng, Less, Low, Neg, Rng, Same, Search, Sum, Upper};
 use crate::stores::{Question, Step, in_both};
+use ix_core::Fact::{IsLen, LenRng, Less, Low, Neg, Rng, Same, Search, Sum, Upper};
 use ix_core::{PathClaim, PathOff};
 
-/// In both profiles.
+/// Rows of both profiles.
 #[rattlefmt::skip]
 const ROWS: &[Step] = &[
     New, Know(Rng(S0, -4, 9)), Ask(Question::Lo(S0, -4)), Ask(Question::Hi(S0, 9)), Facts(1), Has(Rng(S0, -4, 9)),

@@ -3,12 +3,12 @@
 use crate::does::{Does, Holds};
 use crate::paths::{S0, S1, S2, S3, S5, S6};
 use crate::stores::Step::{Ask, Assume, Do, Facts, Has, If, Know, New, Nowhere, Unless};
-use ix_core::Fact::{IsLen, LenRng, Less, Low, Neg, Rng, Same, Search, Sum, Upper};
 use crate::stores::{Question, Step, in_both};
+use ix_core::Fact::{IsLen, LenRng, Less, Low, Neg, Rng, Same, Search, Sum, Upper};
 use ix_core::{PathClaim, PathOff};
 use ix_num::Rel;
 
-/// In both profiles.
+/// Rows of both profiles.
 #[rattlefmt::skip]
 const ROWS: &[Step] = &[
     New, If(0, Rel::Lt, 1, Holds::Ints), Facts(3), Has(Less(S0, S1, 0)), Has(Rng(S0, -2147483648, 2147483646)), Has(Rng(S1, -2147483647, 2147483647)),

@@ -3,11 +3,11 @@
 use crate::does::{Does, Holds};
 use crate::paths::{S0, S1, S2, S3, S5, S6, S7, S9F0, S9F1};
 use crate::stores::Step::{Ask, Assume, Copied, Do, Facts, Has, Know, New};
-use ix_core::Fact::{IsLen, LenRng, Less, Low, Neg, Rng, Same, Search, Sum, Upper};
 use crate::stores::{Question, Step, in_both};
+use ix_core::Fact::{IsLen, LenRng, Less, Low, Neg, Rng, Same, Search, Sum, Upper};
 use ix_core::{PathClaim, PathOff};
 
-/// In both profiles.
+/// Rows of both profiles.
 #[rattlefmt::skip]
 const ROWS: &[Step] = &[
     New, Assume(S0, PathClaim::Range(1, 4)), Do(Does::Copy(1, 0, Holds::Ints)), Facts(6), Has(Less(S0, S1, 1)), Has(Less(S1, S0, 1)), Has(Low(S0, 1)), Has(Low(S1, 1)), Has(Rng(S0, 1, 4)), Has(Rng(S1, 1, 4)),

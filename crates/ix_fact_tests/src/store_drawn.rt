@@ -2,13 +2,15 @@
 
 use crate::does::{Does, Holds};
 use crate::paths::{S0, S1, S2, S3, S5, S6, S9F0};
-use crate::stores::Step::{Assume, Below, Copied, Do, Facts, Field, Forget, Has, If, Join, Keep, New, Round, Unless};
-use ix_core::Fact::{IsLen, LenRng, Less, Low, Neg, Rng, Same, Search, Sum, Upper};
+use crate::stores::Step::{
+    Assume, Below, Copied, Do, Facts, Field, Forget, Has, If, Join, Keep, New, Round, Unless,
+};
 use crate::stores::{Step, ideal, in_both, int32};
+use ix_core::Fact::{IsLen, LenRng, Less, Low, Neg, Rng, Same, Search, Sum, Upper};
 use ix_core::{PathClaim, PathOff, UnaryNum};
 use ix_num::{Arith, Rel};
 
-/// In both profiles.
+/// Rows of both profiles.
 #[rattlefmt::skip]
 const ROWS: &[Step] = &[
     New, Assume(S9F0, PathClaim::Negative(S6)), Assume(S1, PathClaim::Negative(S5)), If(0, Rel::Ge, 1, Holds::Ints), Do(Does::Copy(0, 2, Holds::Ints)), If(2, Rel::Lt, 2, Holds::Ints), Assume(S0, PathClaim::Range(0, 1)), Facts(11), Has(Less(S0, S2, 0)), Has(Less(S2, S0, 0)), Has(Low(S0, 0)), Has(Neg(S1, S5)), Has(Neg(S9F0, S6)), Has(Rng(S0, 0, 1)), Has(Rng(S1, -2147483648, -1)), Has(Rng(S2, -2147483647, 2147483646)), Has(Rng(S9F0, -2147483648, -1)), Has(Search(S1, S5)), Has(Search(S9F0, S6)),
@@ -50,7 +52,7 @@ const ROWS: &[Step] = &[
     New, Assume(S2, PathClaim::Range(7, 11)), Field(0, None), Do(Does::Length(1, 5)), Do(Does::Length(0, 5)), Facts(12), Has(IsLen(S0, S5)), Has(IsLen(S1, S5)), Has(Less(S0, S1, 1)), Has(Less(S1, S0, 1)), Has(Low(S0, 0)), Has(Low(S1, 0)), Has(Low(S2, 1)), Has(Rng(S0, 0, 2147483647)), Has(Rng(S1, 0, 2147483647)), Has(Rng(S2, 7, 11)), Has(Same(S5, S5)), Has(Upper(S0, S5, PathOff::Nothing, -1)),
 ];
 
-/// With ideal sums.
+/// Rows with ideal sums.
 #[rattlefmt::skip]
 const IDEAL: &[Step] = &[
     New, Assume(S9F0, PathClaim::Range(7, 11)), Do(Does::Num(0, Arith::Sub, 1, 1)), If(1, Rel::Eq, 1, Holds::Ints), Do(Does::Int(2, 7)), Keep, Assume(S9F0, PathClaim::Negative(S6)), Assume(S1, PathClaim::Range(-2, 7)), Join(0), Facts(6), Has(Less(S2, S9F0, 1)), Has(Low(S2, 1)), Has(Low(S9F0, 1)), Has(Rng(S2, 7, 7)), Has(Rng(S9F0, 7, 11)), Has(Sum(S1, S0, S1)),
@@ -74,7 +76,7 @@ const IDEAL: &[Step] = &[
     New, Assume(S2, PathClaim::Negative(S6)), Assume(S1, PathClaim::Less(S0, -3)), Assume(S2, PathClaim::Upper(S6, PathOff::Plus(S1), 0)), Assume(S9F0, PathClaim::Negative(S6)), Do(Does::Length(1, 6)), Do(Does::Copy(5, 6, Holds::Arrays)), Keep, Do(Does::NewArray(6, 0)), Do(Does::Unary(1, UnaryNum::Neg, 2)), Join(0), Below(0, false), Facts(13), Has(Less(S2, S1, 0)), Has(Less(S9F0, S1, 0)), Has(Low(S1, 0)), Has(Neg(S2, S5)), Has(Neg(S9F0, S5)), Has(Rng(S2, -2147483648, -1)), Has(Rng(S9F0, -2147483648, -1)), Has(Same(S5, S5)), Has(Same(S6, S6)), Has(Search(S2, S5)), Has(Search(S9F0, S5)), Has(Upper(S2, S5, PathOff::Nothing, 0)), Has(Upper(S9F0, S5, PathOff::Nothing, 0)),
 ];
 
-/// The same steps with sums of 32 bits.
+/// The same rows with sums of 32 bits.
 #[rattlefmt::skip]
 const INT32: &[Step] = &[
     New, Assume(S9F0, PathClaim::Range(7, 11)), Do(Does::Num(0, Arith::Sub, 1, 1)), If(1, Rel::Eq, 1, Holds::Ints), Do(Does::Int(2, 7)), Keep, Assume(S9F0, PathClaim::Negative(S6)), Assume(S1, PathClaim::Range(-2, 7)), Join(0), Facts(5), Has(Less(S2, S9F0, 1)), Has(Low(S2, 1)), Has(Low(S9F0, 1)), Has(Rng(S2, 7, 7)), Has(Rng(S9F0, 7, 11)),
@@ -101,6 +103,14 @@ const INT32: &[Step] = &[
 #[test]
 fn drawn_sequences_agree(rt: HostRuntime) {
     in_both(&rt, rt.alloc(), ROWS);
+}
+
+#[test]
+fn drawn_sequences_agree_with_ideal_sums(rt: HostRuntime) {
     ideal(&rt, rt.alloc(), IDEAL);
+}
+
+#[test]
+fn drawn_sequences_agree_with_sums_of_32_bits(rt: HostRuntime) {
     int32(&rt, rt.alloc(), INT32);
 }

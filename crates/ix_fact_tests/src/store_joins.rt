@@ -3,11 +3,11 @@
 use crate::does::Does;
 use crate::paths::{S0, S1, S2, S5, S6, S7};
 use crate::stores::Step::{Ask, Assume, Back, Below, Do, Empty, Facts, Has, Join, Keep, Know, New};
-use ix_core::Fact::{LenRng, Less, Low, Rng, Same, Search, Sum, Upper};
 use crate::stores::{Question, Step, in_both};
+use ix_core::Fact::{LenRng, Less, Low, Rng, Same, Search, Sum, Upper};
 use ix_core::{PathClaim, PathOff};
 
-/// In both profiles.
+/// Rows of both profiles.
 #[rattlefmt::skip]
 const ROWS: &[Step] = &[
     New, Do(Does::Int(0, 1)), Keep, Do(Does::Int(0, 5)), Join(0), Facts(2), Has(Low(S0, 1)), Has(Rng(S0, 1, 5)),

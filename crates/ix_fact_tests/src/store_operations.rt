@@ -3,12 +3,12 @@
 use crate::does::{Does, Holds};
 use crate::paths::{S0, S1, S2, S3, S4, S5, S6};
 use crate::stores::Step::{Ask, Assume, Do, Facts, Has, Know, New};
-use ix_core::Fact::{IsLen, LenRng, Less, Low, Neg, Rng, Same, Search, Sum, Upper};
 use crate::stores::{Question, Step, ideal, in_both, int32};
+use ix_core::Fact::{IsLen, LenRng, Less, Low, Neg, Rng, Same, Search, Sum, Upper};
 use ix_core::{Claim, PathClaim, PathOff, UnaryNum};
 use ix_num::Arith;
 
-/// In both profiles.
+/// Rows of both profiles.
 #[rattlefmt::skip]
 const ROWS: &[Step] = &[
     New, Do(Does::Int(0, 7)), Facts(2), Has(Low(S0, 1)), Has(Rng(S0, 7, 7)),
@@ -61,7 +61,7 @@ const ROWS: &[Step] = &[
     New, Know(Upper(S0, S5, PathOff::Nothing, 2)), Know(Upper(S3, S5, PathOff::Plus(S4), 1)), Do(Does::Length(1, 5)), Facts(7), Has(IsLen(S1, S5)), Has(Less(S0, S1, -2)), Has(Low(S1, 0)), Has(Rng(S1, 0, 2147483647)), Has(Same(S5, S5)), Has(Upper(S0, S5, PathOff::Nothing, 2)), Has(Upper(S3, S5, PathOff::Plus(S4), 1)),
 ];
 
-/// With ideal sums.
+/// Rows with ideal sums.
 #[rattlefmt::skip]
 const IDEAL: &[Step] = &[
     New, Assume(S0, PathClaim::Low(0)), Do(Does::Num(1, Arith::Add, 0, 0)), Facts(5), Has(Less(S0, S1, 1)), Has(Low(S0, 0)), Has(Low(S1, 0)), Has(Rng(S0, 0, 2147483647)), Has(Sum(S1, S0, S0)),
@@ -70,7 +70,7 @@ const IDEAL: &[Step] = &[
     New, Assume(S0, PathClaim::Low(0)), Do(Does::Int(1, 1)), Do(Does::Num(2, Arith::Add, 0, 1)), Facts(9), Has(Less(S0, S2, 0)), Has(Less(S1, S2, 1)), Has(Less(S2, S0, 2)), Has(Low(S0, 0)), Has(Low(S1, 1)), Has(Low(S2, 1)), Has(Rng(S0, 0, 2147483647)), Has(Rng(S1, 1, 1)), Has(Sum(S2, S0, S1)),
 ];
 
-/// The same steps with sums of 32 bits.
+/// The same rows with sums of 32 bits.
 #[rattlefmt::skip]
 const INT32: &[Step] = &[
     New, Assume(S0, PathClaim::Low(0)), Do(Does::Num(1, Arith::Add, 0, 0)), Facts(2), Has(Low(S0, 0)), Has(Rng(S0, 0, 2147483647)),
@@ -82,6 +82,14 @@ const INT32: &[Step] = &[
 #[test]
 fn operations_agree(rt: HostRuntime) {
     in_both(&rt, rt.alloc(), ROWS);
+}
+
+#[test]
+fn operations_agree_with_ideal_sums(rt: HostRuntime) {
     ideal(&rt, rt.alloc(), IDEAL);
+}
+
+#[test]
+fn operations_agree_with_sums_of_32_bits(rt: HostRuntime) {
     int32(&rt, rt.alloc(), INT32);
 }

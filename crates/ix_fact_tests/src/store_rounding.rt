@@ -3,11 +3,11 @@
 use crate::does::{Does, Holds};
 use crate::paths::{S0, S1, S1F9, S2, S3, S3F0, S5, S6, S7};
 use crate::stores::Step::{Ask, Assume, Do, Facts, Has, Know, New, Round};
-use ix_core::Fact::{IsLen, LenRng, Less, Low, Neg, Rng, Same, Search, Sum, Upper};
 use crate::stores::{Question, Step, in_both};
+use ix_core::Fact::{IsLen, LenRng, Less, Low, Neg, Rng, Same, Search, Sum, Upper};
 use ix_core::{PathClaim, PathOff};
 
-/// In both profiles.
+/// Rows of both profiles.
 #[rattlefmt::skip]
 const ROWS: &[Step] = &[
     New, Do(Does::Int(0, 7)), Round(2, &[-2147483648, -1, 0, 1, 2147483647]), Facts(2), Has(Low(S0, 1)), Has(Rng(S0, 1, 2147483647)),

@@ -2,13 +2,16 @@
 
 use crate::does::{Does, Holds};
 use crate::paths::{S0, S0F0, S1, S5};
-use crate::stores::Step::{Assume, Back, Below, Copied, Do, Facts, Field, Forget, Has, If, Join, Keep, Know, New, Nowhere, Round, Unreachable};
-use ix_core::Fact::{LenRng, Less, Low, Rng};
+use crate::stores::Step::{
+    Assume, Back, Below, Copied, Do, Facts, Field, Forget, Has, If, Join, Keep, Know, New, Nowhere,
+    Round, Unreachable,
+};
 use crate::stores::{Step, in_both};
+use ix_core::Fact::{LenRng, Less, Low, Rng};
 use ix_core::PathClaim;
 use ix_num::Rel;
 
-/// In both profiles.
+/// Rows of both profiles.
 #[rattlefmt::skip]
 const ROWS: &[Step] = &[
     New, Know(Rng(S0, 0, 3)), Keep, Do(Does::Int(0, 7)), Back(0), Facts(2), Has(Low(S0, 0)), Has(Rng(S0, 0, 3)),

@@ -3,12 +3,12 @@
 use crate::does::Does;
 use crate::paths::{S0, S1, S2, S3, S4, S5};
 use crate::stores::Step::{Ask, Assume, Do, Facts, Has, Know, New, Nowhere};
-use ix_core::Fact::{IsLen, LenRng, Less, Low, Neg, Rng, Same, Search, Sum, Upper};
 use crate::stores::{Question, Step, ideal, in_both, int32};
+use ix_core::Fact::{IsLen, LenRng, Less, Low, Neg, Rng, Same, Search, Sum, Upper};
 use ix_core::{PathClaim, PathOff, UnaryNum};
 use ix_num::Arith;
 
-/// In both profiles.
+/// Rows of both profiles.
 #[rattlefmt::skip]
 const ROWS: &[Step] = &[
     New, Know(Upper(S0, S5, PathOff::Plus(S1), 3)), Know(LenRng(S5, 0, 20)), Assume(S0, PathClaim::Low(0)), Assume(S1, PathClaim::Low(0)), Do(Does::Num(2, Arith::Add, 0, 1)), Facts(14), Has(LenRng(S5, 0, 20)), Has(Less(S0, S2, 1)), Has(Less(S1, S2, 1)), Has(Low(S0, 0)), Has(Low(S1, 0)), Has(Low(S2, 0)), Has(Rng(S0, 0, 2147483647)), Has(Rng(S1, 0, 2147483647)), Has(Rng(S2, 0, 16)), Has(Sum(S2, S0, S1)), Has(Upper(S0, S5, PathOff::Plus(S1), 3)), Has(Upper(S2, S5, PathOff::Minus(S0), 3)), Has(Upper(S2, S5, PathOff::Minus(S1), 3)), Has(Upper(S2, S5, PathOff::Nothing, 3)),
@@ -50,7 +50,7 @@ const ROWS: &[Step] = &[
     New, Assume(S0, PathClaim::Range(3, 9)), Assume(S1, PathClaim::Low(0)), Do(Does::Num(2, Arith::Sub, 0, 1)), Do(Does::Int(3, 4)), Facts(9), Has(Less(S2, S0, 1)), Has(Low(S0, 1)), Has(Low(S1, 0)), Has(Low(S3, 1)), Has(Rng(S0, 3, 9)), Has(Rng(S1, 0, 2147483647)), Has(Rng(S2, -2147483644, 9)), Has(Rng(S3, 4, 4)), Has(Sum(S0, S1, S2)),
 ];
 
-/// With ideal sums.
+/// Rows with ideal sums.
 #[rattlefmt::skip]
 const IDEAL: &[Step] = &[
     New, Know(Upper(S0, S5, PathOff::Plus(S1), 3)), Know(LenRng(S5, 0, 20)), Do(Does::Num(2, Arith::Add, 0, 1)), Facts(6), Has(LenRng(S5, 0, 20)), Has(Sum(S2, S0, S1)), Has(Upper(S0, S5, PathOff::Plus(S1), 3)), Has(Upper(S2, S5, PathOff::Minus(S0), -2147483645)), Has(Upper(S2, S5, PathOff::Minus(S1), -2147483645)), Has(Upper(S2, S5, PathOff::Nothing, 3)),
@@ -68,7 +68,7 @@ const IDEAL: &[Step] = &[
     New, Know(Rng(S3, -5, 0)), Assume(S0, PathClaim::Low(1)), Assume(S1, PathClaim::Low(1)), Do(Does::Num(2, Arith::Add, 0, 1)), Facts(10), Has(Less(S0, S2, 0)), Has(Less(S1, S2, 0)), Has(Less(S3, S2, 0)), Has(Low(S0, 1)), Has(Low(S1, 1)), Has(Low(S2, 1)), Has(Rng(S0, 1, 2147483647)), Has(Rng(S1, 1, 2147483647)), Has(Rng(S3, -5, 0)), Has(Sum(S2, S0, S1)),
 ];
 
-/// The same steps with sums of 32 bits.
+/// The same rows with sums of 32 bits.
 #[rattlefmt::skip]
 const INT32: &[Step] = &[
     New, Know(Upper(S0, S5, PathOff::Plus(S1), 3)), Know(LenRng(S5, 0, 20)), Do(Does::Num(2, Arith::Add, 0, 1)), Facts(2), Has(LenRng(S5, 0, 20)), Has(Upper(S0, S5, PathOff::Plus(S1), 3)),
@@ -89,6 +89,14 @@ const INT32: &[Step] = &[
 #[test]
 fn sums_agree(rt: HostRuntime) {
     in_both(&rt, rt.alloc(), ROWS);
+}
+
+#[test]
+fn sums_agree_with_ideal_sums(rt: HostRuntime) {
     ideal(&rt, rt.alloc(), IDEAL);
+}
+
+#[test]
+fn sums_agree_with_sums_of_32_bits(rt: HostRuntime) {
     int32(&rt, rt.alloc(), INT32);
 }

@@ -2,13 +2,16 @@
 
 use crate::does::{Does, Holds};
 use crate::paths::{S0, S1, S2, S5, S6, S9F0};
-use crate::stores::Step::{Ask, Assume, Back, Below, Call, Copied, Do, Empty, Facts, Field, Forget, Has, If, Join, Keep, Know, New, Nowhere, Parent, Proves, Round, Unreachable};
-use ix_core::Fact::{LenRng, Low, Rng};
+use crate::stores::Step::{
+    Ask, Assume, Back, Below, Call, Copied, Do, Empty, Facts, Field, Forget, Has, If, Join, Keep,
+    Know, New, Nowhere, Parent, Proves, Round, Unreachable,
+};
 use crate::stores::{Question, Step, in_both};
+use ix_core::Fact::{LenRng, Low, Rng};
 use ix_core::{PathClaim, PathOff};
 use ix_num::{Arith, Rel};
 
-/// In both profiles.
+/// Rows of both profiles.
 #[rattlefmt::skip]
 const ROWS: &[Step] = &[
     New, Unreachable, Ask(Question::Count(0, 0, 0)), Ask(Question::Lo(S0, -2147483648)), Ask(Question::Hi(S0, 2147483647)), Nowhere,

@@ -91,12 +91,7 @@ struct Walk {
     kept: Vec<Store>,
 }
 
-fn known<R: Abort>(
-    rt: &R,
-    alloc: Global,
-    store: &Store,
-    fact: Fact,
-) -> Result<Store, AllocError> {
+fn known<R: Abort>(rt: &R, alloc: Global, store: &Store, fact: Fact) -> Result<Store, AllocError> {
     let facts = small_facts(rt, alloc, &[fact])?;
     store.add(alloc, &facts)
 }
@@ -126,12 +121,7 @@ fn test_of(alloc: Global, left: u32, rel: Rel, right: u32, holds: Holds) -> Test
     }
 }
 
-fn tested(
-    alloc: Global,
-    store: &Store,
-    test: &Test,
-    answer: bool,
-) -> Result<Store, AllocError> {
+fn tested(alloc: Global, store: &Store, test: &Test, answer: bool) -> Result<Store, AllocError> {
     let (holds, fails) = branch_test(alloc, store, test)?;
     if answer { Ok(holds) } else { Ok(fails) }
 }
@@ -208,7 +198,12 @@ fn behind<R: Abort>(
             tested(alloc, store, &test_of(alloc, left, rel, right, holds), true)
         }
         Step::Unless(left, rel, right, holds) => {
-            tested(alloc, store, &test_of(alloc, left, rel, right, holds), false)
+            tested(
+                alloc,
+                store,
+                &test_of(alloc, left, rel, right, holds),
+                false,
+            )
         }
         Step::Round(scope, marks) => rounded(alloc, store, scope, marks),
         Step::Forget(path) => store.forget(alloc, &path),

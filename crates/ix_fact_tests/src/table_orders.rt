@@ -2,8 +2,8 @@
 
 use crate::paths::{S0, S1, S5, S6, S9F0};
 use crate::tables::Step::{Below, Facts, Has, Join, Known, New, Other};
-use ix_core::Fact::{IsLen, LenRng, Less, Low, Neg, Rng, Same, Search, Sum, Upper};
 use crate::tables::{Step, agree};
+use ix_core::Fact::{IsLen, LenRng, Less, Low, Neg, Rng, Same, Search, Sum, Upper};
 use ix_core::PathOff;
 
 /// Two lists of facts, and the joins of their six tables.

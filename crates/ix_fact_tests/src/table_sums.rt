@@ -3,8 +3,8 @@
 use crate::does::Does;
 use crate::paths::{S0, S1, S2, S3, S3F0, S5, S6, S9F0, S9F1};
 use crate::tables::Step::{After, Facts, Has, Known, New};
-use ix_core::Fact::{IsLen, LenRng, Less, Low, Neg, Rng, Same, Search, Sum, Upper};
 use crate::tables::{Step, agree};
+use ix_core::Fact::{IsLen, LenRng, Less, Low, Neg, Rng, Same, Search, Sum, Upper};
 use ix_core::{PathOff, Profile};
 use ix_num::Arith;
 

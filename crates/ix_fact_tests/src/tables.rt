@@ -191,11 +191,7 @@ fn all_told<R: Abort>(
     Ok(true)
 }
 
-fn is_below<R: Abort, K: OneKind>(
-    rt: &R,
-    alloc: Global,
-    walk: &Walk,
-) -> Result<bool, AllocError> {
+fn is_below<R: Abort, K: OneKind>(rt: &R, alloc: Global, walk: &Walk) -> Result<bool, AllocError> {
     let first = table::<R, K>(rt, alloc, &walk.known)?;
     let second = table::<R, K>(rt, alloc, &walk.others)?;
     Ok(first.leq(&second))
@@ -255,12 +251,7 @@ fn checksum(facts: &[Fact]) -> i64 {
 }
 
 /// Takes a step: whether it is as it says.
-fn take<R: Abort>(
-    rt: &R,
-    alloc: Global,
-    walk: &mut Walk,
-    step: &Step,
-) -> Result<bool, AllocError> {
+fn take<R: Abort>(rt: &R, alloc: Global, walk: &mut Walk, step: &Step) -> Result<bool, AllocError> {
     match *step {
         Step::New => Ok(begun(walk)),
         Step::Known(fact) => added_to(&mut walk.known, &fact),
