@@ -1,17 +1,14 @@
 //! Rows of what operations and claims give, and of what is proved, over a plain list of facts.
 
-ghost use Rattle.std.specs.Prelude.{All, IfOk};
-ghost use Rattle.ix_facts.specs.Small.{HasSmallNumbers};
-
 use crate::does::{Does, operation};
 use crate::known::small_facts;
 use crate::said::says_all;
 use ix_after::{facts_after, push_claim};
 use ix_claims::is_proved;
-use ix_core::{Fact, Path, PathClaim, Profile};
+use ix_core::{Fact, OpKind, Path, PathClaim, Profile};
 use ix_fact_list::FactList;
 use ix_fact_paths::facts_without_target;
-use std::alloc::{AllocError, Global};
+use std::alloc::Global;
 use std::process::Abort;
 
 /// A step of a row.
@@ -41,75 +38,77 @@ struct Walk {
     wanted: Vec<Fact>,
 }
 
-fn begun(walk: &mut Walk) {
+fn begin(walk: &mut Walk) -> bool {
     walk.before.clear();
     walk.beside.clear();
     walk.wanted.clear();
+    true
+}
+
+fn add_to<R: Abort>(rt: &R, facts: &mut Vec<Fact>, fact: &Fact) -> bool {
+    facts.push(*fact).expect(rt, "memory");
+    true
 }
 
 /// A fact that is known, and that should be known.
-fn add_known(walk: &mut Walk, fact: &Fact) -> Result<bool, AllocError> {
-    walk.before.push(*fact)?;
-    walk.beside.push(*fact)?;
-    walk.wanted.push(*fact)?;
-    Ok(true)
+fn add_known<R: Abort>(rt: &R, walk: &mut Walk, fact: &Fact) -> bool {
+    add_to(rt, &mut walk.before, fact)
+        && add_to(rt, &mut walk.beside, fact)
+        && add_to(rt, &mut walk.wanted, fact)
 }
 
-fn list<R: Abort>(rt: &R, alloc: Global, facts: &[Fact]) -> Result<FactList, AllocError> {
-    FactList::new(alloc, small_facts(rt, alloc, facts)?)
+fn list<R: Abort>(rt: &R, alloc: Global, facts: &[Fact]) -> FactList {
+    let small = small_facts(rt, alloc, facts).expect(rt, "memory");
+    FactList::new(alloc, small).expect(rt, "memory")
 }
 
-fn operated<R: Abort>(
+fn new_facts<R: Abort>(
+    rt: &R,
+    alloc: Global,
+    beside: &[Fact],
+    profile: Profile,
+    kind: &OpKind,
+) -> Vec<Fact> {
+    let know = list(rt, alloc, beside);
+    facts_after(alloc, &know, profile, kind).expect(rt, "memory")
+}
+
+fn operate<R: Abort>(
     rt: &R,
     alloc: Global,
     walk: &mut Walk,
     profile: Profile,
-    does: Does,
-) -> Result<bool, AllocError> {
-    let kind = operation(alloc, does)?;
-    walk.beside = facts_without_target(alloc, &walk.before, &kind)?;
-    let know = list(rt, alloc, &walk.beside)?;
-    let new = facts_after(alloc, &know, profile, &kind)?;
-    walk.beside.extend_from_slice(&new)?;
-    Ok(true)
+    kind: &OpKind,
+) -> bool {
+    walk.beside = facts_without_target(alloc, &walk.before, kind).expect(rt, "memory");
+    let new = new_facts(rt, alloc, &walk.beside, profile, kind);
+    walk.beside.extend_from_slice(&new).expect(rt, "memory");
+    true
 }
 
-fn claimed(walk: &mut Walk, p: &Path, claim: &PathClaim) -> Result<bool, AllocError> {
-    push_claim(&mut walk.beside, claim, p)?;
-    Ok(true)
+fn claim_all<R: Abort>(rt: &R, walk: &mut Walk, p: &Path, claim: &PathClaim) -> bool {
+    push_claim(&mut walk.beside, claim, p).expect(rt, "memory");
+    true
 }
 
-fn is_so<R: Abort>(
-    rt: &R,
-    alloc: Global,
-    walk: &Walk,
-    p: &Path,
-    claim: &PathClaim,
-) -> Result<bool, AllocError> {
-    let know = list(rt, alloc, &walk.before)?;
-    Ok(is_proved(&know, claim, p))
-}
-
-fn wants(walk: &mut Walk, fact: &Fact) -> Result<bool, AllocError> {
-    walk.wanted.push(*fact)?;
-    Ok(true)
+fn is_so<R: Abort>(rt: &R, alloc: Global, facts: &[Fact], p: &Path, claim: &PathClaim) -> bool {
+    let know = list(rt, alloc, facts);
+    is_proved(&know, claim, p)
 }
 
 /// Takes a step: whether it is as it says.
-fn take<R: Abort>(rt: &R, alloc: Global, walk: &mut Walk, step: &Step) -> Result<bool, AllocError> {
+fn take<R: Abort>(rt: &R, alloc: Global, walk: &mut Walk, step: &Step) -> bool {
     match *step {
-        Step::New => {
-            begun(walk);
-            Ok(true)
+        Step::New => begin(walk),
+        Step::Known(fact) => add_known(rt, walk, &fact),
+        Step::After(profile, does) => {
+            let kind = operation(alloc, does).expect(rt, "memory");
+            operate(rt, alloc, walk, profile, &kind)
         }
-        Step::Known(fact) => add_known(walk, &fact),
-        Step::After(profile, does) => operated(rt, alloc, walk, profile, does),
-        Step::Claimed(p, claim) => claimed(walk, &p, &claim),
-        Step::Has(fact) => wants(walk, &fact),
-        Step::End => {
-            Ok(says_all(&walk.beside, &walk.wanted) && says_all(&walk.wanted, &walk.beside))
-        }
-        Step::Proves(p, claim, proved) => Ok(is_so(rt, alloc, walk, &p, &claim)? == proved),
+        Step::Claimed(p, claim) => claim_all(rt, walk, &p, &claim),
+        Step::Has(fact) => add_to(rt, &mut walk.wanted, &fact),
+        Step::End => says_all(&walk.beside, &walk.wanted) && says_all(&walk.wanted, &walk.beside),
+        Step::Proves(p, claim, proved) => is_so(rt, alloc, &walk.before, &p, &claim) == proved,
     }
 }
 
@@ -125,7 +124,6 @@ pub fn agree<R: Abort>(rt: &R, alloc: Global, steps: &[Step]) {
         if let Step::New = step {
             row = row.saturating_add(1);
         }
-        let agrees = take(rt, alloc, &mut walk, step).expect(rt, "memory");
-        assert!(rt; agrees, "row {row}");
+        assert!(rt; take(rt, alloc, &mut walk, step), "row {row}");
     }
 }

@@ -135,17 +135,17 @@ pub fn landmarks<R: Abort>(
     second: i32,
     third: i32,
     fourth: i32,
-) -> Result<Landmarks, AllocError>
-    ensures { IfOk result (λ marks. Rises marks.ints) }
+) -> Landmarks
+    ensures { Rises result.ints }
 {
     assert!(rt;
         first < second && second < third && third < fourth,
         "landmarks don't rise"
     );
     let mut ints = List::new(alloc);
-    ints.push(first)?;
-    ints.push(second)?;
-    ints.push(third)?;
-    ints.push(fourth)?;
-    Ok(Landmarks { ints })
+    ints.push(first).expect(rt, "memory");
+    ints.push(second).expect(rt, "memory");
+    ints.push(third).expect(rt, "memory");
+    ints.push(fourth).expect(rt, "memory");
+    Landmarks { ints }
 }

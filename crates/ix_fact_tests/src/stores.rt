@@ -1,8 +1,5 @@
 //! Rows of stores: steps from store to store, with what is known behind them.
 
-ghost use Rattle.std.specs.Prelude.{IfOk};
-ghost use Rattle.ix_facts.specs.Systems.{HaveClasses};
-
 use crate::does::{Does, Holds, operation, type_of};
 use crate::known::small_facts;
 use crate::said::is_among;
@@ -92,7 +89,7 @@ struct Walk {
 }
 
 fn known<R: Abort>(rt: &R, alloc: Global, store: &Store, fact: Fact) -> Result<Store, AllocError> {
-    let facts = small_facts(rt, alloc, &[fact])?;
+    let facts = small_facts(rt, alloc, &[fact]).expect(rt, "memory");
     store.add(alloc, &facts)
 }
 
@@ -254,34 +251,34 @@ fn is_so<K: Know>(know: &K, question: &Question) -> bool {
     }
 }
 
-fn begun(alloc: Global, walk: &mut Walk) -> Result<bool, AllocError> {
-    walk.store = Store::empty(alloc)?;
+fn begin<R: Abort>(rt: &R, alloc: Global, walk: &mut Walk) -> bool {
+    walk.store = Store::empty(alloc).expect(rt, "memory");
     walk.kept.clear();
-    Ok(true)
+    true
 }
 
-fn keep(walk: &mut Walk) -> Result<bool, AllocError> {
-    let store = walk.store.share()?;
-    walk.kept.push(store)?;
-    Ok(true)
+fn keep<R: Abort>(rt: &R, walk: &mut Walk) -> bool {
+    let store = walk.store.share().expect(rt, "memory");
+    walk.kept.push(store).expect(rt, "memory");
+    true
 }
 
-fn back(walk: &mut Walk, k: usize) -> Result<bool, AllocError> {
+fn go_back<R: Abort>(rt: &R, walk: &mut Walk, k: usize) -> bool {
     match walk.kept.get(k) {
-        None => Ok(false),
+        None => false,
         Some(kept) => {
-            walk.store = kept.share()?;
-            Ok(true)
+            walk.store = kept.share().expect(rt, "memory");
+            true
         }
     }
 }
 
-fn join(alloc: Global, walk: &mut Walk, k: usize) -> Result<bool, AllocError> {
+fn join<R: Abort>(rt: &R, alloc: Global, walk: &mut Walk, k: usize) -> bool {
     match walk.kept.get(k) {
-        None => Ok(false),
+        None => false,
         Some(kept) => {
-            walk.store = walk.store.join(alloc, kept)?;
-            Ok(true)
+            walk.store = walk.store.join(alloc, kept).expect(rt, "memory");
+            true
         }
     }
 }
@@ -294,47 +291,35 @@ fn is_below(walk: &Walk, k: usize, answer: bool) -> bool {
 }
 
 /// Lists the facts: whether there are so many, or, where none are asked for, whether no state is.
-fn listed(alloc: Global, walk: &mut Walk, count: Option<usize>) -> Result<bool, AllocError> {
-    match walk.store.facts(alloc)? {
-        None => Ok(count.is_none()),
+fn list<R: Abort>(rt: &R, alloc: Global, walk: &mut Walk, count: Option<usize>) -> bool {
+    match walk.store.facts(alloc).expect(rt, "memory") {
+        None => count.is_none(),
         Some(facts) => {
             walk.facts = facts;
-            Ok(count == Some(walk.facts.len()))
+            count == Some(walk.facts.len())
         }
     }
 }
 
-fn went<R: Abort>(
-    rt: &R,
-    alloc: Global,
-    walk: &mut Walk,
-    profile: Profile,
-    step: &Step,
-) -> Result<bool, AllocError> {
-    walk.store = behind(rt, alloc, &walk.store, profile, step)?;
-    Ok(true)
+fn go<R: Abort>(rt: &R, alloc: Global, walk: &mut Walk, profile: Profile, step: &Step) -> bool {
+    walk.store = behind(rt, alloc, &walk.store, profile, step).expect(rt, "memory");
+    true
 }
 
 /// Takes a step: whether it is as it says.
-fn take<R: Abort>(
-    rt: &R,
-    alloc: Global,
-    walk: &mut Walk,
-    profile: Profile,
-    step: &Step,
-) -> Result<bool, AllocError> {
+fn take<R: Abort>(rt: &R, alloc: Global, walk: &mut Walk, profile: Profile, step: &Step) -> bool {
     match *step {
-        Step::New => begun(alloc, walk),
-        Step::Keep => keep(walk),
-        Step::Back(k) => back(walk, k),
-        Step::Join(k) => join(alloc, walk, k),
-        Step::Below(k, answer) => Ok(is_below(walk, k, answer)),
-        Step::Proves(p, claim, answer) => Ok(walk.store.proves(&claim, &p) == answer),
-        Step::Ask(question) => Ok(is_so(&walk.store, &question)),
-        Step::Nowhere => listed(alloc, walk, None),
-        Step::Facts(count) => listed(alloc, walk, Some(count)),
-        Step::Has(fact) => Ok(is_among(&fact, &walk.facts)),
-        _ => went(rt, alloc, walk, profile, step),
+        Step::New => begin(rt, alloc, walk),
+        Step::Keep => keep(rt, walk),
+        Step::Back(k) => go_back(rt, walk, k),
+        Step::Join(k) => join(rt, alloc, walk, k),
+        Step::Below(k, answer) => is_below(walk, k, answer),
+        Step::Proves(p, claim, answer) => walk.store.proves(&claim, &p) == answer,
+        Step::Ask(question) => is_so(&walk.store, &question),
+        Step::Nowhere => list(rt, alloc, walk, None),
+        Step::Facts(count) => list(rt, alloc, walk, Some(count)),
+        Step::Has(fact) => is_among(&fact, &walk.facts),
+        _ => go(rt, alloc, walk, profile, step),
     }
 }
 
@@ -349,8 +334,7 @@ fn agree<R: Abort>(rt: &R, alloc: Global, profile: Profile, steps: &[Step]) {
         if let Step::New = step {
             row = row.saturating_add(1);
         }
-        let agrees = take(rt, alloc, &mut walk, profile, step).expect(rt, "memory");
-        assert!(rt; agrees, "row {row}");
+        assert!(rt; take(rt, alloc, &mut walk, profile, step), "row {row}");
     }
 }
 

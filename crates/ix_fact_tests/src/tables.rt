@@ -4,7 +4,7 @@ use crate::does::{Does, Holds, operation, type_of};
 use crate::drawn::{drawn_facts, with_fact};
 use crate::known::{is_proper, known_beside_path, known_beside_target, landmarks, small_facts};
 use crate::said::is_fact;
-use ix_core::{Fact, List, Op, Path, Profile};
+use ix_core::{Fact, List, Op, OpKind, Path, Profile};
 use ix_facts::System;
 use ix_lattice::Lattice;
 use ix_systems::{Bounds, Differences, FactsOf, Lengths, Lows, OneKind, Ranges, Searches};
@@ -58,13 +58,9 @@ struct Walk {
     seen: usize,
 }
 
-fn table<R: Abort, K: OneKind>(
-    rt: &R,
-    alloc: Global,
-    facts: &[Fact],
-) -> Result<FactsOf<K>, AllocError> {
-    let small = small_facts(rt, alloc, facts)?;
-    FactsOf::of_facts(alloc, &small)
+fn table<R: Abort, K: OneKind>(rt: &R, alloc: Global, facts: &[Fact]) -> FactsOf<K> {
+    let small = small_facts(rt, alloc, facts).expect(rt, "memory");
+    FactsOf::of_facts(alloc, &small).expect(rt, "memory")
 }
 
 fn added<R: Abort, K: OneKind>(
@@ -77,26 +73,13 @@ fn added<R: Abort, K: OneKind>(
     table.add(alloc, fact)
 }
 
-fn rounded<R: Abort, K: OneKind>(
-    rt: &R,
-    alloc: Global,
-    table: &FactsOf<K>,
-    first: i32,
-    second: i32,
-    third: i32,
-    fourth: i32,
-) -> Result<FactsOf<K>, AllocError> {
-    let marks = landmarks(rt, alloc, first, second, third, fourth)?;
-    table.round(alloc, &marks)
-}
-
 fn joined<R: Abort, K: OneKind>(
     rt: &R,
     alloc: Global,
     first: &FactsOf<K>,
     others: &[Fact],
 ) -> Result<FactsOf<K>, AllocError> {
-    let second = table::<R, K>(rt, alloc, others)?;
+    let second = table::<R, K>(rt, alloc, others);
     first.join(alloc, &second)
 }
 
@@ -109,18 +92,17 @@ fn copied<R: Abort, K: OneKind>(
     source: &Path,
     holds: Holds,
 ) -> Result<FactsOf<K>, AllocError> {
-    let know = known_beside_path(rt, alloc, table, known, target)?;
+    let know = known_beside_path(rt, alloc, table, known, target).expect(rt, "memory");
     let ty = type_of(alloc, holds);
     table.copy(alloc, target, source, &ty, &know, Profile::Int32)
 }
 
-fn an_op(alloc: Global, does: Does) -> Result<Op, AllocError> {
-    let kind = operation(alloc, does)?;
-    Ok(Op {
+fn op_of(alloc: Global, kind: OpKind) -> Op {
+    Op {
         kind,
         span: Span { from: 0, to: 0 },
         parts: List::new(alloc),
-    })
+    }
 }
 
 fn operated<R: Abort, K: OneKind>(
@@ -131,8 +113,8 @@ fn operated<R: Abort, K: OneKind>(
     profile: Profile,
     does: Does,
 ) -> Result<FactsOf<K>, AllocError> {
-    let op = an_op(alloc, does)?;
-    let know = known_beside_target(rt, alloc, table, known, &op.kind)?;
+    let op = op_of(alloc, operation(alloc, does).expect(rt, "memory"));
+    let know = known_beside_target(rt, alloc, table, known, &op.kind).expect(rt, "memory");
     table.after(alloc, &op, &know, profile)
 }
 
@@ -147,68 +129,55 @@ fn behind<R: Abort, K: OneKind>(
     match *step {
         Step::Add(fact) => added(rt, alloc, first, &fact),
         Step::Forget(path) => first.forget(alloc, &path),
-        Step::Round(a, b, c, d) => rounded(rt, alloc, first, a, b, c, d),
+        Step::Round(a, b, c, d) => first.round(alloc, &landmarks(rt, alloc, a, b, c, d)),
         Step::Join => joined(rt, alloc, first, &walk.others),
         Step::Copied(target, source, holds) => {
             copied(rt, alloc, first, &walk.known, &target, &source, holds)
         }
         Step::After(profile, does) => operated(rt, alloc, first, &walk.known, profile, does),
-        _ => table(rt, alloc, &walk.known),
+        _ => Ok(table(rt, alloc, &walk.known)),
     }
 }
 
-fn add_facts<S: System>(found: &mut Vec<Fact>, table: &S) -> Result<(), AllocError> {
+fn add_facts<R: Abort, S: System>(rt: &R, found: &mut Vec<Fact>, table: &S) {
     for k in 0..table.facts() {
-        found.push(table.fact(k))?;
+        found.push(table.fact(k)).expect(rt, "memory");
     }
-    Ok(())
 }
 
 /// Adds the facts of one table behind a step.
-fn told<R: Abort, K: OneKind>(
-    rt: &R,
-    alloc: Global,
-    walk: &mut Walk,
-    step: &Step,
-) -> Result<(), AllocError> {
-    let first = table::<R, K>(rt, alloc, &walk.known)?;
-    let after = behind(rt, alloc, &first, walk, step)?;
-    add_facts(&mut walk.found, &after)
+fn tell<R: Abort, K: OneKind>(rt: &R, alloc: Global, walk: &mut Walk, step: &Step) {
+    let first = table::<R, K>(rt, alloc, &walk.known);
+    let after = behind(rt, alloc, &first, walk, step).expect(rt, "memory");
+    add_facts(rt, &mut walk.found, &after);
 }
 
-fn all_told<R: Abort>(
-    rt: &R,
-    alloc: Global,
-    walk: &mut Walk,
-    step: &Step,
-) -> Result<bool, AllocError> {
-    told::<R, Ranges>(rt, alloc, walk, step)?;
-    told::<R, Lows>(rt, alloc, walk, step)?;
-    told::<R, Lengths>(rt, alloc, walk, step)?;
-    told::<R, Differences>(rt, alloc, walk, step)?;
-    told::<R, Searches>(rt, alloc, walk, step)?;
-    told::<R, Bounds>(rt, alloc, walk, step)?;
-    Ok(true)
+fn tell_all<R: Abort>(rt: &R, alloc: Global, walk: &mut Walk, step: &Step) -> bool {
+    tell::<R, Ranges>(rt, alloc, walk, step);
+    tell::<R, Lows>(rt, alloc, walk, step);
+    tell::<R, Lengths>(rt, alloc, walk, step);
+    tell::<R, Differences>(rt, alloc, walk, step);
+    tell::<R, Searches>(rt, alloc, walk, step);
+    tell::<R, Bounds>(rt, alloc, walk, step);
+    true
 }
 
-fn is_below<R: Abort, K: OneKind>(rt: &R, alloc: Global, walk: &Walk) -> Result<bool, AllocError> {
-    let first = table::<R, K>(rt, alloc, &walk.known)?;
-    let second = table::<R, K>(rt, alloc, &walk.others)?;
-    Ok(first.leq(&second))
+fn is_below<R: Abort, K: OneKind>(rt: &R, alloc: Global, walk: &Walk) -> bool {
+    let first = table::<R, K>(rt, alloc, &walk.known);
+    let second = table::<R, K>(rt, alloc, &walk.others);
+    first.leq(&second)
 }
 
-fn are_below<R: Abort>(rt: &R, alloc: Global, walk: &Walk) -> Result<[bool; 6], AllocError> {
-    Ok([
-        is_below::<R, Ranges>(rt, alloc, walk)?,
-        is_below::<R, Lows>(rt, alloc, walk)?,
-        is_below::<R, Lengths>(rt, alloc, walk)?,
-        is_below::<R, Differences>(rt, alloc, walk)?,
-        is_below::<R, Searches>(rt, alloc, walk)?,
-        is_below::<R, Bounds>(rt, alloc, walk)?,
-    ])
+fn are_below<R: Abort>(rt: &R, alloc: Global, walk: &Walk, answers: [bool; 6]) -> bool {
+    is_below::<R, Ranges>(rt, alloc, walk) == answers[0]
+        && is_below::<R, Lows>(rt, alloc, walk) == answers[1]
+        && is_below::<R, Lengths>(rt, alloc, walk) == answers[2]
+        && is_below::<R, Differences>(rt, alloc, walk) == answers[3]
+        && is_below::<R, Searches>(rt, alloc, walk) == answers[4]
+        && is_below::<R, Bounds>(rt, alloc, walk) == answers[5]
 }
 
-fn begun(walk: &mut Walk) -> bool {
+fn begin(walk: &mut Walk) -> bool {
     walk.known.clear();
     walk.others.clear();
     walk.found.clear();
@@ -216,19 +185,14 @@ fn begun(walk: &mut Walk) -> bool {
     true
 }
 
-fn added_to(facts: &mut Vec<Fact>, fact: &Fact) -> Result<bool, AllocError> {
-    facts.push(*fact)?;
-    Ok(true)
+fn add_to<R: Abort>(rt: &R, facts: &mut Vec<Fact>, fact: &Fact) -> bool {
+    facts.push(*fact).expect(rt, "memory");
+    true
 }
 
-fn drawn_to(
-    alloc: Global,
-    facts: &mut Vec<Fact>,
-    start: u32,
-    count: u32,
-) -> Result<bool, AllocError> {
-    *facts = drawn_facts(alloc, start, count)?;
-    Ok(true)
+fn draw_to<R: Abort>(rt: &R, alloc: Global, facts: &mut Vec<Fact>, start: u32, count: u32) -> bool {
+    *facts = drawn_facts(alloc, start, count).expect(rt, "memory");
+    true
 }
 
 /// Whether this is the next fact.
@@ -251,18 +215,18 @@ fn checksum(facts: &[Fact]) -> i64 {
 }
 
 /// Takes a step: whether it is as it says.
-fn take<R: Abort>(rt: &R, alloc: Global, walk: &mut Walk, step: &Step) -> Result<bool, AllocError> {
+fn take<R: Abort>(rt: &R, alloc: Global, walk: &mut Walk, step: &Step) -> bool {
     match *step {
-        Step::New => Ok(begun(walk)),
-        Step::Known(fact) => added_to(&mut walk.known, &fact),
-        Step::Other(fact) => added_to(&mut walk.others, &fact),
-        Step::Drawn(start, count) => drawn_to(alloc, &mut walk.known, start, count),
-        Step::OtherDrawn(start, count) => drawn_to(alloc, &mut walk.others, start, count),
-        Step::Below(answers) => Ok(are_below(rt, alloc, walk)? == answers),
-        Step::Facts(count) => Ok(walk.found.len() == count),
-        Step::Has(fact) => Ok(is_next(walk, &fact)),
-        Step::Checksum(sum) => Ok(checksum(&walk.found) == sum),
-        _ => all_told(rt, alloc, walk, step),
+        Step::New => begin(walk),
+        Step::Known(fact) => add_to(rt, &mut walk.known, &fact),
+        Step::Other(fact) => add_to(rt, &mut walk.others, &fact),
+        Step::Drawn(start, count) => draw_to(rt, alloc, &mut walk.known, start, count),
+        Step::OtherDrawn(start, count) => draw_to(rt, alloc, &mut walk.others, start, count),
+        Step::Below(answers) => are_below(rt, alloc, walk, answers),
+        Step::Facts(count) => walk.found.len() == count,
+        Step::Has(fact) => is_next(walk, &fact),
+        Step::Checksum(sum) => checksum(&walk.found) == sum,
+        _ => tell_all(rt, alloc, walk, step),
     }
 }
 
@@ -279,7 +243,6 @@ pub fn agree<R: Abort>(rt: &R, alloc: Global, steps: &[Step]) {
         if let Step::New = step {
             row = row.saturating_add(1);
         }
-        let agrees = take(rt, alloc, &mut walk, step).expect(rt, "memory");
-        assert!(rt; agrees, "row {row}");
+        assert!(rt; take(rt, alloc, &mut walk, step), "row {row}");
     }
 }
