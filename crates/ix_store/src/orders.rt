@@ -35,10 +35,7 @@ fn trimmed(alloc: Global, facts: Vec<Fact>) -> Result<Vec<Fact>, AllocError>
 }
 
 /// The facts in all their orders as a list, where some have two; none where each has one, so that they are such a list themselves. The only error is want of memory.
-pub(crate) fn orders_beside(
-    alloc: Global,
-    facts: &[Fact],
-) -> Result<Option<Orders>, AllocError>
+pub(crate) fn orders_beside(alloc: Global, facts: &[Fact]) -> Result<Option<Orders>, AllocError>
     ensures { IfOk result (λ turned. ordered_by facts.now turned ≡ in_orders facts.now) }
 {
     if have_one_order(facts) {

@@ -30,7 +30,7 @@ returns-in-None c =
     let rest = rest_of c.args.known.now c.args.fewer in
     let new = c.args.new.items in
     let closed : IsClosedOf (facts_in rest ++ new) (facts_in rest) = subst (λ k. IsClosedOf (facts_in k ++ new) (facts_in k)) c.rest.ensures (at_none _ _ c.in-None.is c.in_ok-grown.ensures.same) in
-    record { store = made_as c.held-2.result (facts_in rest ++ new) (Reached (facts_in rest)) c.held-2.ensures (known_closed rest (facts_in rest ++ new) closed) }
+    record { store = made_as c.held-in-None.result (facts_in rest ++ new) (Reached (facts_in rest)) c.held-in-None.ensures (known_closed rest (facts_in rest ++ new) closed) }
 
 pub of_table-requires-clause-closed : goal.of_table-requires-clause-closed
 of_table-requires-clause-closed c =
