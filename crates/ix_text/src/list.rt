@@ -4,9 +4,17 @@ use std::alloc::{AllocError, AllocFailed, Global};
 use std::marker::Model;
 
 /// A list of values, in which a type may contain itself. A clause sees the list of its elements.
-#[derive(Debug, Drop)]
+#[derive(Debug)]
 pub struct List<T> {
     items: Vec<T>,
+}
+
+impl<T: Drop> Drop for List<T> {
+    fn drop(self) {
+        match self {
+            List { items } => drop(items),
+        }
+    }
 }
 
 impl<T> Model for List<T> {

@@ -4,9 +4,16 @@ use std::alloc::{AllocError, Global};
 use std::marker::Model;
 
 /// A text that is owned. A clause sees the list of its bytes, which are UTF-8.
-#[derive(Drop)]
 pub struct Text {
     bytes: String,
+}
+
+impl Drop for Text {
+    fn drop(self) {
+        match self {
+            Text { bytes } => drop(bytes),
+        }
+    }
 }
 
 impl Model for Text {
