@@ -8,7 +8,9 @@ ghost use Rattle.ix_fact_paths.specs.Spared.{some_named};
 ghost use Rattle.ix_changes.specs.ChangedPaths.{is_spared, is_final, is_changed};
 
 use ix_core::{Fact, OpKind, Path, PathOff, Program};
-use ix_fact_paths::{assigned_path, is_of_path, is_of_target, names_path, some_name_path};
+use ix_fact_paths::{
+    assigned_path, is_of_path, is_of_target, names_path, room_for, some_name_path,
+};
 use std::alloc::{AllocError, Global};
 
 /// The paths that a step may change.
@@ -167,7 +169,7 @@ pub fn some_name_changed(facts: &[Fact], changed: &Changed) -> bool
 fn beside_path(alloc: Global, facts: &[Fact], path: &Path) -> Result<Vec<Fact>, AllocError>
     ensures { IfOk result (λ kept. kept.items ≡ without (of_path path.now) facts.now) }
 {
-    let mut kept = Vec::with_capacity(alloc, facts.len())?;
+    let mut kept = Vec::with_capacity(alloc, room_for(facts.len()))?;
     for fact in facts {
         if !names_path(path, fact) {
             kept.push(*fact)?;
@@ -179,7 +181,7 @@ fn beside_path(alloc: Global, facts: &[Fact], path: &Path) -> Result<Vec<Fact>, 
 fn beside_many(alloc: Global, facts: &[Fact], changed: &Changed) -> Result<Vec<Fact>, AllocError>
     ensures { IfOk result (λ kept. kept.items ≡ without (is_changed changed.now) facts.now) }
 {
-    let mut kept = Vec::with_capacity(alloc, facts.len())?;
+    let mut kept = Vec::with_capacity(alloc, room_for(facts.len()))?;
     for fact in facts {
         if !names_changed(changed, fact) {
             kept.push(*fact)?;

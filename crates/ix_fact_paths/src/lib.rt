@@ -9,10 +9,12 @@
 mod filters;
 mod forget;
 mod path_order;
+mod room;
 mod spared;
 
 pub use filters::{facts_without_path, facts_without_target, rounded_facts};
 pub use forget::{is_of_path, is_of_target, names_path, names_target};
 pub use ix_facts::is_same_path;
 pub use path_order::{compare_offsets, compare_paths, offset_order_laws, path_order_laws};
+pub use room::room_for;
 pub use spared::{assigned_path, some_name_path, some_name_target};

@@ -10,12 +10,13 @@ use crate::meets::{common, is_as_strong, met};
 use crate::order::compare_facts;
 use crate::rising::is_before;
 use ix_core::Fact;
+use ix_fact_paths::room_for;
 use std::alloc::{AllocError, Global};
 use std::cmp::Ordering;
 
-/// How many facts two lists have together, where that is a number. It is for room alone.
+/// Room for the facts of two lists, where their count is a number. It is for speed alone.
 fn room(first: &[Fact], second: &[Fact]) -> usize {
-    first.len().saturating_add(second.len())
+    room_for(first.len().saturating_add(second.len()))
 }
 
 /// How many facts the shorter list has. It is for room alone.

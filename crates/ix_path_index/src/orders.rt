@@ -5,6 +5,7 @@ ghost use Rattle.std.specs.Vec.{vec_len, vec_capacity};
 ghost use Rattle.ix_fact_paths.specs.Facts.{orders, is_default, in_orders};
 
 use ix_core::{Fact, PathOff};
+use ix_fact_paths::room_for;
 use std::alloc::{AllocError, Global};
 
 /// The fact in its other order, if it has one.
@@ -72,7 +73,7 @@ fn push_orders(ordered: &mut Vec<Fact>, fact: &Fact)
 pub fn in_all_orders(alloc: Global, facts: &[Fact]) -> Result<Vec<Fact>, AllocError>
     ensures { IfOk result (λ ordered. ordered.items ≡ in_orders facts.now) }
 {
-    let mut ordered = Vec::with_capacity(alloc, 2 * facts.len())?;
+    let mut ordered = Vec::with_capacity(alloc, room_for(2 * facts.len()))?;
     for fact in facts {
         if !is_said_of_all(fact) {
             push_orders(&mut ordered, fact);
