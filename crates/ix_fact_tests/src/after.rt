@@ -73,16 +73,15 @@ fn new_facts<R: Abort>(
     facts_after(alloc, &know, profile, kind).expect(rt, "memory")
 }
 
-fn operate<R: Abort>(
-    rt: &R,
-    alloc: Global,
-    walk: &mut Walk,
-    profile: Profile,
-    kind: &OpKind,
-) -> bool {
+fn add_new<R: Abort>(rt: &R, alloc: Global, walk: &mut Walk, profile: Profile, kind: &OpKind) {
     walk.beside = facts_without_target(alloc, &walk.before, kind).expect(rt, "memory");
     let new = new_facts(rt, alloc, &walk.beside, profile, kind);
     walk.beside.extend_from_slice(&new).expect(rt, "memory");
+}
+
+fn operate<R: Abort>(rt: &R, alloc: Global, walk: &mut Walk, profile: Profile, does: Does) -> bool {
+    let kind = operation(alloc, does).expect(rt, "memory");
+    add_new(rt, alloc, walk, profile, &kind);
     true
 }
 
@@ -101,10 +100,7 @@ fn take<R: Abort>(rt: &R, alloc: Global, walk: &mut Walk, step: &Step) -> bool {
     match *step {
         Step::New => begin(walk),
         Step::Known(fact) => add_known(rt, walk, &fact),
-        Step::After(profile, does) => {
-            let kind = operation(alloc, does).expect(rt, "memory");
-            operate(rt, alloc, walk, profile, &kind)
-        }
+        Step::After(profile, does) => operate(rt, alloc, walk, profile, does),
         Step::Claimed(p, claim) => claim_all(rt, walk, &p, &claim),
         Step::Has(fact) => add_to(rt, &mut walk.wanted, &fact),
         Step::End => says_all(&walk.beside, &walk.wanted) && says_all(&walk.wanted, &walk.beside),

@@ -118,9 +118,37 @@ fn test_of(alloc: Global, left: u32, rel: Rel, right: u32, holds: Holds) -> Test
     }
 }
 
-fn tested(alloc: Global, store: &Store, test: &Test, answer: bool) -> Result<Store, AllocError> {
+/// The stores where a test is true and where it is false: one of them.
+fn answered(alloc: Global, store: &Store, test: &Test, answer: bool) -> Result<Store, AllocError> {
     let (holds, fails) = branch_test(alloc, store, test)?;
     if answer { Ok(holds) } else { Ok(fails) }
+}
+
+fn tested(alloc: Global, store: &Store, step: &Step) -> Result<Store, AllocError> {
+    match *step {
+        Step::If(left, rel, right, holds) => {
+            answered(alloc, store, &test_of(alloc, left, rel, right, holds), true)
+        }
+        Step::Unless(left, rel, right, holds) => {
+            answered(
+                alloc,
+                store,
+                &test_of(alloc, left, rel, right, holds),
+                false,
+            )
+        }
+        _ => store.share(),
+    }
+}
+
+fn copied(
+    alloc: Global,
+    store: &Store,
+    target: &Path,
+    source: &Path,
+    holds: Holds,
+) -> Result<Store, AllocError> {
+    store.copy(alloc, target, source, &type_of(alloc, holds))
 }
 
 fn push_field(fields: &mut List<Field>, alloc: Global, is_final: bool) -> Result<(), AllocError> {
@@ -191,24 +219,12 @@ fn behind<R: Abort>(
         Step::Unreachable => Ok(Store::unreachable()),
         Step::Know(fact) => known(rt, alloc, store, fact),
         Step::Assume(p, claim) => store.assume(alloc, &claim, &p),
-        Step::If(left, rel, right, holds) => {
-            tested(alloc, store, &test_of(alloc, left, rel, right, holds), true)
-        }
-        Step::Unless(left, rel, right, holds) => {
-            tested(
-                alloc,
-                store,
-                &test_of(alloc, left, rel, right, holds),
-                false,
-            )
-        }
+        Step::If(_, _, _, _) | Step::Unless(_, _, _, _) => tested(alloc, store, step),
         Step::Round(scope, marks) => rounded(alloc, store, scope, marks),
         Step::Forget(path) => store.forget(alloc, &path),
         Step::Field(field, spared) => store.forget_field(alloc, field, spared),
         Step::Do(does) => operated(alloc, store, profile, does),
-        Step::Copied(target, source, holds) => {
-            store.copy(alloc, &target, &source, &type_of(alloc, holds))
-        }
+        Step::Copied(target, source, holds) => copied(alloc, store, &target, &source, holds),
         _ => behind_call(alloc, store, step),
     }
 }
