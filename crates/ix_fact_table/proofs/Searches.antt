@@ -14,7 +14,7 @@ use Rattle.ix_core.specs.declared.fact.Fact.TheVariants.{Rng, LenRng, Low, Same,
 use Rattle.ix_facts.specs.Facts.{IsIn}
 use Rattle.ix_facts.specs.declared.kind.Kind.TheVariants as kind
 use Rattle.ix_facts.specs.Kinds.{is_of, of_kind}
-use Rattle.ix_fact_table.specs.FactOrder.{AtKey, form, paths_cmp, fact_cmp, comes_before, fact_total, at_key, key_equal, alike_back}
+use Rattle.ix_fact_table.specs.FactOrder.{AtKey, kind_place, kind_cmp, fact_cmp, comes_before, fact_total, at_key, key_equal, alike_back}
 use Rattle.ix_fact_table.specs.Rising.{rises}
 use Rattle.ix_fact_table.specs.RisingLaws.{is_less as less_is, below_each, rises_parts}
 use Rattle.ix_fact_table.specs.Walks.{ArePast}
@@ -102,7 +102,7 @@ behind_last facts f last r at test k d within =
     fact_total.trans (get_or facts k d) last f (subst (λ g. fact_cmp (get_or facts k d) g ≡ Before) end past) less)
     (same_or_less k (length facts - 1) (omega arith))
 
--- ---- the facts of forms before one
+-- ---- the facts of kinds before one
 
 not_after : (first rest : Ordering) → ordering_then first rest ≡ Before → (first ≡ Before) ⊎ (first ≡ Equal)
 not_after Before rest h = inl refl
@@ -110,26 +110,26 @@ not_after Equal rest h = inr refl
 not_after Greater rest h = absurd cc
 
 module _ (n : ℕ) where
-  -- where a fact's form comes before the one of that number, so do the forms of facts before it
-  forms_rise : (f g : Fact) → fact_cmp f g ≡ Before → comes_before n g ≡ true → comes_before n f ≡ true
-  forms_rise f g less h =
+  -- where a fact's kind comes before the one of that place, so do the kinds of facts before it
+  kinds_rise : (f g : Fact) → fact_cmp f g ≡ Before → comes_before n g ≡ true → comes_before n f ≡ true
+  kinds_rise f g less h =
       ⊎_elim
-      (λ first. ap is_lt (nat_cmp_total.trans (form f) (form g) n first (less_is (nat_cmp (form g) n) h)))
-      (λ same. ap is_lt (nat_cmp_total.congr (form f) (form g) n same) ∙ h)
-      (not_after (nat_cmp (form f) (form g)) (paths_cmp f g) less)
+      (λ first. ap is_lt (nat_cmp_total.trans (kind_place f) (kind_place g) n first (less_is (nat_cmp (kind_place g) n) h)))
+      (λ same. ap is_lt (nat_cmp_total.congr (kind_place f) (kind_place g) n same) ∙ h)
+      (not_after (nat_cmp (kind_place f) (kind_place g)) (kind_cmp f g) less)
 
-  parted_by_form : (facts : List Fact) → rises facts ≡ true → IsPartitionedBy (comes_before n) facts
-  parted_by_form facts r i j d from within h =
+  parted_by_kind : (facts : List Fact) → rises facts ≡ true → IsPartitionedBy (comes_before n) facts
+  parted_by_kind facts r i j d from within h =
       ⊎_elim
       (λ same. subst (λ k. comes_before n (get_or facts k d) ≡ true) (sym same) h)
-      (λ less. forms_rise (get_or facts i d) (get_or facts j d) (earlier facts r i j d less within) h)
+      (λ less. kinds_rise (get_or facts i d) (get_or facts j d) (earlier facts r i j d less within) h)
       (same_or_less i j from)
 
   abbrev pub IsFound : List Fact → ℕ → Type 0
   IsFound facts count = IsPartitionedBy (comes_before n) facts → IsPartitionPoint (λ f. comes_before n f ≡ true) (λ f. comes_before n f ≡ false) facts count
 
--- a range has one of the first two forms
-range_is : (f : Fact) → comes_before 2 f ≡ is_of kind.Range f
+-- ranges are the first kind
+range_is : (f : Fact) → comes_before 1 f ≡ is_of kind.Range f
 range_is (Rng p l h) = refl
 range_is (LenRng a l h) = refl
 range_is (Low p c) = refl
@@ -141,12 +141,12 @@ range_is (Search p a) = refl
 range_is (Neg p a) = refl
 range_is (Upper p a o c) = refl
 
-no_ranges : (facts : List Fact) → ((k : ℕ) (d : Fact) → k < length facts → comes_before 2 (get_or facts k d) ≡ false) → of_kind kind.Range facts ≡ []
+no_ranges : (facts : List Fact) → ((k : ℕ) (d : Fact) → k < length facts → comes_before 1 (get_or facts k d) ≡ false) → of_kind kind.Range facts ≡ []
 no_ranges [] none = refl
 no_ranges (f ∷ facts) none = rw (sym (range_is f) ∙ none 0 f (omega arith)) (no_ranges facts (λ k d a. none (suc k) d (omega arith)))
 
-front_ranges : (facts : List Fact) (count : ℕ) → ((k : ℕ) (d : Fact) → k < count → k < length facts → comes_before 2 (get_or facts k d) ≡ true)
-    → ((k : ℕ) (d : Fact) → count ≤ k → k < length facts → comes_before 2 (get_or facts k d) ≡ false) → take count facts ≡ of_kind kind.Range facts
+front_ranges : (facts : List Fact) (count : ℕ) → ((k : ℕ) (d : Fact) → k < count → k < length facts → comes_before 1 (get_or facts k d) ≡ true)
+    → ((k : ℕ) (d : Fact) → count ≤ k → k < length facts → comes_before 1 (get_or facts k d) ≡ false) → take count facts ≡ of_kind kind.Range facts
 front_ranges facts zero all none = sym (no_ranges facts (λ k d a. none k d (omega arith) a))
 front_ranges [] (suc count) all none = refl
 front_ranges (f ∷ facts) (suc count) all none =
@@ -154,22 +154,22 @@ front_ranges (f ∷ facts) (suc count) all none =
     (ap (λ l. f ∷ l) (front_ranges facts count (λ k d a b. all (suc k) d (omega arith) (omega arith)) (λ k d a b. none (suc k) d (omega arith) (omega arith))))
 
 -- the ranges are the front of facts that rise
-pub ranges_are : (facts : List Fact) (count : ℕ) → rises facts ≡ true → count ≤ length facts → IsFound 2 facts count → take count facts ≡ of_kind kind.Range facts
+pub ranges_are : (facts : List Fact) (count : ℕ) → rises facts ≡ true → count ≤ length facts → IsFound 1 facts count → take count facts ≡ of_kind kind.Range facts
 ranges_are facts count r within found =
-    let point = found (parted_by_form 2 facts r) in
+    let point = found (parted_by_kind 1 facts r) in
     front_ranges facts count (λ k d a b. point.0 k d (omega arith) a) (λ k d a b. point.1 k d a b)
 
-past_start : (facts : List Fact) (start : ℕ) (f : Fact) → comes_before 7 f ≡ false → ((k : ℕ) (d : Fact) → k < start → k < length facts → comes_before 7 (get_or facts k d) ≡ true) → IsIn f facts → IsIn f (drop start facts)
+past_start : (facts : List Fact) (start : ℕ) (f : Fact) → comes_before 4 f ≡ false → ((k : ℕ) (d : Fact) → k < start → k < length facts → comes_before 4 (get_or facts k d) ≡ true) → IsIn f facts → IsIn f (drop start facts)
 past_start facts zero f n before i = i
 past_start [] (suc start) f n before i = absurd i
 past_start (g ∷ facts) (suc start) f n before i =
     ⊎_elim
-    (λ e. absurd (false≢true (sym n ∙ (ap (comes_before 7) e ∙ before 0 g (omega arith) (omega arith)))))
+    (λ e. absurd (false≢true (sym n ∙ (ap (comes_before 4) e ∙ before 0 g (omega arith) (omega arith)))))
     (λ j. past_start facts start f n (λ k d a b. before (suc k) d (omega arith) (omega arith)) j)
     i
 
--- the answers of searches stand behind the forms before theirs
-pub searches_are : (facts : List Fact) (start : ℕ) → rises facts ≡ true → start ≤ length facts → IsFound 7 facts start → (p a : Path) → IsIn (Search p a) facts → IsIn (Search p a) (drop start facts)
+-- the answers of searches stand behind the kinds before theirs
+pub searches_are : (facts : List Fact) (start : ℕ) → rises facts ≡ true → start ≤ length facts → IsFound 4 facts start → (p a : Path) → IsIn (Search p a) facts → IsIn (Search p a) (drop start facts)
 searches_are facts start r within found p a i =
-    let point = found (parted_by_form 7 facts r) in
+    let point = found (parted_by_kind 4 facts r) in
     past_start facts start (Search p a) refl (λ k d x y. point.0 k d (omega arith) x) i

@@ -1,5 +1,5 @@
--- The order of facts by their keys: the form and the paths. So the facts of one form stand together, ranges first. Numbers don't count: two facts are equal in
--- this order exactly where they say something of the same, perhaps with other numbers.
+-- The order of facts by their keys: the kind, the first path, the form and the other paths. So the facts of one kind stand together, ranges first. Numbers don't
+-- count: two facts are equal in this order exactly where they say something of the same, perhaps with other numbers.
 use Rattle.std.specs.Prelude.{◌≡◌, ℕ, ℤ, Bool, true, refl}
 use Rattle.std.specs.declared.cmp.Ordering.{Ordering}
 use Rattle.std.specs.declared.cmp.Ordering.TheVariants.{Less as Before, Equal, Greater}
@@ -29,6 +29,19 @@ first_path (Search p a) = p
 first_path (Neg p a) = p
 first_path (Upper p a o c) = p
 
+-- the place of its kind among the kinds
+abbrev pub kind_place : Fact → ℕ
+kind_place (Rng p l h) = 0
+kind_place (LenRng a l h) = 0
+kind_place (Low p c) = 1
+kind_place (Same a b) = 2
+kind_place (IsLen p a) = 2
+kind_place (Less p q c) = 3
+kind_place (Sum t y z) = 3
+kind_place (Search p a) = 4
+kind_place (Neg p a) = 4
+kind_place (Upper p a o c) = 5
+
 abbrev pub form : Fact → ℕ
 form (Rng p l h) = 0
 form (LenRng a l h) = 1
@@ -57,28 +70,29 @@ third (Upper p a o c) = o
 third _ = Nothing
 
 abbrev pub rest_cmp : Fact → Fact → Ordering
-rest_cmp f g = ordering_then (path_cmp (second_path f) (second_path g)) (offset_cmp (third f) (third g))
+rest_cmp f g = ordering_then (nat_cmp (form f) (form g)) (ordering_then (path_cmp (second_path f) (second_path g)) (offset_cmp (third f) (third g)))
 
-abbrev pub paths_cmp : Fact → Fact → Ordering
-paths_cmp f g = ordering_then (path_cmp (first_path f) (first_path g)) (rest_cmp f g)
+-- of facts of one kind
+abbrev pub kind_cmp : Fact → Fact → Ordering
+kind_cmp f g = ordering_then (path_cmp (first_path f) (first_path g)) (rest_cmp f g)
 
 abbrev pub fact_cmp : Fact → Fact → Ordering
-fact_cmp f g = ordering_then (nat_cmp (form f) (form g)) (paths_cmp f g)
+fact_cmp f g = ordering_then (nat_cmp (kind_place f) (kind_place g)) (kind_cmp f g)
 
--- its form stands before the form of this number
+-- its kind stands before the kind of this place
 abbrev pub comes_before : ℕ → Fact → Bool
-comes_before n f = is_lt (nat_cmp (form f) n)
+comes_before n f = is_lt (nat_cmp (kind_place f) n)
 
 -- ---- the order is total
 
 abbrev by_parts : Fact → Fact → Ordering
-by_parts = then_cmp (on form nat_cmp) (then_cmp (on first_path path_cmp) (then_cmp (on second_path path_cmp) (on third offset_cmp)))
+by_parts = then_cmp (on kind_place nat_cmp) (then_cmp (on first_path path_cmp) (then_cmp (on form nat_cmp) (then_cmp (on second_path path_cmp) (on third offset_cmp))))
 
 pub fact_total : IsTotalOrder fact_cmp
 fact_total =
     let same : by_parts ≡ fact_cmp = refl in
     subst (λ (cmp : Fact → Fact → Ordering). IsTotalOrder cmp) same
-    (then_total (on_total form nat_cmp_total) (then_total (on_total first_path path_total) (then_total (on_total second_path path_total) (on_total third offset_total))))
+    (then_total (on_total kind_place nat_cmp_total) (then_total (on_total first_path path_total) (then_total (on_total form nat_cmp_total) (then_total (on_total second_path path_total) (on_total third offset_total)))))
 
 -- ---- facts at one key
 
@@ -132,12 +146,13 @@ pub record SameParts (f g : Fact) : Type 0 where
 
 same_parts : (f g : Fact) → is_eq (fact_cmp f g) ≡ true → SameParts f g
 same_parts f g h =
-    let a = both_equal (nat_cmp (form f) (form g)) (paths_cmp f g) h in
-    let b = both_equal (path_cmp (first_path f) (first_path g)) (rest_cmp f g) a.1 in
+    let whole = both_equal (nat_cmp (kind_place f) (kind_place g)) (kind_cmp f g) h in
+    let a = both_equal (path_cmp (first_path f) (first_path g)) (rest_cmp f g) whole.1 in
+    let b = both_equal (nat_cmp (form f) (form g)) (ordering_then (path_cmp (second_path f) (second_path g)) (offset_cmp (third f) (third g))) a.1 in
     let c = both_equal (path_cmp (second_path f) (second_path g)) (offset_cmp (third f) (third g)) b.1 in
     record {
-      first = path_same (first_path f) (first_path g) b.0;
-      forms = a.0;
+      first = path_same (first_path f) (first_path g) a.0;
+      forms = b.0;
       second = path_same (second_path f) (second_path g) c.0;
       last = offset_same (third f) (third g) c.1;
     }

@@ -26,7 +26,7 @@ pub(crate) fn place_of(facts: &[Fact], key: &Fact) -> Option<usize>
 }
 
 fn is_range(fact: &Fact) -> bool
-    ensures { result ≡ comes_before 2 fact.now }
+    ensures { result ≡ comes_before 1 fact.now }
 {
     match *fact {
         Fact::Rng(_, _, _) => true,
@@ -37,7 +37,7 @@ fn is_range(fact: &Fact) -> bool
 
 /// Whether the fact is neither an answer of a search nor a bound from an array's end, which stand behind all others.
 fn is_before_searches(fact: &Fact) -> bool
-    ensures { result ≡ comes_before 7 fact.now }
+    ensures { result ≡ comes_before 4 fact.now }
 {
     match *fact {
         Fact::Search(_, _) => false,

@@ -6,7 +6,7 @@ ghost use Rattle.ix_core.specs.declared.fact.Path.TheVariants.{Slot};
 ghost use Rattle.ix_core.specs.declared.fact.Fact.TheVariants.{Less};
 ghost use Rattle.ix_facts.specs.PathOrder.{path_cmp, offset_cmp};
 ghost use Rattle.ix_fact_table.specs.FactOrder as spec;
-ghost use Rattle.ix_fact_table.specs.FactOrder.{third, fact_cmp, paths_cmp, rest_cmp};
+ghost use Rattle.ix_fact_table.specs.FactOrder.{third, fact_cmp, kind_cmp, rest_cmp};
 
 use ix_core::{Fact, Path};
 use ix_fact_paths::{compare_offsets, compare_paths};
@@ -37,6 +37,24 @@ fn first_path(fact: &Fact) -> &Path
         Fact::Search(p, _) => p,
         Fact::Neg(p, _) => p,
         Fact::Upper(p, _, _, _) => p,
+    }
+}
+
+/// The place of its kind among the kinds.
+fn kind_place(fact: &Fact) -> u8
+    ensures { result ≡ spec.kind_place fact.now }
+{
+    match *fact {
+        Fact::Rng(_, _, _) => 0,
+        Fact::LenRng(_, _, _) => 0,
+        Fact::Low(_, _) => 1,
+        Fact::Same(_, _) => 2,
+        Fact::IsLen(_, _) => 2,
+        Fact::Less(_, _, _) => 3,
+        Fact::Sum(_, _, _) => 3,
+        Fact::Search(_, _) => 4,
+        Fact::Neg(_, _) => 4,
+        Fact::Upper(_, _, _, _) => 5,
     }
 }
 
@@ -92,7 +110,7 @@ fn compare_thirds(fact: &Fact, other: &Fact) -> Ordering
 /// By second and third path.
 fn compare_others(fact: &Fact, other: &Fact) -> Ordering
     requires form { spec.form fact.now ≡ spec.form other.now }
-    ensures { result ≡ rest_cmp fact.now other.now }
+    ensures { result ≡ ordering_then (path_cmp (spec.second_path fact.now) (spec.second_path other.now)) (offset_cmp (third fact.now) (third other.now)) }
 {
     match path_order(second_path(fact), second_path(other)) {
         Ordering::Less => Ordering::Less,
@@ -101,21 +119,26 @@ fn compare_others(fact: &Fact, other: &Fact) -> Ordering
     }
 }
 
-/// By second and third path. Facts of one path alone are equal here.
+/// By form, second and third path. Facts of one path alone are equal where their forms are.
 fn compare_rest(fact: &Fact, other: &Fact) -> Ordering
-    requires form { spec.form fact.now ≡ spec.form other.now }
     ensures { result ≡ rest_cmp fact.now other.now }
 {
-    if form(fact) < FORMS_OF_ONE_PATH {
-        return Ordering::Equal;
+    let place = form(fact);
+    match place.cmp(&form(other)) {
+        Ordering::Less => Ordering::Less,
+        Ordering::Greater => Ordering::Greater,
+        Ordering::Equal => {
+            if place < FORMS_OF_ONE_PATH {
+                return Ordering::Equal;
+            }
+            compare_others(fact, other)
+        }
     }
-    compare_others(fact, other)
 }
 
-/// By all paths.
-fn compare_paths_of(fact: &Fact, other: &Fact) -> Ordering
-    requires form { spec.form fact.now ≡ spec.form other.now }
-    ensures { result ≡ paths_cmp fact.now other.now }
+/// The order of two facts of one kind: by first path, and by the rest.
+fn compare_own(fact: &Fact, other: &Fact) -> Ordering
+    ensures { result ≡ kind_cmp fact.now other.now }
 {
     match path_order(first_path(fact), first_path(other)) {
         Ordering::Less => Ordering::Less,
@@ -129,10 +152,10 @@ fn compare_paths_of(fact: &Fact, other: &Fact) -> Ordering
 fn compare_parts(fact: &Fact, other: &Fact) -> Ordering
     ensures { result ≡ fact_cmp fact.now other.now }
 {
-    match form(fact).cmp(&form(other)) {
+    match kind_place(fact).cmp(&kind_place(other)) {
         Ordering::Less => Ordering::Less,
         Ordering::Greater => Ordering::Greater,
-        Ordering::Equal => compare_paths_of(fact, other),
+        Ordering::Equal => compare_own(fact, other),
     }
 }
 
@@ -156,7 +179,7 @@ fn compare_slots(p: u32, q: u32, r: u32, s: u32) -> Ordering
     Ordering::Equal
 }
 
-/// The order of facts by their keys: by form, then by their paths. Numbers don't count. Most facts that are compared are differences
+/// The order of facts by their keys: by kind, then by the first path, then by form, then by the other paths. Numbers don't count. Most facts that are compared are differences
 /// of slots: these are compared by their numbers, where the call stands.
 #[inline(always)]
 pub fn compare_facts(fact: &Fact, other: &Fact) -> Ordering

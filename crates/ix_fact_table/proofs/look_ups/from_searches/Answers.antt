@@ -11,7 +11,7 @@ pub returns-clause-all : goal.returns-clause-all
 returns-clause-all c p a i =
     subst (IsIn (Search p a)) (sym c.split_at.ensures.back)
     (searches_are c.args.facts.now c.partition_point-start.result c.requires.rises c.partition_point-start.ensures.bound
-    (c.partition_point-start.ensures.partitioned (comes_before 7) (always_returns_same _ _ _ (λ a r next called. search rules))) p a i)
+    (c.partition_point-start.ensures.partitioned (comes_before 4) (always_returns_same _ _ _ (λ a r next called. search rules))) p a i)
 
 pub returns-clause-only : goal.returns-clause-only
 returns-clause-only c fact i = in_drop c.partition_point-start.result c.args.facts.now fact (subst (IsIn fact) c.split_at.ensures.back i)

@@ -8,4 +8,4 @@ pub returns : goal.returns
 returns c =
     c.split_at.ensures.front
     ∙ ranges_are c.args.facts.now c.partition_point-count.result c.requires.rises c.partition_point-count.ensures.bound
-    (c.partition_point-count.ensures.partitioned (comes_before 2) (always_returns_same _ _ _ (λ a r next called. search rules)))
+    (c.partition_point-count.ensures.partitioned (comes_before 1) (always_returns_same _ _ _ (λ a r next called. search rules)))
