@@ -17,9 +17,7 @@ fn only(alloc: Global, call: u64) -> Result<List<u64>, AllocFailed<u64>> {
 pub fn file(alloc: Global, name: &str, bytes: &[u8]) -> Result<(Text, List<u8>), AllocError> {
     let mut list = List::new(alloc);
     for byte in bytes {
-        if list.push(*byte).is_err() {
-            return Err(AllocError);
-        }
+        list.push(*byte)?;
     }
     Ok((Text::from_str(alloc, name)?, list))
 }
