@@ -1,5 +1,5 @@
 -- Which slot is spared and which field is final, as a step that may change paths is told; and those paths.
-use Rattle.std.specs.Prelude.{ℕ, Bool, false, not, ◌&&◌, ◌||◌, ◌==◌, Option, Some, None}
+use Rattle.std.specs.Prelude.{ℕ, Bool, false, not, cond, ◌&&◌, ◌||◌, ◌==◌, List, [], ◌∷◌, Option, Some, None}
 use Rattle.ix_core.specs.declared.fact.Path.{Path}
 use Rattle.ix_core.specs.declared.program.Program.{Program}
 use Rattle.ix_core.specs.Tables.{field_at}
@@ -35,3 +35,13 @@ is_changed (Call program spared) = of_call (is_final program.now) (is_spared spa
 is_changed (Called program target free spared) = of_called program.now target free spared
 is_changed (Parent program target free spared) = of_parent program.now target free spared
 is_changed (From first) = is_beyond first
+
+-- some of the paths may change
+abbrev pub some_path : (Path → Bool) → List Path → Bool
+some_path is [] = false
+some_path is (p ∷ paths) = is p || some_path is paths
+
+-- those that don't
+abbrev pub paths_beside : (Path → Bool) → List Path → List Path
+paths_beside is [] = []
+paths_beside is (p ∷ paths) = cond (is p) (paths_beside is paths) (p ∷ paths_beside is paths)

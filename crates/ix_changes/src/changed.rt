@@ -4,13 +4,10 @@ ghost use Rattle.std.specs.Prelude.{◌≡◌, IfOk, IfSome};
 ghost use Rattle.ix_core.specs.declared.fact.Path.{Path};
 ghost use Rattle.ix_core.specs.declared.fact.Path.TheVariants.{Slot, FieldOf};
 ghost use Rattle.ix_facts.specs.Forget.{offset_names, names, without, of_path, of_call};
-ghost use Rattle.ix_fact_paths.specs.Spared.{some_named};
-ghost use Rattle.ix_changes.specs.ChangedPaths.{is_spared, is_final, is_changed};
+ghost use Rattle.ix_changes.specs.ChangedPaths.{is_spared, is_final, is_changed, some_path, paths_beside};
 
 use ix_core::{Fact, OpKind, Path, PathOff, Program};
-use ix_fact_paths::{
-    assigned_path, is_of_path, is_of_target, names_path, room_for, some_name_path,
-};
+use ix_fact_paths::{assigned_path, facts_without_path, is_of_path, is_of_target};
 use std::alloc::{AllocError, Global};
 
 /// The paths that a step may change.
@@ -145,34 +142,30 @@ fn one_path(changed: &Changed) -> Option<Path>
     }
 }
 
-fn some_name_many(facts: &[Fact], changed: &Changed) -> bool
-    ensures { result ≡ some_named (is_changed changed.now) facts.now }
+/// Whether the step may change one of the paths. It takes no memory.
+pub fn changes_some(changed: &Changed, paths: &[Path]) -> bool
+    ensures { result ≡ some_path (is_changed changed.now) paths.now }
 {
-    for fact in facts {
-        if names_changed(changed, fact) {
+    for p in paths {
+        if changes(changed, p) {
             return true;
         }
     }
     false
 }
 
-/// Whether a fact names a path that the step may change. To look for one path takes less than to ask the step for each. It takes no memory.
-pub fn some_name_changed(facts: &[Fact], changed: &Changed) -> bool
-    ensures { result ≡ some_named (is_changed changed.now) facts.now }
+/// The paths that the step doesn't change. The only error is want of memory.
+pub fn unchanged_paths(
+    alloc: Global,
+    paths: &[Path],
+    changed: &Changed,
+) -> Result<Vec<Path>, AllocError>
+    ensures { IfOk result (λ kept. kept.items ≡ paths_beside (is_changed changed.now) paths.now) }
 {
-    match one_path(changed) {
-        Some(path) => some_name_path(facts, &path),
-        None => some_name_many(facts, changed),
-    }
-}
-
-fn beside_path(alloc: Global, facts: &[Fact], path: &Path) -> Result<Vec<Fact>, AllocError>
-    ensures { IfOk result (λ kept. kept.items ≡ without (of_path path.now) facts.now) }
-{
-    let mut kept = Vec::with_capacity(alloc, room_for(facts.len()))?;
-    for fact in facts {
-        if !names_path(path, fact) {
-            kept.push(*fact)?;
+    let mut kept = Vec::with_capacity(alloc, paths.len())?;
+    for p in paths {
+        if !changes(changed, p) {
+            kept.push(*p)?;
         }
     }
     Ok(kept)
@@ -181,7 +174,7 @@ fn beside_path(alloc: Global, facts: &[Fact], path: &Path) -> Result<Vec<Fact>, 
 fn beside_many(alloc: Global, facts: &[Fact], changed: &Changed) -> Result<Vec<Fact>, AllocError>
     ensures { IfOk result (λ kept. kept.items ≡ without (is_changed changed.now) facts.now) }
 {
-    let mut kept = Vec::with_capacity(alloc, room_for(facts.len()))?;
+    let mut kept = Vec::with_capacity(alloc, facts.len())?;
     for fact in facts {
         if !names_changed(changed, fact) {
             kept.push(*fact)?;
@@ -195,7 +188,7 @@ pub fn unchanged(alloc: Global, facts: &[Fact], changed: &Changed) -> Result<Vec
     ensures { IfOk result (λ kept. kept.items ≡ without (is_changed changed.now) facts.now) }
 {
     match one_path(changed) {
-        Some(path) => beside_path(alloc, facts, &path),
+        Some(path) => facts_without_path(alloc, facts, &path),
         None => beside_many(alloc, facts, changed),
     }
 }

@@ -8,5 +8,5 @@
 
 mod changed;
 
-pub use changed::{Changed, some_name_changed, unchanged};
+pub use changed::{Changed, changes_some, unchanged, unchanged_paths};
 pub use ix_fact_paths::rounded_facts;

@@ -16,4 +16,4 @@ mod searches;
 
 pub use beside::{are_plain, more_beside};
 pub use closing::more_that_follows;
-pub use ix_fact_table::{FactTable, are_apart, are_proper};
+pub use ix_fact_table::{FactTable, Row, are_apart, are_proper};

@@ -1,5 +1,5 @@
 -- Numbers of near paths, raised and lowered fact by fact.
-use Rattle.std.specs.Prelude.{◌≡◌, ◌≢◌, ◌<◌, ℕ, ◌+◌, ℤ, ◌+ℤ◌, ◌-ℤ◌, pos, true, false, nat_eq, get_or, length, drop, slice_set, slice_index_or, filter, All, IfSome, Option, Some, None, List, [], ◌∷◌, refl}
+use Rattle.std.specs.Prelude.{◌≡◌, ◌≢◌, ◌<◌, ℕ, ◌+◌, ℤ, ◌+ℤ◌, ◌-ℤ◌, pos, true, false, nat_eq, get_or, length, drop, slice_set, slice_index_or, All, IfSome, Option, Some, None, List, [], ◌∷◌, refl}
 use Rattle.std.specs.Int.{int_min, int_max}
 use Rattle.std.proofs.Common.{add-one, arith, ap, sym, subst, ◌∙◌}
 use Rattle.std.proofs.Math.Seq.{drop-cons}
@@ -14,17 +14,12 @@ use Rattle.ix_core.specs.declared.fact.Fact.{Fact}
 use Rattle.ix_core.specs.declared.fact.Fact.TheVariants.{Rng, LenRng, Low, Same, IsLen, Less, Sum, Search, Neg, Upper}
 use Rattle.ix_core.proofs.Cases.{by_test}
 use Rattle.ix_facts.specs.Bounds.{is_path, when, best, best_of, greatest, least, at_least, at_most, range_low_by, range_high_by, length_low_by, length_high_by, range_low, range_high, length_low, length_high, lower_by, lower_bound, limit_by, upper_limit}
-use Rattle.ix_facts.specs.Forget.{names}
 use Rattle.ix_facts.specs.PathOrder.{path_same}
 use Rattle.ix_facts.specs.Small.{HasSmallNumbers, IsClass, IsEnd, IsLimit, IsBound}
-use Rattle.ix_bounds.specs.Ends.{is_end, ends_in}
 use Rattle.ix_bounds.proofs.BestOfParts.{joined, least_joined, low_joined, high_joined}
-use Rattle.ix_bounds.proofs.PartsAlone.{length_low_of, length_high_of, range_low_of, range_high_of}
 use Rattle.ix_path_index.specs.ByPath.{is_near, near_place}
 use Rattle.ix_path_index.proofs.NearPlaces.{number_itself, number_same, place_tells}
-use Rattle.ix_fact_list.specs.declared.limits.NearEnds.{NearEnds}
-use Rattle.ix_fact_list.specs.GroupLaws.{filtered_once}
-use Rattle.ix_fact_list.specs.NearNumbers.{number_at, Raises, Lowers, AreLimits, HasEnds, low_by, high_by}
+use Rattle.ix_fact_list.specs.NearNumbers.{number_at, Raises, Lowers, AreLimits, low_by, high_by}
 
 -- ---- one number
 
@@ -357,16 +352,3 @@ module _ (facts : List Fact) (p : Path) (s : All HasSmallNumbers facts) where
 
   pub length_high_small : IsEnd (length_high facts p)
   length_high_small = high_end greatest_int (least (length_high_by p) facts) greatest_small (best_small int_min min_end (length_high_by p) (length_high_each p) facts s)
-
--- ---- the ends of ranges by ranges and classes alone
-
--- Ends by the ranges and classes among facts are those by all of them.
-pub ends_alone : (facts : List Fact) (ends : NearEnds) → HasEnds (ends_in facts) ends → HasEnds facts ends
-ends_alone facts ends has =
-    let named : (p : Path) → filter (names (is_path p)) (ends_in (ends_in facts)) ≡ filter (names (is_path p)) (ends_in facts) = λ p. ap (filter (names (is_path p))) (filtered_once is_end facts) in
-    record {
-      lows = λ p near. has.lows p near ∙ range_low_of (ends_in facts) facts p (named p);
-      highs = λ p near. has.highs p near ∙ range_high_of (ends_in facts) facts p (named p);
-      length_lows = λ p near. has.length_lows p near ∙ length_low_of (ends_in facts) facts p (named p);
-      length_highs = λ p near. has.length_highs p near ∙ length_high_of (ends_in facts) facts p (named p);
-    }

@@ -13,5 +13,7 @@ mod limits;
 pub use ends::{before_links, up_to_ends};
 pub use fact_list::FactList;
 pub use ix_bounds as bounds;
-pub use ix_path_index::{have_one_order, in_all_orders, ints_and_arrays};
+pub use ix_path_index::{
+    have_one_order, in_all_orders, ints_and_arrays, ints_and_arrays_among, with_ints,
+};
 pub use limits::Limits;

@@ -22,7 +22,7 @@ pub fn facts_without_path(
 ) -> Result<Vec<Fact>, AllocError>
     ensures facts { IfOk result (λ kept. kept.items ≡ without (of_path path.now) facts.now) }
 {
-    let mut kept = Vec::new(alloc);
+    let mut kept = Vec::with_capacity(alloc, facts.len())?;
     for fact in facts {
         if !names_path(path, fact) {
             kept.push(*fact)?;
@@ -39,7 +39,7 @@ pub fn facts_without_target(
 ) -> Result<Vec<Fact>, AllocError>
     ensures facts { IfOk result (λ kept. kept.items ≡ without (of_target kind.now) facts.now) }
 {
-    let mut kept = Vec::new(alloc);
+    let mut kept = Vec::with_capacity(alloc, facts.len())?;
     for fact in facts {
         if !names_target(kind, fact) {
             kept.push(*fact)?;

@@ -1,5 +1,5 @@
 -- What a binary search finds among facts that rise by key.
-use Rattle.std.specs.Prelude.{◌≡◌, ◌⊎◌, ℕ, zero, suc, ◌+◌, ◌-◌, ◌<◌, ◌≤◌, Bool, true, false, List, [], ◌∷◌, Some, None, Ok, Err, length, take, drop, get_or, slice_get, slice_index_or, refl}
+use Rattle.std.specs.Prelude.{◌≡◌, ◌⊎◌, ℕ, zero, suc, ◌+◌, ◌-◌, ◌<◌, ◌≤◌, Bool, true, false, List, [], ◌∷◌, ◌++◌, Some, None, Ok, Err, length, take, drop, get_or, slice_get, slice_index_or, refl}
 use Rattle.std.specs.List.Sorted.{IsBinarySearchResult, IsNonDecreasingBy, IsSortedBy, IsPartitionedBy, IsPartitionPoint}
 use Rattle.std.specs.declared.cmp.Ordering.{Ordering}
 use Rattle.std.specs.declared.cmp.Ordering.TheVariants.{Less as Before, Equal, Greater}
@@ -173,3 +173,60 @@ pub searches_are : (facts : List Fact) (start : ℕ) → rises facts ≡ true �
 searches_are facts start r within found p a i =
     let point = found (parted_by_kind 4 facts r) in
     past_start facts start (Search p a) refl (λ k d x y. point.0 k d (omega arith) x) i
+
+-- ---- the parts around differences
+
+module _ (is : Fact → Bool) (b : Bool) where
+  -- what is so at each place of the front is so of each fact there
+  all_at_front : (facts : List Fact) (count : ℕ) → ((k : ℕ) (d : Fact) → k < count → k < length facts → is (get_or facts k d) ≡ b) → (f : Fact) → IsIn f (take count facts) → is f ≡ b
+  all_at_front facts zero all f i = absurd i
+  all_at_front [] (suc count) all f i = absurd i
+  all_at_front (g ∷ facts) (suc count) all f i =
+      ⊎_elim
+      (λ e. ap is e ∙ all 0 g (omega arith) (omega arith))
+      (λ j. all_at_front facts count (λ k d x y. all (suc k) d (omega arith) (omega arith)) f j)
+      i
+
+  -- and of each fact behind it
+  all_behind : (facts : List Fact) (count : ℕ) → ((k : ℕ) (d : Fact) → count ≤ k → k < length facts → is (get_or facts k d) ≡ b) → (f : Fact) → IsIn f (drop count facts) → is f ≡ b
+  all_behind [] zero all f i = absurd i
+  all_behind (g ∷ facts) zero all f i =
+      ⊎_elim
+      (λ e. ap is e ∙ all 0 g (omega arith) (omega arith))
+      (λ j. all_behind facts zero (λ k d x y. all (suc k) d (omega arith) (omega arith)) f j)
+      i
+  all_behind [] (suc count) all f i = absurd i
+  all_behind (g ∷ facts) (suc count) all f i = all_behind facts count (λ k d x y. all (suc k) d (omega arith) (omega arith)) f i
+
+pub front_is : (n : ℕ) (facts : List Fact) (count : ℕ) → rises facts ≡ true → count ≤ length facts → IsFound n facts count → (f : Fact) → IsIn f (take count facts) → comes_before n f ≡ true
+front_is n facts count r within found f i =
+    let point = found (parted_by_kind n facts r) in
+    all_at_front (comes_before n) true facts count (λ k d a b. point.0 k d (omega arith) a) f i
+
+pub back_is : (n : ℕ) (facts : List Fact) (count : ℕ) → rises facts ≡ true → count ≤ length facts → IsFound n facts count → (f : Fact) → IsIn f (drop count facts) → comes_before n f ≡ false
+back_is n facts count r within found f i =
+    let point = found (parted_by_kind n facts r) in
+    all_behind (comes_before n) false facts count (λ k d a b. point.1 k d a b) f i
+
+pub whole_is : (facts : List Fact) (count : ℕ) → facts ≡ take count facts ++ drop count facts
+whole_is facts zero = refl
+whole_is [] (suc count) = refl
+whole_is (f ∷ facts) (suc count) = ap (λ l. f ∷ l) (whole_is facts count)
+
+pub rest_rises : (facts : List Fact) (count : ℕ) → rises facts ≡ true → rises (drop count facts) ≡ true
+rest_rises facts zero r = r
+rest_rises [] (suc count) r = refl
+rest_rises (f ∷ facts) (suc count) r = rest_rises facts count (rises_parts f facts r).1
+
+-- what comes neither before differences nor behind them is one of them
+pub difference_is : (f : Fact) → comes_before 3 f ≡ false → comes_before 4 f ≡ true → is_of kind.Difference f ≡ true
+difference_is (Rng p l h) a b = absurd (false≢true (sym a))
+difference_is (LenRng q l h) a b = absurd (false≢true (sym a))
+difference_is (Low p c) a b = absurd (false≢true (sym a))
+difference_is (Same p q) a b = absurd (false≢true (sym a))
+difference_is (IsLen p q) a b = absurd (false≢true (sym a))
+difference_is (Less p q c) a b = refl
+difference_is (Sum t y z) a b = refl
+difference_is (Search p q) a b = absurd (false≢true b)
+difference_is (Neg p q) a b = absurd (false≢true b)
+difference_is (Upper p q o c) a b = absurd (false≢true b)

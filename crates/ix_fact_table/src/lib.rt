@@ -9,7 +9,6 @@
 mod apart;
 mod entries;
 mod fact_table;
-mod filters;
 mod insertion;
 mod kinds;
 mod look_ups;
@@ -27,3 +26,4 @@ pub use ix_fact_paths::{
     assigned_path, is_of_path, is_of_target, names_path, rounded_facts, some_name_path,
 };
 pub use order::compare_facts;
+pub use row::Row;

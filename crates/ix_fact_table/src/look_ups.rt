@@ -1,12 +1,12 @@
 //! Look-ups among facts that rise by key, by binary search.
 
-ghost use Rattle.std.specs.Prelude.{◌≡◌, ◌<◌, true, length, slice_index_or, IfSome, IfNone};
+ghost use Rattle.std.specs.Prelude.{◌≡◌, ◌<◌, ◌++◌, true, false, length, slice_index_or, IfSome, IfNone};
 ghost use Rattle.ix_core.specs.declared.fact.Path.{Path};
 ghost use Rattle.ix_core.specs.declared.fact.Fact.{Fact};
 ghost use Rattle.ix_core.specs.declared.fact.Fact.TheVariants.{Search};
 ghost use Rattle.ix_facts.specs.declared.kind.Kind.TheVariants as kind;
 ghost use Rattle.ix_facts.specs.Facts.{IsIn};
-ghost use Rattle.ix_facts.specs.Kinds.{of_kind};
+ghost use Rattle.ix_facts.specs.Kinds.{is_of, of_kind};
 ghost use Rattle.ix_fact_table.specs.Rising.{rises};
 ghost use Rattle.ix_fact_table.specs.FactOrder.{AtKey, comes_before};
 
@@ -31,6 +31,20 @@ fn is_range(fact: &Fact) -> bool
     match *fact {
         Fact::Rng(_, _, _) => true,
         Fact::LenRng(_, _, _) => true,
+        _ => false,
+    }
+}
+
+/// Whether the fact is a range, a class or a length, which stand before all others.
+fn is_before_differences(fact: &Fact) -> bool
+    ensures { result ≡ comes_before 3 fact.now }
+{
+    match *fact {
+        Fact::Rng(_, _, _) => true,
+        Fact::LenRng(_, _, _) => true,
+        Fact::Low(_, _) => true,
+        Fact::Same(_, _) => true,
+        Fact::IsLen(_, _) => true,
         _ => false,
     }
 }
@@ -66,4 +80,37 @@ pub(crate) fn from_searches(facts: &[Fact]) -> &[Fact]
     let start = facts.partition_point(|fact| is_before_searches(fact));
     let (_, rest) = facts.split_at(start);
     rest
+}
+
+/// The facts before all differences and sums, and the others.
+fn before_differences(facts: &[Fact]) -> (&[Fact], &[Fact])
+    requires rises { rises facts.now ≡ true }
+    ensures whole { facts.now ≡ result.0.now ++ result.1.now }
+    ensures behind { (fact : Fact) → IsIn fact result.1.now → comes_before 3 fact ≡ false }
+    ensures rises { rises result.1.now ≡ true }
+{
+    let start = facts.partition_point(|fact| is_before_differences(fact));
+    facts.split_at(start)
+}
+
+/// The facts before all answers of searches, and the others.
+fn before_searches(facts: &[Fact]) -> (&[Fact], &[Fact])
+    requires rises { rises facts.now ≡ true }
+    ensures whole { facts.now ≡ result.0.now ++ result.1.now }
+    ensures front { (fact : Fact) → IsIn fact result.0.now → comes_before 4 fact ≡ true }
+{
+    let start = facts.partition_point(|fact| is_before_searches(fact));
+    facts.split_at(start)
+}
+
+/// The facts before the differences and sums, these, and the facts behind them.
+pub(crate) fn around_differences(facts: &[Fact]) -> (&[Fact], &[Fact], &[Fact])
+    requires rises { rises facts.now ≡ true }
+    ensures whole { facts.now ≡ result.0.now ++ (result.1.now ++ result.2.now) }
+    ensures differences { (fact : Fact) → IsIn fact result.1.now → is_of kind.Difference fact ≡ true }
+    ensures behind { (fact : Fact) → IsIn fact (result.1.now ++ result.2.now) → comes_before 3 fact ≡ false }
+{
+    let (front, rest) = before_differences(facts);
+    let (differences, back) = before_searches(rest);
+    (front, differences, back)
 }

@@ -1,30 +1,29 @@
 //! Tables of facts: how one is made, changed and compared.
 
-ghost use Rattle.std.specs.Prelude.{◌≡◌, Bool, true, ◌↔◌, ◌++◌, [], IsTrue, IfOk, IfSome, IfNone, IsNone};
+ghost use Rattle.std.specs.Prelude.{◌≡◌, Bool, true, false, ◌↔◌, ◌++◌, [], IsTrue, IfOk, IfSome, IfNone, IsNone};
 ghost use Rattle.ix_core.specs.declared.fact.Fact.{Fact};
 ghost use Rattle.ix_core.specs.declared.fact.Path.{Path};
 ghost use Rattle.ix_core.specs.declared.fact.Fact.TheVariants.{Search};
 ghost use Rattle.ix_facts.specs.Facts.{IsIn};
 ghost use Rattle.ix_facts.specs.Forget.{of_path, without};
 ghost use Rattle.ix_facts.specs.After.{of_target};
-ghost use Rattle.ix_facts.specs.Kinds.{of_kind};
+ghost use Rattle.ix_facts.specs.Kinds.{is_of, of_kind};
 ghost use Rattle.ix_facts.specs.declared.kind.Kind.TheVariants as kind;
 ghost use Rattle.ix_facts.specs.Closure.{SaysAll, IsCommon};
 ghost use Rattle.ix_facts.specs.Round.{Rises};
 ghost use Rattle.ix_facts.specs.Systems.{HasClass, HaveClasses, IsTable, system_rounded, system_added};
-ghost use Rattle.ix_fact_table.specs.FactOrder.{AtKey};
+ghost use Rattle.ix_fact_table.specs.FactOrder.{AtKey, comes_before};
 ghost use Rattle.ix_fact_table.specs.Entries.{in_first_order};
 ghost use Rattle.ix_fact_table.specs.FactTables.{facts_of, table_kind};
 
 use crate::entries::{in_first_order as first_order, int_of};
 use crate::fact_table::FactTable;
-use crate::filters::{beside_path, beside_target};
-use crate::look_ups::{from_searches, place_of, ranges_among};
+use crate::look_ups::{around_differences, from_searches, place_of, ranges_among};
 use crate::row::Row;
 use crate::sorted::sorted;
 use crate::walks::{covers_all, merged, shared};
 use ix_core::{Fact, OpKind, Path};
-use ix_fact_paths::rounded_facts;
+use ix_fact_paths::{facts_without_path, facts_without_target, rounded_facts};
 use ix_facts::{Kind, Landmarks};
 use std::alloc::{AllocError, Global};
 
@@ -85,6 +84,15 @@ impl FactTable {
         from_searches(self.facts.as_slice())
     }
 
+    /// The facts before the differences and sums, these, and the facts behind them. It takes no memory.
+    pub fn around_differences(&self) -> (&[Fact], &[Fact], &[Fact])
+        ensures whole { facts_of self.now ≡ result.0.now ++ (result.1.now ++ result.2.now) }
+        ensures differences { (fact : Fact) → IsIn fact result.1.now → is_of kind.Difference fact ≡ true }
+        ensures behind { (fact : Fact) → IsIn fact (result.1.now ++ result.2.now) → comes_before 3 fact ≡ false }
+    {
+        around_differences(self.facts.as_slice())
+    }
+
     /// The ranges with more ones. What an int is at least has to be -1, 0 or 1.
     pub fn ranges_with(&self, alloc: Global, new: &[Fact]) -> Result<Vec<Fact>, AllocError>
         requires classes { HaveClasses new.now }
@@ -101,7 +109,7 @@ impl FactTable {
         ensures table { IfOk result (λ table. IsTable (without (of_path path.now) (facts_of self.now)) (facts_of table)) }
         ensures kind { IfOk result (λ table. table_kind table ≡ table_kind self.now) }
     {
-        let facts = beside_path(alloc, self.facts.as_slice(), path)?;
+        let facts = facts_without_path(alloc, self.facts.as_slice(), path)?;
         Ok(FactTable {
             kind: self.kind,
             facts: Row::of(facts),
@@ -114,7 +122,7 @@ impl FactTable {
         ensures table { IfOk result (λ table. IsTable (without (of_target kind.now) (facts_of self.now)) (facts_of table)) }
         ensures kind { IfOk result (λ table. table_kind table ≡ table_kind self.now) }
     {
-        let facts = beside_target(alloc, self.facts.as_slice(), kind)?;
+        let facts = facts_without_target(alloc, self.facts.as_slice(), kind)?;
         Ok(FactTable {
             kind: self.kind,
             facts: Row::of(facts),

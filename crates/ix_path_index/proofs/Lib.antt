@@ -6,3 +6,4 @@ mod Added
 mod Marked
 pub mod NearPlaces
 mod OneOrder
+mod PartsNamed

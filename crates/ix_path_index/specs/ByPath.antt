@@ -1,5 +1,5 @@
 -- Facts by the paths that they name: each at each of its paths, once.
-use Rattle.std.specs.Prelude.{◌≡◌, ℕ, Bool, false, cond, ◌||◌, ◌&&◌, ◌+◌, ◌*◌, nat_eq, nat_lt, List, [], ◌∷◌, ◌++◌, get_or, filter}
+use Rattle.std.specs.Prelude.{◌≡◌, ℕ, Bool, cond, ◌||◌, ◌&&◌, ◌+◌, ◌*◌, nat_eq, nat_lt, List, [], ◌∷◌, ◌++◌, get_or, filter}
 use Rattle.std.specs.List.Sorted.{IsSortedByKey}
 use Rattle.std.specs.BTreeSet.{insert_key}
 use Rattle.ix_core.specs.declared.fact.Path.{Path}

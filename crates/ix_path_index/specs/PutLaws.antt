@@ -79,7 +79,7 @@ put_rises (q ∷ paths) p r =
     (λ o. rw o r)
     (λ o. rw o ((λ x i. ⊎_elim (λ e. subst (λ y. path_cmp q y ≡ Less) (sym e) (turned p q o)) (λ j. r.0 x j) (put_only paths p x i)), put_rises paths p r.1))
 
-less_apart : (p : Path) → path_cmp p p ≡ Less → ⊥
+pub less_apart : (p : Path) → path_cmp p p ≡ Less → ⊥
 less_apart p o = let e : path_cmp p p ≡ Greater = path_total.antisymm p p ∙ ap ordering_reverse o in let no : Less ≡ Greater = sym o ∙ e in cc
 
 greater_apart : (p : Path) → path_cmp p p ≡ Greater → ⊥
@@ -100,19 +100,19 @@ rising_distinct (p ∷ paths) r = ((λ i. less_apart p (r.0 p i)), rising_distin
 
 -- ---- all of them
 
-all_rise : (more paths : List Path) → IsRising paths → IsRising (put_all paths more)
+pub all_rise : (more paths : List Path) → IsRising paths → IsRising (put_all paths more)
 all_rise [] paths r = r
 all_rise (p ∷ more) paths r = all_rise more (insert_key path_cmp paths p) (put_rises paths p r)
 
-all_only : (more paths : List Path) (r : Path) → IsAmongPaths r (put_all paths more) → IsAmongPaths r more ⊎ IsAmongPaths r paths
+pub all_only : (more paths : List Path) (r : Path) → IsAmongPaths r (put_all paths more) → IsAmongPaths r more ⊎ IsAmongPaths r paths
 all_only [] paths r i = inr i
 all_only (p ∷ more) paths r i = ⊎_elim (λ j. inl (inr j)) (λ j. ⊎_elim (λ e. inl (inl e)) (λ k. inr k) (put_only paths p r j)) (all_only more (insert_key path_cmp paths p) r i)
 
-all_stay : (more paths : List Path) (r : Path) → IsAmongPaths r paths → IsAmongPaths r (put_all paths more)
+pub all_stay : (more paths : List Path) (r : Path) → IsAmongPaths r paths → IsAmongPaths r (put_all paths more)
 all_stay [] paths r i = i
 all_stay (p ∷ more) paths r i = all_stay more (insert_key path_cmp paths p) r (put_stays paths p r i)
 
-all_there : (more paths : List Path) (r : Path) → IsAmongPaths r more → IsAmongPaths r (put_all paths more)
+pub all_there : (more paths : List Path) (r : Path) → IsAmongPaths r more → IsAmongPaths r (put_all paths more)
 all_there [] paths r i = absurd i
 all_there (p ∷ more) paths r i =
     ⊎_elim

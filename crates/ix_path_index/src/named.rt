@@ -1,8 +1,12 @@
 //! The ints and the arrays that facts name, each once.
 
-ghost use Rattle.std.specs.Prelude.{◌≡◌, ◌∷◌, [], IsTrue, IfOk, OnOk};
+ghost use Rattle.std.specs.Prelude.{◌≡◌, ◌∷◌, ◌++◌, [], IsTrue, IfOk, OnOk};
+ghost use Rattle.ix_core.specs.declared.fact.Path.{Path};
 ghost use Rattle.ix_fact_paths.specs.Exact.{offset_paths, ints_of, arrays_of, named_ints, named_arrays};
+ghost use Rattle.ix_fact_paths.specs.Named.{IsAmongPaths};
 ghost use Rattle.ix_path_index.specs.ByPath.{put_all};
+ghost use Rattle.ix_path_index.specs.PutLaws.{IsRising};
+ghost use Rattle.ix_path_index.specs.PutUntil.{IsPutUntil};
 
 use crate::path_set::PathSet;
 use ix_core::{Fact, Path, PathOff};
@@ -110,6 +114,36 @@ fn put_new(ints: &mut PathSet, arrays: &mut PathSet, fact: &Fact) -> Result<(), 
     put_named(ints, arrays, fact)
 }
 
+/// Puts what the facts name.
+fn put_facts(ints: &mut PathSet, arrays: &mut PathSet, facts: &[Fact]) -> Result<(), AllocError>
+    ensures ints { OnOk result (ints.new ≡ put_all ints.old (named_ints facts.now)) }
+    ensures arrays { OnOk result (arrays.new ≡ put_all arrays.old (named_arrays facts.now)) }
+{
+    for fact in facts {
+        put_new(ints, arrays, fact)?;
+    }
+    Ok(())
+}
+
+/// Puts the ints that the facts name, until there are so many paths.
+fn put_until(
+    alloc: Global,
+    ints: &mut PathSet,
+    facts: &[Fact],
+    count: usize,
+) -> Result<(), AllocError>
+    ensures { OnOk result (IsPutUntil ints.old facts.now count ints.new) }
+{
+    let mut arrays = PathSet::new(alloc);
+    for fact in facts {
+        if ints.len() >= count {
+            return Ok(());
+        }
+        put_new(ints, &mut arrays, fact)?;
+    }
+    Ok(())
+}
+
 /// The ints that the facts name, and the arrays. The only error is want of memory.
 pub fn ints_and_arrays(alloc: Global, facts: &[Fact]) -> Result<(Vec<Path>, Vec<Path>), AllocError>
     ensures ints { IfOk result (λ named. named.0.items ≡ put_all [] (named_ints facts.now)) }
@@ -117,8 +151,49 @@ pub fn ints_and_arrays(alloc: Global, facts: &[Fact]) -> Result<(Vec<Path>, Vec<
 {
     let mut ints = PathSet::with_room(alloc, 16)?;
     let mut arrays = PathSet::new(alloc);
-    for fact in facts {
-        put_new(&mut ints, &mut arrays, fact)?;
-    }
+    put_facts(&mut ints, &mut arrays, facts)?;
     Ok((ints.into_paths(), arrays.into_paths()))
+}
+
+/// The same of facts in three parts, of which those between are differences, which name no arrays, and where all ints that they name are among these paths: once as many are
+/// found, no more are sought. Mostly the first part names all, since it has their ranges. The only error is want of memory.
+pub fn ints_and_arrays_among(
+    alloc: Global,
+    first: &[Fact],
+    between: &[Fact],
+    last: &[Fact],
+    paths: &[Path],
+) -> Result<(Vec<Path>, Vec<Path>), AllocError>
+    requires rising { IsRising paths.now }
+    requires among { (p : Path) → IsAmongPaths p (named_ints (first.now ++ (between.now ++ last.now))) → IsAmongPaths p paths.now }
+    requires between { named_arrays between.now ≡ [] }
+    ensures ints { IfOk result (λ named. named.0.items ≡ put_all [] (named_ints (first.now ++ (between.now ++ last.now)))) }
+    ensures arrays { IfOk result (λ named. named.1.items ≡ put_all [] (named_arrays (first.now ++ (between.now ++ last.now)))) }
+{
+    let mut ints = PathSet::with_room(alloc, paths.len())?;
+    let mut arrays = PathSet::new(alloc);
+    put_facts(&mut ints, &mut arrays, first)?;
+    put_facts(&mut ints, &mut arrays, last)?;
+    put_until(alloc, &mut ints, between, paths.len())?;
+    Ok((ints.into_paths(), arrays.into_paths()))
+}
+
+fn put_paths(set: &mut PathSet, paths: &[Path]) -> Result<(), AllocError>
+    ensures { OnOk result (set.new ≡ put_all set.old paths.now) }
+{
+    for p in paths {
+        set.put(*p)?;
+    }
+    Ok(())
+}
+
+/// Paths in order, and among them the ints that the facts name. The only error is want of memory.
+pub fn with_ints(alloc: Global, paths: &[Path], facts: &[Fact]) -> Result<Vec<Path>, AllocError>
+    ensures { IfOk result (λ more. more.items ≡ put_all (put_all [] paths.now) (named_ints facts.now)) }
+{
+    let mut ints = PathSet::with_room(alloc, paths.len())?;
+    let mut arrays = PathSet::new(alloc);
+    put_paths(&mut ints, paths)?;
+    put_facts(&mut ints, &mut arrays, facts)?;
+    Ok(ints.into_paths())
 }

@@ -181,6 +181,13 @@ impl PathSet {
         Ok(())
     }
 
+    /// How many paths there are. It takes no memory.
+    pub fn len(&self) -> usize
+        ensures { result ≡ length self.now }
+    {
+        self.paths.len()
+    }
+
     /// The paths, in order.
     pub fn into_paths(self) -> Vec<Path>
         ensures { result.items ≡ self }

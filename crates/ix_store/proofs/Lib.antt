@@ -15,3 +15,4 @@ pub mod OwnFacts
 mod WeakerCommon
 mod GrownTables
 mod MadeStores
+mod OverInts

@@ -1,6 +1,7 @@
 pub mod ClosedFacts
 pub mod EmptyRanges
 pub mod Orders
+pub mod OverInts
 pub mod StoredFacts
 pub mod NewFacts
 pub mod KnownParts

@@ -1,28 +1,28 @@
 //! Closed facts that don't contradict each other, their order and what two of them have in common.
 
-ghost use Rattle.std.specs.Prelude.{◌≡◌, ◌↔◌, ◌++◌, List, true, false, IsTrue, IfOk, IfSome, IfNone};
+ghost use Rattle.std.specs.Prelude.{◌≡◌, ◌↔◌, ◌++◌, [], List, true, false, IsTrue, IsFalse, IfOk, IfSome, IfNone};
 ghost use Rattle.ix_core.specs.declared.fact.Fact.{Fact};
-ghost use Rattle.ix_facts.specs.declared.kind.Kind.TheVariants as kind;
 ghost use Rattle.ix_facts.specs.Facts.{in_orders};
 ghost use Rattle.ix_facts.specs.Forget.{without};
-ghost use Rattle.ix_facts.specs.Kinds.{of_kind};
-ghost use Rattle.ix_facts.specs.Systems.{HaveClasses, IsTable};
+ghost use Rattle.ix_facts.specs.Systems.{HaveClasses};
 ghost use Rattle.ix_facts.specs.Stores.{IsStoreOf};
 ghost use Rattle.ix_facts.specs.Closure.{Closed, SaysAll, IsClosedOf, IsCommon};
 ghost use Rattle.ix_changes.specs.ChangedPaths.{is_changed};
 ghost use Rattle.ix_closure.specs.Beside.{are_plain};
 ghost use Rattle.ix_closure.specs.Saturated.{IsSaturated};
-ghost use Rattle.ix_closure.specs.FactTables.{facts_of, table_kind};
+ghost use Rattle.ix_closure.specs.FactTables.{facts_of};
 ghost use Rattle.ix_store.specs.EmptyRanges as spec;
 ghost use Rattle.ix_store.specs.EmptyRanges.{some_empty};
 ghost use Rattle.ix_store.specs.StoredFacts.{facts_in, stored_in};
 
 use crate::known::Known;
 use crate::orders::{ordered, orders_beside};
-use ix_changes::{Changed, some_name_changed, unchanged};
+use crate::over::{TableOver, ends_of, ints_and_arrays_of};
+use ix_changes::{Changed, changes_some, unchanged, unchanged_paths};
 use ix_closure::{FactTable, are_plain, more_beside, more_that_follows};
 use ix_core::Fact;
-use ix_fact_list::{before_links, ints_and_arrays, up_to_ends};
+use ix_fact_list::{before_links, have_one_order, with_ints};
+use ix_facts::Kind;
 use std::alloc::{AllocError, Global};
 
 fn is_empty_range(fact: &Fact) -> bool
@@ -90,42 +90,28 @@ fn added_beside(alloc: Global, table: &FactTable, new: Vec<Fact>) -> Result<Vec<
     Ok(added)
 }
 
-/// The table with what follows from it and some facts; none where it has all that.
+/// The table with what follows from it and some facts, over more ints; none where it has all that.
 fn with_added(
     alloc: Global,
-    table: &FactTable,
+    known: &Known,
     added: &[Fact],
-) -> Result<Option<FactTable>, AllocError>
-    requires kind { table_kind table.now ≡ kind.Any }
+) -> Result<Option<TableOver>, AllocError>
     requires classes { HaveClasses added.now }
-    ensures same { IfOk result (λ more. IfNone more ((facts : List Fact) → IsSaturated facts (facts_of table.now ++ added.now) → IsClosedOf facts (facts_of table.now))) }
-    ensures more { IfOk result (λ more. IfSome more (λ more. (facts : List Fact) → IsSaturated facts (facts_of table.now ++ added.now) → IsClosedOf facts (facts_of more))) }
-    ensures kind { IfOk result (λ more. IfSome more (λ more. table_kind more ≡ kind.Any)) }
+    ensures same { IfOk result (λ more. IfNone more ((facts : List Fact) → IsSaturated facts (facts_in known.now ++ added.now) → IsClosedOf facts (facts_in known.now))) }
+    ensures more { IfOk result (λ more. IfSome more (λ more. (facts : List Fact) → IsSaturated facts (facts_in known.now ++ added.now) → IsClosedOf facts (facts_of more))) }
 {
-    let more = table.with_more(alloc, added)?;
-    Ok(more)
-}
-
-/// The table of all that follows from a closed table and new facts; none where the table says that already. The only error is want of memory.
-pub(crate) fn grown(
-    alloc: Global,
-    table: &FactTable,
-    new: Vec<Fact>,
-) -> Result<Option<FactTable>, AllocError>
-    requires kind { table_kind table.now ≡ kind.Any }
-    requires closed { Closed (facts_of table.now) }
-    requires classes { HaveClasses new.items }
-    ensures same { IfOk result (λ more. IfNone more (IsClosedOf (facts_of table.now ++ new.items) (facts_of table.now))) }
-    ensures more { IfOk result (λ more. IfSome more (λ more. IsClosedOf (facts_of table.now ++ new.items) (facts_of more))) }
-    ensures kind { IfOk result (λ more. IfSome more (λ more. table_kind more ≡ kind.Any)) }
-{
-    let added = if are_plain(&new) {
-        added_beside(alloc, table, new)?
-    } else {
-        added(alloc, table, new)?
-    };
-    let more = with_added(alloc, table, &added)?;
-    Ok(more)
+    match known.table.with_more(alloc, added)? {
+        None => Ok(None),
+        Some(table) => {
+            let ints = with_ints(alloc, &known.ints, added)?;
+            let over = TableOver {
+                table,
+                ints,
+                plain: known.is_plain_with(added),
+            };
+            Ok(Some(over))
+        }
+    }
 }
 
 impl Known {
@@ -136,22 +122,35 @@ impl Known {
         ordered(self.table.as_slice(), &self.turned)
     }
 
-    /// A closed table of which no range is empty, with the lists beside it. The only error is want of memory.
-    fn with_lists(alloc: Global, table: FactTable) -> Result<Known, AllocError>
-        requires kind { table_kind table ≡ kind.Any }
-        requires closed { Closed (facts_of table) }
-        requires full { some_empty (facts_of table) ≡ false }
-        ensures table { IfOk result (λ known. known.table ≡ table) }
+    /// Whether each fact has one order.
+    fn is_plain(&self) -> bool
+        ensures plain { IsTrue result → in_orders (facts_in self.now) ≡ facts_in self.now }
     {
-        let facts = table.as_slice();
+        self.turned.is_none()
+    }
+
+    /// Whether each fact has one order, and each new one too.
+    fn is_plain_with(&self, new: &[Fact]) -> bool
+        ensures known { IsTrue result → in_orders (facts_in self.now) ≡ facts_in self.now }
+        ensures new { IsTrue result → in_orders new.now ≡ new.now }
+    {
+        self.is_plain() && have_one_order(new)
+    }
+
+    /// A closed table of which no range is empty, with the lists beside it. The only error is want of memory.
+    fn with_lists(alloc: Global, over: TableOver) -> Result<Known, AllocError>
+        requires closed { Closed (facts_of over) }
+        requires full { some_empty (facts_of over) ≡ false }
+        ensures table { IfOk result (λ known. known.table ≡ over) }
+    {
+        let facts = over.table.as_slice();
         let _count = facts.len();
-        let turned = orders_beside(alloc, facts)?;
-        let all = ordered(facts, &turned);
-        let (ints, arrays) = ints_and_arrays(alloc, all)?;
-        let ends = up_to_ends(all);
-        let from_links = before_links(all);
+        let turned = orders_beside(alloc, facts, over.plain)?;
+        let (ints, arrays) = ints_and_arrays_of(alloc, &over, &turned)?;
+        let ends = ends_of(&over.table, &turned);
+        let from_links = before_links(ordered(facts, &turned));
         Ok(Known {
-            table,
+            table: over.table,
             turned,
             ends,
             from_links,
@@ -160,17 +159,65 @@ impl Known {
         })
     }
 
-    /// The facts of a closed table, or none where a range is empty. The only error is want of memory.
-    pub(crate) fn of_table(alloc: Global, table: FactTable) -> Result<Option<Known>, AllocError>
-        requires kind { table_kind table ≡ kind.Any }
-        requires closed { Closed (facts_of table) }
-        ensures store { IfOk result (λ known. (facts : List Fact) → IsClosedOf facts (facts_of table) → IsStoreOf facts (stored_in known)) }
+    /// No facts. The only error is want of memory.
+    pub(crate) fn none(alloc: Global) -> Result<Known, AllocError>
+        ensures none { IfOk result (λ known. facts_in known ≡ []) }
     {
-        if has_empty(&table) {
+        let table = FactTable::new(alloc, Kind::Any);
+        let over = TableOver {
+            table,
+            ints: Vec::new(alloc),
+            plain: true,
+        };
+        Known::with_lists(alloc, over)
+    }
+
+    /// The facts of a closed table, or none where a range is empty. The only error is want of memory.
+    pub(crate) fn of_table(alloc: Global, over: TableOver) -> Result<Option<Known>, AllocError>
+        requires closed { Closed (facts_of over) }
+        ensures store { IfOk result (λ known. (facts : List Fact) → IsClosedOf facts (facts_of over) → IsStoreOf facts (stored_in known)) }
+    {
+        if has_empty(&over.table) {
             return Ok(None);
         }
-        let known = Known::with_lists(alloc, table)?;
+        let known = Known::with_lists(alloc, over)?;
         Ok(Some(known))
+    }
+
+    /// The table of all that follows from these and new facts; none where these say that already. The only error is want of memory.
+    pub(crate) fn grown(&self, alloc: Global, new: Vec<Fact>) -> Result<Option<TableOver>, AllocError>
+        requires classes { HaveClasses new.items }
+        ensures same { IfOk result (λ more. IfNone more (IsClosedOf (facts_in self.now ++ new.items) (facts_in self.now))) }
+        ensures more { IfOk result (λ more. IfSome more (λ more. IsClosedOf (facts_in self.now ++ new.items) (facts_of more))) }
+    {
+        let added = if are_plain(&new) {
+            added_beside(alloc, &self.table, new)?
+        } else {
+            added(alloc, &self.table, new)?
+        };
+        let more = with_added(alloc, self, &added)?;
+        Ok(more)
+    }
+
+    /// Whether the step may change a path that some fact names.
+    fn is_touched(&self, changed: &Changed) -> bool
+        ensures spared { IsFalse result → without (is_changed changed.now) (facts_in self.now) ≡ facts_in self.now }
+    {
+        changes_some(changed, &self.ints) || changes_some(changed, &self.arrays)
+    }
+
+    /// The table of the facts that name no changed path.
+    fn table_beside(&self, alloc: Global, changed: &Changed) -> Result<TableOver, AllocError>
+        ensures { IfOk result (λ over. facts_of over ≡ without (is_changed changed.now) (facts_in self.now)) }
+    {
+        let fewer = unchanged(alloc, self.table.as_slice(), changed)?;
+        let ints = unchanged_paths(alloc, &self.ints, changed)?;
+        let over = TableOver {
+            table: self.table.of_part(fewer),
+            ints,
+            plain: self.is_plain(),
+        };
+        Ok(over)
     }
 
     /// The facts that name no changed path; none where all facts are such. The only error is want of memory.
@@ -182,22 +229,34 @@ impl Known {
         ensures same { IfOk result (λ rest. IfNone rest (without (is_changed changed.now) (facts_in self.now) ≡ facts_in self.now)) }
         ensures fewer { IfOk result (λ rest. IfSome rest (λ rest. facts_in rest ≡ without (is_changed changed.now) (facts_in self.now))) }
     {
-        let facts = self.table.as_slice();
-        if !some_name_changed(facts, changed) {
+        if !self.is_touched(changed) {
             return Ok(None);
         }
-        let fewer = unchanged(alloc, facts, changed)?;
-        let known = Known::with_lists(alloc, self.table.of_part(fewer))?;
+        let over = self.table_beside(alloc, changed)?;
+        let known = Known::with_lists(alloc, over)?;
         Ok(Some(known))
+    }
+
+    /// The table of what both say.
+    fn common_table(&self, alloc: Global, other: &Known) -> Result<TableOver, AllocError>
+        ensures { IfOk result (λ over. IsCommon (facts_in self.now) (facts_in other.now) (facts_of over)) }
+    {
+        let table = self.table.common(alloc, &other.table)?;
+        let ints = Vec::from_slice(alloc, &self.ints)?;
+        let over = TableOver {
+            table,
+            ints,
+            plain: self.is_plain(),
+        };
+        Ok(over)
     }
 
     /// What both say. The only error is want of memory.
     pub(crate) fn common(&self, alloc: Global, other: &Known) -> Result<Known, AllocError>
         ensures common { IfOk result (λ known. IsCommon (facts_in self.now) (facts_in other.now) (facts_in known)) }
     {
-        let table = self.table.common(alloc, &other.table)?;
-        let known = Known::with_lists(alloc, table)?;
-        Ok(known)
+        let over = self.common_table(alloc, other)?;
+        Known::with_lists(alloc, over)
     }
 
     /// Whether these facts say all that the others say.

@@ -12,8 +12,7 @@ ghost use Rattle.ix_store.specs.ClosedFacts.{AreClosed};
 ghost use Rattle.ix_store.specs.EmptyRanges.{some_empty};
 ghost use Rattle.ix_store.specs.Orders.{ordered_by};
 
-use crate::orders::Orders;
-use ix_closure::FactTable;
+use ix_closure::{FactTable, Row};
 use ix_core::Path;
 
 /// Up to how many facts are few: to go over them costs less than an index of them.
@@ -24,7 +23,7 @@ pub(crate) const FEW: usize = 32;
 pub(crate) struct Known {
     pub(crate) table: FactTable,
     /// The facts in all their orders, where some have two; where none has, the table has them.
-    pub(crate) turned: Option<Orders>,
+    pub(crate) turned: Option<Row>,
     /// How many of the facts in all their orders stand up to the last range or class, and before the first difference or length.
     pub(crate) ends: usize,
     pub(crate) from_links: usize,

@@ -16,6 +16,7 @@ mod lattice;
 mod limited;
 mod nothing;
 mod orders;
+mod over;
 mod rules;
 mod seen;
 mod store;

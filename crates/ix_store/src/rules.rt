@@ -2,27 +2,25 @@
 
 ghost use Rattle.std.specs.Prelude.{◌≡◌, ◌++◌, [], ◌↔◌, List, IsTrue, IfOk};
 ghost use Rattle.ix_core.specs.declared.fact.Fact.{Fact};
-ghost use Rattle.ix_facts.specs.declared.kind.Kind.TheVariants as kind;
 ghost use Rattle.ix_facts.specs.Closure.{Closed, IsClosedOf};
 ghost use Rattle.ix_facts.specs.Stores.{Unreachable, Reached, IsStoreOf, IsAfter, IsCopied, IsTold, IsAssumed, IsAdded, IsForgotten, IsRounded, IsProved};
 ghost use Rattle.ix_facts.specs.Systems.{HaveClasses};
 ghost use Rattle.ix_facts.specs.Forget.{of_path, of_field, of_call};
 ghost use Rattle.ix_changes.specs.ChangedPaths.{is_spared, is_final, of_called, of_parent, is_changed};
-ghost use Rattle.ix_closure.specs.FactTables.{facts_of, table_kind};
+ghost use Rattle.ix_closure.specs.FactTables.{facts_of};
 ghost use Rattle.ix_store.specs.NewFacts.{rest_of};
 ghost use Rattle.ix_store.specs.StoredFacts.{facts_in, stored};
 ghost use Rattle.ix_store.specs.StoreOrder.{nowhere};
 ghost use Rattle.ix_outcomes.specs.OverGroups.{outcome_of};
 
-use crate::closed::grown;
 use crate::facts_after::{assumed, kept_facts};
 use crate::known::Known;
+use crate::over::TableOver;
 use crate::store::Store;
 use ix_changes::Changed;
 use ix_claims::is_proved;
-use ix_closure::FactTable;
 use ix_core::{Fact, OpKind, Path, PathClaim, Profile, Program, Type_};
-use ix_facts::{Kind, Landmarks};
+use ix_facts::Landmarks;
 use ix_outcomes::Outcome;
 use ix_text::Joint;
 use std::alloc::{AllocError, Global};
@@ -35,12 +33,11 @@ fn reached(alloc: Global, known: Known) -> Result<Store, AllocError>
 }
 
 /// The store of a closed table, unreachable where one of its ranges is empty.
-fn of_table(alloc: Global, table: FactTable) -> Result<Store, AllocError>
-    requires kind { table_kind table ≡ kind.Any }
-    requires closed { Closed (facts_of table) }
-    ensures store { IfOk result (λ store. (facts : List Fact) → IsClosedOf facts (facts_of table) → IsStoreOf facts (stored store)) }
+fn of_table(alloc: Global, over: TableOver) -> Result<Store, AllocError>
+    requires closed { Closed (facts_of over) }
+    ensures store { IfOk result (λ store. (facts : List Fact) → IsClosedOf facts (facts_of over) → IsStoreOf facts (stored store)) }
 {
-    match Known::of_table(alloc, table)? {
+    match Known::of_table(alloc, over)? {
         None => Ok(Store::unreachable()),
         Some(known) => reached(alloc, known),
     }
@@ -89,9 +86,9 @@ fn behind(
         drop(new);
         return held(alloc, known, fewer);
     }
-    match grown(alloc, &rest(known, &fewer).table, new)? {
+    match rest(known, &fewer).grown(alloc, new)? {
         None => held(alloc, known, fewer),
-        Some(table) => of_table(alloc, table),
+        Some(over) => of_table(alloc, over),
     }
 }
 
@@ -124,11 +121,11 @@ impl Store {
         requires classes { HaveClasses facts.now }
         ensures store { IfOk result (λ store. IsStoreOf facts.now (stored store)) }
     {
-        let empty = FactTable::new(alloc, Kind::Any);
+        let none = Known::none(alloc)?;
         let told = Vec::from_slice(alloc, facts)?;
-        match grown(alloc, &empty, told)? {
-            None => of_table(alloc, empty),
-            Some(table) => of_table(alloc, table),
+        match none.grown(alloc, told)? {
+            None => reached(alloc, none),
+            Some(over) => of_table(alloc, over),
         }
     }
 

@@ -1,11 +1,43 @@
-use Rattle.ix_store.proofs.GrownTables.{none_grown, some_grown, some_kind}
+use Rattle.std.specs.Prelude.{[]}
+use Rattle.std.proofs.Common.{◌≡◌, ◌++◌, ◌∙◌, ap, sym, subst}
+use Rattle.ix_facts.specs.Exact.{named_ints}
+use Rattle.ix_facts.specs.Kinds.{of_kind}
+use Rattle.ix_facts.specs.Named.{IsAmongPaths}
+use Rattle.ix_facts.specs.Systems.{IsTable}
+use Rattle.ix_fact_list.specs.ByPath.{put_all}
+use Rattle.ix_fact_list.specs.PutLaws.{IsRising}
+use Rattle.ix_closure.specs.FactTables.{facts_of, table_kind}
+use Rattle.ix_store.specs.StoredFacts.{facts_in}
+use Rattle.ix_store.proofs.GrownTables.{at_none, at_some}
+use Rattle.ix_store.proofs.OverInts.{grown_among, grown_rising, grown_plain}
+use Rattle.ix_store.proofs.StoresOf.{added_closed}
 use Rattle.ix_store.proofs.closed.with_added.Goals as goal
 
-pub returns-clause-same : goal.returns-clause-same
-returns-clause-same c = none_grown c.args.table.now c.args.added.now c.requires.kind c.in_ok-more.more c.in_ok-more.ensures.same
+pub returns-in-None-clause-same : goal.returns-in-None-clause-same
+returns-in-None-clause-same c =
+    let known = c.args.known.now in
+    added_closed (table_kind known.table) (facts_in known) c.args.added.now (facts_in known) known.kind (at_none _ _ c.in-None.is c.in_ok-with_more.ensures.same)
 
-pub returns-clause-more : goal.returns-clause-more
-returns-clause-more c = some_grown c.args.table.now c.args.added.now c.requires.kind c.in_ok-more.more c.in_ok-more.ensures.table
+pub invariant_of-over : goal.invariant_of-over
+invariant_of-over c =
+    let known = c.args.known.now in
+    let added = c.args.added.now in
+    let table = c.in-Some.table in
+    let own = table_kind known.table in
+    let is : IsTable (facts_in known ++ of_kind own added) (facts_of table) = at_some _ table (λ t. IsTable (facts_in known ++ of_kind own added) (facts_of t)) c.in-Some.is c.in_ok-with_more.ensures.table in
+    let ints : c.in_ok-ints-in-Some.ints.items ≡ put_all (put_all [] known.ints.items) (named_ints added) = c.in_ok-ints-in-Some.ensures ∙ ap (λ l. put_all (put_all [] l) (named_ints added)) c.deref.ensures.value in
+    record {
+      kind = at_some _ table (λ t. table_kind t ≡ own) c.in-Some.is c.in_ok-with_more.ensures.kind ∙ known.kind;
+      rising = subst IsRising (sym ints) (grown_rising known.ints.items (named_ints added));
+      among = λ p i. subst (IsAmongPaths p) (sym ints) (grown_among known added (facts_of table) own known.kind is p i);
+      one_order = λ t. grown_plain known added (facts_of table) own known.kind is (c.is_plain_with.ensures.known t) (c.is_plain_with.ensures.new t);
+    }
 
-pub returns-clause-kind : goal.returns-clause-kind
-returns-clause-kind c = some_kind c.args.table.now c.args.added.now c.requires.kind c.in_ok-more.more c.in_ok-more.ensures.kind
+pub returns-in-Some-clause-more : goal.returns-in-Some-clause-more
+returns-in-Some-clause-more c =
+    let known = c.args.known.now in
+    let added = c.args.added.now in
+    let table = c.in-Some.table in
+    let own = table_kind known.table in
+    let is : IsTable (facts_in known ++ of_kind own added) (facts_of table) = at_some _ table (λ t. IsTable (facts_in known ++ of_kind own added) (facts_of t)) c.in-Some.is c.in_ok-with_more.ensures.table in
+    added_closed own (facts_in known) added (facts_of table) known.kind is

@@ -1,11 +1,10 @@
 use Rattle.std.proofs.Common.{◌≡◌, ◌++◌, sym, subst, ◌∙◌}
-use Rattle.ix_facts.specs.Closure.{Closed, IsClosedOf}
+use Rattle.ix_facts.specs.Closure.{IsClosedOf}
 use Rattle.ix_facts.specs.Stores.{Reached}
 use Rattle.ix_facts.proofs.ClosureLaws.{is_closed}
 use Rattle.ix_closure.specs.FactTables.{facts_of}
 use Rattle.ix_store.specs.NewFacts.{rest_of}
 use Rattle.ix_store.specs.StoredFacts.{facts_in}
-use Rattle.ix_store.proofs.ClosedTests.{closed_of_test}
 use Rattle.ix_store.proofs.GrownTables.{at_none, at_some}
 use Rattle.ix_store.proofs.KnownStores.{known_closed, known_with_none}
 use Rattle.ix_store.proofs.MadeStores.{made_as, made_of}
@@ -16,14 +15,6 @@ returns-then-is_none c =
     let rest = rest_of c.args.known.now c.args.fewer in
     let new = c.args.new.items in
     record { store = made_as c.held.result (facts_in rest ++ new) (Reached (facts_in rest)) c.held.ensures (known_with_none rest new (sym c.deref.ensures.value ∙ c.is_none.ensures.0 c.if-is_none.true)) }
-
-pub grown-requires-clause-kind : goal.grown-requires-clause-kind
-grown-requires-clause-kind c = rw c.rest.ensures (rest_of c.args.known.now c.args.fewer).kind
-
-pub grown-requires-clause-closed : goal.grown-requires-clause-closed
-grown-requires-clause-closed c =
-    let rest = rest_of c.args.known.now c.args.fewer in
-    subst (λ k. Closed (facts_in k)) (sym c.rest.ensures) (closed_of_test (facts_in rest) rest.closed)
 
 pub returns-in-None : goal.returns-in-None
 returns-in-None c =
@@ -36,14 +27,14 @@ pub of_table-requires-clause-closed : goal.of_table-requires-clause-closed
 of_table-requires-clause-closed c =
     let rest = rest_of c.args.known.now c.args.fewer in
     let new = c.args.new.items in
-    let table = c.in-Some.table in
-    let closed : IsClosedOf (facts_in rest ++ new) (facts_of table) = subst (λ k. IsClosedOf (facts_in k ++ new) (facts_of table)) c.rest.ensures (at_some _ table (λ more. IsClosedOf (facts_in c.rest.result.now ++ new) (facts_of more)) c.in-Some.is c.in_ok-grown.ensures.more) in
+    let table = c.in-Some.over in
+    let closed : IsClosedOf (facts_in rest ++ new) (facts_of table) = subst (λ k. IsClosedOf (facts_in k ++ new) (facts_of table)) c.rest.ensures (at_some _ c.in-Some.over (λ more. IsClosedOf (facts_in c.rest.result.now ++ new) (facts_of more)) c.in-Some.is c.in_ok-grown.ensures.more) in
     is_closed (facts_in rest ++ new) (facts_of table) closed
 
 pub returns-in-Some : goal.returns-in-Some
 returns-in-Some c =
     let rest = rest_of c.args.known.now c.args.fewer in
     let new = c.args.new.items in
-    let table = c.in-Some.table in
-    let closed : IsClosedOf (facts_in rest ++ new) (facts_of table) = subst (λ k. IsClosedOf (facts_in k ++ new) (facts_of table)) c.rest.ensures (at_some _ table (λ more. IsClosedOf (facts_in c.rest.result.now ++ new) (facts_of more)) c.in-Some.is c.in_ok-grown.ensures.more) in
+    let table = c.in-Some.over in
+    let closed : IsClosedOf (facts_in rest ++ new) (facts_of table) = subst (λ k. IsClosedOf (facts_in k ++ new) (facts_of table)) c.rest.ensures (at_some _ c.in-Some.over (λ more. IsClosedOf (facts_in c.rest.result.now ++ new) (facts_of more)) c.in-Some.is c.in_ok-grown.ensures.more) in
     record { store = made_of c.of_table.result (facts_in rest ++ new) (facts_of table) c.of_table.ensures.store closed }

@@ -7,6 +7,6 @@ use Rattle.ix_store.proofs.rules.of_table.Goals as goal
 
 pub returns-in-Some : goal.returns-in-Some
 returns-in-Some c = record {
-  store = made_each c.reached.result (Reached (facts_in c.in-Some.known)) (facts_of c.args.table) c.reached.ensures
+  store = made_each c.reached.result (Reached (facts_in c.in-Some.known)) (facts_of c.args.over) c.reached.ensures
       (λ all closed. subst (λ known. IsStoreOf all (stored_in known)) c.in-Some.is (c.in_ok-of_table.ensures.store all closed));
 }

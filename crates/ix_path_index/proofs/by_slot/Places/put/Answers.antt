@@ -1,4 +1,4 @@
-use Rattle.std.proofs.Common.{◌≡◌, ℕ, ◌∷◌, ◌++◌, [], true, false, cond, nat_eq, get_or, ap, ◌∙◌}
+use Rattle.std.proofs.Common.{◌≡◌, ℕ, ◌∷◌, ◌++◌, [], false, cond, nat_eq, get_or, ap, ◌∙◌}
 use Rattle.ix_path_index.specs.ByPath.{is_near, near_place, facts_at, facts_in, about}
 use Rattle.ix_path_index.proofs.Added.{near_adds, far_adds}
 use Rattle.ix_path_index.proofs.by_slot.Places.put.Goals as goal

@@ -11,12 +11,7 @@ pub with_lists-requires-clause-closed : goal.with_lists-requires-clause-closed
 with_lists-requires-clause-closed c =
     let first = c.args.self.now in
     let second = c.args.other.now in
-    common_closed (facts_in first) (facts_in second) (facts_of c.in_ok-table.table) (closed_of_test (facts_in first) first.closed) (closed_of_test (facts_in second) second.closed) c.in_ok-table.ensures.common
+    common_closed (facts_in first) (facts_in second) (facts_of c.in_ok-over.over) (closed_of_test (facts_in first) first.closed) (closed_of_test (facts_in second) second.closed) c.in_ok-over.ensures
 
 pub with_lists-requires-clause-full : goal.with_lists-requires-clause-full
-with_lists-requires-clause-full c = common_full (facts_in c.args.self.now) (facts_in c.args.other.now) (facts_of c.in_ok-table.table) c.args.self.now.full c.in_ok-table.ensures.common
-
-pub returns : goal.returns
-returns c = record {
-  common = subst (λ t. IsCommon (facts_in c.args.self.now) (facts_in c.args.other.now) (facts_of t)) (sym c.in_ok-known.ensures.table) c.in_ok-table.ensures.common;
-}
+with_lists-requires-clause-full c = common_full (facts_in c.args.self.now) (facts_in c.args.other.now) (facts_of c.in_ok-over.over) c.args.self.now.full c.in_ok-over.ensures

@@ -1,0 +1,6 @@
+use Rattle.std.proofs.Common.{◌≡◌, ◌++◌, drop}
+use Rattle.ix_changes.specs.ChangedPaths.{is_changed, paths_beside}
+use Rattle.ix_changes.proofs.changed.unchanged_paths.Given as goal
+
+abbrev pub invariant-loop-p : goal.invariant-loop-p
+invariant-loop-p l = l.kept.items ++ paths_beside (is_changed l.changed) (drop l.p-index l.paths) ≡ paths_beside (is_changed l.changed) l.paths
