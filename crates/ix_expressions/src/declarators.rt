@@ -24,10 +24,8 @@ use std::alloc::Global;
 pub fn shared(alloc: Global, found: &FoundMods, ty: &FoundType) -> Result<Shared, Stop>
     ensures { MatchResult result (λ all. all ≡ the_shared found.now ty.now) (λ stop. stop ≡ Memory) }
 {
-    let mods = copy_mods(alloc, &found.mods)?;
-    let tree = copy_type(alloc, &ty.ty)?;
-    let mods = Joint::new(alloc, mods)?;
-    let tree = Joint::new(alloc, tree)?;
+    let mods = Joint::new(alloc, copy_mods(alloc, &found.mods)?)?;
+    let tree = Joint::new(alloc, copy_type(alloc, &ty.ty)?)?;
     Ok(Shared {
         mods,
         ty: tree,

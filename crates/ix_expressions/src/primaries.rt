@@ -1,17 +1,20 @@
 //! Primaries (JLS 15.8 to 15.12).
-ghost use Rattle.std.specs.Prelude.{◌≡◌, ◌<◌, ◌≤◌, ◌+◌, true, Some, length, OnOk, IfOk};
+ghost use Rattle.std.specs.Prelude.{◌≡◌, ◌<◌, ◌≤◌, ◌+◌, if◌then◌else◌, nat_le, ℕ, true, Some, Ok, Err, length, OnOk, IfOk, MatchOption};
 ghost use Rattle.ix_grammar.specs.declared.found.Form.TheVariants.{Value};
 ghost use Rattle.ix_lexer.specs.declared.fixed.TheConstants.{OPEN_BRACKET};
 ghost use Rattle.ix_descent.specs.ExprRules as spec;
 ghost use Rattle.ix_grammar.specs.Patterns.{a_name, a_sign};
 ghost use Rattle.ix_descent.specs.Reading.{GoesOn, ReadsParts};
-ghost use Rattle.ix_descent.specs.Rule.{run, look, take, loop, stop};
+ghost use Rattle.ix_descent.specs.Rule.{run, look, rest, take, loop, stop};
+ghost use Rattle.ix_descent.specs.declared.aims.Aim.{Aim};
+ghost use Rattle.ix_descent.specs.declared.stop.Stop.TheVariants.{Syntax, TooDeep};
+ghost use Rattle.ix_grammar.specs.ExprNodes as nodes;
 ghost use Rattle.ix_descent.specs.Taking.{Follows};
 
 use crate::grammar::{Grammar, extra, makes_array};
 use ix_descent::aims::{Aim, Part};
 use ix_descent::stop::Stop;
-use ix_grammar::found::{Form, Found};
+use ix_grammar::found::{At, Form, Found};
 use ix_lexer::fixed::{
     CLOSE_BRACKET, CLOSE_PAREN, DOT, FALSE, NEW, NULL, OPEN_BRACKET, OPEN_PAREN, THIS, TRUE,
 };
@@ -20,6 +23,28 @@ use ix_reading::cursor::Cursor;
 use ix_text::Span;
 use ix_tree::{ExprKind, Ident};
 use std::alloc::Global;
+
+/// The word that comes next, where it is an expression.
+#[tactic(auto, unfolding(ix_descent::specs::Rule::run, ix_descent::specs::ExprRules::word))]
+fn word_kind(cursor: &Cursor<'_>) -> Option<At<ExprKind>>
+    ensures { (aim : Aim) (left : ℕ) → MatchOption result (run (spec.word aim left stop) cursor.now ≡ Err (Syntax, cursor.now)) (λ found. run (spec.word aim left stop) cursor.now ≡ (if nat_le (spec.extra aim Value + 1) left then Ok (nodes.leaf found.value found.span, rest cursor.now) else Err (TooDeep, cursor.now))) }
+{
+    if let Some(span) = cursor.sign(TRUE) {
+        let value = ExprKind::Bool(true);
+        return Some(At { value, span });
+    }
+    if let Some(span) = cursor.sign(FALSE) {
+        let value = ExprKind::Bool(false);
+        return Some(At { value, span });
+    }
+    if let Some(span) = cursor.sign(NULL) {
+        let value = ExprKind::Null;
+        return Some(At { value, span });
+    }
+    let span = cursor.sign(THIS)?;
+    let value = ExprKind::This;
+    Some(At { value, span })
+}
 
 impl<F: Fn(Global, &mut Cursor<'_>, u32, Part) -> Result<Found, Stop>> Grammar<F> {
     /// Behind a name: a variable or a call
@@ -70,43 +95,21 @@ impl<F: Fn(Global, &mut Cursor<'_>, u32, Part) -> Result<Found, Stop>> Grammar<F
     }
 
     /// `"true" | "false" | "null" | "this"`
-    #[tactic(auto, unfolding(ix_descent::specs::Rule::run, ix_descent::specs::ExprRules::word))]
+    #[tactic(auto, unfolding(ix_descent::specs::Rule::run))]
     fn word(&self, cursor: &mut Cursor<'_>, aim: Aim) -> Result<Found, Stop>
         ensures reads { Follows (run (spec.word aim self.now.left stop) cursor.old) result cursor.new }
         ensures no_longer { OnOk result (length cursor.new ≤ length cursor.old) }
         ensures fits { IfOk result (λ f. f.height ≤ self.now.left) }
         ensures some { IfOk result (λ f. 0 < f.height) }
     {
-        let height = extra(aim, Form::Value) + 1;
-        if let Some(span) = cursor.sign(TRUE) {
-            if self.left < height {
-                return Err(Stop::TooDeep);
-            }
-            cursor.advance();
-            return leaf(self.alloc, ExprKind::Bool(true), span);
-        }
-        if let Some(span) = cursor.sign(FALSE) {
-            if self.left < height {
-                return Err(Stop::TooDeep);
-            }
-            cursor.advance();
-            return leaf(self.alloc, ExprKind::Bool(false), span);
-        }
-        if let Some(span) = cursor.sign(NULL) {
-            if self.left < height {
-                return Err(Stop::TooDeep);
-            }
-            cursor.advance();
-            return leaf(self.alloc, ExprKind::Null, span);
-        }
-        let Some(span) = cursor.sign(THIS) else {
+        let Some(found) = word_kind(cursor) else {
             return Err(Stop::Syntax);
         };
-        if self.left < height {
+        if self.left < extra(aim, Form::Value) + 1 {
             return Err(Stop::TooDeep);
         }
         cursor.advance();
-        leaf(self.alloc, ExprKind::This, span)
+        leaf(self.alloc, found.value, found.span)
     }
 
     /// The first part of a primary: `IntLit | Ident | Ident Args | "(" Expr ")" | "new" Creation`, or a word
