@@ -17,7 +17,7 @@ use ix_lexer::fixed::{ASSIGN, COMMA};
 use ix_nodes::copies::{copy_mods, copy_type};
 use ix_reading::cursor::Cursor;
 use ix_text::{Joint, List};
-use ix_tree::{Ident, LocalDecl};
+use ix_tree::{Ident, Init, LocalDecl};
 use std::alloc::Global;
 
 /// What all declarators have behind these modifiers and this type.
@@ -33,21 +33,29 @@ pub fn shared(alloc: Global, found: &FoundMods, ty: &FoundType) -> Result<Shared
     })
 }
 
+/// A declaration with the modifiers and the type that all declarators have.
+fn declared(all: &Shared, name: Ident, init: Option<Init>) -> Result<LocalDecl, Stop>
+    ensures { MatchResult result (λ decl. decl ≡ nodes.declared all.now name init) (λ stop. stop ≡ Memory) }
+{
+    let mods = all.mods.join()?;
+    let ty = all.ty.join()?;
+    Ok(LocalDecl {
+        mods,
+        ty,
+        name,
+        init,
+    })
+}
+
 /// What is declared without an initialiser.
 pub fn plain_decl(all: &Shared, name: Ident) -> Result<FoundDecl, Stop>
     requires low { all.now.height ≤ 4 }
     ensures { MatchResult result (λ found. found ≡ nodes.plain_decl all.now name) (λ stop. stop ≡ Memory) }
 {
-    let mods = all.mods.join()?;
-    let ty = all.ty.join()?;
     let end = name.span;
+    let decl = declared(all, name, None)?;
     Ok(FoundDecl {
-        decl: LocalDecl {
-            mods,
-            ty,
-            name,
-            init: None,
-        },
+        decl,
         height: 1 + all.height,
         end,
     })
@@ -59,17 +67,12 @@ fn init_decl(left: u32, all: &Shared, name: Ident, found: FoundInit) -> Result<F
     requires room { found.height + 1 ≤ left }
     ensures { MatchResult result (λ decl. decl ≡ nodes.init_decl all.now name found) (λ stop. stop ≡ Memory) }
 {
-    let mods = all.mods.join()?;
-    let ty = all.ty.join()?;
+    let FoundInit { init, height, end } = found;
+    let decl = declared(all, name, Some(init.into_inner()))?;
     Ok(FoundDecl {
-        decl: LocalDecl {
-            mods,
-            ty,
-            name,
-            init: Some(found.init.into_inner()),
-        },
-        height: 1 + all.height.max(found.height),
-        end: found.end,
+        decl,
+        height: 1 + all.height.max(height),
+        end,
     })
 }
 
