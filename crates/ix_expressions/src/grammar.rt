@@ -13,7 +13,7 @@ use ix_reading::cursor::Cursor;
 use std::alloc::Global;
 
 /// The rules for nodes of a height of at most `left`, with what reads the parts of a lower height.
-#[derive(Clone, Copy)]
+#[derive(Drop)]
 pub struct Grammar<F> {
     pub alloc: Global,
     /// The height that is left for a node.
