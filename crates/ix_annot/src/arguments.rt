@@ -1,6 +1,6 @@
 //! What an annotation claims, with the names as they are written.
 
-ghost use Rattle.std.specs.Prelude.{◌≡◌, [], false, codes, option_map, drop, IfOk};
+ghost use Rattle.std.specs.Prelude.{◌≡◌, ◌||◌, [], false, bytes_eq, codes, option_map, drop, IfOk};
 ghost use Rattle.std.specs.Str.{chars};
 ghost use Rattle.ix_annot.specs.Texts.{array_text};
 ghost use Rattle.ix_annot.specs.Table as table;
@@ -42,16 +42,22 @@ pub struct Promise {
     pub on: List<Naming>,
 }
 
+fn is_either(name: &str, one: &str, other: &str) -> bool
+    ensures { result ≡ (bytes_eq name.now one.now || bytes_eq name.now other.now) }
+{
+    name == one || name == other
+}
+
 fn takes(says: Says, name: &str) -> bool
     ensures { result ≡ spec.takes says name.now }
 {
     match says {
-        Says::Between => name == "from" || name == "to",
-        Says::Offsets => name == "value" || name == "offset",
+        Says::Between => is_either(name, "from", "to"),
+        Says::Offsets => is_either(name, "value", "offset"),
         Says::LengthAtLeast | Says::Arrays(_, _) | Says::Bounds => name == "value",
-        Says::Ensures => name == "value" || name == "targetValue" || name == "offset",
+        Says::Ensures => name == "value" || is_either(name, "targetValue", "offset"),
         Says::EnsuresIf => {
-            name == "expression" || name == "result" || name == "targetValue" || name == "offset"
+            name == "expression" || name == "result" || is_either(name, "targetValue", "offset")
         }
         Says::Nothing | Says::EffectFree | Says::AtLeast(_) => false,
     }
@@ -287,23 +293,24 @@ fn lowest(alloc: Global, least: Option<i32>) -> Result<List<Claim>, AllocError>
     Ok(claims)
 }
 
+/// What is claimed of each array or bound that is listed, and before it the least number, where there is one.
 fn claims_behind(
     alloc: Global,
-    first: List<Claim>,
+    least: Option<i32>,
     says: Says,
     args: &[AnnotArg],
 ) -> Result<Option<Plan>, AllocError>
-    ensures { IfOk result (λ plan. plan ≡ option_map (spec.plan_with false first) (spec.claims_written says args.now)) }
+    ensures { IfOk result (λ plan. plan ≡ option_map (spec.plan_with false (spec.lowest least)) (spec.claims_written says args.now)) }
 {
-    match claims_written(alloc, says, args)? {
-        None => Ok(None),
-        Some(written) => Ok(Some(Plan {
-            first,
-            written,
-            effect_free: false,
-            promise: None,
-        })),
-    }
+    let Some(written) = claims_written(alloc, says, args)? else {
+        return Ok(None);
+    };
+    Ok(Some(Plan {
+        first: lowest(alloc, least)?,
+        written,
+        effect_free: false,
+        promise: None,
+    }))
 }
 
 fn truth(value: Option<&AnnotValue>) -> Option<bool>
@@ -383,11 +390,11 @@ fn plan_of(alloc: Global, says: Says, args: &[AnnotArg]) -> Result<Option<Plan>,
     match says {
         Says::Nothing => Ok(Some(no_claims(alloc, false))),
         Says::EffectFree => Ok(Some(no_claims(alloc, true))),
-        Says::AtLeast(least) => Ok(Some(one_claim(alloc, Claim::Low(least))?)),
+        Says::AtLeast(least) => one_claim_or_none(alloc, Some(Claim::Low(least))),
         Says::Between => one_claim_or_none(alloc, range_of(args)),
         Says::LengthAtLeast => one_claim_or_none(alloc, length_of(args)),
-        Says::Arrays(least, _) => claims_behind(alloc, lowest(alloc, least)?, says, args),
-        Says::Offsets | Says::Bounds => claims_behind(alloc, List::new(alloc), says, args),
+        Says::Arrays(least, _) => claims_behind(alloc, least, says, args),
+        Says::Offsets | Says::Bounds => claims_behind(alloc, None, says, args),
         Says::Ensures => promised(alloc, None, "value", says, args),
         Says::EnsuresIf => promised_if(alloc, says, args),
     }
