@@ -1,6 +1,6 @@
 //! The rules on names and types: each notes its error where it is broken.
 
-ghost use Rattle.std.specs.Prelude.{◌≡◌, ◌++◌, OnOk, not, ◌&&◌};
+ghost use Rattle.std.specs.Prelude.{◌≡◌, ◌++◌, OnOk, Some, not, ◌&&◌};
 ghost use Rattle.ix_meaning.specs.Bodies.{declares_note};
 ghost use Rattle.ix_meaning.specs.Rules as spec;
 ghost use Rattle.ix_meaning.specs.declared.note.Rule.TheVariants as rule;
@@ -22,8 +22,9 @@ use std::alloc::{AllocError, Global};
 pub fn wrong(notes: &mut List<Note>, rule: Rule, span: Span) -> Result<(), AllocError>
     ensures { OnOk result (notes.new ≡ notes.old ++ types.wrong rule span) }
 {
-    notes.push(Note::Wrong(NameError { rule, span }))?;
-    Ok(())
+    notes
+        .push(Note::Wrong(NameError { rule, span }))
+        .map_err(AllocError::from)
 }
 
 /// Notes that the rule is broken there, if it is.
@@ -36,9 +37,10 @@ pub fn wrong_if(
     ensures { OnOk result (notes.new ≡ notes.old ++ types.wrong_if broken rule span) }
 {
     if broken {
-        wrong(notes, rule, span)?;
+        wrong(notes, rule, span)
+    } else {
+        Ok(())
     }
-    Ok(())
 }
 
 /// Notes what the use at that place means, if it means something.
@@ -49,10 +51,24 @@ pub fn note_use(
 ) -> Result<(), AllocError>
     ensures { OnOk result (notes.new ≡ notes.old ++ spec.use_of meaning span) }
 {
-    if let Some(meaning) = meaning {
-        notes.push(Note::Use(span, meaning))?;
+    match meaning {
+        None => Ok(()),
+        Some(meaning) => notes
+            .push(Note::Use(span, meaning))
+            .map_err(AllocError::from),
     }
-    Ok(())
+}
+
+fn note_known_type(
+    alloc: Global,
+    notes: &mut List<Note>,
+    ty: &Type_,
+    span: Span,
+) -> Result<(), AllocError>
+    ensures { OnOk result (notes.new ≡ notes.old ++ types.type_note (Some ty.now) span) }
+{
+    let ty = copied(alloc, ty)?;
+    notes.push(Note::Typed(span, ty)).map_err(AllocError::from)
 }
 
 /// Notes the type of the expression at that place, if it has one.
@@ -64,11 +80,10 @@ pub fn note_type(
 ) -> Result<(), AllocError>
     ensures { OnOk result (notes.new ≡ notes.old ++ types.type_note ty.now span) }
 {
-    if let Some(ty) = ty {
-        let ty = copied(alloc, ty)?;
-        notes.push(Note::Typed(span, ty))?;
+    match ty {
+        None => Ok(()),
+        Some(ty) => note_known_type(alloc, notes, ty, span),
     }
-    Ok(())
 }
 
 /// Notes what the declaration of the name at that place says, if it has a type.
@@ -81,10 +96,12 @@ pub fn note_declared(
 ) -> Result<(), AllocError>
     ensures { OnOk result (notes.new ≡ notes.old ++ declares_note span ty.now claims) }
 {
-    if let Some(ty) = copied_option(alloc, ty)? {
-        notes.push(Note::Declares(span, Declared { ty, claims }))?;
+    match copied_option(alloc, ty)? {
+        None => Ok(()),
+        Some(ty) => notes
+            .push(Note::Declares(span, Declared { ty, claims }))
+            .map_err(AllocError::from),
     }
-    Ok(())
 }
 
 fn is_subclass(world: &World, t: &Type_, need: &Type_) -> bool
@@ -152,11 +169,7 @@ pub fn null_mismatch(
 {
     match need {
         Need::Unknown => Ok(()),
-        Need::Of(need) if is_reference(need) => {
-            let ty = copied(alloc, need)?;
-            notes.push(Note::Typed(span, ty))?;
-            Ok(())
-        }
+        Need::Of(need) if is_reference(need) => note_known_type(alloc, notes, need, span),
         _ => wrong(notes, Rule::TypeMismatch, span),
     }
 }
