@@ -113,7 +113,11 @@ pub(crate) fn add_parts<'a>(expr: &'a Expr, found: &mut Parts<'a>) -> Result<(),
             add_parts(value.get(), found)
         }
         ExprKind::Step { target, .. } => add_as_target(target.get(), found),
-        _ => Ok(()),
+        ExprKind::Int(_) => Ok(()),
+        ExprKind::Bool(_) => Ok(()),
+        ExprKind::Null => Ok(()),
+        ExprKind::This => Ok(()),
+        ExprKind::Name(_) => Ok(()),
     }
 }
 
