@@ -72,7 +72,11 @@ fn add_statement(
         StmtKind::Return(Some(value)) => add_around(alloc, site, stmt.span, value, out),
         StmtKind::Print(value) => add_around(alloc, site, stmt.span, value, out),
         StmtKind::Run(expr) => add_around(alloc, site, stmt.span, expr, out),
-        _ => Ok(()),
+        StmtKind::Return(None) => Ok(()),
+        StmtKind::Throw(_) => Ok(()),
+        StmtKind::Empty => Ok(()),
+        StmtKind::Break => Ok(()),
+        StmtKind::Continue => Ok(()),
     }
 }
 
