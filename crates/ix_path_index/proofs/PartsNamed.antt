@@ -1,12 +1,14 @@
 -- The ints that facts in parts name are those that all name, once as many are found as there can be.
-use Rattle.std.specs.Prelude.{◌≡◌, ◌≤◌, ◌<◌, ◌+◌, ℕ, List, [], ◌∷◌, ◌++◌, length, drop, slice_index_or, refl}
-use Rattle.std.proofs.Common.{add-one, ap, sym, ◌∙◌, subst, ⊎_elim}
+use Rattle.std.specs.Prelude.{◌≡◌, ◌≤◌, ◌<◌, ◌+◌, ℕ, zero, suc, true, nat_eq, List, [], ◌∷◌, ◌++◌, length, drop, slice_index_or, get_or, refl}
+use Rattle.std.proofs.Common.{arith, add-one, inl, inr, ap, sym, ◌∙◌, subst, ⊎_elim}
 use Rattle.std.proofs.Math.Seq.{drop-cons}
+use Rattle.std.proofs.lemmas.Bool.Decides.{nat_tests}
 use Rattle.ix_core.specs.declared.fact.Path.{Path}
 use Rattle.ix_core.specs.declared.fact.Fact.{Fact}
 use Rattle.ix_fact_paths.specs.PathOrder.{path_cmp}
 use Rattle.std.specs.BTreeSet.{insert_key}
 use Rattle.ix_fact_paths.specs.Exact.{ints_of, paths_of, named_ints}
+use Rattle.ix_fact_paths.specs.Facts.{IsIn}
 use Rattle.ix_fact_paths.specs.Named.{IsAmongPaths}
 use Rattle.ix_path_index.specs.ByPath.{put_all}
 use Rattle.ix_path_index.specs.PutLaws.{IsRising, all_rise, all_only, all_stay, all_there}
@@ -107,3 +109,25 @@ among_named first between last paths old new rising among is until =
     (λ none. ap (λ l. put_all new l) (sym none) ∙ all)
     (λ long. as_many first between last paths until.put until.left_over new rising among new_rises all long)
     until.stops
+
+-- where each path has a range in the first part
+pub ranges_named : (first between last : List Fact) (paths : List Path) → IsRising paths
+    → ((p : Path) → IsAmongPaths p (named_ints (first ++ (between ++ last))) → IsAmongPaths p paths)
+    → AreAmong paths (named_ints first) → paths ≡ put_all [] (named_ints (first ++ (between ++ last)))
+ranges_named first between last paths rising among have =
+    let total = named_ints (first ++ (between ++ last)) in
+    same_members paths (put_all [] total) rising (all_rise total [] tt)
+    (λ p i. all_there total [] p (named_left ints_of p first (between ++ last) (have p i)))
+    (λ p i. ⊎_elim (λ j. among p j) (λ j. absurd j) (all_only total [] p i))
+
+in_get : (facts : List Fact) (k : ℕ) (d : Fact) → k < length facts → IsIn (get_or facts k d) facts
+in_get [] k d lt = absurd (omega arith)
+in_get (f ∷ facts) zero d lt = inl refl
+in_get (f ∷ facts) (suc k) d lt = inr (in_get facts k d (omega arith))
+
+pub in_place : (facts : List Fact) (k : ℕ) (d : Fact) → k < length facts → IsIn (slice_index_or facts k d) facts
+in_place facts k d lt = in_get facts k d lt
+
+pub none_left : (paths : List Path) (p : Path) → nat_eq (length paths) 0 ≡ true → IsAmongPaths p paths → ⊥
+none_left [] p e i = i
+none_left (q ∷ paths) p e i = let none : length (q ∷ paths) ≡ 0 = grind (arith, nat_tests, e) in absurd (omega (arith, none))

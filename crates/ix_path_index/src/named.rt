@@ -1,16 +1,19 @@
 //! The ints and the arrays that facts name, each once.
 
-ghost use Rattle.std.specs.Prelude.{◌≡◌, ◌∷◌, ◌++◌, [], IsTrue, IfOk, OnOk};
+ghost use Rattle.std.specs.Prelude.{◌≡◌, ◌⊎◌, ◌∷◌, ◌++◌, [], IsTrue, IfOk, OnOk};
 ghost use Rattle.ix_core.specs.declared.fact.Path.{Path};
 ghost use Rattle.ix_fact_paths.specs.Exact.{offset_paths, ints_of, arrays_of, named_ints, named_arrays};
 ghost use Rattle.ix_fact_paths.specs.Named.{IsAmongPaths};
 ghost use Rattle.ix_path_index.specs.ByPath.{put_all};
+ghost use Rattle.ix_path_index.specs.NamedLaws.{AreAmong};
 ghost use Rattle.ix_path_index.specs.PutLaws.{IsRising};
 ghost use Rattle.ix_path_index.specs.PutUntil.{IsPutUntil};
 
 use crate::path_set::PathSet;
 use ix_core::{Fact, Path, PathOff};
+use ix_fact_paths::compare_paths;
 use std::alloc::{AllocError, Global};
+use std::cmp::Ordering;
 
 fn put_offset(paths: &mut PathSet, offset: &PathOff) -> Result<(), AllocError>
     ensures { OnOk result (paths.new ≡ put_all paths.old (offset_paths offset.now)) }
@@ -155,8 +158,87 @@ pub fn ints_and_arrays(alloc: Global, facts: &[Fact]) -> Result<(Vec<Path>, Vec<
     Ok((ints.into_paths(), arrays.into_paths()))
 }
 
-/// The same of facts in three parts, of which those between are differences, which name no arrays, and where all ints that they name are among these paths: once as many are
-/// found, no more are sought. Mostly the first part names all, since it has their ranges. The only error is want of memory.
+/// Puts the arrays that the fact names.
+fn put_arrays(arrays: &mut PathSet, fact: &Fact) -> Result<(), AllocError>
+    ensures { OnOk result (arrays.new ≡ put_all arrays.old (arrays_of fact.now)) }
+{
+    match *fact {
+        Fact::LenRng(a, _, _) => arrays.put(a),
+        Fact::Same(a, b) => put_two(arrays, a, b),
+        Fact::IsLen(_, a) => arrays.put(a),
+        Fact::Search(_, a) => arrays.put(a),
+        Fact::Neg(_, a) => arrays.put(a),
+        Fact::Upper(_, a, _, _) => arrays.put(a),
+        Fact::Rng(_, _, _) => Ok(()),
+        Fact::Low(_, _) => Ok(()),
+        Fact::Less(_, _, _) => Ok(()),
+        Fact::Sum(_, _, _) => Ok(()),
+    }
+}
+
+fn put_all_arrays(arrays: &mut PathSet, facts: &[Fact]) -> Result<(), AllocError>
+    ensures { OnOk result (arrays.new ≡ put_all arrays.old (named_arrays facts.now)) }
+{
+    for fact in facts {
+        put_arrays(arrays, fact)?;
+    }
+    Ok(())
+}
+
+/// The arrays that facts in two parts name.
+fn arrays_of_both(alloc: Global, first: &[Fact], last: &[Fact]) -> Result<Vec<Path>, AllocError>
+    ensures { IfOk result (λ arrays. arrays.items ≡ put_all (put_all [] (named_arrays first.now)) (named_arrays last.now)) }
+{
+    let mut arrays = PathSet::new(alloc);
+    put_all_arrays(&mut arrays, first)?;
+    put_all_arrays(&mut arrays, last)?;
+    Ok(arrays.into_paths())
+}
+
+/// The paths behind the first, where the fact is the range of that, and else all.
+fn behind_range<'a>(paths: &'a [Path], fact: &Fact) -> &'a [Path]
+    ensures { (p : Path) → IsAmongPaths p paths.now → IsAmongPaths p result.now ⊎ IsAmongPaths p (ints_of fact.now) }
+{
+    let (Some((first, more)), Fact::Rng(q, _, _)) = (paths.split_first(), fact) else {
+        return paths;
+    };
+    match compare_paths(first, q) {
+        Ordering::Equal => more,
+        _ => paths,
+    }
+}
+
+/// Whether among the facts, in order, there is a range of each path: then no more of them need be looked at.
+fn have_ranges(facts: &[Fact], paths: &[Path]) -> bool
+    ensures { IsTrue result → AreAmong paths.now (named_ints facts.now) }
+{
+    let mut rest = paths;
+    for fact in facts {
+        rest = behind_range(rest, fact);
+    }
+    rest.is_empty()
+}
+
+/// The ints that facts in three parts name, as a search through the first, the last and then those between finds them: no more are sought where there are so many.
+fn ints_among(
+    alloc: Global,
+    first: &[Fact],
+    between: &[Fact],
+    last: &[Fact],
+    count: usize,
+) -> Result<Vec<Path>, AllocError>
+    ensures { IfOk result (λ ints. IsPutUntil (put_all (put_all [] (named_ints first.now)) (named_ints last.now)) between.now count ints.items) }
+{
+    let mut ints = PathSet::with_room(alloc, count)?;
+    let mut arrays = PathSet::new(alloc);
+    put_facts(&mut ints, &mut arrays, first)?;
+    put_facts(&mut ints, &mut arrays, last)?;
+    put_until(alloc, &mut ints, between, count)?;
+    Ok(ints.into_paths())
+}
+
+/// The ints that facts in three parts name, and the arrays, where all ints that they name are among these paths, and those between are differences, which name no arrays. Where
+/// the first part has a range of each path, these are the ints; else as many are sought as there are paths. The only error is want of memory.
 pub fn ints_and_arrays_among(
     alloc: Global,
     first: &[Fact],
@@ -170,30 +252,22 @@ pub fn ints_and_arrays_among(
     ensures ints { IfOk result (λ named. named.0.items ≡ put_all [] (named_ints (first.now ++ (between.now ++ last.now)))) }
     ensures arrays { IfOk result (λ named. named.1.items ≡ put_all [] (named_arrays (first.now ++ (between.now ++ last.now)))) }
 {
-    let mut ints = PathSet::with_room(alloc, paths.len())?;
-    let mut arrays = PathSet::new(alloc);
-    put_facts(&mut ints, &mut arrays, first)?;
-    put_facts(&mut ints, &mut arrays, last)?;
-    put_until(alloc, &mut ints, between, paths.len())?;
-    Ok((ints.into_paths(), arrays.into_paths()))
-}
-
-fn put_paths(set: &mut PathSet, paths: &[Path]) -> Result<(), AllocError>
-    ensures { OnOk result (set.new ≡ put_all set.old paths.now) }
-{
-    for p in paths {
-        set.put(*p)?;
+    let arrays = arrays_of_both(alloc, first, last)?;
+    if have_ranges(first, paths) {
+        let ints = Vec::from_slice(alloc, paths)?;
+        return Ok((ints, arrays));
     }
-    Ok(())
+    let ints = ints_among(alloc, first, between, last, paths.len())?;
+    Ok((ints, arrays))
 }
 
 /// Paths in order, and among them the ints that the facts name. The only error is want of memory.
 pub fn with_ints(alloc: Global, paths: &[Path], facts: &[Fact]) -> Result<Vec<Path>, AllocError>
-    ensures { IfOk result (λ more. more.items ≡ put_all (put_all [] paths.now) (named_ints facts.now)) }
+    requires rising { IsRising paths.now }
+    ensures { IfOk result (λ more. more.items ≡ put_all paths.now (named_ints facts.now)) }
 {
-    let mut ints = PathSet::with_room(alloc, paths.len())?;
+    let mut ints = PathSet::of(alloc, Vec::from_slice(alloc, paths)?);
     let mut arrays = PathSet::new(alloc);
-    put_paths(&mut ints, paths)?;
     put_facts(&mut ints, &mut arrays, facts)?;
     Ok(ints.into_paths())
 }

@@ -141,6 +141,17 @@ impl PathSet {
         }
     }
 
+    /// Paths that are in order, each once. It takes no memory.
+    pub(crate) fn of(alloc: Global, paths: Vec<Path>) -> PathSet
+        requires rising { IsRising paths.items }
+        ensures { result ≡ paths.items }
+    {
+        PathSet {
+            paths,
+            marks: Vec::new(alloc),
+        }
+    }
+
     /// No paths, with room for so many.
     pub(crate) fn with_room(alloc: Global, room: usize) -> Result<PathSet, AllocError>
         ensures { IfOk result (λ paths. paths ≡ []) }

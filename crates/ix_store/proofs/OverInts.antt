@@ -101,16 +101,16 @@ known_rising known = subst IsRising (sym known.each_int) (all_rise (named_ints (
 
 -- the table with new facts
 pub grown_among : (known : Known) (added table : List Fact) (own : Kind) → own ≡ kind.Any → IsTable (facts_in known ++ of_kind own added) table
-    → AreAmong (named_ints table) (put_all (put_all [] known.ints.items) (named_ints added))
+    → AreAmong (named_ints table) (put_all known.ints.items (named_ints added))
 grown_among known added table own any is p i =
     let all : IsTable (facts_in known ++ added) table = subst (λ l. IsTable (facts_in known ++ l) table) (ap (λ k. of_kind k added) any ∙ of_any added) is in
     ⊎_elim
-    (λ j. all_stay (named_ints added) (put_all [] known.ints.items) p (all_there known.ints.items [] p (known_ints known p j)))
-    (λ j. all_there (named_ints added) (put_all [] known.ints.items) p j)
+    (λ j. all_stay (named_ints added) known.ints.items p (known_ints known p j))
+    (λ j. all_there (named_ints added) known.ints.items p j)
     (named_either ints_of p (facts_in known) added (table_named (facts_in known ++ added) table all p i))
 
-pub grown_rising : (first second : List Path) → IsRising (put_all (put_all [] first) second)
-grown_rising first second = all_rise second (put_all [] first) (all_rise first [] tt)
+pub grown_rising : (known : Known) (added : List Fact) → IsRising (put_all known.ints.items (named_ints added))
+grown_rising known added = all_rise (named_ints added) known.ints.items (known_rising known)
 
 -- what both say
 pub common_among : (known : Known) (second common : List Fact) → IsCommon (facts_in known) second common → AreAmong (named_ints common) known.ints.items
@@ -209,7 +209,7 @@ module _ (is : Path → Bool) where
 -- ---- facts of one order
 
 -- the fact has no other order
-is_plain : Fact → Bool
+abbrev is_plain : Fact → Bool
 is_plain (Same a b) = false
 is_plain (Sum t y z) = false
 is_plain (Upper p a (Plus q) c) = false
@@ -230,7 +230,7 @@ plain_is (Upper p a (Plus q) c) k = absurd (false≢true k)
 plain_is (Upper p a (Minus q) c) k = refl
 
 -- what other orders it has
-turned_of : Fact → List Fact
+abbrev turned_of : Fact → List Fact
 turned_of (Same a b) = Same b a ∷ []
 turned_of (Sum t y z) = Sum t z y ∷ []
 turned_of (Upper p a (Plus q) c) = Upper q a (Plus p) c ∷ []
@@ -254,14 +254,14 @@ none_turned : (f : Fact) → length (turned_of f) ≡ 0 → is_plain f ≡ true
 none_turned (Rng p l h) k = refl
 none_turned (LenRng a l h) k = refl
 none_turned (Low p c) k = refl
-none_turned (Same a b) k = absurd cc
+none_turned (Same a b) k = absurd (omega (arith, k))
 none_turned (IsLen p a) k = refl
 none_turned (Less p q c) k = refl
-none_turned (Sum t y z) k = absurd cc
+none_turned (Sum t y z) k = absurd (omega (arith, k))
 none_turned (Search p a) k = refl
 none_turned (Neg p a) k = refl
 none_turned (Upper p a Nothing c) k = refl
-none_turned (Upper p a (Plus q) c) k = absurd cc
+none_turned (Upper p a (Plus q) c) k = absurd (omega (arith, k))
 none_turned (Upper p a (Minus q) c) k = refl
 
 all_orders : (f : Fact) (facts : List Fact) → is_default f ≡ false → in_orders (f ∷ facts) ≡ f ∷ (turned_of f ++ in_orders facts)
@@ -279,10 +279,10 @@ same_tail : (f : Fact) (a b : List Fact) → f ∷ a ≡ f ∷ b → a ≡ b
 same_tail f a b e = cc
 
 each_plain : (facts : List Fact) → AllTell facts → in_orders facts ≡ facts → (f : Fact) → IsIn f facts → is_plain f ≡ true
-each_plain [] tells same f i = absurd i
-each_plain (g ∷ facts) tells same f i =
+each_plain [] tells whole f i = absurd i
+each_plain (g ∷ facts) tells whole f i =
     let left = λ (x : Fact) (j : IsIn x facts). tells x (inr j) in
-    let rest : turned_of g ++ in_orders facts ≡ facts = same_tail g _ _ (sym (all_orders g facts (tells g (inl refl))) ∙ same) in
+    let rest : turned_of g ++ in_orders facts ≡ facts = same_tail g _ _ (sym (all_orders g facts (tells g (inl refl))) ∙ whole) in
     let longer = no_shorter facts left in
     let both = length-append (turned_of g) (in_orders facts) in
     let sizes = ap length rest in
@@ -302,10 +302,10 @@ known_tells : (known : Known) → AllTell (facts_in known)
 known_tells known f i = (all_may known.table f i).tells
 
 pub without_plain : (is : Path → Bool) (known : Known) → in_orders (facts_in known) ≡ facts_in known → in_orders (without is (facts_in known)) ≡ without is (facts_in known)
-without_plain is known same =
+without_plain is known one =
     plain_orders (without is (facts_in known))
     (λ f i. known_tells known f (in_without is f (facts_in known) i).0)
-    (λ f i. each_plain (facts_in known) (known_tells known) same f (in_without is f (facts_in known) i).0)
+    (λ f i. each_plain (facts_in known) (known_tells known) one f (in_without is f (facts_in known) i).0)
 
 covers_plain : (g f : Fact) → Covers g f → is_plain g ≡ true → is_plain f ≡ true
 covers_plain _ _ (rng p l h m k x y) n = refl

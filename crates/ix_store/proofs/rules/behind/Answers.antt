@@ -23,13 +23,13 @@ returns-in-None c =
     let closed : IsClosedOf (facts_in rest ++ new) (facts_in rest) = subst (λ k. IsClosedOf (facts_in k ++ new) (facts_in k)) c.rest.ensures (at_none _ _ c.in-None.is c.in_ok-grown.ensures.same) in
     record { store = made_as c.held-in-None.result (facts_in rest ++ new) (Reached (facts_in rest)) c.held-in-None.ensures (known_closed rest (facts_in rest ++ new) closed) }
 
-pub of_table-requires-clause-closed : goal.of_table-requires-clause-closed
-of_table-requires-clause-closed c =
+pub of_table-requires : goal.of_table-requires
+of_table-requires c =
     let rest = rest_of c.args.known.now c.args.fewer in
     let new = c.args.new.items in
     let table = c.in-Some.over in
     let closed : IsClosedOf (facts_in rest ++ new) (facts_of table) = subst (λ k. IsClosedOf (facts_in k ++ new) (facts_of table)) c.rest.ensures (at_some _ c.in-Some.over (λ more. IsClosedOf (facts_in c.rest.result.now ++ new) (facts_of more)) c.in-Some.is c.in_ok-grown.ensures.more) in
-    is_closed (facts_in rest ++ new) (facts_of table) closed
+    record { closed = is_closed (facts_in rest ++ new) (facts_of table) closed }
 
 pub returns-in-Some : goal.returns-in-Some
 returns-in-Some c =

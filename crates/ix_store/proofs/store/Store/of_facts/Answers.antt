@@ -17,10 +17,10 @@ returns-in-None c =
     let closed : IsClosedOf c.args.facts.now (facts_in known) = subst (λ l. IsClosedOf l (facts_in known)) all (at_none _ _ c.in-None.is c.in_ok-grown.ensures.same) in
     record { store = made_as c.reached.result c.args.facts.now (Reached (facts_in known)) c.reached.ensures (known_closed known c.args.facts.now closed) }
 
-pub of_table-requires-clause-closed : goal.of_table-requires-clause-closed
-of_table-requires-clause-closed c =
+pub of_table-requires : goal.of_table-requires
+of_table-requires c =
     let all = facts_in c.in_ok-none.none ++ c.in_ok-told.told.items in
-    is_closed all (facts_of c.in-Some.over) (at_some _ c.in-Some.over (λ more. IsClosedOf all (facts_of more)) c.in-Some.is c.in_ok-grown.ensures.more)
+    record { closed = is_closed all (facts_of c.in-Some.over) (at_some _ c.in-Some.over (λ more. IsClosedOf all (facts_of more)) c.in-Some.is c.in_ok-grown.ensures.more) }
 
 pub returns-in-Some : goal.returns-in-Some
 returns-in-Some c =
