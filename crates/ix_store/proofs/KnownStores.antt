@@ -1,5 +1,5 @@
 -- Closed facts of which no range is empty are the store of themselves, and their numbers are small.
-use Rattle.std.specs.Prelude.{◌≡◌, ℕ, zero, suc, All, Bool, false, List, [], ◌∷◌, ◌++◌, ◌||◌, Option, Some, None, slice_get, take}
+use Rattle.std.specs.Prelude.{◌≡◌, ℕ, zero, suc, All, Bool, false, List, [], ◌∷◌, ◌++◌, Some, slice_get, take}
 use Rattle.std.proofs.Common.{inl, inr, ap, sym, ◌∙◌, subst}
 use Rattle.std.proofs.lemmas.List.{append-nil}
 use Rattle.std.proofs.lemmas.List.Elements.{All-nil, All-cons, All-head, All-tail}

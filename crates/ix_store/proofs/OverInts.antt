@@ -1,5 +1,5 @@
 -- The ints that a table's facts name are among those that it was made of, and what a step leaves names no changed path.
-use Rattle.std.specs.Prelude.{◌≡◌, ◌⊎◌, ◌≤◌, ◌||◌, Bool, true, false, cond, ℤ, List, [], ◌∷◌, ◌++◌, Option, Some, length, take, refl}
+use Rattle.std.specs.Prelude.{◌≡◌, ◌⊎◌, ◌≤◌, ◌||◌, Bool, true, false, ℤ, List, [], ◌∷◌, ◌++◌, length, take, refl}
 use Rattle.std.specs.Int.{int_min, int_max}
 use Rattle.std.proofs.Common.{arith, inl, inr, ap, sym, ◌∙◌, subst, ⊎_elim, length-append}
 use Rattle.std.proofs.lemmas.Bool.{false≢true}
@@ -33,8 +33,6 @@ use Rattle.ix_fact_list.specs.PutLaws.{IsRising, all_rise, all_stay, all_there}
 use Rattle.ix_changes.specs.ChangedPaths.{some_path, paths_beside}
 use Rattle.ix_changes.specs.Spared.{some_named, spared}
 use Rattle.ix_closure.specs.FactOrder.{comes_before}
-use Rattle.ix_closure.specs.FactTable.{FactTable}
-use Rattle.ix_closure.specs.FactTables.{facts_of, table_kind}
 use Rattle.ix_closure.specs.TableLaws.{all_may}
 use Rattle.ix_store.specs.declared.known.Known.{Known}
 use Rattle.ix_store.specs.StoredFacts.{facts_in}

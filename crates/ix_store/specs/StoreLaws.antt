@@ -1,8 +1,7 @@
 -- The order of stores is a preorder, and each strict rise lowers the rank.
-use Rattle.std.specs.Prelude.{◌≡◌, ℕ, ◌+◌, ◌*◌, ◌^◌, ◌<◌, ◌≤◌, Bool, true, false, cond, ◌||◌, ℤ, pos, negsuc, ◌≤ℤ◌, ◌-ℤ◌, int_lt, unsigned_abs, List, [], ◌∷◌, ◌++◌, length, Option, Some, None, refl}
+use Rattle.std.specs.Prelude.{◌≡◌, ℕ, ◌+◌, ◌*◌, ◌^◌, ◌<◌, ◌≤◌, Bool, true, false, cond, ◌||◌, ℤ, pos, negsuc, ◌≤ℤ◌, ◌-ℤ◌, int_lt, unsigned_abs, List, [], ◌∷◌, length, Option, Some, None, refl}
 use Rattle.std.specs.Ordering.{eq_by_cmp}
-use Rattle.std.proofs.Common.{arith, inl, inr, sym, ap, ◌∙◌, subst, ⊎_elim}
-use Rattle.std.proofs.lemmas.Bool.{false≢true}
+use Rattle.std.proofs.Common.{arith, inl, inr, ap, ◌∙◌, ⊎_elim}
 use Rattle.std.proofs.lemmas.Int.{ints, clamps}
 use Rattle.ix_core.specs.Ints.{least_int, greatest_int}
 use Rattle.ix_facts.specs.Lattice.{LatticeLaws, IsJoin}

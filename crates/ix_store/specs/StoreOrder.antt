@@ -1,5 +1,5 @@
 -- The order of stores and their rank.
-use Rattle.std.specs.Prelude.{ℕ, ◌+◌, ◌*◌, ◌^◌, Option, Some, None}
+use Rattle.std.specs.Prelude.{ℕ, ◌*◌, ◌^◌, Option, Some, None}
 use Rattle.ix_facts.specs.Stores.{IsBelow}
 use Rattle.ix_closure.specs.FactTables.{table_rank}
 use Rattle.ix_store.specs.declared.known.Known.{Known}

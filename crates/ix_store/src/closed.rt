@@ -2,12 +2,15 @@
 
 ghost use Rattle.std.specs.Prelude.{◌≡◌, ◌↔◌, ◌++◌, [], List, true, false, IsTrue, IsFalse, IfOk, IfSome, IfNone};
 ghost use Rattle.ix_core.specs.declared.fact.Fact.{Fact};
+ghost use Rattle.ix_facts.specs.Exact.{named_ints};
 ghost use Rattle.ix_facts.specs.Facts.{in_orders};
 ghost use Rattle.ix_facts.specs.Forget.{without};
 ghost use Rattle.ix_facts.specs.Systems.{HaveClasses};
 ghost use Rattle.ix_facts.specs.Stores.{IsStoreOf};
 ghost use Rattle.ix_facts.specs.Closure.{Closed, SaysAll, IsClosedOf, IsCommon};
-ghost use Rattle.ix_changes.specs.ChangedPaths.{is_changed};
+ghost use Rattle.ix_fact_list.specs.ByPath.{put_all};
+ghost use Rattle.ix_fact_list.specs.PutLaws.{IsRising};
+ghost use Rattle.ix_changes.specs.ChangedPaths.{is_changed, paths_beside};
 ghost use Rattle.ix_closure.specs.Beside.{are_plain};
 ghost use Rattle.ix_closure.specs.Saturated.{IsSaturated};
 ghost use Rattle.ix_closure.specs.FactTables.{facts_of};
@@ -17,10 +20,10 @@ ghost use Rattle.ix_store.specs.StoredFacts.{facts_in, stored_in};
 
 use crate::known::Known;
 use crate::orders::{ordered, orders_beside};
-use crate::over::{TableOver, ends_of, ints_and_arrays_of};
+use crate::over::{TableOver, ends_of, ints_and_arrays_of, is_long};
 use ix_changes::{Changed, changes_some, unchanged, unchanged_paths};
 use ix_closure::{FactTable, are_plain, more_beside, more_that_follows};
-use ix_core::Fact;
+use ix_core::{Fact, Path};
 use ix_fact_list::{before_links, have_one_order, with_ints};
 use ix_facts::Kind;
 use std::alloc::{AllocError, Global};
@@ -91,11 +94,7 @@ fn added_beside(alloc: Global, table: &FactTable, new: Vec<Fact>) -> Result<Vec<
 }
 
 /// The table with what follows from it and some facts, over more ints; none where it has all that.
-fn with_added(
-    alloc: Global,
-    known: &Known,
-    added: &[Fact],
-) -> Result<Option<TableOver>, AllocError>
+fn with_added(alloc: Global, known: &Known, added: &[Fact]) -> Result<Option<TableOver>, AllocError>
     requires classes { HaveClasses added.now }
     ensures same { IfOk result (λ more. IfNone more ((facts : List Fact) → IsSaturated facts (facts_in known.now ++ added.now) → IsClosedOf facts (facts_in known.now))) }
     ensures more { IfOk result (λ more. IfSome more (λ more. (facts : List Fact) → IsSaturated facts (facts_in known.now ++ added.now) → IsClosedOf facts (facts_of more))) }
@@ -103,10 +102,12 @@ fn with_added(
     match known.table.with_more(alloc, added)? {
         None => Ok(None),
         Some(table) => {
-            let ints = with_ints(alloc, &known.ints, added)?;
+            let told = is_long(&table);
+            let ints = known.ints_with(alloc, told, added)?;
             let over = TableOver {
                 table,
                 ints,
+                told,
                 plain: known.is_plain_with(added),
             };
             Ok(Some(over))
@@ -127,6 +128,47 @@ impl Known {
         ensures plain { IsTrue result → in_orders (facts_in self.now) ≡ facts_in self.now }
     {
         self.turned.is_none()
+    }
+
+    /// The ints that these facts or new ones name, where it is to be told.
+    fn ints_with(&self, alloc: Global, told: bool, new: &[Fact]) -> Result<Vec<Path>, AllocError>
+        ensures rising { IfOk result (λ ints. IsRising ints.items) }
+        ensures told { IfOk result (λ ints. IsTrue told → ints.items ≡ put_all self.now.ints.items (named_ints new.now)) }
+    {
+        if !told {
+            return Ok(Vec::new(alloc));
+        }
+        let ints = with_ints(alloc, &self.ints, new)?;
+        Ok(ints)
+    }
+
+    /// The ints that these facts name and the step doesn't change, where it is to be told.
+    fn ints_beside(
+        &self,
+        alloc: Global,
+        told: bool,
+        changed: &Changed,
+    ) -> Result<Vec<Path>, AllocError>
+        ensures rising { IfOk result (λ ints. IsRising ints.items) }
+        ensures told { IfOk result (λ ints. IsTrue told → ints.items ≡ paths_beside (is_changed changed.now) self.now.ints.items) }
+    {
+        if !told {
+            return Ok(Vec::new(alloc));
+        }
+        let ints = unchanged_paths(alloc, &self.ints, changed)?;
+        Ok(ints)
+    }
+
+    /// The ints that these facts name, where it is to be told.
+    fn ints_told(&self, alloc: Global, told: bool) -> Result<Vec<Path>, AllocError>
+        ensures rising { IfOk result (λ ints. IsRising ints.items) }
+        ensures told { IfOk result (λ ints. IsTrue told → ints.items ≡ self.now.ints.items) }
+    {
+        if !told {
+            return Ok(Vec::new(alloc));
+        }
+        let ints = Vec::from_slice(alloc, &self.ints)?;
+        Ok(ints)
     }
 
     /// Whether each fact has one order, and each new one too.
@@ -167,6 +209,7 @@ impl Known {
         let over = TableOver {
             table,
             ints: Vec::new(alloc),
+            told: false,
             plain: true,
         };
         Known::with_lists(alloc, over)
@@ -185,7 +228,11 @@ impl Known {
     }
 
     /// The table of all that follows from these and new facts; none where these say that already. The only error is want of memory.
-    pub(crate) fn grown(&self, alloc: Global, new: Vec<Fact>) -> Result<Option<TableOver>, AllocError>
+    pub(crate) fn grown(
+        &self,
+        alloc: Global,
+        new: Vec<Fact>,
+    ) -> Result<Option<TableOver>, AllocError>
         requires classes { HaveClasses new.items }
         ensures same { IfOk result (λ more. IfNone more (IsClosedOf (facts_in self.now ++ new.items) (facts_in self.now))) }
         ensures more { IfOk result (λ more. IfSome more (λ more. IsClosedOf (facts_in self.now ++ new.items) (facts_of more))) }
@@ -211,10 +258,13 @@ impl Known {
         ensures { IfOk result (λ over. facts_of over ≡ without (is_changed changed.now) (facts_in self.now)) }
     {
         let fewer = unchanged(alloc, self.table.as_slice(), changed)?;
-        let ints = unchanged_paths(alloc, &self.ints, changed)?;
+        let table = self.table.of_part(fewer);
+        let told = is_long(&table);
+        let ints = self.ints_beside(alloc, told, changed)?;
         let over = TableOver {
-            table: self.table.of_part(fewer),
+            table,
             ints,
+            told,
             plain: self.is_plain(),
         };
         Ok(over)
@@ -242,10 +292,12 @@ impl Known {
         ensures { IfOk result (λ over. IsCommon (facts_in self.now) (facts_in other.now) (facts_of over)) }
     {
         let table = self.table.common(alloc, &other.table)?;
-        let ints = Vec::from_slice(alloc, &self.ints)?;
+        let told = is_long(&table);
+        let ints = self.ints_told(alloc, told)?;
         let over = TableOver {
             table,
             ints,
+            told,
             plain: self.is_plain(),
         };
         Ok(over)

@@ -16,12 +16,16 @@ use ix_fact_list::{ints_and_arrays, ints_and_arrays_among, up_to_ends};
 use std::alloc::{AllocError, Global};
 use std::marker::Model;
 
-/// A table of facts of any kind, and paths in order: all ints that the facts name, and maybe others; and whether each fact is known to have one order. A clause sees the
-/// table.
+/// From how many facts on a table is long: in a shorter one ints are found as fast by a walk over its facts as among others.
+const LONG: usize = 512;
+
+/// A table of facts of any kind, and, where it is told, paths in order: all ints that the facts name, and maybe others; and whether each fact is known to have one order. A
+/// clause sees the table.
 #[derive(Drop)]
 pub(crate) struct TableOver {
     pub(crate) table: FactTable,
     pub(crate) ints: Vec<Path>,
+    pub(crate) told: bool,
     pub(crate) plain: bool,
 }
 
@@ -30,11 +34,28 @@ impl Model for TableOver {
 
     ghost view = { λ over. over.table };
 
-    ghost invariant = { λ over. IsOver over.table over.ints.items over.plain };
+    ghost invariant = { λ over. IsOver over.table over.ints.items over.told over.plain };
 }
 
-/// The ints and the arrays that the facts name, of which these are all in their orders. Where each has one order, its table tells where ints and arrays stand. The only
-/// error is want of memory.
+/// Whether the table is a long one. It is for speed alone.
+pub(crate) fn is_long(table: &FactTable) -> bool {
+    table.as_slice().len() >= LONG
+}
+
+/// The ints and the arrays that the facts name.
+fn named_paths(alloc: Global, over: &TableOver) -> Result<(Vec<Path>, Vec<Path>), AllocError>
+    ensures ints { IfOk result (λ paths. paths.0.items ≡ put_all [] (named_ints (facts_of over.now))) }
+    ensures arrays { IfOk result (λ paths. paths.1.items ≡ put_all [] (named_arrays (facts_of over.now))) }
+{
+    if !over.told {
+        return ints_and_arrays(alloc, over.table.as_slice());
+    }
+    let (first, differences, last) = over.table.around_differences();
+    let (ints, arrays) = ints_and_arrays_among(alloc, first, differences, last, &over.ints)?;
+    Ok((ints, arrays))
+}
+
+/// The ints and the arrays that the facts name, of which these are all in their orders. The only error is want of memory.
 pub(crate) fn ints_and_arrays_of(
     alloc: Global,
     over: &TableOver,
@@ -45,10 +66,7 @@ pub(crate) fn ints_and_arrays_of(
 {
     match turned {
         Some(_) => ints_and_arrays(alloc, ordered(over.table.as_slice(), turned)),
-        None => {
-            let (first, differences, last) = over.table.around_differences();
-            ints_and_arrays_among(alloc, first, differences, last, &over.ints)
-        }
+        None => named_paths(alloc, over),
     }
 }
 

@@ -2,7 +2,7 @@ use Rattle.std.proofs.Common.{◌≡◌, ◌++◌, sym, subst, ap, ◌∙◌}
 use Rattle.ix_facts.specs.declared.kind.Kind.TheVariants as kind
 use Rattle.ix_facts.specs.Kinds.{of_kind}
 use Rattle.ix_facts.specs.Systems.{HaveClasses, IsTable}
-use Rattle.ix_closure.specs.Beside.{AreBeside, are_plain}
+use Rattle.ix_closure.specs.Beside.{AreBeside}
 use Rattle.ix_closure.specs.Saturated.{IsSaturated}
 use Rattle.ix_closure.specs.FactTables.{facts_of}
 use Rattle.ix_facts.proofs.ClassesStay.{app_have}

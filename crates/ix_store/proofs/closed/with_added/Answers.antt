@@ -1,14 +1,11 @@
-use Rattle.std.proofs.Common.{◌≡◌, ◌++◌, ◌∙◌, ap, sym, subst}
-use Rattle.ix_facts.specs.Exact.{named_ints}
+use Rattle.std.proofs.Common.{◌≡◌, ◌++◌, ◌∙◌, sym, subst}
 use Rattle.ix_facts.specs.Kinds.{of_kind}
 use Rattle.ix_facts.specs.Named.{IsAmongPaths}
 use Rattle.ix_facts.specs.Systems.{IsTable}
-use Rattle.ix_fact_list.specs.ByPath.{put_all}
-use Rattle.ix_fact_list.specs.PutLaws.{IsRising}
 use Rattle.ix_closure.specs.FactTables.{facts_of, table_kind}
 use Rattle.ix_store.specs.StoredFacts.{facts_in}
 use Rattle.ix_store.proofs.GrownTables.{at_none, at_some}
-use Rattle.ix_store.proofs.OverInts.{known_rising, grown_among, grown_rising, grown_plain}
+use Rattle.ix_store.proofs.OverInts.{grown_among, grown_plain}
 use Rattle.ix_store.proofs.StoresOf.{added_closed}
 use Rattle.ix_store.proofs.closed.with_added.Goals as goal
 
@@ -17,9 +14,6 @@ returns-in-None-clause-same c =
     let known = c.args.known.now in
     added_closed (table_kind known.table) (facts_in known) c.args.added.now (facts_in known) known.kind (at_none _ _ c.in-None.is c.in_ok-with_more.ensures.same)
 
-pub with_ints-requires : goal.with_ints-requires
-with_ints-requires c = record { rising = subst IsRising (sym c.deref.ensures.value) (known_rising c.args.known.now) }
-
 pub invariant_of-over : goal.invariant_of-over
 invariant_of-over c =
     let known = c.args.known.now in
@@ -27,11 +21,10 @@ invariant_of-over c =
     let table = c.in-Some.table in
     let own = table_kind known.table in
     let is : IsTable (facts_in known ++ of_kind own added) (facts_of table) = at_some _ table (λ t. IsTable (facts_in known ++ of_kind own added) (facts_of t)) c.in-Some.is c.in_ok-with_more.ensures.table in
-    let ints : c.in_ok-ints-in-Some.ints.items ≡ put_all known.ints.items (named_ints added) = c.in_ok-ints-in-Some.ensures ∙ ap (λ l. put_all l (named_ints added)) c.deref.ensures.value in
     record {
       kind = at_some _ table (λ t. table_kind t ≡ own) c.in-Some.is c.in_ok-with_more.ensures.kind ∙ known.kind;
-      rising = subst IsRising (sym ints) (grown_rising known added);
-      among = λ p i. subst (IsAmongPaths p) (sym ints) (grown_among known added (facts_of table) own known.kind is p i);
+      rising = c.in_ok-ints-in-Some.ensures.rising;
+      among = λ t p i. subst (IsAmongPaths p) (sym (c.in_ok-ints-in-Some.ensures.told t)) (grown_among known added (facts_of table) own known.kind is p i);
       one_order = λ t. grown_plain known added (facts_of table) own known.kind is (c.is_plain_with.ensures.known t) (c.is_plain_with.ensures.new t);
     }
 

@@ -1,4 +1,4 @@
-use Rattle.std.proofs.Common.{◌≡◌, ◌≤◌, ◌++◌, sym, subst, ap, ◌∙◌, length, take}
+use Rattle.std.proofs.Common.{◌≡◌, ◌≤◌, ◌++◌, sym, subst, length, take}
 use Rattle.ix_fact_list.specs.Ends.{ends_in}
 use Rattle.ix_closure.specs.FactTables.{facts_of}
 use Rattle.ix_store.specs.Orders.{ordered_by}

@@ -1,4 +1,4 @@
-use Rattle.std.proofs.Common.{◌≡◌, ◌++◌, sym, subst, ◌∙◌}
+use Rattle.std.proofs.Common.{◌++◌, sym, subst, ◌∙◌}
 use Rattle.ix_facts.specs.Closure.{IsClosedOf}
 use Rattle.ix_facts.specs.Stores.{Reached}
 use Rattle.ix_facts.proofs.ClosureLaws.{is_closed}

@@ -1,5 +1,3 @@
-use Rattle.std.proofs.Common.{sym, subst}
-use Rattle.ix_facts.specs.Closure.{IsCommon}
 use Rattle.ix_facts.proofs.ClosureLaws.{common_closed}
 use Rattle.ix_closure.specs.FactTables.{facts_of}
 use Rattle.ix_store.specs.StoredFacts.{facts_in}

@@ -1,10 +1,5 @@
-use Rattle.std.specs.Prelude.{false}
-use Rattle.std.proofs.Common.{◌≡◌, ap, sym, subst, ◌∙◌, refl}
+use Rattle.std.proofs.Common.{ap, sym, subst}
 use Rattle.ix_facts.specs.Closure.{Closed}
-use Rattle.ix_facts.specs.Exact.{named_ints}
-use Rattle.ix_facts.specs.Facts.{in_orders}
-use Rattle.ix_facts.specs.Named.{IsAmongPaths}
-use Rattle.ix_closure.specs.FactTables.{facts_of}
 use Rattle.ix_store.specs.EmptyRanges.{some_empty}
 use Rattle.ix_store.proofs.NoFacts.{closed_none}
 use Rattle.ix_store.proofs.known.Known.none.Goals as goal

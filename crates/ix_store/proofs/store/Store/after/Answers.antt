@@ -1,4 +1,4 @@
-use Rattle.std.proofs.Common.{◌≡◌, ◌++◌, ap, sym, subst, ◌∙◌, refl}
+use Rattle.std.proofs.Common.{◌≡◌, ◌++◌, subst, refl}
 use Rattle.ix_facts.specs.After.{of_target}
 use Rattle.ix_facts.specs.Facts.{in_orders}
 use Rattle.ix_facts.specs.Forget.{without}

@@ -1,4 +1,4 @@
-use Rattle.std.proofs.Common.{◌≡◌, ◌++◌, ap, sym, subst, ◌∙◌, refl}
+use Rattle.std.proofs.Common.{◌≡◌, ◌++◌, subst, refl}
 use Rattle.ix_facts.specs.Forget.{of_path, without}
 use Rattle.ix_facts.specs.Stores.{Reached, with_copy}
 use Rattle.ix_facts.specs.SameFacts.{AreSame}

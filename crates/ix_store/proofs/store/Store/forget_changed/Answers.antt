@@ -1,6 +1,6 @@
-use Rattle.std.proofs.Common.{◌≡◌, ap, sym, subst, ◌∙◌}
+use Rattle.std.proofs.Common.{◌≡◌, sym, subst}
 use Rattle.ix_facts.specs.Forget.{without}
-use Rattle.ix_facts.specs.Stores.{Stored, Reached, IsStoreOf, IsForgotten}
+use Rattle.ix_facts.specs.Stores.{Reached, IsStoreOf, IsForgotten}
 use Rattle.ix_changes.specs.ChangedPaths.{is_changed}
 use Rattle.ix_store.specs.NewFacts.{rest_of}
 use Rattle.ix_store.specs.StoredFacts.{facts_in, stored}

@@ -1,0 +1,15 @@
+use Rattle.std.proofs.Common.{ap, sym, subst, ◌∙◌}
+use Rattle.ix_facts.specs.Exact.{named_ints}
+use Rattle.ix_fact_list.specs.ByPath.{put_all}
+use Rattle.ix_fact_list.specs.PutLaws.{IsRising}
+use Rattle.ix_store.proofs.OverInts.{known_rising, grown_rising}
+use Rattle.ix_store.proofs.known.Known.ints_with.Goals as goal
+
+pub with_ints-requires : goal.with_ints-requires
+with_ints-requires c = record { rising = subst IsRising (sym c.deref.ensures.value) (known_rising c.args.self.now) }
+
+pub returns-clause-rising : goal.returns-clause-rising
+returns-clause-rising c = subst IsRising (sym (c.in_ok-ints.ensures ∙ ap (λ l. put_all l (named_ints c.args.new.now)) c.deref.ensures.value)) (grown_rising c.args.self.now c.args.new.now)
+
+pub returns-clause-told : goal.returns-clause-told
+returns-clause-told c t = c.in_ok-ints.ensures ∙ ap (λ l. put_all l (named_ints c.args.new.now)) c.deref.ensures.value
