@@ -1,13 +1,12 @@
 //! Rows of what operations and claims give, and of what is proved, over a plain list of facts.
 
-use crate::does::{Does, operation};
 use crate::known::small_facts;
-use crate::said::says_all;
 use ix_after::{facts_after, push_claim};
 use ix_claims::is_proved;
 use ix_core::{Fact, OpKind, Path, PathClaim, Profile};
 use ix_fact_list::FactList;
 use ix_fact_paths::facts_without_target;
+use ix_fact_steps::{Does, operation, says_all};
 use std::alloc::Global;
 use std::process::Abort;
 

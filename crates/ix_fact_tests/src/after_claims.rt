@@ -2,9 +2,9 @@
 
 use crate::after::Step::{Claimed, End, Has, Known, New, Proves};
 use crate::after::{Step, agree};
-use crate::paths::{S0, S1, S2, S5, S6, S9F0, S9F1};
 use ix_core::Fact::{IsLen, LenRng, Less, Low, Neg, Rng, Same, Search, Upper};
 use ix_core::{PathClaim, PathOff};
+use ix_fact_steps::paths::{S0, S1, S2, S5, S6, S9F0, S9F1};
 
 /// A claim, its path, and the facts that it adds.
 #[rattlefmt::skip]

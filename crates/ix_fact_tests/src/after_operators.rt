@@ -2,10 +2,10 @@
 
 use crate::after::Step::{After, End, Has, Known, New};
 use crate::after::{Step, agree};
-use crate::does::Does;
-use crate::paths::{S0, S1, S2, S3, S5, S6, S9F0, S9F1};
 use ix_core::Fact::{IsLen, Less, Low, Rng, Same, Sum, Upper};
 use ix_core::{PathOff, Profile};
+use ix_fact_steps::Does;
+use ix_fact_steps::paths::{S0, S1, S2, S3, S5, S6, S9F0, S9F1};
 use ix_num::Arith;
 
 /// What is known, the profile, the target, the operation and what is newly known after it.

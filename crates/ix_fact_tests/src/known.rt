@@ -1,52 +1,19 @@
 //! What is known, within the bounds that the calls ask for.
 
-ghost use Rattle.std.specs.Prelude.{◌≡◌, All, IsTrue, IfOk, ◌++◌};
+ghost use Rattle.std.specs.Prelude.{◌≡◌, All, IfOk, ◌++◌};
 ghost use Rattle.ix_facts.specs.Closure.{SaysAll};
 ghost use Rattle.ix_facts.specs.Forget.{of_path, without};
 ghost use Rattle.ix_facts.specs.After.{of_target};
-ghost use Rattle.ix_facts.specs.Small.{IsEnd, IsClass, HasSmallNumbers};
-ghost use Rattle.ix_facts.specs.Systems.{HaveClasses, IsProper};
+ghost use Rattle.ix_facts.specs.Small.{HasSmallNumbers};
+ghost use Rattle.ix_facts.specs.Systems.{HaveClasses};
 ghost use Rattle.ix_facts.specs.Round.{Rises};
 
 use ix_core::{Fact, List, OpKind, Path};
 use ix_fact_list::FactList;
-use ix_facts::{Landmarks, System, is_same_path};
+use ix_fact_steps::is_small;
+use ix_facts::{Landmarks, System};
 use std::alloc::{AllocError, Global};
 use std::process::Abort;
-
-fn is_end(n: i64) -> bool
-    ensures { IsTrue result → IsEnd n }
-{
-    -68719476736 < n && n < 68719476736
-}
-
-fn is_class(n: i32) -> bool
-    ensures { IsTrue result → IsClass n }
-{
-    -1 <= n && n <= 1
-}
-
-fn is_small(fact: &Fact) -> bool
-    ensures { IsTrue result → HasSmallNumbers fact.now }
-{
-    match *fact {
-        Fact::Rng(_, low, high) => is_end(low) && is_end(high),
-        Fact::LenRng(_, low, high) => is_end(low) && is_end(high),
-        Fact::Low(_, c) => is_class(c),
-        _ => true,
-    }
-}
-
-/// Whether the fact may be added to a table.
-pub fn is_proper(fact: &Fact) -> bool
-    ensures { IsTrue result → IsProper fact.now }
-{
-    match *fact {
-        Fact::Low(_, c) => is_class(c),
-        Fact::Less(p, q, _) => !is_same_path(&p, &q),
-        _ => true,
-    }
-}
 
 /// The facts, whose numbers have to be small.
 #[tactic(auto, using(ix_systems::proofs::KnownClasses::small_classes))]

@@ -1,6 +1,6 @@
-//! Tests of facts: of lattices, lists of facts, what operations give, the six tables, and stores, with values from an independent checker or worked out by hand.
+//! Tests of facts: of lattices, lists of facts, what operations give, and the six tables, with values from an independent checker or worked out by hand.
 //!
-//! What goes in: rows of plain steps, each with what is to be seen behind it. They stand in a crate of their own, since a crate with tests is proved a second time.
+//! What goes in: rows of plain steps (`ix_fact_steps`), each with what is to be seen behind it. They stand in a crate of their own, since a crate with tests is proved a second time.
 #![tactic(auto)]
 
 #[cfg(test)]
@@ -12,45 +12,11 @@ mod after_operators;
 #[cfg(test)]
 mod after_others;
 #[cfg(test)]
-mod does;
-#[cfg(test)]
-mod drawn;
-#[cfg(test)]
 mod known;
 #[cfg(test)]
 mod lattices;
 #[cfg(test)]
 mod lists;
-#[cfg(test)]
-mod paths;
-#[cfg(test)]
-mod said;
-#[cfg(test)]
-mod store_changes;
-#[cfg(test)]
-mod store_claims;
-#[cfg(test)]
-mod store_closing;
-#[cfg(test)]
-mod store_comparisons;
-#[cfg(test)]
-mod store_copies;
-#[cfg(test)]
-mod store_drawn;
-#[cfg(test)]
-mod store_joins;
-#[cfg(test)]
-mod store_operations;
-#[cfg(test)]
-mod store_rounding;
-#[cfg(test)]
-mod store_sharing;
-#[cfg(test)]
-mod store_sums;
-#[cfg(test)]
-mod store_unreachable;
-#[cfg(test)]
-mod stores;
 #[cfg(test)]
 mod table_copies;
 #[cfg(test)]

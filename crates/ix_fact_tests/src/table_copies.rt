@@ -1,11 +1,11 @@
 //! What copies give: of slots, and of fields that are read or written.
 
-use crate::does::{Does, Holds};
-use crate::paths::{S0, S1, S2, S3, S3F0, S4F0, S5, S6, S7, S9F0, S9F1};
 use crate::tables::Step::{After, Copied, Facts, Has, Known, New};
 use crate::tables::{Step, agree};
 use ix_core::Fact::{IsLen, LenRng, Less, Low, Rng, Same, Search, Sum, Upper};
 use ix_core::{PathOff, Profile};
+use ix_fact_steps::paths::{S0, S1, S2, S3, S3F0, S4F0, S5, S6, S7, S9F0, S9F1};
+use ix_fact_steps::{Does, Holds};
 
 /// What is known, and an operation; what the six tables say after it.
 #[rattlefmt::skip]

@@ -1,10 +1,10 @@
 //! Tables of facts, and tables with one fact more, without what names a path, or moved to landmarks.
 
-use crate::paths::{S0, S1, S5, S6, S9, S9F0, S9F1, S9F7};
 use crate::tables::Step::{Add, Facts, Forget, Has, Known, New, Round, Table};
 use crate::tables::{Step, agree};
 use ix_core::Fact::{IsLen, LenRng, Less, Low, Neg, Rng, Same, Search, Sum, Upper};
 use ix_core::PathOff;
+use ix_fact_steps::paths::{S0, S1, S5, S6, S9, S9F0, S9F1, S9F7};
 
 /// Facts, and the six tables of them.
 #[rattlefmt::skip]

@@ -1,9 +1,9 @@
 //! What operations give of many facts, and joins of many.
 
-use crate::does::{Does, Holds};
 use crate::tables::Step::{After, Checksum, Drawn, Join, New, OtherDrawn};
 use crate::tables::{Step, agree};
 use ix_core::{Profile, UnaryNum};
+use ix_fact_steps::{Does, Holds};
 use ix_num::Arith;
 
 /// Where the drawing of facts starts and how many are drawn, and an operation; the checksum of what the six tables say after it.

@@ -1,10 +1,10 @@
 //! Joins of tables, and their order.
 
-use crate::paths::{S0, S1, S5, S6, S9F0};
 use crate::tables::Step::{Below, Facts, Has, Join, Known, New, Other};
 use crate::tables::{Step, agree};
 use ix_core::Fact::{IsLen, LenRng, Less, Low, Neg, Rng, Same, Search, Sum, Upper};
 use ix_core::PathOff;
+use ix_fact_steps::paths::{S0, S1, S5, S6, S9F0};
 
 /// Two lists of facts, and the joins of their six tables.
 #[rattlefmt::skip]

@@ -1,11 +1,11 @@
 //! What sums and differences give.
 
-use crate::does::Does;
-use crate::paths::{S0, S1, S2, S3, S3F0, S5, S6, S9F0, S9F1};
 use crate::tables::Step::{After, Facts, Has, Known, New};
 use crate::tables::{Step, agree};
 use ix_core::Fact::{IsLen, LenRng, Less, Low, Neg, Rng, Same, Search, Sum, Upper};
 use ix_core::{PathOff, Profile};
+use ix_fact_steps::Does;
+use ix_fact_steps::paths::{S0, S1, S2, S3, S3F0, S5, S6, S9F0, S9F1};
 use ix_num::Arith;
 
 /// What is known, and an operation; what the six tables say after it.

@@ -1,10 +1,8 @@
 //! Rows of what the six tables of facts answer.
 
-use crate::does::{Does, Holds, operation, type_of};
-use crate::drawn::{drawn_facts, with_fact};
-use crate::known::{is_proper, known_beside_path, known_beside_target, landmarks, small_facts};
-use crate::said::is_fact;
+use crate::known::{known_beside_path, known_beside_target, landmarks, small_facts};
 use ix_core::{Fact, List, Op, OpKind, Path, Profile};
+use ix_fact_steps::{Does, Holds, drawn_facts, is_fact, is_proper, operation, type_of, with_fact};
 use ix_facts::System;
 use ix_lattice::Lattice;
 use ix_systems::{Bounds, Differences, FactsOf, Lengths, Lows, OneKind, Ranges, Searches};

@@ -1,13 +1,15 @@
 //! What field writes and calls leave known, and calls of the parent's constructor.
 
-use crate::does::Holds;
-use crate::paths::{S0, S0F0, S0F1, S0F2, S0F7, S1, S1F0, S2, S3, S3F0, S3F1, S4, S4F0, S4F1, S5};
 use crate::stores::Step::{
     Ask, Call, Called, Copied, Facts, Field, Forget, Has, Know, New, Parent,
 };
 use crate::stores::{Question, Step, in_both};
 use ix_core::Fact::{IsLen, LenRng, Less, Low, Rng, Same, Sum, Upper};
 use ix_core::PathOff;
+use ix_fact_steps::Holds;
+use ix_fact_steps::paths::{
+    S0, S0F0, S0F1, S0F2, S0F7, S1, S1F0, S2, S3, S3F0, S3F1, S4, S4F0, S4F1, S5,
+};
 
 /// Rows of both profiles.
 #[rattlefmt::skip]

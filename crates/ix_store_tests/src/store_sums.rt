@@ -1,11 +1,11 @@
 //! Sums, differences, products and halves, with what is known of their operands.
 
-use crate::does::Does;
-use crate::paths::{S0, S1, S2, S3, S4, S5};
 use crate::stores::Step::{Ask, Assume, Do, Facts, Has, Know, New, Nowhere};
 use crate::stores::{Question, Step, ideal, in_both, int32};
 use ix_core::Fact::{IsLen, LenRng, Less, Low, Neg, Rng, Same, Search, Sum, Upper};
 use ix_core::{PathClaim, PathOff, UnaryNum};
+use ix_fact_steps::Does;
+use ix_fact_steps::paths::{S0, S1, S2, S3, S4, S5};
 use ix_num::Arith;
 
 /// Rows of both profiles.

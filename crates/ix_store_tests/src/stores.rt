@@ -1,9 +1,8 @@
 //! Rows of stores: steps from store to store, with what is known behind them.
 
-use crate::does::{Does, Holds, operation, type_of};
 use crate::known::small_facts;
-use crate::said::is_among;
 use ix_core::{Base, Fact, Field, List, Path, PathClaim, PathOff, Profile, Program, Type_};
+use ix_fact_steps::{Does, Holds, is_among, operation, type_of};
 use ix_facts::{Know, Landmarks};
 use ix_lattice::Lattice;
 use ix_num::Rel;

@@ -1,11 +1,11 @@
 //! Joins: what both stores say, in either order.
 
-use crate::does::Does;
-use crate::paths::{S0, S1, S2, S5, S6, S7};
 use crate::stores::Step::{Ask, Assume, Back, Below, Do, Empty, Facts, Has, Join, Keep, Know, New};
 use crate::stores::{Question, Step, in_both};
 use ix_core::Fact::{LenRng, Less, Low, Rng, Same, Search, Sum, Upper};
 use ix_core::{PathClaim, PathOff};
+use ix_fact_steps::Does;
+use ix_fact_steps::paths::{S0, S1, S2, S5, S6, S7};
 
 /// Rows of both profiles.
 #[rattlefmt::skip]

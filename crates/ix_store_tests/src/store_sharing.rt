@@ -1,7 +1,5 @@
 //! Stores that are shared: a change of one leaves the others as they were.
 
-use crate::does::{Does, Holds};
-use crate::paths::{S0, S0F0, S1, S5};
 use crate::stores::Step::{
     Assume, Back, Below, Copied, Do, Facts, Field, Forget, Has, If, Join, Keep, Know, New, Nowhere,
     Round, Unreachable,
@@ -9,6 +7,8 @@ use crate::stores::Step::{
 use crate::stores::{Step, in_both};
 use ix_core::Fact::{LenRng, Less, Low, Rng};
 use ix_core::PathClaim;
+use ix_fact_steps::paths::{S0, S0F0, S1, S5};
+use ix_fact_steps::{Does, Holds};
 use ix_num::Rel;
 
 /// Rows of both profiles.

@@ -1,13 +1,13 @@
 //! Drawn sequences.
 
-use crate::does::{Does, Holds};
-use crate::paths::{S0, S1, S2, S3, S5, S6, S9F0};
 use crate::stores::Step::{
     Assume, Below, Copied, Do, Facts, Field, Forget, Has, If, Join, Keep, New, Round, Unless,
 };
 use crate::stores::{Step, ideal, in_both, int32};
 use ix_core::Fact::{IsLen, LenRng, Less, Low, Neg, Rng, Same, Search, Sum, Upper};
 use ix_core::{PathClaim, PathOff, UnaryNum};
+use ix_fact_steps::paths::{S0, S1, S2, S3, S5, S6, S9F0};
+use ix_fact_steps::{Does, Holds};
 use ix_num::{Arith, Rel};
 
 /// Rows of both profiles.

@@ -1,11 +1,11 @@
 //! Rounding: constants move to landmarks, and slots above the scope are dropped.
 
-use crate::does::{Does, Holds};
-use crate::paths::{S0, S1, S1F9, S2, S3, S3F0, S5, S6, S7};
 use crate::stores::Step::{Ask, Assume, Do, Facts, Has, Know, New, Round};
 use crate::stores::{Question, Step, in_both};
 use ix_core::Fact::{IsLen, LenRng, Less, Low, Neg, Rng, Same, Search, Sum, Upper};
 use ix_core::{PathClaim, PathOff};
+use ix_fact_steps::paths::{S0, S1, S1F9, S2, S3, S3F0, S5, S6, S7};
+use ix_fact_steps::{Does, Holds};
 
 /// Rows of both profiles.
 #[rattlefmt::skip]

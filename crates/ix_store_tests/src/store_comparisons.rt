@@ -1,11 +1,11 @@
 //! What tests tell.
 
-use crate::does::{Does, Holds};
-use crate::paths::{S0, S1, S2, S3, S5, S6};
 use crate::stores::Step::{Ask, Assume, Do, Facts, Has, If, Know, New, Nowhere, Unless};
 use crate::stores::{Question, Step, in_both};
 use ix_core::Fact::{IsLen, LenRng, Less, Low, Neg, Rng, Same, Search, Sum, Upper};
 use ix_core::{PathClaim, PathOff};
+use ix_fact_steps::paths::{S0, S1, S2, S3, S5, S6};
+use ix_fact_steps::{Does, Holds};
 use ix_num::Rel;
 
 /// Rows of both profiles.

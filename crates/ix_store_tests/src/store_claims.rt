@@ -1,11 +1,11 @@
 //! What is known where claims are assumed, and which claims are proved.
 
-use crate::does::Does;
-use crate::paths::{S0, S0F1, S1, S5, S6, S7};
 use crate::stores::Step::{Ask, Assume, Do, Facts, Has, New, Nowhere, Proves};
 use crate::stores::{Question, Step, in_both};
 use ix_core::Fact::{IsLen, LenRng, Less, Low, Neg, Rng, Same, Search, Upper};
 use ix_core::{PathClaim, PathOff};
+use ix_fact_steps::Does;
+use ix_fact_steps::paths::{S0, S0F1, S1, S5, S6, S7};
 
 /// Rows of both profiles.
 #[rattlefmt::skip]

@@ -1,11 +1,11 @@
 //! What operations give, one after the other.
 
-use crate::does::{Does, Holds};
-use crate::paths::{S0, S1, S2, S3, S4, S5, S6};
 use crate::stores::Step::{Ask, Assume, Do, Facts, Has, Know, New};
 use crate::stores::{Question, Step, ideal, in_both, int32};
 use ix_core::Fact::{IsLen, LenRng, Less, Low, Neg, Rng, Same, Search, Sum, Upper};
 use ix_core::{Claim, PathClaim, PathOff, UnaryNum};
+use ix_fact_steps::paths::{S0, S1, S2, S3, S4, S5, S6};
+use ix_fact_steps::{Does, Holds};
 use ix_num::Arith;
 
 /// Rows of both profiles.

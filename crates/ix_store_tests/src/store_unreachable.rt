@@ -1,7 +1,5 @@
 //! Stores at places where no state is.
 
-use crate::does::{Does, Holds};
-use crate::paths::{S0, S1, S2, S5, S6, S9F0};
 use crate::stores::Step::{
     Ask, Assume, Back, Below, Call, Copied, Do, Empty, Facts, Field, Forget, Has, If, Join, Keep,
     Know, New, Nowhere, Parent, Proves, Round, Unreachable,
@@ -9,6 +7,8 @@ use crate::stores::Step::{
 use crate::stores::{Question, Step, in_both};
 use ix_core::Fact::{LenRng, Low, Rng};
 use ix_core::{PathClaim, PathOff};
+use ix_fact_steps::paths::{S0, S1, S2, S5, S6, S9F0};
+use ix_fact_steps::{Does, Holds};
 use ix_num::{Arith, Rel};
 
 /// Rows of both profiles.

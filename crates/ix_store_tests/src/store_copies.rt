@@ -1,11 +1,11 @@
 //! What copies give, between slots and fields.
 
-use crate::does::{Does, Holds};
-use crate::paths::{S0, S1, S2, S3, S5, S6, S7, S9F0, S9F1};
 use crate::stores::Step::{Ask, Assume, Copied, Do, Facts, Has, Know, New};
 use crate::stores::{Question, Step, in_both};
 use ix_core::Fact::{IsLen, LenRng, Less, Low, Neg, Rng, Same, Search, Sum, Upper};
 use ix_core::{PathClaim, PathOff};
+use ix_fact_steps::paths::{S0, S1, S2, S3, S5, S6, S7, S9F0, S9F1};
+use ix_fact_steps::{Does, Holds};
 
 /// Rows of both profiles.
 #[rattlefmt::skip]

@@ -1,10 +1,10 @@
 //! Facts of each kind, what follows from them, and the bounds that they give.
 
-use crate::paths::{S0, S1, S2, S3, S5, S6, S7, S8};
 use crate::stores::Step::{Ask, Facts, Has, Know, New, Proves};
 use crate::stores::{Question, Step, in_both};
 use ix_core::Fact::{IsLen, LenRng, Less, Low, Neg, Rng, Same, Search, Sum, Upper};
 use ix_core::{PathClaim, PathOff};
+use ix_fact_steps::paths::{S0, S1, S2, S3, S5, S6, S7, S8};
 
 /// Rows of both profiles.
 #[rattlefmt::skip]
