@@ -12,6 +12,7 @@ use Rattle.ix_index.specs.Facts.{orders, is_default, in_orders}
 use Rattle.ix_index.specs.Small.{HasSmallNumbers}
 use Rattle.ix_index.specs.Bounds
 use Rattle.ix_index.specs.Bounds.{is_path, when}
+use Rattle.ix_bounds.specs.Lengths.{length_less_by}
 
 module _ (facts : List Fact) (p : Path) (fact : Fact) where
   pub lower_of_less : (q r : Path) (c n : ℤ) → fact ≡ Less q r c → is_path r p ≡ true → n ≡ Bounds.range_low facts q -ℤ c +ℤ pos 1 → Some n ≡ Bounds.lower_by facts p fact
@@ -23,8 +24,8 @@ module _ (facts : List Fact) (p : Path) (fact : Fact) where
   pub limit_of_upper : (r a : Path) (c n : ℤ) → fact ≡ Upper r a Nothing c → is_path r p ≡ true → n ≡ Bounds.length_high facts a -ℤ pos 1 -ℤ c → Some n ≡ Bounds.limit_by facts p fact
   limit_of_upper r a c n e t i = subst (λ f. Some n ≡ Bounds.limit_by facts p f) (sym e) (ap Some i ∙ ap (λ x. when x (Some (Bounds.length_high facts a -ℤ pos 1 -ℤ c))) (sym t))
 
-  pub less_of_length : (q r a : Path) (n : Option ℤ) → fact ≡ IsLen r a → is_path r q ≡ true → n ≡ option_map (λ c. pos 0 -ℤ c) (Bounds.stored_upper facts p a Nothing) → n ≡ Bounds.stored_less_by facts p q fact
-  less_of_length q r a n e t i = subst (λ f. n ≡ Bounds.stored_less_by facts p q f) (sym e) (i ∙ ap (λ x. when x (option_map (λ c. pos 0 -ℤ c) (Bounds.stored_upper facts p a Nothing))) (sym t))
+  pub less_of_length : (q r a : Path) (n : Option ℤ) → fact ≡ IsLen r a → is_path r q ≡ true → n ≡ option_map (λ c. pos 0 -ℤ c) (Bounds.stored_upper facts p a Nothing) → n ≡ length_less_by facts p q fact
+  less_of_length q r a n e t i = subst (λ f. n ≡ length_less_by facts p q f) (sym e) (i ∙ ap (λ x. when x (option_map (λ c. pos 0 -ℤ c) (Bounds.stored_upper facts p a Nothing))) (sym t))
 
 -- the ends of ranges are small in each order of a fact
 pub one_small : (f : Fact) → HasSmallNumbers f → All HasSmallNumbers (f ∷ [])

@@ -1,6 +1,7 @@
 pub mod Looks
 pub mod OnPath
 pub mod PartsAlone
+pub mod LessParts
 pub mod BestOfParts
 pub mod ArraysAlike
 pub mod BoundSteps

@@ -12,6 +12,7 @@ use Rattle.ix_index.specs.Assume.{has, is_length, is_search, is_negative}
 use Rattle.ix_index.specs.Forget.{names}
 use Rattle.ix_index.specs.OnPaths.{LooksOnly, HasNamed}
 use Rattle.ix_index.specs.Cases.{by_test}
+use Rattle.ix_bounds.specs.Lengths.{length_less_by}
 use Rattle.ix_index.proofs.Tests.{off, not_first, not_second, no_number}
 
 both_first : (x y : Bool) → x ≡ false → (x && y) ≡ false
@@ -112,17 +113,17 @@ module _ (facts : List Fact) where
   looks_limit p (Search p1 a1) n = refl
   looks_limit p (Neg p1 a1) n = refl
 
-  pub looks_stored_less : (p q : Path) → LooksOnly q (Bounds.stored_less_by facts p q)
-  looks_stored_less p q (Less r s c) n = no_number (is_path r p && is_path s q) _ (both_second (is_path r p) (is_path s q) (off q s (not_second (is_path q r) _ n)))
-  looks_stored_less p q (IsLen r a) n = no_number (is_path r q) _ (off q r (not_first (is_path q r) _ n))
-  looks_stored_less p q (Rng p1 l1 h1) n = refl
-  looks_stored_less p q (LenRng a1 l1 h1) n = refl
-  looks_stored_less p q (Low p1 c1) n = refl
-  looks_stored_less p q (Same a1 b1) n = refl
-  looks_stored_less p q (Sum t1 y1 z1) n = refl
-  looks_stored_less p q (Search p1 a1) n = refl
-  looks_stored_less p q (Neg p1 a1) n = refl
-  looks_stored_less p q (Upper p1 a1 o1 c1) n = refl
+  pub looks_length_less : (p q : Path) → LooksOnly q (length_less_by facts p q)
+  looks_length_less p q (IsLen r a) n = no_number (is_path r q) _ (off q r (not_first (is_path q r) _ n))
+  looks_length_less p q (Rng p1 l1 h1) n = refl
+  looks_length_less p q (LenRng a1 l1 h1) n = refl
+  looks_length_less p q (Low p1 c1) n = refl
+  looks_length_less p q (Same a1 b1) n = refl
+  looks_length_less p q (Less p1 q1 c1) n = refl
+  looks_length_less p q (Sum t1 y1 z1) n = refl
+  looks_length_less p q (Search p1 a1) n = refl
+  looks_length_less p q (Neg p1 a1) n = refl
+  looks_length_less p q (Upper p1 a1 o1 c1) n = refl
 
   pub looks_stored_upper : (p a : Path) (o : PathOff) → LooksOnly p (Bounds.stored_upper_by facts p a o)
   looks_stored_upper p a Nothing (Upper r b x c) n = no_number (is_path r p && (Bounds.are_same facts b a && is_offset x Nothing)) _ (both_first (is_path r p) _ (off p r (not_first (is_path p r) _ n)))

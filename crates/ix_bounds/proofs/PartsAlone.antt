@@ -13,7 +13,8 @@ use Rattle.ix_index.specs.OnPaths.{HasNamed, best_on}
 use Rattle.ix_index.specs.Cases.{by_test}
 use Rattle.ix_bounds.specs.Ends.{is_end, ends_in}
 use Rattle.ix_bounds.specs.Links.{is_link, links_in}
-use Rattle.ix_bounds.proofs.Looks.{looks_lower, looks_stored_less, looks_fact_less}
+use Rattle.ix_bounds.specs.Lengths.{is_len, lengths_in, length_less_by}
+use Rattle.ix_bounds.proofs.Looks.{looks_lower, looks_length_less, looks_fact_less}
 use Rattle.ix_bounds.proofs.OnPath.{length_low_is, length_high_is, range_low_is, range_high_is}
 
 -- A fact that is none of these gives no number.
@@ -111,17 +112,17 @@ links_lower all p (Search p1 a1) n = refl
 links_lower all p (Neg p1 a1) n = refl
 links_lower all p (Upper p1 a1 o1 c1) n = refl
 
-links_stored : (all : List Fact) (p q : Path) → LooksAt is_link (Bounds.stored_less_by all p q)
-links_stored all p q (Rng p1 l1 h1) n = refl
-links_stored all p q (LenRng a1 l1 h1) n = refl
-links_stored all p q (Low p1 c1) n = refl
-links_stored all p q (Same a1 b1) n = refl
-links_stored all p q (IsLen p1 a1) n = absurd (false≢true (sym n))
-links_stored all p q (Less p1 q1 c1) n = absurd (false≢true (sym n))
-links_stored all p q (Sum t1 y1 z1) n = refl
-links_stored all p q (Search p1 a1) n = refl
-links_stored all p q (Neg p1 a1) n = refl
-links_stored all p q (Upper p1 a1 o1 c1) n = refl
+lengths_less : (all : List Fact) (p q : Path) → LooksAt is_len (length_less_by all p q)
+lengths_less all p q (Rng p1 l1 h1) n = refl
+lengths_less all p q (LenRng a1 l1 h1) n = refl
+lengths_less all p q (Low p1 c1) n = refl
+lengths_less all p q (Same a1 b1) n = refl
+lengths_less all p q (IsLen p1 a1) n = absurd (false≢true (sym n))
+lengths_less all p q (Less p1 q1 c1) n = refl
+lengths_less all p q (Sum t1 y1 z1) n = refl
+lengths_less all p q (Search p1 a1) n = refl
+lengths_less all p q (Neg p1 a1) n = refl
+lengths_less all p q (Upper p1 a1 o1 c1) n = refl
 
 links_fact : (p q : Path) → LooksAt is_link (fact_less_by p q)
 links_fact p q (Rng p1 l1 h1) n = refl
@@ -142,10 +143,10 @@ module _ (part all : List Fact) where
       let alone = best_part int_max is_link (Bounds.lower_by all p) (links_lower all p) in
       ap (at_least (Bounds.range_low all p)) (sym (alone part) ∙ (best_on int_max p (Bounds.lower_by all p) (links_in part) (links_in all) (looks_lower all p) n ∙ alone all))
 
-  pub stored_less_of : (p q : Path) → HasNamed q (links_in part) (links_in all) → least (Bounds.stored_less_by all p q) part ≡ Bounds.stored_less all p q
-  stored_less_of p q n =
-      let alone = best_part int_min is_link (Bounds.stored_less_by all p q) (links_stored all p q) in
-      sym (alone part) ∙ (best_on int_min q (Bounds.stored_less_by all p q) (links_in part) (links_in all) (looks_stored_less all p q) n ∙ alone all)
+  pub length_less_of : (p q : Path) → HasNamed q (lengths_in part) (lengths_in all) → least (length_less_by all p q) part ≡ least (length_less_by all p q) all
+  length_less_of p q n =
+      let alone = best_part int_min is_len (length_less_by all p q) (lengths_less all p q) in
+      sym (alone part) ∙ (best_on int_min q (length_less_by all p q) (lengths_in part) (lengths_in all) (looks_length_less all p q) n ∙ alone all)
 
   pub fact_less_of : (p q : Path) → HasNamed p (links_in part) (links_in all) → least (fact_less_by p q) part ≡ Bounds.fact_less all p q
   fact_less_of p q n =

@@ -1,5 +1,6 @@
 pub mod Ends
 pub mod Links
+pub mod Lengths
 pub mod OnArrays
 pub mod HasOrders
 -- Passed on from ix_index.

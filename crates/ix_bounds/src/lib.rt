@@ -22,5 +22,5 @@ pub use ix_index::{Indexed, Know, Path, PathClaim, PathOff};
 pub use limits::{lower_bound, upper_limit};
 pub use numbers::{past, short_of, within};
 pub use said::{has_length, has_negative, has_search, stored_same};
-pub use stored::fact_less;
+pub use stored::fact_less_among;
 pub use upper::{less_bound, upper_bound};

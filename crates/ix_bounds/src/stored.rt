@@ -6,6 +6,7 @@ ghost use Rattle.ix_index.specs.Ints.{IsInt};
 ghost use Rattle.ix_index.specs.PathOff.TheVariants.{Nothing};
 ghost use Rattle.ix_index.specs.Bounds as spec;
 ghost use Rattle.ix_index.specs.Small.{IsEnd};
+ghost use Rattle.ix_bounds.specs.Lengths.{length_less_by};
 
 use crate::groups::Groups;
 use crate::numbers::negated;
@@ -79,18 +80,11 @@ fn below_length<G: Groups>(facts: &G, p: &Path, a: &Path) -> Option<i64>
     negated(stored_upper(facts, p, a, &PathOff::Nothing))
 }
 
-fn stored_less_by<G: Groups>(facts: &G, p: &Path, q: &Path, fact: &Fact) -> Option<i64>
-    ensures bound { result ≡ spec.stored_less_by (G.all facts.now) p.now q.now fact.now }
+fn length_less_by<G: Groups>(facts: &G, p: &Path, q: &Path, fact: &Fact) -> Option<i64>
+    ensures bound { result ≡ length_less_by (G.all facts.now) p.now q.now fact.now }
     ensures small { IfSome result IsEnd }
 {
     match fact {
-        Fact::Less(r, s, c) => {
-            if is_same_path(r, p) && is_same_path(s, q) {
-                Some(*c as i64)
-            } else {
-                None
-            }
-        }
         Fact::IsLen(r, a) => {
             if is_same_path(r, q) {
                 below_length(facts, p, a)
@@ -102,13 +96,13 @@ fn stored_less_by<G: Groups>(facts: &G, p: &Path, q: &Path, fact: &Fact) -> Opti
     }
 }
 
-fn stored_less_on<G: Groups>(facts: &G, p: &Path, q: &Path, on_q: &[Fact]) -> Option<i64>
-    ensures bound { result ≡ spec.least (spec.stored_less_by (G.all facts.now) p.now q.now) on_q.now }
+fn length_less_on<G: Groups>(facts: &G, p: &Path, q: &Path, lengths: &[Fact]) -> Option<i64>
+    ensures bound { result ≡ spec.least (length_less_by (G.all facts.now) p.now q.now) lengths.now }
     ensures small { IfSome result IsEnd }
 {
     let mut bound = None;
-    for fact in on_q {
-        bound = lesser(bound, stored_less_by(facts, p, q, fact));
+    for fact in lengths {
+        bound = lesser(bound, length_less_by(facts, p, q, fact));
     }
     bound
 }
@@ -118,7 +112,8 @@ pub(crate) fn stored_less<G: Groups>(facts: &G, p: &Path, q: &Path) -> Option<i6
     ensures bound { result ≡ spec.stored_less (G.all facts.now) p.now q.now }
     ensures small { IfSome result IsEnd }
 {
-    stored_less_on(facts, p, q, facts.links_on(q))
+    let through_lengths = length_less_on(facts, p, q, facts.lengths_on(q));
+    lesser(facts.fact_less(p, q), through_lengths)
 }
 
 fn fact_less_by(p: &Path, q: &Path, fact: &Fact) -> Option<i64>
@@ -137,21 +132,14 @@ fn fact_less_by(p: &Path, q: &Path, fact: &Fact) -> Option<i64>
     }
 }
 
-fn fact_less_on(on_p: &[Fact], p: &Path, q: &Path) -> Option<i64>
-    ensures bound { result ≡ spec.least (spec.fact_less_by p.now q.now) on_p.now }
+/// The least c of the facts `p < q + c` among these, which a walk finds.
+pub fn fact_less_among(facts: &[Fact], p: &Path, q: &Path) -> Option<i64>
+    ensures bound { result ≡ spec.least (spec.fact_less_by p.now q.now) facts.now }
     ensures small { IfSome result IsEnd }
 {
     let mut bound = None;
-    for fact in on_p {
+    for fact in facts {
         bound = lesser(bound, fact_less_by(p, q, fact));
     }
     bound
-}
-
-/// The least c of the facts `p < q + c` as they are stored.
-pub fn fact_less<G: Groups>(facts: &G, p: &Path, q: &Path) -> Option<i64>
-    ensures bound { result ≡ spec.fact_less (G.all facts.now) p.now q.now }
-    ensures small { IfSome result IsEnd }
-{
-    fact_less_on(facts.links_on(p), p, q)
 }

@@ -177,7 +177,7 @@ fn beside_many(alloc: Global, facts: &[Fact], changed: &Changed) -> Result<Vec<F
     let mut kept = Vec::with_capacity(alloc, facts.len())?;
     for fact in facts {
         if !names_changed(changed, fact) {
-            kept.push(*fact)?;
+            kept.push_reserved(*fact);
         }
     }
     Ok(kept)

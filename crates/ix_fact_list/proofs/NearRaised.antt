@@ -13,13 +13,13 @@ use Rattle.ix_core.specs.declared.fact.PathOff.TheVariants.{Nothing}
 use Rattle.ix_core.specs.declared.fact.Fact.{Fact}
 use Rattle.ix_core.specs.declared.fact.Fact.TheVariants.{Rng, LenRng, Low, Same, IsLen, Less, Sum, Search, Neg, Upper}
 use Rattle.ix_core.proofs.Cases.{by_test}
-use Rattle.ix_facts.specs.Bounds.{is_path, when, best, best_of, greatest, least, at_least, at_most, range_low_by, range_high_by, length_low_by, length_high_by, range_low, range_high, length_low, length_high, lower_by, lower_bound, limit_by, upper_limit}
+use Rattle.ix_facts.specs.Bounds.{is_path, when, best, best_of, greatest, least, at_least, at_most, range_low_by, range_high_by, length_low_by, length_high_by, range_low, range_high, length_low, length_high, lower_by, limit_by}
 use Rattle.ix_facts.specs.PathOrder.{path_same}
 use Rattle.ix_facts.specs.Small.{HasSmallNumbers, IsClass, IsEnd, IsLimit, IsBound}
-use Rattle.ix_bounds.proofs.BestOfParts.{joined, least_joined, low_joined, high_joined}
+use Rattle.ix_bounds.proofs.BestOfParts.{low_joined, high_joined}
 use Rattle.ix_path_index.specs.ByPath.{is_near, near_place}
 use Rattle.ix_path_index.proofs.NearPlaces.{number_itself, number_same, place_tells}
-use Rattle.ix_fact_list.specs.NearNumbers.{number_at, Raises, Lowers, AreLimits, low_by, high_by}
+use Rattle.ix_fact_list.specs.NearNumbers.{number_at, Raises, Lowers, AreLimits}
 
 -- ---- one number
 
@@ -133,54 +133,6 @@ module _ (by : Path → Fact → Option ℤ) (of : Path → ℤ) (old new : List
   pub falls : Lowers old new d (λ p. by p (slice_index_or facts k none)) → Falling by of old d (drop k facts) → Falling by of new d (drop (k + 1) facts)
   falls put now = next_falls by of old new d (slice_index_or facts k none) (drop (k + 1) facts) put (subst (Falling by of old d) here now)
 
--- ---- the best of two at each fact
-
-max_turned : (x y : Option ℤ) → best int_max x y ≡ best int_max y x
-max_turned None None = refl
-max_turned None (Some y) = refl
-max_turned (Some x) None = refl
-max_turned (Some x) (Some y) = ap Some (omega (arith, ints, clamps))
-
-min_turned : (x y : Option ℤ) → best int_min x y ≡ best int_min y x
-min_turned None None = refl
-min_turned None (Some y) = refl
-min_turned (Some x) None = refl
-min_turned (Some x) (Some y) = ap Some (omega (arith, ints, clamps))
-
-four : (w x y z : Option ℤ) → best int_max (best int_max w x) (best int_max y z) ≡ best int_max (best int_max w y) (best int_max x z)
-four w x y z =
-    joined w x (best int_max y z)
-    ∙ (ap (best int_max w) (sym (joined x y z) ∙ (ap (λ v. best int_max v z) (max_turned x y) ∙ joined y x z))
-    ∙ sym (joined w y (best int_max x z)))
-
-four_least : (w x y z : Option ℤ) → best int_min (best int_min w x) (best int_min y z) ≡ best int_min (best int_min w y) (best int_min x z)
-four_least w x y z =
-    least_joined w x (best int_min y z)
-    ∙ (ap (best int_min w) (sym (least_joined x y z) ∙ (ap (λ v. best int_min v z) (min_turned x y) ∙ least_joined y x z))
-    ∙ sym (least_joined w y (best int_min x z)))
-
-greatest_of_both : (a b : Fact → Option ℤ) (facts : List Fact) → greatest (λ f. best int_max (a f) (b f)) facts ≡ best int_max (greatest a facts) (greatest b facts)
-greatest_of_both a b [] = refl
-greatest_of_both a b (f ∷ facts) =
-    ap (best int_max (best int_max (a f) (b f))) (greatest_of_both a b facts) ∙ four (a f) (b f) (greatest a facts) (greatest b facts)
-
-least_of_both : (a b : Fact → Option ℤ) (facts : List Fact) → least (λ f. best int_min (a f) (b f)) facts ≡ best int_min (least a facts) (least b facts)
-least_of_both a b [] = refl
-least_of_both a b (f ∷ facts) =
-    ap (best int_min (best int_min (a f) (b f))) (least_of_both a b facts) ∙ four_least (a f) (b f) (least a facts) (least b facts)
-
-pub all_lows : (facts : List Fact) (p : Path) → at_least least_int (greatest (low_by facts p) facts) ≡ lower_bound facts p
-all_lows facts p =
-    ap (at_least least_int) (greatest_of_both (range_low_by p) (lower_by facts p) facts) ∙ sym (low_joined least_int (greatest (range_low_by p) facts) (greatest (lower_by facts p) facts))
-
-pub all_highs : (facts : List Fact) (p : Path) → at_most greatest_int (least (high_by facts p) facts) ≡ upper_limit facts p
-all_highs facts p =
-    ap (at_most greatest_int) (least_of_both (range_high_by p) (limit_by facts p) facts) ∙ sym (high_joined greatest_int (least (range_high_by p) facts) (least (limit_by facts p) facts))
-
-best_alone : (better : ℤ → ℤ → ℤ) (x : Option ℤ) → best better x None ≡ x
-best_alone better None = refl
-best_alone better (Some x) = refl
-
 -- ---- what one fact gives
 
 module _ (fact : Fact) where
@@ -200,46 +152,34 @@ module _ (fact : Fact) where
   length_high_told a l h n e m p = subst (λ f. when (is_path a p) (Some n) ≡ length_high_by p f) (sym e) (ap (λ x. when (is_path a p) (Some x)) m)
 
 module _ (facts : List Fact) (fact : Fact) where
-  pub low_of_range : (q : Path) (l h n : ℤ) → fact ≡ Rng q l h → n ≡ l → (p : Path) → when (is_path q p) (Some n) ≡ low_by facts p fact
-  low_of_range q l h n e m p =
-      subst (λ f. when (is_path q p) (Some n) ≡ low_by facts p f) (sym e) (ap (λ x. when (is_path q p) (Some x)) m ∙ sym (best_alone int_max (when (is_path q p) (Some l))))
+  pub low_of_less : (q r : Path) (c n : ℤ) → fact ≡ Less q r c → n ≡ range_low facts q -ℤ c +ℤ pos 1 → (p : Path) → when (is_path r p) (Some n) ≡ lower_by facts p fact
+  low_of_less q r c n e m p = subst (λ f. when (is_path r p) (Some n) ≡ lower_by facts p f) (sym e) (ap (λ x. when (is_path r p) (Some x)) m)
 
-  pub low_of_class : (q : Path) (c n : ℤ) → fact ≡ Low q c → n ≡ c → (p : Path) → when (is_path q p) (Some n) ≡ low_by facts p fact
-  low_of_class q c n e m p =
-      subst (λ f. when (is_path q p) (Some n) ≡ low_by facts p f) (sym e) (ap (λ x. when (is_path q p) (Some x)) m ∙ sym (best_alone int_max (when (is_path q p) (Some c))))
+  pub low_of_length : (r a : Path) (n : ℤ) → fact ≡ IsLen r a → n ≡ length_low facts a → (p : Path) → when (is_path r p) (Some n) ≡ lower_by facts p fact
+  low_of_length r a n e m p = subst (λ f. when (is_path r p) (Some n) ≡ lower_by facts p f) (sym e) (ap (λ x. when (is_path r p) (Some x)) m)
 
-  pub low_of_less : (q r : Path) (c n : ℤ) → fact ≡ Less q r c → n ≡ range_low facts q -ℤ c +ℤ pos 1 → (p : Path) → when (is_path r p) (Some n) ≡ low_by facts p fact
-  low_of_less q r c n e m p = subst (λ f. when (is_path r p) (Some n) ≡ low_by facts p f) (sym e) (ap (λ x. when (is_path r p) (Some x)) m)
+  pub high_of_less : (q r : Path) (c n : ℤ) → fact ≡ Less q r c → n ≡ range_high facts r +ℤ c -ℤ pos 1 → (p : Path) → when (is_path q p) (Some n) ≡ limit_by facts p fact
+  high_of_less q r c n e m p = subst (λ f. when (is_path q p) (Some n) ≡ limit_by facts p f) (sym e) (ap (λ x. when (is_path q p) (Some x)) m)
 
-  pub low_of_length : (r a : Path) (n : ℤ) → fact ≡ IsLen r a → n ≡ length_low facts a → (p : Path) → when (is_path r p) (Some n) ≡ low_by facts p fact
-  low_of_length r a n e m p = subst (λ f. when (is_path r p) (Some n) ≡ low_by facts p f) (sym e) (ap (λ x. when (is_path r p) (Some x)) m)
+  pub high_of_upper : (r a : Path) (c n : ℤ) → fact ≡ Upper r a Nothing c → n ≡ length_high facts a -ℤ pos 1 -ℤ c → (p : Path) → when (is_path r p) (Some n) ≡ limit_by facts p fact
+  high_of_upper r a c n e m p = subst (λ f. when (is_path r p) (Some n) ≡ limit_by facts p f) (sym e) (ap (λ x. when (is_path r p) (Some x)) m)
 
-  pub high_of_range : (q : Path) (l h n : ℤ) → fact ≡ Rng q l h → n ≡ h → (p : Path) → when (is_path q p) (Some n) ≡ high_by facts p fact
-  high_of_range q l h n e m p =
-      subst (λ f. when (is_path q p) (Some n) ≡ high_by facts p f) (sym e) (ap (λ x. when (is_path q p) (Some x)) m ∙ sym (best_alone int_min (when (is_path q p) (Some h))))
-
-  pub high_of_less : (q r : Path) (c n : ℤ) → fact ≡ Less q r c → n ≡ range_high facts r +ℤ c -ℤ pos 1 → (p : Path) → when (is_path q p) (Some n) ≡ high_by facts p fact
-  high_of_less q r c n e m p = subst (λ f. when (is_path q p) (Some n) ≡ high_by facts p f) (sym e) (ap (λ x. when (is_path q p) (Some x)) m)
-
-  pub high_of_upper : (r a : Path) (c n : ℤ) → fact ≡ Upper r a Nothing c → n ≡ length_high facts a -ℤ pos 1 -ℤ c → (p : Path) → when (is_path r p) (Some n) ≡ high_by facts p fact
-  high_of_upper r a c n e m p = subst (λ f. when (is_path r p) (Some n) ≡ high_by facts p f) (sym e) (ap (λ x. when (is_path r p) (Some x)) m)
-
-  pub high_of_length : (r a : Path) (n : ℤ) → fact ≡ IsLen r a → n ≡ length_high facts a → (p : Path) → when (is_path r p) (Some n) ≡ high_by facts p fact
-  high_of_length r a n e m p = subst (λ f. when (is_path r p) (Some n) ≡ high_by facts p f) (sym e) (ap (λ x. when (is_path r p) (Some x)) m)
+  pub high_of_length : (r a : Path) (n : ℤ) → fact ≡ IsLen r a → n ≡ length_high facts a → (p : Path) → when (is_path r p) (Some n) ≡ limit_by facts p fact
+  high_of_length r a n e m p = subst (λ f. when (is_path r p) (Some n) ≡ limit_by facts p f) (sym e) (ap (λ x. when (is_path r p) (Some x)) m)
 
 -- ---- a difference raises the one int and lowers the other
 
 module _ (facts : List Fact) (fact : Fact) (q r : Path) (c : ℤ) (is : fact ≡ Less q r c) (m : ℤ) (same : m ≡ c) (small great : ℕ) (of_q : is_near q ≡ true) (of_r : is_near r ≡ true) (at_q : small ≡ near_place q) (at_r : great ≡ near_place r) (old new : List ℤ) (numbers : List ℤ) (d : ℤ) where
-  pub less_raised : get_or numbers small d ≡ range_low facts q → ((at : ℕ) → get_or new at d ≡ at_least (get_or old at d) (when (nat_eq great at) (Some (get_or numbers small d -ℤ m +ℤ pos 1)))) → Raises old new d (λ p. low_by facts p fact)
+  pub less_raised : get_or numbers small d ≡ range_low facts q → ((at : ℕ) → get_or new at d ≡ at_least (get_or old at d) (when (nat_eq great at) (Some (get_or numbers small d -ℤ m +ℤ pos 1)))) → Raises old new d (λ p. lower_by facts p fact)
   less_raised low put =
       let n = get_or numbers small d -ℤ m +ℤ pos 1 in
-      raised_as old new d (λ p. when (is_path r p) (Some n)) (λ p. low_by facts p fact) (low_of_less facts fact q r c n is (ap (λ x. x -ℤ m +ℤ pos 1) low ∙ ap (λ k. range_low facts q -ℤ k +ℤ pos 1) same))
+      raised_as old new d (λ p. when (is_path r p) (Some n)) (λ p. lower_by facts p fact) (low_of_less facts fact q r c n is (ap (λ x. x -ℤ m +ℤ pos 1) low ∙ ap (λ k. range_low facts q -ℤ k +ℤ pos 1) same))
       (raised old new d r n of_r (λ at. put at ∙ ap (λ k. at_least (get_or old at d) (when (nat_eq k at) (Some n))) at_r))
 
-  pub less_lowered : get_or numbers great d ≡ range_high facts r → ((at : ℕ) → get_or new at d ≡ at_most (get_or old at d) (when (nat_eq small at) (Some (get_or numbers great d +ℤ m -ℤ pos 1)))) → Lowers old new d (λ p. high_by facts p fact)
+  pub less_lowered : get_or numbers great d ≡ range_high facts r → ((at : ℕ) → get_or new at d ≡ at_most (get_or old at d) (when (nat_eq small at) (Some (get_or numbers great d +ℤ m -ℤ pos 1)))) → Lowers old new d (λ p. limit_by facts p fact)
   less_lowered high put =
       let n = get_or numbers great d +ℤ m -ℤ pos 1 in
-      lowered_as old new d (λ p. when (is_path q p) (Some n)) (λ p. high_by facts p fact) (high_of_less facts fact q r c n is (ap (λ x. x +ℤ m -ℤ pos 1) high ∙ ap (λ k. range_high facts r +ℤ k -ℤ pos 1) same))
+      lowered_as old new d (λ p. when (is_path q p) (Some n)) (λ p. limit_by facts p fact) (high_of_less facts fact q r c n is (ap (λ x. x +ℤ m -ℤ pos 1) high ∙ ap (λ k. range_high facts r +ℤ k -ℤ pos 1) same))
       (lowered old new d q n of_q (λ at. put at ∙ ap (λ k. at_most (get_or old at d) (when (nat_eq k at) (Some n))) at_q))
 
 -- ---- the ends of ranges are small
@@ -285,12 +225,6 @@ bound_of_limit n a = record { above = omega (arith, ints, a.above); below = omeg
 
 class_end : (c : ℤ) → IsClass c → IsEnd c
 class_end c a = record { above = omega (arith, ints, a.above); below = omega (arith, ints, a.below) }
-
-pub range_limit : (fact : Fact) (q : Path) (l h : ℤ) → fact ≡ Rng q l h → HasSmallNumbers fact → IsLimit l × IsLimit h
-range_limit fact q l h e s = let small = subst HasSmallNumbers e s in (limit_of_end l small.0, limit_of_end h small.1)
-
-pub class_limit : (fact : Fact) (q : Path) (c : ℤ) → fact ≡ Low q c → HasSmallNumbers fact → IsLimit c
-class_limit fact q c e s = limit_of_end c (class_end c (subst HasSmallNumbers e s))
 
 low_each : (p : Path) (f : Fact) → HasSmallNumbers f → IfSome (range_low_by p f) IsEnd
 low_each p (Rng q l h) s = by_test (is_path q p) (λ t. rw t s.0) (λ t. rw t tt)

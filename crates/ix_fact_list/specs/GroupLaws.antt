@@ -1,4 +1,4 @@
--- Of the ranges and classes that name a path, and of the differences and lengths, those on it are all.
+-- Of the ranges, classes and lengths that name a path, and of the differences and lengths, those on it are all.
 use Rattle.std.specs.Prelude.{◌≡◌, Bool, nat_le, List, [], ◌∷◌, length, filter, refl}
 use Rattle.std.proofs.Common.{ap, ◌∙◌}
 use Rattle.ix_core.specs.declared.fact.Path.{Path}
@@ -8,6 +8,7 @@ use Rattle.ix_facts.specs.Bounds.{is_path}
 use Rattle.ix_facts.specs.Forget.{names}
 use Rattle.ix_bounds.specs.Ends.{is_end, ends_in}
 use Rattle.ix_bounds.specs.Links.{is_link, links_in}
+use Rattle.ix_bounds.specs.Lengths.{is_len, lengths_in, lengths_of_ends}
 use Rattle.ix_path_index.specs.Grouped.{few, on_list}
 use Rattle.ix_path_index.specs.OnListLaws.{on_list_named}
 
@@ -39,3 +40,9 @@ both_through is other (fact ∷ facts) =
 -- The facts on a path have all differences and lengths that name it.
 pub links_among : (p : Path) (facts : List Fact) → filter (names (is_path p)) (links_in (on_list facts p)) ≡ filter (names (is_path p)) (links_in facts)
 links_among p facts = by_test (nat_le (length facts) few) (λ t. rw t refl) (λ t. rw t (both_through (names (is_path p)) is_link facts))
+
+-- The ends on a path have all lengths that name it.
+pub lengths_among : (p : Path) (facts : List Fact) → filter (names (is_path p)) (lengths_in (on_list (ends_in facts) p)) ≡ filter (names (is_path p)) (lengths_in facts)
+lengths_among p facts =
+    by_test (nat_le (length (ends_in facts)) few) (λ t. rw t refl) (λ t. rw t (both_through (names (is_path p)) is_len (ends_in facts)))
+    ∙ ap (filter (names (is_path p))) (lengths_of_ends facts)

@@ -7,4 +7,5 @@ pub use Rattle.ix_path_index.specs.NamedLaws
 -- Passed on from ix_bounds.
 pub use Rattle.ix_bounds.specs.Ends
 pub use Rattle.ix_bounds.specs.Links
+pub use Rattle.ix_bounds.specs.Lengths
 pub use Rattle.ix_bounds.specs.HasOrders

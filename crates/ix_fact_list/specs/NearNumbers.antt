@@ -1,10 +1,9 @@
 -- Numbers of near paths, each at the path's place; where no number stands there, it is a default.
 use Rattle.std.specs.Prelude.{◌≡◌, ℕ, ℤ, true, pos, Option, Some, None, List, get_or}
-use Rattle.std.specs.Int.{int_min, int_max}
 use Rattle.ix_core.specs.Ints.{least_int, greatest_int}
 use Rattle.ix_core.specs.declared.fact.Path.{Path}
 use Rattle.ix_core.specs.declared.fact.Fact.{Fact}
-use Rattle.ix_facts.specs.Bounds.{is_path, when, best, at_least, at_most, range_low_by, range_low, range_high_by, range_high, length_low, length_high, lower_by, lower_bound, limit_by, upper_limit}
+use Rattle.ix_facts.specs.Bounds.{is_path, when, at_least, at_most, range_low, range_high, length_low, length_high, lower_bound, upper_limit}
 use Rattle.ix_facts.specs.Small.{IsLimit}
 use Rattle.ix_path_index.specs.ByPath.{is_near, near_place}
 use Rattle.ix_fact_list.specs.declared.limits.NearEnds.{NearEnds}
@@ -31,13 +30,6 @@ AreLimits numbers default = (at : ℕ) → IsLimit (get_or numbers at default)
 -- Of each near path the number is the one that is told.
 abbrev pub AreNumbers : List ℤ → ℤ → (Path → ℤ) → Type 0
 AreNumbers numbers default of = (p : Path) → is_near p ≡ true → number_at numbers default p ≡ of p
-
--- What one fact gives of an int from below, by its own range and by others; and from above.
-abbrev pub low_by : List Fact → Path → Fact → Option ℤ
-low_by facts p fact = best int_max (range_low_by p fact) (lower_by facts p fact)
-
-abbrev pub high_by : List Fact → Path → Fact → Option ℤ
-high_by facts p fact = best int_min (range_high_by p fact) (limit_by facts p fact)
 
 -- the ends of the ranges of near paths
 pub record HasEnds (facts : List Fact) (ends : NearEnds) : Type 0 where

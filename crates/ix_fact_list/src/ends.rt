@@ -1,4 +1,4 @@
-//! Ranges and classes among facts; where they stand, and where differences and lengths do.
+//! Ranges, classes and lengths among facts; where they stand, and where differences and lengths do.
 
 ghost use Rattle.std.specs.Prelude.{◌≡◌, ◌≤◌, true, false, IfOk, IfSome, slice_get, length, take, drop};
 ghost use Rattle.ix_bounds.specs.Ends.{is_end, ends_in};
@@ -14,6 +14,7 @@ fn is_end(fact: &Fact) -> bool
         Fact::Rng(_, _, _) => true,
         Fact::LenRng(_, _, _) => true,
         Fact::Low(_, _) => true,
+        Fact::IsLen(_, _) => true,
         _ => false,
     }
 }
@@ -28,7 +29,7 @@ fn is_link(fact: &Fact) -> bool
     }
 }
 
-/// The ranges and classes among the facts.
+/// The ranges, classes and lengths among the facts.
 pub(crate) fn ends_of(alloc: Global, facts: &[Fact]) -> Result<Vec<Fact>, AllocError>
     ensures ends { IfOk result (λ ends. ends.items ≡ ends_in facts.now) }
 {
@@ -41,7 +42,7 @@ pub(crate) fn ends_of(alloc: Global, facts: &[Fact]) -> Result<Vec<Fact>, AllocE
     Ok(ends)
 }
 
-/// How many facts stand up to this one, if it is a range or a class, and else up to the last one before it.
+/// How many facts stand up to this one, if it is a range, a class or a length, and else up to the last one before it.
 fn up_to_end(fact: &Fact, seen: usize, last: usize) -> usize
     ensures here { is_end fact.now ≡ true → result ≡ seen }
     ensures before { is_end fact.now ≡ false → result ≡ last }
@@ -49,7 +50,7 @@ fn up_to_end(fact: &Fact, seen: usize, last: usize) -> usize
     if is_end(fact) { seen } else { last }
 }
 
-/// How many facts stand up to the last range or class.
+/// How many facts stand up to the last range, class or length.
 pub fn up_to_ends(facts: &[Fact]) -> usize
     ensures within { result ≤ length facts.now }
     ensures ends { ends_in (take result facts.now) ≡ ends_in facts.now }

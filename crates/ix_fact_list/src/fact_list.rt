@@ -30,7 +30,7 @@ pub struct FactList {
     facts: Vec<Fact>,
     /// The facts in all their orders, with those on each path.
     by_path: Grouped,
-    /// The same of ranges and classes alone.
+    /// The same of ranges, classes and lengths alone.
     ends: Grouped,
     /// The ints and arrays that the facts name, each once.
     ints: Vec<Path>,
@@ -196,7 +196,7 @@ impl Groups for FactList {
     ghost use Rattle.ix_bounds.specs.Ends.{ends_in};
     ghost use Rattle.ix_path_index.specs.Grouped.{on_list};
     ghost use Rattle.ix_path_index.specs.OnListLaws.{on_list_named, on_list_only};
-    ghost use Rattle.ix_fact_list.specs.GroupLaws.{ends_named, links_among};
+    ghost use Rattle.ix_fact_list.specs.GroupLaws.{ends_named, links_among, lengths_among};
 
     ghost all = { λ list. in_orders list };
 
@@ -218,11 +218,23 @@ impl Groups for FactList {
         self.by_path.on(p)
     }
 
+    ghost lengths = { λ list p. on_list (ends_in (in_orders list)) p };
+
+    fn lengths_on(&self, p: &Path) -> &[Fact] {
+        self.ends.on(p)
+    }
+
+    fn fact_less(&self, p: &Path, q: &Path) -> Option<i64> {
+        ix_bounds::fact_less_among(self.by_path.on(p), p, q)
+    }
+
     ghost named = { λ list p. on_list_named p (in_orders list) };
 
     ghost named_ends = { λ list p. ends_named p (in_orders list) };
 
     ghost named_links = { λ list p. links_among p (in_orders list) };
+
+    ghost named_lengths = { λ list p. lengths_among p (in_orders list) };
 
     ghost only = { λ list p. on_list_only p (in_orders list) };
 }
@@ -276,7 +288,7 @@ impl Know for FactList {
     }
 
     fn difference(&self, p: &Path, q: &Path) -> Option<i64> {
-        ix_bounds::fact_less(self, p, q)
+        self.fact_less(p, q)
     }
 
     fn same(&self, a: &Path, b: &Path) -> bool {

@@ -1,6 +1,6 @@
 //! What each near int is at least and at most, by two passes over facts.
 
-ghost use Rattle.std.specs.Prelude.{◌≡◌, ◌<◌, ◌≤◌, ◌+ℤ◌, ◌-ℤ◌, ℕ, pos, true, All, Some, get_or, length, nat_eq, IfOk, OnOk, IfSome};
+ghost use Rattle.std.specs.Prelude.{◌≡◌, ◌<◌, ◌≤◌, ◌+ℤ◌, ◌-ℤ◌, ℕ, pos, true, All, Some, get_or, length, take, nat_eq, IfOk, OnOk, IfSome};
 ghost use Rattle.ix_core.specs.declared.fact.Fact.TheVariants.{Less};
 ghost use Rattle.ix_core.specs.Ints.{least_int, greatest_int};
 ghost use Rattle.ix_facts.specs.Bounds as spec;
@@ -8,7 +8,7 @@ ghost use Rattle.ix_facts.specs.Bounds.{at_least, at_most, is_path, when};
 ghost use Rattle.ix_facts.specs.Small.{HasSmallNumbers, IsEnd, IsLimit};
 ghost use Rattle.ix_bounds.specs.Ends.{ends_in};
 ghost use Rattle.ix_path_index.specs.ByPath.{is_near};
-ghost use Rattle.ix_fact_list.specs.NearNumbers.{number_at, told, Raises, Lowers, AreLimits, low_by, high_by, HasEnds, HasLimits};
+ghost use Rattle.ix_fact_list.specs.NearNumbers.{number_at, told, Raises, Lowers, AreLimits, HasEnds, HasLimits};
 
 use ix_bounds::{self, Groups, past, short_of, within};
 use ix_core::{Fact, Path, PathOff};
@@ -65,16 +65,47 @@ fn number_in(numbers: &[i64], default: i64, place: usize) -> i64
     }
 }
 
+/// How many numbers stand ready to be copied, which takes less than to write one by one.
+const READY: usize = 128;
+
+const LEASTS: [i64; READY] = [LEAST; READY];
+
+const GREATESTS: [i64; READY] = [GREATEST; READY];
+
+const ZEROS: [i64; READY] = [0; READY];
+
 /// No number yet, with room for so many.
-fn no_numbers(alloc: Global, default: i64, room: usize) -> Result<Vec<i64>, AllocError>
+fn no_numbers(
+    alloc: Global,
+    default: i64,
+    ready: &[i64],
+    room: usize,
+) -> Result<Vec<i64>, AllocError>
     requires near { room ≤ 2048 }
+    requires ready { (at : ℕ) → get_or ready.now at default ≡ default }
     ensures { IfOk result (λ numbers. (at : ℕ) → get_or numbers.items at default ≡ default) }
 {
-    let mut numbers = Vec::new(alloc);
-    if room > 0 {
-        reach(&mut numbers, default, room - 1)?;
+    if room <= ready.len() {
+        let (numbers, _) = ready.split_at(room);
+        return Vec::from_slice(alloc, numbers);
     }
+    let mut numbers = Vec::new(alloc);
+    reach(&mut numbers, default, room - 1)?;
     Ok(numbers)
+}
+
+/// How many places near paths have.
+const PLACES: usize = 2048;
+
+/// The numbers at the places of near paths.
+fn near_numbers(alloc: Global, numbers: &[i64]) -> Result<Vec<i64>, AllocError>
+    ensures { IfOk result (λ near. near.items ≡ take 2048 numbers.now) }
+{
+    if numbers.len() <= PLACES {
+        return Vec::from_slice(alloc, numbers);
+    }
+    let (near, _) = numbers.split_at(PLACES);
+    Vec::from_slice(alloc, near)
 }
 
 /// Raises the number at the place, where there is no room for it.
@@ -161,6 +192,27 @@ fn lower(numbers: &mut Vec<i64>, default: i64, p: &Path, high: i64) -> Result<()
     }
 }
 
+/// Raises the low end of the path's range and lowers the high end, where it is a near path.
+fn put_range(
+    lows: &mut Vec<i64>,
+    default: i64,
+    highs: &mut Vec<i64>,
+    p: &Path,
+    low: i64,
+    high: i64,
+) -> Result<(), AllocError>
+    ensures raised { OnOk result (Raises lows.old.items lows.new.items default (λ q. when (is_path p.now q) (Some low))) }
+    ensures lowered { OnOk result (Lowers highs.old.items highs.new.items greatest_int (λ q. when (is_path p.now q) (Some high))) }
+{
+    match near_place(p) {
+        Some(place) => {
+            raise_at(lows, default, place, low)?;
+            lower_at(highs, GREATEST, place, high)
+        }
+        None => Ok(()),
+    }
+}
+
 /// The number of the path, where it is a near path.
 fn number_of(numbers: &[i64], default: i64, p: &Path) -> Option<i64>
     ensures near { IfSome result (λ _n. is_near p.now ≡ true) }
@@ -188,47 +240,6 @@ pub struct Limits {
     pub(crate) highs: Vec<i64>,
 }
 
-/// Raises the low end of the int's range.
-fn put_range_low(lows: &mut Vec<i64>, fact: &Fact) -> Result<(), AllocError>
-    ensures { OnOk result (Raises lows.old.items lows.new.items least_int (λ p. spec.range_low_by p fact.now)) }
-{
-    match *fact {
-        Fact::Rng(p, low, _) => raise(lows, LEAST, &p, low),
-        Fact::Low(p, low) => raise(lows, LEAST, &p, low as i64),
-        _ => Ok(()),
-    }
-}
-
-/// Lowers the high end of the int's range.
-fn put_range_high(highs: &mut Vec<i64>, fact: &Fact) -> Result<(), AllocError>
-    ensures { OnOk result (Lowers highs.old.items highs.new.items greatest_int (λ p. spec.range_high_by p fact.now)) }
-{
-    match *fact {
-        Fact::Rng(p, _, high) => lower(highs, GREATEST, &p, high),
-        _ => Ok(()),
-    }
-}
-
-/// Raises the low end of the length's range.
-fn put_length_low(lows: &mut Vec<i64>, fact: &Fact) -> Result<(), AllocError>
-    ensures { OnOk result (Raises lows.old.items lows.new.items (pos 0) (λ p. spec.length_low_by p fact.now)) }
-{
-    match *fact {
-        Fact::LenRng(a, low, _) => raise(lows, 0, &a, low),
-        _ => Ok(()),
-    }
-}
-
-/// Lowers the high end of the length's range.
-fn put_length_high(highs: &mut Vec<i64>, fact: &Fact) -> Result<(), AllocError>
-    ensures { OnOk result (Lowers highs.old.items highs.new.items greatest_int (λ p. spec.length_high_by p fact.now)) }
-{
-    match *fact {
-        Fact::LenRng(a, _, high) => lower(highs, GREATEST, &a, high),
-        _ => Ok(()),
-    }
-}
-
 impl NearEnds {
     /// Counts the fact in.
     fn put(&mut self, fact: &Fact) -> Result<(), AllocError>
@@ -237,10 +248,23 @@ impl NearEnds {
         ensures length_lows { OnOk result (Raises self.old.length_lows.items self.new.length_lows.items (pos 0) (λ p. spec.length_low_by p fact.now)) }
         ensures length_highs { OnOk result (Lowers self.old.length_highs.items self.new.length_highs.items greatest_int (λ p. spec.length_high_by p fact.now)) }
     {
-        put_range_low(&mut self.lows, fact)?;
-        put_range_high(&mut self.highs, fact)?;
-        put_length_low(&mut self.length_lows, fact)?;
-        put_length_high(&mut self.length_highs, fact)
+        match *fact {
+            Fact::Rng(p, low, high) => {
+                put_range(&mut self.lows, LEAST, &mut self.highs, &p, low, high)
+            }
+            Fact::LenRng(a, low, high) => {
+                put_range(
+                    &mut self.length_lows,
+                    0,
+                    &mut self.length_highs,
+                    &a,
+                    low,
+                    high,
+                )
+            }
+            Fact::Low(p, low) => raise(&mut self.lows, LEAST, &p, low as i64),
+            _ => Ok(()),
+        }
     }
 
     /// By all ranges and classes, with room for the places of ints and of arrays.
@@ -254,10 +278,10 @@ impl NearEnds {
         requires arrays { arrays ≤ 2048 }
         ensures { IfOk result (HasEnds facts.now) }
     {
-        let lows = no_numbers(alloc, LEAST, ints)?;
-        let highs = no_numbers(alloc, GREATEST, ints)?;
-        let length_lows = no_numbers(alloc, 0, arrays)?;
-        let length_highs = no_numbers(alloc, GREATEST, arrays)?;
+        let lows = no_numbers(alloc, LEAST, &LEASTS, ints)?;
+        let highs = no_numbers(alloc, GREATEST, &GREATESTS, ints)?;
+        let length_lows = no_numbers(alloc, 0, &ZEROS, arrays)?;
+        let length_highs = no_numbers(alloc, GREATEST, &GREATESTS, arrays)?;
         let mut ends = NearEnds {
             lows,
             highs,
@@ -319,33 +343,30 @@ impl NearEnds {
     }
 }
 
-/// The int that the fact bounds from below, and by which number.
+/// The int that the fact bounds from below by what another int or a length is at least, and by which number.
 fn low_told<G: Groups>(ends: &NearEnds, facts: &G, fact: &Fact) -> Option<(Path, i64)>
     requires ends { HasEnds (G.all facts.now) ends.now }
     requires small { All HasSmallNumbers (G.all facts.now) }
     requires fact { HasSmallNumbers fact.now }
-    ensures low { (p : Path) → told result p ≡ low_by (G.all facts.now) p fact.now }
+    ensures low { (p : Path) → told result p ≡ spec.lower_by (G.all facts.now) p fact.now }
     ensures small { IfSome result (λ low. IsLimit low.1) }
 {
     match *fact {
-        Fact::Rng(p, low, _) => Some((p, low)),
-        Fact::Low(p, low) => Some((p, low as i64)),
         Fact::Less(q, r, c) => Some((r, past(ends.low(facts, &q), c as i64))),
         Fact::IsLen(r, a) => Some((r, ends.length_low(facts, &a))),
         _ => None,
     }
 }
 
-/// The int that the fact bounds from above, and by which number.
+/// The int that the fact bounds from above by what another int or a length is at most, and by which number.
 fn high_told<G: Groups>(ends: &NearEnds, facts: &G, fact: &Fact) -> Option<(Path, i64)>
     requires ends { HasEnds (G.all facts.now) ends.now }
     requires small { All HasSmallNumbers (G.all facts.now) }
     requires fact { HasSmallNumbers fact.now }
-    ensures high { (p : Path) → told result p ≡ high_by (G.all facts.now) p fact.now }
+    ensures high { (p : Path) → told result p ≡ spec.limit_by (G.all facts.now) p fact.now }
     ensures small { IfSome result (λ high. IsLimit high.1) }
 {
     match *fact {
-        Fact::Rng(p, _, high) => Some((p, high)),
         Fact::Less(q, r, c) => Some((q, short_of(ends.high(facts, &r), c as i64))),
         Fact::Upper(r, a, PathOff::Nothing, c) => {
             Some((r, within(ends.length_high(facts, &a), c as i64)))
@@ -365,7 +386,7 @@ fn put_low<G: Groups>(
     requires ends { HasEnds (G.all facts.now) ends.now }
     requires small { All HasSmallNumbers (G.all facts.now) }
     requires fact { HasSmallNumbers fact.now }
-    ensures raised { OnOk result (Raises lows.old.items lows.new.items least_int (λ p. low_by (G.all facts.now) p fact.now)) }
+    ensures raised { OnOk result (Raises lows.old.items lows.new.items least_int (λ p. spec.lower_by (G.all facts.now) p fact.now)) }
     ensures small { OnOk result (AreLimits lows.old.items least_int → AreLimits lows.new.items least_int) }
 {
     match low_told(ends, facts, fact) {
@@ -384,7 +405,7 @@ fn put_high<G: Groups>(
     requires ends { HasEnds (G.all facts.now) ends.now }
     requires small { All HasSmallNumbers (G.all facts.now) }
     requires fact { HasSmallNumbers fact.now }
-    ensures lowered { OnOk result (Lowers highs.old.items highs.new.items greatest_int (λ p. high_by (G.all facts.now) p fact.now)) }
+    ensures lowered { OnOk result (Lowers highs.old.items highs.new.items greatest_int (λ p. spec.limit_by (G.all facts.now) p fact.now)) }
     ensures small { OnOk result (AreLimits highs.old.items greatest_int → AreLimits highs.new.items greatest_int) }
 {
     match high_told(ends, facts, fact) {
@@ -405,8 +426,8 @@ fn put_each<G: Groups>(
     requires ends { HasEnds (G.all facts.now) ends.now }
     requires small { All HasSmallNumbers (G.all facts.now) }
     requires fact { HasSmallNumbers fact.now }
-    ensures raised { OnOk result (Raises lows.old.items lows.new.items least_int (λ p. low_by (G.all facts.now) p fact.now)) }
-    ensures lowered { OnOk result (Lowers highs.old.items highs.new.items greatest_int (λ p. high_by (G.all facts.now) p fact.now)) }
+    ensures raised { OnOk result (Raises lows.old.items lows.new.items least_int (λ p. spec.lower_by (G.all facts.now) p fact.now)) }
+    ensures lowered { OnOk result (Lowers highs.old.items highs.new.items greatest_int (λ p. spec.limit_by (G.all facts.now) p fact.now)) }
     ensures small_lows { OnOk result (AreLimits lows.old.items least_int → AreLimits lows.new.items least_int) }
     ensures small_highs { OnOk result (AreLimits highs.old.items greatest_int → AreLimits highs.new.items greatest_int) }
 {
@@ -455,8 +476,8 @@ fn put_less<G: Groups>(
     requires small { All HasSmallNumbers (G.all facts.now) }
     requires fact { HasSmallNumbers fact.now }
     requires less { fact.now ≡ Less q.now r.now c }
-    ensures raised { OnOk result (Raises lows.old.items lows.new.items least_int (λ p. low_by (G.all facts.now) p fact.now)) }
-    ensures lowered { OnOk result (Lowers highs.old.items highs.new.items greatest_int (λ p. high_by (G.all facts.now) p fact.now)) }
+    ensures raised { OnOk result (Raises lows.old.items lows.new.items least_int (λ p. spec.lower_by (G.all facts.now) p fact.now)) }
+    ensures lowered { OnOk result (Lowers highs.old.items highs.new.items greatest_int (λ p. spec.limit_by (G.all facts.now) p fact.now)) }
     ensures small_lows { OnOk result (AreLimits lows.old.items least_int → AreLimits lows.new.items least_int) }
     ensures small_highs { OnOk result (AreLimits highs.old.items greatest_int → AreLimits highs.new.items greatest_int) }
 {
@@ -466,7 +487,7 @@ fn put_less<G: Groups>(
     }
 }
 
-/// The same. Most facts are differences.
+/// The same. Most facts are differences; ranges and classes are in the ends already.
 #[inline]
 fn put<G: Groups>(
     lows: &mut Vec<i64>,
@@ -478,34 +499,34 @@ fn put<G: Groups>(
     requires ends { HasEnds (G.all facts.now) ends.now }
     requires small { All HasSmallNumbers (G.all facts.now) }
     requires fact { HasSmallNumbers fact.now }
-    ensures raised { OnOk result (Raises lows.old.items lows.new.items least_int (λ p. low_by (G.all facts.now) p fact.now)) }
-    ensures lowered { OnOk result (Lowers highs.old.items highs.new.items greatest_int (λ p. high_by (G.all facts.now) p fact.now)) }
+    ensures raised { OnOk result (Raises lows.old.items lows.new.items least_int (λ p. spec.lower_by (G.all facts.now) p fact.now)) }
+    ensures lowered { OnOk result (Lowers highs.old.items highs.new.items greatest_int (λ p. spec.limit_by (G.all facts.now) p fact.now)) }
     ensures small_lows { OnOk result (AreLimits lows.old.items least_int → AreLimits lows.new.items least_int) }
     ensures small_highs { OnOk result (AreLimits highs.old.items greatest_int → AreLimits highs.new.items greatest_int) }
 {
     match fact {
         Fact::Less(q, r, c) => put_less(lows, highs, ends, facts, fact, q, r, *c),
-        _ => put_each(lows, highs, ends, facts, fact),
+        Fact::IsLen(_, _) => put_each(lows, highs, ends, facts, fact),
+        Fact::Upper(_, _, _, _) => put_each(lows, highs, ends, facts, fact),
+        _ => Ok(()),
     }
 }
 
 impl Limits {
-    /// By all facts in all their orders, with room for the places of ints. The only error is want of memory.
+    /// By all facts in all their orders: what they give beside the ends of ranges. The only error is want of memory.
     pub(crate) fn of<G: Groups>(
         alloc: Global,
         groups: &G,
         ends: &NearEnds,
         facts: &[Fact],
-        ints: usize,
     ) -> Result<Limits, AllocError>
         requires all { G.all groups.now ≡ facts.now }
         requires ends { HasEnds facts.now ends.now }
         requires small { All HasSmallNumbers facts.now }
-        requires ints { ints ≤ 2048 }
         ensures limits { IfOk result (HasLimits facts.now) }
     {
-        let mut lows = no_numbers(alloc, LEAST, ints)?;
-        let mut highs = no_numbers(alloc, GREATEST, ints)?;
+        let mut lows = near_numbers(alloc, &ends.lows)?;
+        let mut highs = near_numbers(alloc, &ends.highs)?;
         for fact in facts {
             put(&mut lows, &mut highs, ends, groups, fact)?;
         }
@@ -526,9 +547,8 @@ impl Limits {
         requires small { All HasSmallNumbers facts.now }
         ensures limits { IfOk result (HasLimits facts.now) }
     {
-        let room = room_of(ints);
-        let ends = NearEnds::of(alloc, part, room, room_of(arrays))?;
-        Limits::of(alloc, groups, &ends, facts, room)
+        let ends = NearEnds::of(alloc, part, room_of(ints), room_of(arrays))?;
+        Limits::of(alloc, groups, &ends, facts)
     }
 
     /// What the int is at least, where its path is a near one.

@@ -25,7 +25,7 @@ pub fn facts_without_path(
     let mut kept = Vec::with_capacity(alloc, facts.len())?;
     for fact in facts {
         if !names_path(path, fact) {
-            kept.push(*fact)?;
+            kept.push_reserved(*fact);
         }
     }
     Ok(kept)

@@ -9,3 +9,4 @@ pub mod Searches
 mod PutFacts
 mod PiledFacts
 pub mod KeysApart
+pub mod LessFacts

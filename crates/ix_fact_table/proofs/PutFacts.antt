@@ -17,10 +17,10 @@ use Rattle.ix_fact_table.specs.Meets.{met}
 use Rattle.ix_fact_table.specs.Rising.{rises, is_table_of}
 use Rattle.ix_fact_table.specs.Entries.{HasInt, entry_of}
 use Rattle.ix_fact_table.specs.RisingLaws.{table_rises}
-use Rattle.ix_fact_table.specs.Walks.{ArePast, HasBoth}
+use Rattle.ix_fact_table.specs.Walks.{ArePast, HasBoth, Merging}
 use Rattle.ix_fact_table.proofs.MergedTables.{halves_form, halves_table, one_form, one_table, no_table}
 use Rattle.ix_fact_table.proofs.Searches.{comparisons_rise, earlier}
-use Rattle.ix_fact_table.proofs.WalksAlongBoth.{has_first_alone, Merging, merging_starts, merging_left, merging_right, merging_both, merging_ends}
+use Rattle.ix_fact_table.proofs.WalksAlongBoth.{has_first_alone, merging_starts, merging_left, merging_right, merging_both, merging_ends}
 
 -- what holds at each place of a part holds of each fact of it
 take_each : (P : Fact → Type 0) (facts : List Fact) (n : ℕ) → ((k : ℕ) (d : Fact) → k < n → k < length facts → P (get_or facts k d)) → (f : Fact) → IsIn f (take n facts) → P f

@@ -1,5 +1,5 @@
 -- What a walk along two lists of facts knows of the facts that are left.
-use Rattle.std.specs.Prelude.{◌≡◌, ◌⊎◌, ◌↔◌, ◌≤◌, ℕ, zero, suc, Bool, true, false, List, [], ◌∷◌, ◌++◌, length, take, drop, refl}
+use Rattle.std.specs.Prelude.{◌≡◌, ◌⊎◌, ◌≤◌, ℕ, zero, suc, Bool, true, false, List, [], ◌∷◌, ◌++◌, length, take, drop, refl}
 use Rattle.std.specs.declared.cmp.Ordering.TheVariants.{Less as Before, Equal, Greater}
 use Rattle.std.specs.Ordering.{is_eq, ordering_reverse}
 use Rattle.std.proofs.Common.{arith, inl, inr, ap, sym, ◌∙◌, subst, ⊎_elim, append_assoc}
@@ -12,7 +12,7 @@ use Rattle.ix_fact_table.specs.Meets.{met, common}
 use Rattle.ix_fact_table.specs.Rising.{is_below, rises}
 use Rattle.ix_fact_table.specs.MeetLaws.{met_left, met_right, met_key, common_key, covers_key}
 use Rattle.ix_fact_table.specs.RisingLaws.{below_each, below_from, not_before, rises_parts, rises_from, below_on, below_some, below_at_key, rises_front, rises_other}
-use Rattle.ix_fact_table.specs.Walks.{ArePast, IsPassed, FromBoth, left, right, both, HasBoth, IsShared, HasShared, AllCovered, if_not}
+use Rattle.ix_fact_table.specs.Walks.{ArePast, IsPassed, FromBoth, left, right, both, HasBoth, IsShared, HasShared, AllCovered, Merging, Sharing, Comparing, IsSkipped, if_not}
 
 pub none_left : (facts : List Fact) → length facts ≡ 0 → facts ≡ []
 none_left [] none = refl
@@ -74,14 +74,6 @@ has_first_alone a = record { first_covered = λ f i. (f, i, covers_itself f); se
 has_second_alone : (b : List Fact) → HasBoth [] b b
 has_second_alone b = record { first_covered = λ f i. absurd i; second_covered = λ f i. (f, i, covers_itself f); from = λ f i. right i }
 
--- what merges the facts that are left completes the whole
-pub record Merging (first second mine theirs all : List Fact) : Type 0 where
-  pub mine_rise : rises mine ≡ true
-  pub theirs_rise : rises theirs ≡ true
-  pub with_mine : rises (all ++ mine) ≡ true
-  pub with_theirs : rises (all ++ theirs) ≡ true
-  pub completes : (rest : List Fact) → HasBoth mine theirs rest → HasBoth first second (all ++ rest)
-
 pub merging_starts : (first second : List Fact) → rises first ≡ true → rises second ≡ true → Merging first second first second []
 merging_starts first second r s = record { mine_rise = r; theirs_rise = s; with_mine = r; with_theirs = s; completes = λ rest has. has }
 
@@ -131,6 +123,18 @@ module _ (first second mine theirs : List Fact) (m : Fact) (ms : List Fact) (t :
         with_theirs = rw append_assoc with_theirs;
         completes = λ rest has. rw append_assoc (here.completes (met m t ∷ rest) (has_both m ms t ts rest key has));
       }
+
+pub merging_alone : (first second mine : List Fact) (t : Fact) (ts all : List Fact) → mine ≡ [] → Merging first second mine (t ∷ ts) all → Merging first second mine ts (all ++ t ∷ [])
+merging_alone first second mine t ts all none now =
+    let here = rw none at now in
+    let rise : rises ((all ++ t ∷ []) ++ ts) ≡ true = rw append_assoc here.with_theirs in
+    rw none (record {
+      mine_rise = refl;
+      theirs_rise = (rises_parts t ts here.theirs_rise).1;
+      with_mine = rw append-nil (rises_front (all ++ t ∷ []) ts rise);
+      with_theirs = rise;
+      completes = λ rest has. rw append_assoc (here.completes (t ∷ rest) (has_right [] t ts rest has));
+    })
 
 -- where nothing is left of one list, what is left of both completes the whole
 -- a run of facts that are all before the next one of the other list
@@ -212,12 +216,6 @@ shared_none_left b = record { kept = λ f g i j key tells. absurd i; from = λ f
 shared_none_right : (a : List Fact) → HasShared a [] []
 shared_none_right a = record { kept = λ f g i j key tells. absurd j; from = λ f i. absurd i }
 
-pub record Sharing (first second mine theirs shared : List Fact) : Type 0 where
-  pub mine_rise : rises mine ≡ true
-  pub theirs_rise : rises theirs ≡ true
-  pub with_mine : rises (shared ++ mine) ≡ true
-  pub completes : (rest : List Fact) → HasShared mine theirs rest → HasShared first second (shared ++ rest)
-
 pub sharing_starts : (first second : List Fact) → rises first ≡ true → rises second ≡ true → Sharing first second first second []
 sharing_starts first second r s = record { mine_rise = r; theirs_rise = s; with_mine = r; completes = λ rest has. has }
 
@@ -261,6 +259,16 @@ module _ (first second mine theirs : List Fact) (m : Fact) (ms : List Fact) (t :
         completes = λ rest has. rw append_assoc (here.completes (if_not (is_default (common m t)) (common m t) ++ rest) (shared_both m ms t ts rest key mine_parts.0 theirs_parts.0 has));
       }
 
+pub sharing_alone : (first second mine : List Fact) (t : Fact) (ts shared : List Fact) → mine ≡ [] → Sharing first second mine (t ∷ ts) shared → Sharing first second mine ts shared
+sharing_alone first second mine t ts shared none now =
+    let here = rw none at now in
+    rw none (record {
+      mine_rise = refl;
+      theirs_rise = (rises_parts t ts here.theirs_rise).1;
+      with_mine = here.with_mine;
+      completes = λ rest has. here.completes rest (shared_past_right [] t ts rest refl has);
+    })
+
 pub sharing_ends : (first second mine theirs shared : List Fact) → (mine ≡ []) ⊎ (theirs ≡ []) → Sharing first second mine theirs shared → HasShared first second shared × (rises shared ≡ true)
 sharing_ends first second mine theirs shared none now = (
   subst (HasShared first second) (append-nil shared) (now.completes [] (⊎_elim
@@ -271,11 +279,6 @@ sharing_ends first second mine theirs shared none now = (
 )
 
 -- ---- whether one covers the other
-
-pub record Comparing (first second mine theirs : List Fact) : Type 0 where
-  pub mine_rise : rises mine ≡ true
-  pub theirs_rise : rises theirs ≡ true
-  pub covered : AllCovered first second ↔ AllCovered mine theirs
 
 pub comparing_starts : (first second : List Fact) → rises first ≡ true → rises second ≡ true → Comparing first second first second
 comparing_starts first second r s = record { mine_rise = r; theirs_rise = s; covered = (λ x. x, λ x. x) }
@@ -334,3 +337,17 @@ module _ (first second mine theirs : List Fact) (m : Fact) (ms : List Fact) (t :
       (λ e. fails (subst (λ y. Covers y t) e x.2))
       (λ j. apart m ms (rises_parts m ms here.mine_rise).0 x.0 j (key_on m t x.0 key (key_back x.0 t (covers_key x.0 t x.2))))
       x.1
+
+-- past a run of facts that are all before the next one of the other list
+comparing_run : (first second : List Fact) (n : ℕ) (mine theirs : List Fact) (t : Fact) (ts : List Fact) → theirs ≡ t ∷ ts → n ≤ length mine → ArePast mine n t → Comparing first second mine theirs → Comparing first second (drop n mine) theirs
+comparing_run first second zero mine theirs t ts is within past now = now
+comparing_run first second (suc n) [] theirs t ts is within past now = absurd (omega arith)
+comparing_run first second (suc n) (m ∷ ms) theirs t ts is within past now =
+    let one = comparing_past first second (m ∷ ms) theirs m ms t ts refl is (past 0 m (omega arith)) now in
+    comparing_run first second n ms theirs t ts is (omega arith) (λ k d less. past (suc k) d (omega arith)) one
+
+pub comparing_skipped : (first second mine theirs rest : List Fact) (t : Fact) (ts : List Fact) → theirs ≡ t ∷ ts → IsSkipped mine t rest → Comparing first second mine theirs → Comparing first second rest theirs
+comparing_skipped first second mine theirs rest t ts is run now = rw run.left_over (comparing_run first second run.count mine theirs t ts is run.within run.before now)
+
+pub none_skipped : (facts : List Fact) (other : Fact) → IsSkipped facts other facts
+none_skipped facts other = record { count = 0; within = omega arith; before = λ k d less. absurd (omega arith); left_over = refl }

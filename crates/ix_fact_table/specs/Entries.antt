@@ -1,5 +1,5 @@
 -- The form in which a table keeps a fact: in its first order, within what is said of every path, and not said of every path.
-use Rattle.std.specs.Prelude.{Bool, true, cond, not, ◌&&◌, pos, negsuc, int_le}
+use Rattle.std.specs.Prelude.{Bool, true, cond, not, ◌&&◌, ℤ, pos, negsuc, int_le, Option, Some, None}
 use Rattle.std.specs.Ordering.{is_gt}
 use Rattle.std.specs.Int.{int_min, int_max}
 use Rattle.ix_core.specs.Ints.{least_int, greatest_int, IsInt}
@@ -49,3 +49,8 @@ abbrev pub HasInt : Fact → Type 0
 HasInt (Less p q c) = IsInt c
 HasInt (Upper p a o c) = IsInt c
 HasInt f = Unit {0}
+
+-- the constant of a difference
+abbrev pub less_constant : Fact → Option ℤ
+less_constant (Less p q c) = Some c
+less_constant _ = None

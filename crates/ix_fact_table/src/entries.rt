@@ -1,9 +1,10 @@
 //! The form in which a table keeps a fact.
 
-ghost use Rattle.std.specs.Prelude.{◌≡◌};
+ghost use Rattle.std.specs.Prelude.{◌≡◌, IfSome};
 ghost use Rattle.std.specs.Ordering.{is_gt};
 ghost use Rattle.ix_facts.specs.PathOrder.{path_cmp};
 ghost use Rattle.ix_facts.specs.Facts.{is_default};
+ghost use Rattle.ix_facts.specs.Small.{IsEnd};
 ghost use Rattle.ix_fact_table.specs.Entries as spec;
 ghost use Rattle.ix_fact_table.specs.Entries.{HasInt};
 
@@ -75,5 +76,16 @@ pub(crate) fn int_of(fact: &Fact) -> i32
         Fact::Less(_, _, c) => c,
         Fact::Upper(_, _, _, c) => c,
         _ => 0,
+    }
+}
+
+/// The c of a difference `p < q + c`.
+pub(crate) fn less_constant(fact: &Fact) -> Option<i64>
+    ensures constant { result ≡ spec.less_constant fact.now }
+    ensures small { IfSome result IsEnd }
+{
+    match *fact {
+        Fact::Less(_, _, c) => Some(c as i64),
+        _ => None,
     }
 }

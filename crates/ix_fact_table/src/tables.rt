@@ -4,7 +4,9 @@ ghost use Rattle.std.specs.Prelude.{◌≡◌, Bool, true, false, ◌↔◌, ◌
 ghost use Rattle.ix_core.specs.declared.fact.Fact.{Fact};
 ghost use Rattle.ix_core.specs.declared.fact.Path.{Path};
 ghost use Rattle.ix_core.specs.declared.fact.Fact.TheVariants.{Search};
+ghost use Rattle.ix_facts.specs.Bounds.{fact_less};
 ghost use Rattle.ix_facts.specs.Facts.{IsIn};
+ghost use Rattle.ix_facts.specs.Small.{IsEnd};
 ghost use Rattle.ix_facts.specs.Forget.{of_path, without};
 ghost use Rattle.ix_facts.specs.After.{of_target};
 ghost use Rattle.ix_facts.specs.Kinds.{is_of, of_kind};
@@ -16,7 +18,7 @@ ghost use Rattle.ix_fact_table.specs.FactOrder.{AtKey, comes_before};
 ghost use Rattle.ix_fact_table.specs.Entries.{in_first_order};
 ghost use Rattle.ix_fact_table.specs.FactTables.{facts_of, table_kind};
 
-use crate::entries::{in_first_order as first_order, int_of};
+use crate::entries::{in_first_order as first_order, int_of, less_constant};
 use crate::fact_table::FactTable;
 use crate::look_ups::{around_differences, from_searches, place_of, ranges_among};
 use crate::row::Row;
@@ -67,6 +69,17 @@ impl FactTable {
         let facts = self.facts.as_slice();
         let place = place_of(facts, &first_order(like))?;
         Some(facts[place])
+    }
+
+    /// The least c of the facts `p < q + c`, of which a table has one at most. It takes no memory.
+    pub fn fact_less(&self, p: &Path, q: &Path) -> Option<i64>
+        ensures bound { result ≡ fact_less (facts_of self.now) p.now q.now }
+        ensures small { IfSome result IsEnd }
+    {
+        match self.get(&Fact::Less(*p, *q, 0)) {
+            Some(fact) => less_constant(&fact),
+            None => None,
+        }
     }
 
     /// The ranges of ints and of lengths. It takes no memory.

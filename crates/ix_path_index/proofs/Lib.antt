@@ -4,6 +4,7 @@ pub mod Found
 mod Places
 mod Added
 mod Marked
+mod Unmarked
 pub mod NearPlaces
 mod OneOrder
 mod PartsNamed

@@ -1,19 +1,19 @@
 -- A set stays in order, and its marks true, when a path is put into it and marked.
-use Rattle.std.specs.Prelude.{◌≡◌, ◌⊎◌, Bool, true, false, List, get_or}
+use Rattle.std.specs.Prelude.{◌≡◌, ◌⊎◌, List}
 use Rattle.std.proofs.Common.{sym, subst, ⊎_elim}
-use Rattle.std.proofs.lemmas.Bool.{and_parts}
 use Rattle.std.specs.BTreeSet.{insert_key}
 use Rattle.ix_core.specs.declared.fact.Path.{Path}
 use Rattle.ix_fact_paths.specs.Named.{IsAmongPaths}
 use Rattle.ix_fact_paths.specs.PathOrder.{path_cmp}
-use Rattle.ix_path_index.specs.ByPath.{near_place}
-use Rattle.ix_path_index.specs.Marks.{has_place, is_marked, IsMarked, AreMarked}
-use Rattle.ix_path_index.specs.PutLaws.{IsRising, put_here, put_stays, put_rises}
+use Rattle.ix_path_index.specs.declared.marks.Marks.{Marks}
+use Rattle.ix_path_index.specs.Marks.{IsMarked, AreMarked}
+use Rattle.ix_path_index.specs.PutLaws.{IsRising, put_here, put_stays, put_rises, put_again}
 
-pub marked_told : (marks : List Bool) (p : Path) → is_marked marks p ≡ true → IsMarked marks p
-marked_told marks p told = and_parts (has_place p) (get_or marks (near_place p) false) told
+-- to put a marked path changes nothing
+pub marked_again : (paths : List Path) (marks : Marks) (p : Path) → IsRising paths × AreMarked marks paths → IsMarked marks p → insert_key path_cmp paths p ≡ paths
+marked_again paths marks p kept marked = put_again paths p kept.0 (kept.1 p marked)
 
-pub put_marked : (paths next : List Path) (marks marked : List Bool) (p : Path) → IsRising paths × AreMarked marks paths → next ≡ insert_key path_cmp paths p
+pub put_marked : (paths next : List Path) (marks marked : Marks) (p : Path) → IsRising paths × AreMarked marks paths → next ≡ insert_key path_cmp paths p
     → ((q : Path) → IsMarked marked q → IsMarked marks q ⊎ (q ≡ p)) → IsRising next × AreMarked marked next
 put_marked paths next marks marked p kept put told = (
   subst IsRising (sym put) (put_rises paths p kept.0),

@@ -1,17 +1,22 @@
 //! Facts put at the paths that they name.
 
 ghost use Rattle.std.specs.Prelude.{◌≡◌, ◌<◌, ◌≤◌, ◌+◌, ◌*◌, ℕ, cond, nat_eq, nat_lt, true, false, get_or, length, List, [], ◌∷◌, ◌++◌, IfOk, OnOk, IfSome, IfNone};
+ghost use Rattle.std.specs.Vec.{vec_len};
 ghost use Rattle.ix_core.specs.declared.fact.Path.{Path};
 ghost use Rattle.ix_core.specs.declared.fact.Fact.{Fact};
 ghost use Rattle.ix_path_index.specs.ByPath.{is_near, near_place, at_two, at_three, at_bound, at_paths, facts_at, Adds, on_it};
 
-use ix_core::{Fact, List, Path, PathOff};
+use crate::path_facts::PathFacts;
+use ix_core::{Fact, Path, PathOff};
 use ix_fact_paths::is_same_path;
 use std::alloc::{AllocError, Global};
 use std::marker::Model;
 
 /// How many slots have lists of their own, and how many fields of the object in slot 0.
 const NEAR: u32 = 1024;
+
+/// For how many lists room is asked at once.
+const LISTS: usize = 32;
 
 fn place_of(number: u32, turn: usize) -> Option<usize>
     requires turn { turn ≤ 1 }
@@ -41,7 +46,7 @@ pub fn near_place(p: &Path) -> Option<usize>
 /// Of each near path the facts that name it, by its place, and those of all other paths beside them.
 #[derive(Drop)]
 pub(crate) struct Places {
-    pub(crate) near: Vec<List<Fact>>,
+    pub(crate) near: Vec<PathFacts>,
     pub(crate) others: Vec<(Path, Fact)>,
 }
 
@@ -51,30 +56,35 @@ impl Model for Places {
     ghost view = { λ places. (places.near.items, places.others.items) };
 }
 
-/// Makes room for the place.
-fn reach(alloc: Global, near: &mut Vec<List<Fact>>, place: usize) -> Result<(), AllocError>
+/// Makes lists up to the place, and asks for room for more.
+#[inline(never)]
+fn reach(alloc: Global, near: &mut Vec<PathFacts>, place: usize) -> Result<(), AllocError>
     requires near { place < 2048 }
+    requires beyond { vec_len near.old ≤ place }
     ensures reached { OnOk result (place < length near.new.items) }
     ensures same { OnOk result ((at : ℕ) → get_or near.new.items at [] ≡ get_or near.old.items at []) }
 {
+    near.reserve(place + LISTS - near.len())?;
     for _ in near.len()..place + 1 {
-        near.push(List::new(alloc))?;
+        near.push_reserved(PathFacts::new(alloc));
     }
     Ok(())
 }
 
+#[inline]
 fn put_near(
     alloc: Global,
-    near: &mut Vec<List<Fact>>,
+    near: &mut Vec<PathFacts>,
     place: usize,
     fact: &Fact,
 ) -> Result<(), AllocError>
     requires near { place < 2048 }
     ensures { OnOk result ((at : ℕ) → get_or near.new.items at [] ≡ get_or near.old.items at [] ++ cond (nat_eq at place) (fact.now ∷ []) []) }
 {
-    reach(alloc, near, place)?;
-    near[place].push(*fact)?;
-    Ok(())
+    if place >= near.len() {
+        reach(alloc, near, place)?;
+    }
+    near[place].push(*fact)
 }
 
 impl Places {
@@ -151,17 +161,17 @@ impl Places {
     fn put_fact(&mut self, alloc: Global, fact: &Fact) -> Result<(), AllocError>
         ensures { OnOk result (Adds self.old self.new (at_paths fact.now)) }
     {
-        match *fact {
-            Fact::Rng(p, _, _) => self.put(alloc, &p, fact),
-            Fact::LenRng(p, _, _) => self.put(alloc, &p, fact),
-            Fact::Low(p, _) => self.put(alloc, &p, fact),
-            Fact::Same(a, b) => self.put_two(alloc, &a, &b, fact),
-            Fact::IsLen(p, a) => self.put_two(alloc, &p, &a, fact),
-            Fact::Less(p, q, _) => self.put_two(alloc, &p, &q, fact),
-            Fact::Sum(t, y, z) => self.put_three(alloc, &t, &y, &z, fact),
-            Fact::Search(p, a) => self.put_two(alloc, &p, &a, fact),
-            Fact::Neg(p, a) => self.put_two(alloc, &p, &a, fact),
-            Fact::Upper(p, a, offset, _) => self.put_bound(alloc, &p, &a, &offset, fact),
+        match fact {
+            Fact::Rng(p, _, _) => self.put(alloc, p, fact),
+            Fact::LenRng(p, _, _) => self.put(alloc, p, fact),
+            Fact::Low(p, _) => self.put(alloc, p, fact),
+            Fact::Same(a, b) => self.put_two(alloc, a, b, fact),
+            Fact::IsLen(p, a) => self.put_two(alloc, p, a, fact),
+            Fact::Less(p, q, _) => self.put_two(alloc, p, q, fact),
+            Fact::Sum(t, y, z) => self.put_three(alloc, t, y, z, fact),
+            Fact::Search(p, a) => self.put_two(alloc, p, a, fact),
+            Fact::Neg(p, a) => self.put_two(alloc, p, a, fact),
+            Fact::Upper(p, a, offset, _) => self.put_bound(alloc, p, a, offset, fact),
         }
     }
 

@@ -10,8 +10,10 @@
 mod by_path;
 mod by_slot;
 mod grouped;
+mod marks;
 mod named;
 mod orders;
+mod path_facts;
 mod path_index;
 mod path_set;
 

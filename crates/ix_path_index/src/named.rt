@@ -9,34 +9,34 @@ ghost use Rattle.ix_path_index.specs.NamedLaws.{AreAmong};
 ghost use Rattle.ix_path_index.specs.PutLaws.{IsRising};
 ghost use Rattle.ix_path_index.specs.PutUntil.{IsPutUntil};
 
+use crate::by_path::order_of;
 use crate::path_set::PathSet;
 use ix_core::{Fact, Path, PathOff};
-use ix_fact_paths::compare_paths;
 use std::alloc::{AllocError, Global};
 use std::cmp::Ordering;
 
 fn put_offset(paths: &mut PathSet, offset: &PathOff) -> Result<(), AllocError>
     ensures { OnOk result (paths.new ≡ put_all paths.old (offset_paths offset.now)) }
 {
-    match *offset {
+    match offset {
         PathOff::Nothing => Ok(()),
-        PathOff::Plus(q) => paths.put(q),
-        PathOff::Minus(q) => paths.put(q),
+        PathOff::Plus(q) => paths.put_copy(q),
+        PathOff::Minus(q) => paths.put_copy(q),
     }
 }
 
 #[inline]
-fn put_two(paths: &mut PathSet, p: Path, q: Path) -> Result<(), AllocError>
-    ensures { OnOk result (paths.new ≡ put_all paths.old (p ∷ q ∷ [])) }
+fn put_two(paths: &mut PathSet, p: &Path, q: &Path) -> Result<(), AllocError>
+    ensures { OnOk result (paths.new ≡ put_all paths.old (p.now ∷ q.now ∷ [])) }
 {
-    paths.put(p)?;
-    paths.put(q)
+    paths.put_copy(p)?;
+    paths.put_copy(q)
 }
 
-fn put_three(paths: &mut PathSet, t: Path, y: Path, z: Path) -> Result<(), AllocError>
-    ensures { OnOk result (paths.new ≡ put_all paths.old (t ∷ y ∷ z ∷ [])) }
+fn put_three(paths: &mut PathSet, t: &Path, y: &Path, z: &Path) -> Result<(), AllocError>
+    ensures { OnOk result (paths.new ≡ put_all paths.old (t.now ∷ y.now ∷ z.now ∷ [])) }
 {
-    paths.put(t)?;
+    paths.put_copy(t)?;
     put_two(paths, y, z)
 }
 
@@ -44,25 +44,26 @@ fn put_three(paths: &mut PathSet, t: Path, y: Path, z: Path) -> Result<(), Alloc
 fn put_int_and_array(
     ints: &mut PathSet,
     arrays: &mut PathSet,
-    p: Path,
-    a: Path,
+    p: &Path,
+    a: &Path,
 ) -> Result<(), AllocError>
-    ensures ints { OnOk result (ints.new ≡ put_all ints.old (p ∷ [])) }
-    ensures arrays { OnOk result (arrays.new ≡ put_all arrays.old (a ∷ [])) }
+    ensures ints { OnOk result (ints.new ≡ put_all ints.old (p.now ∷ [])) }
+    ensures arrays { OnOk result (arrays.new ≡ put_all arrays.old (a.now ∷ [])) }
 {
-    ints.put(p)?;
-    arrays.put(a)
+    ints.put_copy(p)?;
+    arrays.put_copy(a)
 }
 
 /// Puts the ints that the fact names into the one set, and the arrays into the other.
+#[inline(never)]
 fn put_named(ints: &mut PathSet, arrays: &mut PathSet, fact: &Fact) -> Result<(), AllocError>
     ensures ints { OnOk result (ints.new ≡ put_all ints.old (ints_of fact.now)) }
     ensures arrays { OnOk result (arrays.new ≡ put_all arrays.old (arrays_of fact.now)) }
 {
-    match *fact {
-        Fact::Rng(p, _, _) => ints.put(p),
-        Fact::LenRng(a, _, _) => arrays.put(a),
-        Fact::Low(p, _) => ints.put(p),
+    match fact {
+        Fact::Rng(p, _, _) => ints.put_copy(p),
+        Fact::LenRng(a, _, _) => arrays.put_copy(a),
+        Fact::Low(p, _) => ints.put_copy(p),
         Fact::Same(a, b) => put_two(arrays, a, b),
         Fact::IsLen(p, a) => put_int_and_array(ints, arrays, p, a),
         Fact::Less(p, q, _) => put_two(ints, p, q),
@@ -71,50 +72,22 @@ fn put_named(ints: &mut PathSet, arrays: &mut PathSet, fact: &Fact) -> Result<()
         Fact::Neg(p, a) => put_int_and_array(ints, arrays, p, a),
         Fact::Upper(p, a, offset, _) => {
             put_int_and_array(ints, arrays, p, a)?;
-            put_offset(ints, &offset)
+            put_offset(ints, offset)
         }
     }
 }
 
-fn is_offset_marked(paths: &PathSet, offset: &PathOff) -> bool
-    ensures { IsTrue result → put_all paths.now (offset_paths offset.now) ≡ paths.now }
-{
-    match offset {
-        PathOff::Nothing => true,
-        PathOff::Plus(q) => paths.is_marked(q),
-        PathOff::Minus(q) => paths.is_marked(q),
-    }
-}
-
-/// Whether the ints and the arrays that the fact names are marked as put.
-fn are_marked(ints: &PathSet, arrays: &PathSet, fact: &Fact) -> bool
-    ensures ints { IsTrue result → put_all ints.now (ints_of fact.now) ≡ ints.now }
-    ensures arrays { IsTrue result → put_all arrays.now (arrays_of fact.now) ≡ arrays.now }
-{
-    match fact {
-        Fact::Rng(p, _, _) => ints.is_marked(p),
-        Fact::LenRng(a, _, _) => arrays.is_marked(a),
-        Fact::Low(p, _) => ints.is_marked(p),
-        Fact::Same(a, b) => arrays.is_marked(a) && arrays.is_marked(b),
-        Fact::IsLen(p, a) => ints.is_marked(p) && arrays.is_marked(a),
-        Fact::Less(p, q, _) => ints.is_marked(p) && ints.is_marked(q),
-        Fact::Sum(t, y, z) => ints.is_marked(t) && (ints.is_marked(y) && ints.is_marked(z)),
-        Fact::Search(p, a) => ints.is_marked(p) && arrays.is_marked(a),
-        Fact::Neg(p, a) => ints.is_marked(p) && arrays.is_marked(a),
-        Fact::Upper(p, a, offset, _) => arrays.is_marked(a)
-            && (ints.is_marked(p) && is_offset_marked(ints, offset)),
-    }
-}
-
-/// Puts what the fact names. Of most facts all is there already, which is a look at their marks.
-fn put_new(ints: &mut PathSet, arrays: &mut PathSet, fact: &Fact) -> Result<(), AllocError>
+/// The same. Most facts are differences, ranges and classes of ints that are marked: those take a look in place, and no call.
+#[inline]
+fn put_fact(ints: &mut PathSet, arrays: &mut PathSet, fact: &Fact) -> Result<(), AllocError>
     ensures ints { OnOk result (ints.new ≡ put_all ints.old (ints_of fact.now)) }
     ensures arrays { OnOk result (arrays.new ≡ put_all arrays.old (arrays_of fact.now)) }
 {
-    if are_marked(ints, arrays, fact) {
-        return Ok(());
+    match fact {
+        Fact::Less(p, q, _) => put_two(ints, p, q),
+        Fact::Rng(p, _, _) | Fact::Low(p, _) => ints.put_copy(p),
+        _ => put_named(ints, arrays, fact),
     }
-    put_named(ints, arrays, fact)
 }
 
 /// Puts what the facts name.
@@ -123,7 +96,7 @@ fn put_facts(ints: &mut PathSet, arrays: &mut PathSet, facts: &[Fact]) -> Result
     ensures arrays { OnOk result (arrays.new ≡ put_all arrays.old (named_arrays facts.now)) }
 {
     for fact in facts {
-        put_new(ints, arrays, fact)?;
+        put_fact(ints, arrays, fact)?;
     }
     Ok(())
 }
@@ -142,7 +115,7 @@ fn put_until(
         if ints.len() >= count {
             return Ok(());
         }
-        put_new(ints, &mut arrays, fact)?;
+        put_named(ints, &mut arrays, fact)?;
     }
     Ok(())
 }
@@ -162,13 +135,13 @@ pub fn ints_and_arrays(alloc: Global, facts: &[Fact]) -> Result<(Vec<Path>, Vec<
 fn put_arrays(arrays: &mut PathSet, fact: &Fact) -> Result<(), AllocError>
     ensures { OnOk result (arrays.new ≡ put_all arrays.old (arrays_of fact.now)) }
 {
-    match *fact {
-        Fact::LenRng(a, _, _) => arrays.put(a),
+    match fact {
+        Fact::LenRng(a, _, _) => arrays.put_copy(a),
         Fact::Same(a, b) => put_two(arrays, a, b),
-        Fact::IsLen(_, a) => arrays.put(a),
-        Fact::Search(_, a) => arrays.put(a),
-        Fact::Neg(_, a) => arrays.put(a),
-        Fact::Upper(_, a, _, _) => arrays.put(a),
+        Fact::IsLen(_, a) => arrays.put_copy(a),
+        Fact::Search(_, a) => arrays.put_copy(a),
+        Fact::Neg(_, a) => arrays.put_copy(a),
+        Fact::Upper(_, a, _, _) => arrays.put_copy(a),
         Fact::Rng(_, _, _) => Ok(()),
         Fact::Low(_, _) => Ok(()),
         Fact::Less(_, _, _) => Ok(()),
@@ -202,7 +175,7 @@ fn behind_range<'a>(paths: &'a [Path], fact: &Fact) -> &'a [Path]
     let (Some((first, more)), Fact::Rng(q, _, _)) = (paths.split_first(), fact) else {
         return paths;
     };
-    match compare_paths(first, q) {
+    match order_of(first, q) {
         Ordering::Equal => more,
         _ => paths,
     }
@@ -214,6 +187,9 @@ fn have_ranges(facts: &[Fact], paths: &[Path]) -> bool
 {
     let mut rest = paths;
     for fact in facts {
+        if rest.is_empty() {
+            return true;
+        }
         rest = behind_range(rest, fact);
     }
     rest.is_empty()
@@ -262,11 +238,14 @@ pub fn ints_and_arrays_among(
 }
 
 /// Paths in order, and among them the ints that the facts name. The only error is want of memory.
+// Mostly there is one new int at most: with room for it no list grows.
 pub fn with_ints(alloc: Global, paths: &[Path], facts: &[Fact]) -> Result<Vec<Path>, AllocError>
     requires rising { IsRising paths.now }
     ensures { IfOk result (λ more. more.items ≡ put_all paths.now (named_ints facts.now)) }
 {
-    let mut ints = PathSet::of(alloc, Vec::from_slice(alloc, paths)?);
+    let mut known = Vec::with_capacity(alloc, paths.len().saturating_add(1))?;
+    known.extend_from_slice(paths)?;
+    let mut ints = PathSet::of(alloc, known);
     let mut arrays = PathSet::new(alloc);
     put_facts(&mut ints, &mut arrays, facts)?;
     Ok(ints.into_paths())

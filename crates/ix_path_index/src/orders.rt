@@ -1,6 +1,6 @@
 //! Facts in all their orders.
 
-ghost use Rattle.std.specs.Prelude.{◌≡◌, ◌≤◌, ◌+◌, ◌∷◌, ◌++◌, [], false, IsTrue, IfOk, option_to_list};
+ghost use Rattle.std.specs.Prelude.{◌≡◌, ◌≤◌, ◌+◌, ◌∷◌, ◌++◌, [], cond, false, IsTrue, IfOk, option_to_list};
 ghost use Rattle.std.specs.Vec.{vec_len, vec_capacity};
 ghost use Rattle.ix_fact_paths.specs.Facts.{orders, is_default, in_orders};
 
@@ -57,6 +57,7 @@ pub fn have_one_order(facts: &[Fact]) -> bool
 }
 
 /// Puts the fact's orders behind the others. There is room for two.
+#[inline(never)]
 fn push_orders(ordered: &mut Vec<Fact>, fact: &Fact)
     requires room { vec_len ordered.old + 2 ≤ vec_capacity ordered.old }
     ensures orders { ordered.new.items ≡ ordered.old.items ++ orders fact.now }
@@ -69,15 +70,31 @@ fn push_orders(ordered: &mut Vec<Fact>, fact: &Fact)
     }
 }
 
+/// Puts the fact's orders behind the others, unless it is a range that is said of every path. There is room for two.
+// Most facts have one order: to put them is a copy at the caller.
+#[inline]
+fn push_in_orders(ordered: &mut Vec<Fact>, fact: &Fact)
+    requires room { vec_len ordered.old + 2 ≤ vec_capacity ordered.old }
+    ensures orders { ordered.new.items ≡ ordered.old.items ++ cond (is_default fact.now) [] (orders fact.now) }
+    ensures at_most_two { vec_len ordered.new ≤ vec_len ordered.old + 2 }
+    ensures same_room { vec_capacity ordered.new ≡ vec_capacity ordered.old }
+{
+    if has_one_order(fact) {
+        ordered.push_reserved(*fact);
+        return;
+    }
+    if !is_said_of_all(fact) {
+        push_orders(ordered, fact);
+    }
+}
+
 /// The facts, each in all its orders, but for ranges that are said of every path. The only error is want of memory.
 pub fn in_all_orders(alloc: Global, facts: &[Fact]) -> Result<Vec<Fact>, AllocError>
     ensures { IfOk result (λ ordered. ordered.items ≡ in_orders facts.now) }
 {
     let mut ordered = Vec::with_capacity(alloc, room_for(2 * facts.len()))?;
     for fact in facts {
-        if !is_said_of_all(fact) {
-            push_orders(&mut ordered, fact);
-        }
+        push_in_orders(&mut ordered, fact);
     }
     Ok(ordered)
 }

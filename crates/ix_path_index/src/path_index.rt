@@ -7,7 +7,8 @@ ghost use Rattle.ix_path_index.specs.ByPath.{IsSorted, on_index, on_it};
 
 use crate::by_path::{facts_beside, facts_of, in_order, paths_of};
 use crate::by_slot::{Places, near_place};
-use ix_core::{Fact, List, Path};
+use crate::path_facts::PathFacts;
+use ix_core::{Fact, Path};
 use std::alloc::{AllocError, Global};
 use std::marker::Model;
 
@@ -15,7 +16,7 @@ use std::marker::Model;
 #[derive(Drop)]
 pub struct PathIndex {
     /// Those that name a near path, by its place.
-    near: Vec<List<Fact>>,
+    near: Vec<PathFacts>,
     /// The other paths that the facts name, in order, each as often as facts name it.
     paths: Vec<Path>,
     /// Beside each path a fact that names it.
@@ -31,7 +32,7 @@ impl Model for PathIndex {
 }
 
 /// The facts at the place.
-fn at_place(near: &[List<Fact>], place: usize) -> &[Fact]
+fn at_place(near: &[PathFacts], place: usize) -> &[Fact]
     ensures { result.now ≡ get_or near.now place [] }
 {
     match near.get(place) {

@@ -16,3 +16,5 @@ mod WeakerCommon
 mod GrownTables
 mod MadeStores
 mod OverInts
+mod LessInOrders
+mod OrdersNames

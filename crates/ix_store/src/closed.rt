@@ -188,7 +188,7 @@ impl Known {
         let facts = over.table.as_slice();
         let _count = facts.len();
         let turned = orders_beside(alloc, facts, over.plain)?;
-        let (ints, arrays) = ints_and_arrays_of(alloc, &over, &turned)?;
+        let (ints, arrays) = ints_and_arrays_of(alloc, &over)?;
         let ends = ends_of(&over.table, &turned);
         let from_links = before_links(ordered(facts, &turned));
         Ok(Known {

@@ -24,7 +24,7 @@ pub(crate) struct Known {
     pub(crate) table: FactTable,
     /// The facts in all their orders, where some have two; where none has, the table has them.
     pub(crate) turned: Option<Row>,
-    /// How many of the facts in all their orders stand up to the last range or class, and before the first difference or length.
+    /// How many of the facts in all their orders stand up to the last range, class or length, and before the first difference or length.
     pub(crate) ends: usize,
     pub(crate) from_links: usize,
     /// The ints and arrays that they name, each once.

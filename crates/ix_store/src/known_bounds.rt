@@ -22,7 +22,7 @@ impl Groups for Known {
     ghost use Rattle.std.specs.Prelude.{refl, take, drop};
     ghost use Rattle.ix_facts.specs.Facts.{in_orders};
     ghost use Rattle.ix_store.specs.StoredFacts.{facts_in};
-    ghost use Rattle.ix_store.specs.KnownParts.{ends_named, links_named};
+    ghost use Rattle.ix_store.specs.KnownParts.{ends_named, links_named, lengths_named};
 
     ghost all = { λ known. in_orders (facts_in known) };
 
@@ -46,11 +46,28 @@ impl Groups for Known {
         links
     }
 
+    ghost lengths = { λ known p. drop known.from_links (take known.ends (in_orders (facts_in known))) };
+
+    fn lengths_on(&self, _p: &Path) -> &[Fact] {
+        let (ends, _) = self.ordered().split_at(self.ends);
+        if self.from_links > ends.len() {
+            return &[];
+        }
+        let (_, lengths) = ends.split_at(self.from_links);
+        lengths
+    }
+
+    fn fact_less(&self, p: &Path, q: &Path) -> Option<i64> {
+        self.table.fact_less(p, q)
+    }
+
     ghost named = { λ known p. refl };
 
     ghost named_ends = { ends_named };
 
     ghost named_links = { links_named };
+
+    ghost named_lengths = { lengths_named };
 
     ghost only = { λ known p f i. i };
 }
@@ -106,7 +123,7 @@ impl Know for Known {
     }
 
     fn difference(&self, p: &Path, q: &Path) -> Option<i64> {
-        bounds::fact_less(self, p, q)
+        self.fact_less(p, q)
     }
 
     fn same(&self, a: &Path, b: &Path) -> bool {

@@ -45,7 +45,7 @@ impl<'a> Groups for Limited<'a> {
     ghost use Rattle.std.specs.Prelude.{refl, take, drop};
     ghost use Rattle.ix_facts.specs.Facts.{in_orders};
     ghost use Rattle.ix_store.specs.StoredFacts.{facts_in};
-    ghost use Rattle.ix_store.specs.KnownParts.{ends_named, links_named};
+    ghost use Rattle.ix_store.specs.KnownParts.{ends_named, links_named, lengths_named};
 
     ghost all = { λ known. in_orders (facts_in known) };
 
@@ -67,11 +67,23 @@ impl<'a> Groups for Limited<'a> {
         self.known.links_on(p)
     }
 
+    ghost lengths = { λ known p. drop known.from_links (take known.ends (in_orders (facts_in known))) };
+
+    fn lengths_on(&self, p: &Path) -> &[Fact] {
+        self.known.lengths_on(p)
+    }
+
+    fn fact_less(&self, p: &Path, q: &Path) -> Option<i64> {
+        self.known.fact_less(p, q)
+    }
+
     ghost named = { λ known p. refl };
 
     ghost named_ends = { ends_named };
 
     ghost named_links = { links_named };
+
+    ghost named_lengths = { lengths_named };
 
     ghost only = { λ known p f i. i };
 }

@@ -31,11 +31,23 @@ impl Groups for NoFacts {
         &[]
     }
 
+    ghost lengths = { λ none p. [] };
+
+    fn lengths_on(&self, _p: &Path) -> &[Fact] {
+        &[]
+    }
+
+    fn fact_less(&self, _p: &Path, _q: &Path) -> Option<i64> {
+        None
+    }
+
     ghost named = { λ none p. refl };
 
     ghost named_ends = { λ none p. refl };
 
     ghost named_links = { λ none p. refl };
+
+    ghost named_lengths = { λ none p. refl };
 
     ghost only = { λ none p f i. i };
 }

@@ -4,17 +4,19 @@ ghost use Rattle.std.specs.Prelude.{◌≡◌, IsTrue, IfOk};
 ghost use Rattle.ix_facts.specs.Facts.{in_orders};
 ghost use Rattle.ix_store.specs.Orders.{ordered_by};
 
-use crate::known::FEW;
 use ix_closure::Row;
 use ix_core::Fact;
 use ix_fact_list::{have_one_order, in_all_orders};
 use std::alloc::{AllocError, Global};
 
+/// Up to how many facts a list keeps the room that it was made in: to copy it takes more time than that room is worth.
+const SHORT: usize = 128;
+
 /// The facts in no more room than they take, unless they are few.
 fn trimmed(alloc: Global, facts: Vec<Fact>) -> Result<Vec<Fact>, AllocError>
     ensures { IfOk result (λ trimmed. trimmed.items ≡ facts.items) }
 {
-    if facts.len() <= FEW {
+    if facts.len() <= SHORT {
         return Ok(facts);
     }
     let trimmed = Vec::from_slice(alloc, &facts)?;

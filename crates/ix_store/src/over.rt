@@ -17,7 +17,7 @@ use std::alloc::{AllocError, Global};
 use std::marker::Model;
 
 /// From how many facts on a table is long: in a shorter one ints are found as fast by a walk over its facts as among others.
-const LONG: usize = 512;
+const LONG: usize = 16;
 
 /// A table of facts of any kind, and, where it is told, paths in order: all ints that the facts name, and maybe others; and whether each fact is known to have one order. A
 /// clause sees the table.
@@ -42,8 +42,11 @@ pub(crate) fn is_long(table: &FactTable) -> bool {
     table.as_slice().len() >= LONG
 }
 
-/// The ints and the arrays that the facts name.
-fn named_paths(alloc: Global, over: &TableOver) -> Result<(Vec<Path>, Vec<Path>), AllocError>
+/// The ints and the arrays that the facts name. The only error is want of memory.
+pub(crate) fn ints_and_arrays_of(
+    alloc: Global,
+    over: &TableOver,
+) -> Result<(Vec<Path>, Vec<Path>), AllocError>
     ensures ints { IfOk result (λ paths. paths.0.items ≡ put_all [] (named_ints (facts_of over.now))) }
     ensures arrays { IfOk result (λ paths. paths.1.items ≡ put_all [] (named_arrays (facts_of over.now))) }
 {
@@ -55,22 +58,7 @@ fn named_paths(alloc: Global, over: &TableOver) -> Result<(Vec<Path>, Vec<Path>)
     Ok((ints, arrays))
 }
 
-/// The ints and the arrays that the facts name, of which these are all in their orders. The only error is want of memory.
-pub(crate) fn ints_and_arrays_of(
-    alloc: Global,
-    over: &TableOver,
-    turned: &Option<Row>,
-) -> Result<(Vec<Path>, Vec<Path>), AllocError>
-    ensures ints { IfOk result (λ paths. paths.0.items ≡ put_all [] (named_ints (ordered_by (facts_of over.now) turned.now))) }
-    ensures arrays { IfOk result (λ paths. paths.1.items ≡ put_all [] (named_arrays (ordered_by (facts_of over.now) turned.now))) }
-{
-    match turned {
-        Some(_) => ints_and_arrays(alloc, ordered(over.table.as_slice(), turned)),
-        None => named_paths(alloc, over),
-    }
-}
-
-/// How many facts stand up to the last range or class: at most those before all differences, where each fact has one order.
+/// How many facts stand up to the last range, class or length: at most those before all differences, where each fact has one order.
 pub(crate) fn ends_of(table: &FactTable, turned: &Option<Row>) -> usize
     ensures within { result ≤ length (ordered_by (facts_of table.now) turned.now) }
     ensures ends { ends_in (take result (ordered_by (facts_of table.now) turned.now)) ≡ ends_in (ordered_by (facts_of table.now) turned.now) }

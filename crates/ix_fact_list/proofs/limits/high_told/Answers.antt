@@ -4,12 +4,8 @@ use Rattle.ix_core.specs.declared.fact.PathOff.TheVariants.{Nothing}
 use Rattle.ix_core.specs.declared.fact.Fact.TheVariants.{Upper}
 use Rattle.ix_facts.specs.Bounds as spec
 use Rattle.ix_facts.specs.Small.{IsLimit}
-use Rattle.ix_fact_list.proofs.NearRaised.{high_of_range, high_of_less, high_of_upper, high_of_length, range_limit, limit_of_end}
+use Rattle.ix_fact_list.proofs.NearRaised.{high_of_less, high_of_upper, high_of_length, limit_of_end}
 use Rattle.ix_fact_list.proofs.limits.high_told.Goals as goal
-
-pub returns-in-Rng-clause-high : goal.returns-in-Rng-clause-high
-returns-in-Rng-clause-high g c =
-    high_of_range (g.G.Groups.all c.args.facts.now) c.args.fact.now c.in-Rng.p c.in-Rng.field-1 c.in-Rng.high _ c.in-Rng.is (to_z-of_z w64 c.in-Rng.high (search rules))
 
 pub returns-in-Less-clause-high : goal.returns-in-Less-clause-high
 returns-in-Less-clause-high g c =
@@ -43,10 +39,6 @@ returns-in-Upper-default-default-Nothing-default-clause-high g c =
 pub returns-in-IsLen-clause-high : goal.returns-in-IsLen-clause-high
 returns-in-IsLen-clause-high g c =
     high_of_length (g.G.Groups.all c.args.facts.now) c.args.fact.now c.in-IsLen.r c.in-IsLen.a _ c.in-IsLen.is (to_z-of_z w64 c.length_high-in-IsLen.result (search rules) ∙ c.length_high-in-IsLen.ensures.value)
-
-pub returns-in-Rng-clause-small : goal.returns-in-Rng-clause-small
-returns-in-Rng-clause-small g c =
-    subst IsLimit (sym (to_z-of_z w64 c.in-Rng.high (search rules))) (range_limit c.args.fact.now c.in-Rng.p c.in-Rng.field-1 c.in-Rng.high c.in-Rng.is c.requires.fact).1
 
 pub returns-in-IsLen-clause-small : goal.returns-in-IsLen-clause-small
 returns-in-IsLen-clause-small g c =

@@ -2,16 +2,8 @@ use Rattle.std.proofs.Common.{rules, ◌≡◌, pos, ◌+ℤ◌, ◌-ℤ◌, w32
 use Rattle.std.proofs.lemmas.Int.{to_z-of_z}
 use Rattle.ix_facts.specs.Bounds as spec
 use Rattle.ix_facts.specs.Small.{IsLimit}
-use Rattle.ix_fact_list.proofs.NearRaised.{low_of_range, low_of_class, low_of_less, low_of_length, range_limit, class_limit, limit_of_end}
+use Rattle.ix_fact_list.proofs.NearRaised.{low_of_less, low_of_length, limit_of_end}
 use Rattle.ix_fact_list.proofs.limits.low_told.Goals as goal
-
-pub returns-in-Rng-clause-low : goal.returns-in-Rng-clause-low
-returns-in-Rng-clause-low g c =
-    low_of_range (g.G.Groups.all c.args.facts.now) c.args.fact.now c.in-Rng.p c.in-Rng.low c.in-Rng.field-2 _ c.in-Rng.is (to_z-of_z w64 c.in-Rng.low (search rules))
-
-pub returns-in-Low-clause-low : goal.returns-in-Low-clause-low
-returns-in-Low-clause-low g c =
-    low_of_class (g.G.Groups.all c.args.facts.now) c.args.fact.now c.in-Low.p c.in-Low.low _ c.in-Low.is (search rules)
 
 pub returns-in-Less-clause-low : goal.returns-in-Less-clause-low
 returns-in-Less-clause-low g c =
@@ -27,15 +19,6 @@ returns-in-Less-clause-low g c =
 pub returns-in-IsLen-clause-low : goal.returns-in-IsLen-clause-low
 returns-in-IsLen-clause-low g c =
     low_of_length (g.G.Groups.all c.args.facts.now) c.args.fact.now c.in-IsLen.r c.in-IsLen.a _ c.in-IsLen.is (to_z-of_z w64 c.length_low.result (search rules) ∙ c.length_low.ensures.value)
-
-pub returns-in-Rng-clause-small : goal.returns-in-Rng-clause-small
-returns-in-Rng-clause-small g c =
-    subst IsLimit (sym (to_z-of_z w64 c.in-Rng.low (search rules))) (range_limit c.args.fact.now c.in-Rng.p c.in-Rng.low c.in-Rng.field-2 c.in-Rng.is c.requires.fact).0
-
-pub returns-in-Low-clause-small : goal.returns-in-Low-clause-small
-returns-in-Low-clause-small g c =
-    let e : to_z w64 (of_z w64 (to_z w32 (of_z w32 c.in-Low.low))) ≡ c.in-Low.low = search rules in
-    subst IsLimit (sym e) (class_limit c.args.fact.now c.in-Low.p c.in-Low.low c.in-Low.is c.requires.fact)
 
 pub returns-in-IsLen-clause-small : goal.returns-in-IsLen-clause-small
 returns-in-IsLen-clause-small g c =

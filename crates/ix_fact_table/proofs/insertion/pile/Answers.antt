@@ -8,7 +8,4 @@ pub returns-then-is_short : goal.returns-then-is_short
 returns-then-is_short c = record { piled = inl (record { both = c.in_ok-put.ensures.both; rise = c.in_ok-put.ensures.rises }, refl) }
 
 pub returns-then-is_behind-2 : goal.returns-then-is_behind-2
-returns-then-is_behind-2 c = record { piled = inr (record { both = c.in_ok-add_behind-2.ensures.both; rise = c.in_ok-add_behind-2.ensures.rises }, refl) }
-
-pub returns : goal.returns
-returns c = record { piled = inr (record { both = c.in_ok-put-2.ensures.both; rise = c.in_ok-put-2.ensures.rises }, refl) }
+returns-then-is_behind-2 c = record { piled = inr (record { both = c.in_ok-add_second.ensures.both; rise = c.in_ok-add_second.ensures.rises }, refl) }

@@ -9,7 +9,7 @@ use Rattle.ix_fact_table.proofs.insertion.put.Goals as goal
 
 pub returns-in-Ok : goal.returns-in-Ok
 returns-in-Ok c =
-    let fact = c.args.fact in
+    let fact = c.args.fact.now in
     let place = c.in-Ok.place in
     let is = c.deref.ensures.value in
     let same = c.in-Ok.ensures.position (λ other. fact_cmp other fact) (always_returns_same _ _ _ (λ a r next called. search rules)) in
@@ -19,7 +19,7 @@ returns-in-Ok c =
 
 pub returns-in_ok-insert-in-Err : goal.returns-in_ok-insert-in-Err
 returns-in_ok-insert-in-Err c =
-    let fact = c.args.fact in
+    let fact = c.args.fact.now in
     let place = c.in-Err.place in
     let parted = c.in-Err.ensures.position (λ other. fact_cmp other fact) (always_returns_same _ _ _ (λ a r next called. search rules)) in
     let all = put_at_gap c.args.facts.now.items fact c.requires.rises place

@@ -1,4 +1,4 @@
-use Rattle.std.proofs.Common.{◌<◌, ◌≤◌, length, rules, arith}
+use Rattle.std.proofs.Common.{rules, arith}
 use Rattle.std.proofs.lemmas.Fn.{always_returns_same}
 use Rattle.ix_fact_table.specs.FactOrder.{fact_cmp}
 use Rattle.ix_fact_table.proofs.Searches.{found_past, missed_past}

@@ -11,5 +11,8 @@ loop-fact-preserved c p i =
     (λ j. inr j)
     (c.loop-fact.invariant p i)
 
+pub returns-then-is_empty : goal.returns-then-is_empty
+returns-then-is_empty c t p i = ⊎_elim (λ j. absurd (none_left c.loop-fact.rest.now p (sym c.is_empty.ensures ∙ c.if-is_empty.true) j)) (λ j. j) (c.loop-fact.invariant p i)
+
 pub returns : goal.returns
-returns c t p i = ⊎_elim (λ j. absurd (none_left c.loop-fact.rest.now p (sym c.is_empty.ensures ∙ t) j)) (λ j. j) (c.loop-fact.invariant p i)
+returns c t p i = ⊎_elim (λ j. absurd (none_left c.loop-fact.rest.now p (sym c.is_empty-2.ensures ∙ t) j)) (λ j. j) (c.loop-fact.invariant p i)

@@ -3,8 +3,8 @@ use Rattle.ix_path_index.proofs.named.put_until.Goals as goal
 
 pub loop-fact-preserved : goal.loop-fact-preserved
 loop-fact-preserved c =
-    let is = c.in_ok-put_new.ensures.ints in
+    let is = c.in_ok-put_named.ensures.ints in
     record {
-      is_put = put_kept c.args.facts.now c.loop-fact.fact-index _ c.args.ints.now c.loop-fact.ints c.put_new.new.ints is c.loop-fact.invariant.is_put;
-      all = put_further c.args.facts.now c.loop-fact.fact-index _ c.args.ints.now c.loop-fact.ints c.put_new.new.ints c.loop-fact-test.true is c.loop-fact.invariant.all;
+      is_put = put_kept c.args.facts.now c.loop-fact.fact-index _ c.args.ints.now c.loop-fact.ints c.put_named.new.ints is c.loop-fact.invariant.is_put;
+      all = put_further c.args.facts.now c.loop-fact.fact-index _ c.args.ints.now c.loop-fact.ints c.put_named.new.ints c.loop-fact-test.true is c.loop-fact.invariant.all;
     }

@@ -11,7 +11,7 @@ use Rattle.ix_path_index.proofs.path_set.put_path.Goals as goal
 
 pub returns-in-Ok-clause-put : goal.returns-in-Ok-clause-put
 returns-in-Ok-clause-put c =
-    let p = c.args.p in
+    let p = c.args.p.now in
     let e = c.deref-2.ensures.value in
     let rising : IsRising c.deref-2.result.now = subst IsRising (sym e) c.requires.rising in
     let here = c.in-Ok.ensures.position (λ q. path_cmp q p) (always_returns_same _ _ _ (λ a r next called. search rules)) in
@@ -19,7 +19,7 @@ returns-in-Ok-clause-put c =
 
 pub returns-in_ok-insert-in-Err-clause-put : goal.returns-in_ok-insert-in-Err-clause-put
 returns-in_ok-insert-in-Err-clause-put c =
-    let p = c.args.p in
+    let p = c.args.p.now in
     let e = c.deref-2.ensures.value in
     let items = c.args.paths.now.items in
     let here = c.in-Err.ensures.position (λ q. path_cmp q p) (always_returns_same _ _ _ (λ a r next called. search rules)) in

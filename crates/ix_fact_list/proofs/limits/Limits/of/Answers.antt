@@ -2,20 +2,22 @@ use Rattle.std.proofs.Common.{slice_index_or, pos, subst}
 use Rattle.ix_core.specs.Ints.{least_int, greatest_int}
 use Rattle.ix_core.specs.declared.fact.Path.TheVariants.{Slot}
 use Rattle.ix_core.specs.declared.fact.Fact.TheVariants.{Rng}
-use Rattle.ix_facts.specs.Bounds.{lower_bound, upper_limit}
-use Rattle.ix_fact_list.specs.NearNumbers.{Raises, Lowers, low_by, high_by}
-use Rattle.ix_fact_list.proofs.NearRaised.{all_lows, all_highs, rising_at_first, falling_at_first, small_at_first, limit_of_end, least_small, greatest_small, rises, falls}
+use Rattle.ix_facts.specs.Bounds.{range_low, range_high, lower_by, lower_bound, limit_by, upper_limit}
+use Rattle.ix_fact_list.specs.NearNumbers.{Raises, Lowers}
+use Rattle.ix_fact_list.proofs.NearRaised.{limit_of_end, least_small, greatest_small, range_low_small, range_high_small, rises, falls}
+use Rattle.ix_fact_list.proofs.NearCopied.{near_small, rising_at_ends, falling_at_ends}
 use Rattle.ix_fact_list.proofs.limits.Limits.of.Goals as goal
 
 pub loop-fact-init : goal.loop-fact-init
 loop-fact-init g c =
     let facts = c.args.facts.now in
-    record {
-      lows = rising_at_first (low_by facts) (lower_bound facts) _ least_int facts c.in_ok-lows.ensures (all_lows facts);
-      highs = falling_at_first (high_by facts) (upper_limit facts) _ greatest_int facts c.in_ok-highs.ensures (all_highs facts);
-      small_lows = small_at_first _ least_int c.in_ok-lows.ensures (limit_of_end least_int least_small);
-      small_highs = small_at_first _ greatest_int c.in_ok-highs.ensures (limit_of_end greatest_int greatest_small);
-    }
+    let ends = c.args.ends.now in
+    rw (c.in_ok-lows.ensures, c.in_ok-highs.ensures, c.deref.ensures.value, c.deref-2.ensures.value) (record {
+      lows = rising_at_ends facts ends.lows.items c.requires.ends.lows;
+      highs = falling_at_ends facts ends.highs.items c.requires.ends.highs;
+      small_lows = near_small ends.lows.items least_int (range_low facts) c.requires.ends.lows (λ p. limit_of_end (range_low facts p) (range_low_small facts p c.requires.small)) (limit_of_end least_int least_small);
+      small_highs = near_small ends.highs.items greatest_int (range_high facts) c.requires.ends.highs (λ p. limit_of_end (range_high facts p) (range_high_small facts p c.requires.small)) (limit_of_end greatest_int greatest_small);
+    })
 
 pub loop-fact-preserved : goal.loop-fact-preserved
 loop-fact-preserved g c =
@@ -27,8 +29,8 @@ loop-fact-preserved g c =
     let more = c.loop-fact-test.true in
     let both = c.in_ok-put.ensures in
     record {
-      lows = rises (low_by facts) (lower_bound facts) c.loop-fact.lows.items c.put.new.lows.items least_int facts k none more (subst (λ a. Raises c.loop-fact.lows.items c.put.new.lows.items least_int (λ p. low_by a p fact)) all both.raised) c.loop-fact.invariant.lows;
-      highs = falls (high_by facts) (upper_limit facts) c.loop-fact.highs.items c.put.new.highs.items greatest_int facts k none more (subst (λ a. Lowers c.loop-fact.highs.items c.put.new.highs.items greatest_int (λ p. high_by a p fact)) all both.lowered) c.loop-fact.invariant.highs;
+      lows = rises (lower_by facts) (lower_bound facts) c.loop-fact.lows.items c.put.new.lows.items least_int facts k none more (subst (λ a. Raises c.loop-fact.lows.items c.put.new.lows.items least_int (λ p. lower_by a p fact)) all both.raised) c.loop-fact.invariant.lows;
+      highs = falls (limit_by facts) (upper_limit facts) c.loop-fact.highs.items c.put.new.highs.items greatest_int facts k none more (subst (λ a. Lowers c.loop-fact.highs.items c.put.new.highs.items greatest_int (λ p. limit_by a p fact)) all both.lowered) c.loop-fact.invariant.highs;
       small_lows = both.small_lows c.loop-fact.invariant.small_lows;
       small_highs = both.small_highs c.loop-fact.invariant.small_highs;
     }

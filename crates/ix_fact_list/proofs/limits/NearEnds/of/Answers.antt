@@ -2,6 +2,7 @@ use Rattle.std.proofs.Common.{pos, refl}
 use Rattle.ix_core.specs.Ints.{least_int, greatest_int}
 use Rattle.ix_facts.specs.Bounds.{range_low_by, range_high_by, length_low_by, length_high_by, range_low, range_high, length_low, length_high}
 use Rattle.ix_fact_list.proofs.NearRaised.{rising_at_first, falling_at_first, rises, falls}
+use Rattle.ix_fact_list.proofs.NearCopied.{ready_none}
 use Rattle.ix_fact_list.proofs.limits.NearEnds.of.Goals as goal
 
 pub loop-fact-init : goal.loop-fact-init
@@ -28,3 +29,15 @@ loop-fact-preserved c =
       length_lows = rises length_low_by (length_low facts) old.length_lows.items new.length_lows.items (pos 0) facts k _ more put.length_lows c.loop-fact.invariant.length_lows;
       length_highs = falls length_high_by (length_high facts) old.length_highs.items new.length_highs.items greatest_int facts k _ more put.length_highs c.loop-fact.invariant.length_highs;
     }
+
+pub no_numbers-requires-clause-ready : goal.no_numbers-requires-clause-ready
+no_numbers-requires-clause-ready c = λ at. ready_none 128 least_int at
+
+pub no_numbers-requires-2-clause-ready : goal.no_numbers-requires-2-clause-ready
+no_numbers-requires-2-clause-ready c = λ at. ready_none 128 greatest_int at
+
+pub no_numbers-requires-3-clause-ready : goal.no_numbers-requires-3-clause-ready
+no_numbers-requires-3-clause-ready c = λ at. ready_none 128 (pos 0) at
+
+pub no_numbers-requires-4-clause-ready : goal.no_numbers-requires-4-clause-ready
+no_numbers-requires-4-clause-ready c = λ at. ready_none 128 greatest_int at

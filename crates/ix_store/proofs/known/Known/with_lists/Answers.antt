@@ -7,9 +7,11 @@ use Rattle.ix_fact_list.specs.Ends.{ends_in}
 use Rattle.ix_fact_list.specs.Links.{links_in}
 use Rattle.ix_fact_list.specs.ByPath.{put_all}
 use Rattle.ix_closure.specs.FactTables.{facts_of}
+use Rattle.ix_closure.specs.TableLaws.{all_may}
 use Rattle.ix_store.specs.EmptyRanges.{some_empty}
 use Rattle.ix_store.specs.Orders.{ordered_by}
 use Rattle.ix_store.proofs.ClosedTests.{closed_by_test}
+use Rattle.ix_store.proofs.OrdersNames.{ints_in_orders, arrays_in_orders}
 use Rattle.ix_store.proofs.known.Known.with_lists.Goals as goal
 
 pub orders_beside-requires : goal.orders_beside-requires
@@ -40,13 +42,13 @@ invariant_of-result-clause-all_links c =
 
 pub invariant_of-result-clause-each_int : goal.invariant_of-result-clause-each_int
 invariant_of-result-clause-each_int c =
-    let all : ordered_by (facts_of c.over.inside.table) c.in_ok-turned.turned ≡ in_orders (facts_of c.over.inside.table) = subst (λ l. ordered_by l c.in_ok-turned.turned ≡ in_orders l) c.as_slice-facts.ensures.facts c.in_ok-turned.ensures in
-    c.in_ok-ints.ensures.ints ∙ (ap (λ t. put_all [] (named_ints (ordered_by (facts_of t) c.in_ok-turned.turned))) (sym c.over.view_is) ∙ ap (λ l. put_all [] (named_ints l)) all)
+    let table = c.over.inside.table in
+    c.in_ok-ints.ensures.ints ∙ (ap (λ t. put_all [] (named_ints (facts_of t))) (sym c.over.view_is) ∙ ints_in_orders (facts_of table) (λ f i. (all_may table f i).tells))
 
 pub invariant_of-result-clause-each_array : goal.invariant_of-result-clause-each_array
 invariant_of-result-clause-each_array c =
-    let all : ordered_by (facts_of c.over.inside.table) c.in_ok-turned.turned ≡ in_orders (facts_of c.over.inside.table) = subst (λ l. ordered_by l c.in_ok-turned.turned ≡ in_orders l) c.as_slice-facts.ensures.facts c.in_ok-turned.ensures in
-    c.in_ok-ints.ensures.arrays ∙ (ap (λ t. put_all [] (named_arrays (ordered_by (facts_of t) c.in_ok-turned.turned))) (sym c.over.view_is) ∙ ap (λ l. put_all [] (named_arrays l)) all)
+    let table = c.over.inside.table in
+    c.in_ok-ints.ensures.arrays ∙ (ap (λ t. put_all [] (named_arrays (facts_of t))) (sym c.over.view_is) ∙ arrays_in_orders (facts_of table) (λ f i. (all_may table f i).tells))
 
 pub invariant_of-result-clause-closed : goal.invariant_of-result-clause-closed
 invariant_of-result-clause-closed c = closed_by_test (facts_of c.over.inside.table) (subst (λ t. Closed (facts_of t)) (sym c.over.view_is) c.requires.closed)
