@@ -21,12 +21,12 @@ use Rattle.ix_solve.specs.Readers.{readings}
 use Rattle.ix_solve.specs.Solutions.{IsLeastOf}
 use Rattle.ix_labels.specs.declared.problem.Problem.{Problem}
 use Rattle.ix_labels.specs.declared.kept.RunLabels.{RunLabels}
-use Rattle.ix_labels.specs.Problem.{rules_of, kinds_at, kind_in, kept_in, readers_of, readers_in, parts_of}
+use Rattle.ix_labels.specs.Problem.{rules_of, kinds_at, kind_in, edges_at, kept_in, readers_of, readers_in, parts_of}
 use Rattle.ix_labels.specs.ProblemLaws.{laws_with, parts_below}
 use Rattle.ix_labels.specs.Runs.{is_kept, node_before, node_in_turn, AreKept}
-use Rattle.ix_labels.specs.RunAsks.{Onto}
-use Rattle.ix_labels.specs.RunLaws.{there}
-use Rattle.ix_labels.specs.Filled.{nodes_of, AreRunLabels, IsLabel, AreFilled, run_visits}
+use Rattle.ix_labels.specs.RunAsks.{Onto, EachBrings, FirstTo}
+use Rattle.ix_labels.specs.RunLaws.{there, goes_in}
+use Rattle.ix_labels.specs.Filled.{nodes_of, goes_on_at, IsNext, AreRunLabels, IsLabel, AreFilled, run_visits}
 use Rattle.ix_labels.specs.Labels.{AreLabelsOf}
 use Rattle.ix_labels.specs.Visits.{readers_by, visits_by}
 use Rattle.ix_labels.proofs.Bounded.{readers_are}
@@ -111,21 +111,20 @@ all_filled labels made are =
     record {
       many = many;
       kept = λ at label found holds. (label_of at label found).kept holds;
-      passed = λ at label before found there_before fails.
+      next = λ at label before found there_before fails goes.
           let within : at < count = let low = slice_get_within all at label found in omega (arith, low, many) in
-          let node = there (nodes_of labels) at within in
-          let some = (labels.problem.through.passed at node.0 node.1 fails).follows.from.some in
           let turn = turn_of count at in
-          let down = turn_down count turn some in
+          let down = turn_down count turn (goes_in turn (edges_at labels.problem at) goes).0 in
           let last = turn_within count at within in
           let was : slice_get made (turn_of count turn) ≡ Some before = sym (ordered_there count made turn are.many last) ∙ there_before in
           let is : before_in made turn ≡ before = ap (before_in made) down ∙ ap (λ o. unwrap_or o nowhere) was in
-          subst (λ b. IsLeastOf IsBelow (Onto (rules_of labels.problem) (kinds_at labels.problem) (node_before count at) (stored b)) (stored label)) is ((label_of at label found).passed fails);
+          subst (λ b. IsNext labels at b label) is (((label_of at label found).passed fails).next goes);
+      first = λ at label found fails begins. ((label_of at label found).passed fails).first begins;
     }
 
 -- labels that are all kept
 pub kept_filled : (labels : RunLabels) → AreKept (kept_in labels.problem) → AreFilled labels labels.stores.items
-kept_filled labels kept = record { many = labels.all; kept = λ at label found holds. found; passed = λ at label before found there_before fails. absurd (false≢true (sym fails ∙ kept at)) }
+kept_filled labels kept = record { many = labels.all; kept = λ at label found holds. found; next = λ at label before found there_before fails. absurd (false≢true (sym fails ∙ kept at)); first = λ at label found fails. absurd (false≢true (sym fails ∙ kept at)) }
 
 -- ---- all labels
 
@@ -152,10 +151,10 @@ module _ (labels : RunLabels) (all : List Store) (filled : AreFilled labels all)
       let l = there all at (let m = filled.many in omega (arith, within, m)) in
       said_at all at l.0 l.1 ∙ sym (said_at labels.stores.items at l.0 (filled.kept at l.0 l.1 holds))
 
-  least_there : (at : ℕ) → at < length (nodes_of labels) → is_kept (kept_in labels.problem) at ≡ false
+  next_least : (at : ℕ) → at < length (nodes_of labels) → is_kept (kept_in labels.problem) at ≡ false → goes_on_at labels at ≡ true
       → IsLeastOf IsBelow (Onto (rules_of labels.problem) (kinds_at labels.problem) (node_before (length (nodes_of labels)) at) (label_at (rules_of labels.problem) (map stored all) (node_before (length (nodes_of labels)) at)))
       (label_at (rules_of labels.problem) (map stored all) at)
-  least_there at within fails =
+  next_least at within fails goes =
       let count = length (nodes_of labels) in
       let from = node_before count at in
       let m = filled.many in
@@ -163,7 +162,14 @@ module _ (labels : RunLabels) (all : List Store) (filled : AreFilled labels all)
       let l = there all at (omega (arith, within, m)) in
       let b = there all from (omega (arith, low, m)) in
       subst (λ s. IsLeastOf IsBelow (Onto (rules_of labels.problem) (kinds_at labels.problem) from (label_at (rules_of labels.problem) (map stored all) from)) s) (sym (said_at all at l.0 l.1))
-      (subst (λ s. IsLeastOf IsBelow (Onto (rules_of labels.problem) (kinds_at labels.problem) from s) (stored l.0)) (sym (said_at all from b.0 b.1)) (filled.passed at l.0 b.0 l.1 b.1 fails))
+      (subst (λ s. IsLeastOf IsBelow (Onto (rules_of labels.problem) (kinds_at labels.problem) from s) (stored l.0)) (sym (said_at all from b.0 b.1)) (filled.next at l.0 b.0 l.1 b.1 fails goes))
+
+  first_least : (at : ℕ) → at < length (nodes_of labels) → is_kept (kept_in labels.problem) at ≡ false → goes_on_at labels at ≡ false
+      → IsLeastOf IsBelow (EachBrings (rules_of labels.problem) (kinds_at labels.problem) (FirstTo (rules_of labels.problem) (kinds_at labels.problem) (kept_in labels.problem) (edges_at labels.problem) (map stored labels.stores.items)) (edges_at labels.problem at)) (label_at (rules_of labels.problem) (map stored all) at)
+  first_least at within fails begins =
+      let m = filled.many in
+      let l = there all at (omega (arith, within, m)) in
+      subst (IsLeastOf IsBelow (EachBrings (rules_of labels.problem) (kinds_at labels.problem) (FirstTo (rules_of labels.problem) (kinds_at labels.problem) (kept_in labels.problem) (edges_at labels.problem) (map stored labels.stores.items)) (edges_at labels.problem at))) (sym (said_at all at l.0 l.1)) (filled.first at l.0 l.1 fails begins)
 
   many_said : length (map stored all) ≡ length (nodes_of labels)
   many_said = length-map all stored ∙ filled.many
@@ -182,11 +188,11 @@ module _ (labels : RunLabels) (all : List Store) (filled : AreFilled labels all)
         solution =
             solved labels.problem.program.now method labels.problem.profile labels.problem.marks.ints are.of.landmarks body (kinds_at labels.problem) by_parts (length nodes) (behind_code body 2) (map stored all) labels.problem.size count
             (graph_solution R L (kinds_at labels.problem) (kept_in labels.problem) nodes (readers_of labels.problem) (parts_of labels.problem) labels.problem.through labels.problem.edges (parts_below labels.problem) (kind_there nodes)
-            (map stored labels.stores.items) (map stored all) many_said same least_there are.solution);
+            (map stored labels.stores.items) (map stored all) many_said same next_least first_least are.solution);
         least =
             least labels.problem.program.now method labels.problem.profile labels.problem.marks.ints are.of.landmarks body (kinds_at labels.problem) by_parts (length nodes) (behind_code body 2) (map stored all) labels.problem.size count
             (graph_least R L (kinds_at labels.problem) (kept_in labels.problem) nodes (readers_of labels.problem) (parts_of labels.problem) labels.problem.through labels.problem.edges (parts_below labels.problem) (kind_there nodes)
-            (map stored labels.stores.items) (map stored all) many_said same least_there are.least);
+            (map stored labels.stores.items) (map stored all) many_said same next_least first_least are.least);
       }
 
   pub are_labels : (program : Program) (method : Method) (profile : Profile) → AreRunLabels program method profile labels → AreLabelsOf program method profile (nodes_of labels) all

@@ -1,6 +1,7 @@
 -- What a visit of a node finds.
-use Rattle.std.proofs.Common.{◌≡◌, ◌⊎◌, inl, inr, ◌<◌, ◌+◌, ℕ, zero, suc, Bool, true, false, List, [], ◌∷◌, ◌++◌, Some, None, length, map, slice_get, get_or, take, arith, refl, sym, ap, subst, ◌∙◌}
+use Rattle.std.proofs.Common.{◌≡◌, ◌⊎◌, inl, inr, ◌<◌, ◌+◌, ℕ, zero, suc, Bool, true, false, List, [], ◌∷◌, ◌++◌, Some, None, length, map, slice_get, get_or, take, ◌-◌, arith, refl, sym, ap, subst, ◌∙◌}
 use Rattle.std.proofs.Math.Seq.{take-suc}
+use Rattle.std.proofs.lemmas.Bool.{false≢true}
 use Rattle.ix_core.specs.declared.op.Test.{Test}
 use Rattle.ix_core.specs.Posts.{last_done}
 use Rattle.ix_facts.specs.Round.{rounded}
@@ -30,11 +31,11 @@ use Rattle.ix_method.specs.Store.{Store}
 use Rattle.ix_method.specs.StoredFacts.{stored}
 use Rattle.ix_method.specs.StoreOrder.{StoreBelow}
 use Rattle.ix_labels.specs.declared.problem.Problem.{Problem}
-use Rattle.ix_labels.specs.Problem.{rules_of, kind_in, kinds_at, kept_in, parts_of, edges_at, Asks}
+use Rattle.ix_labels.specs.Problem.{rules_of, kind_in, kinds_at, kept_in, parts_of, edges_at, readers_of, Asks}
 use Rattle.ix_labels.specs.ProblemLaws.{laws_with}
-use Rattle.ix_labels.specs.Runs.{is_kept, AreLinked}
-use Rattle.ix_labels.specs.RunAsks.{Onto, RunsTo, RunBrings, RunsBring}
-use Rattle.ix_labels.specs.RunLaws.{first_of_two, second_of_two, of_first, of_second, carries_more}
+use Rattle.ix_labels.specs.Runs.{is_kept, goes_on, AreLinked, Continues, Begins}
+use Rattle.ix_labels.specs.RunAsks.{Onto, BringsOf, EachBrings, KeptTo, FirstTo, RunsTo}
+use Rattle.ix_labels.specs.RunLaws.{first_of_two, second_of_two, of_first, of_second, there, carries_more, kept_run, next_run, first_run, run_cases, first_kept}
 
 pub kind_found : (nodes : List Node) (at : ℕ) (node : Node) → at < length nodes → node ≡ get_or nodes at node → kind_in nodes at ≡ kind_of node.kind
 kind_found [] at node within is = absurd (omega (arith, within))
@@ -123,65 +124,120 @@ module _ (problem : Problem) (labels : List Stored) where
   L = laws_with problem.program.now problem.within.now problem.profile problem.marks.ints
 
   abbrev pub To : ℕ → Stored → Type 0
-  To = RunsTo (rules_of problem) (kinds_at problem) (kept_in problem) labels
+  To = RunsTo (rules_of problem) (kinds_at problem) (kept_in problem) (edges_at problem) labels
 
-  -- where a run begins
-  pub run_begins : (start : ℕ) → (start ≡ 0) ⊎ (is_kept (kept_in problem) start ≡ true) → IsLeastOf IsBelow (To start) (label_at (rules_of problem) labels start)
-  run_begins zero begins = (below_itself (label_at (rules_of problem) labels 0), λ other low. low)
-  run_begins (suc at) (inl none) = absurd (omega (arith, none))
-  run_begins (suc at) (inr holds) =
-      let here = label_at (rules_of problem) labels (suc at) in (
-        of_first (is_kept (kept_in problem) (suc at)) (IsBelow here here) ((before : Stored) × To at before × Onto (rules_of problem) (kinds_at problem) at before here) holds (below_itself here),
-        λ other low. first_of_two (is_kept (kept_in problem) (suc at)) (IsBelow here other) ((before : Stored) × To at before × Onto (rules_of problem) (kinds_at problem) at before other) holds low,
+  abbrev pub Kept : ℕ → Stored → Type 0
+  Kept = KeptTo (rules_of problem) (kinds_at problem) labels
+
+  abbrev pub First : ℕ → Stored → Type 0
+  First = FirstTo (rules_of problem) (kinds_at problem) (kept_in problem) (edges_at problem) labels
+
+  pub kept_least : (at : ℕ) → IsLeastOf IsBelow (Kept at) (label_at (rules_of problem) labels at)
+  kept_least at = (below_itself (label_at (rules_of problem) labels at), λ other low. low)
+
+  -- before the first node of a run
+  pub first_kept_least : (at : ℕ) → is_kept (kept_in problem) at ≡ true → IsLeastOf IsBelow (First at) (label_at (rules_of problem) labels at)
+  first_kept_least at holds = (
+    of_first (is_kept (kept_in problem) at) (Kept at (label_at (rules_of problem) labels at)) (EachBrings (rules_of problem) (kinds_at problem) Kept (edges_at problem at) (label_at (rules_of problem) labels at)) holds
+        (below_itself (label_at (rules_of problem) labels at)),
+    λ other first. first_of_two (is_kept (kept_in problem) at) (Kept at other) (EachBrings (rules_of problem) (kinds_at problem) Kept (edges_at problem at) other) holds first,
+  )
+
+  pub first_passed_least : (at : ℕ) (store : Stored) → is_kept (kept_in problem) at ≡ false → IsLeastOf IsBelow (EachBrings (rules_of problem) (kinds_at problem) Kept (edges_at problem at)) store → IsLeastOf IsBelow (First at) store
+  first_passed_least at store fails least = (
+    of_second (is_kept (kept_in problem) at) (Kept at store) (EachBrings (rules_of problem) (kinds_at problem) Kept (edges_at problem at) store) fails least.0,
+    λ other first. least.1 other (second_of_two (is_kept (kept_in problem) at) (Kept at other) (EachBrings (rules_of problem) (kinds_at problem) Kept (edges_at problem at) other) fails first),
+  )
+
+  -- where a run begins with a label that is kept
+  pub run_kept : (at : ℕ) → is_kept (kept_in problem) at ≡ true → IsLeastOf IsBelow (To at) (label_at (rules_of problem) labels at)
+  run_kept zero holds = (below_itself (label_at (rules_of problem) labels 0), λ other low. low)
+  run_kept (suc at) holds = (
+    kept_run R L (kinds_at problem) (kept_in problem) (edges_at problem) labels at (label_at (rules_of problem) labels (suc at)) holds (below_itself (label_at (rules_of problem) labels (suc at))),
+    λ other runs. elim (run_cases R L (kinds_at problem) (kept_in problem) (edges_at problem) labels at other runs) [
+      | inl one ↦ one.1
+      | inr (inl one) ↦ absurd (false≢true (sym one.0 ∙ holds))
+      | inr (inr one) ↦ absurd (false≢true (sym one.0 ∙ holds))
+    ],
+  )
+
+  -- whether a run goes on with a node, by its edges
+  edges_there : (at : ℕ) (b : Bool) → suc at < length problem.graph.nodes.items → ((node : Node) → slice_get problem.graph.nodes.items (suc at) ≡ Some node → goes_on (suc at - 1) node.from.items ≡ b) → goes_on at (edges_at problem (suc at)) ≡ b
+  edges_there at b within each =
+      let n = there problem.graph.nodes.items (suc at) within in
+      let e : at ≡ suc at - 1 = omega arith in
+      ap (goes_on at) (sym (problem.edges (suc at) n.0 n.1).from) ∙ ap (λ m. goes_on m n.0.from.items) e ∙ each n.0 n.1
+
+  -- where one begins with a label that is passed
+  pub run_first : (at : ℕ) (store : Stored) → at < length problem.graph.nodes.items → is_kept (kept_in problem) at ≡ false → (at ≡ 0) ⊎ Begins problem.graph.nodes.items (kept_in problem) at
+      → IsLeastOf IsBelow (EachBrings (rules_of problem) (kinds_at problem) First (edges_at problem at)) store → IsLeastOf IsBelow (To at) store
+  run_first zero store within fails begins least = absurd (false≢true (sym fails ∙ first_kept R L (kept_in problem) problem.graph.nodes.items (readers_of problem) problem.through within))
+  run_first (suc at) store within fails (inl none) least = absurd (omega (arith, none))
+  run_first (suc at) store within fails (inr (inl holds)) least = absurd (false≢true (sym fails ∙ holds))
+  run_first (suc at) store within fails (inr (inr apart)) least =
+      let begins = edges_there at false within apart in (
+        first_run R L (kinds_at problem) (kept_in problem) (edges_at problem) labels at store fails begins least.0,
+        λ other runs. elim (run_cases R L (kinds_at problem) (kept_in problem) (edges_at problem) labels at other runs) [
+          | inl one ↦ absurd (false≢true (sym fails ∙ one.0))
+          | inr (inl one) ↦ absurd (false≢true (sym begins ∙ one.1))
+          | inr (inr one) ↦ least.1 other one.2
+        ],
       )
 
   -- one node more
-  pub run_goes_on : (at : ℕ) (before after : Stored) → is_kept (kept_in problem) (suc at) ≡ false → IsLeastOf IsBelow (To at) before → IsCarried problem (pass_of (kinds_at problem at) Next) before after → IsLeastOf IsBelow (To (suc at)) after
-  run_goes_on at before after fails least carried = (
-    of_second (is_kept (kept_in problem) (suc at)) (IsBelow (label_at (rules_of problem) labels (suc at)) after) ((s : Stored) × To at s × Onto (rules_of problem) (kinds_at problem) at s after) fails
-        (before, least.0, carries_as R L labels (λ number. before) (λ number. after) (pass_of (kinds_at problem at) Next) before after carried.0),
-    λ other runs.
-        let r = second_of_two (is_kept (kept_in problem) (suc at)) (IsBelow (label_at (rules_of problem) labels (suc at)) other) ((s : Stored) × To at s × Onto (rules_of problem) (kinds_at problem) at s other) fails runs in
-        carried.1 other (carries_more R L (λ number. other) (λ number. before) (pass_of (kinds_at problem at) Next) before r.0 other other (least.1 r.0 r.1) r.2 (below_itself other)),
-  )
-
-  -- what an edge brings of a run
-  pub run_brings : (from : ℕ × Edge) (before after : Stored) → IsLeastOf IsBelow (To from.0) before → IsCarried problem (pass_of (kinds_at problem from.0) from.1) before after
-      → IsLeastOf IsBelow (RunBrings (rules_of problem) (kinds_at problem) (kept_in problem) labels from) after
-  run_brings from before after least carried = (
-    (before, least.0, carries_as R L labels (λ number. before) (λ number. after) (pass_of (kinds_at problem from.0) from.1) before after carried.0),
-    λ other given. carried.1 other (carries_more R L (λ number. other) (λ number. before) (pass_of (kinds_at problem from.0) from.1) before given.0 other other (least.1 given.0 given.1) given.2 (below_itself other)),
-  )
-
-  abbrev All : List (ℕ × Edge) → Stored → Type 0
-  All = RunsBring (rules_of problem) (kinds_at problem) (kept_in problem) labels
-
-  abbrev One : ℕ × Edge → Stored → Type 0
-  One = RunBrings (rules_of problem) (kinds_at problem) (kept_in problem) labels
-
-  one_up : (from : ℕ × Edge) (s t : Stored) → One from s → IsBelow s t → One from t
-  one_up from s t given up = (given.0, given.1, carries_more R L (λ number. s) (λ number. t) (pass_of (kinds_at problem from.0) from.1) given.0 given.0 s t (below_itself given.0) given.2 up)
-
-  all_up : (edges : List (ℕ × Edge)) (s t : Stored) → All edges s → IsBelow s t → All edges t
-  all_up [] s t all up = tt
-  all_up (from ∷ edges) s t all up = (one_up from s t all.0 up, all_up edges s t all.1 up)
-
-  all_and : (edges : List (ℕ × Edge)) (from : ℕ × Edge) (s : Stored) → All edges s → One from s → All (edges ++ from ∷ []) s
-  all_and [] from s all last = (last, tt)
-  all_and (first ∷ edges) from s all last = (all.0, all_and edges from s all.1 last)
-
-  and_all : (edges : List (ℕ × Edge)) (from : ℕ × Edge) (s : Stored) → All (edges ++ from ∷ []) s → All edges s × One from s
-  and_all [] from s all = (tt, all.0)
-  and_all (first ∷ edges) from s all = let r = and_all edges from s all.1 in ((all.0, r.0), r.1)
-
-  -- one edge more
-  pub one_more_run : (items : List (ℕ × Edge)) (k : ℕ) (d : ℕ × Edge) (joined carried new : Stored) → k < length items → IsLeastOf IsBelow (All (take k items)) joined → IsLeastOf IsBelow (One (get_or items k d)) carried
-      → IsJoin IsBelow joined carried new → IsLeastOf IsBelow (All (take (k + 1) items)) new
-  one_more_run items k d joined carried new within before last join =
-      subst (λ es. IsLeastOf IsBelow (All es) new) (sym (next_front items k d within)) (
-        all_and (take k items) (get_or items k d) new (all_up (take k items) joined new before.0 join.left) (one_up (get_or items k d) carried new last.0 join.right),
-        λ other all. let r = and_all (take k items) (get_or items k d) other all in join.least other (before.1 other r.0) (last.1 other r.1),
+  pub run_goes_on : (at : ℕ) (before after : Stored) → suc at < length problem.graph.nodes.items → Continues problem.graph.nodes.items (kept_in problem) (suc at) → IsLeastOf IsBelow (To at) before
+      → IsCarried problem (pass_of (kinds_at problem at) Next) before after → IsLeastOf IsBelow (To (suc at)) after
+  run_goes_on at before after within continues least carried =
+      let goes = edges_there at true within continues.1 in (
+        next_run R L (kinds_at problem) (kept_in problem) (edges_at problem) labels at after continues.0 goes
+            (before, least.0, carries_as R L labels (λ number. before) (λ number. after) (pass_of (kinds_at problem at) Next) before after carried.0),
+        λ other runs. elim (run_cases R L (kinds_at problem) (kept_in problem) (edges_at problem) labels at other runs) [
+          | inl one ↦ absurd (false≢true (sym continues.0 ∙ one.0))
+          | inr (inl one) ↦
+              let r = one.2 in
+              carried.1 other (carries_more R L (λ number. other) (λ number. before) (pass_of (kinds_at problem at) Next) before r.0 other other (least.1 r.0 r.1) r.2 (below_itself other))
+          | inr (inr one) ↦ absurd (false≢true (sym one.1 ∙ goes))
+        ],
       )
+
+  -- ---- what edges bring of the least stores of the nodes that they come from
+
+  module _ (Of : ℕ → Stored → Type 0) where
+    abbrev All : List (ℕ × Edge) → Stored → Type 0
+    All = EachBrings (rules_of problem) (kinds_at problem) Of
+
+    abbrev One : ℕ × Edge → Stored → Type 0
+    One = BringsOf (rules_of problem) (kinds_at problem) Of
+
+    pub edge_brings : (from : ℕ × Edge) (before after : Stored) → IsLeastOf IsBelow (Of from.0) before → IsCarried problem (pass_of (kinds_at problem from.0) from.1) before after → IsLeastOf IsBelow (One from) after
+    edge_brings from before after least carried = (
+      (before, least.0, carries_as R L labels (λ number. before) (λ number. after) (pass_of (kinds_at problem from.0) from.1) before after carried.0),
+      λ other given. carried.1 other (carries_more R L (λ number. other) (λ number. before) (pass_of (kinds_at problem from.0) from.1) before given.0 other other (least.1 given.0 given.1) given.2 (below_itself other)),
+    )
+
+    one_up : (from : ℕ × Edge) (s t : Stored) → One from s → IsBelow s t → One from t
+    one_up from s t given up = (given.0, given.1, carries_more R L (λ number. s) (λ number. t) (pass_of (kinds_at problem from.0) from.1) given.0 given.0 s t (below_itself given.0) given.2 up)
+
+    all_up : (edges : List (ℕ × Edge)) (s t : Stored) → All edges s → IsBelow s t → All edges t
+    all_up [] s t all up = tt
+    all_up (from ∷ edges) s t all up = (one_up from s t all.0 up, all_up edges s t all.1 up)
+
+    all_and : (edges : List (ℕ × Edge)) (from : ℕ × Edge) (s : Stored) → All edges s → One from s → All (edges ++ from ∷ []) s
+    all_and [] from s all last = (last, tt)
+    all_and (first ∷ edges) from s all last = (all.0, all_and edges from s all.1 last)
+
+    and_all : (edges : List (ℕ × Edge)) (from : ℕ × Edge) (s : Stored) → All (edges ++ from ∷ []) s → All edges s × One from s
+    and_all [] from s all = (tt, all.0)
+    and_all (first ∷ edges) from s all = let r = and_all edges from s all.1 in ((all.0, r.0), r.1)
+
+    -- one edge more
+    pub one_more_edge : (items : List (ℕ × Edge)) (k : ℕ) (d : ℕ × Edge) (joined carried new : Stored) → k < length items → IsLeastOf IsBelow (All (take k items)) joined → IsLeastOf IsBelow (One (get_or items k d)) carried
+        → IsJoin IsBelow joined carried new → IsLeastOf IsBelow (All (take (k + 1) items)) new
+    one_more_edge items k d joined carried new within before last join =
+        subst (λ es. IsLeastOf IsBelow (All es) new) (sym (next_front items k d within)) (
+          all_and (take k items) (get_or items k d) new (all_up (take k items) joined new before.0 join.left) (one_up (get_or items k d) carried new last.0 join.right),
+          λ other all. let r = and_all (take k items) (get_or items k d) other all in join.least other (before.1 other r.0) (last.1 other r.1),
+        )
 
 laws_of : (problem : Problem) → RulesLaws (rules_of problem)
 laws_of problem = laws_with problem.program.now problem.within.now problem.profile problem.marks.ints
@@ -222,22 +278,22 @@ said_there problem (first ∷ labels) (suc k) label within is = said_there probl
 
 -- the least label of a node that is kept, and of one that isn't
 pub label_asked : (problem : Problem) (labels : List Stored) (at : ℕ) (joined label : Stored) → is_kept (kept_in problem) at ≡ true
-    → IsLeastOf IsBelow (RunsBring (rules_of problem) (kinds_at problem) (kept_in problem) labels (edges_at problem at)) joined → IsSettled (rules_of problem) (kinds_at problem at) joined label
+    → IsLeastOf IsBelow (EachBrings (rules_of problem) (kinds_at problem) (RunsTo (rules_of problem) (kinds_at problem) (kept_in problem) (edges_at problem) labels) (edges_at problem at)) joined → IsSettled (rules_of problem) (kinds_at problem at) joined label
     → IsLeastOf IsBelow (Asks problem at labels) label
 label_asked problem labels at joined label holds least is =
     let R = rules_of problem in
     let kept = is_kept (kept_in problem) at in (
-      of_first kept ((s : Stored) × RunsBring R (kinds_at problem) (kept_in problem) labels (edges_at problem at) s × Settles R (Anything R) (λ number. label) (kinds_at problem at) s label) (Unit {0}) holds
+      of_first kept ((s : Stored) × EachBrings R (kinds_at problem) (RunsTo R (kinds_at problem) (kept_in problem) (edges_at problem) labels) (edges_at problem at) s × Settles R (Anything R) (λ number. label) (kinds_at problem at) s label) (Unit {0}) holds
           (joined, least.0, settled problem (kinds_at problem at) joined label is),
       λ other asks.
-          let r = first_of_two kept ((s : Stored) × RunsBring R (kinds_at problem) (kept_in problem) labels (edges_at problem at) s × Settles R (Anything R) (λ number. other) (kinds_at problem at) s other) (Unit {0}) holds asks in
+          let r = first_of_two kept ((s : Stored) × EachBrings R (kinds_at problem) (RunsTo R (kinds_at problem) (kept_in problem) (edges_at problem) labels) (edges_at problem at) s × Settles R (Anything R) (λ number. other) (kinds_at problem at) s other) (Unit {0}) holds asks in
           settled_below problem (kinds_at problem at) joined label r.0 other is (least.1 r.0 r.1) r.2,
     )
 
 pub nothing_asked : (problem : Problem) (labels : List Stored) (at : ℕ) (label : Stored) → is_kept (kept_in problem) at ≡ false → ((other : Stored) → IsBelow label other) → IsLeastOf IsBelow (Asks problem at labels) label
 nothing_asked problem labels at label fails bottom =
     let R = rules_of problem in (
-      of_second (is_kept (kept_in problem) at) ((s : Stored) × RunsBring R (kinds_at problem) (kept_in problem) labels (edges_at problem at) s × Settles R (Anything R) (λ number. label) (kinds_at problem at) s label) (Unit {0}) fails tt,
+      of_second (is_kept (kept_in problem) at) ((s : Stored) × EachBrings R (kinds_at problem) (RunsTo R (kinds_at problem) (kept_in problem) (edges_at problem) labels) (edges_at problem at) s × Settles R (Anything R) (λ number. label) (kinds_at problem at) s label) (Unit {0}) fails tt,
       λ other asks. bottom other,
     )
 

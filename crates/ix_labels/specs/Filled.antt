@@ -1,5 +1,5 @@
 -- The labels of all nodes, by those that are kept.
-use Rattle.std.specs.Prelude.{◌≡◌, ℕ, ◌+◌, true, false, List, length, map, slice_get, Some}
+use Rattle.std.specs.Prelude.{◌≡◌, ℕ, ◌+◌, Bool, true, false, List, length, map, slice_get, Some}
 use Rattle.ix_core.specs.declared.fact.Profile.{Profile}
 use Rattle.ix_core.specs.declared.program.Method.{Method}
 use Rattle.ix_core.specs.declared.program.Program.{Program}
@@ -17,9 +17,9 @@ use Rattle.ix_solve.specs.Readers.{readings}
 use Rattle.ix_solve.specs.Solutions.{IsSolution, IsLeast, IsLeastOf}
 use Rattle.ix_labels.specs.declared.problem.Problem.{Problem}
 use Rattle.ix_labels.specs.declared.kept.RunLabels.{RunLabels}
-use Rattle.ix_labels.specs.Problem.{rules_of, kinds_at, kept_in, readers_of, Asks}
-use Rattle.ix_labels.specs.Runs.{is_kept, node_before}
-use Rattle.ix_labels.specs.RunAsks.{Onto}
+use Rattle.ix_labels.specs.Problem.{rules_of, kinds_at, edges_at, kept_in, readers_of, Asks}
+use Rattle.ix_labels.specs.Runs.{is_kept, goes_on, node_before}
+use Rattle.ix_labels.specs.RunAsks.{Onto, EachBrings, FirstTo}
 
 abbrev pub nodes_of : RunLabels → List Node
 nodes_of labels = labels.problem.graph.nodes.items
@@ -38,18 +38,37 @@ pub record AreRunLabels (program : Program) (method : Method) (profile : Profile
   pub solution : IsSolution IsBelow (length (nodes_of labels)) (Asks labels.problem) (map stored labels.stores.items)
   pub least : IsLeast IsBelow (length (nodes_of labels)) (Asks labels.problem) (map stored labels.stores.items)
 
--- The label of a node is the one that is kept, or the least by that of the node before it in turn.
+-- whether a run goes on with the node, from the one before it in turn
+abbrev pub goes_on_at : RunLabels → ℕ → Bool
+goes_on_at labels at = goes_on (node_before (length (nodes_of labels)) at) (edges_at labels.problem at)
+
+-- least by the label of the node before it in turn
+abbrev pub IsNext : RunLabels → ℕ → Store → Store → Type 0
+IsNext labels at before label =
+    IsLeastOf IsBelow (Onto (rules_of labels.problem) (kinds_at labels.problem) (node_before (length (nodes_of labels)) at) (stored before)) (stored label)
+
+-- least by what the edges to the node bring of labels that are kept, or of those that such labels give
+abbrev pub IsFirst : RunLabels → ℕ → Store → Type 0
+IsFirst labels at label =
+    IsLeastOf IsBelow (EachBrings (rules_of labels.problem) (kinds_at labels.problem) (FirstTo (rules_of labels.problem) (kinds_at labels.problem) (kept_in labels.problem) (edges_at labels.problem) (map stored labels.stores.items)) (edges_at labels.problem at)) (stored label)
+
+-- The label of a node that is passed: the least by that of the node before it in turn, or, where a run begins with it, by what is kept.
+pub record IsMade (labels : RunLabels) (at : ℕ) (before label : Store) : Type 0 where
+  pub next : goes_on_at labels at ≡ true → IsNext labels at before label
+  pub first : goes_on_at labels at ≡ false → IsFirst labels at label
+
+-- The label of a node is the one that is kept, or made by that of the node before it in turn and by what is kept.
 pub record IsLabel (labels : RunLabels) (at : ℕ) (before label : Store) : Type 0 where
   pub kept : is_kept (kept_in labels.problem) at ≡ true → slice_get labels.stores.items at ≡ Some label
-  pub passed : is_kept (kept_in labels.problem) at ≡ false
-      → IsLeastOf IsBelow (Onto (rules_of labels.problem) (kinds_at labels.problem) (node_before (length (nodes_of labels)) at) (stored before)) (stored label)
+  pub passed : is_kept (kept_in labels.problem) at ≡ false → IsMade labels at before label
 
--- These are the labels of all nodes: each is the one that is kept, or the least by that of the node before it in turn.
+-- These are the labels of all nodes: each is the one that is kept, or the least by that of the node before it in turn, or by what is kept.
 pub record AreFilled (labels : RunLabels) (all : List Store) : Type 0 where
   pub many : length all ≡ length (nodes_of labels)
   pub kept : (at : ℕ) (label : Store) → slice_get all at ≡ Some label → is_kept (kept_in labels.problem) at ≡ true → slice_get labels.stores.items at ≡ Some label
-  pub passed : (at : ℕ) (label before : Store) → slice_get all at ≡ Some label → slice_get all (node_before (length (nodes_of labels)) at) ≡ Some before → is_kept (kept_in labels.problem) at ≡ false
-      → IsLeastOf IsBelow (Onto (rules_of labels.problem) (kinds_at labels.problem) (node_before (length (nodes_of labels)) at) (stored before)) (stored label)
+  pub next : (at : ℕ) (label before : Store) → slice_get all at ≡ Some label → slice_get all (node_before (length (nodes_of labels)) at) ≡ Some before → is_kept (kept_in labels.problem) at ≡ false → goes_on_at labels at ≡ true
+      → IsNext labels at before label
+  pub first : (at : ℕ) (label : Store) → slice_get all at ≡ Some label → is_kept (kept_in labels.problem) at ≡ false → goes_on_at labels at ≡ false → IsFirst labels at label
 
 -- a visit of each node, and of each that reads a label one more for each step that the label can have risen
 abbrev pub run_visits : RunLabels → ℕ

@@ -46,7 +46,7 @@ store_order = record { same = λ low high. (λ below. below, λ below. below); r
 
 pub problem_monotone : (problem : Problem) → IsMonotone IsBelow (Asks problem)
 problem_monotone problem =
-    runs_monotone (rules_of problem) (laws_with problem.program.now problem.within.now problem.profile problem.marks.ints) (kinds_at problem) (kept_in problem) (entry_up problem) (edges_at problem)
+    runs_monotone (rules_of problem) (laws_with problem.program.now problem.within.now problem.profile problem.marks.ints) (kinds_at problem) (kept_in problem) (edges_at problem) (entry_up problem)
 
 pub readers_count : (problem : Problem) → length (readers_of problem) ≡ behind_code (block_code problem.within.now.body) 2
 readers_count problem = problem.through.many ∙ problem.size

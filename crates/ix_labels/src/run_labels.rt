@@ -4,13 +4,13 @@ ghost use Rattle.std.specs.Prelude.{◌≡◌, ◌+◌, ◌<◌, ◌≤◌, fals
 ghost use Rattle.ix_core.specs.Code.{block_code};
 ghost use Rattle.ix_graph.specs.Graph.{behind_code};
 ghost use Rattle.ix_method.specs.Naming.{HasSmallNames, HaveSmallNames};
-ghost use Rattle.ix_labels.specs.Filled.{IsProblemOf, AreRunLabels, IsLabel, nodes_of, run_visits};
+ghost use Rattle.ix_labels.specs.Filled.{IsProblemOf, AreRunLabels, IsLabel, IsMade, nodes_of, run_visits};
 ghost use Rattle.ix_labels.specs.Problem.{kept_in};
 ghost use Rattle.ix_labels.specs.Runs.{AreKept, node_in_turn};
 
 use crate::kept::RunLabels;
 use crate::problem::Problem;
-use crate::runs::{node_before, runs_in};
+use crate::runs::{goes_on, node_before, runs_in};
 use ix_core::{Method, Profile, Program};
 use ix_graph::{Edge, Graph, Node, graph, sweep_parts};
 use ix_landmarks::landmarks;
@@ -53,8 +53,21 @@ impl<'a> RunLabels<'a> {
         if self.problem.runs.kept[at] {
             self.stores[at].share()
         } else {
-            let from = node_before(self.problem.graph.nodes.len(), at);
+            self.made(alloc, at, before)
+        }
+    }
+
+    /// The label of a node that is passed, by that of the node before it in turn, or, where a run begins with it, by what is kept.
+    fn made(&self, alloc: Global, at: usize, before: &Store) -> Result<Store, AllocError>
+        requires { at < length (nodes_of self.now) }
+        ensures { IfOk result (IsMade self.now at before.now) }
+    {
+        let from = node_before(self.problem.graph.nodes.len(), at);
+        if goes_on(from, self.problem.graph.nodes[at].from.as_slice()) {
             self.problem.brought(alloc, (from, Edge::Next), before)
+        } else {
+            self.problem
+                .gathered_first(alloc, at, self.stores.as_slice())
         }
     }
 

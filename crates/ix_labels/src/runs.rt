@@ -1,6 +1,6 @@
 //! Straight runs of nodes: of which nodes labels are kept, and which nodes read them.
 
-ghost use Rattle.std.specs.Prelude.{◌≡◌, ◌<◌, IfOk, List, All, length, true, false, ◌∷◌, []};
+ghost use Rattle.std.specs.Prelude.{◌≡◌, ◌<◌, IfOk, List, All, length, slice_get, Some, true, false, ◌∷◌, []};
 ghost use Rattle.ix_graph.specs.Built.{kind_of};
 ghost use Rattle.ix_graph.specs.declared.node.Edge.TheVariants as edge;
 ghost use Rattle.ix_labels.specs.Runs as spec;
@@ -29,12 +29,24 @@ fn is_plain(kind: &NodeKind<'_>) -> bool
     }
 }
 
+/// Whether ways part behind such a node.
+fn is_test(kind: &NodeKind<'_>) -> bool
+    ensures { result ≡ spec.is_test (kind_of kind.now) }
+{
+    match kind {
+        NodeKind::Compare(_) => true,
+        NodeKind::Truth(_, _) => true,
+        _ => false,
+    }
+}
+
 fn is_next(way: Edge) -> bool
-    ensures { result ≡ true → way ≡ edge.Next }
+    ensures { result ≡ spec.is_next way }
 {
     match way {
         Edge::Next => true,
-        _ => false,
+        Edge::WhenTrue => false,
+        Edge::WhenFalse => false,
     }
 }
 
@@ -53,80 +65,117 @@ pub(crate) fn node_before(count: usize, at: usize) -> usize
     }
 }
 
-/// Whether one edge leads to the node, from the node before it, which is one of the code's.
-fn comes_from_before(from: &[(usize, Edge)], count: usize, at: usize) -> bool
-    requires { at < count }
-    ensures { result ≡ true → spec.ComesFromBefore count at from.now }
+/// Whether a run goes on with the node to which these edges lead: it is one edge, from the node before it, which is one of the code's.
+pub(crate) fn goes_on(before: usize, from: &[(usize, Edge)]) -> bool
+    ensures { result ≡ spec.goes_on before from.now }
+{
+    if from.len() != 1 {
+        return false;
+    }
+    let (node, way) = from[0];
+    before > END && node == before && is_next(way)
+}
+
+/// Whether ways meet before the node to which these edges lead, or part: they are not one edge that is taken always.
+fn opens(from: &[(usize, Edge)]) -> bool
+    ensures { result ≡ spec.opens from.now }
+{
+    from.len() != 1 || !is_next(from[0].1)
+}
+
+/// Whether these edges are one from this node, which is taken always.
+fn comes_alone(node: usize, from: &[(usize, Edge)]) -> bool
+    ensures { result ≡ true → from.now ≡ (node, edge.Next) ∷ [] }
 {
     if from.len() != 1 {
         return false;
     }
     let (before, way) = from[0];
-    before > END && before == node_before(count, at) && is_next(way)
+    before == node && is_next(way)
 }
 
-/// Whether a node is one more of a run.
-fn goes_on(node: &Node<'_>, count: usize, at: usize) -> bool
-    requires { at < count }
-    ensures { result ≡ true → spec.GoesOn count at node.now }
+/// Whether the run from a node leads on to its reader: to the next of the code, or to the end of the body, if that one is passed. Where runs begin with passed
+/// labels, it leads to a test too, and on from where ways meet or part.
+fn leads_to(nodes: &[Node<'_>], kept: &[bool], at: usize, reader: usize, begins: bool) -> bool
+    requires node { at < length nodes.now }
+    requires reader { reader < length nodes.now }
+    requires kept { length kept.now ≡ at }
+    ensures { result ≡ true → (node next : _) → slice_get nodes.now at ≡ Some node → slice_get nodes.now reader ≡ Some next → spec.leads_to at node reader next ≡ true }
 {
-    is_plain(&node.kind) && comes_from_before(node.from.as_slice(), count, at)
+    if reader == END {
+        return at > END && !kept[END];
+    }
+    if reader == at + 1 {
+        return is_plain(&nodes[reader].kind);
+    }
+    begins && (opens(nodes[at].from.as_slice()) || is_test(&nodes[reader].kind))
 }
 
-/// Whether this node is the only reader.
-fn only_reads(reader: usize, readers: &[usize]) -> bool
-    ensures { result ≡ true → readers.now ≡ reader ∷ [] }
-{
-    readers.len() == 1 && readers[0] == reader
-}
-
-/// Whether a node's label is read by no node, or by one alone to which only this node leads: the next of the code, or the end of the body, if that one is passed.
-fn leads_on(nodes: &[Node<'_>], kept: &[bool], at: usize, readers: &[usize]) -> bool
+/// Whether a node's label is read by no node, or by one alone to which only this node leads and the run goes on.
+fn leads_on(nodes: &[Node<'_>], kept: &[bool], at: usize, begins: bool) -> bool
     requires node { at < length nodes.now }
     requires kept { length kept.now ≡ at }
-    ensures { result ≡ true → spec.LeadsOn kept.now at readers.now }
+    ensures { result ≡ true → (node : _) → slice_get nodes.now at ≡ Some node → spec.LeadsOn nodes.now at node }
 {
+    let readers = nodes[at].readers.as_slice();
     if readers.len() == 0 {
         return true;
     }
-    if at <= END {
+    if at <= END || readers.len() != 1 || readers[0] >= nodes.len() {
         return false;
     }
-    if only_reads(END, readers) {
-        return !kept[END];
+    let reader = readers[0];
+    comes_alone(at, nodes[reader].from.as_slice()) && leads_to(nodes, kept, at, reader, begins)
+}
+
+/// Whether a run goes on with a node, or can begin with it: with those of the code alone.
+fn is_of_run(node: &Node<'_>, count: usize, at: usize, begins: bool) -> bool
+    requires { at < count }
+    ensures plain { result ≡ true → spec.is_plain (kind_of node.now.kind) ≡ true }
+    ensures single { result ≡ true → spec.is_test (kind_of node.now.kind) ≡ false }
+    ensures begins { result ≡ true → spec.goes_on (spec.node_before count at) node.now.from.items ≡ false → 1 < at }
+{
+    if !is_plain(&node.kind) || is_test(&node.kind) {
+        return false;
     }
-    at + 1 < nodes.len()
-        && only_reads(at + 1, readers)
-        && goes_on(&nodes[at + 1], nodes.len(), at + 1)
+    goes_on(node_before(count, at), node.from.as_slice()) || (begins && at > END)
 }
 
 /// Whether the label of a node is kept, which all are if no runs are wanted. That of the last node of a run is where others lead to the same node as well,
 /// since that node would walk the run again at each of its visits.
-fn is_kept(nodes: &[Node<'_>], kept: &[bool], at: usize, runs: bool) -> bool
+fn is_kept(nodes: &[Node<'_>], kept: &[bool], at: usize, runs: bool, begins: bool) -> bool
     requires node { at < length nodes.now }
     requires kept { length kept.now ≡ at }
-    ensures passed { result ≡ false → spec.PassesAt nodes.now kept.now at }
+    ensures passed { result ≡ false → spec.PassesAt nodes.now at }
     ensures all { runs ≡ false → result ≡ true }
 {
-    if !runs {
+    if !runs || !is_of_run(&nodes[at], nodes.len(), at, begins) {
         return true;
     }
-    let node = &nodes[at];
-    if !goes_on(node, nodes.len(), at) {
-        return true;
-    }
-    !leads_on(nodes, kept, at, node.readers.as_slice())
+    !leads_on(nodes, kept, at, begins)
 }
 
-/// Of each node whether its label is kept: of all of them, if no runs are wanted.
+/// Whether a node is the head of a loop.
+fn has_head(nodes: &[Node<'_>]) -> bool {
+    for node in nodes {
+        if let NodeKind::Head(_, _) = node.kind {
+            return true;
+        }
+    }
+    false
+}
+
+/// Of each node whether its label is kept: of all of them, if no runs are wanted. Runs begin with passed labels where there are no loops, for speed alone: in a
+/// loop what leads there would be joined anew at each visit of the run's end.
 fn kept_of(alloc: Global, nodes: &[Node<'_>], runs: bool) -> Result<Vec<bool>, AllocError>
     ensures many { IfOk result (λ kept. length kept.items ≡ length nodes.now) }
     ensures passed { IfOk result (λ kept. spec.ArePassed nodes.now kept.items) }
     ensures all { IfOk result (λ kept. runs ≡ false → spec.AreKept kept.items) }
 {
+    let begins = !has_head(nodes);
     let mut kept = Vec::new(alloc);
     for at in 0..nodes.len() {
-        let here = is_kept(nodes, kept.as_slice(), at, runs);
+        let here = is_kept(nodes, kept.as_slice(), at, runs, begins);
         kept.push(here)?;
     }
     Ok(kept)
@@ -136,15 +185,19 @@ fn kept_of(alloc: Global, nodes: &[Node<'_>], runs: bool) -> Result<Vec<bool>, A
 fn end_of(nodes: &[Node<'_>], kept: &[bool], from: usize) -> usize
     requires from { from < length kept.now }
     requires all { length kept.now ≡ length nodes.now }
+    requires linked { spec.AreLinked nodes.now }
     ensures within { result < length kept.now }
     ensures end { spec.EndsAt nodes.now kept.now from result }
 {
-    for at in from..kept.len() {
-        if kept[at] || nodes[at].readers.len() == 0 {
+    let mut at = from;
+    for _many in 0..kept.len() + 2 {
+        let readers = nodes[at].readers.as_slice();
+        if kept[at] || readers.len() == 0 {
             return at;
         }
+        at = readers[0];
     }
-    from
+    at
 }
 
 /// The ends of the runs that begin with these nodes.
@@ -156,6 +209,7 @@ fn ends_of(
 ) -> Result<Vec<usize>, AllocError>
     requires begins { All (λ node. node < length kept.now) begins.now }
     requires all { length kept.now ≡ length nodes.now }
+    requires linked { spec.AreLinked nodes.now }
     ensures within { IfOk result (λ ends. All (λ node. node < length kept.now) ends.items) }
     ensures ends { IfOk result (λ ends. spec.AreEnds nodes.now kept.now begins.now ends.items) }
 {
@@ -177,6 +231,7 @@ fn readers_of(
     requires node { at < length kept.now }
     requires readers { All (λ node. node < length kept.now) readers.now }
     requires all { length kept.now ≡ length nodes.now }
+    requires linked { spec.AreLinked nodes.now }
     ensures within { IfOk result (λ by. All (λ node. node < length kept.now) by.items) }
     ensures through { IfOk result (λ by. spec.ReadsThrough nodes.now kept.now at readers.now by.items) }
 {
@@ -207,13 +262,25 @@ pub(crate) fn runs_in(alloc: Global, nodes: &[Node<'_>], passing: bool) -> Resul
     Ok(Runs { kept, readers })
 }
 
-/// The node where the run to a node begins: the last up to there whose label is kept.
-pub(crate) fn start_of(kept: &[bool], at: usize) -> usize
-    requires { at < length kept.now }
-    ensures { spec.IsStart kept.now at result }
+/// Whether a label is passed, and the run goes on with the node from that of the number before.
+fn continues(nodes: &[Node<'_>], kept: &[bool], at: usize) -> bool
+    requires some { 0 < at }
+    requires node { at < length nodes.now }
+    requires all { length kept.now ≡ length nodes.now }
+    ensures yes { result ≡ true → spec.Continues nodes.now kept.now at }
+    ensures no { result ≡ false → spec.Begins nodes.now kept.now at }
+{
+    !kept[at] && goes_on(at - 1, nodes[at].from.as_slice())
+}
+
+/// The node where the run to a node begins: the last up to there whose label is kept, or with which no run goes on.
+pub(crate) fn start_of(nodes: &[Node<'_>], kept: &[bool], at: usize) -> usize
+    requires node { at < length nodes.now }
+    requires all { length kept.now ≡ length nodes.now }
+    ensures { spec.IsStart nodes.now kept.now at result }
 {
     for back in 0..at {
-        if kept[at - back] {
+        if !continues(nodes, kept, at - back) {
             return at - back;
         }
     }

@@ -1,6 +1,6 @@
 //! The visits of a graph's nodes.
 
-ghost use Rattle.std.specs.Prelude.{◌≡◌, ◌<◌, IfOk, length, map};
+ghost use Rattle.std.specs.Prelude.{◌≡◌, ◌<◌, ◌⊎◌, IfOk, length, map};
 ghost use Rattle.ix_solve.specs.Solutions.{IsLeastOf};
 ghost use Rattle.ix_flow.specs.Flow.{Anything};
 ghost use Rattle.ix_graph.specs.GraphSolutions.{Carries};
@@ -8,7 +8,8 @@ ghost use Rattle.ix_graph.specs.Brought.{pass_of, IsSettled};
 ghost use Rattle.ix_facts.specs.Stores.{IsBelow};
 ghost use Rattle.ix_method.specs.StoredFacts.{stored};
 ghost use Rattle.ix_labels.specs.Problem.{rules_of, kinds_at, edges_at};
-ghost use Rattle.ix_labels.specs.RunAsks.{RunsTo, RunBrings, RunsBring};
+ghost use Rattle.ix_labels.specs.Runs.{Begins};
+ghost use Rattle.ix_labels.specs.RunAsks.{BringsOf, EachBrings, KeptTo, FirstTo, RunsTo};
 
 use crate::problem::Problem;
 use crate::runs::start_of;
@@ -48,14 +49,103 @@ impl<'a> Problem<'a> {
         }
     }
 
-    /// The least store at a node by the label that is kept where the run to it begins.
+    /// What an edge brings of the label that is kept at the node that it comes from.
+    fn kept_brought(
+        &self,
+        alloc: Global,
+        from: (usize, Edge),
+        labels: &[Store],
+    ) -> Result<Store, AllocError>
+        requires node { from.0 < length self.now.graph.nodes.items }
+        requires labels { length labels.now ≡ length self.now.graph.nodes.items }
+        ensures least { IfOk result (λ store. IsLeastOf IsBelow (BringsOf (rules_of self.now) (kinds_at self.now) (KeptTo (rules_of self.now) (kinds_at self.now) (map stored labels.now)) from) (stored store)) }
+    {
+        self.brought(alloc, from, &labels[from.0])
+    }
+
+    /// The least store above what all edges to a node bring of labels that are kept.
+    fn gathered_kept(&self, alloc: Global, at: usize, labels: &[Store]) -> Result<Store, AllocError>
+        requires node { at < length self.now.graph.nodes.items }
+        requires labels { length labels.now ≡ length self.now.graph.nodes.items }
+        ensures least { IfOk result (λ store. IsLeastOf IsBelow (EachBrings (rules_of self.now) (kinds_at self.now) (KeptTo (rules_of self.now) (kinds_at self.now) (map stored labels.now)) (edges_at self.now at)) (stored store)) }
+    {
+        let mut joined = Store::unreachable();
+        for from in self.graph.nodes[at].from.as_slice() {
+            let carried = self.kept_brought(alloc, *from, labels)?;
+            joined = joined.join(alloc, &carried)?;
+        }
+        Ok(joined)
+    }
+
+    /// The least store at a node before the first of a run: its label, if that is kept, else what its edges bring of labels that are.
+    fn first(&self, alloc: Global, at: usize, labels: &[Store]) -> Result<Store, AllocError>
+        requires node { at < length self.now.graph.nodes.items }
+        requires labels { length labels.now ≡ length self.now.graph.nodes.items }
+        ensures least { IfOk result (λ store. IsLeastOf IsBelow (FirstTo (rules_of self.now) (kinds_at self.now) self.now.runs.kept.items (edges_at self.now) (map stored labels.now) at) (stored store)) }
+    {
+        if self.runs.kept[at] {
+            labels[at].share()
+        } else {
+            self.gathered_kept(alloc, at, labels)
+        }
+    }
+
+    /// What an edge brings of such a store.
+    fn first_brought(
+        &self,
+        alloc: Global,
+        from: (usize, Edge),
+        labels: &[Store],
+    ) -> Result<Store, AllocError>
+        requires node { from.0 < length self.now.graph.nodes.items }
+        requires labels { length labels.now ≡ length self.now.graph.nodes.items }
+        ensures least { IfOk result (λ store. IsLeastOf IsBelow (BringsOf (rules_of self.now) (kinds_at self.now) (FirstTo (rules_of self.now) (kinds_at self.now) self.now.runs.kept.items (edges_at self.now) (map stored labels.now)) from) (stored store)) }
+    {
+        let before = self.first(alloc, from.0, labels)?;
+        self.brought(alloc, from, &before)
+    }
+
+    /// The least store above what all edges bring to the first node of a run.
+    pub(crate) fn gathered_first(
+        &self,
+        alloc: Global,
+        at: usize,
+        labels: &[Store],
+    ) -> Result<Store, AllocError>
+        requires node { at < length self.now.graph.nodes.items }
+        requires labels { length labels.now ≡ length self.now.graph.nodes.items }
+        ensures least { IfOk result (λ store. IsLeastOf IsBelow (EachBrings (rules_of self.now) (kinds_at self.now) (FirstTo (rules_of self.now) (kinds_at self.now) self.now.runs.kept.items (edges_at self.now) (map stored labels.now)) (edges_at self.now at)) (stored store)) }
+    {
+        let mut joined = Store::unreachable();
+        for from in self.graph.nodes[at].from.as_slice() {
+            let first = self.first_brought(alloc, *from, labels)?;
+            joined = joined.join(alloc, &first)?;
+        }
+        Ok(joined)
+    }
+
+    /// The least store at a node where a run begins: its label, if that is kept, else what its edges bring.
+    fn begun(&self, alloc: Global, at: usize, labels: &[Store]) -> Result<Store, AllocError>
+        requires node { at < length self.now.graph.nodes.items }
+        requires labels { length labels.now ≡ length self.now.graph.nodes.items }
+        requires begins { (at ≡ 0) ⊎ Begins self.now.graph.nodes.items self.now.runs.kept.items at }
+        ensures least { IfOk result (λ store. IsLeastOf IsBelow (RunsTo (rules_of self.now) (kinds_at self.now) self.now.runs.kept.items (edges_at self.now) (map stored labels.now) at) (stored store)) }
+    {
+        if self.runs.kept[at] {
+            labels[at].share()
+        } else {
+            self.gathered_first(alloc, at, labels)
+        }
+    }
+
+    /// The least store at a node by what there is where the run to it begins.
     fn walked(&self, alloc: Global, at: usize, labels: &[Store]) -> Result<Store, AllocError>
         requires node { at < length self.now.graph.nodes.items }
         requires labels { length labels.now ≡ length self.now.graph.nodes.items }
-        ensures least { IfOk result (λ store. IsLeastOf IsBelow (RunsTo (rules_of self.now) (kinds_at self.now) self.now.runs.kept.items (map stored labels.now) at) (stored store)) }
+        ensures least { IfOk result (λ store. IsLeastOf IsBelow (RunsTo (rules_of self.now) (kinds_at self.now) self.now.runs.kept.items (edges_at self.now) (map stored labels.now) at) (stored store)) }
     {
-        let start = start_of(self.runs.kept.as_slice(), at);
-        let mut store = labels[start].share()?;
+        let start = start_of(self.graph.nodes.as_slice(), self.runs.kept.as_slice(), at);
+        let mut store = self.begun(alloc, start, labels)?;
         for before in start..at {
             store = self.brought(alloc, (before, Edge::Next), &store)?;
         }
@@ -71,7 +161,7 @@ impl<'a> Problem<'a> {
     ) -> Result<Store, AllocError>
         requires node { from.0 < length self.now.graph.nodes.items }
         requires labels { length labels.now ≡ length self.now.graph.nodes.items }
-        ensures least { IfOk result (λ store. IsLeastOf IsBelow (RunBrings (rules_of self.now) (kinds_at self.now) self.now.runs.kept.items (map stored labels.now) from) (stored store)) }
+        ensures least { IfOk result (λ store. IsLeastOf IsBelow (BringsOf (rules_of self.now) (kinds_at self.now) (RunsTo (rules_of self.now) (kinds_at self.now) self.now.runs.kept.items (edges_at self.now) (map stored labels.now)) from) (stored store)) }
     {
         let before = self.walked(alloc, from.0, labels)?;
         self.brought(alloc, from, &before)
@@ -81,7 +171,7 @@ impl<'a> Problem<'a> {
     fn gathered(&self, alloc: Global, at: usize, labels: &[Store]) -> Result<Store, AllocError>
         requires node { at < length self.now.graph.nodes.items }
         requires labels { length labels.now ≡ length self.now.graph.nodes.items }
-        ensures least { IfOk result (λ store. IsLeastOf IsBelow (RunsBring (rules_of self.now) (kinds_at self.now) self.now.runs.kept.items (map stored labels.now) (edges_at self.now at)) (stored store)) }
+        ensures least { IfOk result (λ store. IsLeastOf IsBelow (EachBrings (rules_of self.now) (kinds_at self.now) (RunsTo (rules_of self.now) (kinds_at self.now) self.now.runs.kept.items (edges_at self.now) (map stored labels.now)) (edges_at self.now at)) (stored store)) }
     {
         let mut joined = Store::unreachable();
         for from in self.graph.nodes[at].from.as_slice() {

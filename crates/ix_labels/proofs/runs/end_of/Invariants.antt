@@ -1,6 +1,6 @@
-use Rattle.std.proofs.Common.{◌≡◌, ◌<◌, ◌≤◌, ℕ, false}
-use Rattle.ix_labels.specs.Runs.{is_kept}
+use Rattle.std.proofs.Common.{◌<◌, length}
+use Rattle.ix_labels.proofs.KeptNodes.{EndsFrom}
 use Rattle.ix_labels.proofs.runs.end_of.Given as goal
 
-abbrev pub invariant-loop-at : goal.invariant-loop-at
-invariant-loop-at l = (l.from ≤ l.at) × ((k : ℕ) → l.from ≤ k → k < l.at → is_kept l.kept k ≡ false)
+abbrev pub invariant-loop-many : goal.invariant-loop-many
+invariant-loop-many l = (l.at < length l.kept) × EndsFrom l.nodes l.kept l.from l._many l.at

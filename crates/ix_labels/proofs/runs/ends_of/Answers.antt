@@ -11,7 +11,7 @@ loop-node-init c =
     subst (λ ends. All (λ node. node < length kept) ends × AreEnds nodes kept [] ends) (sym c.new-ends.ensures.items) ((λ k d within. absurd (omega (arith, within))), no_ends nodes kept)
 
 pub end_of-requires : goal.end_of-requires
-end_of-requires c = record { from = c.requires.begins c.loop-node.node-index 0 c.loop-node-test.true; all = c.requires.all }
+end_of-requires c = record { from = c.requires.begins c.loop-node.node-index 0 c.loop-node-test.true; all = c.requires.all; linked = c.requires.linked }
 
 pub loop-node-preserved : goal.loop-node-preserved
 loop-node-preserved c =

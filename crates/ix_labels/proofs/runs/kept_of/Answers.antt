@@ -18,6 +18,6 @@ loop-at-preserved c =
     let longer = ap length items in (
       omega (arith, many, longer, count),
       subst (ArePassed nodes) (sym items)
-          (passed_next nodes kept here c.loop-at.invariant.1 (λ fails. subst (PassesAt nodes kept) (sym many) (subst (λ ks. PassesAt nodes ks c.loop-at.at) c.as_slice.ensures.value (c.is_kept-here.ensures.passed fails)))),
+          (passed_next nodes kept here c.loop-at.invariant.1 (λ fails. subst (PassesAt nodes) (sym many) (c.is_kept-here.ensures.passed fails))),
       λ all. subst AreKept (sym items) (kept_next kept here (c.loop-at.invariant.2 all) (c.is_kept-here.ensures.all all)),
     )

@@ -22,6 +22,7 @@ readers_of-requires c =
     let readers_are = c.as_slice-in-loop-at.ensures.value in
     record {
       all = ap length kept_is ∙ all;
+      linked = c.requires;
       node = let n = ap length kept_is in omega (arith, c.loop-at-test.true, all, n);
       readers = subst (λ ks. All (λ reader. reader < length ks) c.as_slice-in-loop-at.result.now) (sym kept_is)
           (subst (λ rs. All (λ reader. reader < length c.in_ok-kept.kept.items) rs) (sym readers_are) (subst (λ n. All (λ reader. reader < n) node.readers.items) (sym all) (c.requires c.loop-at.at node there)));

@@ -1,0 +1,11 @@
+use Rattle.std.proofs.Common.{map, take}
+use Rattle.ix_solve.specs.Solutions.{IsLeastOf}
+use Rattle.ix_facts.specs.Stores.{IsBelow}
+use Rattle.ix_method.specs.StoredFacts.{stored}
+use Rattle.ix_labels.specs.Problem.{rules_of, kinds_at}
+use Rattle.ix_labels.specs.RunAsks.{EachBrings}
+use Rattle.ix_labels.proofs.Visited.{Kept}
+use Rattle.ix_labels.proofs.problem.Problem.gathered_kept.Given as goal
+
+abbrev pub invariant-loop-from : goal.invariant-loop-from
+invariant-loop-from l = IsLeastOf IsBelow (EachBrings (rules_of l.self) (kinds_at l.self) (Kept l.self (map stored l.labels)) (take l.from-index l.from-items)) (stored l.joined)
