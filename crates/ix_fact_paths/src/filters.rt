@@ -1,17 +1,17 @@
 //! Lists of facts as the answers of a system: what each call of `System` makes of the facts of a table.
 
-ghost use Rattle.std.specs.Prelude.{◌≡◌, int_le, ◌++◌, IfOk, IfSome, OnOk, Some, option_to_list};
-ghost use Rattle.ix_facts.specs.Ints.{IsInt};
-ghost use Rattle.ix_facts.specs.Bounds.{when};
+ghost use Rattle.std.specs.Prelude.{◌≡◌, IfOk, IsTrue, option_to_list};
 ghost use Rattle.ix_facts.specs.Forget.{of_path, without};
 ghost use Rattle.ix_facts.specs.After.{of_target};
 ghost use Rattle.ix_facts.specs.Fact.TheVariants.{Rng, LenRng, Less, Upper};
 ghost use Rattle.ix_facts.specs.Exact.{if_some};
 ghost use Rattle.ix_facts.specs.Round as round;
+ghost use Rattle.ix_facts.specs.Round.{Rises};
 ghost use Rattle.ix_facts.specs.Systems.{system_rounded};
 
 use crate::forget::{names_path, names_target};
-use ix_facts::{Fact, OpKind, Path, PathOff, greater, lesser};
+use crate::landmarks::{mark_above, mark_below, rise};
+use ix_facts::{Fact, OpKind, Path, PathOff};
 use std::alloc::{AllocError, Global};
 
 /// The facts that don't name the path; of a slot also without those that name a field of the object in it.
@@ -42,124 +42,88 @@ pub fn facts_without_target(
     let mut kept = Vec::with_capacity(alloc, facts.len())?;
     for fact in facts {
         if !names_target(kind, fact) {
-            kept.push(*fact)?;
+            kept.push_reserved(*fact);
         }
     }
     Ok(kept)
 }
 
-/// The landmark, where it is at most the number.
-fn at_most(mark: i32, n: i64) -> Option<i64>
-    ensures mark { result ≡ when (int_le mark n) (Some mark) }
-    ensures int { IfSome result IsInt }
-{
-    if mark as i64 <= n {
-        Some(mark as i64)
-    } else {
-        None
-    }
-}
-
-/// The landmark, where it is at least the number.
-fn at_least(mark: i32, n: i64) -> Option<i64>
-    ensures mark { result ≡ when (int_le n mark) (Some mark) }
-    ensures int { IfSome result IsInt }
-{
-    if n <= mark as i64 {
-        Some(mark as i64)
-    } else {
-        None
-    }
-}
-
-/// The greatest landmark that is at most the number.
-fn mark_below(marks: &[i32], n: i64) -> Option<i64>
-    ensures mark { result ≡ round.mark_below marks.now n }
-    ensures int { IfSome result IsInt }
-{
-    let mut found = None;
-    for mark in marks {
-        found = greater(found, at_most(*mark, n));
-    }
-    found
-}
-
-/// The least landmark that is at least the number.
-fn mark_above(marks: &[i32], n: i64) -> Option<i64>
-    ensures mark { result ≡ round.mark_above marks.now n }
-    ensures int { IfSome result IsInt }
-{
-    let mut found = None;
-    for mark in marks {
-        found = lesser(found, at_least(*mark, n));
-    }
-    found
-}
-
-fn rounded_range(marks: &[i32], p: &Path, low: i64, high: i64) -> Option<Fact>
+fn rounded_range(marks: &[i32], rising: bool, p: &Path, low: i64, high: i64) -> Option<Fact>
+    requires rises { IsTrue rising → Rises marks.now }
     ensures { option_to_list result ≡ round.if_both (Rng p.now) (round.mark_below marks.now low) (round.mark_above marks.now high) }
 {
-    match (mark_below(marks, low), mark_above(marks, high)) {
+    match (
+        mark_below(marks, rising, low),
+        mark_above(marks, rising, high),
+    ) {
         (Some(l), Some(h)) => Some(Fact::Rng(*p, l, h)),
         _ => None,
     }
 }
 
-fn rounded_length(marks: &[i32], a: &Path, low: i64, high: i64) -> Option<Fact>
+fn rounded_length(marks: &[i32], rising: bool, a: &Path, low: i64, high: i64) -> Option<Fact>
+    requires rises { IsTrue rising → Rises marks.now }
     ensures { option_to_list result ≡ round.if_both (LenRng a.now) (round.mark_below marks.now low) (round.mark_above marks.now high) }
 {
-    match (mark_below(marks, low), mark_above(marks, high)) {
+    match (
+        mark_below(marks, rising, low),
+        mark_above(marks, rising, high),
+    ) {
         (Some(l), Some(h)) => Some(Fact::LenRng(*a, l, h)),
         _ => None,
     }
 }
 
-fn rounded_less(marks: &[i32], p: &Path, q: &Path, c: i32) -> Option<Fact>
+fn rounded_less(marks: &[i32], rising: bool, p: &Path, q: &Path, c: i32) -> Option<Fact>
+    requires rises { IsTrue rising → Rises marks.now }
     ensures { option_to_list result ≡ if_some (Less p.now q.now) (round.mark_above marks.now c) }
 {
-    match mark_above(marks, c as i64) {
+    match mark_above(marks, rising, c as i64) {
         Some(n) => Some(Fact::Less(*p, *q, n as i32)),
         None => None,
     }
 }
 
-fn rounded_upper(marks: &[i32], p: &Path, a: &Path, offset: &PathOff, c: i32) -> Option<Fact>
+fn rounded_upper(
+    marks: &[i32],
+    rising: bool,
+    p: &Path,
+    a: &Path,
+    offset: &PathOff,
+    c: i32,
+) -> Option<Fact>
+    requires rises { IsTrue rising → Rises marks.now }
     ensures { option_to_list result ≡ if_some (Upper p.now a.now offset.now) (round.mark_below marks.now c) }
 {
-    match mark_below(marks, c as i64) {
+    match mark_below(marks, rising, c as i64) {
         Some(n) => Some(Fact::Upper(*p, *a, *offset, n as i32)),
         None => None,
     }
 }
 
-fn rounded(marks: &[i32], fact: &Fact) -> Option<Fact>
+fn rounded(marks: &[i32], rising: bool, fact: &Fact) -> Option<Fact>
+    requires rises { IsTrue rising → Rises marks.now }
     ensures { option_to_list result ≡ round.rounded_fact marks.now fact.now }
 {
     match *fact {
-        Fact::Rng(p, low, high) => rounded_range(marks, &p, low, high),
-        Fact::LenRng(a, low, high) => rounded_length(marks, &a, low, high),
-        Fact::Less(p, q, c) => rounded_less(marks, &p, &q, c),
-        Fact::Upper(p, a, offset, c) => rounded_upper(marks, &p, &a, &offset, c),
+        Fact::Rng(p, low, high) => rounded_range(marks, rising, &p, low, high),
+        Fact::LenRng(a, low, high) => rounded_length(marks, rising, &a, low, high),
+        Fact::Less(p, q, c) => rounded_less(marks, rising, &p, &q, c),
+        Fact::Upper(p, a, offset, c) => rounded_upper(marks, rising, &p, &a, &offset, c),
         _ => Some(*fact),
     }
-}
-
-fn push_rounded(kept: &mut Vec<Fact>, marks: &[i32], fact: &Fact) -> Result<(), AllocError>
-    ensures { OnOk result (kept.new.items ≡ kept.old.items ++ round.rounded_fact marks.now fact.now) }
-{
-    if let Some(moved) = rounded(marks, fact) {
-        kept.push(moved)?;
-    }
-    Ok(())
 }
 
 /// The facts moved to the landmarks.
 pub fn rounded_facts(alloc: Global, facts: &[Fact], marks: &[i32]) -> Result<Vec<Fact>, AllocError>
     ensures facts { IfOk result (λ kept. kept.items ≡ system_rounded marks.now facts.now) }
 {
-    let mut kept = Vec::new(alloc);
+    let rising = rise(marks);
+    let mut kept = Vec::with_capacity(alloc, facts.len())?;
     for fact in facts {
-        push_rounded(&mut kept, marks, fact)?;
+        if let Some(moved) = rounded(marks, rising, fact) {
+            kept.push_reserved(moved);
+        }
     }
     Ok(kept)
 }

@@ -8,6 +8,7 @@
 
 mod filters;
 mod forget;
+mod landmarks;
 mod path_order;
 mod room;
 mod spared;

@@ -4,7 +4,7 @@ use Rattle.std.specs.Int.{int_max}
 use Rattle.ix_facts.specs.Ints.{IsInt}
 use Rattle.ix_facts.specs.Bounds.{best}
 use Rattle.ix_facts.specs.Round.{mark_below}
-use Rattle.ix_fact_paths.proofs.filters.mark_below.Given as goal
+use Rattle.ix_fact_paths.proofs.landmarks.greatest_below.Given as goal
 
 abbrev pub invariant-loop-mark : goal.invariant-loop-mark
 invariant-loop-mark l = record {
