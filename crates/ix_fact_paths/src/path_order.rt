@@ -12,11 +12,18 @@ use ix_facts::{Path, PathOff};
 use std::cmp::Ordering;
 
 /// Slots before fields, each by its numbers.
+// Written out by variants it is a few steps at the caller, and no calls.
+#[inline(always)]
 pub fn compare_paths(p: &Path, q: &Path) -> Ordering
     ensures value { result ≡ path_cmp p.now q.now }
     ensures order { ⟦<Path as Ord>⟧.cmp p.now q.now ≡ path_cmp p.now q.now }
 {
-    p.cmp(q)
+    match (*p, *q) {
+        (Path::Slot(s), Path::Slot(t)) => s.cmp(&t),
+        (Path::Slot(_), Path::FieldOf(_, _)) => Ordering::Less,
+        (Path::FieldOf(_, _), Path::Slot(_)) => Ordering::Greater,
+        (Path::FieldOf(s, f), Path::FieldOf(t, g)) => s.cmp(&t).then(f.cmp(&g)),
+    }
 }
 
 /// The order of paths, as maps by paths use it.

@@ -8,7 +8,7 @@ ghost use Rattle.ix_fact_paths.specs.PathOrder.{path_cmp};
 ghost use Rattle.ix_path_index.specs.ByPath.{about, paths_in, facts_in, beside, IsSorted};
 
 use ix_core::{Fact, Path};
-use ix_fact_paths::{is_same_path, path_order_laws};
+use ix_fact_paths::{compare_paths, is_same_path, path_order_laws};
 use std::alloc::{AllocError, Global};
 use std::cmp::Ordering;
 
@@ -43,26 +43,12 @@ pub(crate) fn facts_of(alloc: Global, entries: &[(Path, Fact)]) -> Result<Vec<Fa
     Ok(facts)
 }
 
-/// How the paths stand to each other in the order of paths.
-// Written out by variants it is a few steps at the caller, and no calls.
-#[inline]
-pub(crate) fn order_of(p: &Path, q: &Path) -> Ordering
-    ensures { result ≡ path_cmp p.now q.now }
-{
-    match (*p, *q) {
-        (Path::Slot(s), Path::Slot(t)) => s.cmp(&t),
-        (Path::Slot(_), Path::FieldOf(_, _)) => Ordering::Less,
-        (Path::FieldOf(_, _), Path::Slot(_)) => Ordering::Greater,
-        (Path::FieldOf(s, f), Path::FieldOf(t, g)) => s.cmp(&t).then(f.cmp(&g)),
-    }
-}
-
 /// Whether the first path comes before the second in the order of paths.
 #[inline]
 pub(crate) fn is_before(path: &Path, p: &Path) -> bool
     ensures { result ≡ is_lt (path_cmp path.now p.now) }
 {
-    match order_of(path, p) {
+    match compare_paths(path, p) {
         Ordering::Less => true,
         Ordering::Equal => false,
         Ordering::Greater => false,

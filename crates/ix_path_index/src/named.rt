@@ -9,9 +9,9 @@ ghost use Rattle.ix_path_index.specs.NamedLaws.{AreAmong};
 ghost use Rattle.ix_path_index.specs.PutLaws.{IsRising};
 ghost use Rattle.ix_path_index.specs.PutUntil.{IsPutUntil};
 
-use crate::by_path::order_of;
 use crate::path_set::PathSet;
 use ix_core::{Fact, Path, PathOff};
+use ix_fact_paths::compare_paths;
 use std::alloc::{AllocError, Global};
 use std::cmp::Ordering;
 
@@ -175,7 +175,7 @@ fn behind_range<'a>(paths: &'a [Path], fact: &Fact) -> &'a [Path]
     let (Some((first, more)), Fact::Rng(q, _, _)) = (paths.split_first(), fact) else {
         return paths;
     };
-    match order_of(first, q) {
+    match compare_paths(first, q) {
         Ordering::Equal => more,
         _ => paths,
     }

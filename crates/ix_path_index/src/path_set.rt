@@ -7,9 +7,10 @@ ghost use Rattle.ix_fact_paths.specs.PathOrder.{path_cmp};
 ghost use Rattle.ix_path_index.specs.Marks.{AreMarked};
 ghost use Rattle.ix_path_index.specs.PutLaws.{IsRising};
 
-use crate::by_path::{is_before, order_of};
+use crate::by_path::is_before;
 use crate::marks::Marks;
 use ix_core::Path;
+use ix_fact_paths::compare_paths;
 use std::alloc::{AllocError, Global};
 use std::marker::Model;
 
@@ -59,7 +60,7 @@ fn put_path(paths: &mut Vec<Path>, p: &Path) -> Result<(), AllocError>
     if is_behind(paths, p) {
         return push_path(paths, p);
     }
-    match paths.binary_search_by(|path| order_of(path, p)) {
+    match paths.binary_search_by(|path| compare_paths(path, p)) {
         Ok(_) => Ok(()),
         Err(place) => {
             paths.insert(place, *p)?;
