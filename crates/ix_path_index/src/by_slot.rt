@@ -15,6 +15,9 @@ use std::marker::Model;
 /// How many slots have lists of their own, and how many fields of the object in slot 0.
 const NEAR: u32 = 1024;
 
+/// How many places near paths have.
+pub const PLACES: usize = 2 * NEAR as usize;
+
 /// For how many lists room is asked at once.
 const LISTS: usize = 32;
 

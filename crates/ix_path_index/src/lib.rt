@@ -17,7 +17,7 @@ mod path_facts;
 mod path_index;
 mod path_set;
 
-pub use by_slot::near_place;
+pub use by_slot::{PLACES, near_place};
 pub use grouped::Grouped;
 pub use ix_fact_paths::{
     assigned_path, names_path, names_target, path_order_laws, some_name_path, some_name_target,

@@ -5,7 +5,7 @@ ghost use Rattle.std.specs.Int.{bit_at};
 ghost use Rattle.ix_core.specs.declared.fact.Path.{Path};
 ghost use Rattle.ix_path_index.specs.Marks.{IsInWords, IsAtPlace, IsMarked};
 
-use crate::by_slot::near_place;
+use crate::by_slot::{PLACES, near_place};
 use ix_core::Path;
 use std::alloc::{AllocError, Global};
 
@@ -15,9 +15,9 @@ const FEW: usize = 8;
 /// How many places are marked at first; where those are too few, there is room for all.
 const MANY: usize = 256;
 
-static MANY_UNMARKED: [bool; 256] = [false; 256];
+static MANY_UNMARKED: [bool; MANY] = [false; MANY];
 
-static ALL_UNMARKED: [bool; 2048] = [false; 2048];
+static ALL_UNMARKED: [bool; PLACES] = [false; PLACES];
 
 /// Slots below 64, and fields below 64 of the object in slot 0, have a bit each, which takes no memory; the other near paths have marks by their places.
 #[derive(Drop)]

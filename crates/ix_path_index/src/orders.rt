@@ -1,6 +1,6 @@
 //! Facts in all their orders.
 
-ghost use Rattle.std.specs.Prelude.{◌≡◌, ◌≤◌, ◌+◌, ◌∷◌, ◌++◌, [], cond, false, IsTrue, IfOk, option_to_list};
+ghost use Rattle.std.specs.Prelude.{◌≡◌, ◌≤◌, ◌+◌, ◌∷◌, ◌++◌, [], cond, false, length, IsTrue, IsFalse, IfOk, option_to_list};
 ghost use Rattle.std.specs.Vec.{vec_len, vec_capacity};
 ghost use Rattle.ix_fact_paths.specs.Facts.{orders, is_default, in_orders};
 
@@ -35,6 +35,7 @@ fn is_said_of_all(fact: &Fact) -> bool
 fn has_one_order(fact: &Fact) -> bool
     ensures tells { IsTrue result → is_default fact.now ≡ false }
     ensures one { IsTrue result → orders fact.now ≡ fact.now ∷ [] }
+    ensures two { IsFalse result → is_default fact.now ≡ false → length (orders fact.now) ≡ 2 }
 {
     match *fact {
         Fact::Same(_, _) => false,
@@ -46,7 +47,8 @@ fn has_one_order(fact: &Fact) -> bool
 
 /// Whether the facts are those in all their orders, each in the only one that it has. It takes no memory.
 pub fn have_one_order(facts: &[Fact]) -> bool
-    ensures { IsTrue result → in_orders facts.now ≡ facts.now }
+    ensures one { IsTrue result → in_orders facts.now ≡ facts.now }
+    ensures more { IsFalse result → in_orders facts.now ≡ facts.now → ⊥ }
 {
     for fact in facts {
         if !has_one_order(fact) {

@@ -127,7 +127,7 @@ impl PathSet {
 
     /// Whether the path is marked as standing there: then to put it changes nothing. It takes no memory.
     #[inline]
-    pub fn is_marked(&self, p: &Path) -> bool
+    fn is_marked(&self, p: &Path) -> bool
         ensures { IsTrue result → insert_key path_cmp self.now p.now ≡ self.now }
     {
         self.marks.has(p)
