@@ -1,6 +1,6 @@
 //! What each near int is at least and at most, by two passes over facts.
 
-ghost use Rattle.std.specs.Prelude.{◌≡◌, ◌<◌, ◌≤◌, ◌+ℤ◌, ◌-ℤ◌, ℕ, pos, true, All, Some, get_or, length, take, nat_eq, IfOk, OnOk, IfSome};
+ghost use Rattle.std.specs.Prelude.{◌≡◌, ◌<◌, ◌≤◌, ◌+ℤ◌, ◌-ℤ◌, ℕ, pos, true, false, All, Some, get_or, length, take, nat_eq, IfOk, OnOk, IfSome, IfNone};
 ghost use Rattle.ix_core.specs.declared.fact.Fact.TheVariants.{Less};
 ghost use Rattle.ix_core.specs.Ints.{least_int, greatest_int};
 ghost use Rattle.ix_facts.specs.Bounds as spec;
@@ -12,7 +12,7 @@ ghost use Rattle.ix_fact_list.specs.NearNumbers.{number_at, told, Raises, Lowers
 
 use ix_bounds::{self, Groups, past, short_of, within};
 use ix_core::{Fact, Path, PathOff};
-use ix_path_index::near_place;
+use ix_path_index::{PLACES, near_place};
 use std::alloc::{AllocError, Global};
 
 /// The least int.
@@ -93,9 +93,6 @@ fn no_numbers(
     reach(&mut numbers, default, room - 1)?;
     Ok(numbers)
 }
-
-/// How many places near paths have.
-const PLACES: usize = 2048;
 
 /// The numbers at the places of near paths.
 fn near_numbers(alloc: Global, numbers: &[i64]) -> Result<Vec<i64>, AllocError>
@@ -217,6 +214,7 @@ fn put_range(
 fn number_of(numbers: &[i64], default: i64, p: &Path) -> Option<i64>
     ensures near { IfSome result (λ _n. is_near p.now ≡ true) }
     ensures number { IfSome result (λ n. n ≡ number_at numbers.now default p.now) }
+    ensures none { IfNone result (is_near p.now ≡ false) }
 {
     match near_place(p) {
         Some(place) => Some(number_in(numbers, default, place)),
@@ -555,6 +553,7 @@ impl Limits {
     pub fn low(&self, p: &Path) -> Option<i64>
         ensures near { IfSome result (λ _low. is_near p.now ≡ true) }
         ensures low { IfSome result (λ low. low ≡ number_at self.now.lows.items least_int p.now) }
+        ensures none { IfNone result (is_near p.now ≡ false) }
     {
         number_of(&self.lows, LEAST, p)
     }
@@ -563,6 +562,7 @@ impl Limits {
     pub fn high(&self, p: &Path) -> Option<i64>
         ensures near { IfSome result (λ _high. is_near p.now ≡ true) }
         ensures high { IfSome result (λ high. high ≡ number_at self.now.highs.items greatest_int p.now) }
+        ensures none { IfNone result (is_near p.now ≡ false) }
     {
         number_of(&self.highs, GREATEST, p)
     }
