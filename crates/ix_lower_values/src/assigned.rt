@@ -18,8 +18,9 @@ fn add_slot(
 {
     match meaning {
         Some(Meaning::Local(_)) | Some(Meaning::Param(_)) => {
-            known.push(slot_of(scope, meaning))?;
-            Ok(())
+            known
+                .push(slot_of(scope, meaning))
+                .map_err(AllocError::from)
         }
         _ => Ok(()),
     }
@@ -68,7 +69,11 @@ pub fn add_assigned(scope: &Scope<'_>, expr: &Expr, known: &mut List<u32>) -> Re
             add_own(scope, target.get(), known)?;
             add_assigned(scope, target.get(), known)
         }
-        _ => Ok(()),
+        ExprKind::Int(_) => Ok(()),
+        ExprKind::Bool(_) => Ok(()),
+        ExprKind::Null => Ok(()),
+        ExprKind::This => Ok(()),
+        ExprKind::Name(_) => Ok(()),
     }
 }
 

@@ -1,11 +1,18 @@
 //! Expressions.
-ghost use Rattle.std.specs.Prelude.{◌≡◌, ◌≢◌, ◌++◌, ◌∷◌, [], Bool, true, false, if◌then◌else◌, map, Some, None, Ok, Err, List as Elements, IfOk, OnOk, IsErrOf};
+ghost use Rattle.std.specs.Prelude.{◌≡◌, ◌≢◌, ◌++◌, ◌∷◌, [], Bool, true, false, if◌then◌else◌, map, Some, None, Ok, Err, List as Elements, IfOk, OnOk, IsErrOf, MatchResult, pos};
 ghost use Rattle.ix_num.specs.declared.arith.Arith.TheVariants as arith;
+ghost use Rattle.ix_core.specs.Types.{int_type};
+ghost use Rattle.ix_core.specs.declared.code.Cond.TheVariants as cond;
 ghost use Rattle.ix_core.specs.declared.op.OpKind.TheVariants as op;
 ghost use Rattle.ix_meaning.specs.declared.note.Which.{Which};
+ghost use Rattle.ix_plain.specs.declared.made.Made.{Made};
+ghost use Rattle.ix_plain.specs.declared.made.Spot.TheVariants as spots;
 ghost use Rattle.ix_plain.specs.declared.made.Stop.TheVariants as stop;
-ghost use Rattle.ix_plain.specs.Parts.{done, in_place, with_item, write};
+ghost use Rattle.ix_plain.specs.Parts.{block as block_of, computed, done, in_place, read, taking, with_item, write};
+ghost use Rattle.ix_plain.specs.Parts as parts;
+ghost use Rattle.ix_plain.specs.Scope.{type_at};
 ghost use Rattle.ix_plain.specs.Values as spec;
+ghost use Rattle.ix_plain.specs.Values.{int_value};
 ghost use Rattle.ix_lower_values.specs.declared.expression.Form.TheVariants as form;
 ghost use Rattle.ix_lower_values.specs.Shown.{shown_scope, valued, asked, targeted, left_unused, all_given, initial, all_initial, form_of, is_class_name};
 
@@ -15,7 +22,7 @@ use crate::scope::{
 };
 use ix_core::{Arg, Block, CallOp, Cond, Item, Literal, Op, OpKind, Test, Type_, UnaryNum};
 use ix_meaning::Meaning;
-use ix_num::Arith;
+use ix_num::{Arith, Rel};
 use ix_plain::{Made, Spot, Stop};
 use ix_text::{Boxed, List, Span};
 use ix_tree::{BinaryOp, Expr, ExprKind, Init, UnaryOp};
@@ -216,18 +223,19 @@ fn init_spans(alloc: Global, inits: &[Init]) -> Result<List<Span>, AllocError>
     Ok(list)
 }
 
-fn add_arg(args: &mut List<Arg>, arg: Arg) -> Result<(), AllocError>
-    ensures { OnOk result (args.new ≡ args.old ++ arg ∷ []) }
+fn add_arg(args: &mut List<Arg>, arg: Arg) -> Result<(), Stop>
+    ensures { MatchResult result (λ _. args.new ≡ args.old ++ arg ∷ []) (λ cause. cause ≡ stop.Memory) }
 {
-    args.push(arg)?;
-    Ok(())
+    args.push(arg).map_err(AllocError::from).map_err(Stop::from)
 }
 
-fn add_slot(slots: &mut List<u32>, slot: u32) -> Result<(), AllocError>
-    ensures { OnOk result (slots.new ≡ slots.old ++ slot ∷ []) }
+fn add_slot(slots: &mut List<u32>, slot: u32) -> Result<(), Stop>
+    ensures { MatchResult result (λ _. slots.new ≡ slots.old ++ slot ∷ []) (λ cause. cause ≡ stop.Memory) }
 {
-    slots.push(slot)?;
-    Ok(())
+    slots
+        .push(slot)
+        .map_err(AllocError::from)
+        .map_err(Stop::from)
 }
 
 /// Whether the expression is the name of a class.
@@ -241,6 +249,231 @@ fn is_class_name(scope: &Scope<'_>, expr: &Expr) -> bool
         },
         _ => false,
     }
+}
+
+// ---- operations behind their parts
+
+/// An element, in an array whose type is that of the expression at its place; the places are those of array and index.
+fn loaded(
+    alloc: Global,
+    scope: &Scope<'_>,
+    slots: (u32, u32),
+    spans: (Span, Span),
+    made: &mut Made,
+) -> Result<u32, Stop>
+    ensures made { IfOk result (λ at. computed made.old (op.Load made.old.free slots.0 slots.1 (type_at (shown_scope scope.now) spans.0)) spans.1 ≡ in_place made.new at) }
+    ensures limit { (which : Which) → IsErrOf result (stop.Limit which) → computed made.old (op.Load made.old.free slots.0 slots.1 (type_at (shown_scope scope.now) spans.0)) spans.1 ≡ Err which }
+{
+    let (array, index) = slots;
+    let ty = type_at(alloc, scope, spans.0)?;
+    let kind = OpKind::Load(made.free, array, index, ty);
+    compute(alloc, made, kind, spans.1)
+}
+
+/// The cell of an array, whose type is that of the expression at its place; the places are those of array and index.
+fn cell(
+    alloc: Global,
+    scope: &Scope<'_>,
+    slots: (u32, u32),
+    spans: (Span, Span),
+) -> Result<Spot, Stop>
+    ensures { MatchResult result (λ spot. spot ≡ spots.Cell slots.0 slots.1 (type_at (shown_scope scope.now) spans.0) spans.1) (λ cause. cause ≡ stop.Memory) }
+{
+    let (array, index) = slots;
+    let ty = type_at(alloc, scope, spans.0)?;
+    Ok(Spot::Cell(array, index, ty, spans.1))
+}
+
+/// A variable as the target of an assignment; slot 0 for what can't be assigned to.
+fn plain_target(scope: &Scope<'_>, expr: &Expr) -> Spot
+    requires { form_of expr.now.kind ≢ form.Selects }
+    ensures { (made : Made) → targeted scope.now expr.now made ≡ Ok (record { made = made; spot = result }) }
+{
+    match &expr.kind {
+        ExprKind::Name(name) => named_spot(scope, meaning_at(scope, name.span)),
+        _ => Spot::Variable(0),
+    }
+}
+
+/// Writes a value into a spot, and answers it.
+fn written(
+    alloc: Global,
+    scope: &Scope<'_>,
+    spot: Spot,
+    value: u32,
+    spans: (Span, Span, Span),
+    made: &mut Made,
+) -> Result<u32, Stop>
+    ensures made { IfOk result (λ at. in_place (with_item made.old (write spot value (type_at (shown_scope scope.now) spans.2) spans.0 spans.1 spans.2)) value ≡ in_place made.new at) }
+    ensures limit { (which : Which) → IsErrOf result (stop.Limit which) → in_place (with_item made.old (write spot value (type_at (shown_scope scope.now) spans.2) spans.0 spans.1 spans.2)) value ≡ Err which }
+{
+    let ty = type_at(alloc, scope, spans.2)?;
+    assign(alloc, spot, value, ty, spans, made)?;
+    Ok(value)
+}
+
+/// Computes with two ints, and writes the result into a spot; the places are those of the assignment and of its target.
+fn computed_into(
+    alloc: Global,
+    spot: Spot,
+    arith: Arith,
+    slots: (u32, u32),
+    spans: (Span, Span),
+    made: &mut Made,
+) -> Result<u32, Stop>
+    ensures made { IfOk result (λ at. (parts.◌>>=◌ (computed made.old (op.Num made.old.free arith slots.0 slots.1) spans.0) (λ t. in_place (with_item t.made (write spot t.slot int_type spans.0 spans.1 spans.0)) t.slot)) ≡ in_place made.new at) }
+    ensures limit { (which : Which) → IsErrOf result (stop.Limit which) → (parts.◌>>=◌ (computed made.old (op.Num made.old.free arith slots.0 slots.1) spans.0) (λ t. in_place (with_item t.made (write spot t.slot int_type spans.0 spans.1 spans.0)) t.slot)) ≡ Err which }
+{
+    let (y, z) = slots;
+    let (whole, target) = spans;
+    let kind = OpKind::Num(made.free, arith, y, z);
+    let t = compute(alloc, made, kind, whole)?;
+    assign(alloc, spot, t, INT, (whole, target, whole), made)?;
+    Ok(t)
+}
+
+/// Adds 1 to a spot, or subtracts it; answers what is read or what is written.
+fn stepped(
+    alloc: Global,
+    spot: Spot,
+    up: bool,
+    after: bool,
+    spans: (Span, Span),
+    made: &mut Made,
+) -> Result<u32, Stop>
+    ensures made { IfOk result (λ at. (parts.◌>>=◌ (read spot spans.1 made.old) (λ y. parts.◌>>=◌ (int_value (pos 1) spans.0 y.made) (λ one. parts.◌>>=◌ (computed one.made (op.Num one.made.free (if up then arith.Add else arith.Sub) y.slot one.slot) spans.0) (λ t. in_place (with_item t.made (write spot t.slot int_type spans.0 spans.1 spans.0)) (if after then y.slot else t.slot))))) ≡ in_place made.new at) }
+    ensures limit { (which : Which) → IsErrOf result (stop.Limit which) → (parts.◌>>=◌ (read spot spans.1 made.old) (λ y. parts.◌>>=◌ (int_value (pos 1) spans.0 y.made) (λ one. parts.◌>>=◌ (computed one.made (op.Num one.made.free (if up then arith.Add else arith.Sub) y.slot one.slot) spans.0) (λ t. in_place (with_item t.made (write spot t.slot int_type spans.0 spans.1 spans.0)) (if after then y.slot else t.slot))))) ≡ Err which }
+{
+    let y = read(alloc, &spot, spans.1, made)?;
+    let one = constant(alloc, made, 1, spans.0)?;
+    let t = computed_into(alloc, spot, step_operator(up), (y, one), spans, made)?;
+    Ok(step_value(after, y, t))
+}
+
+/// A call of a static method.
+fn static_call(
+    alloc: Global,
+    method: u32,
+    args: List<Arg>,
+    class: u32,
+    span: Span,
+    made: &mut Made,
+) -> Result<u32, Stop>
+    ensures made { IfOk result (λ at. spec.calling op.StaticCall method None class span (record { made = made.old; args = args }) ≡ in_place made.new at) }
+    ensures limit { (which : Which) → IsErrOf result (stop.Limit which) → spec.calling op.StaticCall method None class span (record { made = made.old; args = args }) ≡ Err which }
+{
+    let call = call_op(made.free, method, None, args, class, span);
+    compute(alloc, made, OpKind::StaticCall(call), span)
+}
+
+/// A call of a method on an object.
+fn instance_call(
+    alloc: Global,
+    method: u32,
+    object: u32,
+    args: List<Arg>,
+    class: u32,
+    span: Span,
+    made: &mut Made,
+) -> Result<u32, Stop>
+    ensures made { IfOk result (λ at. spec.calling op.InstanceCall method (Some object) class span (record { made = made.old; args = args }) ≡ in_place made.new at) }
+    ensures limit { (which : Which) → IsErrOf result (stop.Limit which) → spec.calling op.InstanceCall method (Some object) class span (record { made = made.old; args = args }) ≡ Err which }
+{
+    let call = call_op(made.free, method, Some(object), args, class, span);
+    compute(alloc, made, OpKind::InstanceCall(call), span)
+}
+
+/// A new object, made by that constructor.
+fn new_object(
+    alloc: Global,
+    method: u32,
+    args: List<Arg>,
+    class: u32,
+    span: Span,
+    made: &mut Made,
+) -> Result<u32, Stop>
+    ensures made { IfOk result (λ at. spec.calling op.NewObject method None class span (record { made = made.old; args = args }) ≡ in_place made.new at) }
+    ensures limit { (which : Which) → IsErrOf result (stop.Limit which) → spec.calling op.NewObject method None class span (record { made = made.old; args = args }) ≡ Err which }
+{
+    let call = call_op(made.free, method, None, args, class, span);
+    compute(alloc, made, OpKind::NewObject(call), span)
+}
+
+/// A new array; the places are those of the whole and of its length.
+fn new_array(
+    alloc: Global,
+    scope: &Scope<'_>,
+    length: u32,
+    spans: (Span, Span),
+    made: &mut Made,
+) -> Result<u32, Stop>
+    ensures made { IfOk result (λ at. computed made.old (op.NewArray made.old.free (type_at (shown_scope scope.now) spans.0) length) spans.1 ≡ in_place made.new at) }
+    ensures limit { (which : Which) → IsErrOf result (stop.Limit which) → computed made.old (op.NewArray made.old.free (type_at (shown_scope scope.now) spans.0) length) spans.1 ≡ Err which }
+{
+    let ty = type_at(alloc, scope, spans.0)?;
+    let kind = OpKind::NewArray(made.free, ty, length);
+    compute(alloc, made, kind, spans.1)
+}
+
+/// An array of that type that holds the values of these initialisers.
+fn array_of(
+    alloc: Global,
+    inits: &[Init],
+    slots: List<u32>,
+    span: Span,
+    ty: &Type_,
+    made: &mut Made,
+) -> Result<u32, Stop>
+    ensures made { IfOk result (λ at. taking made.old (done (op.Fill made.old.free ty.now slots) span (spec.spans (map spec.filling inits.now))) ≡ in_place made.new at) }
+    ensures limit { (which : Which) → IsErrOf result (stop.Limit which) → taking made.old (done (op.Fill made.old.free ty.now slots) span (spec.spans (map spec.filling inits.now))) ≡ Err which }
+{
+    let parts = init_spans(alloc, inits)?;
+    let ty = copied(alloc, ty)?;
+    let kind = OpKind::Fill(made.free, ty, slots);
+    take(made, Item::Do(Op { kind, span, parts }))
+}
+
+fn opposite(alloc: Global, asked: Cond) -> Result<Cond, Stop>
+    ensures { MatchResult result (λ made. made ≡ cond.Opposite asked) (λ cause. cause ≡ stop.Memory) }
+{
+    Ok(Cond::Opposite(Boxed::new(alloc, asked)?))
+}
+
+fn both(alloc: Global, first: Cond, second: Cond) -> Result<Cond, Stop>
+    ensures { MatchResult result (λ made. made ≡ cond.Both first second) (λ cause. cause ≡ stop.Memory) }
+{
+    Ok(Cond::Both(Boxed::new(alloc, first)?, Boxed::new(alloc, second)?))
+}
+
+fn either(alloc: Global, first: Cond, second: Cond) -> Result<Cond, Stop>
+    ensures { MatchResult result (λ made. made ≡ cond.Either first second) (λ cause. cause ≡ stop.Memory) }
+{
+    Ok(Cond::Either(Boxed::new(alloc, first)?, Boxed::new(alloc, second)?))
+}
+
+/// A comparison of slots, which the block computes; the places are those of the sides.
+fn compared(
+    alloc: Global,
+    scope: &Scope<'_>,
+    rel: Rel,
+    slots: (u32, u32),
+    spans: (Span, Span),
+    block: Made,
+) -> Result<Cond, Stop>
+    ensures { MatchResult result (λ made. made ≡ cond.Compare (block_of block) (record { rel = rel; left = slots.0; right = slots.1; ty = type_at (shown_scope scope.now) spans.0; left_span = spans.0; right_span = spans.1 })) (λ cause. cause ≡ stop.Memory) }
+{
+    let (left, right) = slots;
+    let (left_span, right_span) = spans;
+    let ty = type_at(alloc, scope, left_span)?;
+    let test = Test {
+        rel,
+        left,
+        right,
+        ty,
+        left_span,
+        right_span,
+    };
+    Ok(Cond::Compare(Block { items: block.items }, test))
 }
 
 // ---- expressions
@@ -313,9 +546,13 @@ fn selected(alloc: Global, scope: &Scope<'_>, expr: &Expr, made: &mut Made) -> R
         ExprKind::Index(array, index) => {
             let a = value(alloc, scope, array.get(), made)?;
             let i = value(alloc, scope, index.get(), made)?;
-            let ty = type_at(alloc, scope, array.get().span)?;
-            let kind = OpKind::Load(made.free, a, i, ty);
-            compute(alloc, made, kind, index.get().span)
+            loaded(
+                alloc,
+                scope,
+                (a, i),
+                (array.get().span, index.get().span),
+                made,
+            )
         }
         _ => unreachable!(),
     }
@@ -360,20 +597,15 @@ fn assigned(alloc: Global, scope: &Scope<'_>, expr: &Expr, made: &mut Made) -> R
         ExprKind::Assign(None, place, from) => {
             let spot = target(alloc, scope, place.get(), made)?;
             let v = value(alloc, scope, from.get(), made)?;
-            let ty = type_at(alloc, scope, from.get().span)?;
             let spans = (expr.span, place.get().span, from.get().span);
-            assign(alloc, spot, v, ty, spans, made)?;
-            Ok(v)
+            written(alloc, scope, spot, v, spans, made)
         }
         ExprKind::Assign(Some(arith), place, from) => {
             let spot = target(alloc, scope, place.get(), made)?;
             let y = read(alloc, &spot, place.get().span, made)?;
             let z = value(alloc, scope, from.get(), made)?;
-            let kind = OpKind::Num(made.free, *arith, y, z);
-            let t = compute(alloc, made, kind, expr.span)?;
-            let spans = (expr.span, place.get().span, expr.span);
-            assign(alloc, spot, t, INT, spans, made)?;
-            Ok(t)
+            let spans = (expr.span, place.get().span);
+            computed_into(alloc, spot, *arith, (y, z), spans, made)
         }
         ExprKind::Step {
             up,
@@ -381,13 +613,8 @@ fn assigned(alloc: Global, scope: &Scope<'_>, expr: &Expr, made: &mut Made) -> R
             target: place,
         } => {
             let spot = target(alloc, scope, place.get(), made)?;
-            let y = read(alloc, &spot, place.get().span, made)?;
-            let one = constant(alloc, made, 1, expr.span)?;
-            let kind = OpKind::Num(made.free, step_operator(*up), y, one);
-            let t = compute(alloc, made, kind, expr.span)?;
-            let spans = (expr.span, place.get().span, expr.span);
-            assign(alloc, spot, t, INT, spans, made)?;
-            Ok(step_value(*after, y, t))
+            let spans = (expr.span, place.get().span);
+            stepped(alloc, spot, *up, *after, spans, made)
         }
         _ => unreachable!(),
     }
@@ -405,18 +632,11 @@ fn called(alloc: Global, scope: &Scope<'_>, expr: &Expr, made: &mut Made) -> Res
             let head = head_at(&scope.site, method);
             let args = arguments(alloc, scope, args.as_slice(), made)?;
             if head.is_static {
-                let call = call_op(made.free, method, None, args, head.class, name.span);
-                return compute(alloc, made, OpKind::StaticCall(call), name.span);
+                static_call(alloc, method, args, head.class, name.span, made)
+            } else {
+                let class = scope.site.class;
+                instance_call(alloc, method, 0, args, class, name.span, made)
             }
-            let call = call_op(
-                made.free,
-                method,
-                Some(0),
-                args,
-                scope.site.class,
-                name.span,
-            );
-            compute(alloc, made, OpKind::InstanceCall(call), name.span)
         }
         ExprKind::Call(Some(object), name, args) => {
             let method = method_number(meaning_at(scope, name.span));
@@ -424,14 +644,13 @@ fn called(alloc: Global, scope: &Scope<'_>, expr: &Expr, made: &mut Made) -> Res
             if head.is_static {
                 unused(alloc, scope, object.get(), made)?;
                 let args = arguments(alloc, scope, args.as_slice(), made)?;
-                let call = call_op(made.free, method, None, args, head.class, name.span);
-                return compute(alloc, made, OpKind::StaticCall(call), name.span);
+                static_call(alloc, method, args, head.class, name.span, made)
+            } else {
+                let o = value(alloc, scope, object.get(), made)?;
+                let args = arguments(alloc, scope, args.as_slice(), made)?;
+                let class = class_at(scope, object.get().span);
+                instance_call(alloc, method, o, args, class, name.span, made)
             }
-            let o = value(alloc, scope, object.get(), made)?;
-            let args = arguments(alloc, scope, args.as_slice(), made)?;
-            let class = class_at(scope, object.get().span);
-            let call = call_op(made.free, method, Some(o), args, class, name.span);
-            compute(alloc, made, OpKind::InstanceCall(call), name.span)
         }
         _ => unreachable!(),
     }
@@ -449,14 +668,11 @@ fn created(alloc: Global, scope: &Scope<'_>, expr: &Expr, made: &mut Made) -> Re
             let class = class_number(meaning_at(scope, name.span));
             let method = constructor_at(&scope.site, class);
             let args = arguments(alloc, scope, args.as_slice(), made)?;
-            let call = call_op(made.free, method, None, args, class, expr.span);
-            compute(alloc, made, OpKind::NewObject(call), expr.span)
+            new_object(alloc, method, args, class, expr.span, made)
         }
         ExprKind::NewArray(_, size) => {
             let n = value(alloc, scope, size.get(), made)?;
-            let ty = type_at(alloc, scope, expr.span)?;
-            let kind = OpKind::NewArray(made.free, ty, n);
-            compute(alloc, made, kind, size.get().span)
+            new_array(alloc, scope, n, (expr.span, size.get().span), made)
         }
         ExprKind::NewItems(_, items) => {
             let ty = type_at(alloc, scope, expr.span)?;
@@ -521,10 +737,7 @@ fn filled(
 {
     let cell = cell_type(alloc, ty)?;
     let slots = entries(alloc, scope, inits, &cell, made)?;
-    let parts = init_spans(alloc, inits)?;
-    let ty = copied(alloc, ty)?;
-    let kind = OpKind::Fill(made.free, ty, slots);
-    take(made, Item::Do(Op { kind, span, parts }))
+    array_of(alloc, inits, slots, span, ty, made)
 }
 
 /// The value of an initialiser of a variable of that type.
@@ -564,8 +777,25 @@ fn target(alloc: Global, scope: &Scope<'_>, expr: &Expr, made: &mut Made) -> Res
     ensures made { IfOk result (λ spot. targeted scope.now expr.now made.old ≡ Ok (record { made = made.new; spot = spot })) }
     ensures limit { (which : Which) → IsErrOf result (stop.Limit which) → targeted scope.now expr.now made.old ≡ Err which }
 {
+    match form_of(&expr.kind) {
+        Form::Selects => selected_target(alloc, scope, expr, made),
+        _ => Ok(plain_target(scope, expr)),
+    }
+}
+
+/// A field or an element as the target of an assignment.
+#[cycle(lowering)]
+fn selected_target(
+    alloc: Global,
+    scope: &Scope<'_>,
+    expr: &Expr,
+    made: &mut Made,
+) -> Result<Spot, Stop>
+    requires { form_of expr.now.kind ≡ form.Selects }
+    ensures made { IfOk result (λ spot. targeted scope.now expr.now made.old ≡ Ok (record { made = made.new; spot = spot })) }
+    ensures limit { (which : Which) → IsErrOf result (stop.Limit which) → targeted scope.now expr.now made.old ≡ Err which }
+{
     match &expr.kind {
-        ExprKind::Name(name) => Ok(named_spot(scope, meaning_at(scope, name.span))),
         ExprKind::Select(object, name) => {
             let o = value(alloc, scope, object.get(), made)?;
             let field = field_number(meaning_at(scope, name.span));
@@ -574,10 +804,9 @@ fn target(alloc: Global, scope: &Scope<'_>, expr: &Expr, made: &mut Made) -> Res
         ExprKind::Index(array, index) => {
             let a = value(alloc, scope, array.get(), made)?;
             let i = value(alloc, scope, index.get(), made)?;
-            let ty = type_at(alloc, scope, array.get().span)?;
-            Ok(Spot::Cell(a, i, ty, index.get().span))
+            cell(alloc, scope, (a, i), (array.get().span, index.get().span))
         }
-        _ => Ok(Spot::Variable(0)),
+        _ => unreachable!(),
     }
 }
 
@@ -624,33 +853,25 @@ fn asked(alloc: Global, scope: &Scope<'_>, expr: &Expr, free: &mut u32) -> Resul
     match &expr.kind {
         ExprKind::Unary(_, operand) => {
             let first = condition(alloc, scope, operand.get(), free)?;
-            Ok(Cond::Opposite(Boxed::new(alloc, first)?))
+            opposite(alloc, first)
         }
         ExprKind::Binary(BinaryOp::AndAlso, left, right) => {
             let first = condition(alloc, scope, left.get(), free)?;
             let second = condition(alloc, scope, right.get(), free)?;
-            Ok(Cond::Both(Boxed::new(alloc, first)?, Boxed::new(alloc, second)?))
+            both(alloc, first, second)
         }
         ExprKind::Binary(BinaryOp::OrElse, left, right) => {
             let first = condition(alloc, scope, left.get(), free)?;
             let second = condition(alloc, scope, right.get(), free)?;
-            Ok(Cond::Either(Boxed::new(alloc, first)?, Boxed::new(alloc, second)?))
+            either(alloc, first, second)
         }
         ExprKind::Binary(BinaryOp::Compare(rel), left, right) => {
             let mut block = empty(alloc, *free);
             let y = value(alloc, scope, left.get(), &mut block)?;
             let z = value(alloc, scope, right.get(), &mut block)?;
-            let ty = type_at(alloc, scope, left.get().span)?;
             *free = block.free;
-            let test = Test {
-                rel: *rel,
-                left: y,
-                right: z,
-                ty,
-                left_span: left.get().span,
-                right_span: right.get().span,
-            };
-            Ok(Cond::Compare(Block { items: block.items }, test))
+            let spans = (left.get().span, right.get().span);
+            compared(alloc, scope, *rel, (y, z), spans, block)
         }
         _ => unreachable!(),
     }

@@ -32,8 +32,7 @@ pub fn empty(alloc: Global, free: u32) -> Made
 pub fn push(made: &mut Made, item: Item) -> Result<(), AllocError>
     ensures { OnOk result (made.new ≡ spec.with_item made.old item) }
 {
-    made.items.push(item)?;
-    Ok(())
+    made.items.push(item).map_err(AllocError::from)
 }
 
 /// Adds an item whose target is the first free slot, and takes that.
