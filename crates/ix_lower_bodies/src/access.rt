@@ -34,7 +34,11 @@ fn in_expr(expr: &Expr, count: u32) -> u32
             in_expr(value.get(), count)
         }
         ExprKind::Step { target, .. } => in_expr(target.get(), count),
-        _ => count,
+        ExprKind::Int(_) => count,
+        ExprKind::Bool(_) => count,
+        ExprKind::Null => count,
+        ExprKind::This => count,
+        ExprKind::Name(_) => count,
     }
 }
 
@@ -122,7 +126,10 @@ fn in_stmt(stmt: &Stmt, count: u32) -> u32
         StmtKind::Return(value) => in_maybe(value, count),
         StmtKind::Print(value) => in_expr(value, count),
         StmtKind::Run(expr) => in_expr(expr, count),
-        _ => count,
+        StmtKind::Empty => count,
+        StmtKind::Break => count,
+        StmtKind::Continue => count,
+        StmtKind::Throw(_) => count,
     }
 }
 

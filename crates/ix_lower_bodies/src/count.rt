@@ -30,7 +30,14 @@ fn loops_in(stmt: &Stmt, count: u32) -> u32
             let count = loops(first.as_slice(), count);
             loops_in(turn.get(), one_more(count))
         }
-        _ => count,
+        StmtKind::Empty => count,
+        StmtKind::Local(_) => count,
+        StmtKind::Break => count,
+        StmtKind::Continue => count,
+        StmtKind::Return(_) => count,
+        StmtKind::Throw(_) => count,
+        StmtKind::Print(_) => count,
+        StmtKind::Run(_) => count,
     }
 }
 
@@ -81,7 +88,10 @@ fn count_item(item: &Item, count: u32) -> u32
             let count = count_operations(body, count);
             count_operations(next, count)
         }
-        _ => count,
+        Item::Break => count,
+        Item::Continue => count,
+        Item::Return(_, _) => count,
+        Item::Throw(_, _) => count,
     }
 }
 

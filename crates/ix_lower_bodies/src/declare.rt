@@ -77,8 +77,7 @@ pub fn init_span(init: &Init) -> Span
 fn push_local(locals: &mut List<(Local, Span)>, local: Local, span: Span) -> Result<(), AllocError>
     ensures { OnOk result (locals.new ≡ locals.old ++ (local, span) ∷ []) }
 {
-    locals.push((local, span))?;
-    Ok(())
+    locals.push((local, span)).map_err(AllocError::from)
 }
 
 /// A local takes the first free slot.
@@ -107,10 +106,9 @@ fn declare(
         from: name.span.from,
         to: end,
     };
-    push_local(&mut body.locals, local, span)?;
     body.made.free = slot + 1;
     body.most = body.most.max(slot + 1);
-    Ok(())
+    push_local(&mut body.locals, local, span).map_err(Stop::from)
 }
 
 /// Writes the default of the type into a local.
@@ -138,8 +136,8 @@ fn write_default(
         ty,
         spans,
         &mut body.made,
-    )?;
-    Ok(())
+    )
+    .map_err(Stop::from)
 }
 
 /// Writes the value of an initialiser into a local.
@@ -165,8 +163,8 @@ fn write_init(
         ty,
         spans,
         &mut body.made,
-    )?;
-    Ok(())
+    )
+    .map_err(Stop::from)
 }
 
 /// The declaration of a local whose block ends at that place.

@@ -1,5 +1,5 @@
 //! Full expressions, whose temporaries are free again behind them.
-ghost use Rattle.std.specs.Prelude.{◌≡◌, [], Ok, Err, IfOk, OnOk, IsErrOf};
+ghost use Rattle.std.specs.Prelude.{◌≡◌, [], Ok, Err, IfOk, OnOk, IsErrOf, MatchResult};
 ghost use Rattle.ix_meaning.specs.declared.note.Which.{Which};
 ghost use Rattle.ix_plain.specs.declared.made.Stop.TheVariants as stop;
 ghost use Rattle.ix_plain.specs.Assigned.{assigns, init_assigns};
@@ -16,13 +16,8 @@ use ix_tree::{Expr, Init};
 use std::alloc::{AllocError, Global};
 
 /// The slots that the expression assigns.
-fn assigned_by(
-    alloc: Global,
-    site: &Site<'_>,
-    expr: &Expr,
-    body: &Body,
-) -> Result<List<u32>, AllocError>
-    ensures { IfOk result (λ slots. slots ≡ spec.assigned_by (shown_site site.now) body.now (assigns expr.now).inside) }
+fn assigned_by(alloc: Global, site: &Site<'_>, expr: &Expr, body: &Body) -> Result<List<u32>, Stop>
+    ensures { MatchResult result (λ slots. slots ≡ spec.assigned_by (shown_site site.now) body.now (assigns expr.now).inside) (λ cause. cause ≡ stop.Memory) }
 {
     let mut assigned = List::new(alloc);
     let scope = Scope {
@@ -40,8 +35,8 @@ fn assigned_by_init(
     site: &Site<'_>,
     init: &Init,
     body: &Body,
-) -> Result<List<u32>, AllocError>
-    ensures { IfOk result (λ slots. slots ≡ spec.assigned_by (shown_site site.now) body.now (init_assigns init.now)) }
+) -> Result<List<u32>, Stop>
+    ensures { MatchResult result (λ slots. slots ≡ spec.assigned_by (shown_site site.now) body.now (init_assigns init.now)) (λ cause. cause ≡ stop.Memory) }
 {
     let mut assigned = List::new(alloc);
     let scope = Scope {
@@ -192,10 +187,10 @@ pub fn return_answer(
 }
 
 /// Adds an item.
-pub fn push_last(body: &mut Body, item: Item) -> Result<(), AllocError>
-    ensures { OnOk result (body.new ≡ spec.with_last body.old item) }
+pub fn push_last(body: &mut Body, item: Item) -> Result<(), Stop>
+    ensures { MatchResult result (λ _. body.new ≡ spec.with_last body.old item) (λ cause. cause ≡ stop.Memory) }
 {
-    push(&mut body.made, item)
+    push(&mut body.made, item).map_err(Stop::from)
 }
 
 /// A copy of a text.

@@ -96,17 +96,14 @@ fn returned(
     ensures limit { (which : Which) → IsErrOf result (stop.Limit which) → spec.returned value.now span (shown_site site.now) body.old ≡ Err which }
 {
     match value {
-        None => {
-            push_last(body, Item::Return(None, span))?;
-            Ok(())
-        }
+        None => push_last(body, Item::Return(None, span)),
         Some(expr) => {
             if site.answers {
-                return return_answer(alloc, site, expr, body);
+                return_answer(alloc, site, expr, body)
+            } else {
+                let slot = evaluate(alloc, site, expr, body)?;
+                push_last(body, Item::Return(Some(slot), expr.span))
             }
-            let slot = evaluate(alloc, site, expr, body)?;
-            push_last(body, Item::Return(Some(slot), expr.span))?;
-            Ok(())
         }
     }
 }
@@ -116,8 +113,7 @@ fn print(alloc: Global, site: &Site<'_>, value: &Expr, body: &mut Body) -> Resul
     ensures limit { (which : Which) → IsErrOf result (stop.Limit which) → spec.printed value.now (shown_site site.now) body.old ≡ Err which }
 {
     let slot = evaluate(alloc, site, value, body)?;
-    push_last(body, done(alloc, OpKind::Print(slot), value.span))?;
-    Ok(())
+    push_last(body, done(alloc, OpKind::Print(slot), value.span))
 }
 
 fn form_of(kind: &StmtKind) -> Form
@@ -174,22 +170,14 @@ fn plain(alloc: Global, site: &Site<'_>, stmt: &Stmt, end: u32, body: &mut Body)
                 Some(second) => branch(alloc, site, second.get(), body)?,
                 None => no_block(alloc),
             };
-            push_last(body, Item::If(asked, holds, fails))?;
-            Ok(())
+            push_last(body, Item::If(asked, holds, fails))
         }
-        StmtKind::Break => {
-            push_last(body, Item::Break)?;
-            Ok(())
-        }
-        StmtKind::Continue => {
-            push_last(body, Item::Continue)?;
-            Ok(())
-        }
+        StmtKind::Break => push_last(body, Item::Break),
+        StmtKind::Continue => push_last(body, Item::Continue),
         StmtKind::Return(value) => returned(alloc, site, value, stmt.span, body),
         StmtKind::Throw(name) => {
             let text = copied_text(alloc, &name.text)?;
-            push_last(body, Item::Throw(text, stmt.span))?;
-            Ok(())
+            push_last(body, Item::Throw(text, stmt.span))
         }
         StmtKind::Print(value) => print(alloc, site, value, body),
         StmtKind::Run(expr) => run(alloc, site, expr, body),
@@ -225,8 +213,7 @@ fn while_loop(
                 number,
                 scope,
             };
-            push_last(body, item)?;
-            Ok(())
+            push_last(body, item)
         }
         _ => unreachable!(),
     }
@@ -260,8 +247,7 @@ fn do_loop(
                 number,
                 scope,
             };
-            push_last(body, item)?;
-            Ok(())
+            push_last(body, item)
         }
         _ => unreachable!(),
     }
@@ -299,8 +285,7 @@ fn for_loop(
                 number,
                 scope,
             };
-            push_last(body, item)?;
-            Ok(())
+            push_last(body, item)
         }
         _ => unreachable!(),
     }
