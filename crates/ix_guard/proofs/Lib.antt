@@ -1,3 +1,4 @@
 pub mod KeptSources
 pub mod Truncated
 mod Rows
+mod Sums

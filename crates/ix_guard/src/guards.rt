@@ -14,6 +14,20 @@ use ix_table::Table;
 use ix_tree::{Member, Unit};
 use std::alloc::{AllocError, Global};
 
+fn add_member(
+    alloc: Global,
+    site: &Site<'_>,
+    member: &Member,
+    out: &mut Vec<Insertion>,
+) -> Result<(), AllocError>
+    ensures { OnOk result (out.new.items ≡ out.old.items ++ spec.in_member (site_of site.now) member.now) }
+{
+    match member {
+        Member::Field(_) => Ok(()),
+        Member::Method(method) => add_listed(alloc, site, method.body.as_slice(), out),
+    }
+}
+
 fn add_members(
     alloc: Global,
     site: &Site<'_>,
@@ -23,9 +37,7 @@ fn add_members(
     ensures { OnOk result (out.new.items ≡ out.old.items ++ spec.in_members (site_of site.now) members.now) }
 {
     for member in members {
-        if let Member::Method(method) = member {
-            add_listed(alloc, site, method.body.as_slice(), out)?;
-        }
+        add_member(alloc, site, member, out)?;
     }
     Ok(())
 }
