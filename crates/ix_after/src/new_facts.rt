@@ -12,6 +12,14 @@ use ix_finish::{Indexed, push_finished, push_finished_by};
 use ix_rules::{push_copied, push_new_facts};
 use std::alloc::{AllocError, Global};
 
+/// For how many facts of an operation's own rule there is room from the start. It is for speed alone.
+const FEW: usize = 8;
+
+/// Room for the rest of the facts on a target: of each int one that is below it and one that it is below. It is for speed alone.
+fn room<K: Indexed>(know: &K) -> usize {
+    know.int_list().len().saturating_mul(2).saturating_add(8)
+}
+
 /// The new facts of an operation by what is known, where nothing that is known names its target: what its own rule gives, and what follows of that with what
 /// is known. None of calls, accesses to fields, `Store` and `Print`. The only error is want of memory.
 pub fn facts_after<K: Indexed>(
@@ -22,9 +30,9 @@ pub fn facts_after<K: Indexed>(
 ) -> Result<Vec<Fact>, AllocError>
     ensures facts { IfOk result (λ new. AreSame new.items (kept_new (in_orders (K.known know.now)) profile kind.now ++ kept (finished (in_orders (K.known know.now)) (kept_new (in_orders (K.known know.now)) profile kind.now) kind.now))) }
 {
-    let mut new = Vec::new(alloc);
+    let mut new = Vec::with_capacity(alloc, FEW)?;
     push_new_facts(&mut new, know, profile, kind)?;
-    let mut more = Vec::new(alloc);
+    let mut more = Vec::with_capacity(alloc, room(know))?;
     push_finished(&mut more, know, &new, kind)?;
     new.extend_from_slice(&more)?;
     Ok(new)
@@ -41,9 +49,9 @@ pub fn facts_of_copy<K: Indexed>(
 ) -> Result<Vec<Fact>, AllocError>
     ensures facts { IfOk result (λ new. AreSame new.items (kept (copied (in_orders (K.known know.now)) ty.now target.now source.now) ++ kept (finished_by ty.now (in_orders (K.known know.now)) (kept (copied (in_orders (K.known know.now)) ty.now target.now source.now)) target.now))) }
 {
-    let mut new = Vec::new(alloc);
+    let mut new = Vec::with_capacity(alloc, FEW)?;
     push_copied(&mut new, ty, target, source, know.on(source))?;
-    let mut more = Vec::new(alloc);
+    let mut more = Vec::with_capacity(alloc, room(know))?;
     push_finished_by(&mut more, know, &new, ty, target)?;
     new.extend_from_slice(&more)?;
     Ok(new)

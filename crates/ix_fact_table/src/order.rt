@@ -12,16 +12,6 @@ use ix_core::{Fact, Path};
 use ix_fact_paths::{compare_offsets, compare_paths};
 use std::cmp::Ordering;
 
-/// The order of paths. Most are slots: these are compared here, without a call.
-fn path_order(p: &Path, q: &Path) -> Ordering
-    ensures { result ≡ path_cmp p.now q.now }
-{
-    if let (Path::Slot(s), Path::Slot(t)) = (p, q) {
-        return s.cmp(t);
-    }
-    compare_paths(p, q)
-}
-
 /// The path that a fact speaks of first.
 fn first_path(fact: &Fact) -> &Path
     ensures { result.now ≡ spec.first_path fact.now }
@@ -101,7 +91,7 @@ fn compare_thirds(fact: &Fact, other: &Fact) -> Ordering
     ensures { result ≡ offset_cmp (third fact.now) (third other.now) }
 {
     match (fact, other) {
-        (Fact::Sum(_, _, z), Fact::Sum(_, _, w)) => path_order(z, w),
+        (Fact::Sum(_, _, z), Fact::Sum(_, _, w)) => compare_paths(z, w),
         (Fact::Upper(_, _, x, _), Fact::Upper(_, _, y, _)) => compare_offsets(x, y),
         _ => Ordering::Equal,
     }
@@ -112,7 +102,7 @@ fn compare_others(fact: &Fact, other: &Fact) -> Ordering
     requires form { spec.form fact.now ≡ spec.form other.now }
     ensures { result ≡ ordering_then (path_cmp (spec.second_path fact.now) (spec.second_path other.now)) (offset_cmp (third fact.now) (third other.now)) }
 {
-    match path_order(second_path(fact), second_path(other)) {
+    match compare_paths(second_path(fact), second_path(other)) {
         Ordering::Less => Ordering::Less,
         Ordering::Greater => Ordering::Greater,
         Ordering::Equal => compare_thirds(fact, other),
@@ -140,7 +130,7 @@ fn compare_rest(fact: &Fact, other: &Fact) -> Ordering
 fn compare_own(fact: &Fact, other: &Fact) -> Ordering
     ensures { result ≡ kind_cmp fact.now other.now }
 {
-    match path_order(first_path(fact), first_path(other)) {
+    match compare_paths(first_path(fact), first_path(other)) {
         Ordering::Less => Ordering::Less,
         Ordering::Greater => Ordering::Greater,
         Ordering::Equal => compare_rest(fact, other),

@@ -14,7 +14,12 @@ use ix_facts::Kind;
 use std::alloc::{AllocError, Global};
 
 /// Up to how many facts each is put in its place, which takes less time than to merge halves.
-const FEW: usize = 64;
+const FEW: usize = 256;
+
+/// Whether facts of any kind are asked for, so that they need no list of their own. It is for speed alone.
+fn is_any(kind: Kind) -> bool {
+    matches!(kind, Kind::Any)
+}
 
 /// What stands at the front as a table keeps it is kept, where it is at least half of the list, and the others are merged into it; of another list the halves
 /// are made into tables, and these are merged. So where most facts stand in order the time is near linear.
@@ -55,6 +60,10 @@ pub(crate) fn sorted(alloc: Global, kind: Kind, facts: &[Fact]) -> Result<Vec<Fa
     if rest.len() <= FEW {
         let few = inserted(alloc, kind, rest)?;
         return Ok(few);
+    }
+    if is_any(kind) {
+        let all = sorted_many(alloc, kind, rest)?;
+        return Ok(all);
     }
     let own = of_one_kind(alloc, kind, rest)?;
     let many = sorted_many(alloc, kind, &own)?;

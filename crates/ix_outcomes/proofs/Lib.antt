@@ -2,6 +2,7 @@ mod PathsRead
 mod OverAll
 mod ReadFacts
 mod KeptParts
+mod OwnAmong
 mod NewLengths
 pub mod OutcomeIs
 mod SixParts

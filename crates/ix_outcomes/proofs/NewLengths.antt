@@ -25,28 +25,28 @@ use Rattle.ix_outcomes.proofs.OverAll.{ranges_are}
 
 -- ---- the best of two lists
 
-max_apart : (x y z : ℤ) → int_max (int_max x y) z ≡ int_max x (int_max y z)
+pub max_apart : (x y z : ℤ) → int_max (int_max x y) z ≡ int_max x (int_max y z)
 max_apart x y z = omega (arith, ints, clamps)
 
-min_apart : (x y z : ℤ) → int_min (int_min x y) z ≡ int_min x (int_min y z)
+pub min_apart : (x y z : ℤ) → int_min (int_min x y) z ≡ int_min x (int_min y z)
 min_apart x y z = omega (arith, ints, clamps)
 
-abbrev Associates : (ℤ → ℤ → ℤ) → Type 0
+abbrev pub Associates : (ℤ → ℤ → ℤ) → Type 0
 Associates better = (x y z : ℤ) → better (better x y) z ≡ better x (better y z)
 
-best_apart : (better : ℤ → ℤ → ℤ) → Associates better → (x y z : Option ℤ) → best better (best better x y) z ≡ best better x (best better y z)
+pub best_apart : (better : ℤ → ℤ → ℤ) → Associates better → (x y z : Option ℤ) → best better (best better x y) z ≡ best better x (best better y z)
 best_apart better h None y z = refl
 best_apart better h (Some x) None z = refl
 best_apart better h (Some x) (Some y) None = refl
 best_apart better h (Some x) (Some y) (Some z) = ap Some (h x y z)
 
-best_joined : (better : ℤ → ℤ → ℤ) → Associates better → (by : Fact → Option ℤ) (xs ys : List Fact) → best_of better by (xs ++ ys) ≡ best better (best_of better by xs) (best_of better by ys)
+pub best_joined : (better : ℤ → ℤ → ℤ) → Associates better → (by : Fact → Option ℤ) (xs ys : List Fact) → best_of better by (xs ++ ys) ≡ best better (best_of better by xs) (best_of better by ys)
 best_joined better h by [] ys = refl
 best_joined better h by (x ∷ xs) ys = ap (best better (by x)) (best_joined better h by xs ys) ∙ sym (best_apart better h (by x) (best_of better by xs) (best_of better by ys))
 
 -- ---- the ends of ranges among facts whose constants are kept
 
-kept_low : (x : Path) (facts : List Fact) → greatest (own_low_by x) (kept facts) ≡ greatest (own_low_by x) facts
+pub kept_low : (x : Path) (facts : List Fact) → greatest (own_low_by x) (kept facts) ≡ greatest (own_low_by x) facts
 kept_low x [] = refl
 kept_low x (Less r s c ∷ facts) = by_test (int_lt greatest_int c) (λ n. rw n (kept_low x facts)) (λ n. rw n (kept_low x facts))
 kept_low x (Upper r a o c ∷ facts) = by_test (int_lt c least_int) (λ n. rw n (kept_low x facts)) (λ n. rw n (kept_low x facts))
@@ -59,7 +59,7 @@ kept_low x (Sum t y z ∷ facts) = kept_low x facts
 kept_low x (Search r a ∷ facts) = kept_low x facts
 kept_low x (Neg r a ∷ facts) = kept_low x facts
 
-kept_high : (x : Path) (facts : List Fact) → least (range_high_by x) (kept facts) ≡ least (range_high_by x) facts
+pub kept_high : (x : Path) (facts : List Fact) → least (range_high_by x) (kept facts) ≡ least (range_high_by x) facts
 kept_high x [] = refl
 kept_high x (Less r s c ∷ facts) = by_test (int_lt greatest_int c) (λ n. rw n (kept_high x facts)) (λ n. rw n (kept_high x facts))
 kept_high x (Upper r a o c ∷ facts) = by_test (int_lt c least_int) (λ n. rw n (kept_high x facts)) (λ n. rw n (kept_high x facts))

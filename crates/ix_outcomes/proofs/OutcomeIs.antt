@@ -1,5 +1,5 @@
 -- What an outcome gives over the facts on each path is what the rules give of it.
-use Rattle.std.specs.Prelude.{◌≡◌, ◌⊎◌, Bool, true, false, ℤ, pos, int_le, List, [], ◌∷◌, ◌++◌, refl}
+use Rattle.std.specs.Prelude.{◌≡◌, ◌⊎◌, Bool, true, false, ℤ, pos, int_le, List, [], ◌∷◌, ◌++◌, filter, refl}
 use Rattle.std.proofs.Common.{ap, sym, ◌∙◌}
 use Rattle.ix_core.specs.declared.fact.Path.{Path}
 use Rattle.ix_core.specs.declared.fact.Fact.{Fact}
@@ -21,6 +21,8 @@ use Rattle.ix_outcomes.specs.OverGroups as over
 use Rattle.ix_outcomes.proofs.PathsRead.{reads_passed}
 use Rattle.ix_outcomes.proofs.OverAll.{ranges_are, differences_are, bounds_are, parts_are}
 use Rattle.ix_outcomes.proofs.KeptParts.{parts_kept}
+use Rattle.ix_outcomes.proofs.OwnAmong.{ordered_same}
+use Rattle.ix_outcomes.proofs.ReadFacts.{read_all}
 use Rattle.ix_outcomes.proofs.NewLengths.{length_part, length_is, lengths_same, merged_there, merged_back}
 
 -- ---- equal ints
@@ -90,8 +92,8 @@ module _ (facts : List Fact) (on : Path → List Fact) (named : (p : Path) → H
       ∙ ap (λ l. kept (rule.difference_part facts p q k) ++ l) (kept_joined (rule.bound_part facts p q k) _
       ∙ ap (λ l. kept (rule.bound_part facts p q k) ++ l) (kept_joined (rule.length_part facts p q k) (rule.sum_part facts p q k))))
 
-  below_same : (p q : Path) (k : ℤ) → AreSame (over.below_facts facts on p q k) (kept (rule.below_facts facts p q k))
-  below_same p q k =
+  read_same : (p q : Path) (k : ℤ) → AreSame (over.read_facts facts (on p) (on q) p q k) (kept (rule.below_facts facts p q k))
+  read_same p q k =
       same_trans _ _ _
       (same_app _ _ _ _ (same_equal _ _ (ap kept (ranges_are facts on named p q k)))
       (same_app _ _ _ _ (same_equal _ _ (ap kept (differences_are facts on named p q k)))
@@ -99,6 +101,12 @@ module _ (facts : List Fact) (on : Path → List Fact) (named : (p : Path) → H
       (same_trans _ _ _ (same_equal _ _ (sym (append_assoc (kept (length_part facts on p q k p)) (kept (length_part facts on p q k q)) _)))
       (same_app _ _ _ _ (lengths_are p q k) (same_equal _ _ (parts_all p q k)))))))
       (same_equal _ _ (sym (below_kept p q k)))
+
+  below_same : (p q : Path) (k : ℤ) → AreSame (over.below_facts facts on p q k) (kept (rule.below_facts facts p q k))
+  below_same p q k =
+      same_trans _ _ _
+      (ordered_same facts (filter (over.is_read_below p) (on p)) (filter (over.is_read_above q) (on q)) p q k)
+      (same_trans _ _ _ (same_equal _ _ (read_all facts (on p) (on q) p q k)) (read_same p q k))
 
   equal_same : (y z : Path) → AreSame (kept (each (over.passed_by y z) (on y)) ++ kept (each (over.passed_by z y) (on z))) (kept (each (rule.shared_by y z) facts))
   equal_same y z =

@@ -238,11 +238,7 @@ module _ (facts on_p on_q : List Fact) (p q : Path) (k : ℤ) where
   abbrev parts : List Fact → List Fact → List Fact
   parts l m = kept (each (over.parts_by p l) (bounds l m))
 
-  read_all : over.read_facts facts (filter (over.is_read_below p) on_p) (filter (over.is_read_above q) on_q) p q k ≡ over.read_facts facts on_p on_q p q k
+  pub read_all : over.read_facts facts (filter (over.is_read_below p) on_p) (filter (over.is_read_above q) on_q) p q k ≡ over.read_facts facts on_p on_q p q k
   read_all =
       six_equal (ranges below above) (differences below above) (bounds below above) (lengths below above below p) (lengths below above above q) (parts below above) (ranges on_p on_q) (differences on_p on_q) (bounds on_p on_q) (lengths on_p on_q on_p p)
       (lengths on_p on_q on_q q) (parts on_p on_q) (ap kept ranges_read) (ap kept differences_read) (ap kept bounds_read) (ap kept lengths_of_p) (ap kept lengths_of_q) (ap kept parts_read)
-
-pub read_is : (facts l m on_p on_q : List Fact) (p q : Path) (k : ℤ) → l ≡ filter (over.is_read_below p) on_p → m ≡ filter (over.is_read_above q) on_q → over.read_facts facts l m p q k ≡ over.read_facts facts on_p on_q p q k
-read_is facts l m on_p on_q p q k h i =
-    ap (λ n. over.read_facts facts n m p q k) h ∙ (ap (λ n. over.read_facts facts (filter (over.is_read_below p) on_p) n p q k) i ∙ read_all facts on_p on_q p q k)

@@ -1,5 +1,6 @@
 -- What `p < q + k` and equal ints give, with the facts on each path as lists of their own: the facts that name a path give what all facts give.
-use Rattle.std.specs.Prelude.{Bool, false, not, ℤ, pos, int_le, ◌+ℤ◌, ◌-ℤ◌, List, [], ◌∷◌, ◌++◌}
+use Rattle.std.specs.Prelude.{Bool, false, not, cond, ℤ, pos, int_le, ◌+ℤ◌, ◌-ℤ◌, List, [], ◌∷◌, ◌++◌, filter}
+use Rattle.std.specs.Ordering.{is_gt}
 use Rattle.ix_facts.specs.Ints.{least_int, greatest_int}
 use Rattle.ix_core.specs.declared.fact.Path.{Path}
 use Rattle.ix_core.specs.declared.fact.PathOff.TheVariants.{Nothing, Plus}
@@ -9,7 +10,8 @@ use Rattle.ix_facts.specs.Bounds
 use Rattle.ix_facts.specs.Bounds.{is_path, at_least, at_most, greatest, least, own_low_by, range_high_by}
 use Rattle.ix_facts.specs.Closure.{kept}
 use Rattle.ix_facts.specs.Exact.{if_so, each}
-use Rattle.ix_facts.specs.AfterTest.{Outcome, Below, Apart, Equal, OneArray, at_below, at_above, bound_moved}
+use Rattle.ix_facts.specs.PathOrder.{path_cmp}
+use Rattle.ix_facts.specs.AfterTest.{Outcome, Below, Apart, Equal, OneArray, at_below, below_by, at_above, above_by, bound_moved}
 use Rattle.ix_outcomes.specs.declared.outcome.Outcome.{Outcome as Told}
 use Rattle.ix_outcomes.specs.declared.outcome.Outcome.TheVariants as told
 
@@ -77,13 +79,57 @@ module _ (on_p on_q : List Fact) (p q : Path) (k : ℤ) where
   abbrev pub bound_part : List Fact
   bound_part = at_below (λ r c. each (bound_moved r (c +ℤ k -ℤ pos 2) q) on_q) on_p p
 
--- by the facts on p and on q
+-- ---- ranges and differences in the order of paths, as a table keeps them
+
+-- a fact among others: before the first that passes a test, and behind all where none does
+abbrev pub put_before : (Fact → Bool) → Fact → List Fact → List Fact
+put_before test own [] = own ∷ []
+put_before test own (fact ∷ facts) = cond (test fact) (own ∷ fact ∷ facts) (fact ∷ put_before test own facts)
+
+-- a difference of a path behind p
+abbrev pub is_of_greater : Path → Fact → Bool
+is_of_greater p (Less r x c) = is_gt (path_cmp r p)
+is_of_greater p _ = false
+
+-- a difference to a path behind q
+abbrev pub is_to_greater : Path → Fact → Bool
+is_to_greater q (Less x s d) = is_gt (path_cmp s q)
+is_to_greater q _ = false
+
+-- p is below p + 1: among the differences below it
+abbrev pub with_own_below : Path → List Fact → List Fact
+with_own_below p on_p = put_before (is_of_greater p) (Less p p (pos 1)) on_p
+
+-- q is below q + 1: among the differences above it
+abbrev pub with_own_above : Path → List Fact → List Fact
+with_own_above q on_q = put_before (is_to_greater q) (Less q q (pos 1)) on_q
+
+module _ (below above : List Fact) (p q : Path) (k : ℤ) where
+  -- of each path below p in turn, p being one, what it is at most, and of each path above q, q being one, what it is at least
+  abbrev pub ranges_in_turn : List Fact → List Fact
+  ranges_in_turn facts = each (below_by (range_to (Bounds.upper_limit facts q) k) p) below ++ each (above_by (range_from (Bounds.lower_bound facts p) k) q) above
+
+  -- of each path below p in turn, p being one, what is below each path above q, q being one
+  abbrev pub differences_in_turn : List Fact
+  differences_in_turn = each (below_by (λ r c. each (above_by (between k r c) q) above) p) below
+
+-- ---- by the facts on p and on q
+
 abbrev pub read_facts : List Fact → List Fact → List Fact → Path → Path → ℤ → List Fact
 read_facts facts on_p on_q p q k =
     kept (range_part facts on_p on_q p q k) ++ (kept (difference_part on_p on_q p q k) ++ (kept (bound_part on_p on_q p q k) ++ (kept (length_by on_p (kept (range_part facts on_p on_q p q k)) p) ++ (kept (length_by on_q (kept (range_part facts on_p on_q p q k)) q) ++ kept (each (parts_by p on_p) (kept (bound_part on_p on_q p q k)))))))
 
+-- the same with ranges and differences in the order of paths
+module _ (facts on_p on_q : List Fact) (p q : Path) (k : ℤ) where
+  abbrev pub ordered_ranges : List Fact
+  ordered_ranges = kept (ranges_in_turn (with_own_below p on_p) (with_own_above q on_q) p q k facts)
+
+  abbrev pub ordered_facts : List Fact
+  ordered_facts =
+      ordered_ranges ++ (kept (differences_in_turn (with_own_below p on_p) (with_own_above q on_q) p q k) ++ (kept (bound_part on_p on_q p q k) ++ (kept (length_by on_p ordered_ranges p) ++ (kept (length_by on_q ordered_ranges q) ++ kept (each (parts_by p on_p) (kept (bound_part on_p on_q p q k)))))))
+
 abbrev pub below_facts : List Fact → (Path → List Fact) → Path → Path → ℤ → List Fact
-below_facts facts on p q k = read_facts facts (on p) (on q) p q k
+below_facts facts on p q k = ordered_facts facts (filter (is_read_below p) (on p)) (filter (is_read_above q) (on q)) p q k
 
 abbrev pub outcome_facts : List Fact → (Path → List Fact) → Outcome → List Fact
 outcome_facts facts on (Below p q k) = below_facts facts on p q k

@@ -4,12 +4,14 @@ ghost use Rattle.std.specs.Prelude.{◌≡◌, ◌++◌, filter, IfOk, OnOk};
 ghost use Rattle.ix_facts.specs.Bounds as spec;
 ghost use Rattle.ix_facts.specs.Closure.{kept};
 ghost use Rattle.ix_facts.specs.Facts.{in_orders};
-ghost use Rattle.ix_facts.specs.AfterTest.{at_below, at_above};
+ghost use Rattle.ix_facts.specs.Exact.{each};
+ghost use Rattle.ix_facts.specs.AfterTest.{below_by, above_by};
 ghost use Rattle.ix_outcomes.specs.OverGroups as over;
 
 use crate::bounds::push_bounds;
 use crate::differences::push_differences;
 use crate::lengths::push_lengths;
+use crate::own::{with_own_above, with_own_below};
 use crate::parts::push_parts;
 use crate::ranges::{push_ranges_from, push_ranges_to};
 use crate::read::{read_above, read_below};
@@ -21,13 +23,13 @@ fn push_low_side<K: Indexed>(
     out: &mut Vec<Fact>,
     know: &K,
     p: &Path,
-    on_p: &[Fact],
+    below: &[Fact],
     q: &Path,
     k: &i32,
 ) -> Result<(), AllocError>
-    ensures { OnOk result (out.new.items ≡ out.old.items ++ kept (at_below (over.range_to (spec.upper_limit (in_orders (K.known know.now)) q.now) k.now) on_p.now p.now)) }
+    ensures { OnOk result (out.new.items ≡ out.old.items ++ kept (each (below_by (over.range_to (spec.upper_limit (in_orders (K.known know.now)) q.now) k.now) p.now) below.now)) }
 {
-    push_ranges_to(out, &know.hi(q), k, p, on_p)
+    push_ranges_to(out, &know.hi(q), k, p, below)
 }
 
 fn push_high_side<K: Indexed>(
@@ -35,28 +37,28 @@ fn push_high_side<K: Indexed>(
     know: &K,
     p: &Path,
     q: &Path,
-    on_q: &[Fact],
+    above: &[Fact],
     k: &i32,
 ) -> Result<(), AllocError>
-    ensures { OnOk result (out.new.items ≡ out.old.items ++ kept (at_above (over.range_from (spec.lower_bound (in_orders (K.known know.now)) p.now) k.now) on_q.now q.now)) }
+    ensures { OnOk result (out.new.items ≡ out.old.items ++ kept (each (above_by (over.range_from (spec.lower_bound (in_orders (K.known know.now)) p.now) k.now) q.now) above.now)) }
 {
-    push_ranges_from(out, &know.lo(p), k, q, on_q)
+    push_ranges_from(out, &know.lo(p), k, q, above)
 }
 
 fn new_ranges<K: Indexed>(
     alloc: Global,
     know: &K,
     p: &Path,
-    on_p: &[Fact],
+    below: &[Fact],
     q: &Path,
-    on_q: &[Fact],
+    above: &[Fact],
     k: &i32,
 ) -> Result<Vec<Fact>, AllocError>
-    ensures { IfOk result (λ ranges. ranges.items ≡ kept (over.range_part (in_orders (K.known know.now)) on_p.now on_q.now p.now q.now k.now)) }
+    ensures { IfOk result (λ ranges. ranges.items ≡ kept (over.ranges_in_turn below.now above.now p.now q.now k.now (in_orders (K.known know.now)))) }
 {
-    let mut ranges = Vec::new(alloc);
-    push_low_side(&mut ranges, know, p, on_p, q, k)?;
-    push_high_side(&mut ranges, know, p, q, on_q, k)?;
+    let mut ranges = Vec::with_capacity(alloc, below.len().saturating_add(above.len()))?;
+    push_low_side(&mut ranges, know, p, below, q, k)?;
+    push_high_side(&mut ranges, know, p, q, above, k)?;
     Ok(ranges)
 }
 
@@ -106,12 +108,14 @@ fn push_read<K: Indexed>(
     on_q: &[Fact],
     k: &i32,
 ) -> Result<(), AllocError>
-    ensures { OnOk result (out.new.items ≡ out.old.items ++ over.read_facts (in_orders (K.known know.now)) on_p.now on_q.now p.now q.now k.now) }
+    ensures { OnOk result (out.new.items ≡ out.old.items ++ over.ordered_facts (in_orders (K.known know.now)) on_p.now on_q.now p.now q.now k.now) }
 {
-    let ranges = new_ranges(alloc, know, p, on_p, q, on_q, k)?;
+    let below = with_own_below(alloc, p, on_p)?;
+    let above = with_own_above(alloc, q, on_q)?;
+    let ranges = new_ranges(alloc, know, p, &below, q, &above, k)?;
     let bounds = new_bounds(alloc, p, on_p, q, on_q, k)?;
     push_all(out, &ranges)?;
-    push_differences(out, k, p, on_p, q, on_q)?;
+    push_differences(out, k, p, &below, q, &above)?;
     push_all(out, &bounds)?;
     push_lengths(out, p, on_p, &ranges)?;
     push_lengths(out, q, on_q, &ranges)?;

@@ -2,9 +2,9 @@
 
 ghost use Rattle.std.specs.Prelude.{◌≡◌, ◌++◌, pos, ◌+ℤ◌, ◌-ℤ◌, OnOk};
 ghost use Rattle.ix_facts.specs.Closure.{kept};
-ghost use Rattle.ix_facts.specs.Exact.{if_so};
-ghost use Rattle.ix_facts.specs.AfterTest.{at_below, below_by, at_above, above_by};
-ghost use Rattle.ix_outcomes.specs.OverGroups.{between};
+ghost use Rattle.ix_facts.specs.Exact.{if_so, each};
+ghost use Rattle.ix_facts.specs.AfterTest.{below_by, above_by};
+ghost use Rattle.ix_outcomes.specs.OverGroups.{between, differences_in_turn};
 
 use ix_core::{Fact, Path};
 use ix_exact::push_less_if;
@@ -65,19 +65,18 @@ fn push_between_by(
     }
 }
 
-/// r is below q and what q is stored to be below.
+/// r is below what q is below.
 fn push_from(
     out: &mut Vec<Fact>,
     k: &i32,
     q: &Path,
-    on_q: &[Fact],
+    above: &[Fact],
     r: &Path,
     c: &i32,
 ) -> Result<(), AllocError>
-    ensures { OnOk result (out.new.items ≡ out.old.items ++ kept (at_above (between k.now r.now c.now) on_q.now q.now)) }
+    ensures { OnOk result (out.new.items ≡ out.old.items ++ kept (each (above_by (between k.now r.now c.now) q.now) above.now)) }
 {
-    push_between(out, k, r, c, q, &1)?;
-    for fact in on_q {
+    for fact in above {
         push_between_by(out, k, q, r, c, fact)?;
     }
     Ok(())
@@ -88,14 +87,14 @@ fn push_from_if(
     test: bool,
     k: &i32,
     q: &Path,
-    on_q: &[Fact],
+    above: &[Fact],
     r: &Path,
     c: &i32,
 ) -> Result<(), AllocError>
-    ensures { OnOk result (out.new.items ≡ out.old.items ++ kept (if_so test (at_above (between k.now r.now c.now) on_q.now q.now))) }
+    ensures { OnOk result (out.new.items ≡ out.old.items ++ kept (if_so test (each (above_by (between k.now r.now c.now) q.now) above.now))) }
 {
     if test {
-        push_from(out, k, q, on_q, r, c)
+        push_from(out, k, q, above, r, c)
     } else {
         Ok(())
     }
@@ -106,31 +105,39 @@ fn push_from_by(
     k: &i32,
     p: &Path,
     q: &Path,
-    on_q: &[Fact],
+    above: &[Fact],
     fact: &Fact,
 ) -> Result<(), AllocError>
-    ensures { OnOk result (out.new.items ≡ out.old.items ++ kept (below_by (λ r c. at_above (between k.now r c) on_q.now q.now) p.now fact.now)) }
+    ensures { OnOk result (out.new.items ≡ out.old.items ++ kept (below_by (λ r c. each (above_by (between k.now r c) q.now) above.now) p.now fact.now)) }
 {
     match fact {
-        Fact::Less(r, x, c) => push_from_if(out, is_same_path(x, p), k, q, on_q, r, c),
+        Fact::Less(r, x, c) => push_from_if(out, is_same_path(x, p), k, q, above, r, c),
         _ => Ok(()),
     }
 }
 
-/// p and what is stored to be below it are below q and what q is stored to be below.
+/// For how many differences room is asked at once, at most.
+const MANY: usize = 4096;
+
+/// Room for the differences of each path below p and each above q. It is for speed alone.
+fn room(below: &[Fact], above: &[Fact]) -> usize {
+    below.len().saturating_mul(above.len()).min(MANY)
+}
+
+/// What is below p is below what q is below, p and q being among these: in the order of paths, where they are.
 pub(crate) fn push_differences(
     out: &mut Vec<Fact>,
     k: &i32,
     p: &Path,
-    on_p: &[Fact],
+    below: &[Fact],
     q: &Path,
-    on_q: &[Fact],
+    above: &[Fact],
 ) -> Result<(), AllocError>
-    ensures { OnOk result (out.new.items ≡ out.old.items ++ kept (at_below (λ r c. at_above (between k.now r c) on_q.now q.now) on_p.now p.now)) }
+    ensures { OnOk result (out.new.items ≡ out.old.items ++ kept (differences_in_turn below.now above.now p.now q.now k.now)) }
 {
-    push_from(out, k, q, on_q, p, &1)?;
-    for fact in on_p {
-        push_from_by(out, k, p, q, on_q, fact)?;
+    out.reserve(room(below, above))?;
+    for fact in below {
+        push_from_by(out, k, p, q, above, fact)?;
     }
     Ok(())
 }

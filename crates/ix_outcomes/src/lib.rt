@@ -12,6 +12,7 @@ mod differences;
 mod facts;
 mod lengths;
 mod outcome;
+mod own;
 mod parts;
 mod ranges;
 mod read;

@@ -3,10 +3,10 @@
 ghost use Rattle.std.specs.Prelude.{◌≡◌, ◌++◌, ◌∷◌, [], pos, ◌+ℤ◌, ◌-ℤ◌, OnOk};
 ghost use Rattle.ix_core.specs.declared.fact.Fact.TheVariants.{Rng};
 ghost use Rattle.ix_facts.specs.Closure.{kept};
-ghost use Rattle.ix_facts.specs.Exact.{if_so};
+ghost use Rattle.ix_facts.specs.Exact.{if_so, each};
 ghost use Rattle.ix_facts.specs.Bounds.{is_path};
 ghost use Rattle.ix_facts.specs.Small.{IsLimit, IsBound};
-ghost use Rattle.ix_facts.specs.AfterTest.{at_below, below_by, at_above, above_by};
+ghost use Rattle.ix_facts.specs.AfterTest.{below_by, above_by};
 ghost use Rattle.ix_outcomes.specs.OverGroups.{range_to, range_from};
 
 use ix_core::{Fact, Path};
@@ -91,19 +91,18 @@ fn push_range_to_by(
     }
 }
 
-/// Of p and what is stored to be below it, what it is at most.
+/// Of what is below p, p being one of these, what it is at most.
 pub(crate) fn push_ranges_to(
     out: &mut Vec<Fact>,
     limit: &i64,
     k: &i32,
     p: &Path,
-    on_p: &[Fact],
+    below: &[Fact],
 ) -> Result<(), AllocError>
     requires limit { IsBound limit.now }
-    ensures { OnOk result (out.new.items ≡ out.old.items ++ kept (at_below (range_to limit.now k.now) on_p.now p.now)) }
+    ensures { OnOk result (out.new.items ≡ out.old.items ++ kept (each (below_by (range_to limit.now k.now) p.now) below.now)) }
 {
-    push_range_to(out, limit, k, p, &1)?;
-    for fact in on_p {
+    for fact in below {
         push_range_to_by(out, limit, k, p, fact)?;
     }
     Ok(())
@@ -156,19 +155,18 @@ fn push_range_from_by(
     }
 }
 
-/// Of q and what it is stored to be below, what it is at least.
+/// Of what q is below, q being one of these, what it is at least.
 pub(crate) fn push_ranges_from(
     out: &mut Vec<Fact>,
     bound: &i64,
     k: &i32,
     q: &Path,
-    on_q: &[Fact],
+    above: &[Fact],
 ) -> Result<(), AllocError>
     requires bound { IsBound bound.now }
-    ensures { OnOk result (out.new.items ≡ out.old.items ++ kept (at_above (range_from bound.now k.now) on_q.now q.now)) }
+    ensures { OnOk result (out.new.items ≡ out.old.items ++ kept (each (above_by (range_from bound.now k.now) q.now) above.now)) }
 {
-    push_range_from(out, bound, k, q, &1)?;
-    for fact in on_q {
+    for fact in above {
         push_range_from_by(out, bound, k, q, fact)?;
     }
     Ok(())

@@ -32,11 +32,14 @@ fn is_read_above(q: &Path, fact: &Fact) -> bool
     }
 }
 
+/// For how many facts there is room from the start. It is for speed alone.
+const ROOM: usize = 16;
+
 /// Those on p.
 pub(crate) fn read_below(alloc: Global, p: &Path, on_p: &[Fact]) -> Result<Vec<Fact>, AllocError>
     ensures { IfOk result (λ read. read.items ≡ filter (over.is_read_below p.now) on_p.now) }
 {
-    let mut read = Vec::new(alloc);
+    let mut read = Vec::with_capacity(alloc, ROOM)?;
     for fact in on_p {
         if is_read_below(p, fact) {
             read.push(*fact)?;
@@ -49,7 +52,7 @@ pub(crate) fn read_below(alloc: Global, p: &Path, on_p: &[Fact]) -> Result<Vec<F
 pub(crate) fn read_above(alloc: Global, q: &Path, on_q: &[Fact]) -> Result<Vec<Fact>, AllocError>
     ensures { IfOk result (λ read. read.items ≡ filter (over.is_read_above q.now) on_q.now) }
 {
-    let mut read = Vec::new(alloc);
+    let mut read = Vec::with_capacity(alloc, ROOM)?;
     for fact in on_q {
         if is_read_above(q, fact) {
             read.push(*fact)?;

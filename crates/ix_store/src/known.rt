@@ -16,7 +16,7 @@ use ix_closure::{FactTable, Row};
 use ix_core::Path;
 
 /// Up to how many facts are few: to go over them costs less than an index of them.
-pub(crate) const FEW: usize = 32;
+pub(crate) const FEW: usize = 16;
 
 /// Closed facts of which no range is empty: a table of facts of any kind, with lists beside it that take no index of paths.
 #[derive(Drop)]

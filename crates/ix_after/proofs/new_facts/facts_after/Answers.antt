@@ -18,10 +18,10 @@ returns g c =
     let new = c.push_new_facts.new.out.items in
     let more = c.push_finished.new.out.items in
     let e : new ≡ kept (parts.new_facts facts on arrays c.args.profile c.args.kind.now) =
-    c.in_ok-push_new_facts.ensures.facts ∙ ap (λ l. l ++ kept (parts.new_facts facts on arrays c.args.profile c.args.kind.now)) c.new-new.ensures.items in
+    c.in_ok-push_new_facts.ensures.facts ∙ ap (λ l. l ++ kept (parts.new_facts facts on arrays c.args.profile c.args.kind.now)) c.in_ok-new.ensures.items in
     let d : more ≡ kept (over.finished facts on ints arrays new c.args.kind.now) =
     c.in_ok-push_finished.ensures
-    ∙ (ap (λ l. l ++ kept (over.finished facts on ints arrays c.deref.result.now c.args.kind.now)) c.new-more.ensures.items
+    ∙ (ap (λ l. l ++ kept (over.finished facts on ints arrays c.deref.result.now c.args.kind.now)) c.in_ok-more.ensures.items
     ∙ ap (λ l. kept (over.finished facts on ints arrays l c.args.kind.now)) c.deref.ensures.value) in
     let both : c.extend_from_slice.new.self.items ≡ new ++ more = c.in_ok-extend_from_slice.ensures.items ∙ ap (λ l. new ++ l) c.deref-2.ensures.value in
     record {

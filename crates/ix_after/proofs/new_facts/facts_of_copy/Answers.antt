@@ -21,10 +21,10 @@ returns g c =
     let new = c.push_copied.new.out.items in
     let more = c.push_finished_by.new.out.items in
     let e : new ≡ kept (copied (on s) ty t s) =
-    c.in_ok-push_copied.ensures ∙ (ap (λ l. l ++ kept (copied c.on.result.now ty t s)) c.new-new.ensures.items ∙ ap (λ l. kept (copied l ty t s)) c.on.ensures.facts) in
+    c.in_ok-push_copied.ensures ∙ (ap (λ l. l ++ kept (copied c.on.result.now ty t s)) c.in_ok-new.ensures.items ∙ ap (λ l. kept (copied l ty t s)) c.on.ensures.facts) in
     let d : more ≡ kept (over.finished_by facts on ints arrays new ty t) =
     c.in_ok-push_finished_by.ensures
-    ∙ (ap (λ l. l ++ kept (over.finished_by facts on ints arrays c.deref.result.now ty t)) c.new-more.ensures.items
+    ∙ (ap (λ l. l ++ kept (over.finished_by facts on ints arrays c.deref.result.now ty t)) c.in_ok-more.ensures.items
     ∙ ap (λ l. kept (over.finished_by facts on ints arrays l ty t)) c.deref.ensures.value) in
     let both : c.extend_from_slice.new.self.items ≡ new ++ more = c.in_ok-extend_from_slice.ensures.items ∙ ap (λ l. new ++ l) c.deref-2.ensures.value in
     record {

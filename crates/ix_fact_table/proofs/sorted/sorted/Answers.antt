@@ -8,7 +8,17 @@ pub inserted-requires : goal.inserted-requires
 inserted-requires c = record { classes = λ f i. c.requires.classes f (c.from_first-rest.ensures.part f i) }
 
 pub sorted_many-requires : goal.sorted_many-requires
-sorted_many-requires c =
+sorted_many-requires c = record { classes = λ f i. c.requires.classes f (c.from_first-rest.ensures.part f i) }
+
+pub returns-then-is_any : goal.returns-then-is_any
+returns-then-is_any c =
+    record {
+      form = c.in_ok-all.ensures.form;
+      table = subst (λ l. IsTable l c.in_ok-all.all.items) c.from_first-rest.ensures.same c.in_ok-all.ensures.table;
+    }
+
+pub sorted_many-requires-2 : goal.sorted_many-requires-2
+sorted_many-requires-2 c =
     let is = c.deref.ensures.value ∙ c.in_ok-own.ensures in
     record { classes = subst HaveClasses (sym is) (kind_have c.args.kind c.from_first-rest.result.now (λ f i. c.requires.classes f (c.from_first-rest.ensures.part f i))) }
 

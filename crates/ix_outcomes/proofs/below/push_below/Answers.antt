@@ -1,6 +1,8 @@
+use Rattle.std.specs.Prelude.{filter}
 use Rattle.std.proofs.Common.{◌++◌, ap, ◌∙◌}
 use Rattle.ix_facts.specs.Facts.{in_orders}
-use Rattle.ix_outcomes.proofs.ReadFacts.{read_is}
+use Rattle.ix_outcomes.specs.OverGroups as over
+use Rattle.ix_outcomes.proofs.OwnAmong.{ordered_read}
 use Rattle.ix_outcomes.proofs.below.push_below.Goals as goal
 
 pub returns : goal.returns
@@ -11,4 +13,4 @@ returns g c =
     let q = c.args.q.now in
     let k = c.args.k.now in
     c.in_ok-push_read.ensures
-    ∙ ap (λ l. c.args.out.now.items ++ l) (read_is facts _ _ (on p) (on q) p q k (c.deref.ensures.value ∙ c.in_ok-on_p.ensures) (c.deref-2.ensures.value ∙ c.in_ok-on_q.ensures))
+    ∙ ap (λ l. c.args.out.now.items ++ l) (ordered_read facts _ _ (filter (over.is_read_below p) (on p)) (filter (over.is_read_above q) (on q)) p q k (c.deref.ensures.value ∙ c.in_ok-on_p.ensures) (c.deref-2.ensures.value ∙ c.in_ok-on_q.ensures))

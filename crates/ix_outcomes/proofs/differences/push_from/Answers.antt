@@ -5,4 +5,4 @@ use Rattle.ix_exact.specs.KeptLaws.{next_fact}
 use Rattle.ix_outcomes.proofs.differences.push_from.Goals as goal
 
 pub loop-fact-preserved : goal.loop-fact-preserved
-loop-fact-preserved c = next_fact (above_by (between c.args.k.now c.args.r.now c.args.c.now) c.args.q.now) c.args.on_q.now c.loop-fact.fact-index _ (omega (arith, c.loop-fact-test.true)) c.loop-fact.out.items c.push_between_by.new.out.items _ c.in_ok-push_between_by.ensures c.loop-fact.invariant
+loop-fact-preserved c = next_fact (above_by (between c.args.k.now c.args.r.now c.args.c.now) c.args.q.now) c.args.above.now c.loop-fact.fact-index _ (omega (arith, c.loop-fact-test.true)) c.loop-fact.out.items c.push_between_by.new.out.items _ c.in_ok-push_between_by.ensures c.loop-fact.invariant

@@ -5,4 +5,4 @@ use Rattle.ix_exact.specs.KeptLaws.{next_fact}
 use Rattle.ix_outcomes.proofs.ranges.push_ranges_from.Goals as goal
 
 pub loop-fact-preserved : goal.loop-fact-preserved
-loop-fact-preserved c = next_fact (above_by (range_from c.args.bound.now c.args.k.now) c.args.q.now) c.args.on_q.now c.loop-fact.fact-index _ (omega (arith, c.loop-fact-test.true)) c.loop-fact.out.items c.push_range_from_by.new.out.items _ c.in_ok-push_range_from_by.ensures c.loop-fact.invariant
+loop-fact-preserved c = next_fact (above_by (range_from c.args.bound.now c.args.k.now) c.args.q.now) c.args.above.now c.loop-fact.fact-index _ (omega (arith, c.loop-fact-test.true)) c.loop-fact.out.items c.push_range_from_by.new.out.items _ c.in_ok-push_range_from_by.ensures c.loop-fact.invariant

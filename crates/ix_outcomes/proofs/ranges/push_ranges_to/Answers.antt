@@ -5,4 +5,4 @@ use Rattle.ix_exact.specs.KeptLaws.{next_fact}
 use Rattle.ix_outcomes.proofs.ranges.push_ranges_to.Goals as goal
 
 pub loop-fact-preserved : goal.loop-fact-preserved
-loop-fact-preserved c = next_fact (below_by (range_to c.args.limit.now c.args.k.now) c.args.p.now) c.args.on_p.now c.loop-fact.fact-index _ (omega (arith, c.loop-fact-test.true)) c.loop-fact.out.items c.push_range_to_by.new.out.items _ c.in_ok-push_range_to_by.ensures c.loop-fact.invariant
+loop-fact-preserved c = next_fact (below_by (range_to c.args.limit.now c.args.k.now) c.args.p.now) c.args.below.now c.loop-fact.fact-index _ (omega (arith, c.loop-fact-test.true)) c.loop-fact.out.items c.push_range_to_by.new.out.items _ c.in_ok-push_range_to_by.ensures c.loop-fact.invariant
