@@ -92,7 +92,7 @@ pub fn more_beside(
     ensures classes { IfOk result (λ more. HaveClasses more.items) }
     ensures ranges { IfOk result (λ more. of_kind kind.Range more.items ≡ []) }
 {
-    let mut more = Vec::new(alloc);
+    let mut more = Vec::with_capacity(alloc, ranges.len())?;
     push_negatives(&mut more, ranges, searches)?;
     push_new_classes(&mut more, new, ranges)?;
     Ok(more)

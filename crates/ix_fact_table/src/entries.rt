@@ -47,12 +47,13 @@ fn within(fact: &Fact) -> Fact
     }
 }
 
-/// The fact as a table keeps it. Most facts are differences, which are kept as they are.
+/// The fact as a table keeps it. Most facts are differences, which are kept as they are, and ranges, which have one order.
 pub(crate) fn entry_of(fact: &Fact) -> Fact
     ensures { result ≡ spec.entry_of fact.now }
 {
     match *fact {
         Fact::Less(_, _, _) => *fact,
+        Fact::Rng(_, _, _) => within(fact),
         _ => within(&in_first_order(fact)),
     }
 }

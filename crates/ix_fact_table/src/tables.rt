@@ -106,16 +106,6 @@ impl FactTable {
         around_differences(self.facts.as_slice())
     }
 
-    /// The ranges with more ones. What an int is at least has to be -1, 0 or 1.
-    pub fn ranges_with(&self, alloc: Global, new: &[Fact]) -> Result<Vec<Fact>, AllocError>
-        requires classes { HaveClasses new.now }
-        ensures table { IfOk result (λ ranges. IsTable (of_kind kind.Range (facts_of self.now) ++ of_kind kind.Range new.now) ranges.items) }
-    {
-        let more = sorted(alloc, Kind::Range, new)?;
-        let all = merged(alloc, self.ranges(), &more)?;
-        Ok(all)
-    }
-
     /// The table without the facts that name the path; of a slot also without those that name a field of the object in it.
     pub fn without_path(&self, alloc: Global, path: &Path) -> Result<FactTable, AllocError>
         ensures facts { IfOk result (λ table. facts_of table ≡ without (of_path path.now) (facts_of self.now)) }

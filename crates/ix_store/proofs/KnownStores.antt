@@ -8,9 +8,15 @@ use Rattle.ix_core.specs.declared.fact.Fact.{Fact}
 use Rattle.ix_core.proofs.Cases.{by_test}
 use Rattle.ix_facts.specs.Facts.{IsIn, in_orders}
 use Rattle.ix_facts.specs.Forget.{names, without}
-use Rattle.ix_facts.specs.Closure.{IsClosedOf, given}
+use Rattle.ix_facts.specs.Closure.{Closed, IsClosedOf, given}
 use Rattle.ix_facts.specs.Stores.{IsStoreOf, Reached}
 use Rattle.ix_facts.specs.Small.{HasSmallNumbers}
+use Rattle.ix_facts.specs.Kinds.{of_kind}
+use Rattle.ix_facts.specs.Systems as tables
+use Rattle.ix_facts.specs.Systems.{IsTable}
+use Rattle.ix_facts.proofs.FactLists.{in_right}
+use Rattle.ix_closure.specs.FactTables.{table_kind}
+use Rattle.ix_store.proofs.TablesInTurn.{any_table, said_closed}
 use Rattle.ix_facts.proofs.Tests.{neither}
 use Rattle.ix_fact_list.proofs.BoundSteps.{in_orders_small}
 use Rattle.ix_closure.specs.TableLaws.{all_may}
@@ -65,3 +71,12 @@ fact_at (g ∷ facts) (suc k) f e = inr (fact_at facts k f e)
 
 pub small_at : (known : Known) (k : ℕ) (f : Fact) → slice_get (facts_in known) k ≡ Some f → HasSmallNumbers f
 small_at known k f e = small known.table known.full f (fact_at (facts_in known) k f e)
+
+pub is_closed_known : (known : Known) → Closed (facts_in known)
+is_closed_known known = closed_of_test (facts_in known) known.closed
+
+-- where they say new facts already
+pub known_says : (known : Known) (new : List Fact) → IsTable (facts_in known ++ of_kind (table_kind known.table) new) (facts_in known) → IsClosedOf (facts_in known ++ new) (facts_in known)
+known_says known new made =
+    let all = any_table (table_kind known.table) (facts_in known) new (facts_in known) known.kind made in
+    said_closed (facts_in known) new (is_closed_known known) (λ f i. (all_may known.table f i).tells) (λ f i. all.says f (tables.given f (in_right f (facts_in known) new i)))

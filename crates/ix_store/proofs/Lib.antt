@@ -10,10 +10,10 @@ mod NoFacts
 mod ClosedTests
 mod KnownStores
 mod WholeStores
-mod BesideTables
 pub mod OwnFacts
 mod WeakerCommon
 mod GrownTables
+mod TablesInTurn
 mod MadeStores
 mod OverInts
 mod LessInOrders

@@ -5,7 +5,8 @@ ghost use Rattle.ix_core.specs.declared.fact.Fact.{Fact};
 ghost use Rattle.ix_facts.specs.Exact.{named_ints};
 ghost use Rattle.ix_facts.specs.Facts.{in_orders};
 ghost use Rattle.ix_facts.specs.Forget.{without};
-ghost use Rattle.ix_facts.specs.Systems.{HaveClasses};
+ghost use Rattle.ix_facts.specs.Kinds.{of_kind};
+ghost use Rattle.ix_facts.specs.Systems.{HaveClasses, IsTable};
 ghost use Rattle.ix_facts.specs.Stores.{IsStoreOf};
 ghost use Rattle.ix_facts.specs.Closure.{Closed, SaysAll, IsClosedOf, IsCommon};
 ghost use Rattle.ix_fact_list.specs.ByPath.{put_all};
@@ -13,7 +14,7 @@ ghost use Rattle.ix_fact_list.specs.PutLaws.{IsRising};
 ghost use Rattle.ix_changes.specs.ChangedPaths.{is_changed, paths_beside};
 ghost use Rattle.ix_closure.specs.Beside.{are_plain};
 ghost use Rattle.ix_closure.specs.Saturated.{IsSaturated};
-ghost use Rattle.ix_closure.specs.FactTables.{facts_of};
+ghost use Rattle.ix_closure.specs.FactTables.{facts_of, table_kind};
 ghost use Rattle.ix_store.specs.EmptyRanges as spec;
 ghost use Rattle.ix_store.specs.EmptyRanges.{some_empty};
 ghost use Rattle.ix_store.specs.StoredFacts.{facts_in, stored_in};
@@ -78,19 +79,26 @@ fn added(alloc: Global, table: &FactTable, new: Vec<Fact>) -> Result<Vec<Fact>, 
     Ok(added)
 }
 
-/// New plain facts, and behind them what follows from them and a closed table: only what these add is sought.
-fn added_beside(alloc: Global, table: &FactTable, new: Vec<Fact>) -> Result<Vec<Fact>, AllocError>
-    requires closed { Closed (facts_of table.now) }
-    requires classes { HaveClasses new.items }
-    requires plain { are_plain new.items ≡ true }
-    ensures saturated { IfOk result (λ added. IsSaturated (facts_of table.now ++ new.items) (facts_of table.now ++ added.items)) }
-    ensures classes { IfOk result (λ added. HaveClasses added.items) }
+/// A table over the ints of known facts and of added ones, of which it is the table.
+fn over_with(
+    alloc: Global,
+    known: &Known,
+    table: FactTable,
+    added: &[Fact],
+) -> Result<TableOver, AllocError>
+    requires kind { table_kind table ≡ table_kind known.now.table }
+    requires table { IsTable (facts_in known.now ++ of_kind (table_kind known.now.table) added.now) (facts_of table) }
+    ensures over { IfOk result (λ over. over ≡ table) }
 {
-    let ranges = table.ranges_with(alloc, &new)?;
-    let more = more_beside(alloc, &new, &ranges, table.searches())?;
-    let mut added = new;
-    added.extend_from_slice(&more)?;
-    Ok(added)
+    let told = is_long(&table);
+    let ints = known.ints_with(alloc, told, added)?;
+    let over = TableOver {
+        table,
+        ints,
+        told,
+        plain: known.is_plain_with(added),
+    };
+    Ok(over)
 }
 
 /// The table with what follows from it and some facts, over more ints; none where it has all that.
@@ -102,14 +110,56 @@ fn with_added(alloc: Global, known: &Known, added: &[Fact]) -> Result<Option<Tab
     match known.table.with_more(alloc, added)? {
         None => Ok(None),
         Some(table) => {
-            let told = is_long(&table);
-            let ints = known.ints_with(alloc, told, added)?;
-            let over = TableOver {
-                table,
-                ints,
-                told,
-                plain: known.is_plain_with(added),
-            };
+            let over = over_with(alloc, known, table, added)?;
+            Ok(Some(over))
+        }
+    }
+}
+
+/// A table with more facts, unless it says all of them.
+fn with_all(alloc: Global, table: FactTable, more: &[Fact]) -> Result<FactTable, AllocError>
+    requires classes { HaveClasses more.now }
+    ensures table { IfOk result (λ whole. IsTable (facts_of table ++ of_kind (table_kind table) more.now) (facts_of whole)) }
+    ensures kind { IfOk result (λ whole. table_kind whole ≡ table_kind table) }
+{
+    match table.with_more(alloc, more)? {
+        None => Ok(table),
+        Some(whole) => Ok(whole),
+    }
+}
+
+/// A closed table to which new plain facts were added, with what follows from these and it: only what they add is sought. Mostly it says all of that already, since few new ranges
+/// put an int into another class.
+fn completed(
+    alloc: Global,
+    known: &Known,
+    first: FactTable,
+    new: Vec<Fact>,
+) -> Result<TableOver, AllocError>
+    requires plain { are_plain new.items ≡ true }
+    requires kind { table_kind first ≡ table_kind known.now.table }
+    requires table { IsTable (facts_in known.now ++ of_kind (table_kind known.now.table) new.items) (facts_of first) }
+    ensures closed { IfOk result (λ over. IsClosedOf (facts_in known.now ++ new.items) (facts_of over)) }
+{
+    let more = more_beside(alloc, &new, first.ranges(), known.table.searches())?;
+    let whole = with_all(alloc, first, &more)?;
+    let mut added = new;
+    added.extend_from_slice(&more)?;
+    let over = over_with(alloc, known, whole, &added)?;
+    Ok(over)
+}
+
+/// The closed table of known facts and new plain ones, over more ints; none where these say the new ones already.
+fn with_plain(alloc: Global, known: &Known, new: Vec<Fact>) -> Result<Option<TableOver>, AllocError>
+    requires classes { HaveClasses new.items }
+    requires plain { are_plain new.items ≡ true }
+    ensures same { IfOk result (λ more. IfNone more (IsClosedOf (facts_in known.now ++ new.items) (facts_in known.now))) }
+    ensures more { IfOk result (λ more. IfSome more (λ more. IsClosedOf (facts_in known.now ++ new.items) (facts_of more))) }
+{
+    match known.table.with_more(alloc, &new)? {
+        None => Ok(None),
+        Some(first) => {
+            let over = completed(alloc, known, first, new)?;
             Ok(Some(over))
         }
     }
@@ -237,11 +287,10 @@ impl Known {
         ensures same { IfOk result (λ more. IfNone more (IsClosedOf (facts_in self.now ++ new.items) (facts_in self.now))) }
         ensures more { IfOk result (λ more. IfSome more (λ more. IsClosedOf (facts_in self.now ++ new.items) (facts_of more))) }
     {
-        let added = if are_plain(&new) {
-            added_beside(alloc, &self.table, new)?
-        } else {
-            added(alloc, &self.table, new)?
-        };
+        if are_plain(&new) {
+            return with_plain(alloc, self, new);
+        }
+        let added = added(alloc, &self.table, new)?;
         let more = with_added(alloc, self, &added)?;
         Ok(more)
     }

@@ -11,7 +11,7 @@ returns-clause-saturated c = λ known are.
     let new = c.args.new.now in
     let ranges = c.args.ranges.now in
     let searches = c.args.searches.now in
-    let made = beside_made new ranges searches c.new-more.result.items c.push_negatives.new.out.items c.push_new_classes.new.out.items c.new-more.ensures.items c.in_ok-push_negatives.ensures c.in_ok-push_new_classes.ensures in
+    let made = beside_made new ranges searches c.in_ok-more.more.items c.push_negatives.new.out.items c.push_new_classes.new.out.items c.in_ok-more.ensures.items c.in_ok-push_negatives.ensures c.in_ok-push_new_classes.ensures in
     subst (λ more. IsSaturated (known ++ new) (known ++ (new ++ more))) (sym made) (beside_saturated known new ranges searches are)
 
 pub returns-clause-classes : goal.returns-clause-classes
@@ -19,7 +19,7 @@ returns-clause-classes c =
     let new = c.args.new.now in
     let ranges = c.args.ranges.now in
     let searches = c.args.searches.now in
-    let made = beside_made new ranges searches c.new-more.result.items c.push_negatives.new.out.items c.push_new_classes.new.out.items c.new-more.ensures.items c.in_ok-push_negatives.ensures c.in_ok-push_new_classes.ensures in
+    let made = beside_made new ranges searches c.in_ok-more.more.items c.push_negatives.new.out.items c.push_new_classes.new.out.items c.in_ok-more.ensures.items c.in_ok-push_negatives.ensures c.in_ok-push_new_classes.ensures in
     subst HaveClasses (sym made) (beside_classes new ranges searches)
 
 pub returns-clause-ranges : goal.returns-clause-ranges
@@ -27,5 +27,5 @@ returns-clause-ranges c =
     let new = c.args.new.now in
     let ranges = c.args.ranges.now in
     let searches = c.args.searches.now in
-    let made = beside_made new ranges searches c.new-more.result.items c.push_negatives.new.out.items c.push_new_classes.new.out.items c.new-more.ensures.items c.in_ok-push_negatives.ensures c.in_ok-push_new_classes.ensures in
+    let made = beside_made new ranges searches c.in_ok-more.more.items c.push_negatives.new.out.items c.push_new_classes.new.out.items c.in_ok-more.ensures.items c.in_ok-push_negatives.ensures c.in_ok-push_new_classes.ensures in
     ap (of_kind kind.Range) made ∙ beside_no_range new ranges searches
