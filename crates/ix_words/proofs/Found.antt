@@ -1,18 +1,22 @@
 -- What clap found, as what the words say.
 use Rattle.std.proofs.Common.{◌≡◌, ◌∙◌, ℕ, Bool, true, refl, sym, ap, subst, List, [], ◌∷◌, Option, Some, None, map, length, get_or, drop, ◌≤◌, ◌<◌, arith}
 use Rattle.std.specs.Borrow.{Bor}
-use Rattle.std.specs.Prelude.{codes, option_map, option_and_then, slice_get, is_some, unwrap_or}
+use Rattle.std.specs.Prelude.{Result, Ok, Err, IfOk, codes, option_map, option_and_then, slice_get, is_some, unwrap_or}
 use Rattle.clap.specs.Matches.{first_value, matched_of, raw_values, found_of}
 use Rattle.clap.specs.declared.parser.matches.ArgMatches.{ArgMatches}
 use Rattle.clap.specs.declared.parser.matches.MatchedArg.{MatchedArg}
 use Rattle.clap.specs.Walk.{Row}
 use Rattle.clap.proofs.WalkLemmas.{first_value-rows, raw_values-rows}
-use Rattle.ix_words.specs.Words.{Text, Options, Parsed, knows, parsed, value_of, text_of, has, words_id}
+use Rattle.ix_words.specs.Words.{Text, Options, Parsed, knows, value_of, text_of, has, words_id}
 use Rattle.ix_words.specs.Values.{number_in, limits_of, sums_of}
 use Rattle.ix_words.specs.declared.values.Sums.{Sums}
 use Rattle.ix_words.specs.declared.values.Limits.{Limits}
-use Rattle.ix_words.specs.Commands.{Command, Check, Run, Bench, Verify, Guard, has_library, has_trace, has_certificate, check_of, run_of, bench_of, verify_of, guard_of, command_with}
-use Rattle.ix_words.specs.Clap.{Says, Parses, Reads, row, rows_in, words_row, positionals_in}
+use Rattle.ix_words.specs.Commands.{Command, Check, Run, Bench, Verify, Guard, has_library, has_trace, has_certificate, check_of, run_of, bench_of, verify_of, guard_of, command_with, command_of}
+use Rattle.ix_words.specs.Kinds.{options_in, made_in}
+use Rattle.ix_words.specs.Shown.{shown}
+use Rattle.ix_words.specs.declared.commands.Kind.{Kind}
+use Rattle.ix_words.specs.declared.commands.Command as code
+use Rattle.ix_words.specs.Clap.{Says, Reads, row, rows_in, words_row, positionals_in}
 
 listed : (ps : List Text) → unwrap_or (option_map (λ (r : Row). r.values) (words_row ps)) [] ≡ ps
 listed [] = refl
@@ -46,21 +50,32 @@ some_rest m list is = ap (λ o. unwrap_or o []) (is ∙ raw_values-rows (found_o
 pub no_rest : (m : ArgMatches) → None ≡ option_map raw_values (matched_of (found_of m) words_id) → [] ≡ positionals_in m
 no_rest m is = ap (λ o. unwrap_or o []) (is ∙ raw_values-rows (found_of m) words_id)
 
-pub parses_some : (options : Options) (ws : List Text) (o : Option ArgMatches) (m : ArgMatches) → Reads options ws o → o ≡ Some m → Parses options ws m
-parses_some options ws None m reads is = cc
-parses_some options ws (Some n) m reads is = let one : n ≡ m = cc in subst (Parses options ws) one reads
-
 abbrev pub some_text : Bor Text
 some_text = record { ref_ptr = (0, 0); now = [] }
 
 -- a command from what is found; `list` are the positionals of the code
-pub made : (options : Options) (make : Parsed → List Text → Option Command) (ws : List Text) (m : ArgMatches) (list : List (Bor Text)) (command : Option Command)
-    → Parses options ws m → map (λ w. w.now) list ≡ positionals_in m → ((q : Parsed) → Says options q (rows_in m) → command ≡ make q (map (λ w. w.now) list)) → command ≡ command_with options make ws
-made options make ws m list command (q, is, says) rest each =
-    each q says ∙ (ap (make q) (rest ∙ says_rest options q m says) ∙ sym (ap (option_and_then (λ p. make p p.positionals)) is))
+pub said : (options : Options) (make : Parsed → List Text → Option Command) (q : Parsed) (m : ArgMatches) (list : List (Bor Text)) (command : Option Command)
+    → Says options q (rows_in m) → map (λ w. w.now) list ≡ positionals_in m → command ≡ make q (map (λ w. w.now) list) → command ≡ make q q.positionals
+said options make q m list command says rest is = is ∙ ap (make q) (rest ∙ says_rest options q m says)
 
-pub refused : (options : Options) (make : Parsed → List Text → Option Command) (ws : List Text) → parsed options ws ≡ None → None ≡ command_with options make ws
-refused options make ws none = sym (ap (option_and_then (λ p. make p p.positionals)) none)
+-- the command of these options, by what is made of all that the words may say
+pub made : (options : Options) (make : Parsed → List Text → Option Command) (ws : List Text) (o : Option ArgMatches) (m : ArgMatches) (command : Option Command)
+    → Reads options ws o → o ≡ Some m → ((q : Parsed) → Says options q (rows_in m) → command ≡ make q q.positionals) → command ≡ command_with options make ws
+made options make ws None m command reads is each = cc
+made options make ws (Some n) m command (q, parses, says) is each =
+    let one : n ≡ m = cc in
+    each q (subst (λ n. Says options q (rows_in n)) one says) ∙ sym (ap (option_and_then (λ p. make p p.positionals)) parses)
+
+pub refused : (options : Options) (make : Parsed → List Text → Option Command) (ws : List Text) (o : Option ArgMatches) → Reads options ws o → o ≡ None → None ≡ command_with options make ws
+refused options make ws None reads none = sym (ap (option_and_then (λ p. make p p.positionals)) reads)
+refused options make ws (Some m) reads none = cc
+
+pub answered : {E : Type 0} (kind : Kind) (first : Text) (words : List Text) (names : Options) (o : Option ArgMatches) (m : ArgMatches) (r : Result (Option code.Command) E) → names ≡ options_in kind → Reads names words o → o ≡ Some m
+    → command_of (first ∷ words) ≡ command_with (options_in kind) (made_in kind) words
+    → IfOk r (λ command. (q : Parsed) → Says (options_in kind) q (rows_in m) → option_map shown command ≡ made_in kind q q.positionals) → IfOk r (λ command. option_map shown command ≡ command_of (first ∷ words))
+answered kind first words names o m (Err e) same reads is of each = tt
+answered kind first words names o m (Ok command) same reads is of each =
+    made (options_in kind) (made_in kind) words o m (option_map shown command) (subst (λ names. Reads names words o) same reads) is each ∙ sym of
 
 -- ---- check
 

@@ -44,6 +44,9 @@ run_of p (file ∷ entry ∷ inputs) = option_map (λ limits. Run limits (has_tr
 run_of p _ = None
 
 -- `bench N`
+abbrev pub bench_options : Options
+bench_options = []
+
 abbrev pub bench_of : Parsed → List Text → Option Command
 bench_of p (word ∷ []) = option_map Bench (number_in 1 1000 word)
 bench_of p _ = None
@@ -68,21 +71,16 @@ guard_of p _ = None
 abbrev pub command_with : Options → (Parsed → List Text → Option Command) → List Text → Option Command
 command_with options make words = option_and_then (λ p. make p p.positionals) (parsed options words)
 
--- the command that the first word picks, with the words behind it, where it is neither `check` nor `run`
-abbrev pub other_command : Text → List Text → Option Command
-other_command first words =
-    if bytes_eq first (codes "bench") then command_with [] bench_of words
-    else if bytes_eq first (codes "verify") then command_with verify_options verify_of words
-    else if bytes_eq first (codes "guard") then command_with guard_options guard_of words
-    else None
-
 -- the command that the words are: the first picks it, and is compared exactly
 abbrev pub command_of : List Text → Option Command
 command_of [] = None
 command_of (first ∷ words) =
     if bytes_eq first (codes "check") then command_with check_options check_of words
     else if bytes_eq first (codes "run") then command_with run_options run_of words
-    else other_command first words
+    else if bytes_eq first (codes "bench") then command_with bench_options bench_of words
+    else if bytes_eq first (codes "verify") then command_with verify_options verify_of words
+    else if bytes_eq first (codes "guard") then command_with guard_options guard_of words
+    else None
 
 -- the limits of a run lie in their ranges
 abbrev pub HasLimits : Command → Type 0

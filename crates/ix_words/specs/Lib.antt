@@ -3,3 +3,4 @@ pub mod Values
 pub mod Commands
 pub mod Shown
 pub mod Clap
+pub mod Kinds

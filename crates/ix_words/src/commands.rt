@@ -1,10 +1,14 @@
 //! The commands: each with its options and its positionals.
-ghost use Rattle.std.specs.Prelude.{◌≡◌, ◌<◌, ◌≤◌, IfOk, IfSome, [], drop, map, length, option_map};
-ghost use Rattle.ix_words.specs.Commands.{check_options, check_of, run_options, run_of, bench_of, verify_options, verify_of, guard_options, guard_of, command_with, other_command, command_of, HasLimits};
+ghost use Rattle.std.specs.Prelude.{◌≡◌, ◌≤◌, IfOk, IfSome, IfNone, List, None, ◌∷◌, drop, map, length, option_map};
+ghost use Rattle.ix_words.specs.Clap.{option_named, rows_in, Says};
+ghost use Rattle.ix_words.specs.Words.{Text, Parsed};
+ghost use Rattle.ix_words.specs.Commands.{check_options, check_of, run_options, run_of, bench_options, bench_of, verify_options, verify_of, guard_options, guard_of, command_with, command_of, HasLimits};
+ghost use Rattle.ix_words.specs.Kinds.{options_in, made_in};
 ghost use Rattle.ix_words.specs.Shown.{shown, words_of};
 
 use crate::matching::matches_of;
 use crate::values::{Limits, Sums, number, read_limits, read_sums};
+use clap::ArgMatches;
 use std::alloc::{AllocError, Global};
 
 /// A command, with the words that it is given.
@@ -41,33 +45,17 @@ pub enum Command<'a> {
     },
 }
 
-static CHECK: [(&str, bool); 3] = [("sums", true), ("certificate", false), ("library", false)];
-
-/// `check [--sums ideal|int32] [--certificate] [--library] FILE`.
-fn check<'a>(alloc: Global, words: &'a [String]) -> Result<Option<Command<'a>>, AllocError>
-    requires { 0 < length words.now }
-    ensures command { IfOk result (λ r. option_map shown r ≡ command_with check_options check_of (drop 1 (words_of words.entry.now))) }
-    ensures limits { IfOk result (λ r. IfSome r (λ command. HasLimits (shown command))) }
-{
-    let Some(matches) = matches_of(alloc, &CHECK, words)? else {
-        return Ok(None);
-    };
-    let Some(list) = matches.get_raw("words") else {
-        return Ok(None);
-    };
-    if list.len() != 1 {
-        return Ok(None);
-    }
-    let Some(sums) = read_sums(matches.get_str("sums")) else {
-        return Ok(None);
-    };
-    Ok(Some(Command::Check {
-        sums,
-        certificate: matches.contains_id("certificate"),
-        library: matches.contains_id("library"),
-        file: list[0],
-    }))
+/// A command by its name alone.
+#[derive(Clone, Copy)]
+enum Kind {
+    Check,
+    Run,
+    Bench,
+    Verify,
+    Guard,
 }
+
+static CHECK: [(&str, bool); 3] = [("sums", true), ("certificate", false), ("library", false)];
 
 static RUN: [(&str, bool); 5] = [
     ("steps", true),
@@ -76,6 +64,63 @@ static RUN: [(&str, bool); 5] = [
     ("trace", false),
     ("library", false),
 ];
+
+static VERIFY: [(&str, bool); 1] = [("library", false)];
+
+static GUARD: [(&str, bool); 1] = [("sums", true)];
+
+impl Kind {
+    /// The command of this name, which is compared exactly.
+    fn of(name: &str) -> Option<Kind>
+        ensures some { IfSome result (λ kind. (words : List Text) → command_of (name.now ∷ words) ≡ command_with (options_in kind) (made_in kind) words) }
+        ensures none { IfNone result ((words : List Text) → command_of (name.now ∷ words) ≡ None) }
+    {
+        if name == "check" {
+            Some(Kind::Check)
+        } else if name == "run" {
+            Some(Kind::Run)
+        } else if name == "bench" {
+            Some(Kind::Bench)
+        } else if name == "verify" {
+            Some(Kind::Verify)
+        } else if name == "guard" {
+            Some(Kind::Guard)
+        } else {
+            None
+        }
+    }
+
+    /// Its options, each with whether it takes a value.
+    fn options<'a>(self) -> &'a [(&'a str, bool)]
+        ensures { map option_named result.now ≡ options_in self }
+    {
+        match self {
+            Kind::Check => &CHECK,
+            Kind::Run => &RUN,
+            Kind::Bench => &[],
+            Kind::Verify => &VERIFY,
+            Kind::Guard => &GUARD,
+        }
+    }
+}
+
+/// `check [--sums ideal|int32] [--certificate] [--library] FILE`.
+fn check<'a>(matches: &ArgMatches<'a>) -> Option<Command<'a>>
+    ensures command { (q : Parsed) → Says check_options q (rows_in matches.now) → option_map shown result ≡ check_of q q.positionals }
+    ensures limits { IfSome result (λ command. HasLimits (shown command)) }
+{
+    let words = matches.get_raw("words")?;
+    if words.len() != 1 {
+        return None;
+    }
+    let sums = read_sums(matches.get_str("sums"))?;
+    Some(Command::Check {
+        sums,
+        certificate: matches.contains_id("certificate"),
+        library: matches.contains_id("library"),
+        file: words[0],
+    })
+}
 
 /// The words behind the first two.
 fn behind_two<'a>(alloc: Global, words: &[&'a str]) -> Result<Vec<&'a str>, AllocError>
@@ -86,18 +131,14 @@ fn behind_two<'a>(alloc: Global, words: &[&'a str]) -> Result<Vec<&'a str>, Allo
 }
 
 /// `run [--steps N] [--cells N] [--frames N] [--trace] [--library] FILE CLASS.METHOD INPUTS`.
-fn run<'a>(alloc: Global, words: &'a [String]) -> Result<Option<Command<'a>>, AllocError>
-    requires { 0 < length words.now }
-    ensures command { IfOk result (λ r. option_map shown r ≡ command_with run_options run_of (drop 1 (words_of words.entry.now))) }
+fn run<'a>(alloc: Global, matches: &ArgMatches<'a>) -> Result<Option<Command<'a>>, AllocError>
+    ensures command { IfOk result (λ r. (q : Parsed) → Says run_options q (rows_in matches.now) → option_map shown r ≡ run_of q q.positionals) }
     ensures limits { IfOk result (λ r. IfSome r (λ command. HasLimits (shown command))) }
 {
-    let Some(matches) = matches_of(alloc, &RUN, words)? else {
+    let Some(words) = matches.get_raw("words") else {
         return Ok(None);
     };
-    let Some(list) = matches.get_raw("words") else {
-        return Ok(None);
-    };
-    if list.len() < 2 {
+    if words.len() < 2 {
         return Ok(None);
     }
     let Some(limits) = read_limits(
@@ -107,106 +148,79 @@ fn run<'a>(alloc: Global, words: &'a [String]) -> Result<Option<Command<'a>>, Al
     ) else {
         return Ok(None);
     };
-    let inputs = behind_two(alloc, list)?;
+    let inputs = behind_two(alloc, words)?;
     Ok(Some(Command::Run {
         limits,
         traced: matches.contains_id("trace"),
         library: matches.contains_id("library"),
-        file: list[0],
-        entry: list[1],
+        file: words[0],
+        entry: words[1],
         inputs,
     }))
 }
 
 /// `bench N`.
-fn bench<'a>(alloc: Global, words: &'a [String]) -> Result<Option<Command<'a>>, AllocError>
-    requires { 0 < length words.now }
-    ensures command { IfOk result (λ r. option_map shown r ≡ command_with [] bench_of (drop 1 (words_of words.entry.now))) }
-    ensures limits { IfOk result (λ r. IfSome r (λ command. HasLimits (shown command))) }
+fn bench<'a>(matches: &ArgMatches<'a>) -> Option<Command<'a>>
+    ensures command { (q : Parsed) → Says bench_options q (rows_in matches.now) → option_map shown result ≡ bench_of q q.positionals }
+    ensures limits { IfSome result (λ command. HasLimits (shown command)) }
 {
-    let Some(matches) = matches_of(alloc, &[], words)? else {
-        return Ok(None);
-    };
-    let Some(list) = matches.get_raw("words") else {
-        return Ok(None);
-    };
-    if list.len() != 1 {
-        return Ok(None);
+    let words = matches.get_raw("words")?;
+    if words.len() != 1 {
+        return None;
     }
-    let Some(count) = number(list[0], 1, 1000) else {
-        return Ok(None);
-    };
-    Ok(Some(Command::Bench(count)))
+    match number(words[0], 1, 1000) {
+        Some(count) => Some(Command::Bench(count)),
+        None => None,
+    }
 }
-
-static VERIFY: [(&str, bool); 1] = [("library", false)];
 
 /// `verify [--library] FILE CERT`.
-fn verify<'a>(alloc: Global, words: &'a [String]) -> Result<Option<Command<'a>>, AllocError>
-    requires { 0 < length words.now }
-    ensures command { IfOk result (λ r. option_map shown r ≡ command_with verify_options verify_of (drop 1 (words_of words.entry.now))) }
-    ensures limits { IfOk result (λ r. IfSome r (λ command. HasLimits (shown command))) }
+fn verify<'a>(matches: &ArgMatches<'a>) -> Option<Command<'a>>
+    ensures command { (q : Parsed) → Says verify_options q (rows_in matches.now) → option_map shown result ≡ verify_of q q.positionals }
+    ensures limits { IfSome result (λ command. HasLimits (shown command)) }
 {
-    let Some(matches) = matches_of(alloc, &VERIFY, words)? else {
-        return Ok(None);
-    };
-    let Some(list) = matches.get_raw("words") else {
-        return Ok(None);
-    };
-    if list.len() != 2 {
-        return Ok(None);
+    let words = matches.get_raw("words")?;
+    if words.len() != 2 {
+        return None;
     }
-    Ok(Some(Command::Verify {
+    Some(Command::Verify {
         library: matches.contains_id("library"),
-        file: list[0],
-        cert: list[1],
-    }))
+        file: words[0],
+        cert: words[1],
+    })
 }
-
-static GUARD: [(&str, bool); 1] = [("sums", true)];
 
 /// `guard [--sums ideal|int32] FILE`.
-fn guard<'a>(alloc: Global, words: &'a [String]) -> Result<Option<Command<'a>>, AllocError>
-    requires { 0 < length words.now }
-    ensures command { IfOk result (λ r. option_map shown r ≡ command_with guard_options guard_of (drop 1 (words_of words.entry.now))) }
-    ensures limits { IfOk result (λ r. IfSome r (λ command. HasLimits (shown command))) }
+fn guard<'a>(matches: &ArgMatches<'a>) -> Option<Command<'a>>
+    ensures command { (q : Parsed) → Says guard_options q (rows_in matches.now) → option_map shown result ≡ guard_of q q.positionals }
+    ensures limits { IfSome result (λ command. HasLimits (shown command)) }
 {
-    let Some(matches) = matches_of(alloc, &GUARD, words)? else {
-        return Ok(None);
-    };
-    let Some(list) = matches.get_raw("words") else {
-        return Ok(None);
-    };
-    if list.len() != 1 {
-        return Ok(None);
+    let words = matches.get_raw("words")?;
+    if words.len() != 1 {
+        return None;
     }
-    let Some(sums) = read_sums(matches.get_str("sums")) else {
-        return Ok(None);
-    };
-    Ok(Some(Command::Guard {
+    let sums = read_sums(matches.get_str("sums"))?;
+    Some(Command::Guard {
         sums,
-        file: list[0],
-    }))
+        file: words[0],
+    })
 }
 
-/// The command of these words where the first of them is neither `check` nor `run`.
-fn read_other<'a>(
+/// The command of this name, by what `clap` makes of the words behind it.
+fn made<'a>(
     alloc: Global,
-    first: &str,
-    words: &'a [String],
+    kind: Kind,
+    matches: &ArgMatches<'a>,
 ) -> Result<Option<Command<'a>>, AllocError>
-    requires { 0 < length words.now }
-    ensures command { IfOk result (λ r. option_map shown r ≡ other_command first.now (drop 1 (words_of words.entry.now))) }
+    ensures command { IfOk result (λ r. (q : Parsed) → Says (options_in kind) q (rows_in matches.now) → option_map shown r ≡ made_in kind q q.positionals) }
     ensures limits { IfOk result (λ r. IfSome r (λ command. HasLimits (shown command))) }
 {
-    if first == "bench" {
-        bench(alloc, words)
-    } else if first == "verify" {
-        verify(alloc, words)
-    } else if first == "guard" {
-        guard(alloc, words)
-    } else {
-        Ok(None)
+    match kind {
+        Kind::Check => Ok(check(matches)),
+        Kind::Run => run(alloc, matches),
+        Kind::Bench => Ok(bench(matches)),
+        Kind::Verify => Ok(verify(matches)),
+        Kind::Guard => Ok(guard(matches)),
     }
 }
 
@@ -218,12 +232,12 @@ pub fn read_words<'a>(alloc: Global, words: &'a [String]) -> Result<Option<Comma
     if words.is_empty() {
         return Ok(None);
     }
-    let first = words[0].as_str();
-    if first == "check" {
-        check(alloc, words)
-    } else if first == "run" {
-        run(alloc, words)
-    } else {
-        read_other(alloc, first, words)
-    }
+    let Some(kind) = Kind::of(words[0].as_str()) else {
+        return Ok(None);
+    };
+    let Some(matches) = matches_of(alloc, kind.options(), words)? else {
+        return Ok(None);
+    };
+    let command = made(alloc, kind, &matches);
+    command
 }
