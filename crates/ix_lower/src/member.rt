@@ -48,13 +48,6 @@ pub fn is_effect_free(table: &Table, span: Span) -> bool
 
 // ---- parameters
 
-fn push_param(params: &mut List<Local>, param: Local) -> Result<(), AllocError>
-    ensures { OnOk result (params.new ≡ params.old ++ param ∷ []) }
-{
-    params.push(param)?;
-    Ok(())
-}
-
 /// The parameters, in the slots from that one on.
 pub fn params(
     alloc: Global,
@@ -69,17 +62,10 @@ pub fn params(
     for decl in decls {
         let name = copied_text(alloc, &decl.name.text)?;
         let claims = claims_declared(alloc, table, decl.name.span)?;
-        push_param(&mut params, Local { slot, name, claims })?;
+        params.push(Local { slot, name, claims })?;
         slot = one_more(slot);
     }
     Ok(params)
-}
-
-fn push_type(types: &mut List<Type_>, ty: Type_) -> Result<(), AllocError>
-    ensures { OnOk result (types.new ≡ types.old ++ ty ∷ []) }
-{
-    types.push(ty)?;
-    Ok(())
 }
 
 /// The types of the parameters.
@@ -92,8 +78,7 @@ pub fn param_types(
 {
     let mut types = List::new(alloc);
     for decl in decls {
-        let ty = type_declared(alloc, table, decl.name.span)?;
-        push_type(&mut types, ty)?;
+        types.push(type_declared(alloc, table, decl.name.span)?)?;
     }
     Ok(types)
 }
@@ -139,8 +124,7 @@ fn add_field(
         return Ok(());
     }
     let field = field_of(alloc, table, class, decl)?;
-    fields.push(field)?;
-    Ok(())
+    fields.push(field).map_err(AllocError::from)
 }
 
 fn add_fields(
@@ -181,8 +165,7 @@ fn add_own_field(fields: &mut List<u32>, next: u32, decl: &LocalDecl) -> Result<
     if decl.mods.get().is_static {
         return Ok(());
     }
-    fields.push(next)?;
-    Ok(())
+    fields.push(next).map_err(AllocError::from)
 }
 
 fn own_fields(alloc: Global, first: u32, members: &[Member]) -> Result<List<u32>, AllocError>
@@ -219,8 +202,7 @@ fn add_default(methods: &mut List<u32>, default: u32, members: &[Member]) -> Res
     if has_constructor(members) {
         return Ok(());
     }
-    methods.push(default)?;
-    Ok(())
+    methods.push(default).map_err(AllocError::from)
 }
 
 fn class_of(
@@ -244,13 +226,6 @@ fn class_of(
     })
 }
 
-fn push_class(classes: &mut List<Class>, class: Class) -> Result<(), AllocError>
-    ensures { OnOk result (classes.new ≡ classes.old ++ class ∷ []) }
-{
-    classes.push(class)?;
-    Ok(())
-}
-
 /// The classes, with the numbers of their members.
 pub fn classes(
     alloc: Global,
@@ -263,8 +238,7 @@ pub fn classes(
     let mut classes = List::new(alloc);
     let mut next = first;
     for decl in decls {
-        let class = class_of(alloc, next, world.parent(next.class), decl)?;
-        push_class(&mut classes, class)?;
+        classes.push(class_of(alloc, next, world.parent(next.class), decl)?)?;
         next = next_behind(next, decl);
     }
     Ok(classes)

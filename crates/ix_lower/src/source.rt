@@ -11,7 +11,7 @@ ghost use Rattle.ix_plain.specs.Counts as counts;
 ghost use Rattle.ix_plain.specs.Program as spec;
 ghost use Rattle.ix_formed.specs.Parsed.{IsParsed};
 ghost use Rattle.ix_lower.specs.declared.source.LowerError.TheVariants as error;
-ghost use Rattle.ix_lower.specs.Homes.{shown_tables, shown_home};
+ghost use Rattle.ix_lower.specs.Homes.{program_in, shown_tables, shown_home};
 
 use crate::home::{Home, Tables};
 use crate::member::{classes, fields};
@@ -83,8 +83,7 @@ fn placed_default<'t>(
 fn push_method(methods: &mut List<Method>, method: Method) -> Result<(), AllocError>
     ensures { OnOk result (methods.new ≡ methods.old ++ method ∷ []) }
 {
-    methods.push(method)?;
-    Ok(())
+    methods.push(method).map_err(AllocError::from)
 }
 
 /// Adds the written methods of a class.
@@ -121,8 +120,7 @@ fn add_default<'t>(
         return Ok(());
     }
     let method = placed_default(alloc, tables, home, span)?;
-    push_method(methods, method)?;
-    Ok(())
+    push_method(methods, method).map_err(LowerError::from)
 }
 
 /// The class that a method stands in.
@@ -193,6 +191,27 @@ fn methods<'t>(
     Ok(methods)
 }
 
+/// The program of these classes.
+fn program_in<'t>(
+    alloc: Global,
+    tables: &Tables<'t>,
+    decls: &'t [ClassDecl],
+) -> Result<Program, LowerError>
+    ensures program { IfOk result (λ program. program_in (shown_tables tables.now) decls.now ≡ Ok program) }
+    ensures limit { (which : Which) (place : ℕ) → IsErrOf result (error.Limit which place) → program_in (shown_tables tables.now) decls.now ≡ Err (record { which = which; place = place }) }
+{
+    let first = first_numbers(decls);
+    let methods = methods(alloc, tables, first, decls)?;
+    let classes = classes(alloc, tables.world, first, decls)?;
+    let fields = fields(alloc, tables.table, decls)?;
+    Ok(Program {
+        classes,
+        methods,
+        fields,
+        accesses: accesses(decls),
+    })
+}
+
 /// The plain form of a source whose names mean what the table says. Of a tree that `parse` answers, with the table of its names and without errors on them, it is
 /// formed: its numbers are in range, its types and its calls fit.
 pub fn lower(alloc: Global, unit: &Unit, table: &Table) -> Result<Program, LowerError>
@@ -212,14 +231,5 @@ pub fn lower(alloc: Global, unit: &Unit, table: &Table) -> Result<Program, Lower
         constructors: constructors.as_slice(),
         world: &world,
     };
-    let first = first_numbers(decls);
-    let methods = methods(alloc, &tables, first, decls)?;
-    let classes = classes(alloc, &world, first, decls)?;
-    let fields = fields(alloc, table, decls)?;
-    Ok(Program {
-        classes,
-        methods,
-        fields,
-        accesses: accesses(decls),
-    })
+    program_in(alloc, &tables, decls)
 }
