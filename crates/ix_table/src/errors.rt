@@ -35,18 +35,6 @@ fn wrongs(alloc: Global, notes: &[Note]) -> Result<Vec<NameError>, AllocError>
     Ok(errors)
 }
 
-fn wrong_annots(alloc: Global, notes: &[Note]) -> Result<Vec<NameError>, AllocError>
-    ensures { IfOk result (λ errors. errors.items ≡ spec.wrong_annots notes.now) }
-{
-    let mut errors = Vec::new(alloc);
-    for note in notes {
-        if let Note::WrongAnnot(error) = note {
-            errors.push(*error)?;
-        }
-    }
-    Ok(errors)
-}
-
 fn lesser(least: Option<u8>, new: u8) -> u8
     ensures { Some result ≡ tested.lesser least new }
 {
@@ -64,12 +52,14 @@ fn note_rank(ranks: &mut IndexMap<Span, u8>, error: &NameError) -> Result<(), Al
     Ok(())
 }
 
-fn least_ranks(alloc: Global, annots: &[NameError]) -> Result<IndexMap<Span, u8>, AllocError>
-    ensures { IfOk result (λ least. (p : Span) → get spec.same_span least p ≡ tested.least_rank p None annots.now) }
+fn least_ranks(alloc: Global, notes: &[Note]) -> Result<IndexMap<Span, u8>, AllocError>
+    ensures { IfOk result (λ least. (p : Span) → get spec.same_span least p ≡ tested.least_rank p None (spec.wrong_annots notes.now)) }
 {
     let mut least = IndexMap::new(alloc);
-    for error in annots {
-        note_rank(&mut least, error)?;
+    for note in notes {
+        if let Note::WrongAnnot(error) = note {
+            note_rank(&mut least, error)?;
+        }
     }
     Ok(least)
 }
@@ -86,16 +76,26 @@ fn is_below(least: Option<u8>, rank: u8) -> bool
 fn push_firsts(
     errors: &mut Vec<NameError>,
     least: &IndexMap<Span, u8>,
-    annots: &[NameError],
+    notes: &[Note],
 ) -> Result<(), AllocError>
-    ensures { OnOk result (errors.new.items ≡ errors.old.items ++ tested.not_above (λ p. get spec.same_span least.now p) annots.now) }
+    ensures { OnOk result (errors.new.items ≡ errors.old.items ++ tested.not_above (λ p. get spec.same_span least.now p) (spec.wrong_annots notes.now)) }
 {
-    for error in annots {
-        if !is_below(least.get(&error.span).copied(), rank(error.rule)) {
-            errors.push(*error)?;
+    for note in notes {
+        if let Note::WrongAnnot(error) = note {
+            if !is_below(least.get(&error.span).copied(), rank(error.rule)) {
+                errors.push(*error)?;
+            }
         }
     }
     Ok(())
+}
+
+/// Adds the errors of annotations, each time those that are tested first.
+fn push_annots(alloc: Global, errors: &mut Vec<NameError>, notes: &[Note]) -> Result<(), AllocError>
+    ensures { OnOk result (errors.new.items ≡ errors.old.items ++ spec.firsts (spec.wrong_annots notes.now) (spec.wrong_annots notes.now)) }
+{
+    let least = least_ranks(alloc, notes)?;
+    push_firsts(errors, &least, notes)
 }
 
 /// The errors of the notes: all but those of an annotation that has one of an earlier test.
@@ -103,8 +103,6 @@ pub fn derived(alloc: Global, notes: &[Note]) -> Result<Vec<NameError>, AllocErr
     ensures { IfOk result (λ errors. errors.items ≡ spec.derived notes.now) }
 {
     let mut errors = wrongs(alloc, notes)?;
-    let annots = wrong_annots(alloc, notes)?;
-    let least = least_ranks(alloc, annots.as_slice())?;
-    push_firsts(&mut errors, &least, annots.as_slice())?;
+    push_annots(alloc, &mut errors, notes)?;
     Ok(errors)
 }

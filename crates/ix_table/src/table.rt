@@ -77,49 +77,41 @@ fn keep_first(
     Ok(())
 }
 
-fn meanings(alloc: Global, notes: &[Note]) -> Result<IndexMap<Span, usize>, AllocError>
-    ensures { IfOk result (λ numbers. (p : Span) → get same_span numbers p ≡ spec.first_use p None 0 notes.now) }
+/// Keeps of each place the number of its first note of each kind.
+fn keep_numbers(
+    meanings: &mut IndexMap<Span, usize>,
+    types: &mut IndexMap<Span, usize>,
+    declarations: &mut IndexMap<Span, usize>,
+    notes: &[Note],
+) -> Result<(), AllocError>
+    ensures meanings { OnOk result ((p : Span) → get same_span meanings.new p ≡ spec.first_use p (get same_span meanings.old p) 0 notes.now) }
+    ensures types { OnOk result ((p : Span) → get same_span types.new p ≡ spec.first_typed p (get same_span types.old p) 0 notes.now) }
+    ensures declarations { OnOk result ((p : Span) → get same_span declarations.new p ≡ spec.first_declared p (get same_span declarations.old p) 0 notes.now) }
 {
-    let mut numbers = IndexMap::new(alloc);
     for (number, note) in notes.iter().enumerate() {
-        if let Note::Use(span, _) = note {
-            keep_first(&mut numbers, *span, number)?;
+        match note {
+            Note::Use(span, _) => keep_first(meanings, *span, number)?,
+            Note::Typed(span, _) => keep_first(types, *span, number)?,
+            Note::Declares(span, _) => keep_first(declarations, *span, number)?,
+            Note::Wrong(_) | Note::WrongAnnot(_) => {}
         }
     }
-    Ok(numbers)
-}
-
-fn types(alloc: Global, notes: &[Note]) -> Result<IndexMap<Span, usize>, AllocError>
-    ensures { IfOk result (λ numbers. (p : Span) → get same_span numbers p ≡ spec.first_typed p None 0 notes.now) }
-{
-    let mut numbers = IndexMap::new(alloc);
-    for (number, note) in notes.iter().enumerate() {
-        if let Note::Typed(span, _) = note {
-            keep_first(&mut numbers, *span, number)?;
-        }
-    }
-    Ok(numbers)
-}
-
-fn declarations(alloc: Global, notes: &[Note]) -> Result<IndexMap<Span, usize>, AllocError>
-    ensures { IfOk result (λ numbers. (p : Span) → get same_span numbers p ≡ spec.first_declared p None 0 notes.now) }
-{
-    let mut numbers = IndexMap::new(alloc);
-    for (number, note) in notes.iter().enumerate() {
-        if let Note::Declares(span, _) = note {
-            keep_first(&mut numbers, *span, number)?;
-        }
-    }
-    Ok(numbers)
+    Ok(())
 }
 
 /// The table of the notes. Of several notes of one kind at one place the first counts.
 pub fn table_of(alloc: Global, notes: List<Note>) -> Result<Table, AllocError>
     ensures { IfOk result (λ table. spec.shown table ≡ names_in notes) }
 {
-    let meanings = meanings(alloc, notes.as_slice())?;
-    let types = types(alloc, notes.as_slice())?;
-    let declarations = declarations(alloc, notes.as_slice())?;
+    let mut meanings = IndexMap::new(alloc);
+    let mut types = IndexMap::new(alloc);
+    let mut declarations = IndexMap::new(alloc);
+    keep_numbers(
+        &mut meanings,
+        &mut types,
+        &mut declarations,
+        notes.as_slice(),
+    )?;
     Ok(Table {
         notes,
         meanings,

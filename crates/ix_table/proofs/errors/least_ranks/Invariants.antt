@@ -5,5 +5,5 @@ use Rattle.ix_meaning.specs.Listed as spec
 use Rattle.ix_table.specs.Ranks as tested
 use Rattle.ix_table.proofs.errors.least_ranks.Given as goal
 
-abbrev pub invariant-loop-error : goal.invariant-loop-error
-invariant-loop-error l = (p : Span) → tested.least_rank p (get spec.same_span l.least p) (drop l.error-index l.annots) ≡ tested.least_rank p None l.annots
+abbrev pub invariant-loop-note : goal.invariant-loop-note
+invariant-loop-note l = (p : Span) → tested.least_rank p (get spec.same_span l.least p) (spec.wrong_annots (drop l.note-index l.notes)) ≡ tested.least_rank p None (spec.wrong_annots l.notes)

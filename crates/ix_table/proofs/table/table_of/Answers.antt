@@ -20,9 +20,9 @@ same_names a b p s t q d e r = cc
 pub returns : goal.returns
 returns c =
     let ns = c.args.notes in
-    let meanings : (p : Span) → get same_span c.in_ok-meanings.meanings p ≡ spec.first_use p None 0 ns = search rules in
-    let types : (p : Span) → get same_span c.in_ok-types.types p ≡ spec.first_typed p None 0 ns = search rules in
-    let declarations : (p : Span) → get same_span c.in_ok-declarations.declarations p ≡ spec.first_declared p None 0 ns = search rules in
+    let meanings : (p : Span) → get same_span c.keep_numbers.new.meanings p ≡ spec.first_use p None 0 ns = search rules in
+    let types : (p : Span) → get same_span c.keep_numbers.new.types p ≡ spec.first_typed p None 0 ns = search rules in
+    let declarations : (p : Span) → get same_span c.keep_numbers.new.declarations p ≡ spec.first_declared p None 0 ns = search rules in
     same_names _ _ (fun_ext (λ p. ap (λ o. spec.meaning_in (spec.numbered ns o)) (meanings p) ∙ use_found p ns 0 ns refl))
     _ _ (fun_ext (λ p. ap (λ o. spec.type_in (spec.numbered ns o)) (types p) ∙ typed_found p ns 0 ns refl))
     _ _ (fun_ext (λ p. ap (λ o. spec.declared_in (spec.numbered ns o)) (declarations p) ∙ declared_found p ns 0 ns refl))
