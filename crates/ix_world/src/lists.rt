@@ -1,6 +1,6 @@
 //! All fields, methods and constructors, in the order of the text. A method's number is its place; so is an instance field's, among its like.
 
-ghost use Rattle.std.specs.Prelude.{◌≡◌, ◌++◌, ◌+◌, ◌<◌, ◌≤◌, ◌^◌, length, map, option_map, IfOk, OnOk};
+ghost use Rattle.std.specs.Prelude.{◌≡◌, ◌++◌, ◌+◌, ◌<◌, ◌≤◌, ◌^◌, ◌&&◌, not, length, map, option_map, IfOk, OnOk};
 ghost use Rattle.indexmap.specs.IndexMap.{get_by_text};
 ghost use Rattle.ix_types.specs.Members as spec;
 ghost use Rattle.ix_types.specs.Source.{members_in};
@@ -194,6 +194,13 @@ fn result_type(
     }
 }
 
+/// Whether a method is static; a constructor isn't.
+fn is_static(decl: &MethodDecl) -> bool
+    ensures { result ≡ (decl.now.mods.is_static && not decl.now.constructor) }
+{
+    decl.mods.is_static && !decl.constructor
+}
+
 /// A method or a constructor of the class.
 pub fn method_of(
     alloc: Global,
@@ -211,7 +218,7 @@ pub fn method_of(
         name,
         span: decl.name.span,
         constructor: decl.constructor,
-        is_static: decl.mods.is_static && !decl.constructor,
+        is_static: is_static(decl),
         is_private: decl.mods.is_private,
         params,
         result,
