@@ -1,2 +1,3 @@
 pub mod NewLocals
 pub mod Prefix
+pub mod Told

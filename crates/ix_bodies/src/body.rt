@@ -273,14 +273,13 @@ fn statement_kind<'a>(
         }
         StmtKind::Empty => Ok(()),
         StmtKind::Local(decls) => declare_all(alloc, world, scopes, notes, decls.as_slice()),
-        StmtKind::If(e, then, None) => {
-            condition(alloc, world, scopes, notes, e)?;
-            statement(alloc, world, scopes, notes, then.get())
-        }
-        StmtKind::If(e, then, Some(other)) => {
+        StmtKind::If(e, then, other) => {
             condition(alloc, world, scopes, notes, e)?;
             statement(alloc, world, scopes, notes, then.get())?;
-            statement(alloc, world, scopes, notes, other.get())
+            match other {
+                None => Ok(()),
+                Some(other) => statement(alloc, world, scopes, notes, other.get()),
+            }
         }
         StmtKind::While(e, body) => {
             condition(alloc, world, scopes, notes, e)?;

@@ -1,0 +1,50 @@
+-- What a statement tells, read off what its parts tell.
+use Rattle.std.proofs.Common.{◌≡◌, ◌++◌, ◌+◌, ℕ, List, length, take, map, ◌∙◌, ap, append_assoc, arith}
+use Rattle.ix_meaning.specs.declared.note.Note.{Note}
+use Rattle.ix_meaning.specs.Scope.{Scope}
+use Rattle.ix_meaning.specs.Bodies.{Telling, after, then_told, noted_then, closed}
+use Rattle.ix_values.specs.Scopes.{Scopes}
+use Rattle.ix_values.specs.Here.{names, local_known, param_known, Extends}
+use Rattle.ix_bodies.proofs.Prefix.{extends_same, extends_trans, take_extended}
+
+-- The notes and the scope behind, of what leads from one scope to another; `here` is what the names in scope mean.
+pub record Told (here : Scopes → Scope) (t : Telling) (s u : Scopes) (n m : List Note) : Type 0 where
+  pub notes : m ≡ n ++ t.notes (here s)
+  pub scope : here u ≡ after t (here s)
+  pub keeps : Extends s u
+
+counted : (a b c : ℕ) → (a + b) + c ≡ a + (b + c)
+counted a b c = omega arith
+
+pub same_names : (s v : Scopes) → v.params ≡ s.params → v.locals.entries ≡ s.locals.entries → names v ≡ names s
+same_names s v params locals =
+    ap (λ ps. map param_known ps ++ map local_known v.locals.entries) params ∙ ap (λ ls. map param_known s.params ++ map local_known ls) locals
+
+pub joined : {m o : List Note} (n xs ys : List Note) → m ≡ n ++ xs → o ≡ m ++ ys → o ≡ n ++ (xs ++ ys)
+joined n xs ys first second = second ∙ ap (λ l. l ++ ys) first ∙ append_assoc n xs ys
+
+module _ {here : Scopes → Scope} where
+  pub then_notes : {t : Telling} {s u : Scopes} {n m o : List Note} (f : Scope → List Note) → Told here t s u n m → o ≡ m ++ f (here u) → o ≡ n ++ (t.notes (here s) ++ f (after t (here s)))
+  then_notes {t} {s} {u} {n} {m} {o} f a noted = joined n (t.notes (here s)) (f (after t (here s))) a.notes (noted ∙ ap (λ (h : Scope). m ++ f h) a.scope)
+
+  pub then_scope : {t : Telling} {s u x : Scopes} {n m : List Note} (v : Telling) → Told here t s u n m → here x ≡ after v (here u) → here x ≡ after (then_told t v) (here s)
+  then_scope {t} {s} {u} {x} {n} {m} v a behind =
+      behind ∙ ap (λ (h : Scope). after v h) a.scope ∙ ap (λ (k : ℕ). record (here s) { names = v.names (after t (here s)); next = k }) (counted (here s).next t.declares v.declares)
+
+  pub told_then : {t v : Telling} {s u x : Scopes} {n m o : List Note} → Told here t s u n m → Told here v u x m o → Told here (then_told t v) s x n o
+  told_then {t} {v} {s} {u} {x} a b = record { notes = then_notes v.notes a b.notes; scope = then_scope v a b.scope; keeps = extends_trans s u x a.keeps b.keeps }
+
+  pub told_before : {t : Telling} {s u : Scopes} {n m o : List Note} (f : Scope → List Note) → m ≡ n ++ f (here s) → Told here t s u m o → Told here (noted_then f t) s u n o
+  told_before {t} {s} {u} {n} f noted a = record { notes = joined n (f (here s)) (t.notes (here s)) noted a.notes; scope = a.scope; keeps = a.keeps }
+
+  pub told_closed : {t : Telling} {s u v : Scopes} {n m : List Note} → Told here t s u n m → v.params ≡ u.params
+      → v.locals.entries ≡ take (length s.locals.entries) u.locals.entries → (v.params ≡ s.params → v.locals.entries ≡ s.locals.entries → (here v).names ≡ (here s).names)
+      → here v ≡ record (here u) { names = (here v).names } → Told here (closed t) s v n m
+  told_closed {t} {s} {u} {v} a params locals same rest =
+      let same_params : v.params ≡ s.params = params ∙ a.keeps.params in
+      let same_locals : v.locals.entries ≡ s.locals.entries = locals ∙ take_extended s u a.keeps in
+      record {
+        notes = a.notes;
+        scope = rest ∙ ap (λ (h : Scope). record h { names = (here v).names }) a.scope ∙ ap (λ ks. record (after t (here s)) { names = ks }) (same same_params same_locals);
+        keeps = extends_same s v same_params same_locals;
+      }
