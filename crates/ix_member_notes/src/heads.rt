@@ -92,8 +92,8 @@ fn method_given<'p>(
         names: &names,
         target: target(m),
     };
-    let mut claims = List::new(alloc);
     let annots = gathered(alloc, part(m.constructor), annots)?;
+    let mut claims = List::new(alloc);
     given(alloc, notes, &mut claims, &names, annots.as_slice())
 }
 
