@@ -1,2 +1,3 @@
 pub mod ClassUses
 pub mod EachOnce
+pub mod FirstFields

@@ -54,20 +54,12 @@ fn rule_of(error: AnnotError) -> Rule
     }
 }
 
-fn push_all(claims: &mut List<Claim>, more: &[Claim]) -> Result<(), AllocError>
-    ensures { OnOk result (claims.new ≡ claims.old ++ more.now) }
+/// Adds copies of those values at the end.
+fn push_all<T: Copy>(list: &mut List<T>, more: &[T]) -> Result<(), AllocError>
+    ensures { OnOk result (list.new ≡ list.old ++ more.now) }
 {
-    for claim in more {
-        claims.push(*claim)?;
-    }
-    Ok(())
-}
-
-fn push_posts(posts: &mut List<Post>, more: &[Post]) -> Result<(), AllocError>
-    ensures { OnOk result (posts.new ≡ posts.old ++ more.now) }
-{
-    for post in more {
-        posts.push(*post)?;
+    for each in more {
+        list.push(*each)?;
     }
     Ok(())
 }
@@ -88,7 +80,7 @@ fn one_given<N: Names>(
     match expand(alloc, annot, names) {
         Ok(found) => {
             push_all(claims, found.list.as_slice())?;
-            push_posts(posts, found.posts.as_slice())?;
+            push_all(posts, found.posts.as_slice())?;
             Ok(found.effect_free)
         }
         Err(AnnotError::Memory) => Err(AllocError),

@@ -3,6 +3,7 @@
 ghost use Rattle.std.specs.Prelude.{◌≡◌, Some, map, option_map, IfOk};
 ghost use Rattle.ix_meaning.specs.Declarators as spec;
 ghost use Rattle.ix_written.specs.Begun.{Begins, AllBegin, first_shown};
+ghost use Rattle.ix_written.specs.Parts.{chosen};
 
 use crate::part::{Part, gathered};
 use ix_meaning::same_span;
@@ -25,6 +26,20 @@ pub struct Begun<'a> {
     pub behind: List<&'a Annot>,
 }
 
+/// Those that are meant of the annotations at the declarator.
+fn annotations_at<'a>(
+    alloc: Global,
+    part: Part,
+    decl: &'a LocalDecl,
+) -> Result<Annotations<'a>, AllocError>
+    ensures before { IfOk result (λ own. map (λ annot. annot.now) own.before ≡ chosen part decl.now.mods.annots) }
+    ensures behind { IfOk result (λ own. map (λ annot. annot.now) own.behind ≡ chosen part decl.now.ty.annots) }
+{
+    let before = gathered(alloc, part, decl.mods.get().annots.as_slice())?;
+    let behind = gathered(alloc, part, decl.ty.get().annots.as_slice())?;
+    Ok(Annotations { before, behind })
+}
+
 /// All that are written at the declarator.
 pub fn own_annotations<'a>(
     alloc: Global,
@@ -33,9 +48,7 @@ pub fn own_annotations<'a>(
     ensures before { IfOk result (λ own. map (λ annot. annot.now) own.before ≡ decl.now.mods.annots) }
     ensures behind { IfOk result (λ own. map (λ annot. annot.now) own.behind ≡ decl.now.ty.annots) }
 {
-    let before = gathered(alloc, Part::All, decl.mods.get().annots.as_slice())?;
-    let behind = gathered(alloc, Part::All, decl.ty.get().annots.as_slice())?;
-    Ok(Annotations { before, behind })
+    annotations_at(alloc, Part::All, decl)
 }
 
 /// The declaration that begins with that declarator.
@@ -43,8 +56,7 @@ pub fn begin_with<'a>(alloc: Global, first: &'a LocalDecl) -> Result<Begun<'a>, 
     ensures begins { IfOk result Begins }
     ensures first { IfOk result (λ begun. begun.first.now ≡ first.now) }
 {
-    let before = gathered(alloc, Part::Counting, first.mods.get().annots.as_slice())?;
-    let behind = gathered(alloc, Part::Counting, first.ty.get().annots.as_slice())?;
+    let Annotations { before, behind } = annotations_at(alloc, Part::Counting, first)?;
     Ok(Begun {
         first,
         before,
@@ -52,14 +64,25 @@ pub fn begin_with<'a>(alloc: Global, first: &'a LocalDecl) -> Result<Begun<'a>, 
     })
 }
 
-fn copied<'a>(alloc: Global, annots: &[&'a Annot]) -> Result<List<&'a Annot>, AllocError>
-    ensures { IfOk result (λ list. map (λ annot. annot.now) list ≡ map (λ annot. annot.now) annots.now) }
+fn copied<'a>(annots: &List<&'a Annot>) -> Result<List<&'a Annot>, AllocError>
+    ensures { IfOk result (λ list. list ≡ annots.now) }
 {
-    let mut list = List::new(alloc);
-    for annot in annots {
-        list.push(*annot)?;
+    annots.clone()
+}
+
+/// Those behind the base of the type of a further declarator.
+fn further_behind<'a>(
+    alloc: Global,
+    begun: &Begun<'a>,
+    decl: &LocalDecl,
+) -> Result<List<&'a Annot>, AllocError>
+    requires { Begins begun.now }
+    ensures { IfOk result (λ list. map (λ annot. annot.now) list ≡ spec.counting_behind begun.now.first.now decl.now) }
+{
+    if 0 < decl.ty.get().depth {
+        return copied(&begun.behind);
     }
-    Ok(list)
+    Ok(List::new(alloc))
 }
 
 /// Those of a further declarator of the declaration.
@@ -72,12 +95,8 @@ pub fn further_annotations<'a>(
     ensures before { IfOk result (λ own. map (λ annot. annot.now) own.before ≡ spec.counting begun.now.first.now.mods.annots) }
     ensures behind { IfOk result (λ own. map (λ annot. annot.now) own.behind ≡ spec.counting_behind begun.now.first.now decl.now) }
 {
-    let before = copied(alloc, begun.before.as_slice())?;
-    if 0 < decl.ty.get().depth {
-        let behind = copied(alloc, begun.behind.as_slice())?;
-        return Ok(Annotations { before, behind });
-    }
-    let behind = List::new(alloc);
+    let before = copied(&begun.before)?;
+    let behind = further_behind(alloc, begun, decl)?;
     Ok(Annotations { before, behind })
 }
 
@@ -102,7 +121,18 @@ pub fn field_annotations<'a>(
     }
 }
 
+/// Whether the field is a further one of the declaration that began so.
+fn is_further(begun: &Option<Begun<'_>>, decl: &LocalDecl) -> bool
+    ensures { result ≡ spec.is_further (option_map first_shown begun.now) decl.now }
+{
+    match begun {
+        None => false,
+        Some(begun) => same_span(begun.first.ty.get().span, decl.ty.get().span),
+    }
+}
+
 /// The declaration of which the next field may be a further one.
+#[tactic(auto, using(crate::proofs::FirstFields::further_first, crate::proofs::FirstFields::other_first))]
 pub fn declaration_of<'a>(
     alloc: Global,
     begun: Option<Begun<'a>>,
@@ -112,13 +142,8 @@ pub fn declaration_of<'a>(
     ensures begins { IfOk result AllBegin }
     ensures first { IfOk result (λ next. option_map first_shown next ≡ Some (spec.first_of (option_map first_shown begun.entry) decl.now)) }
 {
-    match begun {
-        None => Ok(Some(begin_with(alloc, decl)?)),
-        Some(begun) => {
-            if same_span(begun.first.ty.get().span, decl.ty.get().span) {
-                return Ok(Some(begun));
-            }
-            Ok(Some(begin_with(alloc, decl)?))
-        }
+    if is_further(&begun, decl) {
+        return Ok(begun);
     }
+    Ok(Some(begin_with(alloc, decl)?))
 }
