@@ -3,3 +3,4 @@ pub mod Refused
 mod WritesRefused
 mod OverridesRefused
 mod PostsRefused
+mod Walked

@@ -1,7 +1,8 @@
 -- The errors of overriding methods, tried on the least stores that are allowed.
-use Rattle.std.specs.Prelude.{◌≡◌, ◌↔◌, ℕ, ◌+◌, None, List, ◌++◌, refl}
+use Rattle.std.specs.Prelude.{◌≡◌, ◌↔◌, ℕ, ◌+◌, None, Result, Ok, Err, IfOk, List, ◌++◌, refl}
+use Rattle.std.specs.declared.alloc.AllocError.{AllocError}
 use Rattle.std.proofs.Common.{arith, subst}
-use Rattle.ix_core.specs.declared.error.Subject.TheVariants.{Param, Result}
+use Rattle.ix_core.specs.declared.error.Subject.TheVariants.{Param, Result as ResultOf}
 use Rattle.ix_core.specs.declared.fact.Fact.{Fact}
 use Rattle.ix_core.specs.declared.fact.Path.{Path}
 use Rattle.ix_core.specs.declared.fact.Path.TheVariants.{Slot, FieldOf}
@@ -16,9 +17,11 @@ use Rattle.ix_facts.proofs.StepLaws.{then_step}
 use Rattle.ix_facts.proofs.StoreLaws.{below_itself, store_above, store_least}
 use Rattle.ix_claim_facts.specs.MachineSteps.{on_paths, own_path}
 use Rattle.ix_store.specs.ChangedPaths.{of_called}
+use Rattle.ix_store.specs.declared.store.Store.{Store}
+use Rattle.ix_store.specs.StoredFacts.{stored}
 use Rattle.ix_sign_errors.specs.Exactly.{AreExactly}
 use Rattle.ix_sign_errors.specs.Refusals.{refusals, not_proved, param_refusals}
-use Rattle.ix_claim_facts.specs.Signs.{Adds, Forgets, IsLeastAllowed, received_params, params_facts, received, claims_facts}
+use Rattle.ix_claim_facts.specs.Signs.{Adds, Forgets, IsLeastOf, IsLeastAllowed, received_params, params_facts, received, claims_facts}
 use Rattle.ix_claim_facts.specs.SignErrors.{Refuses, AllRefuse, OverrideParameter, OverrideResult, HasRun, of_run}
 use Rattle.ix_claim_facts.proofs.ForgottenAlike.{forgotten_alike}
 use Rattle.ix_claim_facts.proofs.LeastSteps.{least_given, least_then, all_refuse, refuse_least}
@@ -68,27 +71,44 @@ run_alike : (program : Program) (method : Method) (p : Path) → of_called progr
 run_alike program method (Slot s) = refl
 run_alike program method (FieldOf s f) = refl
 
-pub run_least : (program : Program) (method upper : Method) (first between t : Stored) → IsStoreOf (received_params upper 0 upper.param_types ++ params_facts upper 0 upper.params) first
-    → IsForgotten (of_called program (param_slots method) method.effect_free None) first between
-    → IsAdded (received method.result (Slot (param_slots method)) ++ claims_facts (own_path method) (Slot (param_slots method)) method.result_claims) between t → IsLeastAllowed (HasRun program method upper) t
-run_least program method upper first between t is forgotten added =
-    let facts = received_params upper 0 upper.param_types ++ params_facts upper 0 upper.params in
-    let new = received method.result (Slot (param_slots method)) ++ claims_facts (own_path method) (Slot (param_slots method)) method.result_claims in
+-- what the method's run adds: its own claims of its result
+abbrev pub gives_result : Method → List Fact
+gives_result method = received method.result (Slot (param_slots method)) ++ claims_facts (own_path method) (Slot (param_slots method)) method.result_claims
+
+pub run_behind : (program : Program) (method : Method) (first between t : Stored) → IsForgotten (of_called program (param_slots method) method.effect_free None) first between → IsAdded (gives_result method) between t
+    → IsLeastOf (Then (Forgets (of_run program method)) (Adds (gives_result method))) first t
+run_behind program method first between t forgotten added =
     let changed = of_run program method in
-    let step : IsStep (Then (Forgets changed) (Adds new)) = then_step (Forgets changed) (Adds new) (forgets_step changed) (adds_step new) in
-    let least = least_then (Forgets changed) (Adds new) (adds_step new) first between t
-    (least_given (without changed) first between (forgotten_alike (of_called program (param_slots method) method.effect_free None) changed (run_alike program method) first between forgotten)) (least_given (with_facts new) between t added) in
+    least_then (Forgets changed) (Adds (gives_result method)) (adds_step (gives_result method)) first between t
+    (least_given (without changed) first between (forgotten_alike (of_called program (param_slots method) method.effect_free None) changed (run_alike program method) first between forgotten)) (least_given (with_facts (gives_result method)) between t added)
+
+pub run_least : (program : Program) (method upper : Method) (first t : Stored) → IsStoreOf (received_params upper 0 upper.param_types ++ params_facts upper 0 upper.params) first
+    → IsLeastOf (Then (Forgets (of_run program method)) (Adds (gives_result method))) first t → IsLeastAllowed (HasRun program method upper) t
+run_least program method upper first t is least =
+    let facts = received_params upper 0 upper.param_types ++ params_facts upper 0 upper.params in
+    let changed = of_run program method in
+    let step : IsStep (Then (Forgets changed) (Adds (gives_result method))) = then_step (Forgets changed) (Adds (gives_result method)) (forgets_step changed) (adds_step (gives_result method)) in
     record {
       above = (first, store_above facts first is, least.above);
       least = λ u allowed. least.least u (step first allowed.0 u u (store_least facts first allowed.0 is allowed.1) allowed.2 (below_itself u));
     }
 
+pub behind_added : (program : Program) (method : Method) (first between : Stored) (r : Result Store AllocError) → IsForgotten (of_called program (param_slots method) method.effect_free None) first between
+    → IfOk r (λ store. IsAdded (gives_result method) between (stored store)) → IfOk r (λ store. IsLeastOf (Then (Forgets (of_run program method)) (Adds (gives_result method))) first (stored store))
+behind_added program method first between (Ok store) forgotten added = run_behind program method first between (stored store) forgotten added
+behind_added program method first between (Err failed) forgotten added = tt
+
+pub has_run_least : (program : Program) (method upper : Method) (first : Stored) (r : Result Store AllocError) → IsStoreOf (received_params upper 0 upper.param_types ++ params_facts upper 0 upper.params) first
+    → IfOk r (λ store. IsLeastOf (Then (Forgets (of_run program method)) (Adds (gives_result method))) first (stored store)) → IfOk r (λ store. IsLeastAllowed (HasRun program method upper) (stored store))
+has_run_least program method upper first (Ok store) is least = run_least program method upper first (stored store) is least
+has_run_least program method upper first (Err failed) is least = tt
+
 pub results_are : (program : Program) (method upper : Method) (over : ℕ) (s : Stored) → IsLeastAllowed (HasRun program method upper) s
-    → AreExactly (OverrideResult program method upper over) (refusals (not_proved s (own_path upper) (Slot (param_slots method))) 11 method.span (Result over) 0 upper.result_claims)
+    → AreExactly (OverrideResult program method upper over) (refusals (not_proved s (own_path upper) (Slot (param_slots method))) 11 method.span (ResultOf over) 0 upper.result_claims)
 results_are program method upper over s least =
     refusals_exact (λ claim. AllRefuse (HasRun program method upper) (on_paths (own_path upper) claim) (Slot (param_slots method))) (not_proved s (own_path upper) (Slot (param_slots method)))
     (λ claim.
     let fails = fails_refused (on_paths (own_path upper) claim) (Slot (param_slots method)) s in
     let all = least_refuses (HasRun program method upper) s least (on_paths (own_path upper) claim) (Slot (param_slots method)) in
     (λ t. all.0 (fails.0 t), λ a. fails.1 (all.1 a)))
-    11 method.span (Result over) upper.result_claims
+    11 method.span (ResultOf over) upper.result_claims

@@ -24,7 +24,7 @@ use Rattle.ix_claim_facts.specs.MachineSteps.{on_paths, own_path}
 use Rattle.ix_sign_errors.specs.declared.ranked.Ranked.{Ranked}
 use Rattle.ix_sign_errors.specs.Exactly.{IsListed, AreExactly, AddsExactly}
 use Rattle.ix_claim_facts.specs.Names.{call_path, object_path, written_path, names_field}
-use Rattle.ix_sign_errors.specs.Refusals.{is_proved, refusals, not_proved, not_proved_naming, argument_refusals, field_refusals, dependent_refusals, param_refusals}
+use Rattle.ix_sign_errors.specs.Refusals.{is_proved, refusals, not_proved, not_proved_of, argument_refusals, field_refusals, dependent_refusals, param_refusals}
 use Rattle.ix_claim_facts.specs.SignErrors.{Refuses, unproved, Unproved, ArgumentClaim, ReturnClaim, ConstructorClaim}
 
 -- ---- what is proved, as a test
@@ -197,7 +197,7 @@ and_from : (a b : Bool) → a ≡ true → b ≡ true → (a && b) ≡ true
 and_from true b s t = t
 and_from false b s t = absurd (false≢true s)
 
-pub naming_refused : (field : ℕ) (store : Stored) (path : Name → Path) (p : Path) (claim : Claim) → (not_proved_naming field store path p claim ≡ true) ↔ ((names_field field claim ≡ true) × Refuses store (on_paths path claim) p)
+pub naming_refused : (field : ℕ) (store : Stored) (path : Name → Path) (p : Path) (claim : Claim) → (not_proved_of (Some field) store path p claim ≡ true) ↔ ((names_field field claim ≡ true) × Refuses store (on_paths path claim) p)
 naming_refused field store path p claim = (
   λ t. let x = and_parts (names_field field claim) (not_proved store path p claim) t in (x.0, (fails_refused (on_paths path claim) p store).0 x.1),
   λ d. and_from (names_field field claim) (not_proved store path p claim) d.0 ((fails_refused (on_paths path claim) p store).1 d.1),
@@ -234,17 +234,17 @@ module _ (store : Stored) (object field value : ℕ) (span : Span) where
       (suc d.0, d.1, d.2, subst (λ n. (n == field) ≡ false) e d.3, subst (λ n. Dependent n d.1 error rank) e d.4)
 
   dependents_by : (first : ℕ) (other : Field) (fields : List Field) (rest : List Ranked) → AreExactly (SomeDependent (suc first) fields) rest → (t : Bool) → (first == field) ≡ t
-      → AreExactly (SomeDependent first (other ∷ fields)) (cond t [] (refusals (not_proved_naming field store (written_path object field value) (FieldOf object first)) 8 span (FieldNamed first) 0 other.claims) ++ rest)
+      → AreExactly (SomeDependent first (other ∷ fields)) (cond t [] (refusals (not_proved_of (Some field) store (written_path object field value) (FieldOf object first)) 8 span (FieldNamed first) 0 other.claims) ++ rest)
   dependents_by first other fields rest ih true so =
       exactly_same (SomeDependent (suc first) fields) (SomeDependent first (other ∷ fields)) rest
       (λ error rank. (dependent_later first other fields error rank, λ d. ⊎_elim (λ x. absurd (false≢true (sym x.0 ∙ so))) (λ x. x) (dependent_parts first other fields error rank d)))
       ih
   dependents_by first other fields rest ih false so =
       exactly_both (Dependent first other) (SomeDependent (suc first) fields) (SomeDependent first (other ∷ fields))
-      (refusals (not_proved_naming field store (written_path object field value) (FieldOf object first)) 8 span (FieldNamed first) 0 other.claims) rest
+      (refusals (not_proved_of (Some field) store (written_path object field value) (FieldOf object first)) 8 span (FieldNamed first) 0 other.claims) rest
       (λ error rank d. ⊎_elim (λ x. inl x.1) (λ x. inr x) (dependent_parts first other fields error rank d))
       (λ error rank u. dependent_one first other fields error rank (so, u)) (dependent_later first other fields)
-      (refusals_exact (λ claim. (names_field field claim ≡ true) × Refuses store (on_paths (written_path object field value) claim) (FieldOf object first)) (not_proved_naming field store (written_path object field value) (FieldOf object first))
+      (refusals_exact (λ claim. (names_field field claim ≡ true) × Refuses store (on_paths (written_path object field value) claim) (FieldOf object first)) (not_proved_of (Some field) store (written_path object field value) (FieldOf object first))
       (naming_refused field store (written_path object field value) (FieldOf object first)) 8 span (FieldNamed first) other.claims)
       ih
 

@@ -1,5 +1,5 @@
 -- The errors of claims as lists.
-use Rattle.std.specs.Prelude.{ℕ, suc, Bool, true, cond, not, ◌&&◌, ◌==◌, List, [], ◌∷◌, ◌++◌, Option}
+use Rattle.std.specs.Prelude.{ℕ, suc, Bool, true, cond, not, ◌&&◌, ◌==◌, List, [], ◌∷◌, ◌++◌, Option, None, Some}
 use Rattle.ix_text.specs.declared.span.Span.{Span}
 use Rattle.ix_core.specs.declared.claim.Claim.{Claim}
 use Rattle.ix_core.specs.declared.claim.Name.{Name}
@@ -39,9 +39,14 @@ refusals fails rule span subject rank (claim ∷ claims) =
 abbrev pub not_proved : Stored → (Name → Path) → Path → Claim → Bool
 not_proved store path p claim = not (is_proved (on_paths path claim) p store)
 
--- the same, of claims that name a field
-abbrev pub not_proved_naming : ℕ → Stored → (Name → Path) → Path → Claim → Bool
-not_proved_naming field store path p claim = names_field field claim && not_proved store path p claim
+-- where a field is given only a claim that names it is asked for
+abbrev pub asked_for : Option ℕ → Claim → Bool
+asked_for None claim = true
+asked_for (Some field) claim = names_field field claim
+
+-- such a claim is asked for and fails
+abbrev pub not_proved_of : Option ℕ → Stored → (Name → Path) → Path → Claim → Bool
+not_proved_of only store path p claim = asked_for only claim && not_proved store path p claim
 
 -- of arguments, from one of this number on
 abbrev pub argument_refusals : Stored → CallOp → ℕ → List Variable → List Arg → List Ranked
@@ -70,7 +75,7 @@ field_refusals program store span (field ∷ fields) =
 abbrev pub dependent_refusals : Stored → (object field value : ℕ) → Span → ℕ → List Field → List Ranked
 dependent_refusals store object field value span number [] = []
 dependent_refusals store object field value span number (other ∷ fields) =
-    cond (number == field) [] (refusals (not_proved_naming field store (written_path object field value) (FieldOf object number)) 8 span (FieldNamed number) 0 other.claims)
+    cond (number == field) [] (refusals (not_proved_of (Some field) store (written_path object field value) (FieldOf object number)) 8 span (FieldNamed number) 0 other.claims)
     ++ dependent_refusals store object field value span (suc number) fields
 
 -- of an overriding method's parameters, from one of this number on

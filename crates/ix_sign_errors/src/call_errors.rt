@@ -11,10 +11,10 @@ ghost use Rattle.ix_claim_facts.specs.Naming.{AreSmallClaims, AreSmallParams, Ha
 ghost use Rattle.ix_sign_errors.specs.Refusals.{refusals, not_proved, argument_refusals};
 ghost use Rattle.ix_claim_facts.specs.SignErrors.{ArgumentClaim, EffectWrite, HasEffect};
 
-use crate::ranked::Ranked;
+use crate::ranked::{Ranked, push_plain};
 use crate::unproved::{Report, push_unproved};
 use ix_claim_facts::{Naming, is_built, is_effect_free};
-use ix_core::{Arg, CallOp, Detail, Error, Local, Method, Op, OpKind, Path, Program, Subject};
+use ix_core::{Arg, CallOp, Local, Method, Op, OpKind, Path, Program, Subject};
 use ix_store::Store;
 use std::alloc::AllocError;
 
@@ -110,14 +110,7 @@ pub fn push_effect_error(
     ensures errors { OnOk result (AddsExactly (EffectWrite program.now within.now done.now) out.old.items out.new.items) }
 {
     if within.effect_free && has_effect(program, within, &done.kind) {
-        out.push(Ranked {
-            error: Error {
-                rule: 13,
-                span: done.span,
-                detail: Detail::Plain,
-            },
-            rank: 0,
-        })?;
+        return push_plain(out, 13, done.span);
     }
     Ok(())
 }

@@ -12,10 +12,10 @@ ghost use Rattle.ix_claim_facts.specs.Naming.{HasSmallNames, HaveSmallNames};
 ghost use Rattle.ix_sign_errors.specs.Refusals.{refusals, not_proved, field_refusals};
 ghost use Rattle.ix_claim_facts.specs.SignErrors.{ReturnClaim, ConstructorClaim, MissingReturn};
 
-use crate::ranked::Ranked;
+use crate::ranked::{Ranked, push_plain};
 use crate::unproved::{Report, push_unproved};
 use ix_claim_facts::{Naming, claims_of, instance_fields};
-use ix_core::{Detail, Error, Method, Path, Program, Subject, Type_};
+use ix_core::{Method, Path, Program, Subject, Type_};
 use ix_store::Store;
 use ix_text::Span;
 use std::alloc::{AllocError, Global};
@@ -114,14 +114,7 @@ pub fn push_missing_return(
     ensures errors { OnOk result (AddsExactly (MissingReturn method.now (stored store.now)) out.old.items out.new.items) }
 {
     if !is_void(&method.result) && !store.is_unreachable() {
-        out.push(Ranked {
-            error: Error {
-                rule: 17,
-                span: method.span,
-                detail: Detail::Plain,
-            },
-            rank: 0,
-        })?;
+        return push_plain(out, 17, method.span);
     }
     Ok(())
 }

@@ -5,20 +5,20 @@ ghost use Rattle.ix_core.specs.declared.error.Subject.TheVariants as subject;
 ghost use Rattle.ix_core.specs.declared.fact.Path.TheVariants.{Slot};
 ghost use Rattle.ix_core.specs.Tables as tables;
 ghost use Rattle.ix_core.specs.Tables.{method_at, param_slots};
-ghost use Rattle.ix_facts.specs.Stores.{IsStoreOf};
+ghost use Rattle.ix_facts.specs.Stores.{IsStoreOf, Then};
 ghost use Rattle.ix_claim_facts.specs.MachineSteps.{own_path};
 ghost use Rattle.ix_store.specs.StoredFacts.{stored};
 ghost use Rattle.ix_sign_errors.specs.Exactly.{AddsExactly, AreExactly};
 ghost use Rattle.ix_claim_facts.specs.Naming.{AreSmallClaims, HasSmallNames};
 ghost use Rattle.ix_sign_errors.specs.Refusals.{refusals, not_proved, param_refusals};
 ghost use Rattle.ix_claim_facts.specs.Signs as signs;
-ghost use Rattle.ix_claim_facts.specs.Signs.{IsLeastAllowed};
-ghost use Rattle.ix_claim_facts.specs.SignErrors.{OverrideParameter, OverrideResult, OverrideEffect, HasRun};
+ghost use Rattle.ix_claim_facts.specs.Signs.{Adds, Forgets, IsLeastOf, IsLeastAllowed, received, claims_facts};
+ghost use Rattle.ix_claim_facts.specs.SignErrors.{OverrideParameter, OverrideResult, OverrideEffect, HasRun, of_run};
 
-use crate::ranked::Ranked;
+use crate::ranked::{Ranked, push_plain};
 use crate::unproved::{Report, push_unproved};
 use ix_claim_facts::{Naming, asked_facts, called_facts, own_result, param_slot, result_slot};
-use ix_core::{Detail, Error, Local, Method, Path, Program, Subject};
+use ix_core::{Local, Method, Path, Program, Subject};
 use ix_store::Store;
 use std::alloc::{AllocError, Global};
 
@@ -94,6 +94,22 @@ fn called(alloc: Global, upper: &Method) -> Result<Store, AllocError>
     Store::of_facts(alloc, &facts)
 }
 
+/// The least store behind a run of the method, from the one before it: without what it may change, and with its own claims of its result.
+fn behind_run(
+    alloc: Global,
+    program: &Program,
+    method: &Method,
+    before: &Store,
+) -> Result<Store, AllocError>
+    requires small { HasSmallNames method.now }
+    ensures { IfOk result (λ after. IsLeastOf (Then (Forgets (of_run program.now method.now)) (Adds (received method.now.result (Slot (tables.param_slots method.now)) ++ claims_facts (own_path method.now) (Slot (tables.param_slots method.now)) method.now.result_claims))) (stored before.now) (stored after)) }
+{
+    let facts = own_result(alloc, method)?;
+    let target = result_slot(method);
+    let rest = before.forget_called(alloc, program, target, method.effect_free, None)?;
+    rest.add(alloc, &facts)
+}
+
 /// The least store where the overriding method has run for the overridden one.
 fn has_run(
     alloc: Global,
@@ -106,11 +122,7 @@ fn has_run(
     ensures least { IfOk result (λ store. IsLeastAllowed (HasRun program.now method.now upper.now) (stored store)) }
 {
     let before = called(alloc, upper)?;
-    let target = result_slot(method);
-    let rest = before.forget_called(alloc, program, target, method.effect_free, None)?;
-    let facts = own_result(alloc, method)?;
-    let store = rest.add(alloc, &facts)?;
-    Ok(store)
+    behind_run(alloc, program, method, &before)
 }
 
 /// The claims of the overridden method's result that aren't proved where the overriding one has run.
@@ -146,14 +158,7 @@ fn push_override_effect(
     ensures errors { OnOk result (AddsExactly (OverrideEffect method.now upper.now) out.old.items out.new.items) }
 {
     if upper.effect_free && !method.effect_free {
-        out.push(Ranked {
-            error: Error {
-                rule: 12,
-                span: method.span,
-                detail: Detail::Plain,
-            },
-            rank: 0,
-        })?;
+        return push_plain(out, 12, method.span);
     }
     Ok(())
 }

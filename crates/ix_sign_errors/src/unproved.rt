@@ -3,7 +3,7 @@
 ghost use Rattle.std.specs.Prelude.{◌≡◌, ◌++◌, not, OnOk};
 ghost use Rattle.ix_store.specs.StoredFacts.{stored};
 ghost use Rattle.ix_claim_facts.specs.Naming.{path_by, AreSmallClaims};
-ghost use Rattle.ix_sign_errors.specs.Refusals.{is_proved, refusals, not_proved, not_proved_naming};
+ghost use Rattle.ix_sign_errors.specs.Refusals.{is_proved, refusals, not_proved, asked_for, not_proved_of};
 ghost use Rattle.ix_claim_facts.specs.SignErrors.{unproved};
 
 use crate::ranked::Ranked;
@@ -40,6 +40,16 @@ pub fn refuses(store: &Store, claim: &PathClaim, at: &Path) -> bool
     !store.proves(claim, at)
 }
 
+/// Whether the claim is asked for: where a field is given, only a claim that names it is.
+fn is_asked(only: Option<u32>, claim: &Claim) -> bool
+    ensures { result ≡ asked_for only claim.now }
+{
+    match only {
+        Some(field) => names_field(field, claim),
+        None => true,
+    }
+}
+
 /// The claims that the store doesn't prove of the path. The only error is want of memory.
 pub fn push_unproved(
     out: &mut Vec<Ranked>,
@@ -52,22 +62,13 @@ pub fn push_unproved(
     requires small { AreSmallClaims claims.now }
     ensures { OnOk result (out.new.items ≡ out.old.items ++ refusals (not_proved (stored store.now) (path_by naming.now) at.now) report.now.rule report.now.span report.now.subject 0 claims.now) }
 {
-    for rank in 0..claims.len() {
-        let claim = &claims[rank];
-        if refuses(store, &naming.claim(claim), at) {
-            out.push(Ranked {
-                error: report.of(claim),
-                rank,
-            })?;
-        }
-    }
-    Ok(())
+    push_unproved_of(out, None, store, naming, at, claims, report)
 }
 
-/// The same, of those claims alone that name the field.
-pub(crate) fn push_unproved_naming(
+/// The same, where a field is given of those claims alone that name it.
+pub(crate) fn push_unproved_of(
     out: &mut Vec<Ranked>,
-    field: u32,
+    only: Option<u32>,
     store: &Store,
     naming: &Naming<'_>,
     at: &Path,
@@ -75,11 +76,11 @@ pub(crate) fn push_unproved_naming(
     report: &Report,
 ) -> Result<(), AllocError>
     requires small { AreSmallClaims claims.now }
-    ensures { OnOk result (out.new.items ≡ out.old.items ++ refusals (not_proved_naming field (stored store.now) (path_by naming.now) at.now) report.now.rule report.now.span report.now.subject 0 claims.now) }
+    ensures { OnOk result (out.new.items ≡ out.old.items ++ refusals (not_proved_of only (stored store.now) (path_by naming.now) at.now) report.now.rule report.now.span report.now.subject 0 claims.now) }
 {
     for rank in 0..claims.len() {
         let claim = &claims[rank];
-        if names_field(field, claim) && refuses(store, &naming.claim(claim), at) {
+        if is_asked(only, claim) && refuses(store, &naming.claim(claim), at) {
             out.push(Ranked {
                 error: report.of(claim),
                 rank,
