@@ -1,15 +1,10 @@
 -- Two tests of paths that answer alike drop the same facts; and the spared slot as code tells it.
-use Rattle.std.specs.Prelude.{◌≡◌, ℕ, Bool, true, false, cond, not, ◌&&◌, ◌||◌, ◌==◌, List, [], ◌∷◌, refl}
-use Rattle.std.proofs.Common.{ap, ◌∙◌, subst}
+use Rattle.std.specs.Prelude.{◌≡◌, ℕ, Bool, true, false, not, ◌&&◌, ◌==◌, refl}
+use Rattle.std.proofs.Common.{ap, ◌∙◌}
 use Rattle.ix_core.specs.declared.fact.Path.{Path}
 use Rattle.ix_core.specs.declared.fact.Path.TheVariants.{Slot, FieldOf}
-use Rattle.ix_core.specs.declared.fact.PathOff.{PathOff}
-use Rattle.ix_core.specs.declared.fact.PathOff.TheVariants.{Nothing, Plus, Minus}
-use Rattle.ix_core.specs.declared.fact.Fact.{Fact}
-use Rattle.ix_core.specs.declared.fact.Fact.TheVariants.{Rng, LenRng, Low, Same, IsLen, Less, Sum, Search, Neg, Upper}
 use Rattle.ix_core.specs.declared.program.Method.{Method}
-use Rattle.ix_facts.specs.Forget.{offset_names, names, without, of_field, of_call}
-use Rattle.ix_facts.specs.Stores.{Stored, Unreachable, Reached, IsStoreOf, IsForgotten}
+use Rattle.ix_facts.specs.Forget.{of_field, of_call}
 use Rattle.ix_claim_facts.specs.MachineSteps.{own_slot}
 use Rattle.ix_claim_facts.specs.FieldAccess.{spared_by}
 use Rattle.ix_store.specs.ChangedPaths.{is_spared}

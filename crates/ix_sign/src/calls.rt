@@ -26,10 +26,9 @@ pub fn after_call(
 {
     let free = is_effect_free(program, call.method);
     let spared = this_if(within.constructor);
-    let rest = store.forget_called(alloc, program, call.target, free, spared)?;
     let facts = result_facts(alloc, program, call)?;
-    let after = rest.add(alloc, &facts)?;
-    Ok(after)
+    let rest = store.forget_called(alloc, program, call.target, free, spared)?;
+    rest.add(alloc, &facts)
 }
 
 /// The store behind `super(..)`: as behind a call, but nothing stays known of `this`; its own fields are 0 or null, and the claims of inherited ones hold (JLS
@@ -46,8 +45,7 @@ pub fn after_super(
 {
     let free = is_effect_free(program, call.method);
     let spared = this_if(within.constructor);
-    let rest = store.forget_parent(alloc, program, call.target, free, spared)?;
     let facts = facts_of_this(alloc, program, within)?;
-    let after = rest.add(alloc, &facts)?;
-    Ok(after)
+    let rest = store.forget_parent(alloc, program, call.target, free, spared)?;
+    rest.add(alloc, &facts)
 }

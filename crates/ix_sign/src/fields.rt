@@ -45,11 +45,12 @@ pub fn after_read(
     requires small { HaveSmallNames program.now }
     ensures least { IfOk result (λ after. IsLeastOf (ReadGives program.now within.now target object field) (stored store.now) (stored after)) }
 {
-    let facts = facts_at_read(alloc, program, within, object, field)?;
-    let known = store.add(alloc, &facts)?;
+    let known = store.add(
+        alloc,
+        &facts_at_read(alloc, program, within, object, field)?,
+    )?;
     let source = Path::FieldOf(object, field);
-    let after = copied(alloc, &known, program, field, &Path::Slot(target), &source)?;
-    Ok(after)
+    copied(alloc, &known, program, field, &Path::Slot(target), &source)
 }
 
 /// The store behind `object.field = value`: what the claims of a built object say is known before; then each fact on that field is dropped, of the object in
@@ -67,10 +68,11 @@ pub fn after_write(
     requires small { HaveSmallNames program.now }
     ensures least { IfOk result (λ after. IsLeastOf (WriteGives program.now within.now object field value) (stored store.now) (stored after)) }
 {
-    let facts = facts_at_write(alloc, program, within, object, field)?;
-    let known = store.add(alloc, &facts)?;
+    let known = store.add(
+        alloc,
+        &facts_at_write(alloc, program, within, object, field)?,
+    )?;
     let rest = known.forget_field(alloc, field, spared_at_write(within, object))?;
     let target = Path::FieldOf(object, field);
-    let after = copied(alloc, &rest, program, field, &target, &Path::Slot(value))?;
-    Ok(after)
+    copied(alloc, &rest, program, field, &target, &Path::Slot(value))
 }

@@ -25,6 +25,5 @@ pub fn tell(
     ensures least { IfOk result (λ after. IsLeastOf (Adds (signs.told_facts program.now (option_map (λ op. op.now) last.entry) slot answer)) (stored store.now) (stored after)) }
 {
     let facts = told_facts(alloc, program, last, slot, answer)?;
-    let after = store.add(alloc, &facts)?;
-    Ok(after)
+    store.add(alloc, &facts)
 }

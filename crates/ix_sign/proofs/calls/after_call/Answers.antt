@@ -1,10 +1,10 @@
 use Rattle.std.proofs.Common.{sym, subst, ◌∙◌}
+use Rattle.std.proofs.lemmas.Result.{IfOk-weaker}
 use Rattle.ix_core.specs.Tables.{method_at}
 use Rattle.ix_facts.specs.Stores.{IsAdded, IsForgotten}
 use Rattle.ix_facts.specs.Systems.{HaveClasses}
 use Rattle.ix_store.specs.ChangedPaths.{of_called}
 use Rattle.ix_store.specs.StoredFacts.{stored}
-use Rattle.ix_claim_facts.specs.Signs.{result_facts}
 use Rattle.ix_claim_facts.specs.Spared.{this_if}
 use Rattle.ix_sign.proofs.Rules.{call_least}
 use Rattle.ix_claim_facts.proofs.SignClasses.{result_have}
@@ -23,6 +23,4 @@ returns c =
     let forgotten : IsForgotten (of_called program call.target (method_at program call.method).effect_free (this_if method.constructor)) s between =
     subst (λ b. IsForgotten (of_called program call.target b (this_if method.constructor)) s between) c.is_effect_free-free.ensures
     (subst (λ o. IsForgotten (of_called program call.target c.is_effect_free-free.result o) s between) c.this_if-spared.ensures c.in_ok-rest.ensures.after) in
-    let added : IsAdded (result_facts program call) between (stored c.in_ok-after.after) =
-    subst (λ l. IsAdded l between (stored c.in_ok-after.after)) (c.deref.ensures.value ∙ c.in_ok-facts.ensures) c.in_ok-after.ensures.after in
-    record { least = call_least program method call s between (stored c.in_ok-after.after) forgotten added }
+    record { least = IfOk-weaker c.add.result (λ t. IsAdded c.deref.result.now between (stored t)) _ (λ t added. call_least program method call s between (stored t) forgotten (subst (λ l. IsAdded l between (stored t)) (c.deref.ensures.value ∙ c.in_ok-facts.ensures) added)) c.add.ensures.after }

@@ -1,10 +1,11 @@
-use Rattle.std.proofs.Common.{◌++◌, sym, subst, ◌∙◌}
+use Rattle.std.proofs.Common.{sym, subst, ◌∙◌}
+use Rattle.std.proofs.lemmas.Result.{IfOk-weaker}
 use Rattle.ix_core.specs.Tables.{method_at}
 use Rattle.ix_facts.specs.Stores.{IsAdded, IsForgotten}
 use Rattle.ix_facts.specs.Systems.{HaveClasses}
 use Rattle.ix_store.specs.ChangedPaths.{of_parent}
 use Rattle.ix_store.specs.StoredFacts.{stored}
-use Rattle.ix_claim_facts.specs.Signs.{zero_fields, fields_facts, own_fields, inherited_fields}
+use Rattle.ix_claim_facts.specs.Signs.{own_fields, inherited_fields}
 use Rattle.ix_claim_facts.specs.Spared.{this_if}
 use Rattle.ix_sign.proofs.Rules.{super_least}
 use Rattle.ix_claim_facts.proofs.SignClasses.{super_have}
@@ -24,6 +25,4 @@ returns c =
     let forgotten : IsForgotten (of_parent program call.target (method_at program call.method).effect_free (this_if method.constructor)) s between =
     subst (λ b. IsForgotten (of_parent program call.target b (this_if method.constructor)) s between) c.is_effect_free-free.ensures
     (subst (λ o. IsForgotten (of_parent program call.target c.is_effect_free-free.result o) s between) c.this_if-spared.ensures c.in_ok-rest.ensures.after) in
-    let added : IsAdded (zero_fields program (own_fields program method) ++ fields_facts program (inherited_fields program method)) between (stored c.in_ok-after.after) =
-    subst (λ l. IsAdded l between (stored c.in_ok-after.after)) (c.deref.ensures.value ∙ c.in_ok-facts.ensures) c.in_ok-after.ensures.after in
-    record { least = super_least program method call s between (stored c.in_ok-after.after) forgotten added }
+    record { least = IfOk-weaker c.add.result (λ t. IsAdded c.deref.result.now between (stored t)) _ (λ t added. super_least program method call s between (stored t) forgotten (subst (λ l. IsAdded l between (stored t)) (c.deref.ensures.value ∙ c.in_ok-facts.ensures) added)) c.add.ensures.after }

@@ -1,4 +1,5 @@
 use Rattle.std.proofs.Common.{sym, subst, ◌∙◌}
+use Rattle.std.proofs.lemmas.Result.{IfOk-weaker}
 use Rattle.std.specs.Prelude.{not, ◌&&◌, ◌==◌}
 use Rattle.ix_facts.specs.Exact.{if_so}
 use Rattle.ix_facts.specs.Forget.{of_field}
@@ -16,7 +17,7 @@ use Rattle.ix_sign.proofs.fields.after_write.Goals as goal
 pub add-requires : goal.add-requires
 add-requires c =
     let program = c.args.program.now in
-    record { classes = subst HaveClasses (sym (c.deref.ensures.value ∙ c.in_ok-facts.ensures)) (if_have (is_built c.args.within.now c.args.object) (write_facts program c.args.object c.args.field) (write_have program c.args.object c.args.field)) }
+    record { classes = subst HaveClasses (sym (c.deref.ensures.value ∙ c.in_ok-facts_at_write.ensures)) (if_have (is_built c.args.within.now c.args.object) (write_facts program c.args.object c.args.field) (write_have program c.args.object c.args.field)) }
 
 pub returns : goal.returns
 returns c =
@@ -25,7 +26,7 @@ returns c =
     let first = stored c.in_ok-known.known in
     let second = stored c.in_ok-rest.rest in
     let added : IsAdded (if_so (is_built method c.args.object) (write_facts program c.args.object c.args.field)) (stored c.args.store.now) first =
-    subst (λ l. IsAdded l (stored c.args.store.now) first) (c.deref.ensures.value ∙ c.in_ok-facts.ensures) c.in_ok-known.ensures.after in
+    subst (λ l. IsAdded l (stored c.args.store.now) first) (c.deref.ensures.value ∙ c.in_ok-facts_at_write.ensures) c.in_ok-known.ensures.after in
     let forgotten : IsForgotten (of_field c.args.field (is_spared (this_if (method.constructor && not (c.args.object == 0))))) first second =
     subst (λ o. IsForgotten (of_field c.args.field (is_spared o)) first second) c.spared_at_write.ensures c.in_ok-rest.ensures.after in
-    record { least = write_least program method c.args.object c.args.field c.args.value (stored c.args.store.now) first second (stored c.in_ok-after.after) added forgotten c.in_ok-after.ensures }
+    record { least = IfOk-weaker c.copied.result _ _ (λ t copied. write_least program method c.args.object c.args.field c.args.value (stored c.args.store.now) first second (stored t) added forgotten copied) c.copied.ensures }

@@ -1,6 +1,6 @@
 use Rattle.std.specs.Prelude.{option_map}
+use Rattle.std.proofs.lemmas.Result.{IfOk-weaker}
 use Rattle.std.proofs.Common.{sym, subst, ◌∙◌}
-use Rattle.ix_core.specs.declared.op.Op.{Op}
 use Rattle.ix_facts.specs.Stores.{IsAdded, with_facts}
 use Rattle.ix_facts.specs.Systems.{HaveClasses}
 use Rattle.ix_store.specs.StoredFacts.{stored}
@@ -16,6 +16,4 @@ pub returns : goal.returns
 returns c =
     let new = told_facts c.args.program.now (option_map (λ op. op.now) c.args.last) c.args.slot c.args.answer in
     let s = stored c.args.store.now in
-    let t = stored c.in_ok-after.after in
-    let added : IsAdded new s t = subst (λ l. IsAdded l s t) (c.deref.ensures.value ∙ c.in_ok-facts.ensures) c.in_ok-after.ensures.after in
-    record { least = least_given (with_facts new) s t added }
+    record { least = IfOk-weaker c.add.result (λ t. IsAdded c.deref.result.now s (stored t)) _ (λ t added. least_given (with_facts new) s (stored t) (subst (λ l. IsAdded l s (stored t)) (c.deref.ensures.value ∙ c.in_ok-facts.ensures) added)) c.add.ensures.after }
