@@ -1,10 +1,13 @@
 -- What is added to lists of numbers.
-use Rattle.std.proofs.Common.{◌≡◌, ◌⊎◌, inl, inr, ◌↔◌, ℕ, ◌<◌, ℤ, pos, negsuc, ◌+ℤ◌, ◌-ℤ◌, ◌≤ℤ◌, List, [], ◌∷◌, ◌++◌, refl, sym, ap, subst, ◌∙◌, arith, append_assoc}
-use Rattle.std.proofs.lemmas.Int.{ints}
+use Rattle.std.proofs.Common.{◌≡◌, ◌⊎◌, inl, inr, ◌↔◌, ℤ, pos, ◌+ℤ◌, ◌-ℤ◌, ◌≤ℤ◌, List, [], ◌∷◌, ◌++◌, refl, sym, ap, subst, ◌∙◌, arith, append_assoc}
+use Rattle.std.proofs.lemmas.Int.{ints, by_lt_z}
 use Rattle.ix_core.specs.declared.program.Program.{Program}
-use Rattle.ix_core.specs.Code.{Code, Condition, Both, Either, If, Loop}
+use Rattle.ix_core.specs.Code.{Code, Condition}
 use Rattle.ix_facts.specs.MethodLandmarks.{code_numbers, condition_numbers}
 use Rattle.ix_facts.specs.Round.{IsAmong, IsLandmark}
+use Rattle.std.specs.Prelude.{FitsSigned}
+use Rattle.std.specs.Int.{w32, saturate_signed}
+use Rattle.ix_num.specs.Ints.{IsInt, least_int, greatest_int}
 use Rattle.ix_landmarks.specs.Items.{AddsItem, AddsNear}
 
 -- ---- statements and conditions
@@ -74,3 +77,45 @@ near_more numbers c old new before near n = (
     ]
   ]),
 )
+
+-- ---- ints beside an int
+
+pub int_of_signed : (n : ℤ) → FitsSigned w32 n → IsInt n
+int_of_signed n fits = record { from = omega (arith, ints, fits); to = omega (arith, ints, fits) }
+
+-- one below, or at the least int the same
+abbrev pub IsBelow : ℤ → ℤ → Type 0
+IsBelow n below = (least_int ≤ℤ below) × ((n -ℤ pos 1) ≤ℤ below) × (below ≤ℤ n) × ((below ≡ (n -ℤ pos 1)) ⊎ (n ≡ least_int))
+
+-- one above, or at the greatest int the same
+abbrev pub IsAbove : ℤ → ℤ → Type 0
+IsAbove n above = (above ≤ℤ greatest_int) × (above ≤ℤ (n +ℤ pos 1)) × (n ≤ℤ above) × ((above ≡ (n +ℤ pos 1)) ⊎ (n ≡ greatest_int))
+
+pub one_below : (n : ℤ) → IsInt n → IsBelow n (saturate_signed w32 (n -ℤ pos 1))
+one_below n int = let f = int.from in let t = int.to in (grind (arith, ints), grind (arith, ints), grind (arith, ints), grind (arith, ints))
+
+pub one_above : (n : ℤ) → IsInt n → IsAbove n (saturate_signed w32 (n +ℤ pos 1))
+one_above n int = let f = int.from in let t = int.to in (grind (arith, ints), grind (arith, ints), grind (arith, ints), grind (arith, ints))
+
+pub near_of : (n below above : ℤ) (old new : List ℤ) → IsInt n → IsBelow n below → IsAbove n above → new ≡ old ++ below ∷ n ∷ above ∷ [] → AddsNear n old new
+near_of n below above old new int b a added = record {
+  near = below ∷ n ∷ above ∷ [];
+  added = added;
+  only = λ m has. elim has [
+    | inl is ↦ (record { from = omega (arith, ints, is, b.0); to = omega (arith, ints, is, b.2, int.to) }, omega (arith, ints, is, b.1), omega (arith, ints, is, b.2))
+    | inr (inl is) ↦ (subst IsInt (sym is) int, omega (arith, ints, is), omega (arith, ints, is))
+    | inr (inr (inl is)) ↦ (record { from = omega (arith, ints, is, a.2, int.from); to = omega (arith, ints, is, a.0) }, omega (arith, ints, is, a.2), omega (arith, ints, is, a.1))
+    | inr (inr (inr none)) ↦ absurd none
+  ];
+  all = λ m is low high. by_lt_z m n
+      (λ less. elim b.3 [
+        | inl one ↦ inl (omega (arith, ints, one, less, low))
+        | inr end ↦ absurd (omega (arith, ints, end, less, is.from))
+      ])
+      (λ least. by_lt_z n m
+      (λ more. elim a.3 [
+        | inl one ↦ inr (inr (inl (omega (arith, ints, one, more, high))))
+        | inr end ↦ absurd (omega (arith, ints, end, more, is.to))
+      ])
+      (λ most. inr (inl (omega (arith, ints, least, most)))));
+}

@@ -30,25 +30,18 @@ fn push_item(out: &mut Vec<i32>, program: &Program, item: &Item) -> Result<(), A
 {
     match item {
         Item::Do(op) => push_operation(out, program, &op.kind),
-        Item::If(cond, first, second) => {
+        Item::If(cond, first, second)
+        | Item::Loop {
+            cond,
+            body: first,
+            next: second,
+            ..
+        } => {
             push_condition(out, program, cond)?;
             push_block(out, program, first)?;
             push_block(out, program, second)
         }
-        Item::Loop {
-            cond,
-            body,
-            next,
-            ..
-        } => {
-            push_condition(out, program, cond)?;
-            push_block(out, program, body)?;
-            push_block(out, program, next)
-        }
-        Item::Break => Ok(()),
-        Item::Continue => Ok(()),
-        Item::Return(_, _) => Ok(()),
-        Item::Throw(_, _) => Ok(()),
+        Item::Break | Item::Continue | Item::Return(_, _) | Item::Throw(_, _) => Ok(()),
     }
 }
 
@@ -58,13 +51,8 @@ fn push_condition(out: &mut Vec<i32>, program: &Program, cond: &Cond) -> Result<
 {
     match cond {
         Cond::Known(_) => Ok(()),
-        Cond::Compare(block, _) => push_block(out, program, block),
-        Cond::Truth(block, _) => push_block(out, program, block),
-        Cond::Both(first, second) => {
-            push_condition(out, program, first.get())?;
-            push_condition(out, program, second.get())
-        }
-        Cond::Either(first, second) => {
+        Cond::Compare(block, _) | Cond::Truth(block, _) => push_block(out, program, block),
+        Cond::Both(first, second) | Cond::Either(first, second) => {
             push_condition(out, program, first.get())?;
             push_condition(out, program, second.get())
         }

@@ -6,7 +6,7 @@ ghost use Rattle.ix_facts.specs.MethodLandmarks.{method_numbers, AreLandmarksOf}
 ghost use Rattle.ix_landmarks.specs.Items.{AddsNear, IsAscending};
 
 use crate::bodies::push_block;
-use crate::numbers::{push_declared, push_fields, push_locals};
+use crate::numbers::{push_both, push_declared, push_fields, push_locals};
 use ix_classes::instance_fields;
 use ix_core::{Method, Program};
 use ix_facts::Landmarks;
@@ -28,18 +28,12 @@ fn numbers(alloc: Global, program: &Program, method: &Method) -> Result<Vec<i32>
     Ok(out)
 }
 
-/// A number and the ints beside it.
+/// A number and the ints beside it. An end of the int range has itself beside it.
 fn push_near(out: &mut Vec<i32>, number: i32) -> Result<(), AllocError>
     ensures { OnOk result (AddsNear number out.old.items out.new.items) }
 {
-    if let Some(below) = number.checked_sub(1) {
-        out.push(below)?;
-    }
-    out.push(number)?;
-    if let Some(above) = number.checked_add(1) {
-        out.push(above)?;
-    }
-    Ok(())
+    out.push(number.saturating_sub(1))?;
+    push_both(out, number, number.saturating_add(1))
 }
 
 /// The landmarks for these numbers, in any order.
@@ -47,8 +41,7 @@ fn marks_of(alloc: Global, numbers: &[i32]) -> Result<Vec<i32>, AllocError>
     ensures { IfOk result (λ marks. (n : ℤ) → IsAmong n marks.items ↔ IsLandmark numbers.now n) }
 {
     let mut marks = Vec::new(alloc);
-    marks.push(i32::MIN)?;
-    marks.push(i32::MAX)?;
+    push_both(&mut marks, i32::MIN, i32::MAX)?;
     push_near(&mut marks, 0)?;
     for number in numbers {
         push_near(&mut marks, *number)?;

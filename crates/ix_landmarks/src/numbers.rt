@@ -10,19 +10,18 @@ use ix_core::{CallOp, Claim, Field, Literal, Local, Method, OpKind, Post, Progra
 use ix_text::Span;
 use std::alloc::AllocError;
 
-fn push_both(out: &mut Vec<i32>, first: i32, second: i32) -> Result<(), AllocError>
+/// Two numbers, one behind the other.
+pub(crate) fn push_both(out: &mut Vec<i32>, first: i32, second: i32) -> Result<(), AllocError>
     ensures { OnOk result (out.new.items ≡ out.old.items ++ first ∷ second ∷ []) }
 {
     out.push(first)?;
-    out.push(second)?;
-    Ok(())
+    push_one(out, second)
 }
 
 fn push_one(out: &mut Vec<i32>, number: i32) -> Result<(), AllocError>
     ensures { OnOk result (out.new.items ≡ out.old.items ++ number ∷ []) }
 {
-    out.push(number)?;
-    Ok(())
+    out.push(number).map_err(AllocError::from)
 }
 
 fn push_claim(out: &mut Vec<i32>, claim: &Claim) -> Result<(), AllocError>
@@ -163,17 +162,18 @@ pub(crate) fn push_operation(
 {
     match kind {
         OpKind::Const(_, literal) => push_literal(out, literal),
-        OpKind::Copy(_, _, ty) => push_type(out, ty),
-        OpKind::NewArray(_, ty, _) => push_type(out, ty),
-        OpKind::Fill(_, ty, _) => push_type(out, ty),
-        OpKind::Load(_, _, _, ty) => push_type(out, ty),
-        OpKind::Store(_, _, _, ty) => push_type(out, ty),
-        OpKind::ReadField(_, _, field) => push_field_at(out, program, *field),
-        OpKind::WriteField(_, field, _) => push_field_at(out, program, *field),
-        OpKind::NewObject(call) => push_called(out, program, call),
-        OpKind::StaticCall(call) => push_called(out, program, call),
-        OpKind::InstanceCall(call) => push_called(out, program, call),
-        OpKind::SuperCall(call) => push_called(out, program, call),
+        OpKind::Copy(_, _, ty)
+        | OpKind::NewArray(_, ty, _)
+        | OpKind::Fill(_, ty, _)
+        | OpKind::Load(_, _, _, ty)
+        | OpKind::Store(_, _, _, ty) => push_type(out, ty),
+        OpKind::ReadField(_, _, field) | OpKind::WriteField(_, field, _) => {
+            push_field_at(out, program, *field)
+        }
+        OpKind::NewObject(call)
+        | OpKind::StaticCall(call)
+        | OpKind::InstanceCall(call)
+        | OpKind::SuperCall(call) => push_called(out, program, call),
         _ => Ok(()),
     }
 }

@@ -1,4 +1,4 @@
-use Rattle.std.proofs.Common.{rules, ◌≡◌, ◌+◌, ◌<◌, length, ◌++◌, ◌∷◌, [], Some, ap, sym, subst, ◌∙◌, pos, take, get_or, arith, w32, to_z, of_z, not, true, false}
+use Rattle.std.proofs.Common.{rules, ◌≡◌, ◌+◌, ◌<◌, length, ◌++◌, ◌∷◌, [], Some, ap, sym, subst, ◌∙◌, pos, take, get_or, arith, w32, to_z, of_z, not}
 use Rattle.std.proofs.lemmas.Int.{to_z-of_z}
 use Rattle.std.proofs.lemmas.Bool.{false≢true, not_from_true, true_from_ne_false}
 use Rattle.ix_landmarks.proofs.Ascending.{IsOnce, once_more, once_again, all_once, some_same, same_some}

@@ -1,4 +1,4 @@
-use Rattle.std.proofs.Common.{rules, ◌↔◌, ◌+◌, ◌∷◌, [], ◌++◌, ℤ, pos, subst, sym, ap, ◌∙◌, suc, ◌≡◌, take, take_all, get_or, arith, w32}
+use Rattle.std.proofs.Common.{rules, ◌↔◌, pos, subst, sym, take, take_all, get_or, arith, w32}
 use Rattle.std.proofs.lemmas.Int.{to_z-of_z}
 use Rattle.ix_facts.specs.Round.{IsAmong, IsLandmark}
 use Rattle.ix_landmarks.specs.Items.{AddsNear}
