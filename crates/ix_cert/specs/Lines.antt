@@ -49,6 +49,19 @@ fact_text (Search p a) = codes "search " ++ two p a
 fact_text (Neg p a) = codes "neg " ++ two p a
 fact_text (Upper p a o c) = codes "upper " ++ (bound_text p a o ++ (codes " " ++ signed_decimal c))
 
+-- what stands behind the word of a fact
+abbrev pub behind_word : Fact → List ℕ
+behind_word (Rng p l h) = path_text p ++ (codes " " ++ (signed_decimal l ++ (codes " " ++ signed_decimal h)))
+behind_word (LenRng a l h) = path_text a ++ (codes " " ++ (signed_decimal l ++ (codes " " ++ signed_decimal h)))
+behind_word (Low p c) = path_text p ++ (codes " " ++ signed_decimal c)
+behind_word (Same a b) = both_texts a b
+behind_word (IsLen p a) = two p a
+behind_word (Less p q c) = two p q ++ (codes " " ++ signed_decimal c)
+behind_word (Sum t y z) = path_text t ++ (codes " " ++ both_texts y z)
+behind_word (Search p a) = two p a
+behind_word (Neg p a) = two p a
+behind_word (Upper p a o c) = bound_text p a o ++ (codes " " ++ signed_decimal c)
+
 -- each line comes before the next one
 abbrev pub Ascend : List (List ℕ) → Type 0
 Ascend [] = Unit {0}

@@ -3,6 +3,7 @@
 ghost use Rattle.std.specs.Prelude.{◌≡◌, ◌++◌, OnOk, IfOk, string_bytes, codes};
 ghost use Rattle.ix_cert.specs.Lines as spec;
 ghost use Rattle.ix_cert.specs.Lines.{path_text, fact_text};
+ghost use Rattle.ix_cert.specs.Reading.{word_of};
 
 use ix_core::{Fact, Path, PathOff};
 use std::alloc::{AllocError, Global};
@@ -92,57 +93,59 @@ fn add_bound(
     }
 }
 
-/// Adds a fact, without its line's end.
-pub fn add_fact(alloc: Global, text: &mut String, fact: &Fact) -> Result<(), AllocError>
-    ensures text { OnOk result (string_bytes text.new ≡ string_bytes text.old ++ fact_text fact.now) }
+/// The word that the line of a fact begins with.
+fn word(fact: &Fact) -> &'static str
+    ensures { result.now ≡ word_of fact.now }
 {
     match fact {
-        Fact::Rng(p, low, high) => {
-            text.push_str("rng ")?;
+        Fact::Rng(_, _, _) => "rng ",
+        Fact::LenRng(_, _, _) => "len ",
+        Fact::Low(_, _) => "low ",
+        Fact::Same(_, _) => "same ",
+        Fact::IsLen(_, _) => "islen ",
+        Fact::Less(_, _, _) => "less ",
+        Fact::Sum(_, _, _) => "sum ",
+        Fact::Search(_, _) => "search ",
+        Fact::Neg(_, _) => "neg ",
+        Fact::Upper(_, _, _, _) => "upper ",
+    }
+}
+
+/// Adds what stands behind the word.
+fn add_args(alloc: Global, text: &mut String, fact: &Fact) -> Result<(), AllocError>
+    ensures { OnOk result (string_bytes text.new ≡ string_bytes text.old ++ spec.behind_word fact.now) }
+{
+    match fact {
+        Fact::Rng(p, low, high) | Fact::LenRng(p, low, high) => {
             add_path(text, p)?;
-            write!(text, " {low} {high}")
-        }
-        Fact::LenRng(a, low, high) => {
-            text.push_str("len ")?;
-            add_path(text, a)?;
             write!(text, " {low} {high}")
         }
         Fact::Low(p, low) => {
-            text.push_str("low ")?;
             add_path(text, p)?;
             write!(text, " {low}")
         }
-        Fact::Same(a, b) => {
-            text.push_str("same ")?;
-            add_both(alloc, text, a, b)
-        }
-        Fact::IsLen(p, a) => {
-            text.push_str("islen ")?;
-            add_two(text, p, a)
-        }
+        Fact::Same(a, b) => add_both(alloc, text, a, b),
+        Fact::IsLen(p, a) | Fact::Search(p, a) | Fact::Neg(p, a) => add_two(text, p, a),
         Fact::Less(p, q, constant) => {
-            text.push_str("less ")?;
             add_two(text, p, q)?;
             write!(text, " {constant}")
         }
         Fact::Sum(t, y, z) => {
-            text.push_str("sum ")?;
             add_path(text, t)?;
             text.push_str(" ")?;
             add_both(alloc, text, y, z)
         }
-        Fact::Search(p, a) => {
-            text.push_str("search ")?;
-            add_two(text, p, a)
-        }
-        Fact::Neg(p, a) => {
-            text.push_str("neg ")?;
-            add_two(text, p, a)
-        }
         Fact::Upper(p, a, offset, constant) => {
-            text.push_str("upper ")?;
             add_bound(alloc, text, p, a, offset)?;
             write!(text, " {constant}")
         }
     }
+}
+
+/// Adds a fact, without its line's end.
+pub fn add_fact(alloc: Global, text: &mut String, fact: &Fact) -> Result<(), AllocError>
+    ensures text { OnOk result (string_bytes text.new ≡ string_bytes text.old ++ fact_text fact.now) }
+{
+    text.push_str(word(fact))?;
+    add_args(alloc, text, fact)
 }

@@ -33,11 +33,9 @@ fn add_item(count: &mut usize, item: &Item) -> Result<(), AllocError>
             add_one(count)?;
             add_block(count, body)
         }
-        Item::Do(_) => Ok(()),
-        Item::Break => Ok(()),
-        Item::Continue => Ok(()),
-        Item::Return(_, _) => Ok(()),
-        Item::Throw(_, _) => Ok(()),
+        Item::Do(_) | Item::Break | Item::Continue | Item::Return(_, _) | Item::Throw(_, _) => Ok(
+            (),
+        ),
     }
 }
 
