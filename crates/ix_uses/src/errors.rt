@@ -12,15 +12,13 @@ use std::alloc::AllocError;
 pub(crate) fn push_plain(out: &mut Vec<Ranked>, rule: u8, span: Span) -> Result<(), AllocError>
     ensures { OnOk result (out.new.items ≡ out.old.items ++ (record { error = signs.plain rule span; rank = 0 } ∷ [])) }
 {
-    out.push(Ranked {
-        error: Error {
-            rule,
-            span,
-            detail: Detail::Plain,
-        },
-        rank: 0,
-    })?;
-    Ok(())
+    let error = Error {
+        rule,
+        span,
+        detail: Detail::Plain,
+    };
+    out.push(Ranked { error, rank: 0 })
+        .map_err(AllocError::from)
 }
 
 /// The place of a part of an operation.

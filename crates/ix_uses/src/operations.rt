@@ -43,10 +43,10 @@ fn push_of_op(out: &mut Vec<Ranked>, done: &Op) -> Result<(), AllocError>
         OpKind::Fill(_, _, entries) => push_this_entries(out, done, entries.as_slice()),
         OpKind::Store(_, _, value, _) => push_if_this(out, *value, part(done, 0)),
         OpKind::WriteField(_, _, value) => push_if_this(out, *value, part(done, 1)),
-        OpKind::NewObject(call) => push_this_args(out, call.args.as_slice()),
-        OpKind::StaticCall(call) => push_this_args(out, call.args.as_slice()),
+        OpKind::NewObject(call) | OpKind::StaticCall(call) | OpKind::SuperCall(call) => {
+            push_this_args(out, call.args.as_slice())
+        }
         OpKind::InstanceCall(call) => push_of_call(out, call, done.span),
-        OpKind::SuperCall(call) => push_this_args(out, call.args.as_slice()),
         _ => Ok(()),
     }
 }

@@ -35,16 +35,12 @@ fn names_param(number: u32, claim: &Claim) -> bool
     ensures { result ≡ spec.names_param number claim.now }
 {
     match *claim {
-        Claim::Range(_, _) => false,
-        Claim::Low(_) => false,
-        Claim::Length(_) => false,
-        Claim::Same(other) => is_param(number, &other),
-        Claim::Less(name, _) => is_param(number, &name),
+        Claim::Range(_, _) | Claim::Low(_) | Claim::Length(_) => false,
+        Claim::Same(name) | Claim::Less(name, _) | Claim::Search(name) | Claim::Negative(name) =>
+            is_param(number, &name),
         Claim::Upper(array, offset, _) => {
             is_param(number, &array) || offset_names_param(number, &offset)
         }
-        Claim::Search(array) => is_param(number, &array),
-        Claim::Negative(array) => is_param(number, &array),
     }
 }
 

@@ -15,7 +15,7 @@ pub(crate) fn push_if_this(out: &mut Vec<Ranked>, slot: u32, place: Span) -> Res
     ensures { OnOk result (out.new.items ≡ out.old.items ++ errors_at (place_if (slot == 0) place)) }
 {
     if slot == 0 {
-        push_plain(out, 14, place)?;
+        return push_plain(out, 14, place);
     }
     Ok(())
 }
