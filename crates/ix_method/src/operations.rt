@@ -46,10 +46,9 @@ pub fn after(
 {
     match &done.kind {
         OpKind::Copy(target, _, _) => {
-            let copied = store.after(alloc, profile, &done.kind)?;
             let facts = variable_facts(alloc, within, *target, done.span.from)?;
-            let after = copied.add(alloc, &facts)?;
-            Ok(after)
+            let copied = store.after(alloc, profile, &done.kind)?;
+            copied.add(alloc, &facts)
         }
         OpKind::ReadField(target, object, field) => {
             after_read(alloc, store, program, within, *target, *object, *field)
@@ -57,9 +56,9 @@ pub fn after(
         OpKind::WriteField(object, field, value) => {
             after_write(alloc, store, program, within, *object, *field, *value)
         }
-        OpKind::NewObject(call) => after_call(alloc, store, program, within, call),
-        OpKind::StaticCall(call) => after_call(alloc, store, program, within, call),
-        OpKind::InstanceCall(call) => after_call(alloc, store, program, within, call),
+        OpKind::NewObject(call) | OpKind::StaticCall(call) | OpKind::InstanceCall(call) => {
+            after_call(alloc, store, program, within, call)
+        }
         OpKind::SuperCall(call) => after_super(alloc, store, program, within, call),
         _ => store.after(alloc, profile, &done.kind),
     }
