@@ -1,4 +1,4 @@
-use Rattle.std.proofs.Common.{◌≡◌, Bool, true, false, if◌then◌else◌, Bor, List, [], ◌∷◌, ◌++◌, reverse, refl, ap, sym}
+use Rattle.std.proofs.Common.{◌≡◌, Bool, true, false, not, if◌then◌else◌, Bor, List, [], ◌∷◌, ◌++◌, reverse, refl, ap, sym}
 use Rattle.std.proofs.lemmas.List.{reverse-append}
 use Rattle.std.proofs.Common.{ℕ, ◌∙◌}
 use Rattle.ix_core.specs.declared.code.Item.{Item}
@@ -137,6 +137,29 @@ pub after_answer-enter : (answer : Bool) (places before mid after : List Place) 
 after_answer-enter answer places before mid after turn so popped first second =
     rw (so, popped, second, first, reverse-snoc before (kind.Enter turn), reverse-snoc (before ++ kind.Again turn ∷ []) (kind.Rest turn.body), reverse-snoc before (kind.Again turn))
     (sym (followed_by-items (items_code turn.body.now) (again_of turn Empty) (tasks_of (reverse before))))
+
+pub after_answer-not : (answer : Bool) (places before : List Place) → places ≡ before ++ kind.Not ∷ [] → after_answer (not answer) (reverse before) ≡ after_answer answer (reverse places)
+after_answer-not true places before popped = rw (popped, reverse-snoc before kind.Not) refl
+after_answer-not false places before popped = rw (popped, reverse-snoc before kind.Not) refl
+
+-- the right side of `&&` and of `||` is not asked
+pub after_answer-both : (answer : Bool) (places before : List Place) (cond : Bor Cond) → answer ≡ false → places ≡ before ++ kind.BothLeft cond ∷ [] → after_answer answer (reverse before) ≡ after_answer answer (reverse places)
+after_answer-both answer places before cond so popped = rw (so, popped, reverse-snoc before (kind.BothLeft cond)) refl
+
+pub after_answer-either : (answer : Bool) (places before : List Place) (cond : Bor Cond) → answer ≡ true → places ≡ before ++ kind.EitherLeft cond ∷ [] → after_answer answer (reverse before) ≡ after_answer answer (reverse places)
+after_answer-either answer places before cond so popped = rw (so, popped, reverse-snoc before (kind.EitherLeft cond)) refl
+
+-- it is asked
+pub after_answer-both-asked : (answer : Bool) (places before after : List Place) (cond : Bor Cond) → answer ≡ true → places ≡ before ++ kind.BothLeft cond ∷ [] → after ≡ before ++ kind.Ask cond ∷ []
+    → tasks_open after ≡ after_answer answer (reverse places)
+after_answer-both-asked answer places before after cond so popped pushed = rw (so, popped, pushed, reverse-snoc before (kind.BothLeft cond), reverse-snoc before (kind.Ask cond)) refl
+
+pub after_answer-either-asked : (answer : Bool) (places before after : List Place) (cond : Bor Cond) → answer ≡ false → places ≡ before ++ kind.EitherLeft cond ∷ [] → after ≡ before ++ kind.Ask cond ∷ []
+    → tasks_open after ≡ after_answer answer (reverse places)
+after_answer-either-asked answer places before after cond so popped pushed = rw (so, popped, pushed, reverse-snoc before (kind.EitherLeft cond), reverse-snoc before (kind.Ask cond)) refl
+
+pub after_answer-out : (answer : Bool) (places before : List Place) (turn : Turn) → answer ≡ false → places ≡ before ++ kind.Enter turn ∷ [] → tasks_open before ≡ after_answer answer (reverse places)
+after_answer-out answer places before turn so popped = rw (so, popped, reverse-snoc before (kind.Enter turn)) refl
 
 -- two places more
 pub opened_two : (places mid after : List Place) (outer inner : Place) → mid ≡ places ++ outer ∷ [] → after ≡ mid ++ inner ∷ [] → tasks_open after ≡ tasks_of (inner ∷ outer ∷ reverse places)

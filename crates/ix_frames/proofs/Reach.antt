@@ -1,5 +1,5 @@
 -- How high places reach, one place more or less.
-use Rattle.std.proofs.Common.{◌≡◌, refl, ℕ, ◌+◌, ◌≤◌, List, [], ◌∷◌, ◌++◌, length, max, arith, Vec, vec_len, ap, Option, Some, None}
+use Rattle.std.proofs.Common.{◌≡◌, refl, ℕ, ◌+◌, ◌<◌, ◌≤◌, List, [], ◌∷◌, ◌++◌, length, length-append, max, arith, Vec, vec_len, ap, Option, Some, None}
 use Rattle.std.specs.Prelude.{MatchOption}
 use Rattle.std.specs.declared.alloc.Global.{Global}
 use Rattle.std.proofs.lemmas.Grind.{common_steps}
@@ -20,6 +20,13 @@ pub reach-length : (below : ℕ) (places : List Place) → (places ≡ [] → �
 reach-length below [] some = absurd (some refl)
 reach-length below (first ∷ []) some = omega arith
 reach-length below (first ∷ second ∷ places) some = omega (arith, reach-length (below + 1) (second ∷ places) (λ e. cc))
+
+-- a place less
+pub shorter : (places before : List Place) (place : Place) → places ≡ before ++ place ∷ [] → length before < length places
+shorter places before place is = omega (arith, ap length is, length-append before (place ∷ []))
+
+pub shorter_same : (places before less : List Place) (place : Place) → places ≡ before ++ place ∷ [] → less ≡ before → length less < length places
+shorter_same places before less place is same = omega (arith, ap length is, length-append before (place ∷ []), ap length same)
 
 pub place_count : (places : Vec Place Global) → vec_len places ≡ length places.items
 place_count places = grind (arith, common_steps)

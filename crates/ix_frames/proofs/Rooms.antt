@@ -1,9 +1,10 @@
 -- The last of frames that have room, and one more.
-use Rattle.std.proofs.Common.{◌≡◌, List, [], ◌∷◌, ◌++◌, subst, sym}
+use Rattle.std.proofs.Common.{◌≡◌, List, [], ◌∷◌, ◌++◌, map, subst, sym, ap, ◌∙◌}
+use Rattle.std.proofs.lemmas.List.{reverse-append}
 use Rattle.ix_frames.specs.declared.frames.Frame.{Frame}
 use Rattle.ix_frames.specs.declared.pool.Waiting.{Waiting}
 use Rattle.ix_frames.specs.declared.room.Room.{Room}
-use Rattle.ix_frames.specs.Waiting.{HasRoom, AllHaveRoom, AllWithRoom}
+use Rattle.ix_frames.specs.Waiting.{HasRoom, AllHaveRoom, AllWithRoom, waiting_of, waits_of}
 
 last : (room : Room) (frames : List Frame) (frame : Frame) → AllHaveRoom room (frames ++ frame ∷ []) → AllHaveRoom room frames × HasRoom room frame
 last room [] frame fit = (tt, fit.0)
@@ -32,3 +33,7 @@ more_wait room (first ∷ below) waiting fit new = (fit.0, more_wait room below 
 
 pub more_waiting : (room : Room) (all below : List Waiting) (waiting : Waiting) → all ≡ below ++ waiting ∷ [] → AllWithRoom room below → HasRoom room waiting.frame → AllWithRoom room all
 more_waiting room all below waiting is fit new = subst (λ xs. AllWithRoom room xs) (sym is) (more_wait room below waiting fit new)
+
+-- the last that waits comes first
+pub waits-snoc : (all below : List Waiting) (waiting : Waiting) → all ≡ below ++ waiting ∷ [] → waits_of all ≡ waiting_of waiting ∷ waits_of below
+waits-snoc all below waiting is = ap waits_of is ∙ ap (map waiting_of) (reverse-append below (waiting ∷ []))

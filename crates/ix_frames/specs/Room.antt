@@ -1,5 +1,5 @@
 -- How many open places a frame has at most while it runs code, and how many values a call in the code passes at most.
-use Rattle.std.specs.Prelude.{ℕ, ◌+◌, max, length}
+use Rattle.std.specs.Prelude.{ℕ, ◌+◌, max, min, length}
 use Rattle.ix_core.specs.declared.op.OpKind.{OpKind}
 use Rattle.ix_core.specs.declared.op.OpKind.TheVariants as op
 use Rattle.ix_core.specs.Code.{Code, End, Do, If, Break, Continue, Return, Throw, Loop, Condition, Known, Compare, Truth, Both, Either, Opposite}
@@ -54,3 +54,7 @@ abbrev mutual
   condition_values (Both asked later) = max (condition_values asked) (condition_values later)
   condition_values (Either asked later) = max (condition_values asked) (condition_values later)
   condition_values (Opposite asked) = condition_values asked
+
+-- a number as far as it can be counted
+abbrev pub counted : ℕ → ℕ
+counted number = min number 18446744073709551615

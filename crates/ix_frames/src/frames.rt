@@ -129,7 +129,7 @@ fn put_receiver(slots: &mut Vec<Held>, receiver: Option<Held>)
     ensures room { vec_capacity slots.old ≤ vec_capacity slots.new }
 {
     if let Some(value) = receiver {
-        slots.push(value).unwrap();
+        slots.push_reserved(value);
     }
 }
 
@@ -140,7 +140,7 @@ fn put_args(slots: &mut Vec<Held>, from: &[Held], args: &[Arg])
     ensures room { vec_capacity slots.old ≤ vec_capacity slots.new }
 {
     for arg in args {
-        slots.push(value_in(from, arg.slot)).unwrap();
+        slots.push_reserved(value_in(from, arg.slot));
     }
 }
 
@@ -151,7 +151,7 @@ fn put_all(slots: &mut Vec<Held>, values: &[Held])
     ensures room { vec_capacity slots.old ≤ vec_capacity slots.new }
 {
     for value in values {
-        slots.push(*value).unwrap();
+        slots.push_reserved(*value);
     }
 }
 
@@ -163,6 +163,6 @@ fn fill(slots: &mut Vec<Held>, count: usize)
 {
     let missing = count.saturating_sub(slots.len());
     for done in 0..missing {
-        slots.push(Held::Int(0)).unwrap();
+        slots.push_reserved(Held::Int(0));
     }
 }

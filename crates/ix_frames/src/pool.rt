@@ -90,7 +90,7 @@ impl<'p> Pool<'p> {
         };
         callee.begin(method, body, count, top, receiver, args);
         let frame = mem::replace(top, callee);
-        put_last(&mut self.below, Waiting { frame, target });
+        self.below.push_reserved(Waiting { frame, target });
     }
 
     /// Ends the frame that runs, and goes on with the last that waits: the answer is the slot that gets the value. None where no frame waits.
@@ -107,7 +107,7 @@ impl<'p> Pool<'p> {
         };
         let Waiting { frame, target } = waiting;
         let ended = mem::replace(top, frame);
-        put_last(&mut self.spare, ended);
+        self.spare.push_reserved(ended);
         Some(target)
     }
 }
@@ -120,19 +120,9 @@ fn spare_frames<'p>(alloc: Global, room: Room, count: u32) -> Result<Vec<Frame<'
 {
     let mut frames = Vec::with_capacity(alloc, count as usize + 1)?;
     for made in 0..count {
-        put_last(&mut frames, Frame::new(alloc, room)?);
+        frames.push_reserved(Frame::new(alloc, room)?);
     }
     Ok(frames)
-}
-
-/// Adds a value that there is memory for.
-fn put_last<T: Drop>(values: &mut Vec<T>, value: T)
-    requires { vec_len values.old < vec_capacity values.old }
-    ensures items { values.new.items ≡ values.old.items ++ value ∷ [] }
-    ensures len { vec_len values.new ≡ vec_len values.old + 1 }
-    ensures room { vec_capacity values.old ≤ vec_capacity values.new }
-{
-    values.push(value).unwrap()
 }
 
 /// Takes the last value away.

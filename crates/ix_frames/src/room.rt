@@ -1,7 +1,7 @@
 //! How much room the code of a program needs.
 ghost use Rattle.std.specs.Prelude.{◌≡◌, ◌+◌, max, length, IfOk};
 ghost use Rattle.ix_core.specs.Code.{cond_code, item_code, items_code, End};
-ghost use Rattle.ix_frames.specs.Room.{code_above, condition_above, code_values, condition_values, op_values};
+ghost use Rattle.ix_frames.specs.Room.{counted, code_above, condition_above, code_values, condition_values, op_values};
 
 use ix_core::{Cond, Item, OpKind};
 use std::alloc::AllocError;
@@ -20,16 +20,6 @@ pub struct Needs {
     pub values: usize,
 }
 
-/// A sum. More than can be counted is more than there is memory for.
-fn plus(count: usize, more: usize) -> Result<usize, AllocError>
-    ensures { IfOk result (λ sum. sum ≡ count + more) }
-{
-    match count.checked_add(more) {
-        Some(sum) => Ok(sum),
-        None => Err(AllocError),
-    }
-}
-
 /// What the one and the other need, one after the other.
 fn larger(first: Needs, second: Needs) -> Needs
     ensures { result ≡ record { above = max first.above second.above; values = max first.values second.values } }
@@ -40,64 +30,73 @@ fn larger(first: Needs, second: Needs) -> Needs
     }
 }
 
-/// What these need that many places higher.
-fn higher(needs: Needs, more: usize) -> Result<Needs, AllocError>
-    ensures { IfOk result (λ higher. higher ≡ record { above = more + needs.above; values = needs.values }) }
+/// What these need that many places higher, as far as it can be counted.
+fn higher(needs: Needs, more: usize) -> Needs
+    ensures { result ≡ record { above = counted (more + needs.above); values = needs.values } }
 {
-    let above = plus(more, needs.above)?;
-    Ok(Needs {
-        above,
+    Needs {
+        above: more.saturating_add(needs.above),
         values: needs.values,
-    })
-}
-
-/// How many values an operation passes to a method.
-fn op_passes(kind: &OpKind) -> Result<usize, AllocError>
-    ensures { IfOk result (λ count. count ≡ op_values kind.now) }
-{
-    match kind {
-        OpKind::NewObject(call) => plus(call.args.len(), 1),
-        OpKind::StaticCall(call) => plus(call.args.len(), 1),
-        OpKind::InstanceCall(call) => plus(call.args.len(), 1),
-        OpKind::SuperCall(call) => plus(call.args.len(), 1),
-        _ => Ok(0),
     }
 }
 
-/// What the code of items needs. The one error is want of memory.
-#[cycle(needs)]
+/// How many values an operation passes to a method, as far as it can be counted.
+fn op_passes(kind: &OpKind) -> usize
+    ensures { result ≡ counted (op_values kind.now) }
+{
+    match kind {
+        OpKind::NewObject(call)
+        | OpKind::StaticCall(call)
+        | OpKind::InstanceCall(call)
+        | OpKind::SuperCall(call) => call.args.len().saturating_add(1),
+        _ => 0,
+    }
+}
+
+/// What the code of items needs. The one error is want of memory: more than can be counted is more than there is memory for.
 pub fn items_needs(items: &[Item]) -> Result<Needs, AllocError>
     ensures above { IfOk result (λ needs. needs.above ≡ code_above (items_code items.now)) }
     ensures values { IfOk result (λ needs. needs.values ≡ code_values (items_code items.now)) }
+{
+    let needs = block_needs(items);
+    if needs.above == usize::MAX || needs.values == usize::MAX {
+        return Err(AllocError);
+    }
+    Ok(needs)
+}
+
+/// What a block needs, as far as it can be counted.
+#[cycle(needs)]
+fn block_needs(items: &[Item]) -> Needs
+    ensures above { result.above ≡ counted (code_above (items_code items.now)) }
+    ensures values { result.values ≡ counted (code_values (items_code items.now)) }
 {
     let mut needs = Needs {
         above: 0,
         values: 0,
     };
     for item in items {
-        needs = larger(needs, item_needs(item)?);
+        needs = larger(needs, item_needs(item));
     }
-    Ok(needs)
+    needs
 }
 
-/// What an item needs.
+/// What an item needs, as far as it can be counted.
 #[cycle(needs)]
-fn item_needs(item: &Item) -> Result<Needs, AllocError>
-    ensures above { IfOk result (λ needs. needs.above ≡ code_above (item_code item.now End)) }
-    ensures values { IfOk result (λ needs. needs.values ≡ code_values (item_code item.now End)) }
+fn item_needs(item: &Item) -> Needs
+    ensures above { result.above ≡ counted (code_above (item_code item.now End)) }
+    ensures values { result.values ≡ counted (code_values (item_code item.now End)) }
 {
     match item {
-        Item::Do(op) => {
-            let values = op_passes(&op.kind)?;
-            Ok(Needs { above: 0, values })
-        }
+        Item::Do(op) => Needs {
+            above: 0,
+            values: op_passes(&op.kind),
+        },
         Item::If(cond, first, second) => {
-            let asked = cond_needs(cond)?;
-            let first = items_needs(first.items.as_slice())?;
-            let second = items_needs(second.items.as_slice())?;
-            let asked = higher(asked, 2)?;
-            let blocks = higher(larger(first, second), 1)?;
-            Ok(larger(asked, blocks))
+            let asked = cond_needs(cond);
+            let first = block_needs(first.items.as_slice());
+            let second = block_needs(second.items.as_slice());
+            larger(higher(asked, 2), higher(larger(first, second), 1))
         }
         Item::Loop {
             cond,
@@ -105,56 +104,41 @@ fn item_needs(item: &Item) -> Result<Needs, AllocError>
             next,
             ..
         } => {
-            let asked = cond_needs(cond)?;
-            let body = items_needs(body.items.as_slice())?;
-            let next = items_needs(next.items.as_slice())?;
-            let needs = higher(larger(asked, larger(body, next)), 3)?;
-            Ok(needs)
+            let asked = cond_needs(cond);
+            let body = block_needs(body.items.as_slice());
+            let next = block_needs(next.items.as_slice());
+            higher(larger(asked, larger(body, next)), 3)
         }
-        Item::Break | Item::Continue | Item::Return(_, _) | Item::Throw(_, _) => Ok(Needs {
+        Item::Break | Item::Continue | Item::Return(_, _) | Item::Throw(_, _) => Needs {
             above: 0,
             values: 0,
-        }),
+        },
     }
 }
 
-/// What a condition needs.
+/// What a condition needs, as far as it can be counted.
 #[cycle(needs)]
-fn cond_needs(cond: &Cond) -> Result<Needs, AllocError>
-    ensures above { IfOk result (λ needs. needs.above ≡ condition_above (cond_code cond.now)) }
-    ensures values { IfOk result (λ needs. needs.values ≡ condition_values (cond_code cond.now)) }
+fn cond_needs(cond: &Cond) -> Needs
+    ensures above { result.above ≡ counted (condition_above (cond_code cond.now)) }
+    ensures values { result.values ≡ counted (condition_values (cond_code cond.now)) }
 {
     match cond {
-        Cond::Known(_) => Ok(Needs {
+        Cond::Known(_) => Needs {
             above: 0,
             values: 0,
-        }),
-        Cond::Compare(block, _) => {
-            let needs = items_needs(block.items.as_slice())?;
-            let needs = higher(needs, 1)?;
-            Ok(needs)
-        }
-        Cond::Truth(block, _) => {
-            let needs = items_needs(block.items.as_slice())?;
-            let needs = higher(needs, 1)?;
-            Ok(needs)
-        }
+        },
+        Cond::Compare(block, _) => higher(block_needs(block.items.as_slice()), 1),
+        Cond::Truth(block, _) => higher(block_needs(block.items.as_slice()), 1),
         Cond::Both(first, second) => {
-            let first = cond_needs(first.get())?;
-            let second = cond_needs(second.get())?;
-            let first = higher(first, 1)?;
-            Ok(larger(first, second))
+            let first = cond_needs(first.get());
+            let second = cond_needs(second.get());
+            larger(higher(first, 1), second)
         }
         Cond::Either(first, second) => {
-            let first = cond_needs(first.get())?;
-            let second = cond_needs(second.get())?;
-            let first = higher(first, 1)?;
-            Ok(larger(first, second))
+            let first = cond_needs(first.get());
+            let second = cond_needs(second.get());
+            larger(higher(first, 1), second)
         }
-        Cond::Opposite(asked) => {
-            let asked = cond_needs(asked.get())?;
-            let needs = higher(asked, 1)?;
-            Ok(needs)
-        }
+        Cond::Opposite(asked) => higher(cond_needs(asked.get()), 1),
     }
 }

@@ -42,7 +42,7 @@ impl<'p> Stack<'p> {
         ensures items { self.new.places.items ≡ self.old.places.items ++ place.entry ∷ [] }
         ensures room { self.new.room ≡ self.old.room }
     {
-        push_place(&mut self.places, place);
+        self.places.push_reserved(place);
     }
 
     /// Takes the innermost place away.
@@ -323,16 +323,6 @@ impl<'p> Stack<'p> {
             }
         }
     }
-}
-
-/// Adds a place.
-#[inline(always)]
-fn push_place<'p>(places: &mut Vec<Place<'p>>, place: Place<'p>)
-    requires { vec_len places.old < vec_capacity places.old }
-    ensures items { places.new.items ≡ places.old.items ++ place.entry ∷ [] }
-    ensures room { vec_capacity places.old ≤ vec_capacity places.new }
-{
-    places.push_reserved(place)
 }
 
 /// Takes the last place away.

@@ -5,8 +5,8 @@ use Rattle.ix_frames.proofs.pool.spare_frames.Goals as goal
 
 pub loop-made-preserved : goal.loop-made-preserved
 loop-made-preserved c = record {
-  fit = more_frames c.args.room c.put_last.new.values.items c.loop-made.frames.items c.in_ok-new.field-0 c.put_last.ensures.items c.loop-made.invariant.fit
+  fit = more_frames c.args.room c.push_reserved.new.self.items c.loop-made.frames.items c.in_ok-new.field-0 c.push_reserved.ensures.items c.loop-made.invariant.fit
       (ap (λ (r : Room). r.places) c.in_ok-new.ensures.room, ap (λ (r : Room). r.values) c.in_ok-new.ensures.room);
-  len = omega (arith, c.put_last.ensures.len, c.loop-made.invariant.len);
-  memory = omega (arith, c.put_last.ensures.room, c.loop-made.invariant.memory);
+  len = omega (arith, c.push_reserved.ensures.len, c.loop-made.invariant.len);
+  memory = omega (arith, c.push_reserved.ensures.capacity, c.loop-made.invariant.memory);
 }

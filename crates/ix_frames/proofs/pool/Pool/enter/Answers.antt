@@ -1,7 +1,9 @@
-use Rattle.std.proofs.Common.{arith, ap, subst, sym, ◌∙◌}
+use Rattle.std.proofs.Common.{arith, ap, subst, sym, ◌∙◌, ◌∷◌}
 use Rattle.ix_frames.specs.declared.room.Room.{Room}
-use Rattle.ix_frames.specs.Waiting.{HasRoom}
-use Rattle.ix_frames.proofs.Rooms.{last_frame, more_waiting}
+use Rattle.ix_frames.specs.declared.frames.Frame.{Frame}
+use Rattle.ix_frames.specs.Frames.{frame_of}
+use Rattle.ix_frames.specs.Waiting.{HasRoom, waits_of}
+use Rattle.ix_frames.proofs.Rooms.{last_frame, more_waiting, waits-snoc}
 use Rattle.ix_frames.proofs.pool.Pool.enter.Goals as goal
 
 pub begin-requires-clause-fits : goal.begin-requires-clause-fits
@@ -27,9 +29,9 @@ invariant_of-self c =
     let fit = last_frame c.args.self.now.room c.args.self.now.spare.items c.take_last.new.values.items c.in-Some.callee c.in-Some.ensures.items c.args.self.now.spare_fit in
     record {
       spare_fit = fit.0;
-      below_fit = more_waiting c.args.self.now.room c.put_last.new.values.items c.args.self.now.below.items _ c.put_last.ensures.items c.args.self.now.below_fit (subst (λ frame. HasRoom c.args.self.now.room frame) (sym c.replace-frame.ensures.value) c.requires.room);
-      count = omega (arith, c.args.self.now.count, c.put_last.ensures.len, c.in-Some.ensures.len);
-      below_room = omega (arith, c.args.self.now.below_room, c.put_last.ensures.room);
+      below_fit = more_waiting c.args.self.now.room c.push_reserved.new.self.items c.args.self.now.below.items _ c.push_reserved.ensures.items c.args.self.now.below_fit (subst (λ frame. HasRoom c.args.self.now.room frame) (sym c.replace-frame.ensures.value) c.requires.room);
+      count = omega (arith, c.args.self.now.count, c.push_reserved.ensures.len, c.in-Some.ensures.len);
+      below_room = omega (arith, c.args.self.now.below_room, c.push_reserved.ensures.capacity);
       spare_room = omega (arith, c.args.self.now.spare_room, c.take_last.ensures.room);
     }
 
@@ -38,3 +40,8 @@ returns-clause-fits c =
     let fit = last_frame c.args.self.now.room c.args.self.now.spare.items c.take_last.new.values.items c.in-Some.callee c.in-Some.ensures.items c.args.self.now.spare_fit in
     subst (λ frame. HasRoom c.args.self.now.room frame) (sym c.replace-frame.ensures.after)
     (ap (λ (r : Room). r.places) c.begin.ensures.room ∙ fit.1.0, ap (λ (r : Room). r.values) c.begin.ensures.room ∙ fit.1.1)
+
+pub returns-clause-below : goal.returns-clause-below
+returns-clause-below c =
+    waits-snoc _ _ _ c.push_reserved.ensures.items
+    ∙ ap (λ (frame : Frame). record { frame = frame_of frame; target = c.args.target } ∷ waits_of c.args.self.now.below.items) c.replace-frame.ensures.value
