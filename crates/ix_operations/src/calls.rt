@@ -1,10 +1,10 @@
 //! Calls: the method that runs, the values that it gets, and the slot that gets its result.
-ghost use Rattle.std.specs.Prelude.{◌≡◌, ◌≤◌, ◌+◌, ◌<◌, ℕ, false, Option, option_map, Some, None, nat_lt, length};
+ghost use Rattle.std.specs.Prelude.{◌≡◌, ◌≤◌, ◌+◌, ◌<◌, ℕ, false, Option, option_map, Some, None, IfSome, IfNone, nat_lt, length};
 ghost use Rattle.ix_core.specs.Code.{items_code};
 ghost use Rattle.ix_core.specs.Heap.{value_at};
 ghost use Rattle.ix_core.specs.Machine as model;
 ghost use Rattle.ix_core.specs.Machine.{with_limits};
-ghost use Rattle.ix_core.specs.Tables.{tables_of, body_of, method_at, default_result};
+ghost use Rattle.ix_core.specs.Tables.{tables_of, body_of, method_at, no_method, default_result};
 ghost use Rattle.ix_heap.specs.Rows.{held_of};
 ghost use Rattle.ix_heap.specs.View.{heap_of};
 ghost use Rattle.ix_frames.specs.Frames.{slots_of};
@@ -14,7 +14,7 @@ ghost use Rattle.ix_operations.specs.Kinds.{kind_of, called_of};
 
 use crate::rows::Rows;
 use ix_classes::found;
-use ix_core::{CallOp, Item, OpKind, Program, Type_};
+use ix_core::{CallOp, Item, Method, OpKind, Program, Type_};
 use ix_frames::Frame;
 use ix_heap::{Heap, Held, default_of};
 
@@ -126,11 +126,19 @@ pub fn receiver<'p>(call: Call<'p>, number: u32, frame: &Frame<'p>) -> Option<He
     }
 }
 
+/// The method of that number; none where there is none.
+fn method_in(program: &Program, method: u32) -> Option<&Method>
+    ensures found { IfSome result (λ found. method_at program.now method ≡ found.now) }
+    ensures none { IfNone result (method_at program.now method ≡ no_method) }
+{
+    program.methods.as_slice().get(method as usize)
+}
+
 /// What a method gives back where its body ends without a `return`; none of a method without a result.
 pub fn default_in(program: &Program, method: u32) -> Option<Held>
     ensures { option_map held_of result ≡ default_result (method_at program.now method).result }
 {
-    match program.methods.as_slice().get(method as usize) {
+    match method_in(program, method) {
         Some(found) => match &found.result {
             Type_::Void => None,
             result => Some(default_of(result)),
@@ -157,7 +165,7 @@ pub fn target<'p>(program: &Program, call: Call<'p>) -> Option<u32>
 pub fn body_in<'p>(program: &'p Program, method: u32) -> &'p [Item]
     ensures { items_code result.now ≡ body_of (method_at program.entry.now method) }
 {
-    match program.methods.as_slice().get(method as usize) {
+    match method_in(program, method) {
         Some(found) => found.body.items.as_slice(),
         None => &[],
     }
@@ -167,7 +175,7 @@ pub fn body_in<'p>(program: &'p Program, method: u32) -> &'p [Item]
 pub fn slots_in(program: &Program, method: u32) -> u32
     ensures { result ≡ (method_at program.now method).slots }
 {
-    match program.methods.as_slice().get(method as usize) {
+    match method_in(program, method) {
         Some(found) => found.slots,
         None => 0,
     }
