@@ -57,3 +57,9 @@ returns-clause-entered c =
     let met = all_met c.args.program.now c.args.entry.now (map (λ (word : Bor (List ℕ)). word.now) c.args.inputs.now) c.args.limits.cells c.in_ok-begun.begun.method c.in_ok-begun.begun.found.now (map input_of c.in_ok-begun.begun.inputs)
     c.in_ok-begun.ensures.given c.in_ok-begun.ensures.found c.in_default.ensures in
     (c.in_ok-begun.begun.method, map input_of c.in_ok-begun.begun.inputs, entered c.args.program.now c.args.entry.now _ c.in_ok-begun.begun.method (map input_of c.in_ok-begun.begun.inputs) c.in_ok-begun.ensures.given met, begun_state c)
+
+pub values_of-requires-clause-empty : goal.values_of-requires-clause-empty
+values_of-requires-clause-empty c = c.in_ok-heap.ensures.empty
+
+pub returns-clause-program : goal.returns-clause-program
+returns-clause-program c = c.in_ok-machine.ensures.program
