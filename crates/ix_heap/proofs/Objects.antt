@@ -1,5 +1,6 @@
 -- Objects and the rows that their cells lie in.
 use Rattle.std.proofs.Common.{◌≡◌, append-nil, append_assoc, ℕ, zero, suc, ◌+◌, ◌-◌, ◌<◌, ◌≤◌, List, [], ◌∷◌, ◌++◌, length, map, take, drop, set, replicate, slice_get, get_or, Some, None, refl, ap, sym, ◌∙◌, subst, arith, length-drop}
+use Rattle.std.proofs.lemmas.List.{take_all}
 use Rattle.std.proofs.Math.Seq.{take-set-lt, take-length}
 use Rattle.std.proofs.lemmas.List.{map-append, take_more, take-set-le, drop-set-lt, drop-set-add, map-set, length-take-le, get_or-take, get_or-drop, drop-drop, length-map, set_past, set-get_or, get_or_past, take-append-le, drop-append-le}
 use Rattle.std.proofs.lemmas.Option.{slice_get_within, slice_get-get_or, slice_get-map}
@@ -224,6 +225,10 @@ pub added_step : {A : Type 0} (f : A → model.Held) (xs : List A) (index : ℕ)
     → held_of value ≡ f (get_or xs index default) → Added old more (map f (take (index + 1) xs))
 added_step f xs index default old new more value within added is same =
     subst (λ values. Added old more values) (sym (taken_map f xs index default within)) (added_more old new more (map f (take index xs)) value (f (get_or xs index default)) added is same)
+
+-- the last step was the last element's
+pub added_whole : {A : Type 0} (f : A → model.Held) (xs : List A) (index : ℕ) (old new : List Held) → length xs ≤ index → Added old new (map f (take index xs)) → Added old new (map f xs)
+added_whole f xs index old new past added = subst (λ ys. Added old new (map f ys)) (take_all index xs past) added
 
 pub used_sum : (heap : Heap) (cells rows : ℕ) → cells ≡ vec_len heap.cells → rows ≡ vec_len heap.rows → cells + rows ≡ cells_used (objects_of heap.rows.items heap.cells.items)
 used_sum heap cells rows few some = omega (arith, few, some, used_is heap)

@@ -227,7 +227,7 @@ impl<'p> Heap<'p> {
             len,
         };
         push_copies(&mut self.cells, cell_default(ty), len);
-        put_row(&mut self.rows, row);
+        self.rows.push_reserved(row);
         number
     }
 
@@ -245,7 +245,7 @@ impl<'p> Heap<'p> {
             len: entries.len(),
         };
         push_picked(&mut self.cells, entries, slots);
-        put_row(&mut self.rows, row);
+        self.rows.push_reserved(row);
         number
     }
 
@@ -263,7 +263,7 @@ impl<'p> Heap<'p> {
             len: fields.len(),
         };
         push_defaults(&mut self.cells, program, fields);
-        put_row(&mut self.rows, row);
+        self.rows.push_reserved(row);
         number
     }
 
@@ -281,7 +281,7 @@ impl<'p> Heap<'p> {
             len: ns.len(),
         };
         push_ints(&mut self.cells, ns);
-        put_row(&mut self.rows, row);
+        self.rows.push_reserved(row);
         number
     }
 }
@@ -312,7 +312,7 @@ fn push_copies(cells: &mut Vec<Held>, value: Held, count: usize)
     ensures room { vec_capacity cells.old ≤ vec_capacity cells.new }
 {
     for done in 0..count {
-        cells.push(value).unwrap();
+        cells.push_reserved(value);
     }
 }
 
@@ -326,16 +326,6 @@ fn value_in(slots: &[Held], slot: u32) -> Held
     }
 }
 
-/// Adds a cell.
-fn put_cell(cells: &mut Vec<Held>, value: Held)
-    requires { vec_len cells.old < vec_capacity cells.old }
-    ensures items { cells.new.items ≡ cells.old.items ++ value ∷ [] }
-    ensures len { vec_len cells.new ≡ vec_len cells.old + 1 }
-    ensures room { vec_capacity cells.old ≤ vec_capacity cells.new }
-{
-    cells.push(value).unwrap()
-}
-
 /// Adds what these slots hold.
 fn push_picked(cells: &mut Vec<Held>, entries: &[u32], slots: &[Held])
     requires { vec_len cells.old + length entries.now ≤ vec_capacity cells.old }
@@ -343,7 +333,7 @@ fn push_picked(cells: &mut Vec<Held>, entries: &[u32], slots: &[Held])
     ensures room { vec_capacity cells.old ≤ vec_capacity cells.new }
 {
     for slot in entries {
-        put_cell(cells, value_in(slots, *slot));
+        cells.push_reserved(value_in(slots, *slot));
     }
 }
 
@@ -364,7 +354,7 @@ fn push_defaults(cells: &mut Vec<Held>, program: &Program, fields: &[u32])
     ensures room { vec_capacity cells.old ≤ vec_capacity cells.new }
 {
     for field in fields {
-        put_cell(cells, field_default(program, *field));
+        cells.push_reserved(field_default(program, *field));
     }
 }
 
@@ -375,15 +365,6 @@ fn push_ints(cells: &mut Vec<Held>, ns: &[i32])
     ensures room { vec_capacity cells.old ≤ vec_capacity cells.new }
 {
     for n in ns {
-        put_cell(cells, Held::Int(*n));
+        cells.push_reserved(Held::Int(*n));
     }
-}
-
-/// Adds a row.
-fn put_row<'p>(rows: &mut Vec<Row<'p>>, row: Row<'p>)
-    requires { vec_len rows.old < vec_capacity rows.old }
-    ensures items { rows.new.items ≡ rows.old.items ++ row.entry ∷ [] }
-    ensures room { vec_capacity rows.old ≤ vec_capacity rows.new }
-{
-    rows.push(row).unwrap()
 }

@@ -6,16 +6,16 @@ use Rattle.ix_heap.proofs.heap.Heap.make_array.Goals as goal
 pub push_copies-requires : goal.push_copies-requires
 push_copies-requires c = omega (arith, used_is c.args.self.now, c.args.self.now.cell_room)
 
-pub put_row-requires : goal.put_row-requires
-put_row-requires c = omega (arith, used_is c.args.self.now, c.args.self.now.row_room)
+pub push_reserved-requires : goal.push_reserved-requires
+push_reserved-requires c = omega (arith, used_is c.args.self.now, c.args.self.now.row_room)
 
 pub invariant_of-self : goal.invariant_of-self
 invariant_of-self c =
     let size = length-replicate c.args.len c.cell_default.result in
     record {
-      apart = laid_after c.args.self.now c.put_row.new.rows c.push_copies.new.cells _ _ c.put_row.ensures.items c.push_copies.ensures.items c.len.ensures (sym size);
-      within = omega (arith, used_is c.args.self.now, size, cells_more c.args.self.now c.push_copies.new.cells _ c.push_copies.ensures.items, rows_more c.args.self.now c.put_row.new.rows _ c.put_row.ensures.items);
-      row_room = omega (arith, c.args.self.now.row_room, c.put_row.ensures.room);
+      apart = laid_after c.args.self.now c.push_reserved.new.self c.push_copies.new.cells _ _ c.push_reserved.ensures.items c.push_copies.ensures.items c.len.ensures (sym size);
+      within = omega (arith, used_is c.args.self.now, size, cells_more c.args.self.now c.push_copies.new.cells _ c.push_copies.ensures.items, rows_more c.args.self.now c.push_reserved.new.self _ c.push_reserved.ensures.items);
+      row_room = omega (arith, c.args.self.now.row_room, c.push_reserved.ensures.capacity);
       cell_room = omega (arith, c.args.self.now.cell_room, c.push_copies.ensures.room);
       small = c.args.self.now.small;
     }
@@ -25,5 +25,5 @@ returns-clause-number c = omega (arith, c.len-number.ensures, row_length c.args.
 
 pub returns-clause-made : goal.returns-clause-made
 returns-clause-made c =
-    made c.args.self.now c.put_row.new.rows c.push_copies.new.cells _ _ c.put_row.ensures.items c.push_copies.ensures.items (sym (length-replicate c.args.len c.cell_default.result))
+    made c.args.self.now c.push_reserved.new.self c.push_copies.new.cells _ _ c.push_reserved.ensures.items c.push_copies.ensures.items (sym (length-replicate c.args.len c.cell_default.result))
     ∙ rw (map-replicate, c.cell_default.ensures) refl
