@@ -2,3 +2,4 @@ pub mod KeptSources
 pub mod Truncated
 mod Rows
 mod Sums
+mod Inside

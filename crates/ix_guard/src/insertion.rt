@@ -17,8 +17,8 @@ fn insert(out: &mut Vec<Insertion>, place: u32, text: String) -> Result<(), Allo
     ensures { OnOk result (out.new.items ≡ out.old.items ++ spec.inserted place (string_bytes text)) }
 {
     let text = Text::from_string(text);
-    out.push(Insertion { place, text })?;
-    Ok(())
+    out.push(Insertion { place, text })
+        .map_err(AllocError::from)
 }
 
 /// The tests alone before a declaration.

@@ -71,10 +71,7 @@ fn add_target(target: &Expr, places: &mut Vec<Span>) -> Result<(), AllocError>
     ensures { OnOk result (places.new.items ≡ places.old.items ++ spec.place_of (spec.reading target.now).name) }
 {
     match &target.kind {
-        ExprKind::Name(name) => {
-            places.push(name.span)?;
-            Ok(())
-        }
+        ExprKind::Name(name) => places.push(name.span).map_err(AllocError::from),
         _ => Ok(()),
     }
 }
@@ -89,8 +86,7 @@ pub(crate) fn add_parts<'a>(expr: &'a Expr, found: &mut Parts<'a>) -> Result<(),
         ExprKind::Select(object, _) => add_parts(object.get(), found),
         ExprKind::Index(array, index) => {
             if let Some(access) = own_access(array.get(), index.get()) {
-                found.accesses.push(access)?;
-                return Ok(());
+                return found.accesses.push(access).map_err(AllocError::from);
             }
             add_parts(array.get(), found)?;
             add_parts(index.get(), found)
