@@ -1,3 +1,4 @@
+use Rattle.ix_frames.specs.declared.room.Room.{Room}
 use Rattle.std.proofs.Common.{arith, ap, ◌∙◌, length}
 use Rattle.ix_core.specs.Code.{items_code}
 use Rattle.ix_heap.specs.View.{heap_of}
@@ -24,3 +25,6 @@ pub returns-clause-frame : goal.returns-clause-frame
 returns-clause-frame c =
     entered_frame c.args.method _ (items_code c.body_in.result.now) _ _ _ _ _ _ _ (slots_of c.args.frame.now) c.enter.ensures.frame c.body_in.ensures c.slots_in.ensures
     (c.receiver-this.ensures ∙ receiver_is (kind_of c.args.call.kind) c.args.call.op.now c.make_object-number.result (length (heap_of c.args.heap.now)) (slots_of c.args.frame.now) c.make_object-number.ensures.number) c.as_slice.ensures
+
+pub enter-requires-clause-room : goal.enter-requires-clause-room
+enter-requires-clause-room c = (ap (λ (room : Room). room.places) c.put.ensures.room ∙ c.requires.fits.0, ap (λ (room : Room). room.values) c.put.ensures.room ∙ c.requires.fits.1)

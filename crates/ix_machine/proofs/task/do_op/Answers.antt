@@ -1,8 +1,13 @@
-use Rattle.ix_frames.specs.Places.{outer}
+use Rattle.ix_frames.specs.Frames.{slots_of}
+use Rattle.ix_heap.specs.View.{heap_of}
+use Rattle.ix_core.specs.Tasks.{code_then}
+use Rattle.ix_core.specs.Machine.{Go, Wrap, effect_then}
+use Rattle.ix_core.specs.Code.{items_code}
+use Rattle.ix_frames.specs.Places.{outer, tasks_open}
 use Rattle.ix_frames.specs.Fits.{IsFree}
 use Rattle.ix_frames.specs.declared.places.Place.TheVariants as place
 use Rattle.ix_frames.specs.declared.stack.Stack.{Stack}
-use Rattle.std.proofs.Common.{◌<◌, length, sym, subst}
+use Rattle.std.proofs.Common.{◌<◌, length, ap, sym, subst, ◌∙◌}
 use Rattle.ix_machine.proofs.task.do_op.Goals as goal
 
 pub go_on-requires-clause-free : goal.go_on-requires-clause-free
@@ -46,3 +51,13 @@ returns-in-Done-clause-values c = λ is. absurd is
 
 pub returns-in-Wrapped-clause-values : goal.returns-in-Wrapped-clause-values
 returns-in-Wrapped-clause-values c = λ is. absurd is
+
+pub returns-in-Done-clause-moved : goal.returns-in-Done-clause-moved
+returns-in-Done-clause-moved c = λ frames.
+    ap (λ effect. effect_then effect c.args.op.now.span.from (code_then (items_code c.args.rest.now) (tasks_open (outer c.args.frame.now.stack.places.items)))) (c.in-Done.ensures.done frames)
+    ∙ ap (λ tasks. Go tasks (slots_of c.operate.new.frame) (heap_of c.operate.new.heap)) (sym (c.go_on.ensures.tasks ∙ ap (λ (stack : Stack). code_then (items_code c.args.rest.now) (tasks_open (outer stack.places.items))) c.operate.ensures.stack))
+
+pub returns-in-Wrapped-clause-moved : goal.returns-in-Wrapped-clause-moved
+returns-in-Wrapped-clause-moved c = λ frames.
+    ap (λ effect. effect_then effect c.args.op.now.span.from (code_then (items_code c.args.rest.now) (tasks_open (outer c.args.frame.now.stack.places.items)))) (c.in-Wrapped.ensures.done frames)
+    ∙ ap (λ tasks. Wrap tasks (slots_of c.operate.new.frame) (heap_of c.operate.new.heap)) (sym (c.go_on-in-Wrapped.ensures.tasks ∙ ap (λ (stack : Stack). code_then (items_code c.args.rest.now) (tasks_open (outer stack.places.items))) c.operate.ensures.stack))

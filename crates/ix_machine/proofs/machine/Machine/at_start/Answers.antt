@@ -1,4 +1,6 @@
-use Rattle.std.proofs.Common.{false, arith, ap, map, ◌∙◌}
+use Rattle.ix_core.specs.declared.program.Program.{Program}
+use Rattle.ix_machine.specs.Programs.{places_of, values_of}
+use Rattle.std.proofs.Common.{false, arith, ap, map, sym, ◌∙◌}
 use Rattle.ix_core.specs.Machine.{frame, slots_with}
 use Rattle.ix_core.specs.Tables.{body_of, method_at}
 use Rattle.ix_core.specs.Tasks.{Empty, code_then}
@@ -41,3 +43,12 @@ returns-clause-state c =
 
 pub returns-clause-program : goal.returns-clause-program
 returns-clause-program c = c.in_ok-rows.ensures
+
+pub invariant_of-result : goal.invariant_of-result
+invariant_of-result c = record {
+  fits =
+      let is = c.start.ensures.room ∙ (c.in_ok-frame.ensures.room ∙ sym c.in_ok-pool.ensures.room) in
+      (ap (λ (room : Room). room.places) is, ap (λ (room : Room). room.values) is);
+  places = omega (arith, ap (λ (program : Program). places_of program.methods) c.in_ok-rows.ensures, c.in_ok-room.ensures.places, ap (λ (room : Room). room.places) c.in_ok-pool.ensures.room);
+  values = omega (arith, ap (λ (program : Program). values_of program.methods) c.in_ok-rows.ensures, c.in_ok-room.ensures.values, ap (λ (room : Room). room.values) c.in_ok-pool.ensures.room);
+}
