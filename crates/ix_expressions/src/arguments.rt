@@ -24,12 +24,16 @@ impl<F: Fn(Global, &mut Cursor<'_>, u32, Part) -> Result<Found, Stop>> Grammar<F
         height: u32,
         first: Found,
     ) -> Result<Several, Stop>
-        requires parts { ReadsParts (height + 1) (F.pre self.now.part) (F.post self.now.part) }
-        requires few { length cursor.old ≤ 200000 }
-        requires first { first.height ≤ height }
-        ensures reads { Follows (run (loop (spec.more_exprs (spec.expr height)) (nodes.with_expr nodes.no_exprs first)) cursor.old) result cursor.new }
-        ensures no_longer { OnOk result (length cursor.new ≤ length cursor.old) }
-        ensures fits { IfOk result (λ s. s.height ≤ height) }
+        requires { record {
+          parts : ReadsParts (height + 1) (F.pre self.now.part) (F.post self.now.part);
+          few : length cursor.old ≤ 200000;
+          first : first.height ≤ height;
+        } }
+        ensures { record {
+          reads : Follows (run (loop (spec.more_exprs (spec.expr height)) (nodes.with_expr nodes.no_exprs first)) cursor.old) result cursor.new;
+          no_longer : OnOk result (length cursor.new ≤ length cursor.old);
+          fits : IfOk result (λ s. s.height ≤ height);
+        } }
     {
         let mut several = with_expr(no_exprs(self.alloc), first)?;
         'reading: while let Some(_comma) = cursor.sign(COMMA) {
@@ -43,11 +47,15 @@ impl<F: Fn(Global, &mut Cursor<'_>, u32, Part) -> Result<Found, Stop>> Grammar<F
     /// `[Expr {"," Expr}] ")"`, behind the opening parenthesis, each of a height of at most `height`
     #[tactic(auto, unfolding(ix_descent::specs::Rule::run, ix_descent::specs::ExprRules::args))]
     pub fn args_within(&self, cursor: &mut Cursor<'_>, height: u32) -> Result<Args, Stop>
-        requires parts { ReadsParts (height + 1) (F.pre self.now.part) (F.post self.now.part) }
-        requires few { length cursor.old ≤ 200000 }
-        ensures reads { Follows (run (spec.args (spec.expr height)) cursor.old) result cursor.new }
-        ensures no_longer { OnOk result (length cursor.new ≤ length cursor.old) }
-        ensures fits { IfOk result (λ a. a.height ≤ height) }
+        requires { record {
+          parts : ReadsParts (height + 1) (F.pre self.now.part) (F.post self.now.part);
+          few : length cursor.old ≤ 200000;
+        } }
+        ensures { record {
+          reads : Follows (run (spec.args (spec.expr height)) cursor.old) result cursor.new;
+          no_longer : OnOk result (length cursor.new ≤ length cursor.old);
+          fits : IfOk result (λ a. a.height ≤ height);
+        } }
     {
         if let Some(right) = cursor.sign(CLOSE_PAREN) {
             cursor.advance();
@@ -65,13 +73,17 @@ impl<F: Fn(Global, &mut Cursor<'_>, u32, Part) -> Result<Found, Stop>> Grammar<F
     /// `[Expr {"," Expr}] ")"`, behind the opening parenthesis, within a primary that must be wrapped so often
     #[tactic(auto, using(crate::proofs::LowerParts::inner_parts, crate::proofs::LowerParts::fewer_parts))]
     pub fn args(&self, cursor: &mut Cursor<'_>, extra: u32) -> Result<Args, Stop>
-        requires parts { ReadsParts self.now.left (F.pre self.now.part) (F.post self.now.part) }
-        requires few { length cursor.old ≤ 200000 }
-        requires room { extra < self.now.left }
-        requires once { extra ≤ 1 }
-        ensures reads { Follows (run (spec.args (spec.inner (spec.below self.now.left) extra)) cursor.old) result cursor.new }
-        ensures no_longer { OnOk result (length cursor.new ≤ length cursor.old) }
-        ensures fits { IfOk result (λ a. a.height + extra + 1 ≤ self.now.left) }
+        requires { record {
+          parts : ReadsParts self.now.left (F.pre self.now.part) (F.post self.now.part);
+          few : length cursor.old ≤ 200000;
+          room : extra < self.now.left;
+          once : extra ≤ 1;
+        } }
+        ensures { record {
+          reads : Follows (run (spec.args (spec.inner (spec.below self.now.left) extra)) cursor.old) result cursor.new;
+          no_longer : OnOk result (length cursor.new ≤ length cursor.old);
+          fits : IfOk result (λ a. a.height + extra + 1 ≤ self.now.left);
+        } }
     {
         self.args_within(cursor, self.left - (extra + 1))
     }

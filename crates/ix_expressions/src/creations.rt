@@ -37,15 +37,19 @@ impl<F: Fn(Global, &mut Cursor<'_>, u32, Part) -> Result<Found, Stop>> Grammar<F
         notes: Notes,
         right: Span,
     ) -> Result<Found, Stop>
-        requires parts { ReadsParts self.now.left (F.pre self.now.part) (F.post self.now.part) }
-        requires few { length cursor.old ≤ 200000 }
-        requires low { notes.height ≤ 3 }
-        requires type_room { max (base_height base.value) notes.height + 2 ≤ self.now.left }
-        requires room { spec.extra aim Array + 2 ≤ self.now.left }
-        ensures reads { Follows (run (bind (types.pairs 1 right) (λ found. take (a_sign OPEN_BRACE) true (λ open_at. bind (spec.items (spec.inner_init (spec.below self.now.left) (spec.extra aim Array)) open_at) (λ s. pure (nodes.new_items start (nodes.created_type base notes found) s))) stop)) cursor.old) result cursor.new }
-        ensures no_longer { OnOk result (length cursor.new ≤ length cursor.old) }
-        ensures fits { IfOk result (λ f. f.height ≤ self.now.left) }
-        ensures some { IfOk result (λ f. 0 < f.height) }
+        requires { record {
+          parts : ReadsParts self.now.left (F.pre self.now.part) (F.post self.now.part);
+          few : length cursor.old ≤ 200000;
+          low : notes.height ≤ 3;
+          type_room : max (base_height base.value) notes.height + 2 ≤ self.now.left;
+          room : spec.extra aim Array + 2 ≤ self.now.left;
+        } }
+        ensures { record {
+          reads : Follows (run (bind (types.pairs 1 right) (λ found. take (a_sign OPEN_BRACE) true (λ open_at. bind (spec.items (spec.inner_init (spec.below self.now.left) (spec.extra aim Array)) open_at) (λ s. pure (nodes.new_items start (nodes.created_type base notes found) s))) stop)) cursor.old) result cursor.new;
+          no_longer : OnOk result (length cursor.new ≤ length cursor.old);
+          fits : IfOk result (λ f. f.height ≤ self.now.left);
+          some : IfOk result (λ f. 0 < f.height);
+        } }
     {
         let brackets = pairs(cursor, right)?;
         let Some(left) = cursor.sign(OPEN_BRACE) else {
@@ -67,15 +71,19 @@ impl<F: Fn(Global, &mut Cursor<'_>, u32, Part) -> Result<Found, Stop>> Grammar<F
         base: At<BaseTree>,
         notes: Notes,
     ) -> Result<Found, Stop>
-        requires parts { ReadsParts self.now.left (F.pre self.now.part) (F.post self.now.part) }
-        requires few { length cursor.old ≤ 200000 }
-        requires low { notes.height ≤ 3 }
-        requires type_room { max (base_height base.value) notes.height + 2 ≤ self.now.left }
-        requires room { spec.extra aim Array + 2 ≤ self.now.left }
-        ensures reads { Follows (run (bind (spec.inner (spec.below self.now.left) (spec.extra aim Array)) (λ g. take (a_sign CLOSE_BRACKET) true (λ right. bind (types.pairs 1 right) (λ found. pure (nodes.new_array start (nodes.created_type base notes found) g found.span))) stop)) cursor.old) result cursor.new }
-        ensures no_longer { OnOk result (length cursor.new ≤ length cursor.old) }
-        ensures fits { IfOk result (λ f. f.height ≤ self.now.left) }
-        ensures some { IfOk result (λ f. 0 < f.height) }
+        requires { record {
+          parts : ReadsParts self.now.left (F.pre self.now.part) (F.post self.now.part);
+          few : length cursor.old ≤ 200000;
+          low : notes.height ≤ 3;
+          type_room : max (base_height base.value) notes.height + 2 ≤ self.now.left;
+          room : spec.extra aim Array + 2 ≤ self.now.left;
+        } }
+        ensures { record {
+          reads : Follows (run (bind (spec.inner (spec.below self.now.left) (spec.extra aim Array)) (λ g. take (a_sign CLOSE_BRACKET) true (λ right. bind (types.pairs 1 right) (λ found. pure (nodes.new_array start (nodes.created_type base notes found) g found.span))) stop)) cursor.old) result cursor.new;
+          no_longer : OnOk result (length cursor.new ≤ length cursor.old);
+          fits : IfOk result (λ f. f.height ≤ self.now.left);
+          some : IfOk result (λ f. 0 < f.height);
+        } }
     {
         let length = self.inner(cursor, extra(aim, Form::Array))?;
         let Some(right) = cursor.sign(CLOSE_BRACKET) else {
@@ -98,15 +106,19 @@ impl<F: Fn(Global, &mut Cursor<'_>, u32, Part) -> Result<Found, Stop>> Grammar<F
         base: At<BaseTree>,
         notes: Notes,
     ) -> Result<Found, Stop>
-        requires parts { ReadsParts self.now.left (F.pre self.now.part) (F.post self.now.part) }
-        requires few { length cursor.old ≤ 200000 }
-        requires low { notes.height ≤ 3 }
-        requires type_room { max (base_height base.value) notes.height + 2 ≤ self.now.left }
-        requires room { spec.extra aim Array + 2 ≤ self.now.left }
-        ensures reads { Follows (run (spec.array_rest (spec.below self.now.left) aim start base notes) cursor.old) result cursor.new }
-        ensures no_longer { OnOk result (length cursor.new ≤ length cursor.old) }
-        ensures fits { IfOk result (λ f. f.height ≤ self.now.left) }
-        ensures some { IfOk result (λ f. 0 < f.height) }
+        requires { record {
+          parts : ReadsParts self.now.left (F.pre self.now.part) (F.post self.now.part);
+          few : length cursor.old ≤ 200000;
+          low : notes.height ≤ 3;
+          type_room : max (base_height base.value) notes.height + 2 ≤ self.now.left;
+          room : spec.extra aim Array + 2 ≤ self.now.left;
+        } }
+        ensures { record {
+          reads : Follows (run (spec.array_rest (spec.below self.now.left) aim start base notes) cursor.old) result cursor.new;
+          no_longer : OnOk result (length cursor.new ≤ length cursor.old);
+          fits : IfOk result (λ f. f.height ≤ self.now.left);
+          some : IfOk result (λ f. 0 < f.height);
+        } }
     {
         if let Some(right) = cursor.sign(CLOSE_BRACKET) {
             cursor.advance();
@@ -125,15 +137,19 @@ impl<F: Fn(Global, &mut Cursor<'_>, u32, Part) -> Result<Found, Stop>> Grammar<F
         base: At<BaseTree>,
         notes: Notes,
     ) -> Result<Found, Stop>
-        requires parts { ReadsParts self.now.left (F.pre self.now.part) (F.post self.now.part) }
-        requires few { length cursor.old ≤ 200000 }
-        requires low { notes.height ≤ 3 }
-        requires type_room { max (base_height base.value) notes.height + 2 ≤ self.now.left }
-        requires room { spec.extra aim Array + 2 ≤ self.now.left }
-        ensures reads { Follows (run (spec.array (spec.below self.now.left) aim start base notes) cursor.old) result cursor.new }
-        ensures no_longer { OnOk result (length cursor.new ≤ length cursor.old) }
-        ensures fits { IfOk result (λ f. f.height ≤ self.now.left) }
-        ensures some { IfOk result (λ f. 0 < f.height) }
+        requires { record {
+          parts : ReadsParts self.now.left (F.pre self.now.part) (F.post self.now.part);
+          few : length cursor.old ≤ 200000;
+          low : notes.height ≤ 3;
+          type_room : max (base_height base.value) notes.height + 2 ≤ self.now.left;
+          room : spec.extra aim Array + 2 ≤ self.now.left;
+        } }
+        ensures { record {
+          reads : Follows (run (spec.array (spec.below self.now.left) aim start base notes) cursor.old) result cursor.new;
+          no_longer : OnOk result (length cursor.new ≤ length cursor.old);
+          fits : IfOk result (λ f. f.height ≤ self.now.left);
+          some : IfOk result (λ f. 0 < f.height);
+        } }
     {
         let Some(_opening) = cursor.sign(OPEN_BRACKET) else {
             return Err(Stop::Syntax);
@@ -151,13 +167,17 @@ impl<F: Fn(Global, &mut Cursor<'_>, u32, Part) -> Result<Found, Stop>> Grammar<F
         start: Span,
         name: Ident,
     ) -> Result<Found, Stop>
-        requires parts { ReadsParts self.now.left (F.pre self.now.part) (F.post self.now.part) }
-        requires few { length cursor.old ≤ 200000 }
-        requires room { spec.extra aim Statement + 2 ≤ self.now.left }
-        ensures reads { Follows (run (spec.object_or_array (spec.below self.now.left) aim self.now.left start name) cursor.old) result cursor.new }
-        ensures no_longer { OnOk result (length cursor.new ≤ length cursor.old) }
-        ensures fits { IfOk result (λ f. f.height ≤ self.now.left) }
-        ensures some { IfOk result (λ f. 0 < f.height) }
+        requires { record {
+          parts : ReadsParts self.now.left (F.pre self.now.part) (F.post self.now.part);
+          few : length cursor.old ≤ 200000;
+          room : spec.extra aim Statement + 2 ≤ self.now.left;
+        } }
+        ensures { record {
+          reads : Follows (run (spec.object_or_array (spec.below self.now.left) aim self.now.left start name) cursor.old) result cursor.new;
+          no_longer : OnOk result (length cursor.new ≤ length cursor.old);
+          fits : IfOk result (λ f. f.height ≤ self.now.left);
+          some : IfOk result (λ f. 0 < f.height);
+        } }
     {
         if let Some(_opening) = cursor.sign(OPEN_PAREN) {
             cursor.advance();
@@ -188,15 +208,19 @@ impl<F: Fn(Global, &mut Cursor<'_>, u32, Part) -> Result<Found, Stop>> Grammar<F
         start: Span,
         notes: Notes,
     ) -> Result<Found, Stop>
-        requires parts { ReadsParts self.now.left (F.pre self.now.part) (F.post self.now.part) }
-        requires few { length cursor.old ≤ 200000 }
-        requires low { notes.height ≤ 3 }
-        requires type_room { notes.height + 2 ≤ self.now.left }
-        requires room { spec.extra aim Array + 4 ≤ self.now.left }
-        ensures reads { Follows (run (spec.noted_array (spec.below self.now.left) aim start notes) cursor.old) result cursor.new }
-        ensures no_longer { OnOk result (length cursor.new ≤ length cursor.old) }
-        ensures fits { IfOk result (λ f. f.height ≤ self.now.left) }
-        ensures some { IfOk result (λ f. 0 < f.height) }
+        requires { record {
+          parts : ReadsParts self.now.left (F.pre self.now.part) (F.post self.now.part);
+          few : length cursor.old ≤ 200000;
+          low : notes.height ≤ 3;
+          type_room : notes.height + 2 ≤ self.now.left;
+          room : spec.extra aim Array + 4 ≤ self.now.left;
+        } }
+        ensures { record {
+          reads : Follows (run (spec.noted_array (spec.below self.now.left) aim start notes) cursor.old) result cursor.new;
+          no_longer : OnOk result (length cursor.new ≤ length cursor.old);
+          fits : IfOk result (λ f. f.height ≤ self.now.left);
+          some : IfOk result (λ f. 0 < f.height);
+        } }
     {
         if let Some(span) = cursor.sign(INT) {
             cursor.advance();
@@ -220,13 +244,17 @@ impl<F: Fn(Global, &mut Cursor<'_>, u32, Part) -> Result<Found, Stop>> Grammar<F
     /// An array, behind the `@` of the first annotation of its type
     #[tactic(auto, unfolding(ix_descent::specs::Rule::run, ix_descent::specs::ExprRules::noted), using(crate::proofs::LowerParts::bind_twice))]
     fn noted(&self, cursor: &mut Cursor<'_>, aim: Aim, start: Span, at: Span) -> Result<Found, Stop>
-        requires parts { ReadsParts self.now.left (F.pre self.now.part) (F.post self.now.part) }
-        requires few { length cursor.old ≤ 200000 }
-        requires room { spec.extra aim Array + 4 ≤ self.now.left }
-        ensures reads { Follows (run (spec.noted (spec.below self.now.left) aim self.now.left start at) cursor.old) result cursor.new }
-        ensures no_longer { OnOk result (length cursor.new ≤ length cursor.old) }
-        ensures fits { IfOk result (λ f. f.height ≤ self.now.left) }
-        ensures some { IfOk result (λ f. 0 < f.height) }
+        requires { record {
+          parts : ReadsParts self.now.left (F.pre self.now.part) (F.post self.now.part);
+          few : length cursor.old ≤ 200000;
+          room : spec.extra aim Array + 4 ≤ self.now.left;
+        } }
+        ensures { record {
+          reads : Follows (run (spec.noted (spec.below self.now.left) aim self.now.left start at) cursor.old) result cursor.new;
+          no_longer : OnOk result (length cursor.new ≤ length cursor.old);
+          fits : IfOk result (λ f. f.height ≤ self.now.left);
+          some : IfOk result (λ f. 0 < f.height);
+        } }
     {
         let height = self.left - (extra(aim, Form::Array) + 2);
         let notes = annots_behind(self.alloc, cursor, height, at)?;
@@ -236,13 +264,17 @@ impl<F: Fn(Global, &mut Cursor<'_>, u32, Part) -> Result<Found, Stop>> Grammar<F
     /// An object or an array, behind `new`
     #[tactic(auto, unfolding(ix_descent::specs::Rule::run, ix_descent::specs::ExprRules::creation))]
     pub fn creation(&self, cursor: &mut Cursor<'_>, aim: Aim, start: Span) -> Result<Found, Stop>
-        requires parts { ReadsParts self.now.left (F.pre self.now.part) (F.post self.now.part) }
-        requires few { length cursor.old ≤ 200000 }
-        requires room { spec.extra aim Statement + 2 ≤ self.now.left }
-        ensures reads { Follows (run (spec.creation (spec.below self.now.left) aim self.now.left start) cursor.old) result cursor.new }
-        ensures no_longer { OnOk result (length cursor.new ≤ length cursor.old) }
-        ensures fits { IfOk result (λ f. f.height ≤ self.now.left) }
-        ensures some { IfOk result (λ f. 0 < f.height) }
+        requires { record {
+          parts : ReadsParts self.now.left (F.pre self.now.part) (F.post self.now.part);
+          few : length cursor.old ≤ 200000;
+          room : spec.extra aim Statement + 2 ≤ self.now.left;
+        } }
+        ensures { record {
+          reads : Follows (run (spec.creation (spec.below self.now.left) aim self.now.left start) cursor.old) result cursor.new;
+          no_longer : OnOk result (length cursor.new ≤ length cursor.old);
+          fits : IfOk result (λ f. f.height ≤ self.now.left);
+          some : IfOk result (λ f. 0 < f.height);
+        } }
     {
         if let Some(name) = cursor.name(self.alloc)? {
             cursor.advance();

@@ -63,8 +63,10 @@ pub fn plain_decl(all: &Shared, name: Ident) -> Result<FoundDecl, Stop>
 
 /// What is declared with an initialiser.
 fn init_decl(left: u32, all: &Shared, name: Ident, found: FoundInit) -> Result<FoundDecl, Stop>
-    requires low { all.now.height ≤ 4 }
-    requires room { found.height + 1 ≤ left }
+    requires { record {
+      low : all.now.height ≤ 4;
+      room : found.height + 1 ≤ left;
+    } }
     ensures { MatchResult result (λ decl. decl ≡ nodes.init_decl all.now name found) (λ stop. stop ≡ Memory) }
 {
     let FoundInit { init, height, end } = found;
@@ -85,12 +87,16 @@ pub fn decl_behind(
     all: &Shared,
     name: Ident,
 ) -> Result<FoundDecl, Stop>
-    requires few { length cursor.old ≤ 200000 }
-    requires low { all.now.height ≤ 4 }
-    requires room { all.now.height + 1 ≤ left }
-    ensures reads { Follows (run (spec.decl_behind the_init left all.now name) cursor.old) result cursor.new }
-    ensures no_longer { OnOk result (length cursor.new ≤ length cursor.old) }
-    ensures fits { IfOk result (λ found. found.height ≤ left) }
+    requires { record {
+      few : length cursor.old ≤ 200000;
+      low : all.now.height ≤ 4;
+      room : all.now.height + 1 ≤ left;
+    } }
+    ensures { record {
+      reads : Follows (run (spec.decl_behind the_init left all.now name) cursor.old) result cursor.new;
+      no_longer : OnOk result (length cursor.new ≤ length cursor.old);
+      fits : IfOk result (λ found. found.height ≤ left);
+    } }
 {
     if let Some(_assign) = cursor.sign(ASSIGN) {
         cursor.advance();
@@ -134,12 +140,16 @@ pub fn decls(
     all: &Shared,
     name: Ident,
 ) -> Result<FoundDecls, Stop>
-    requires few { length cursor.old ≤ 200000 }
-    requires low { all.now.height ≤ 4 }
-    requires room { all.now.height + 1 ≤ left }
-    ensures reads { Follows (run (spec.decls the_init left all.now name) cursor.old) result cursor.new }
-    ensures no_longer { OnOk result (length cursor.new ≤ length cursor.old) }
-    ensures fits { IfOk result (λ found. found.height ≤ left) }
+    requires { record {
+      few : length cursor.old ≤ 200000;
+      low : all.now.height ≤ 4;
+      room : all.now.height + 1 ≤ left;
+    } }
+    ensures { record {
+      reads : Follows (run (spec.decls the_init left all.now name) cursor.old) result cursor.new;
+      no_longer : OnOk result (length cursor.new ≤ length cursor.old);
+      fits : IfOk result (λ found. found.height ≤ left);
+    } }
 {
     let first = decl_behind(alloc, cursor, left, all, name)?;
     more_decls(alloc, cursor, left, all, first)
@@ -154,13 +164,17 @@ fn more_decls(
     all: &Shared,
     first: FoundDecl,
 ) -> Result<FoundDecls, Stop>
-    requires few { length cursor.old ≤ 200000 }
-    requires low { all.now.height ≤ 4 }
-    requires room { all.now.height + 1 ≤ left }
-    requires first { first.height ≤ left }
-    ensures reads { Follows (run (more_of (spec.decl the_init left all.now) nodes.with_decl (nodes.one_decl first)) cursor.old) result cursor.new }
-    ensures no_longer { OnOk result (length cursor.new ≤ length cursor.old) }
-    ensures fits { IfOk result (λ found. found.height ≤ left) }
+    requires { record {
+      few : length cursor.old ≤ 200000;
+      low : all.now.height ≤ 4;
+      room : all.now.height + 1 ≤ left;
+      first : first.height ≤ left;
+    } }
+    ensures { record {
+      reads : Follows (run (more_of (spec.decl the_init left all.now) nodes.with_decl (nodes.one_decl first)) cursor.old) result cursor.new;
+      no_longer : OnOk result (length cursor.new ≤ length cursor.old);
+      fits : IfOk result (λ found. found.height ≤ left);
+    } }
 {
     let mut found = one_decl(alloc, first)?;
     'reading: while let Some(_comma) = cursor.sign(COMMA) {

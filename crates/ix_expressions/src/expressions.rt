@@ -17,9 +17,11 @@ use std::alloc::Global;
 /// An expression of a height of at most `left`, as a part of another.
 pub fn read(alloc: Global, cursor: &mut Cursor<'_>, left: u32, part: Part) -> Result<Found, Stop>
     requires few { length cursor.old ≤ 200000 }
-    ensures reads { Follows (run (part_rule left part) cursor.old) result cursor.new }
-    ensures no_longer { OnOk result (length cursor.new ≤ length cursor.old) }
-    ensures fits { IfOk result (λ f. f.height ≤ left) }
+    ensures { record {
+      reads : Follows (run (part_rule left part) cursor.old) result cursor.new;
+      no_longer : OnOk result (length cursor.new ≤ length cursor.old);
+      fits : IfOk result (λ f. f.height ≤ left);
+    } }
 {
     let grammar = Grammar {
         alloc,
@@ -36,9 +38,11 @@ pub fn read(alloc: Global, cursor: &mut Cursor<'_>, left: u32, part: Part) -> Re
 /// An expression of a height of at most `left`.
 pub fn expr(alloc: Global, cursor: &mut Cursor<'_>, left: u32) -> Result<Found, Stop>
     requires few { length cursor.old ≤ 200000 }
-    ensures reads { Follows (run (spec.expr left) cursor.old) result cursor.new }
-    ensures no_longer { OnOk result (length cursor.new ≤ length cursor.old) }
-    ensures fits { IfOk result (λ f. f.height ≤ left) }
+    ensures { record {
+      reads : Follows (run (spec.expr left) cursor.old) result cursor.new;
+      no_longer : OnOk result (length cursor.new ≤ length cursor.old);
+      fits : IfOk result (λ f. f.height ≤ left);
+    } }
 {
     read(alloc, cursor, left, Part::Whole)
 }
@@ -46,9 +50,11 @@ pub fn expr(alloc: Global, cursor: &mut Cursor<'_>, left: u32) -> Result<Found, 
 /// An expression of a height of at most `left` that may stand as a statement (JLS 14.8).
 pub fn statement_expr(alloc: Global, cursor: &mut Cursor<'_>, left: u32) -> Result<Found, Stop>
     requires few { length cursor.old ≤ 200000 }
-    ensures reads { Follows (run (spec.statement_expr left) cursor.old) result cursor.new }
-    ensures no_longer { OnOk result (length cursor.new ≤ length cursor.old) }
-    ensures fits { IfOk result (λ f. f.height ≤ left) }
+    ensures { record {
+      reads : Follows (run (spec.statement_expr left) cursor.old) result cursor.new;
+      no_longer : OnOk result (length cursor.new ≤ length cursor.old);
+      fits : IfOk result (λ f. f.height ≤ left);
+    } }
 {
     let grammar = Grammar {
         alloc,
@@ -61,9 +67,11 @@ pub fn statement_expr(alloc: Global, cursor: &mut Cursor<'_>, left: u32) -> Resu
 /// An initialiser of a height of at most `left` (JLS 8.3, 10.6).
 pub fn init(alloc: Global, cursor: &mut Cursor<'_>, left: u32) -> Result<FoundInit, Stop>
     requires few { length cursor.old ≤ 200000 }
-    ensures reads { Follows (run (spec.init left) cursor.old) result cursor.new }
-    ensures no_longer { OnOk result (length cursor.new ≤ length cursor.old) }
-    ensures fits { IfOk result (λ i. i.height ≤ left) }
+    ensures { record {
+      reads : Follows (run (spec.init left) cursor.old) result cursor.new;
+      no_longer : OnOk result (length cursor.new ≤ length cursor.old);
+      fits : IfOk result (λ i. i.height ≤ left);
+    } }
 {
     let grammar = Grammar {
         alloc,
@@ -76,9 +84,11 @@ pub fn init(alloc: Global, cursor: &mut Cursor<'_>, left: u32) -> Result<FoundIn
 /// `[Expr {"," Expr}] ")"`, behind the opening parenthesis, each argument of a height of at most `left`.
 pub fn args(alloc: Global, cursor: &mut Cursor<'_>, left: u32) -> Result<Args, Stop>
     requires few { length cursor.old ≤ 200000 }
-    ensures reads { Follows (run (spec.args (spec.expr left)) cursor.old) result cursor.new }
-    ensures no_longer { OnOk result (length cursor.new ≤ length cursor.old) }
-    ensures fits { IfOk result (λ a. a.height ≤ left) }
+    ensures { record {
+      reads : Follows (run (spec.args (spec.expr left)) cursor.old) result cursor.new;
+      no_longer : OnOk result (length cursor.new ≤ length cursor.old);
+      fits : IfOk result (λ a. a.height ≤ left);
+    } }
 {
     let grammar = Grammar {
         alloc,
@@ -95,12 +105,16 @@ pub fn statement_name(
     left: u32,
     name: Ident,
 ) -> Result<Found, Stop>
-    requires few { length cursor.old ≤ 200000 }
-    requires room { 2 ≤ left }
-    ensures reads { Follows (run (spec.name_or_call (spec.below left) Statement left name) cursor.old) result cursor.new }
-    ensures no_longer { OnOk result (length cursor.new ≤ length cursor.old) }
-    ensures fits { IfOk result (λ f. f.height ≤ left) }
-    ensures some { IfOk result (λ f. 0 < f.height) }
+    requires { record {
+      few : length cursor.old ≤ 200000;
+      room : 2 ≤ left;
+    } }
+    ensures { record {
+      reads : Follows (run (spec.name_or_call (spec.below left) Statement left name) cursor.old) result cursor.new;
+      no_longer : OnOk result (length cursor.new ≤ length cursor.old);
+      fits : IfOk result (λ f. f.height ≤ left);
+      some : IfOk result (λ f. 0 < f.height);
+    } }
 {
     let grammar = Grammar {
         alloc,
@@ -118,13 +132,17 @@ pub fn statement_field(
     object: Found,
     name: Ident,
 ) -> Result<Found, Stop>
-    requires few { length cursor.old ≤ 200000 }
-    requires some { 0 < object.height }
-    requires room { object.height < left }
-    ensures reads { GoesOn (run (spec.field_or_call (spec.below left) Statement left object name) cursor.old) result cursor.new }
-    ensures no_longer { OnOk result (length cursor.new ≤ length cursor.old) }
-    ensures fits { IfOk result (λ f. f.height ≤ left) }
-    ensures some { IfOk result (λ f. 0 < f.height) }
+    requires { record {
+      few : length cursor.old ≤ 200000;
+      some : 0 < object.height;
+      room : object.height < left;
+    } }
+    ensures { record {
+      reads : GoesOn (run (spec.field_or_call (spec.below left) Statement left object name) cursor.old) result cursor.new;
+      no_longer : OnOk result (length cursor.new ≤ length cursor.old);
+      fits : IfOk result (λ f. f.height ≤ left);
+      some : IfOk result (λ f. 0 < f.height);
+    } }
 {
     let grammar = Grammar {
         alloc,
@@ -141,13 +159,17 @@ pub fn statement_chain(
     left: u32,
     first: Found,
 ) -> Result<Found, Stop>
-    requires few { length cursor.old ≤ 200000 }
-    requires some { 0 < first.height }
-    requires room { first.height ≤ left }
-    ensures reads { Follows (run (loop (spec.further (spec.below left) Statement left) first) cursor.old) result cursor.new }
-    ensures no_longer { OnOk result (length cursor.new ≤ length cursor.old) }
-    ensures fits { IfOk result (λ f. f.height ≤ left) }
-    ensures some { IfOk result (λ f. 0 < f.height) }
+    requires { record {
+      few : length cursor.old ≤ 200000;
+      some : 0 < first.height;
+      room : first.height ≤ left;
+    } }
+    ensures { record {
+      reads : Follows (run (loop (spec.further (spec.below left) Statement left) first) cursor.old) result cursor.new;
+      no_longer : OnOk result (length cursor.new ≤ length cursor.old);
+      fits : IfOk result (λ f. f.height ≤ left);
+      some : IfOk result (λ f. 0 < f.height);
+    } }
 {
     let grammar = Grammar {
         alloc,
@@ -164,11 +186,15 @@ pub fn to_statement(
     left: u32,
     first: Found,
 ) -> Result<Found, Stop>
-    requires few { length cursor.old ≤ 200000 }
-    requires room { first.height ≤ left }
-    ensures reads { Follows (run (spec.to_statement (spec.below left) left first first.form) cursor.old) result cursor.new }
-    ensures no_longer { OnOk result (length cursor.new ≤ length cursor.old) }
-    ensures fits { IfOk result (λ f. f.height ≤ left) }
+    requires { record {
+      few : length cursor.old ≤ 200000;
+      room : first.height ≤ left;
+    } }
+    ensures { record {
+      reads : Follows (run (spec.to_statement (spec.below left) left first first.form) cursor.old) result cursor.new;
+      no_longer : OnOk result (length cursor.new ≤ length cursor.old);
+      fits : IfOk result (λ f. f.height ≤ left);
+    } }
 {
     let grammar = Grammar {
         alloc,

@@ -23,8 +23,10 @@ pub struct Grammar<F> {
 
 /// How much higher than a primary of this form the node must be that it ends in.
 pub fn extra(aim: Aim, form: Form) -> u32
-    ensures is { result ≡ spec.extra aim form }
-    ensures once { result ≤ 1 }
+    ensures { record {
+      is : result ≡ spec.extra aim form;
+      once : result ≤ 1;
+    } }
 {
     match (aim, form) {
         (Aim::Value, _) => 0,
@@ -48,12 +50,16 @@ impl<F: Fn(Global, &mut Cursor<'_>, u32, Part) -> Result<Found, Stop>> Grammar<F
     /// A part of a node.
     #[tactic(auto, using(crate::proofs::LowerParts::lower_parts))]
     pub fn whole_part(&self, cursor: &mut Cursor<'_>) -> Result<Found, Stop>
-        requires parts { ReadsParts self.now.left (F.pre self.now.part) (F.post self.now.part) }
-        requires few { length cursor.old ≤ 200000 }
-        requires room { 0 < self.now.left }
-        ensures reads { Follows (run (spec.below self.now.left).lower.whole cursor.old) result cursor.new }
-        ensures no_longer { OnOk result (length cursor.new ≤ length cursor.old) }
-        ensures fits { IfOk result (λ f. f.height + 1 ≤ self.now.left) }
+        requires { record {
+          parts : ReadsParts self.now.left (F.pre self.now.part) (F.post self.now.part);
+          few : length cursor.old ≤ 200000;
+          room : 0 < self.now.left;
+        } }
+        ensures { record {
+          reads : Follows (run (spec.below self.now.left).lower.whole cursor.old) result cursor.new;
+          no_longer : OnOk result (length cursor.new ≤ length cursor.old);
+          fits : IfOk result (λ f. f.height + 1 ≤ self.now.left);
+        } }
     {
         (self.part)(self.alloc, cursor, self.left - 1, Part::Whole)
     }
@@ -61,12 +67,16 @@ impl<F: Fn(Global, &mut Cursor<'_>, u32, Part) -> Result<Found, Stop>> Grammar<F
     /// A part of a node with operators of the first levels, so many.
     #[tactic(auto, using(crate::proofs::LowerParts::lower_parts))]
     pub fn level_part(&self, cursor: &mut Cursor<'_>, level: u32) -> Result<Found, Stop>
-        requires parts { ReadsParts self.now.left (F.pre self.now.part) (F.post self.now.part) }
-        requires few { length cursor.old ≤ 200000 }
-        requires room { 0 < self.now.left }
-        ensures reads { Follows (run ((spec.below self.now.left).lower.level level) cursor.old) result cursor.new }
-        ensures no_longer { OnOk result (length cursor.new ≤ length cursor.old) }
-        ensures fits { IfOk result (λ f. f.height + 1 ≤ self.now.left) }
+        requires { record {
+          parts : ReadsParts self.now.left (F.pre self.now.part) (F.post self.now.part);
+          few : length cursor.old ≤ 200000;
+          room : 0 < self.now.left;
+        } }
+        ensures { record {
+          reads : Follows (run ((spec.below self.now.left).lower.level level) cursor.old) result cursor.new;
+          no_longer : OnOk result (length cursor.new ≤ length cursor.old);
+          fits : IfOk result (λ f. f.height + 1 ≤ self.now.left);
+        } }
     {
         (self.part)(self.alloc, cursor, self.left - 1, Part::Level(level))
     }
@@ -74,12 +84,16 @@ impl<F: Fn(Global, &mut Cursor<'_>, u32, Part) -> Result<Found, Stop>> Grammar<F
     /// A part of a node that is a variable.
     #[tactic(auto, using(crate::proofs::LowerParts::lower_parts))]
     pub fn variable_part(&self, cursor: &mut Cursor<'_>) -> Result<Found, Stop>
-        requires parts { ReadsParts self.now.left (F.pre self.now.part) (F.post self.now.part) }
-        requires few { length cursor.old ≤ 200000 }
-        requires room { 0 < self.now.left }
-        ensures reads { Follows (run (spec.below self.now.left).lower.variable cursor.old) result cursor.new }
-        ensures no_longer { OnOk result (length cursor.new ≤ length cursor.old) }
-        ensures fits { IfOk result (λ f. f.height + 1 ≤ self.now.left) }
+        requires { record {
+          parts : ReadsParts self.now.left (F.pre self.now.part) (F.post self.now.part);
+          few : length cursor.old ≤ 200000;
+          room : 0 < self.now.left;
+        } }
+        ensures { record {
+          reads : Follows (run (spec.below self.now.left).lower.variable cursor.old) result cursor.new;
+          no_longer : OnOk result (length cursor.new ≤ length cursor.old);
+          fits : IfOk result (λ f. f.height + 1 ≤ self.now.left);
+        } }
     {
         (self.part)(self.alloc, cursor, self.left - 1, Part::Variable)
     }
@@ -87,24 +101,32 @@ impl<F: Fn(Global, &mut Cursor<'_>, u32, Part) -> Result<Found, Stop>> Grammar<F
     /// An expression within a primary that must be wrapped so often.
     #[tactic(auto, using(crate::proofs::LowerParts::inner_parts))]
     pub fn inner(&self, cursor: &mut Cursor<'_>, extra: u32) -> Result<Found, Stop>
-        requires parts { ReadsParts self.now.left (F.pre self.now.part) (F.post self.now.part) }
-        requires few { length cursor.old ≤ 200000 }
-        requires room { extra < self.now.left }
-        requires once { extra ≤ 1 }
-        ensures reads { Follows (run (spec.inner (spec.below self.now.left) extra) cursor.old) result cursor.new }
-        ensures no_longer { OnOk result (length cursor.new ≤ length cursor.old) }
-        ensures fits { IfOk result (λ f. f.height + extra + 1 ≤ self.now.left) }
+        requires { record {
+          parts : ReadsParts self.now.left (F.pre self.now.part) (F.post self.now.part);
+          few : length cursor.old ≤ 200000;
+          room : extra < self.now.left;
+          once : extra ≤ 1;
+        } }
+        ensures { record {
+          reads : Follows (run (spec.inner (spec.below self.now.left) extra) cursor.old) result cursor.new;
+          no_longer : OnOk result (length cursor.new ≤ length cursor.old);
+          fits : IfOk result (λ f. f.height + extra + 1 ≤ self.now.left);
+        } }
     {
         (self.part)(self.alloc, cursor, self.left - (extra + 1), Part::Whole)
     }
 
     /// An expression of a height of at most `height`.
     pub fn expr(&self, cursor: &mut Cursor<'_>, height: u32) -> Result<Found, Stop>
-        requires parts { ReadsParts (height + 1) (F.pre self.now.part) (F.post self.now.part) }
-        requires few { length cursor.old ≤ 200000 }
-        ensures reads { Follows (run (spec.expr height) cursor.old) result cursor.new }
-        ensures no_longer { OnOk result (length cursor.new ≤ length cursor.old) }
-        ensures fits { IfOk result (λ f. f.height ≤ height) }
+        requires { record {
+          parts : ReadsParts (height + 1) (F.pre self.now.part) (F.post self.now.part);
+          few : length cursor.old ≤ 200000;
+        } }
+        ensures { record {
+          reads : Follows (run (spec.expr height) cursor.old) result cursor.new;
+          no_longer : OnOk result (length cursor.new ≤ length cursor.old);
+          fits : IfOk result (λ f. f.height ≤ height);
+        } }
     {
         (self.part)(self.alloc, cursor, height, Part::Whole)
     }

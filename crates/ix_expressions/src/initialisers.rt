@@ -20,11 +20,15 @@ impl<F: Fn(Global, &mut Cursor<'_>, u32, Part) -> Result<Found, Stop>> Grammar<F
     /// An expression as an initialiser of a height of at most `height`. Where that is 0, the expression is too high or isn't one.
     #[tactic(auto, unfolding(ix_descent::specs::Rule::run), using(crate::proofs::NothingBelow::lower_values, crate::proofs::LowerParts::fewer_parts))]
     fn value_init(&self, cursor: &mut Cursor<'_>, height: u32) -> Result<FoundInit, Stop>
-        requires parts { ReadsParts (height + 1) (F.pre self.now.part) (F.post self.now.part) }
-        requires few { length cursor.old ≤ 200000 }
-        ensures reads { Follows (run (bind (spec.below height).lower.whole (λ f. pure (nodes.value_init f))) cursor.old) result cursor.new }
-        ensures no_longer { OnOk result (length cursor.new ≤ length cursor.old) }
-        ensures fits { IfOk result (λ i. i.height ≤ height) }
+        requires { record {
+          parts : ReadsParts (height + 1) (F.pre self.now.part) (F.post self.now.part);
+          few : length cursor.old ≤ 200000;
+        } }
+        ensures { record {
+          reads : Follows (run (bind (spec.below height).lower.whole (λ f. pure (nodes.value_init f))) cursor.old) result cursor.new;
+          no_longer : OnOk result (length cursor.new ≤ length cursor.old);
+          fits : IfOk result (λ i. i.height ≤ height);
+        } }
     {
         let value = self.expr(cursor, height.saturating_sub(1))?;
         value_init(self.alloc, height, value)
@@ -34,11 +38,15 @@ impl<F: Fn(Global, &mut Cursor<'_>, u32, Part) -> Result<Found, Stop>> Grammar<F
     #[cycle(initialisers)]
     #[tactic(auto, unfolding(ix_descent::specs::Rule::run, ix_descent::specs::ExprRules::init_of), using(crate::proofs::LowerParts::lower_parts, crate::proofs::LowerParts::fewer_parts))]
     pub fn init(&self, cursor: &mut Cursor<'_>, height: u32) -> Result<FoundInit, Stop>
-        requires parts { ReadsParts (height + 1) (F.pre self.now.part) (F.post self.now.part) }
-        requires few { length cursor.old ≤ 200000 }
-        ensures reads { Follows (run (spec.init height) cursor.old) result cursor.new }
-        ensures no_longer { OnOk result (length cursor.new ≤ length cursor.old) }
-        ensures fits { IfOk result (λ i. i.height ≤ height) }
+        requires { record {
+          parts : ReadsParts (height + 1) (F.pre self.now.part) (F.post self.now.part);
+          few : length cursor.old ≤ 200000;
+        } }
+        ensures { record {
+          reads : Follows (run (spec.init height) cursor.old) result cursor.new;
+          no_longer : OnOk result (length cursor.new ≤ length cursor.old);
+          fits : IfOk result (λ i. i.height ≤ height);
+        } }
     {
         if let Some(left) = cursor.sign(OPEN_BRACE) {
             if height < 1 {
@@ -60,11 +68,15 @@ impl<F: Fn(Global, &mut Cursor<'_>, u32, Part) -> Result<Found, Stop>> Grammar<F
         height: u32,
         left: Span,
     ) -> Result<FoundItems, Stop>
-        requires parts { ReadsParts (height + 1) (F.pre self.now.part) (F.post self.now.part) }
-        requires few { length cursor.old ≤ 200000 }
-        ensures reads { Follows (run (spec.items (spec.init height) left) cursor.old) result cursor.new }
-        ensures no_longer { OnOk result (length cursor.new ≤ length cursor.old) }
-        ensures fits { IfOk result (λ s. s.height ≤ height) }
+        requires { record {
+          parts : ReadsParts (height + 1) (F.pre self.now.part) (F.post self.now.part);
+          few : length cursor.old ≤ 200000;
+        } }
+        ensures { record {
+          reads : Follows (run (spec.items (spec.init height) left) cursor.old) result cursor.new;
+          no_longer : OnOk result (length cursor.new ≤ length cursor.old);
+          fits : IfOk result (λ s. s.height ≤ height);
+        } }
     {
         if let Some(right) = cursor.sign(CLOSE_BRACE) {
             cursor.advance();
@@ -91,13 +103,17 @@ impl<F: Fn(Global, &mut Cursor<'_>, u32, Part) -> Result<Found, Stop>> Grammar<F
     /// `[Init {"," Init} [","]] "}"`, behind the opening brace, within a primary that must be wrapped so often
     #[tactic(auto, using(crate::proofs::LowerParts::inner_parts, crate::proofs::LowerParts::fewer_parts))]
     pub fn items(&self, cursor: &mut Cursor<'_>, extra: u32, left: Span) -> Result<FoundItems, Stop>
-        requires parts { ReadsParts self.now.left (F.pre self.now.part) (F.post self.now.part) }
-        requires few { length cursor.old ≤ 200000 }
-        requires room { extra < self.now.left }
-        requires once { extra ≤ 1 }
-        ensures reads { Follows (run (spec.items (spec.inner_init (spec.below self.now.left) extra) left) cursor.old) result cursor.new }
-        ensures no_longer { OnOk result (length cursor.new ≤ length cursor.old) }
-        ensures fits { IfOk result (λ s. s.height + extra + 1 ≤ self.now.left) }
+        requires { record {
+          parts : ReadsParts self.now.left (F.pre self.now.part) (F.post self.now.part);
+          few : length cursor.old ≤ 200000;
+          room : extra < self.now.left;
+          once : extra ≤ 1;
+        } }
+        ensures { record {
+          reads : Follows (run (spec.items (spec.inner_init (spec.below self.now.left) extra) left) cursor.old) result cursor.new;
+          no_longer : OnOk result (length cursor.new ≤ length cursor.old);
+          fits : IfOk result (λ s. s.height + extra + 1 ≤ self.now.left);
+        } }
     {
         self.items_within(cursor, self.left - (extra + 1), left)
     }

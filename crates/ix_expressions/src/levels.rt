@@ -24,11 +24,15 @@ impl<F: Fn(Global, &mut Cursor<'_>, u32, Part) -> Result<Found, Stop>> Grammar<F
     /// A variable (JLS 15.26)
     #[tactic(auto, unfolding(ix_descent::specs::Rule::run, ix_descent::specs::ExprRules::variable_of, ix_descent::specs::ExprRules::only_variable))]
     pub fn variable(&self, cursor: &mut Cursor<'_>) -> Result<Found, Stop>
-        requires parts { ReadsParts self.now.left (F.pre self.now.part) (F.post self.now.part) }
-        requires few { length cursor.old ≤ 200000 }
-        ensures reads { Follows (run (spec.variable_of (spec.below self.now.left) self.now.left) cursor.old) result cursor.new }
-        ensures no_longer { OnOk result (length cursor.new ≤ length cursor.old) }
-        ensures fits { IfOk result (λ f. f.height ≤ self.now.left) }
+        requires { record {
+          parts : ReadsParts self.now.left (F.pre self.now.part) (F.post self.now.part);
+          few : length cursor.old ≤ 200000;
+        } }
+        ensures { record {
+          reads : Follows (run (spec.variable_of (spec.below self.now.left) self.now.left) cursor.old) result cursor.new;
+          no_longer : OnOk result (length cursor.new ≤ length cursor.old);
+          fits : IfOk result (λ f. f.height ≤ self.now.left);
+        } }
     {
         let found = self.primary(cursor, Aim::Variable)?;
         match found.form {
@@ -41,9 +45,11 @@ impl<F: Fn(Global, &mut Cursor<'_>, u32, Part) -> Result<Found, Stop>> Grammar<F
     #[tactic(auto, unfolding(ix_descent::specs::Rule::run, ix_descent::specs::ExprRules::step_behind))]
     fn step_behind(&self, cursor: &mut Cursor<'_>, target: Found) -> Result<Found, Stop>
         requires room { target.height ≤ self.now.left }
-        ensures reads { Follows (run (spec.step_behind self.now.left target Variable) cursor.old) result cursor.new }
-        ensures no_longer { OnOk result (length cursor.new ≤ length cursor.old) }
-        ensures fits { IfOk result (λ f. f.height ≤ self.now.left) }
+        ensures { record {
+          reads : Follows (run (spec.step_behind self.now.left target Variable) cursor.old) result cursor.new;
+          no_longer : OnOk result (length cursor.new ≤ length cursor.old);
+          fits : IfOk result (λ f. f.height ≤ self.now.left);
+        } }
     {
         let Some(step) = step_sign(cursor) else {
             return Ok(target);
@@ -58,11 +64,15 @@ impl<F: Fn(Global, &mut Cursor<'_>, u32, Part) -> Result<Found, Stop>> Grammar<F
     /// `Primary | Variable ("++" | "--")`
     #[tactic(auto, unfolding(ix_descent::specs::Rule::run, ix_descent::specs::ExprRules::value_of, ix_descent::specs::ExprRules::step_behind))]
     fn value(&self, cursor: &mut Cursor<'_>) -> Result<Found, Stop>
-        requires parts { ReadsParts self.now.left (F.pre self.now.part) (F.post self.now.part) }
-        requires few { length cursor.old ≤ 200000 }
-        ensures reads { Follows (run (spec.value_of (spec.below self.now.left) self.now.left) cursor.old) result cursor.new }
-        ensures no_longer { OnOk result (length cursor.new ≤ length cursor.old) }
-        ensures fits { IfOk result (λ f. f.height ≤ self.now.left) }
+        requires { record {
+          parts : ReadsParts self.now.left (F.pre self.now.part) (F.post self.now.part);
+          few : length cursor.old ≤ 200000;
+        } }
+        ensures { record {
+          reads : Follows (run (spec.value_of (spec.below self.now.left) self.now.left) cursor.old) result cursor.new;
+          no_longer : OnOk result (length cursor.new ≤ length cursor.old);
+          fits : IfOk result (λ f. f.height ≤ self.now.left);
+        } }
     {
         let found = self.primary(cursor, Aim::Value)?;
         match found.form {
@@ -74,12 +84,16 @@ impl<F: Fn(Global, &mut Cursor<'_>, u32, Part) -> Result<Found, Stop>> Grammar<F
     /// `Variable`, behind `++` or `--`
     #[tactic(auto, unfolding(ix_descent::specs::Rule::run))]
     fn stepped(&self, cursor: &mut Cursor<'_>, step: At<bool>) -> Result<Found, Stop>
-        requires parts { ReadsParts self.now.left (F.pre self.now.part) (F.post self.now.part) }
-        requires few { length cursor.old ≤ 200000 }
-        requires room { 0 < self.now.left }
-        ensures reads { Follows (run (bind (spec.below self.now.left).lower.variable (λ f. pure (nodes.stepped_before step.value step.span f))) cursor.old) result cursor.new }
-        ensures no_longer { OnOk result (length cursor.new ≤ length cursor.old) }
-        ensures fits { IfOk result (λ f. f.height ≤ self.now.left) }
+        requires { record {
+          parts : ReadsParts self.now.left (F.pre self.now.part) (F.post self.now.part);
+          few : length cursor.old ≤ 200000;
+          room : 0 < self.now.left;
+        } }
+        ensures { record {
+          reads : Follows (run (bind (spec.below self.now.left).lower.variable (λ f. pure (nodes.stepped_before step.value step.span f))) cursor.old) result cursor.new;
+          no_longer : OnOk result (length cursor.new ≤ length cursor.old);
+          fits : IfOk result (λ f. f.height ≤ self.now.left);
+        } }
     {
         let target = self.variable_part(cursor)?;
         stepped_before(self.alloc, self.left, step.value, step.span, target)
@@ -88,12 +102,16 @@ impl<F: Fn(Global, &mut Cursor<'_>, u32, Part) -> Result<Found, Stop>> Grammar<F
     /// `Unary`, behind its operator
     #[tactic(auto, unfolding(ix_descent::specs::Rule::run))]
     fn signed(&self, cursor: &mut Cursor<'_>, op: UnaryOp, start: Span) -> Result<Found, Stop>
-        requires parts { ReadsParts self.now.left (F.pre self.now.part) (F.post self.now.part) }
-        requires few { length cursor.old ≤ 200000 }
-        requires room { 0 < self.now.left }
-        ensures reads { Follows (run (bind ((spec.below self.now.left).lower.level 0) (λ f. pure (nodes.unary op start f))) cursor.old) result cursor.new }
-        ensures no_longer { OnOk result (length cursor.new ≤ length cursor.old) }
-        ensures fits { IfOk result (λ f. f.height ≤ self.now.left) }
+        requires { record {
+          parts : ReadsParts self.now.left (F.pre self.now.part) (F.post self.now.part);
+          few : length cursor.old ≤ 200000;
+          room : 0 < self.now.left;
+        } }
+        ensures { record {
+          reads : Follows (run (bind ((spec.below self.now.left).lower.level 0) (λ f. pure (nodes.unary op start f))) cursor.old) result cursor.new;
+          no_longer : OnOk result (length cursor.new ≤ length cursor.old);
+          fits : IfOk result (λ f. f.height ≤ self.now.left);
+        } }
     {
         let operand = self.level_part(cursor, 0)?;
         unary(self.alloc, self.left, op, start, operand)
@@ -102,11 +120,15 @@ impl<F: Fn(Global, &mut Cursor<'_>, u32, Part) -> Result<Found, Stop>> Grammar<F
     /// `Unary = "-" MinLit | ("+" | "-" | "!" | "~") Unary | ("++" | "--") Variable | Variable ("++" | "--") | Primary`
     #[tactic(auto, unfolding(ix_descent::specs::Rule::run, ix_descent::specs::ExprRules::unary_of, ix_descent::specs::ExprRules::prefixed))]
     fn unary(&self, cursor: &mut Cursor<'_>) -> Result<Found, Stop>
-        requires parts { ReadsParts self.now.left (F.pre self.now.part) (F.post self.now.part) }
-        requires few { length cursor.old ≤ 200000 }
-        ensures reads { Follows (run (spec.unary_of (spec.below self.now.left) self.now.left) cursor.old) result cursor.new }
-        ensures no_longer { OnOk result (length cursor.new ≤ length cursor.old) }
-        ensures fits { IfOk result (λ f. f.height ≤ self.now.left) }
+        requires { record {
+          parts : ReadsParts self.now.left (F.pre self.now.part) (F.post self.now.part);
+          few : length cursor.old ≤ 200000;
+        } }
+        ensures { record {
+          reads : Follows (run (spec.unary_of (spec.below self.now.left) self.now.left) cursor.old) result cursor.new;
+          no_longer : OnOk result (length cursor.new ≤ length cursor.old);
+          fits : IfOk result (λ f. f.height ≤ self.now.left);
+        } }
     {
         if let Some(minus) = cursor.sign(MINUS) {
             if self.left < 1 {
@@ -139,12 +161,16 @@ impl<F: Fn(Global, &mut Cursor<'_>, u32, Part) -> Result<Found, Stop>> Grammar<F
     /// `{Operator Operand}`, with the operators of a level, behind the first operand
     #[tactic(auto, unfolding(ix_descent::specs::Rule::run, ix_descent::specs::ExprRules::operand))]
     fn operands(&self, cursor: &mut Cursor<'_>, level: u32, first: Found) -> Result<Found, Stop>
-        requires parts { ReadsParts self.now.left (F.pre self.now.part) (F.post self.now.part) }
-        requires few { length cursor.old ≤ 200000 }
-        requires room { first.height ≤ self.now.left }
-        ensures reads { Follows (run (loop (spec.operand (spec.below self.now.left) self.now.left level) first) cursor.old) result cursor.new }
-        ensures no_longer { OnOk result (length cursor.new ≤ length cursor.old) }
-        ensures fits { IfOk result (λ f. f.height ≤ self.now.left) }
+        requires { record {
+          parts : ReadsParts self.now.left (F.pre self.now.part) (F.post self.now.part);
+          few : length cursor.old ≤ 200000;
+          room : first.height ≤ self.now.left;
+        } }
+        ensures { record {
+          reads : Follows (run (loop (spec.operand (spec.below self.now.left) self.now.left level) first) cursor.old) result cursor.new;
+          no_longer : OnOk result (length cursor.new ≤ length cursor.old);
+          fits : IfOk result (λ f. f.height ≤ self.now.left);
+        } }
     {
         let mut found = first;
         'reading: while let Some(op) = operator(cursor, level) {
@@ -161,11 +187,15 @@ impl<F: Fn(Global, &mut Cursor<'_>, u32, Part) -> Result<Found, Stop>> Grammar<F
     /// An expression with operators with two operands of the first levels, so many
     #[tactic(auto, unfolding(ix_descent::specs::Rule::run, ix_descent::specs::ExprRules::level_of), using(crate::proofs::LowerParts::next_level))]
     pub fn level(&self, cursor: &mut Cursor<'_>, levels: u32) -> Result<Found, Stop>
-        requires parts { ReadsParts self.now.left (F.pre self.now.part) (F.post self.now.part) }
-        requires few { length cursor.old ≤ 200000 }
-        ensures reads { Follows (run (spec.level_of (spec.below self.now.left) self.now.left levels) cursor.old) result cursor.new }
-        ensures no_longer { OnOk result (length cursor.new ≤ length cursor.old) }
-        ensures fits { IfOk result (λ f. f.height ≤ self.now.left) }
+        requires { record {
+          parts : ReadsParts self.now.left (F.pre self.now.part) (F.post self.now.part);
+          few : length cursor.old ≤ 200000;
+        } }
+        ensures { record {
+          reads : Follows (run (spec.level_of (spec.below self.now.left) self.now.left levels) cursor.old) result cursor.new;
+          no_longer : OnOk result (length cursor.new ≤ length cursor.old);
+          fits : IfOk result (λ f. f.height ≤ self.now.left);
+        } }
     {
         if levels == 0 {
             return self.unary(cursor);
@@ -182,12 +212,16 @@ impl<F: Fn(Global, &mut Cursor<'_>, u32, Part) -> Result<Found, Stop>> Grammar<F
         op: Option<Arith>,
         target: Found,
     ) -> Result<Found, Stop>
-        requires parts { ReadsParts self.now.left (F.pre self.now.part) (F.post self.now.part) }
-        requires few { length cursor.old ≤ 200000 }
-        requires room { target.height < self.now.left }
-        ensures reads { Follows (run (bind (spec.below self.now.left).lower.whole (λ g. pure (nodes.assigned op target g))) cursor.old) result cursor.new }
-        ensures no_longer { OnOk result (length cursor.new ≤ length cursor.old) }
-        ensures fits { IfOk result (λ f. f.height ≤ self.now.left) }
+        requires { record {
+          parts : ReadsParts self.now.left (F.pre self.now.part) (F.post self.now.part);
+          few : length cursor.old ≤ 200000;
+          room : target.height < self.now.left;
+        } }
+        ensures { record {
+          reads : Follows (run (bind (spec.below self.now.left).lower.whole (λ g. pure (nodes.assigned op target g))) cursor.old) result cursor.new;
+          no_longer : OnOk result (length cursor.new ≤ length cursor.old);
+          fits : IfOk result (λ f. f.height ≤ self.now.left);
+        } }
     {
         let value = self.whole_part(cursor)?;
         assigned(self.alloc, self.left, op, target, value)
@@ -196,12 +230,16 @@ impl<F: Fn(Global, &mut Cursor<'_>, u32, Part) -> Result<Found, Stop>> Grammar<F
     /// `[AssignOp Expr]`, behind a variable
     #[tactic(auto, unfolding(ix_descent::specs::Rule::run, ix_descent::specs::ExprRules::maybe_assigned, ix_descent::specs::ExprRules::assignment))]
     fn assignment(&self, cursor: &mut Cursor<'_>, target: Found) -> Result<Found, Stop>
-        requires parts { ReadsParts self.now.left (F.pre self.now.part) (F.post self.now.part) }
-        requires few { length cursor.old ≤ 200000 }
-        requires room { target.height ≤ self.now.left }
-        ensures reads { Follows (run (spec.maybe_assigned (spec.below self.now.left) self.now.left target Variable) cursor.old) result cursor.new }
-        ensures no_longer { OnOk result (length cursor.new ≤ length cursor.old) }
-        ensures fits { IfOk result (λ f. f.height ≤ self.now.left) }
+        requires { record {
+          parts : ReadsParts self.now.left (F.pre self.now.part) (F.post self.now.part);
+          few : length cursor.old ≤ 200000;
+          room : target.height ≤ self.now.left;
+        } }
+        ensures { record {
+          reads : Follows (run (spec.maybe_assigned (spec.below self.now.left) self.now.left target Variable) cursor.old) result cursor.new;
+          no_longer : OnOk result (length cursor.new ≤ length cursor.old);
+          fits : IfOk result (λ f. f.height ≤ self.now.left);
+        } }
     {
         let Some(op) = assign_sign(cursor) else {
             return Ok(target);
@@ -216,11 +254,15 @@ impl<F: Fn(Global, &mut Cursor<'_>, u32, Part) -> Result<Found, Stop>> Grammar<F
     /// `Expr = Binary | Variable AssignOp Expr`
     #[tactic(auto, unfolding(ix_descent::specs::Rule::run, ix_descent::specs::ExprRules::whole_of, ix_descent::specs::ExprRules::maybe_assigned))]
     pub fn whole(&self, cursor: &mut Cursor<'_>) -> Result<Found, Stop>
-        requires parts { ReadsParts self.now.left (F.pre self.now.part) (F.post self.now.part) }
-        requires few { length cursor.old ≤ 200000 }
-        ensures reads { Follows (run (spec.whole_of (spec.below self.now.left) self.now.left) cursor.old) result cursor.new }
-        ensures no_longer { OnOk result (length cursor.new ≤ length cursor.old) }
-        ensures fits { IfOk result (λ f. f.height ≤ self.now.left) }
+        requires { record {
+          parts : ReadsParts self.now.left (F.pre self.now.part) (F.post self.now.part);
+          few : length cursor.old ≤ 200000;
+        } }
+        ensures { record {
+          reads : Follows (run (spec.whole_of (spec.below self.now.left) self.now.left) cursor.old) result cursor.new;
+          no_longer : OnOk result (length cursor.new ≤ length cursor.old);
+          fits : IfOk result (λ f. f.height ≤ self.now.left);
+        } }
     {
         let found = self.level(cursor, 10)?;
         match found.form {
@@ -232,12 +274,16 @@ impl<F: Fn(Global, &mut Cursor<'_>, u32, Part) -> Result<Found, Stop>> Grammar<F
     /// `AssignOp Expr | "++" | "--"`, behind a variable
     #[tactic(auto, unfolding(ix_descent::specs::Rule::run, ix_descent::specs::ExprRules::to_statement, ix_descent::specs::ExprRules::assignment))]
     fn changed(&self, cursor: &mut Cursor<'_>, target: Found) -> Result<Found, Stop>
-        requires parts { ReadsParts self.now.left (F.pre self.now.part) (F.post self.now.part) }
-        requires few { length cursor.old ≤ 200000 }
-        requires room { target.height ≤ self.now.left }
-        ensures reads { Follows (run (spec.to_statement (spec.below self.now.left) self.now.left target Variable) cursor.old) result cursor.new }
-        ensures no_longer { OnOk result (length cursor.new ≤ length cursor.old) }
-        ensures fits { IfOk result (λ f. f.height ≤ self.now.left) }
+        requires { record {
+          parts : ReadsParts self.now.left (F.pre self.now.part) (F.post self.now.part);
+          few : length cursor.old ≤ 200000;
+          room : target.height ≤ self.now.left;
+        } }
+        ensures { record {
+          reads : Follows (run (spec.to_statement (spec.below self.now.left) self.now.left target Variable) cursor.old) result cursor.new;
+          no_longer : OnOk result (length cursor.new ≤ length cursor.old);
+          fits : IfOk result (λ f. f.height ≤ self.now.left);
+        } }
     {
         if let Some(op) = assign_sign(cursor) {
             if target.height >= self.left {
@@ -259,12 +305,16 @@ impl<F: Fn(Global, &mut Cursor<'_>, u32, Part) -> Result<Found, Stop>> Grammar<F
     /// Behind a primary: the rest of an expression that may stand as a statement
     #[tactic(auto, unfolding(ix_descent::specs::Rule::run, ix_descent::specs::ExprRules::to_statement))]
     pub fn to_statement(&self, cursor: &mut Cursor<'_>, first: Found) -> Result<Found, Stop>
-        requires parts { ReadsParts self.now.left (F.pre self.now.part) (F.post self.now.part) }
-        requires few { length cursor.old ≤ 200000 }
-        requires room { first.height ≤ self.now.left }
-        ensures reads { Follows (run (spec.to_statement (spec.below self.now.left) self.now.left first first.form) cursor.old) result cursor.new }
-        ensures no_longer { OnOk result (length cursor.new ≤ length cursor.old) }
-        ensures fits { IfOk result (λ f. f.height ≤ self.now.left) }
+        requires { record {
+          parts : ReadsParts self.now.left (F.pre self.now.part) (F.post self.now.part);
+          few : length cursor.old ≤ 200000;
+          room : first.height ≤ self.now.left;
+        } }
+        ensures { record {
+          reads : Follows (run (spec.to_statement (spec.below self.now.left) self.now.left first first.form) cursor.old) result cursor.new;
+          no_longer : OnOk result (length cursor.new ≤ length cursor.old);
+          fits : IfOk result (λ f. f.height ≤ self.now.left);
+        } }
     {
         match first.form {
             Form::Variable => self.changed(cursor, first),
@@ -276,11 +326,15 @@ impl<F: Fn(Global, &mut Cursor<'_>, u32, Part) -> Result<Found, Stop>> Grammar<F
     /// An expression that may stand as a statement
     #[tactic(auto, unfolding(ix_descent::specs::Rule::run, ix_descent::specs::ExprRules::statement_of, ix_descent::specs::ExprRules::prefixed))]
     pub fn statement(&self, cursor: &mut Cursor<'_>) -> Result<Found, Stop>
-        requires parts { ReadsParts self.now.left (F.pre self.now.part) (F.post self.now.part) }
-        requires few { length cursor.old ≤ 200000 }
-        ensures reads { Follows (run (spec.statement_of (spec.below self.now.left) self.now.left) cursor.old) result cursor.new }
-        ensures no_longer { OnOk result (length cursor.new ≤ length cursor.old) }
-        ensures fits { IfOk result (λ f. f.height ≤ self.now.left) }
+        requires { record {
+          parts : ReadsParts self.now.left (F.pre self.now.part) (F.post self.now.part);
+          few : length cursor.old ≤ 200000;
+        } }
+        ensures { record {
+          reads : Follows (run (spec.statement_of (spec.below self.now.left) self.now.left) cursor.old) result cursor.new;
+          no_longer : OnOk result (length cursor.new ≤ length cursor.old);
+          fits : IfOk result (λ f. f.height ≤ self.now.left);
+        } }
     {
         if let Some(step) = step_sign(cursor) {
             if self.left < 3 {

@@ -55,13 +55,17 @@ impl<F: Fn(Global, &mut Cursor<'_>, u32, Part) -> Result<Found, Stop>> Grammar<F
         aim: Aim,
         name: Ident,
     ) -> Result<Found, Stop>
-        requires parts { ReadsParts self.now.left (F.pre self.now.part) (F.post self.now.part) }
-        requires few { length cursor.old ≤ 200000 }
-        requires room { 2 ≤ self.now.left }
-        ensures reads { Follows (run (spec.name_or_call (spec.below self.now.left) aim self.now.left name) cursor.old) result cursor.new }
-        ensures no_longer { OnOk result (length cursor.new ≤ length cursor.old) }
-        ensures fits { IfOk result (λ f. f.height ≤ self.now.left) }
-        ensures some { IfOk result (λ f. 0 < f.height) }
+        requires { record {
+          parts : ReadsParts self.now.left (F.pre self.now.part) (F.post self.now.part);
+          few : length cursor.old ≤ 200000;
+          room : 2 ≤ self.now.left;
+        } }
+        ensures { record {
+          reads : Follows (run (spec.name_or_call (spec.below self.now.left) aim self.now.left name) cursor.old) result cursor.new;
+          no_longer : OnOk result (length cursor.new ≤ length cursor.old);
+          fits : IfOk result (λ f. f.height ≤ self.now.left);
+          some : IfOk result (λ f. 0 < f.height);
+        } }
     {
         if let Some(_opening) = cursor.sign(OPEN_PAREN) {
             let extra = extra(aim, Form::Statement);
@@ -78,13 +82,17 @@ impl<F: Fn(Global, &mut Cursor<'_>, u32, Part) -> Result<Found, Stop>> Grammar<F
     /// `Expr ")"`, behind the opening parenthesis
     #[tactic(auto, unfolding(ix_descent::specs::Rule::run, ix_descent::specs::ExprRules::enclosed))]
     fn enclosed(&self, cursor: &mut Cursor<'_>, aim: Aim, left: Span) -> Result<Found, Stop>
-        requires parts { ReadsParts self.now.left (F.pre self.now.part) (F.post self.now.part) }
-        requires few { length cursor.old ≤ 200000 }
-        requires room { spec.extra aim Value + 2 ≤ self.now.left }
-        ensures reads { Follows (run (spec.enclosed (spec.below self.now.left) aim left) cursor.old) result cursor.new }
-        ensures no_longer { OnOk result (length cursor.new ≤ length cursor.old) }
-        ensures fits { IfOk result (λ f. f.height ≤ self.now.left) }
-        ensures some { IfOk result (λ f. 0 < f.height) }
+        requires { record {
+          parts : ReadsParts self.now.left (F.pre self.now.part) (F.post self.now.part);
+          few : length cursor.old ≤ 200000;
+          room : spec.extra aim Value + 2 ≤ self.now.left;
+        } }
+        ensures { record {
+          reads : Follows (run (spec.enclosed (spec.below self.now.left) aim left) cursor.old) result cursor.new;
+          no_longer : OnOk result (length cursor.new ≤ length cursor.old);
+          fits : IfOk result (λ f. f.height ≤ self.now.left);
+          some : IfOk result (λ f. 0 < f.height);
+        } }
     {
         let inside = self.inner(cursor, extra(aim, Form::Value))?;
         let Some(right) = cursor.sign(CLOSE_PAREN) else {
@@ -97,10 +105,12 @@ impl<F: Fn(Global, &mut Cursor<'_>, u32, Part) -> Result<Found, Stop>> Grammar<F
     /// `"true" | "false" | "null" | "this"`
     #[tactic(auto, unfolding(ix_descent::specs::Rule::run))]
     fn word(&self, cursor: &mut Cursor<'_>, aim: Aim) -> Result<Found, Stop>
-        ensures reads { Follows (run (spec.word aim self.now.left stop) cursor.old) result cursor.new }
-        ensures no_longer { OnOk result (length cursor.new ≤ length cursor.old) }
-        ensures fits { IfOk result (λ f. f.height ≤ self.now.left) }
-        ensures some { IfOk result (λ f. 0 < f.height) }
+        ensures { record {
+          reads : Follows (run (spec.word aim self.now.left stop) cursor.old) result cursor.new;
+          no_longer : OnOk result (length cursor.new ≤ length cursor.old);
+          fits : IfOk result (λ f. f.height ≤ self.now.left);
+          some : IfOk result (λ f. 0 < f.height);
+        } }
     {
         let Some(found) = word_kind(cursor) else {
             return Err(Stop::Syntax);
@@ -115,12 +125,16 @@ impl<F: Fn(Global, &mut Cursor<'_>, u32, Part) -> Result<Found, Stop>> Grammar<F
     /// The first part of a primary: `IntLit | Ident | Ident Args | "(" Expr ")" | "new" Creation`, or a word
     #[tactic(auto, unfolding(ix_descent::specs::Rule::run, ix_descent::specs::ExprRules::first_part))]
     fn first_part(&self, cursor: &mut Cursor<'_>, aim: Aim) -> Result<Found, Stop>
-        requires parts { ReadsParts self.now.left (F.pre self.now.part) (F.post self.now.part) }
-        requires few { length cursor.old ≤ 200000 }
-        ensures reads { Follows (run (spec.first_part (spec.below self.now.left) aim self.now.left) cursor.old) result cursor.new }
-        ensures no_longer { OnOk result (length cursor.new ≤ length cursor.old) }
-        ensures fits { IfOk result (λ f. f.height ≤ self.now.left) }
-        ensures some { IfOk result (λ f. 0 < f.height) }
+        requires { record {
+          parts : ReadsParts self.now.left (F.pre self.now.part) (F.post self.now.part);
+          few : length cursor.old ≤ 200000;
+        } }
+        ensures { record {
+          reads : Follows (run (spec.first_part (spec.below self.now.left) aim self.now.left) cursor.old) result cursor.new;
+          no_longer : OnOk result (length cursor.new ≤ length cursor.old);
+          fits : IfOk result (λ f. f.height ≤ self.now.left);
+          some : IfOk result (λ f. 0 < f.height);
+        } }
     {
         if let Some(number) = cursor.number() {
             if self.left < extra(aim, Form::Value) + 1 {
@@ -162,14 +176,18 @@ impl<F: Fn(Global, &mut Cursor<'_>, u32, Part) -> Result<Found, Stop>> Grammar<F
         object: Found,
         name: Ident,
     ) -> Result<Found, Stop>
-        requires parts { ReadsParts self.now.left (F.pre self.now.part) (F.post self.now.part) }
-        requires few { length cursor.old ≤ 200000 }
-        requires some { 0 < object.height }
-        requires room { object.height < self.now.left }
-        ensures reads { GoesOn {B = Found} (run (spec.field_or_call (spec.below self.now.left) aim self.now.left object name) cursor.old) result cursor.new }
-        ensures no_longer { OnOk result (length cursor.new ≤ length cursor.old) }
-        ensures fits { IfOk result (λ f. f.height ≤ self.now.left) }
-        ensures some { IfOk result (λ f. 0 < f.height) }
+        requires { record {
+          parts : ReadsParts self.now.left (F.pre self.now.part) (F.post self.now.part);
+          few : length cursor.old ≤ 200000;
+          some : 0 < object.height;
+          room : object.height < self.now.left;
+        } }
+        ensures { record {
+          reads : GoesOn {B = Found} (run (spec.field_or_call (spec.below self.now.left) aim self.now.left object name) cursor.old) result cursor.new;
+          no_longer : OnOk result (length cursor.new ≤ length cursor.old);
+          fits : IfOk result (λ f. f.height ≤ self.now.left);
+          some : IfOk result (λ f. 0 < f.height);
+        } }
     {
         if let Some(_opening) = cursor.sign(OPEN_PAREN) {
             let extra = extra(aim, Form::Statement);
@@ -186,14 +204,18 @@ impl<F: Fn(Global, &mut Cursor<'_>, u32, Part) -> Result<Found, Stop>> Grammar<F
     /// `Ident [Args]`, behind the dot
     #[tactic(auto, unfolding(ix_descent::specs::Rule::run))]
     fn behind_dot(&self, cursor: &mut Cursor<'_>, aim: Aim, object: Found) -> Result<Found, Stop>
-        requires parts { ReadsParts self.now.left (F.pre self.now.part) (F.post self.now.part) }
-        requires few { length cursor.old ≤ 200000 }
-        requires some { 0 < object.height }
-        requires room { object.height < self.now.left }
-        ensures reads { GoesOn {B = Found} (run (take a_name true (spec.field_or_call (spec.below self.now.left) aim self.now.left object) stop) cursor.old) result cursor.new }
-        ensures no_longer { OnOk result (length cursor.new ≤ length cursor.old) }
-        ensures fits { IfOk result (λ f. f.height ≤ self.now.left) }
-        ensures some { IfOk result (λ f. 0 < f.height) }
+        requires { record {
+          parts : ReadsParts self.now.left (F.pre self.now.part) (F.post self.now.part);
+          few : length cursor.old ≤ 200000;
+          some : 0 < object.height;
+          room : object.height < self.now.left;
+        } }
+        ensures { record {
+          reads : GoesOn {B = Found} (run (take a_name true (spec.field_or_call (spec.below self.now.left) aim self.now.left object) stop) cursor.old) result cursor.new;
+          no_longer : OnOk result (length cursor.new ≤ length cursor.old);
+          fits : IfOk result (λ f. f.height ≤ self.now.left);
+          some : IfOk result (λ f. 0 < f.height);
+        } }
     {
         let Some(name) = cursor.name(self.alloc)? else {
             return Err(Stop::Syntax);
@@ -211,16 +233,20 @@ impl<F: Fn(Global, &mut Cursor<'_>, u32, Part) -> Result<Found, Stop>> Grammar<F
         array: Found,
         _opening: Span,
     ) -> Result<Found, Stop>
-        requires parts { ReadsParts self.now.left (F.pre self.now.part) (F.post self.now.part) }
-        requires few { length cursor.old ≤ 200000 }
-        requires next { look (a_sign OPEN_BRACKET) cursor.old ≡ Some _opening }
-        requires there { 0 < length cursor.old }
-        requires some { 0 < array.height }
-        requires room { array.height ≤ self.now.left }
-        ensures reads { GoesOn {B = Found} (run (spec.index (spec.below self.now.left) aim self.now.left array) cursor.old) result cursor.new }
-        ensures shorter { OnOk result (length cursor.new < length cursor.old) }
-        ensures fits { IfOk result (λ f. f.height ≤ self.now.left) }
-        ensures some { IfOk result (λ f. 0 < f.height) }
+        requires { record {
+          parts : ReadsParts self.now.left (F.pre self.now.part) (F.post self.now.part);
+          few : length cursor.old ≤ 200000;
+          next : look (a_sign OPEN_BRACKET) cursor.old ≡ Some _opening;
+          there : 0 < length cursor.old;
+          some : 0 < array.height;
+          room : array.height ≤ self.now.left;
+        } }
+        ensures { record {
+          reads : GoesOn {B = Found} (run (spec.index (spec.below self.now.left) aim self.now.left array) cursor.old) result cursor.new;
+          shorter : OnOk result (length cursor.new < length cursor.old);
+          fits : IfOk result (λ f. f.height ≤ self.now.left);
+          some : IfOk result (λ f. 0 < f.height);
+        } }
     {
         let extra = extra(aim, Form::Variable);
         if self.left - array.height <= extra {
@@ -238,10 +264,12 @@ impl<F: Fn(Global, &mut Cursor<'_>, u32, Part) -> Result<Found, Stop>> Grammar<F
     /// `{"." Ident [Args] | "[" Expr "]"}`, behind the first part of a primary
     #[tactic(auto, unfolding(ix_descent::specs::Rule::run, ix_descent::specs::ExprRules::further, ix_descent::specs::ExprRules::index_unless, ix_descent::specs::ExprRules::index))]
     pub fn chain(&self, cursor: &mut Cursor<'_>, aim: Aim, first: Found) -> Result<Found, Stop>
-        requires parts { ReadsParts self.now.left (F.pre self.now.part) (F.post self.now.part) }
-        requires few { length cursor.old ≤ 200000 }
-        requires some { 0 < first.height }
-        requires room { first.height ≤ self.now.left }
+        requires { record {
+          parts : ReadsParts self.now.left (F.pre self.now.part) (F.post self.now.part);
+          few : length cursor.old ≤ 200000;
+          some : 0 < first.height;
+          room : first.height ≤ self.now.left;
+        } }
         ensures reads { Follows (run (loop (spec.further (spec.below self.now.left) aim self.now.left) first) cursor.old) result cursor.new }
         ensures no_longer { OnOk result (length cursor.new ≤ length cursor.old) }
         ensures fits { IfOk result (λ f. f.height ≤ self.now.left) }
@@ -270,12 +298,16 @@ impl<F: Fn(Global, &mut Cursor<'_>, u32, Part) -> Result<Found, Stop>> Grammar<F
     /// An expression without operators, or with parentheses round it
     #[tactic(auto, unfolding(ix_descent::specs::Rule::run, ix_descent::specs::ExprRules::primary_of))]
     pub fn primary(&self, cursor: &mut Cursor<'_>, aim: Aim) -> Result<Found, Stop>
-        requires parts { ReadsParts self.now.left (F.pre self.now.part) (F.post self.now.part) }
-        requires few { length cursor.old ≤ 200000 }
-        ensures reads { Follows (run (spec.primary_of (spec.below self.now.left) aim self.now.left) cursor.old) result cursor.new }
-        ensures no_longer { OnOk result (length cursor.new ≤ length cursor.old) }
-        ensures fits { IfOk result (λ f. f.height ≤ self.now.left) }
-        ensures some { IfOk result (λ f. 0 < f.height) }
+        requires { record {
+          parts : ReadsParts self.now.left (F.pre self.now.part) (F.post self.now.part);
+          few : length cursor.old ≤ 200000;
+        } }
+        ensures { record {
+          reads : Follows (run (spec.primary_of (spec.below self.now.left) aim self.now.left) cursor.old) result cursor.new;
+          no_longer : OnOk result (length cursor.new ≤ length cursor.old);
+          fits : IfOk result (λ f. f.height ≤ self.now.left);
+          some : IfOk result (λ f. 0 < f.height);
+        } }
     {
         let first = self.first_part(cursor, aim)?;
         self.chain(cursor, aim, first)

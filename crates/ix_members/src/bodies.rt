@@ -21,9 +21,11 @@ use std::alloc::Global;
 #[tactic(auto, unfolding(ix_descent::specs::Rule::run, ix_descent::specs::ClassRules::statements, ix_descent::specs::ListRules::next_inside, ix_descent::specs::ListRules::braces_of))]
 fn statements(alloc: Global, cursor: &mut Cursor<'_>, left: u32) -> Result<At<Stmts>, Stop>
     requires few { length cursor.old ≤ 200000 }
-    ensures reads { Follows (run (spec.statements parts left) cursor.old) result cursor.new }
-    ensures no_longer { OnOk result (length cursor.new ≤ length cursor.old) }
-    ensures fits { IfOk result (λ found. found.value.height ≤ left) }
+    ensures { record {
+      reads : Follows (run (spec.statements parts left) cursor.old) result cursor.new;
+      no_longer : OnOk result (length cursor.new ≤ length cursor.old);
+      fits : IfOk result (λ found. found.value.height ≤ left);
+    } }
 {
     let mut found = no_stmts(alloc);
     'reading: loop {
@@ -68,9 +70,11 @@ fn body_with(args: Args, found: Stmts, right: Span) -> Body
 #[tactic(auto, unfolding(ix_descent::specs::Rule::run, ix_descent::specs::ClassRules::block))]
 fn block(alloc: Global, cursor: &mut Cursor<'_>, left: u32) -> Result<Body, Stop>
     requires few { length cursor.old ≤ 200000 }
-    ensures reads { Follows (run (spec.block parts left) cursor.old) result cursor.new }
-    ensures no_longer { OnOk result (length cursor.new ≤ length cursor.old) }
-    ensures fits { IfOk result (λ found. found.height ≤ left) }
+    ensures { record {
+      reads : Follows (run (spec.block parts left) cursor.old) result cursor.new;
+      no_longer : OnOk result (length cursor.new ≤ length cursor.old);
+      fits : IfOk result (λ found. found.height ≤ left);
+    } }
 {
     let found = statements(alloc, cursor, left)?;
     Ok(body_of(found.value, found.span))
@@ -80,9 +84,11 @@ fn block(alloc: Global, cursor: &mut Cursor<'_>, left: u32) -> Result<Body, Stop
 #[tactic(auto, unfolding(ix_descent::specs::Rule::run, ix_descent::specs::SourceRules::super_args))]
 fn super_args(alloc: Global, cursor: &mut Cursor<'_>, left: u32) -> Result<Args, Stop>
     requires few { length cursor.old ≤ 200000 }
-    ensures reads { Follows (run (the_args left) cursor.old) result cursor.new }
-    ensures no_longer { OnOk result (length cursor.new ≤ length cursor.old) }
-    ensures fits { IfOk result (λ found. found.height ≤ left) }
+    ensures { record {
+      reads : Follows (run (the_args left) cursor.old) result cursor.new;
+      no_longer : OnOk result (length cursor.new ≤ length cursor.old);
+      fits : IfOk result (λ found. found.height ≤ left);
+    } }
 {
     let Some(_opening) = cursor.sign(OPEN_PAREN) else {
         return Err(Stop::Syntax);
@@ -95,9 +101,11 @@ fn super_args(alloc: Global, cursor: &mut Cursor<'_>, left: u32) -> Result<Args,
 #[tactic(auto, unfolding(ix_descent::specs::Rule::run, ix_descent::specs::ClassRules::super_behind))]
 fn super_behind(alloc: Global, cursor: &mut Cursor<'_>, left: u32) -> Result<Body, Stop>
     requires few { length cursor.old ≤ 200000 }
-    ensures reads { Follows (run (spec.super_behind parts left) cursor.old) result cursor.new }
-    ensures no_longer { OnOk result (length cursor.new ≤ length cursor.old) }
-    ensures fits { IfOk result (λ found. found.height ≤ left) }
+    ensures { record {
+      reads : Follows (run (spec.super_behind parts left) cursor.old) result cursor.new;
+      no_longer : OnOk result (length cursor.new ≤ length cursor.old);
+      fits : IfOk result (λ found. found.height ≤ left);
+    } }
 {
     let found = super_args(alloc, cursor, left)?;
     let Some(_end) = cursor.sign(SEMICOLON) else {
@@ -117,9 +125,11 @@ pub fn body(
     constructor: bool,
 ) -> Result<Body, Stop>
     requires few { length cursor.old ≤ 200000 }
-    ensures reads { Follows (run (spec.body parts left constructor) cursor.old) result cursor.new }
-    ensures no_longer { OnOk result (length cursor.new ≤ length cursor.old) }
-    ensures fits { IfOk result (λ found. found.height ≤ left) }
+    ensures { record {
+      reads : Follows (run (spec.body parts left constructor) cursor.old) result cursor.new;
+      no_longer : OnOk result (length cursor.new ≤ length cursor.old);
+      fits : IfOk result (λ found. found.height ≤ left);
+    } }
 {
     if constructor {
         if let Some(_super) = cursor.sign(SUPER) {

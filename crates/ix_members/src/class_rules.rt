@@ -23,8 +23,10 @@ use std::alloc::Global;
 /// `{"public" | "final"}`, behind those that were read, with the place of the first one
 #[tactic(auto, unfolding(ix_descent::specs::Rule::run, ix_descent::specs::ClassRules::next_class_word, ix_descent::specs::ClassRules::class_words))]
 fn class_words(cursor: &mut Cursor<'_>, first: Option<Span>) -> Result<Option<Span>, Stop>
-    ensures reads { Follows (run (spec.class_words first) cursor.old) result cursor.new }
-    ensures no_longer { OnOk result (length cursor.new ≤ length cursor.old) }
+    ensures { record {
+      reads : Follows (run (spec.class_words first) cursor.old) result cursor.new;
+      no_longer : OnOk result (length cursor.new ≤ length cursor.old);
+    } }
 {
     let mut start = first;
     'reading: loop {
@@ -43,8 +45,10 @@ fn class_words(cursor: &mut Cursor<'_>, first: Option<Span>) -> Result<Option<Sp
 /// `["extends" Ident] "{"`
 #[tactic(auto, unfolding(ix_descent::specs::Rule::run, ix_descent::specs::ClassRules::parent))]
 fn parent(alloc: Global, cursor: &mut Cursor<'_>) -> Result<Option<Ident>, Stop>
-    ensures reads { Follows (run spec.parent cursor.old) result cursor.new }
-    ensures no_longer { OnOk result (length cursor.new ≤ length cursor.old) }
+    ensures { record {
+      reads : Follows (run spec.parent cursor.old) result cursor.new;
+      no_longer : OnOk result (length cursor.new ≤ length cursor.old);
+    } }
 {
     if let Some(_extends) = cursor.sign(EXTENDS) {
         cursor.advance();
@@ -78,11 +82,15 @@ fn no_members(alloc: Global) -> Members
 /// `{Member} "}"`
 #[tactic(auto, unfolding(ix_descent::specs::Rule::run, ix_descent::specs::Onto::onto, ix_descent::specs::ListRules::next_inside, ix_descent::specs::ListRules::braces_of))]
 fn members(alloc: Global, cursor: &mut Cursor<'_>, left: u32) -> Result<At<Members>, Stop>
-    requires few { length cursor.old ≤ 200000 }
-    requires room { 3 ≤ left }
-    ensures reads { Follows (run (braces_of (spec.member parts left) nodes.with_members nodes.no_members) cursor.old) result cursor.new }
-    ensures no_longer { OnOk result (length cursor.new ≤ length cursor.old) }
-    ensures fits { IfOk result (λ found. found.value.height ≤ left) }
+    requires { record {
+      few : length cursor.old ≤ 200000;
+      room : 3 ≤ left;
+    } }
+    ensures { record {
+      reads : Follows (run (braces_of (spec.member parts left) nodes.with_members nodes.no_members) cursor.old) result cursor.new;
+      no_longer : OnOk result (length cursor.new ≤ length cursor.old);
+      fits : IfOk result (λ found. found.value.height ≤ left);
+    } }
 {
     let mut found = no_members(alloc);
     'reading: loop {
@@ -106,10 +114,14 @@ fn class_of(
     found: Members,
     right: Span,
 ) -> FoundClass
-    requires room { 2 ≤ left }
-    requires low { found.height + 1 ≤ left }
-    ensures is { result ≡ nodes.class_of start name parent found right }
-    ensures fits { result.height ≤ left }
+    requires { record {
+      room : 2 ≤ left;
+      low : found.height + 1 ≤ left;
+    } }
+    ensures { record {
+      is : result ≡ nodes.class_of start name parent found right;
+      fits : result.height ≤ left;
+    } }
 {
     let height = 1 + found.height.max(1);
     FoundClass {
@@ -131,11 +143,15 @@ fn class_behind(
     left: u32,
     start: Span,
 ) -> Result<FoundClass, Stop>
-    requires few { length cursor.old ≤ 200000 }
-    requires room { 4 ≤ left }
-    ensures reads { Follows (run (spec.class_behind parts left start) cursor.old) result cursor.new }
-    ensures no_longer { OnOk result (length cursor.new ≤ length cursor.old) }
-    ensures fits { IfOk result (λ found. found.height ≤ left) }
+    requires { record {
+      few : length cursor.old ≤ 200000;
+      room : 4 ≤ left;
+    } }
+    ensures { record {
+      reads : Follows (run (spec.class_behind parts left start) cursor.old) result cursor.new;
+      no_longer : OnOk result (length cursor.new ≤ length cursor.old);
+      fits : IfOk result (λ found. found.height ≤ left);
+    } }
 {
     let Some(name) = cursor.name(alloc)? else {
         return Err(Stop::Syntax);
@@ -154,11 +170,15 @@ fn worded_class(
     left: u32,
     first: Span,
 ) -> Result<FoundClass, Stop>
-    requires few { length cursor.old ≤ 200000 }
-    requires room { 4 ≤ left }
-    ensures reads { Follows (run (spec.worded_class parts left first) cursor.old) result cursor.new }
-    ensures no_longer { OnOk result (length cursor.new ≤ length cursor.old) }
-    ensures fits { IfOk result (λ found. found.height ≤ left) }
+    requires { record {
+      few : length cursor.old ≤ 200000;
+      room : 4 ≤ left;
+    } }
+    ensures { record {
+      reads : Follows (run (spec.worded_class parts left first) cursor.old) result cursor.new;
+      no_longer : OnOk result (length cursor.new ≤ length cursor.old);
+      fits : IfOk result (λ found. found.height ≤ left);
+    } }
 {
     let start = class_words(cursor, Some(first))?;
     let Some(span) = cursor.sign(CLASS) else {
@@ -192,11 +212,15 @@ fn with_class(mut before: Classes, found: FoundClass) -> Result<Classes, Stop>
 /// `{Class}`, each of a height of at most `left`
 #[tactic(auto, unfolding(ix_descent::specs::Rule::run, ix_descent::specs::ClassRules::next_class))]
 pub fn classes(alloc: Global, cursor: &mut Cursor<'_>, left: u32) -> Result<Classes, Stop>
-    requires few { length cursor.old ≤ 200000 }
-    requires room { 4 ≤ left }
-    ensures reads { Follows (run (loop (spec.next_class parts left) nodes.no_classes) cursor.old) result cursor.new }
-    ensures no_longer { OnOk result (length cursor.new ≤ length cursor.old) }
-    ensures fits { IfOk result (λ found. found.height ≤ left) }
+    requires { record {
+      few : length cursor.old ≤ 200000;
+      room : 4 ≤ left;
+    } }
+    ensures { record {
+      reads : Follows (run (loop (spec.next_class parts left) nodes.no_classes) cursor.old) result cursor.new;
+      no_longer : OnOk result (length cursor.new ≤ length cursor.old);
+      fits : IfOk result (λ found. found.height ≤ left);
+    } }
 {
     let mut found = no_classes(alloc);
     'reading: loop {

@@ -63,11 +63,13 @@ fn result_tree(ty: Option<FoundType>) -> Option<TypeTree>
 
 /// The height of a method.
 fn method_height(head: &Head, rest: &Behind, left: u32) -> u32
-    requires room { 2 ≤ left }
-    requires mods { head.now.mods.height + 1 ≤ left }
-    requires typed { nodes.result_height head.now.result + 1 ≤ left }
-    requires params { rest.now.params.height + 1 ≤ left }
-    requires body { rest.now.body.height + 1 ≤ left }
+    requires { record {
+      room : 2 ≤ left;
+      mods : head.now.mods.height + 1 ≤ left;
+      typed : nodes.result_height head.now.result + 1 ≤ left;
+      params : rest.now.params.height + 1 ≤ left;
+      body : rest.now.body.height + 1 ≤ left;
+    } }
     ensures { result ≡ (nodes.method_of head.now.start head.now.mods head.now.result head.now.constructor head.now.name rest.now).height }
 {
     let before = head.mods.height.max(result_height(&head.result)).max(1);
@@ -96,11 +98,13 @@ fn method_decl(head: Head, rest: Behind) -> MethodDecl
 
 /// Members with a method or a constructor behind them.
 fn with_method(mut before: Members, left: u32, head: Head, rest: Behind) -> Result<Members, Stop>
-    requires room { 2 ≤ left }
-    requires mods { head.mods.height + 1 ≤ left }
-    requires typed { nodes.result_height head.result + 1 ≤ left }
-    requires params { rest.params.height + 1 ≤ left }
-    requires body { rest.body.height + 1 ≤ left }
+    requires { record {
+      room : 2 ≤ left;
+      mods : head.mods.height + 1 ≤ left;
+      typed : nodes.result_height head.result + 1 ≤ left;
+      params : rest.params.height + 1 ≤ left;
+      body : rest.body.height + 1 ≤ left;
+    } }
     ensures { MatchResult result (λ found. found ≡ nodes.with_members before (nodes.method_of head.start head.mods head.result head.constructor head.name rest)) (λ stop. stop ≡ Memory) }
 {
     let height = before.height.max(method_height(&head, &rest, left));
@@ -123,10 +127,12 @@ fn behind(
 ) -> Result<Behind, Stop>
     requires few { length cursor.old ≤ 200000 }
     requires room { 2 ≤ left }
-    ensures reads { Follows (run (spec.behind parts left constructor) cursor.old) result cursor.new }
-    ensures no_longer { OnOk result (length cursor.new ≤ length cursor.old) }
-    ensures params { IfOk result (λ rest. rest.params.height + 1 ≤ left) }
-    ensures body { IfOk result (λ rest. rest.body.height + 1 ≤ left) }
+    ensures { record {
+      reads : Follows (run (spec.behind parts left constructor) cursor.old) result cursor.new;
+      no_longer : OnOk result (length cursor.new ≤ length cursor.old);
+      params : IfOk result (λ rest. rest.params.height + 1 ≤ left);
+      body : IfOk result (λ rest. rest.body.height + 1 ≤ left);
+    } }
 {
     let params = params(alloc, cursor, left - 1)?;
     throws(alloc, cursor)?;
@@ -147,14 +153,18 @@ fn method(
     head: Head,
     before: Members,
 ) -> Result<Members, Stop>
-    requires few { length cursor.old ≤ 200000 }
-    requires room { 2 ≤ left }
-    requires mods { head.mods.height + 1 ≤ left }
-    requires typed { nodes.result_height head.result + 1 ≤ left }
-    requires fits { before.height ≤ left }
-    ensures reads { GoesOn (run (onto.onto before (spec.method parts left head.start head.mods head.result head.constructor head.name)) cursor.old) result cursor.new }
-    ensures no_longer { OnOk result (length cursor.new ≤ length cursor.old) }
-    ensures fits { IfOk result (λ found. found.height ≤ left) }
+    requires { record {
+      few : length cursor.old ≤ 200000;
+      room : 2 ≤ left;
+      mods : head.mods.height + 1 ≤ left;
+      typed : nodes.result_height head.result + 1 ≤ left;
+      fits : before.height ≤ left;
+    } }
+    ensures { record {
+      reads : GoesOn (run (onto.onto before (spec.method parts left head.start head.mods head.result head.constructor head.name)) cursor.old) result cursor.new;
+      no_longer : OnOk result (length cursor.new ≤ length cursor.old);
+      fits : IfOk result (λ found. found.height ≤ left);
+    } }
 {
     let rest = behind(alloc, cursor, left, head.constructor)?;
     with_method(before, left, head, rest)
@@ -180,13 +190,17 @@ fn more_fields(
     all: &Shared,
     before: Members,
 ) -> Result<Members, Stop>
-    requires few { length cursor.old ≤ 200000 }
-    requires low { all.now.height ≤ 4 }
-    requires room { all.now.height + 1 ≤ left }
-    requires fits { before.height ≤ left }
-    ensures reads { Follows (run (more_of (decl the_init left all.now) onto.with_field before) cursor.old) result cursor.new }
-    ensures no_longer { OnOk result (length cursor.new ≤ length cursor.old) }
-    ensures fits { IfOk result (λ found. found.height ≤ left) }
+    requires { record {
+      few : length cursor.old ≤ 200000;
+      low : all.now.height ≤ 4;
+      room : all.now.height + 1 ≤ left;
+      fits : before.height ≤ left;
+    } }
+    ensures { record {
+      reads : Follows (run (more_of (decl the_init left all.now) onto.with_field before) cursor.old) result cursor.new;
+      no_longer : OnOk result (length cursor.new ≤ length cursor.old);
+      fits : IfOk result (λ found. found.height ≤ left);
+    } }
 {
     let mut found = before;
     'reading: while let Some(_comma) = cursor.sign(COMMA) {
@@ -211,13 +225,17 @@ fn some_fields(
     name: Ident,
     before: Members,
 ) -> Result<Members, Stop>
-    requires few { length cursor.old ≤ 200000 }
-    requires low { all.now.height ≤ 4 }
-    requires room { all.now.height + 1 ≤ left }
-    requires fits { before.height ≤ left }
-    ensures reads { Follows (run (bind (the_decl the_init left all.now name) (λ first. more_of (decl the_init left all.now) onto.with_field (onto.with_field before first))) cursor.old) result cursor.new }
-    ensures no_longer { OnOk result (length cursor.new ≤ length cursor.old) }
-    ensures fits { IfOk result (λ found. found.height ≤ left) }
+    requires { record {
+      few : length cursor.old ≤ 200000;
+      low : all.now.height ≤ 4;
+      room : all.now.height + 1 ≤ left;
+      fits : before.height ≤ left;
+    } }
+    ensures { record {
+      reads : Follows (run (bind (the_decl the_init left all.now name) (λ first. more_of (decl the_init left all.now) onto.with_field (onto.with_field before first))) cursor.old) result cursor.new;
+      no_longer : OnOk result (length cursor.new ≤ length cursor.old);
+      fits : IfOk result (λ found. found.height ≤ left);
+    } }
 {
     let first = decl_behind(alloc, cursor, left, all, name)?;
     let found = with_field(before, first)?;
@@ -234,13 +252,17 @@ fn each_field(
     name: Ident,
     before: Members,
 ) -> Result<Members, Stop>
-    requires few { length cursor.old ≤ 200000 }
-    requires low { all.now.height ≤ 4 }
-    requires room { all.now.height + 1 ≤ left }
-    requires fits { before.height ≤ left }
-    ensures reads { GoesOn (run (onto.each_field left all.now name before) cursor.old) result cursor.new }
-    ensures no_longer { OnOk result (length cursor.new ≤ length cursor.old) }
-    ensures fits { IfOk result (λ found. found.height ≤ left) }
+    requires { record {
+      few : length cursor.old ≤ 200000;
+      low : all.now.height ≤ 4;
+      room : all.now.height + 1 ≤ left;
+      fits : before.height ≤ left;
+    } }
+    ensures { record {
+      reads : GoesOn (run (onto.each_field left all.now name before) cursor.old) result cursor.new;
+      no_longer : OnOk result (length cursor.new ≤ length cursor.old);
+      fits : IfOk result (λ found. found.height ≤ left);
+    } }
 {
     let found = some_fields(alloc, cursor, left, all, name, before)?;
     let Some(_end) = cursor.sign(SEMICOLON) else {
@@ -259,10 +281,12 @@ pub fn fields(
     name: Ident,
     before: Members,
 ) -> Result<Members, Stop>
-    requires few { length cursor.old ≤ 200000 }
-    requires low { all.now.height ≤ 4 }
-    requires room { all.now.height + 1 ≤ left }
-    requires fits { before.height ≤ left }
+    requires { record {
+      few : length cursor.old ≤ 200000;
+      low : all.now.height ≤ 4;
+      room : all.now.height + 1 ≤ left;
+      fits : before.height ≤ left;
+    } }
     ensures reads { GoesOn (run (onto.onto before (onto.fields left all.now name)) cursor.old) result cursor.new }
     ensures no_longer { OnOk result (length cursor.new ≤ length cursor.old) }
     ensures fits { IfOk result (λ found. found.height ≤ left) }
@@ -281,16 +305,20 @@ fn field_member(
     name: Ident,
     before: Members,
 ) -> Result<Members, Stop>
-    requires few { length cursor.old ≤ 200000 }
-    requires low { found.now.height ≤ 3 }
-    requires typed { ty.now.height ≤ 4 }
-    requires room { 2 ≤ left }
-    requires mods { found.now.height + 1 ≤ left }
-    requires tree { ty.now.height + 1 ≤ left }
-    requires fits { before.height ≤ left }
-    ensures reads { GoesOn (run (onto.onto before (onto.fields left (the_shared found.now ty.now) name)) cursor.old) result cursor.new }
-    ensures no_longer { OnOk result (length cursor.new ≤ length cursor.old) }
-    ensures fits { IfOk result (λ found. found.height ≤ left) }
+    requires { record {
+      few : length cursor.old ≤ 200000;
+      low : found.now.height ≤ 3;
+      typed : ty.now.height ≤ 4;
+      room : 2 ≤ left;
+      mods : found.now.height + 1 ≤ left;
+      tree : ty.now.height + 1 ≤ left;
+      fits : before.height ≤ left;
+    } }
+    ensures { record {
+      reads : GoesOn (run (onto.onto before (onto.fields left (the_shared found.now ty.now) name)) cursor.old) result cursor.new;
+      no_longer : OnOk result (length cursor.new ≤ length cursor.old);
+      fits : IfOk result (λ found. found.height ≤ left);
+    } }
 {
     let all = shared(alloc, found, ty)?;
     fields(alloc, cursor, left, &all, name, before)
@@ -306,16 +334,20 @@ fn typed_member(
     ty: FoundType,
     before: Members,
 ) -> Result<Members, Stop>
-    requires few { length cursor.old ≤ 200000 }
-    requires low { found.height ≤ 3 }
-    requires typed { ty.height ≤ 4 }
-    requires room { 2 ≤ left }
-    requires mods { found.height + 1 ≤ left }
-    requires tree { ty.height + 1 ≤ left }
-    requires fits { before.height ≤ left }
-    ensures reads { GoesOn (run (onto.onto before (spec.typed_member parts left found ty)) cursor.old) result cursor.new }
-    ensures shorter { OnOk result (length cursor.new < length cursor.old) }
-    ensures fits { IfOk result (λ found. found.height ≤ left) }
+    requires { record {
+      few : length cursor.old ≤ 200000;
+      low : found.height ≤ 3;
+      typed : ty.height ≤ 4;
+      room : 2 ≤ left;
+      mods : found.height + 1 ≤ left;
+      tree : ty.height + 1 ≤ left;
+      fits : before.height ≤ left;
+    } }
+    ensures { record {
+      reads : GoesOn (run (onto.onto before (spec.typed_member parts left found ty)) cursor.old) result cursor.new;
+      shorter : OnOk result (length cursor.new < length cursor.old);
+      fits : IfOk result (λ found. found.height ≤ left);
+    } }
 {
     let Some(name) = cursor.name(alloc)? else {
         return Err(Stop::Syntax);
@@ -345,14 +377,18 @@ fn named_member(
     first: Ident,
     before: Members,
 ) -> Result<Members, Stop>
-    requires few { length cursor.old ≤ 200000 }
-    requires low { found.height ≤ 3 }
-    requires room { 3 ≤ left }
-    requires mods { found.height + 1 ≤ left }
-    requires fits { before.height ≤ left }
-    ensures reads { GoesOn (run (onto.onto before (spec.named_member parts left found first)) cursor.old) result cursor.new }
-    ensures no_longer { OnOk result (length cursor.new ≤ length cursor.old) }
-    ensures fits { IfOk result (λ found. found.height ≤ left) }
+    requires { record {
+      few : length cursor.old ≤ 200000;
+      low : found.height ≤ 3;
+      room : 3 ≤ left;
+      mods : found.height + 1 ≤ left;
+      fits : before.height ≤ left;
+    } }
+    ensures { record {
+      reads : GoesOn (run (onto.onto before (spec.named_member parts left found first)) cursor.old) result cursor.new;
+      no_longer : OnOk result (length cursor.new ≤ length cursor.old);
+      fits : IfOk result (λ found. found.height ≤ left);
+    } }
 {
     if let Some(_opening) = cursor.sign(OPEN_PAREN) {
         cursor.advance();
@@ -379,14 +415,18 @@ fn void_member(
     void: Span,
     before: Members,
 ) -> Result<Members, Stop>
-    requires few { length cursor.old ≤ 200000 }
-    requires low { found.height ≤ 3 }
-    requires room { 3 ≤ left }
-    requires mods { found.height + 1 ≤ left }
-    requires fits { before.height ≤ left }
-    ensures reads { GoesOn (run (onto.onto before (onto.void_member left found void)) cursor.old) result cursor.new }
-    ensures no_longer { OnOk result (length cursor.new ≤ length cursor.old) }
-    ensures fits { IfOk result (λ found. found.height ≤ left) }
+    requires { record {
+      few : length cursor.old ≤ 200000;
+      low : found.height ≤ 3;
+      room : 3 ≤ left;
+      mods : found.height + 1 ≤ left;
+      fits : before.height ≤ left;
+    } }
+    ensures { record {
+      reads : GoesOn (run (onto.onto before (onto.void_member left found void)) cursor.old) result cursor.new;
+      no_longer : OnOk result (length cursor.new ≤ length cursor.old);
+      fits : IfOk result (λ found. found.height ≤ left);
+    } }
 {
     let Some(name) = cursor.name(alloc)? else {
         return Err(Stop::Syntax);
@@ -415,14 +455,18 @@ fn member_behind(
     found: FoundMods,
     before: Members,
 ) -> Result<Members, Stop>
-    requires few { length cursor.old ≤ 200000 }
-    requires low { found.height ≤ 3 }
-    requires room { 3 ≤ left }
-    requires mods { found.height + 1 ≤ left }
-    requires fits { before.height ≤ left }
-    ensures reads { GoesOn (run (onto.onto before (spec.member_behind parts left found)) cursor.old) result cursor.new }
-    ensures shorter { OnOk result (length cursor.new < length cursor.old) }
-    ensures fits { IfOk result (λ found. found.height ≤ left) }
+    requires { record {
+      few : length cursor.old ≤ 200000;
+      low : found.height ≤ 3;
+      room : 3 ≤ left;
+      mods : found.height + 1 ≤ left;
+      fits : before.height ≤ left;
+    } }
+    ensures { record {
+      reads : GoesOn (run (onto.onto before (spec.member_behind parts left found)) cursor.old) result cursor.new;
+      shorter : OnOk result (length cursor.new < length cursor.old);
+      fits : IfOk result (λ found. found.height ≤ left);
+    } }
 {
     if let Some(void) = cursor.sign(VOID) {
         cursor.advance();
@@ -445,12 +489,16 @@ pub fn member(
     left: u32,
     before: Members,
 ) -> Result<Members, Stop>
-    requires few { length cursor.old ≤ 200000 }
-    requires room { 3 ≤ left }
-    requires fits { before.height ≤ left }
-    ensures reads { GoesOn (run (onto.onto before (spec.member parts left)) cursor.old) result cursor.new }
-    ensures shorter { OnOk result (length cursor.new < length cursor.old) }
-    ensures fits { IfOk result (λ found. found.height ≤ left) }
+    requires { record {
+      few : length cursor.old ≤ 200000;
+      room : 3 ≤ left;
+      fits : before.height ≤ left;
+    } }
+    ensures { record {
+      reads : GoesOn (run (onto.onto before (spec.member parts left)) cursor.old) result cursor.new;
+      shorter : OnOk result (length cursor.new < length cursor.old);
+      fits : IfOk result (λ found. found.height ≤ left);
+    } }
 {
     let found = mods(alloc, cursor, Words::Member, left - 1)?;
     member_behind(alloc, cursor, left, found, before)

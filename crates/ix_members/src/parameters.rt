@@ -27,8 +27,10 @@ fn one_decl(
     ty: &FoundType,
     name: Ident,
 ) -> Result<FoundDecl, Stop>
-    requires low { found.now.height ≤ 3 }
-    requires typed { ty.now.height ≤ 4 }
+    requires { record {
+      low : found.now.height ≤ 3;
+      typed : ty.now.height ≤ 4;
+    } }
     ensures { MatchResult result (λ decl. decl ≡ nodes.plain_decl (nodes.shared found.now ty.now) name) (λ stop. stop ≡ Memory) }
 {
     let all = shared(alloc, found, ty)?;
@@ -38,12 +40,16 @@ fn one_decl(
 /// `Param = {"final" | Annot} Type Ident`
 #[tactic(auto, unfolding(ix_descent::specs::Rule::run, ix_descent::specs::DeclRules::param))]
 fn param(alloc: Global, cursor: &mut Cursor<'_>, left: u32) -> Result<FoundDecl, Stop>
-    requires few { length cursor.old ≤ 200000 }
-    requires room { 1 ≤ left }
-    ensures reads { Follows (run (spec.param left) cursor.old) result cursor.new }
-    ensures no_longer { OnOk result (length cursor.new ≤ length cursor.old) }
-    ensures low { IfOk result (λ found. found.height ≤ 5) }
-    ensures fits { IfOk result (λ found. found.height ≤ left) }
+    requires { record {
+      few : length cursor.old ≤ 200000;
+      room : 1 ≤ left;
+    } }
+    ensures { record {
+      reads : Follows (run (spec.param left) cursor.old) result cursor.new;
+      no_longer : OnOk result (length cursor.new ≤ length cursor.old);
+      low : IfOk result (λ found. found.height ≤ 5);
+      fits : IfOk result (λ found. found.height ≤ left);
+    } }
 {
     let found = mods(alloc, cursor, Words::Local, left - 1)?;
     let ty = type_tree(alloc, cursor, left - 1)?;
@@ -95,14 +101,18 @@ fn more_params(
     left: u32,
     first: FoundDecl,
 ) -> Result<Params, Stop>
-    requires few { length cursor.old ≤ 200000 }
-    requires room { 1 ≤ left }
-    requires low { first.height ≤ 5 }
-    requires first { first.height ≤ left }
-    ensures reads { Follows (run (more_of (spec.param left) nodes.with_param (nodes.one_param first)) cursor.old) result cursor.new }
-    ensures no_longer { OnOk result (length cursor.new ≤ length cursor.old) }
-    ensures low { IfOk result (λ found. found.height ≤ 5) }
-    ensures fits { IfOk result (λ found. found.height ≤ left) }
+    requires { record {
+      few : length cursor.old ≤ 200000;
+      room : 1 ≤ left;
+      low : first.height ≤ 5;
+      first : first.height ≤ left;
+    } }
+    ensures { record {
+      reads : Follows (run (more_of (spec.param left) nodes.with_param (nodes.one_param first)) cursor.old) result cursor.new;
+      no_longer : OnOk result (length cursor.new ≤ length cursor.old);
+      low : IfOk result (λ found. found.height ≤ 5);
+      fits : IfOk result (λ found. found.height ≤ left);
+    } }
 {
     let mut found = one_param(alloc, first)?;
     'reading: while let Some(_comma) = cursor.sign(COMMA) {
@@ -116,12 +126,16 @@ fn more_params(
 /// `Param {"," Param}`
 #[tactic(auto, unfolding(ix_descent::specs::Rule::run, ix_descent::specs::DeclRules::some_params))]
 fn some_params(alloc: Global, cursor: &mut Cursor<'_>, left: u32) -> Result<Params, Stop>
-    requires few { length cursor.old ≤ 200000 }
-    requires room { 1 ≤ left }
-    ensures reads { Follows (run (spec.some_params left) cursor.old) result cursor.new }
-    ensures no_longer { OnOk result (length cursor.new ≤ length cursor.old) }
-    ensures low { IfOk result (λ found. found.height ≤ 5) }
-    ensures fits { IfOk result (λ found. found.height ≤ left) }
+    requires { record {
+      few : length cursor.old ≤ 200000;
+      room : 1 ≤ left;
+    } }
+    ensures { record {
+      reads : Follows (run (spec.some_params left) cursor.old) result cursor.new;
+      no_longer : OnOk result (length cursor.new ≤ length cursor.old);
+      low : IfOk result (λ found. found.height ≤ 5);
+      fits : IfOk result (λ found. found.height ≤ left);
+    } }
 {
     let first = param(alloc, cursor, left)?;
     more_params(alloc, cursor, left, first)
@@ -130,12 +144,16 @@ fn some_params(alloc: Global, cursor: &mut Cursor<'_>, left: u32) -> Result<Para
 /// `[Param {"," Param}] ")"`, behind the opening parenthesis
 #[tactic(auto, unfolding(ix_descent::specs::Rule::run, ix_descent::specs::DeclRules::params))]
 pub fn params(alloc: Global, cursor: &mut Cursor<'_>, left: u32) -> Result<Params, Stop>
-    requires few { length cursor.old ≤ 200000 }
-    requires room { 1 ≤ left }
-    ensures reads { Follows (run (spec.params left) cursor.old) result cursor.new }
-    ensures no_longer { OnOk result (length cursor.new ≤ length cursor.old) }
-    ensures low { IfOk result (λ found. found.height ≤ 5) }
-    ensures fits { IfOk result (λ found. found.height ≤ left) }
+    requires { record {
+      few : length cursor.old ≤ 200000;
+      room : 1 ≤ left;
+    } }
+    ensures { record {
+      reads : Follows (run (spec.params left) cursor.old) result cursor.new;
+      no_longer : OnOk result (length cursor.new ≤ length cursor.old);
+      low : IfOk result (λ found. found.height ≤ 5);
+      fits : IfOk result (λ found. found.height ≤ left);
+    } }
 {
     if let Some(_right) = cursor.sign(CLOSE_PAREN) {
         cursor.advance();
@@ -152,8 +170,10 @@ pub fn params(alloc: Global, cursor: &mut Cursor<'_>, left: u32) -> Result<Param
 /// `{"," Ident}`, behind the first name of what a method throws
 #[tactic(auto, unfolding(ix_descent::specs::Rule::run, ix_descent::specs::DeclRules::a_thrown, ix_descent::specs::ListRules::next_of, ix_descent::specs::ListRules::more_of))]
 fn more_thrown(alloc: Global, cursor: &mut Cursor<'_>) -> Result<(), Stop>
-    ensures reads { Follows (run (more_of spec.a_thrown nodes.nothing_more tt) cursor.old) result cursor.new }
-    ensures no_longer { OnOk result (length cursor.new ≤ length cursor.old) }
+    ensures { record {
+      reads : Follows (run (more_of spec.a_thrown nodes.nothing_more tt) cursor.old) result cursor.new;
+      no_longer : OnOk result (length cursor.new ≤ length cursor.old);
+    } }
 {
     'reading: while let Some(_comma) = cursor.sign(COMMA) {
         cursor.advance();
@@ -168,8 +188,10 @@ fn more_thrown(alloc: Global, cursor: &mut Cursor<'_>) -> Result<(), Stop>
 /// `Throws = ["throws" Ident {"," Ident}]`
 #[tactic(auto, unfolding(ix_descent::specs::Rule::run, ix_descent::specs::DeclRules::throws))]
 pub fn throws(alloc: Global, cursor: &mut Cursor<'_>) -> Result<(), Stop>
-    ensures reads { Follows (run spec.throws cursor.old) result cursor.new }
-    ensures no_longer { OnOk result (length cursor.new ≤ length cursor.old) }
+    ensures { record {
+      reads : Follows (run spec.throws cursor.old) result cursor.new;
+      no_longer : OnOk result (length cursor.new ≤ length cursor.old);
+    } }
 {
     let Some(_throws) = cursor.sign(THROWS) else {
         return Ok(());

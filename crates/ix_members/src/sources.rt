@@ -19,8 +19,10 @@ use std::alloc::Global;
 /// `{"." Ident}`
 #[tactic(auto, unfolding(ix_descent::specs::Rule::run, ix_descent::specs::ClassRules::next_dot))]
 fn more_dotted(alloc: Global, cursor: &mut Cursor<'_>) -> Result<(), Stop>
-    ensures reads { Follows (run (loop spec.next_dot tt) cursor.old) result cursor.new }
-    ensures no_longer { OnOk result (length cursor.new ≤ length cursor.old) }
+    ensures { record {
+      reads : Follows (run (loop spec.next_dot tt) cursor.old) result cursor.new;
+      no_longer : OnOk result (length cursor.new ≤ length cursor.old);
+    } }
 {
     'reading: while let Some(_dot) = cursor.sign(DOT) {
         cursor.advance();
@@ -35,8 +37,10 @@ fn more_dotted(alloc: Global, cursor: &mut Cursor<'_>) -> Result<(), Stop>
 /// `Dotted = Ident {"." Ident}`
 #[tactic(auto, unfolding(ix_descent::specs::Rule::run, ix_descent::specs::ClassRules::dotted))]
 fn dotted(alloc: Global, cursor: &mut Cursor<'_>) -> Result<(), Stop>
-    ensures reads { Follows (run spec.dotted cursor.old) result cursor.new }
-    ensures no_longer { OnOk result (length cursor.new ≤ length cursor.old) }
+    ensures { record {
+      reads : Follows (run spec.dotted cursor.old) result cursor.new;
+      no_longer : OnOk result (length cursor.new ≤ length cursor.old);
+    } }
 {
     let Some(_name) = cursor.name(alloc)? else {
         return Err(Stop::Syntax);
@@ -48,8 +52,10 @@ fn dotted(alloc: Global, cursor: &mut Cursor<'_>) -> Result<(), Stop>
 /// `["package" Dotted ";"]`
 #[tactic(auto, unfolding(ix_descent::specs::Rule::run, ix_descent::specs::ClassRules::package_line))]
 fn package_line(alloc: Global, cursor: &mut Cursor<'_>) -> Result<(), Stop>
-    ensures reads { Follows (run spec.package_line cursor.old) result cursor.new }
-    ensures no_longer { OnOk result (length cursor.new ≤ length cursor.old) }
+    ensures { record {
+      reads : Follows (run spec.package_line cursor.old) result cursor.new;
+      no_longer : OnOk result (length cursor.new ≤ length cursor.old);
+    } }
 {
     let Some(_package) = cursor.sign(PACKAGE) else {
         return Ok(());
@@ -66,8 +72,10 @@ fn package_line(alloc: Global, cursor: &mut Cursor<'_>) -> Result<(), Stop>
 /// `{"." Ident} ["." "*"] ";"`
 #[tactic(auto, unfolding(ix_descent::specs::Rule::run, ix_descent::specs::ClassRules::next_imported))]
 fn imported_behind(alloc: Global, cursor: &mut Cursor<'_>) -> Result<(), Stop>
-    ensures reads { Follows (run (loop spec.next_imported tt) cursor.old) result cursor.new }
-    ensures no_longer { OnOk result (length cursor.new ≤ length cursor.old) }
+    ensures { record {
+      reads : Follows (run (loop spec.next_imported tt) cursor.old) result cursor.new;
+      no_longer : OnOk result (length cursor.new ≤ length cursor.old);
+    } }
 {
     'reading: while let Some(_dot) = cursor.sign(DOT) {
         cursor.advance();
@@ -86,8 +94,10 @@ fn imported_behind(alloc: Global, cursor: &mut Cursor<'_>) -> Result<(), Stop>
 /// `";"`
 #[tactic(auto, unfolding(ix_descent::specs::Rule::run))]
 fn line_end(cursor: &mut Cursor<'_>) -> Result<(), Stop>
-    ensures reads { Follows (run (take (a_sign THE_END) true (λ end. pure tt) stop) cursor.old) result cursor.new }
-    ensures no_longer { OnOk result (length cursor.new ≤ length cursor.old) }
+    ensures { record {
+      reads : Follows (run (take (a_sign THE_END) true (λ end. pure tt) stop) cursor.old) result cursor.new;
+      no_longer : OnOk result (length cursor.new ≤ length cursor.old);
+    } }
 {
     let Some(_end) = cursor.sign(SEMICOLON) else {
         return Err(Stop::Syntax);
@@ -99,8 +109,10 @@ fn line_end(cursor: &mut Cursor<'_>) -> Result<(), Stop>
 /// `Dotted ["." "*"] ";"`
 #[tactic(auto, unfolding(ix_descent::specs::Rule::run, ix_descent::specs::ClassRules::imported))]
 fn imported(alloc: Global, cursor: &mut Cursor<'_>) -> Result<(), Stop>
-    ensures reads { Follows (run spec.imported cursor.old) result cursor.new }
-    ensures no_longer { OnOk result (length cursor.new ≤ length cursor.old) }
+    ensures { record {
+      reads : Follows (run spec.imported cursor.old) result cursor.new;
+      no_longer : OnOk result (length cursor.new ≤ length cursor.old);
+    } }
 {
     let Some(_name) = cursor.name(alloc)? else {
         return Err(Stop::Syntax);
@@ -112,8 +124,10 @@ fn imported(alloc: Global, cursor: &mut Cursor<'_>) -> Result<(), Stop>
 /// `["static"] Dotted ["." "*"] ";"`
 #[tactic(auto, unfolding(ix_descent::specs::Rule::run))]
 fn import_behind(alloc: Global, cursor: &mut Cursor<'_>) -> Result<(), Stop>
-    ensures reads { Follows (run (take (a_sign THE_STATIC) true (λ static. spec.imported) spec.imported) cursor.old) result cursor.new }
-    ensures no_longer { OnOk result (length cursor.new ≤ length cursor.old) }
+    ensures { record {
+      reads : Follows (run (take (a_sign THE_STATIC) true (λ static. spec.imported) spec.imported) cursor.old) result cursor.new;
+      no_longer : OnOk result (length cursor.new ≤ length cursor.old);
+    } }
 {
     if let Some(_static) = cursor.sign(STATIC) {
         cursor.advance();
@@ -125,8 +139,10 @@ fn import_behind(alloc: Global, cursor: &mut Cursor<'_>) -> Result<(), Stop>
 /// `{"import" ["static"] Dotted ["." "*"] ";"}`
 #[tactic(auto, unfolding(ix_descent::specs::Rule::run, ix_descent::specs::ClassRules::next_import, ix_descent::specs::ClassRules::imports))]
 fn imports(alloc: Global, cursor: &mut Cursor<'_>) -> Result<(), Stop>
-    ensures reads { Follows (run spec.imports cursor.old) result cursor.new }
-    ensures no_longer { OnOk result (length cursor.new ≤ length cursor.old) }
+    ensures { record {
+      reads : Follows (run spec.imports cursor.old) result cursor.new;
+      no_longer : OnOk result (length cursor.new ≤ length cursor.old);
+    } }
 {
     'reading: while let Some(_import) = cursor.sign(IMPORT) {
         cursor.advance();
@@ -151,10 +167,14 @@ fn unit_of(found: Classes, left: u32) -> FoundUnit
 /// `Program = ["package" Dotted ";"] {"import" ["static"] Dotted ["." "*"] ";"} {Class}`, of a height of at most `left`
 #[tactic(auto, unfolding(ix_descent::specs::Rule::run, ix_descent::specs::ClassRules::program))]
 fn program(alloc: Global, cursor: &mut Cursor<'_>, left: u32) -> Result<FoundUnit, Stop>
-    requires few { length cursor.old ≤ 200000 }
-    requires room { 5 ≤ left }
-    ensures reads { Follows (run (spec.program parts left) cursor.old) result cursor.new }
-    ensures fits { IfOk result (λ found. found.height ≤ left) }
+    requires { record {
+      few : length cursor.old ≤ 200000;
+      room : 5 ≤ left;
+    } }
+    ensures { record {
+      reads : Follows (run (spec.program parts left) cursor.old) result cursor.new;
+      fits : IfOk result (λ found. found.height ≤ left);
+    } }
 {
     package_line(alloc, cursor)?;
     imports(alloc, cursor)?;
@@ -166,8 +186,10 @@ fn program(alloc: Global, cursor: &mut Cursor<'_>, left: u32) -> Result<FoundUni
 #[tactic(auto, unfolding(ix_descent::specs::SourceRules::source))]
 pub fn source(alloc: Global, cursor: &mut Cursor<'_>) -> Result<FoundUnit, Stop>
     requires few { length cursor.old ≤ 200000 }
-    ensures reads { Follows (run the_source cursor.old) result cursor.new }
-    ensures fits { IfOk result (λ found. found.height ≤ 200) }
+    ensures { record {
+      reads : Follows (run the_source cursor.old) result cursor.new;
+      fits : IfOk result (λ found. found.height ≤ 200);
+    } }
 {
     program(alloc, cursor, 200)
 }

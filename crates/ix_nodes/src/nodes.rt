@@ -62,8 +62,10 @@ pub fn within(left: u32, opening: Span, right: Span, inside: Found) -> Found
 
 /// A field of an object (JLS 15.11).
 pub fn selected(alloc: Global, left: u32, object: Found, name: Ident) -> Result<Found, Stop>
-    requires two { 1 < left }
-    requires room { object.height < left }
+    requires { record {
+      two : 1 < left;
+      room : object.height < left;
+    } }
     ensures { MatchResult result (λ found. found ≡ nodes.selected object name) (λ stop. stop ≡ Memory) }
 {
     let outer = across(object.outer, name.span);
@@ -80,8 +82,10 @@ pub fn element(
     index: Found,
     right: Span,
 ) -> Result<Found, Stop>
-    requires array_room { array.height < left }
-    requires index_room { index.height < left }
+    requires { record {
+      array_room : array.height < left;
+      index_room : index.height < left;
+    } }
     ensures { MatchResult result (λ found. found ≡ nodes.element array index right) (λ stop. stop ≡ Memory) }
 {
     let outer = across(array.outer, right);
@@ -92,8 +96,10 @@ pub fn element(
 
 /// A call of a method of this class (JLS 15.12).
 pub fn called(alloc: Global, left: u32, name: Ident, args: Args) -> Result<Found, Stop>
-    requires two { 1 < left }
-    requires room { args.height < left }
+    requires { record {
+      two : 1 < left;
+      room : args.height < left;
+    } }
     ensures { MatchResult result (λ found. found ≡ nodes.called name args) (λ stop. stop ≡ Memory) }
 {
     let outer = across(name.span, args.end);
@@ -110,9 +116,11 @@ pub fn called_on(
     name: Ident,
     args: Args,
 ) -> Result<Found, Stop>
-    requires two { 1 < left }
-    requires object_room { object.height < left }
-    requires args_room { args.height < left }
+    requires { record {
+      two : 1 < left;
+      object_room : object.height < left;
+      args_room : args.height < left;
+    } }
     ensures { MatchResult result (λ found. found ≡ nodes.called_on object name args) (λ stop. stop ≡ Memory) }
 {
     let outer = across(object.outer, args.end);
@@ -129,8 +137,10 @@ pub fn created(
     name: Ident,
     args: Args,
 ) -> Result<Found, Stop>
-    requires two { 1 < left }
-    requires room { args.height < left }
+    requires { record {
+      two : 1 < left;
+      room : args.height < left;
+    } }
     ensures { MatchResult result (λ found. found ≡ nodes.created start name args) (λ stop. stop ≡ Memory) }
 {
     let outer = across(start, args.end);
@@ -210,8 +220,10 @@ pub fn joined(
     first: Found,
     second: Found,
 ) -> Result<Found, Stop>
-    requires first_room { first.height < left }
-    requires second_room { second.height < left }
+    requires { record {
+      first_room : first.height < left;
+      second_room : second.height < left;
+    } }
     ensures { MatchResult result (λ found. found ≡ nodes.joined op first second) (λ stop. stop ≡ Memory) }
 {
     let outer = across(first.outer, second.outer);
@@ -228,8 +240,10 @@ pub fn assigned(
     target: Found,
     value: Found,
 ) -> Result<Found, Stop>
-    requires target_room { target.height < left }
-    requires value_room { value.height < left }
+    requires { record {
+      target_room : target.height < left;
+      value_room : value.height < left;
+    } }
     ensures { MatchResult result (λ found. found ≡ nodes.assigned op target value) (λ stop. stop ≡ Memory) }
 {
     let outer = across(target.outer, value.outer);
@@ -306,8 +320,10 @@ pub fn new_array(
     length: Found,
     end: Span,
 ) -> Result<Found, Stop>
-    requires type_room { ty.height < left }
-    requires length_room { length.height < left }
+    requires { record {
+      type_room : ty.height < left;
+      length_room : length.height < left;
+    } }
     ensures { MatchResult result (λ found. found ≡ nodes.new_array start ty length end) (λ stop. stop ≡ Memory) }
 {
     let parts = ty.height.max(length.height);
@@ -323,8 +339,10 @@ pub fn new_items(
     ty: FoundType,
     entries: FoundItems,
 ) -> Result<Found, Stop>
-    requires type_room { ty.height < left }
-    requires entries_room { entries.height < left }
+    requires { record {
+      type_room : ty.height < left;
+      entries_room : entries.height < left;
+    } }
     ensures { MatchResult result (λ found. found ≡ nodes.new_items start ty entries) (λ stop. stop ≡ Memory) }
 {
     let outer = across(start, entries.end);

@@ -66,8 +66,10 @@ pub fn if_stmt(
     condition: Found,
     found: FoundStmt,
 ) -> Result<FoundStmt, Stop>
-    requires condition { condition.height + 1 < 2 ^ 32 }
-    requires found { found.height + 1 < 2 ^ 32 }
+    requires { record {
+      condition : condition.height + 1 < 2 ^ 32;
+      found : found.height + 1 < 2 ^ 32;
+    } }
     ensures { MatchResult result (λ made. made ≡ nodes.if_stmt start condition found) (λ stop. stop ≡ Memory) }
 {
     let span = across(start, found.stmt.get().span);
@@ -84,9 +86,11 @@ pub fn if_else_stmt(
     found: FoundStmt,
     other: FoundStmt,
 ) -> Result<FoundStmt, Stop>
-    requires condition { condition.height + 1 < 2 ^ 32 }
-    requires found { found.height + 1 < 2 ^ 32 }
-    requires other { other.height + 1 < 2 ^ 32 }
+    requires { record {
+      condition : condition.height + 1 < 2 ^ 32;
+      found : found.height + 1 < 2 ^ 32;
+      other : other.height + 1 < 2 ^ 32;
+    } }
     ensures { MatchResult result (λ made. made ≡ nodes.if_else_stmt start condition found other) (λ stop. stop ≡ Memory) }
 {
     let span = across(start, other.stmt.get().span);
@@ -102,8 +106,10 @@ pub fn while_stmt(
     condition: Found,
     found: FoundStmt,
 ) -> Result<FoundStmt, Stop>
-    requires condition { condition.height + 1 < 2 ^ 32 }
-    requires found { found.height + 1 < 2 ^ 32 }
+    requires { record {
+      condition : condition.height + 1 < 2 ^ 32;
+      found : found.height + 1 < 2 ^ 32;
+    } }
     ensures { MatchResult result (λ made. made ≡ nodes.while_stmt start condition found) (λ stop. stop ≡ Memory) }
 {
     let span = across(start, found.stmt.get().span);
@@ -120,8 +126,10 @@ pub fn do_stmt(
     condition: Found,
     end: Span,
 ) -> Result<FoundStmt, Stop>
-    requires found { found.height + 1 < 2 ^ 32 }
-    requires condition { condition.height + 1 < 2 ^ 32 }
+    requires { record {
+      found : found.height + 1 < 2 ^ 32;
+      condition : condition.height + 1 < 2 ^ 32;
+    } }
     ensures { MatchResult result (λ made. made ≡ nodes.do_stmt start found condition end) (λ stop. stop ≡ Memory) }
 {
     let height = found.height.max(condition.height);
@@ -148,10 +156,12 @@ pub fn for_stmt(
     update: Several,
     found: FoundStmt,
 ) -> Result<FoundStmt, Stop>
-    requires first { first.height + 1 < 2 ^ 32 }
-    requires condition { nodes.maybe_height condition + 1 < 2 ^ 32 }
-    requires update { update.height + 1 < 2 ^ 32 }
-    requires found { found.height + 1 < 2 ^ 32 }
+    requires { record {
+      first : first.height + 1 < 2 ^ 32;
+      condition : nodes.maybe_height condition + 1 < 2 ^ 32;
+      update : update.height + 1 < 2 ^ 32;
+      found : found.height + 1 < 2 ^ 32;
+    } }
     ensures { MatchResult result (λ made. made ≡ nodes.for_stmt start first condition update found) (λ stop. stop ≡ Memory) }
 {
     let span = across(start, found.stmt.get().span);

@@ -25,8 +25,10 @@ use std::alloc::Global;
 /// higher one, it is `TooDeep`.
 /// The depth of calls is bounded by the height of 200. The declarators of a declaration hold its modifiers and its type jointly.
 pub fn parse(alloc: Global, tokens: &[Token], end: u32) -> Result<Unit, ParseError>
-    requires few { length tokens.now ≤ 200000 }
-    requires in_order { InOrder 0 end tokens.now }
+    requires { record {
+      few : length tokens.now ≤ 200000;
+      in_order : InOrder 0 end tokens.now;
+    } }
 
     // The tree, exactly where there is one, and no other.
     ensures found { IfOk result (λ unit. HasTree tokens.now unit) }

@@ -23,8 +23,10 @@ use std::alloc::Global;
 /// Behind a minus: `IntLit | MinLit`
 #[tactic(auto, unfolding(ix_descent::specs::Rule::run, ix_descent::specs::AnnotRules::negative))]
 fn negative(cursor: &mut Cursor<'_>, minus: Span) -> Result<At<AnnotValue>, Stop>
-    ensures reads { Follows (run (spec.negative minus) cursor.old) result cursor.new }
-    ensures no_longer { OnOk result (length cursor.new ≤ length cursor.old) }
+    ensures { record {
+      reads : Follows (run (spec.negative minus) cursor.old) result cursor.new;
+      no_longer : OnOk result (length cursor.new ≤ length cursor.old);
+    } }
 {
     if let Some(number) = cursor.number() {
         cursor.advance();
@@ -46,8 +48,10 @@ fn negative(cursor: &mut Cursor<'_>, minus: Span) -> Result<At<AnnotValue>, Stop
 /// `{"," String}`, behind the first string
 #[tactic(auto, unfolding(ix_descent::specs::Rule::run, ix_descent::specs::AnnotRules::text, ix_descent::specs::ListRules::next_of, ix_descent::specs::ListRules::more_of))]
 fn more_texts(alloc: Global, cursor: &mut Cursor<'_>, first: Text) -> Result<List<Text>, Stop>
-    ensures reads { Follows (run (more_of spec.text joined (alone first)) cursor.old) result cursor.new }
-    ensures no_longer { OnOk result (length cursor.new ≤ length cursor.old) }
+    ensures { record {
+      reads : Follows (run (more_of spec.text joined (alone first)) cursor.old) result cursor.new;
+      no_longer : OnOk result (length cursor.new ≤ length cursor.old);
+    } }
 {
     let mut texts = List::new(alloc);
     texts.push(first)?;
@@ -65,8 +69,10 @@ fn more_texts(alloc: Global, cursor: &mut Cursor<'_>, first: Text) -> Result<Lis
 /// `[String {"," String}] "}"`
 #[tactic(auto, unfolding(ix_descent::specs::Rule::run, ix_descent::specs::AnnotRules::braced))]
 fn braced(alloc: Global, cursor: &mut Cursor<'_>, left: Span) -> Result<At<AnnotValue>, Stop>
-    ensures reads { Follows (run (spec.braced left) cursor.old) result cursor.new }
-    ensures no_longer { OnOk result (length cursor.new ≤ length cursor.old) }
+    ensures { record {
+      reads : Follows (run (spec.braced left) cursor.old) result cursor.new;
+      no_longer : OnOk result (length cursor.new ≤ length cursor.old);
+    } }
 {
     if let Some(right) = cursor.sign(CLOSE_BRACE) {
         cursor.advance();
@@ -116,8 +122,10 @@ fn truth(truth: bool, span: Span) -> At<AnnotValue>
 /// `Value = ["-"] IntLit | "-" MinLit | String | "true" | "false" | "{" [String {"," String}] "}"`
 #[tactic(auto, unfolding(ix_descent::specs::Rule::run, ix_descent::specs::AnnotRules::annot_value))]
 fn annot_value(alloc: Global, cursor: &mut Cursor<'_>) -> Result<At<AnnotValue>, Stop>
-    ensures reads { Follows (run spec.annot_value cursor.old) result cursor.new }
-    ensures no_longer { OnOk result (length cursor.new ≤ length cursor.old) }
+    ensures { record {
+      reads : Follows (run spec.annot_value cursor.old) result cursor.new;
+      no_longer : OnOk result (length cursor.new ≤ length cursor.old);
+    } }
 {
     if let Some(minus) = cursor.sign(MINUS) {
         cursor.advance();
@@ -152,8 +160,10 @@ fn annot_value(alloc: Global, cursor: &mut Cursor<'_>) -> Result<At<AnnotValue>,
 /// `"=" Value`, behind the name
 #[tactic(auto, unfolding(ix_descent::specs::Rule::run, ix_descent::specs::AnnotRules::named_value))]
 fn named_value(alloc: Global, cursor: &mut Cursor<'_>, name: Ident) -> Result<AnnotArg, Stop>
-    ensures reads { Follows (run (spec.named_value name) cursor.old) result cursor.new }
-    ensures no_longer { OnOk result (length cursor.new ≤ length cursor.old) }
+    ensures { record {
+      reads : Follows (run (spec.named_value name) cursor.old) result cursor.new;
+      no_longer : OnOk result (length cursor.new ≤ length cursor.old);
+    } }
 {
     let Some(_assign) = cursor.sign(ASSIGN) else {
         return Err(Stop::Syntax);
@@ -175,8 +185,10 @@ fn more_named(
     cursor: &mut Cursor<'_>,
     first: AnnotArg,
 ) -> Result<List<AnnotArg>, Stop>
-    ensures reads { Follows (run (more_of spec.named joined (alone first)) cursor.old) result cursor.new }
-    ensures no_longer { OnOk result (length cursor.new ≤ length cursor.old) }
+    ensures { record {
+      reads : Follows (run (more_of spec.named joined (alone first)) cursor.old) result cursor.new;
+      no_longer : OnOk result (length cursor.new ≤ length cursor.old);
+    } }
 {
     let mut args = List::new(alloc);
     args.push(first)?;
@@ -226,10 +238,12 @@ fn annot_args(
     at: Span,
     name: Ident,
 ) -> Result<Annot, Stop>
-    ensures reads { Follows (run (spec.annot_args left at name) cursor.old) result cursor.new }
-    ensures no_longer { OnOk result (length cursor.new ≤ length cursor.old) }
-    ensures low { IfOk result (λ annot. nodes.annot_height annot ≤ 3) }
-    ensures fits { IfOk result (λ annot. nodes.annot_height annot ≤ max 2 left) }
+    ensures { record {
+      reads : Follows (run (spec.annot_args left at name) cursor.old) result cursor.new;
+      no_longer : OnOk result (length cursor.new ≤ length cursor.old);
+      low : IfOk result (λ annot. nodes.annot_height annot ≤ 3);
+      fits : IfOk result (λ annot. nodes.annot_height annot ≤ max 2 left);
+    } }
 {
     if let Some(right) = cursor.sign(CLOSE_PAREN) {
         cursor.advance();
@@ -252,9 +266,11 @@ fn annot_args(
 /// `Value ")"`, behind the opening parenthesis
 #[tactic(auto, unfolding(ix_descent::specs::Rule::run, ix_descent::specs::AnnotRules::plain_value))]
 fn plain_arg(alloc: Global, cursor: &mut Cursor<'_>, at: Span, name: Ident) -> Result<Annot, Stop>
-    ensures reads { Follows (run (spec.plain_value at name) cursor.old) result cursor.new }
-    ensures no_longer { OnOk result (length cursor.new ≤ length cursor.old) }
-    ensures low { IfOk result (λ annot. nodes.annot_height annot ≤ 2) }
+    ensures { record {
+      reads : Follows (run (spec.plain_value at name) cursor.old) result cursor.new;
+      no_longer : OnOk result (length cursor.new ≤ length cursor.old);
+      low : IfOk result (λ annot. nodes.annot_height annot ≤ 2);
+    } }
 {
     let found = annot_value(alloc, cursor)?;
     let Some(right) = cursor.sign(CLOSE_PAREN) else {
@@ -290,10 +306,12 @@ pub fn annot_behind(
     left: u32,
     at: Span,
 ) -> Result<Annot, Stop>
-    ensures reads { Follows (run (spec.annot_behind left at) cursor.old) result cursor.new }
-    ensures no_longer { OnOk result (length cursor.new ≤ length cursor.old) }
-    ensures low { IfOk result (λ annot. nodes.annot_height annot ≤ 3) }
-    ensures fits { IfOk result (λ annot. nodes.annot_height annot ≤ max 2 left) }
+    ensures { record {
+      reads : Follows (run (spec.annot_behind left at) cursor.old) result cursor.new;
+      no_longer : OnOk result (length cursor.new ≤ length cursor.old);
+      low : IfOk result (λ annot. nodes.annot_height annot ≤ 3);
+      fits : IfOk result (λ annot. nodes.annot_height annot ≤ max 2 left);
+    } }
 {
     let Some(name) = cursor.name(alloc)? else {
         return Err(Stop::Syntax);
@@ -323,8 +341,10 @@ fn arg_height(arg: &AnnotArg) -> u32
 
 /// The greatest height of an argument.
 fn args_height(args: &[AnnotArg]) -> u32
-    ensures is { result ≡ nodes.args_height args.now }
-    ensures low { result ≤ 2 }
+    ensures { record {
+      is : result ≡ nodes.args_height args.now;
+      low : result ≤ 2;
+    } }
 {
     let mut greatest = 0;
     for arg in args {
@@ -335,8 +355,10 @@ fn args_height(args: &[AnnotArg]) -> u32
 
 /// The height of an annotation.
 pub fn annot_height(annot: &Annot) -> u32
-    ensures is { result ≡ nodes.annot_height annot.now }
-    ensures low { result ≤ 3 }
+    ensures { record {
+      is : result ≡ nodes.annot_height annot.now;
+      low : result ≤ 3;
+    } }
 {
     1 + args_height(annot.args.as_slice()).max(1)
 }
@@ -361,12 +383,16 @@ pub fn annots_from(
     left: u32,
     notes: Notes,
 ) -> Result<Notes, Stop>
-    requires low { notes.height ≤ 3 }
-    requires fits { notes.height ≤ left }
-    ensures reads { Follows (run (spec.annots_from left notes) cursor.old) result cursor.new }
-    ensures no_longer { OnOk result (length cursor.new ≤ length cursor.old) }
-    ensures low { IfOk result (λ found. found.height ≤ 3) }
-    ensures fits { IfOk result (λ found. found.height ≤ left) }
+    requires { record {
+      low : notes.height ≤ 3;
+      fits : notes.height ≤ left;
+    } }
+    ensures { record {
+      reads : Follows (run (spec.annots_from left notes) cursor.old) result cursor.new;
+      no_longer : OnOk result (length cursor.new ≤ length cursor.old);
+      low : IfOk result (λ found. found.height ≤ 3);
+      fits : IfOk result (λ found. found.height ≤ left);
+    } }
 {
     let mut notes = notes;
     'reading: while let Some(at) = cursor.sign(AT) {
@@ -389,10 +415,12 @@ pub fn annots_behind(
     at: Span,
 ) -> Result<Notes, Stop>
     requires room { 2 ≤ left }
-    ensures reads { Follows (run (bind (spec.annot_behind left at) (λ first. spec.annots_from left (nodes.with_note nodes.no_notes first))) cursor.old) result cursor.new }
-    ensures no_longer { OnOk result (length cursor.new ≤ length cursor.old) }
-    ensures low { IfOk result (λ found. found.height ≤ 3) }
-    ensures fits { IfOk result (λ found. found.height ≤ left) }
+    ensures { record {
+      reads : Follows (run (bind (spec.annot_behind left at) (λ first. spec.annots_from left (nodes.with_note nodes.no_notes first))) cursor.old) result cursor.new;
+      no_longer : OnOk result (length cursor.new ≤ length cursor.old);
+      low : IfOk result (λ found. found.height ≤ 3);
+      fits : IfOk result (λ found. found.height ≤ left);
+    } }
 {
     let first = annot_behind(alloc, cursor, left, at)?;
     let notes = with_note(no_notes(alloc), first)?;

@@ -58,8 +58,10 @@ impl<'a> Cursor<'a> {
 impl<'a> Cursor<'a> {
     /// The place of a keyword or a sign.
     pub fn sign(&self, number: u8) -> Option<Span>
-        ensures found { result ≡ look (a_sign number) self.now }
-        ensures there { IfSome result (λ _. 0 < length self.now) }
+        ensures { record {
+          found : result ≡ look (a_sign number) self.now;
+          there : IfSome result (λ _. 0 < length self.now);
+        } }
     {
         match self.rest {
             [] => None,
@@ -72,8 +74,10 @@ impl<'a> Cursor<'a> {
 
     /// An identifier.
     pub fn name(&self, alloc: Global) -> Result<Option<Ident>, Stop>
-        ensures found { MatchResult result (λ found. found ≡ look a_name self.now) (λ stop. stop ≡ Memory) }
-        ensures there { IfOk result (λ found. IfSome found (λ _. 0 < length self.now)) }
+        ensures { record {
+          found : MatchResult result (λ found. found ≡ look a_name self.now) (λ stop. stop ≡ Memory);
+          there : IfOk result (λ found. IfSome found (λ _. 0 < length self.now));
+        } }
     {
         match self.rest {
             [] => Ok(None),
@@ -92,8 +96,10 @@ impl<'a> Cursor<'a> {
 
     /// An int literal.
     pub fn number(&self) -> Option<At<i32>>
-        ensures found { result ≡ look a_number self.now }
-        ensures there { IfSome result (λ _. 0 < length self.now) }
+        ensures { record {
+          found : result ≡ look a_number self.now;
+          there : IfSome result (λ _. 0 < length self.now);
+        } }
     {
         match self.rest {
             [] => None,
@@ -109,8 +115,10 @@ impl<'a> Cursor<'a> {
 
     /// The place of the literal 2147483648.
     pub fn least(&self) -> Option<Span>
-        ensures found { result ≡ look a_least self.now }
-        ensures there { IfSome result (λ _. 0 < length self.now) }
+        ensures { record {
+          found : result ≡ look a_least self.now;
+          there : IfSome result (λ _. 0 < length self.now);
+        } }
     {
         match self.rest {
             [] => None,
@@ -123,8 +131,10 @@ impl<'a> Cursor<'a> {
 
     /// A string.
     pub fn text(&self, alloc: Global) -> Result<Option<At<Text>>, Stop>
-        ensures found { MatchResult result (λ found. found ≡ look a_text self.now) (λ stop. stop ≡ Memory) }
-        ensures there { IfOk result (λ found. IfSome found (λ _. 0 < length self.now)) }
+        ensures { record {
+          found : MatchResult result (λ found. found ≡ look a_text self.now) (λ stop. stop ≡ Memory);
+          there : IfOk result (λ found. IfSome found (λ _. 0 < length self.now));
+        } }
     {
         match self.rest {
             [] => Ok(None),
@@ -143,8 +153,10 @@ impl<'a> Cursor<'a> {
 
     /// Goes on to the token behind the next one.
     pub fn advance(&mut self)
-        ensures rest { self.new ≡ rest self.old }
-        ensures one_less { length self.new ≡ length self.old - 1 }
+        ensures { record {
+          rest : self.new ≡ rest self.old;
+          one_less : length self.new ≡ length self.old - 1;
+        } }
     {
         if let [_, later @ ..] = self.rest {
             self.rest = later;

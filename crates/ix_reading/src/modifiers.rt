@@ -21,8 +21,10 @@ use std::alloc::Global;
 
 /// The word of a member that comes next.
 fn member_word(cursor: &Cursor<'_>) -> Option<At<Word>>
-    ensures found { result ≡ look (one_of nodes.member_words) cursor.now }
-    ensures there { IfSome result (λ _. 0 < length cursor.now) }
+    ensures { record {
+      found : result ≡ look (one_of nodes.member_words) cursor.now;
+      there : IfSome result (λ _. 0 < length cursor.now);
+    } }
 {
     if let Some(span) = cursor.sign(PUBLIC) {
         return Some(At {
@@ -53,8 +55,10 @@ fn member_word(cursor: &Cursor<'_>) -> Option<At<Word>>
 
 /// The word of a local that comes next.
 fn local_word(cursor: &Cursor<'_>) -> Option<At<Word>>
-    ensures found { result ≡ look (one_of nodes.local_words) cursor.now }
-    ensures there { IfSome result (λ _. 0 < length cursor.now) }
+    ensures { record {
+      found : result ≡ look (one_of nodes.local_words) cursor.now;
+      there : IfSome result (λ _. 0 < length cursor.now);
+    } }
 {
     let span = cursor.sign(FINAL)?;
     Some(At {
@@ -65,8 +69,10 @@ fn local_word(cursor: &Cursor<'_>) -> Option<At<Word>>
 
 /// The word of these that comes next.
 fn word(cursor: &Cursor<'_>, words: Words) -> Option<At<Word>>
-    ensures found { result ≡ look (one_of (words_of words)) cursor.now }
-    ensures there { IfSome result (λ _. 0 < length cursor.now) }
+    ensures { record {
+      found : result ≡ look (one_of (words_of words)) cursor.now;
+      there : IfSome result (λ _. 0 < length cursor.now);
+    } }
 {
     match words {
         Words::Member => member_word(cursor),
@@ -155,12 +161,16 @@ pub fn mods_from(
     left: u32,
     first: FoundMods,
 ) -> Result<FoundMods, Stop>
-    requires low { first.height ≤ 3 }
-    requires fits { first.height ≤ left }
-    ensures reads { Follows (run (loop (spec.next_mod (words_of words) left) first) cursor.old) result cursor.new }
-    ensures no_longer { OnOk result (length cursor.new ≤ length cursor.old) }
-    ensures low { IfOk result (λ found. found.height ≤ 3) }
-    ensures fits { IfOk result (λ found. found.height ≤ left) }
+    requires { record {
+      low : first.height ≤ 3;
+      fits : first.height ≤ left;
+    } }
+    ensures { record {
+      reads : Follows (run (loop (spec.next_mod (words_of words) left) first) cursor.old) result cursor.new;
+      no_longer : OnOk result (length cursor.new ≤ length cursor.old);
+      low : IfOk result (λ found. found.height ≤ 3);
+      fits : IfOk result (λ found. found.height ≤ left);
+    } }
 {
     let mut found = first;
     'reading: loop {
@@ -191,10 +201,12 @@ pub fn mods(
     words: Words,
     left: u32,
 ) -> Result<FoundMods, Stop>
-    ensures reads { Follows (run (spec.mods (words_of words) left) cursor.old) result cursor.new }
-    ensures no_longer { OnOk result (length cursor.new ≤ length cursor.old) }
-    ensures low { IfOk result (λ found. found.height ≤ 3) }
-    ensures fits { IfOk result (λ found. found.height ≤ left) }
+    ensures { record {
+      reads : Follows (run (spec.mods (words_of words) left) cursor.old) result cursor.new;
+      no_longer : OnOk result (length cursor.new ≤ length cursor.old);
+      low : IfOk result (λ found. found.height ≤ 3);
+      fits : IfOk result (λ found. found.height ≤ left);
+    } }
 {
     mods_from(alloc, cursor, words, left, no_mods(alloc))
 }

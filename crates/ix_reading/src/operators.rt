@@ -18,8 +18,10 @@ use ix_tree::{BinaryOp, UnaryOp};
 /// A sign of a table, with what it stands for.
 #[tactic(auto, using(crate::proofs::Signs::rows))]
 fn one_of<V: Copy>(cursor: &Cursor<'_>, mut table: &[(u8, V)]) -> Option<At<V>>
-    ensures found { result ≡ look (is_one_of table.entry.now) cursor.now }
-    ensures there { IfSome result (λ _. 0 < length cursor.now) }
+    ensures { record {
+      found : result ≡ look (is_one_of table.entry.now) cursor.now;
+      there : IfSome result (λ _. 0 < length cursor.now);
+    } }
 {
     'looking: while let [(number, value), later @ ..] = table {
         if let Some(span) = cursor.sign(*number) {
@@ -35,16 +37,20 @@ fn one_of<V: Copy>(cursor: &Cursor<'_>, mut table: &[(u8, V)]) -> Option<At<V>>
 
 /// `++` or `--`: whether it is the first.
 pub fn step_sign(cursor: &Cursor<'_>) -> Option<At<bool>>
-    ensures found { result ≡ look (is_one_of step_signs) cursor.now }
-    ensures there { IfSome result (λ _. 0 < length cursor.now) }
+    ensures { record {
+      found : result ≡ look (is_one_of step_signs) cursor.now;
+      there : IfSome result (λ _. 0 < length cursor.now);
+    } }
 {
     one_of(cursor, &[(INCREMENT, true), (DECREMENT, false)])
 }
 
 /// An operator with one operand.
 pub fn unary_sign(cursor: &Cursor<'_>) -> Option<At<UnaryOp>>
-    ensures found { result ≡ look (is_one_of unary_signs) cursor.now }
-    ensures there { IfSome result (λ _. 0 < length cursor.now) }
+    ensures { record {
+      found : result ≡ look (is_one_of unary_signs) cursor.now;
+      there : IfSome result (λ _. 0 < length cursor.now);
+    } }
 {
     one_of(
         cursor,
@@ -59,8 +65,10 @@ pub fn unary_sign(cursor: &Cursor<'_>) -> Option<At<UnaryOp>>
 
 /// `=`, or an operator with it.
 pub fn assign_sign(cursor: &Cursor<'_>) -> Option<At<Option<Arith>>>
-    ensures found { result ≡ look (is_one_of assign_signs) cursor.now }
-    ensures there { IfSome result (λ _. 0 < length cursor.now) }
+    ensures { record {
+      found : result ≡ look (is_one_of assign_signs) cursor.now;
+      there : IfSome result (λ _. 0 < length cursor.now);
+    } }
 {
     one_of(
         cursor,
@@ -83,8 +91,10 @@ pub fn assign_sign(cursor: &Cursor<'_>) -> Option<At<Option<Arith>>>
 
 /// An operator with two operands, with its level.
 fn binary_sign(cursor: &Cursor<'_>) -> Option<At<(u32, BinaryOp)>>
-    ensures found { result ≡ look (is_one_of binary_signs) cursor.now }
-    ensures there { IfSome result (λ _. 0 < length cursor.now) }
+    ensures { record {
+      found : result ≡ look (is_one_of binary_signs) cursor.now;
+      there : IfSome result (λ _. 0 < length cursor.now);
+    } }
 {
     one_of(
         cursor,

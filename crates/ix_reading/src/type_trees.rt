@@ -53,8 +53,10 @@ pub fn array_of(base: At<BaseTree>, notes: Notes, brackets: At<u32>) -> FoundTyp
 #[tactic(auto, unfolding(ix_descent::specs::Rule::run, ix_descent::specs::TypeRules::next_pair, ix_descent::specs::TypeRules::pairs))]
 pub fn pairs(cursor: &mut Cursor<'_>, last: Span) -> Result<At<u32>, Stop>
     requires few { length cursor.old ≤ 200000 }
-    ensures reads { Follows (run (spec.pairs 1 last) cursor.old) result cursor.new }
-    ensures no_longer { OnOk result (length cursor.new ≤ length cursor.old) }
+    ensures { record {
+      reads : Follows (run (spec.pairs 1 last) cursor.old) result cursor.new;
+      no_longer : OnOk result (length cursor.new ≤ length cursor.old);
+    } }
 {
     let mut found = At {
         value: 1,
@@ -82,15 +84,19 @@ fn brackets(
     base: At<BaseTree>,
     notes: Notes,
 ) -> Result<FoundType, Stop>
-    requires few { length cursor.old ≤ 200000 }
-    requires low { notes.height ≤ 3 }
-    requires room { 1 + notes.height ≤ left }
-    requires base { 1 + the_height base.value ≤ left }
-    ensures reads { Follows (run (spec.brackets base notes) cursor.old) result cursor.new }
-    ensures no_longer { OnOk result (length cursor.new ≤ length cursor.old) }
-    ensures tall { IfOk result (λ found. 1 ≤ found.height) }
-    ensures low { IfOk result (λ found. found.height ≤ 4) }
-    ensures fits { IfOk result (λ found. found.height ≤ left) }
+    requires { record {
+      few : length cursor.old ≤ 200000;
+      low : notes.height ≤ 3;
+      room : 1 + notes.height ≤ left;
+      base : 1 + the_height base.value ≤ left;
+    } }
+    ensures { record {
+      reads : Follows (run (spec.brackets base notes) cursor.old) result cursor.new;
+      no_longer : OnOk result (length cursor.new ≤ length cursor.old);
+      tall : IfOk result (λ found. 1 ≤ found.height);
+      low : IfOk result (λ found. found.height ≤ 4);
+      fits : IfOk result (λ found. found.height ≤ left);
+    } }
 {
     let Some(right) = cursor.sign(CLOSE_BRACKET) else {
         return Err(Stop::Syntax);
@@ -109,13 +115,17 @@ pub fn noted_array(
     base: At<BaseTree>,
     at: Span,
 ) -> Result<FoundType, Stop>
-    requires few { length cursor.old ≤ 200000 }
-    requires room { 3 ≤ left }
-    ensures reads { Follows (run (spec.noted_array left base at) cursor.old) result cursor.new }
-    ensures no_longer { OnOk result (length cursor.new ≤ length cursor.old) }
-    ensures tall { IfOk result (λ found. 1 ≤ found.height) }
-    ensures low { IfOk result (λ found. found.height ≤ 4) }
-    ensures fits { IfOk result (λ found. found.height ≤ left) }
+    requires { record {
+      few : length cursor.old ≤ 200000;
+      room : 3 ≤ left;
+    } }
+    ensures { record {
+      reads : Follows (run (spec.noted_array left base at) cursor.old) result cursor.new;
+      no_longer : OnOk result (length cursor.new ≤ length cursor.old);
+      tall : IfOk result (λ found. 1 ≤ found.height);
+      low : IfOk result (λ found. found.height ≤ 4);
+      fits : IfOk result (λ found. found.height ≤ left);
+    } }
 {
     let notes = annots_behind(alloc, cursor, left - 1, at)?;
     let Some(_opening) = cursor.sign(OPEN_BRACKET) else {
@@ -133,13 +143,17 @@ pub fn type_rest(
     left: u32,
     base: At<BaseTree>,
 ) -> Result<FoundType, Stop>
-    requires few { length cursor.old ≤ 200000 }
-    requires room { 1 + the_height base.value ≤ left }
-    ensures reads { Follows (run (spec.type_rest left base) cursor.old) result cursor.new }
-    ensures no_longer { OnOk result (length cursor.new ≤ length cursor.old) }
-    ensures tall { IfOk result (λ found. 1 ≤ found.height) }
-    ensures low { IfOk result (λ found. found.height ≤ 4) }
-    ensures fits { IfOk result (λ found. found.height ≤ left) }
+    requires { record {
+      few : length cursor.old ≤ 200000;
+      room : 1 + the_height base.value ≤ left;
+    } }
+    ensures { record {
+      reads : Follows (run (spec.type_rest left base) cursor.old) result cursor.new;
+      no_longer : OnOk result (length cursor.new ≤ length cursor.old);
+      tall : IfOk result (λ found. 1 ≤ found.height);
+      low : IfOk result (λ found. found.height ≤ 4);
+      fits : IfOk result (λ found. found.height ≤ left);
+    } }
 {
     if let Some(_opening) = cursor.sign(OPEN_BRACKET) {
         cursor.advance();
@@ -159,11 +173,13 @@ pub fn type_rest(
 #[tactic(auto, unfolding(ix_descent::specs::Rule::run, ix_descent::specs::TypeRules::type_tree))]
 pub fn type_tree(alloc: Global, cursor: &mut Cursor<'_>, left: u32) -> Result<FoundType, Stop>
     requires few { length cursor.old ≤ 200000 }
-    ensures reads { Follows (run (spec.type_tree left) cursor.old) result cursor.new }
-    ensures no_longer { OnOk result (length cursor.new ≤ length cursor.old) }
-    ensures tall { IfOk result (λ found. 1 ≤ found.height) }
-    ensures low { IfOk result (λ found. found.height ≤ 4) }
-    ensures fits { IfOk result (λ found. found.height ≤ left) }
+    ensures { record {
+      reads : Follows (run (spec.type_tree left) cursor.old) result cursor.new;
+      no_longer : OnOk result (length cursor.new ≤ length cursor.old);
+      tall : IfOk result (λ found. 1 ≤ found.height);
+      low : IfOk result (λ found. found.height ≤ 4);
+      fits : IfOk result (λ found. found.height ≤ left);
+    } }
 {
     if let Some(span) = cursor.sign(INT) {
         if left < 1 {

@@ -32,12 +32,16 @@ use std::alloc::Global;
 /// The rest of an expression, behind its first part
 #[tactic(auto, unfolding(ix_descent::specs::Rule::run, ix_descent::specs::StmtRules::chain))]
 fn chain(alloc: Global, cursor: &mut Cursor<'_>, left: u32, first: Found) -> Result<Begun, Stop>
-    requires few { length cursor.old ≤ 200000 }
-    requires some { 0 < first.height }
-    requires room { first.height + 1 ≤ left }
-    ensures reads { Follows (run (spec.chain left first) cursor.old) result cursor.new }
-    ensures no_longer { OnOk result (length cursor.new ≤ length cursor.old) }
-    ensures fits { IfOk result (λ begun. begun_fits left begun) }
+    requires { record {
+      few : length cursor.old ≤ 200000;
+      some : 0 < first.height;
+      room : first.height + 1 ≤ left;
+    } }
+    ensures { record {
+      reads : Follows (run (spec.chain left first) cursor.old) result cursor.new;
+      no_longer : OnOk result (length cursor.new ≤ length cursor.old);
+      fits : IfOk result (λ begun. begun_fits left begun);
+    } }
 {
     let found = statement_chain(alloc, cursor, left - 1, first)?;
     let found = to_statement(alloc, cursor, left - 1, found)?;
@@ -53,12 +57,16 @@ pub fn field(
     object: Found,
     name: Ident,
 ) -> Result<Begun, Stop>
-    requires few { length cursor.old ≤ 200000 }
-    requires some { 0 < object.height }
-    requires low { object.height ≤ 3 }
-    ensures reads { Follows (run (spec.field left object name) cursor.old) result cursor.new }
-    ensures no_longer { OnOk result (length cursor.new ≤ length cursor.old) }
-    ensures fits { IfOk result (λ begun. begun_fits left begun) }
+    requires { record {
+      few : length cursor.old ≤ 200000;
+      some : 0 < object.height;
+      low : object.height ≤ 3;
+    } }
+    ensures { record {
+      reads : Follows (run (spec.field left object name) cursor.old) result cursor.new;
+      no_longer : OnOk result (length cursor.new ≤ length cursor.old);
+      fits : IfOk result (λ begun. begun_fits left begun);
+    } }
 {
     if left < object.height + 2 {
         return Err(behind_high_name(cursor));
@@ -71,9 +79,11 @@ pub fn field(
 #[tactic(auto, using(crate::proofs::HighVariables::run_named_high), unfolding(ix_descent::specs::Rule::run, ix_descent::specs::StmtRules::run_named))]
 fn run_named(alloc: Global, cursor: &mut Cursor<'_>, left: u32, name: Ident) -> Result<Begun, Stop>
     requires few { length cursor.old ≤ 200000 }
-    ensures reads { Follows (run (spec.run_named left name) cursor.old) result cursor.new }
-    ensures no_longer { OnOk result (length cursor.new ≤ length cursor.old) }
-    ensures fits { IfOk result (λ begun. begun_fits left begun) }
+    ensures { record {
+      reads : Follows (run (spec.run_named left name) cursor.old) result cursor.new;
+      no_longer : OnOk result (length cursor.new ≤ length cursor.old);
+      fits : IfOk result (λ begun. begun_fits left begun);
+    } }
 {
     if left < 3 {
         return Err(behind_high_name(cursor));
@@ -102,9 +112,11 @@ fn index(alloc: Global, cursor: &mut Cursor<'_>, left: u32) -> Result<Found, Sto
 #[tactic(auto, unfolding(ix_descent::specs::Rule::run, ix_descent::specs::StmtRules::indexed))]
 fn indexed(alloc: Global, cursor: &mut Cursor<'_>, left: u32, name: Ident) -> Result<Begun, Stop>
     requires few { length cursor.old ≤ 200000 }
-    ensures reads { Follows (run (spec.indexed left name) cursor.old) result cursor.new }
-    ensures no_longer { OnOk result (length cursor.new ≤ length cursor.old) }
-    ensures fits { IfOk result (λ begun. begun_fits left begun) }
+    ensures { record {
+      reads : Follows (run (spec.indexed left name) cursor.old) result cursor.new;
+      no_longer : OnOk result (length cursor.new ≤ length cursor.old);
+      fits : IfOk result (λ begun. begun_fits left begun);
+    } }
 {
     let index = index(alloc, cursor, left)?;
     let Some(right) = cursor.sign(CLOSE_BRACKET) else {
@@ -118,11 +130,15 @@ fn indexed(alloc: Global, cursor: &mut Cursor<'_>, left: u32, name: Ident) -> Re
 /// Behind a name and a bracket: the other bracket of a type, or an index.
 #[tactic(auto, unfolding(ix_descent::specs::Rule::run))]
 fn bracketed(alloc: Global, cursor: &mut Cursor<'_>, left: u32, name: Ident) -> Result<Begun, Stop>
-    requires few { length cursor.old ≤ 200000 }
-    requires room { 4 ≤ left }
-    ensures reads { Follows (run (take (a_sign CLOSE_BRACKET) true (λ right. bind (the_pairs 1 right) (λ brackets. spec.named_type left none (the_array (based (Named name) name.span) no_annots brackets))) (spec.indexed left name)) cursor.old) result cursor.new }
-    ensures no_longer { OnOk result (length cursor.new ≤ length cursor.old) }
-    ensures fits { IfOk result (λ begun. begun_fits left begun) }
+    requires { record {
+      few : length cursor.old ≤ 200000;
+      room : 4 ≤ left;
+    } }
+    ensures { record {
+      reads : Follows (run (take (a_sign CLOSE_BRACKET) true (λ right. bind (the_pairs 1 right) (λ brackets. spec.named_type left none (the_array (based (Named name) name.span) no_annots brackets))) (spec.indexed left name)) cursor.old) result cursor.new;
+      no_longer : OnOk result (length cursor.new ≤ length cursor.old);
+      fits : IfOk result (λ begun. begun_fits left begun);
+    } }
 {
     let Some(right) = cursor.sign(CLOSE_BRACKET) else {
         return indexed(alloc, cursor, left, name);
@@ -143,9 +159,11 @@ pub fn named_first(
     name: Ident,
 ) -> Result<Begun, Stop>
     requires few { length cursor.old ≤ 200000 }
-    ensures reads { Follows (run (spec.named_first locals left name) cursor.old) result cursor.new }
-    ensures no_longer { OnOk result (length cursor.new ≤ length cursor.old) }
-    ensures fits { IfOk result (λ begun. begun_fits left begun) }
+    ensures { record {
+      reads : Follows (run (spec.named_first locals left name) cursor.old) result cursor.new;
+      no_longer : OnOk result (length cursor.new ≤ length cursor.old);
+      fits : IfOk result (λ begun. begun_fits left begun);
+    } }
 {
     if !locals {
         return run_named(alloc, cursor, left, name);

@@ -29,9 +29,11 @@ fn local_end(
     found: FoundDecls,
 ) -> Result<FoundStmt, Stop>
     requires room { found.height + 1 < 2 ^ 32 }
-    ensures reads { Follows (run (take (a_sign SEMICOLON) true (λ end. pure (nodes.local_stmt mods ty found end)) stop) cursor.old) result cursor.new }
-    ensures shorter { OnOk result (length cursor.new < length cursor.old) }
-    ensures fits { IfOk result (λ made. made.height ≤ found.height + 1) }
+    ensures { record {
+      reads : Follows (run (take (a_sign SEMICOLON) true (λ end. pure (nodes.local_stmt mods ty found end)) stop) cursor.old) result cursor.new;
+      shorter : OnOk result (length cursor.new < length cursor.old);
+      fits : IfOk result (λ made. made.height ≤ found.height + 1);
+    } }
 {
     let Some(end) = cursor.sign(SEMICOLON) else {
         return Err(Stop::Syntax);
@@ -44,9 +46,11 @@ fn local_end(
 #[tactic(auto, unfolding(ix_descent::specs::Rule::run))]
 fn run_end(alloc: Global, cursor: &mut Cursor<'_>, found: Found) -> Result<FoundStmt, Stop>
     requires room { found.height + 1 < 2 ^ 32 }
-    ensures reads { Follows (run (take (a_sign SEMICOLON) true (λ end. pure (nodes.run_stmt found end)) stop) cursor.old) result cursor.new }
-    ensures shorter { OnOk result (length cursor.new < length cursor.old) }
-    ensures fits { IfOk result (λ made. made.height ≤ found.height + 1) }
+    ensures { record {
+      reads : Follows (run (take (a_sign SEMICOLON) true (λ end. pure (nodes.run_stmt found end)) stop) cursor.old) result cursor.new;
+      shorter : OnOk result (length cursor.new < length cursor.old);
+      fits : IfOk result (λ made. made.height ≤ found.height + 1);
+    } }
 {
     let Some(end) = cursor.sign(SEMICOLON) else {
         return Err(Stop::Syntax);
@@ -63,11 +67,15 @@ fn print_end(
     left: u32,
     system: Span,
 ) -> Result<FoundStmt, Stop>
-    requires few { length cursor.old ≤ 200000 }
-    requires room { 1 ≤ left }
-    ensures reads { Follows (run (spec.finished left (Print system)) cursor.old) result cursor.new }
-    ensures shorter { OnOk result (length cursor.new < length cursor.old) }
-    ensures fits { IfOk result (λ made. made.height ≤ left) }
+    requires { record {
+      few : length cursor.old ≤ 200000;
+      room : 1 ≤ left;
+    } }
+    ensures { record {
+      reads : Follows (run (spec.finished left (Print system)) cursor.old) result cursor.new;
+      shorter : OnOk result (length cursor.new < length cursor.old);
+      fits : IfOk result (λ made. made.height ≤ left);
+    } }
 {
     let found = expr(alloc, cursor, left - 1)?;
     let Some(_closing) = cursor.sign(CLOSE_PAREN) else {
@@ -89,11 +97,15 @@ pub fn finished(
     left: u32,
     begun: Begun,
 ) -> Result<FoundStmt, Stop>
-    requires few { length cursor.old ≤ 200000 }
-    requires room { begun_fits left begun }
-    ensures reads { Follows (run (spec.finished left begun) cursor.old) result cursor.new }
-    ensures shorter { OnOk result (length cursor.new < length cursor.old) }
-    ensures fits { IfOk result (λ made. made.height ≤ left) }
+    requires { record {
+      few : length cursor.old ≤ 200000;
+      room : begun_fits left begun;
+    } }
+    ensures { record {
+      reads : Follows (run (spec.finished left begun) cursor.old) result cursor.new;
+      shorter : OnOk result (length cursor.new < length cursor.old);
+      fits : IfOk result (λ made. made.height ≤ left);
+    } }
 {
     match begun {
         Begun::Local(mods, ty, found) => local_end(alloc, cursor, mods, ty, found),

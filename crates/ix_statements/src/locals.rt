@@ -34,15 +34,19 @@ pub fn declared(
     ty: FoundType,
     name: Ident,
 ) -> Result<Begun, Stop>
-    requires few { length cursor.old ≤ 200000 }
-    requires room { 3 ≤ left }
-    requires mods_low { mods.height ≤ 3 }
-    requires mods_fit { mods.height + 2 ≤ left }
-    requires type_low { ty.height ≤ 4 }
-    requires type_fits { ty.height + 2 ≤ left }
-    ensures reads { Follows (run (spec.declared left mods ty name) cursor.old) result cursor.new }
-    ensures no_longer { OnOk result (length cursor.new ≤ length cursor.old) }
-    ensures fits { IfOk result (λ begun. begun_fits left begun) }
+    requires { record {
+      few : length cursor.old ≤ 200000;
+      room : 3 ≤ left;
+      mods_low : mods.height ≤ 3;
+      mods_fit : mods.height + 2 ≤ left;
+      type_low : ty.height ≤ 4;
+      type_fits : ty.height + 2 ≤ left;
+    } }
+    ensures { record {
+      reads : Follows (run (spec.declared left mods ty name) cursor.old) result cursor.new;
+      no_longer : OnOk result (length cursor.new ≤ length cursor.old);
+      fits : IfOk result (λ begun. begun_fits left begun);
+    } }
 {
     let all = shared(alloc, &mods, &ty)?;
     let found = decls(alloc, cursor, left - 1, &all, name)?;
@@ -58,15 +62,19 @@ pub fn named_type(
     mods: FoundMods,
     ty: FoundType,
 ) -> Result<Begun, Stop>
-    requires few { length cursor.old ≤ 200000 }
-    requires room { 3 ≤ left }
-    requires mods_low { mods.height ≤ 3 }
-    requires mods_fit { mods.height + 2 ≤ left }
-    requires type_low { ty.height ≤ 4 }
-    requires type_fits { ty.height + 2 ≤ left }
-    ensures reads { Follows (run (spec.named_type left mods ty) cursor.old) result cursor.new }
-    ensures no_longer { OnOk result (length cursor.new ≤ length cursor.old) }
-    ensures fits { IfOk result (λ begun. begun_fits left begun) }
+    requires { record {
+      few : length cursor.old ≤ 200000;
+      room : 3 ≤ left;
+      mods_low : mods.height ≤ 3;
+      mods_fit : mods.height + 2 ≤ left;
+      type_low : ty.height ≤ 4;
+      type_fits : ty.height + 2 ≤ left;
+    } }
+    ensures { record {
+      reads : Follows (run (spec.named_type left mods ty) cursor.old) result cursor.new;
+      no_longer : OnOk result (length cursor.new ≤ length cursor.old);
+      fits : IfOk result (λ begun. begun_fits left begun);
+    } }
 {
     let Some(name) = cursor.name(alloc)? else {
         return Err(Stop::Syntax);
@@ -83,13 +91,17 @@ fn modified(
     left: u32,
     first: FoundMods,
 ) -> Result<Begun, Stop>
-    requires few { length cursor.old ≤ 200000 }
-    requires room { 3 ≤ left }
-    requires low { first.height ≤ 3 }
-    requires fits { first.height + 2 ≤ left }
-    ensures reads { Follows (run (spec.modified left first) cursor.old) result cursor.new }
-    ensures no_longer { OnOk result (length cursor.new ≤ length cursor.old) }
-    ensures fits { IfOk result (λ begun. begun_fits left begun) }
+    requires { record {
+      few : length cursor.old ≤ 200000;
+      room : 3 ≤ left;
+      low : first.height ≤ 3;
+      fits : first.height + 2 ≤ left;
+    } }
+    ensures { record {
+      reads : Follows (run (spec.modified left first) cursor.old) result cursor.new;
+      no_longer : OnOk result (length cursor.new ≤ length cursor.old);
+      fits : IfOk result (λ begun. begun_fits left begun);
+    } }
 {
     let mods = mods_from(alloc, cursor, Words::Local, left - 2, first)?;
     let ty = type_tree(alloc, cursor, left - 2)?;
@@ -104,11 +116,15 @@ pub fn final_local(
     left: u32,
     span: Span,
 ) -> Result<Begun, Stop>
-    requires few { length cursor.old ≤ 200000 }
-    requires room { 3 ≤ left }
-    ensures reads { Follows (run (spec.modified left (worded none Final span)) cursor.old) result cursor.new }
-    ensures no_longer { OnOk result (length cursor.new ≤ length cursor.old) }
-    ensures fits { IfOk result (λ begun. begun_fits left begun) }
+    requires { record {
+      few : length cursor.old ≤ 200000;
+      room : 3 ≤ left;
+    } }
+    ensures { record {
+      reads : Follows (run (spec.modified left (worded none Final span)) cursor.old) result cursor.new;
+      no_longer : OnOk result (length cursor.new ≤ length cursor.old);
+      fits : IfOk result (λ begun. begun_fits left begun);
+    } }
 {
     let first = with_word(no_mods(alloc), Word::Final, span);
     modified(alloc, cursor, left, first)
@@ -122,11 +138,15 @@ pub fn noted_local(
     left: u32,
     at: Span,
 ) -> Result<Begun, Stop>
-    requires few { length cursor.old ≤ 200000 }
-    requires room { 4 ≤ left }
-    ensures reads { Follows (run (bind (the_annot (left - 2) at) (λ annot. spec.modified left (noted none annot))) cursor.old) result cursor.new }
-    ensures no_longer { OnOk result (length cursor.new ≤ length cursor.old) }
-    ensures fits { IfOk result (λ begun. begun_fits left begun) }
+    requires { record {
+      few : length cursor.old ≤ 200000;
+      room : 4 ≤ left;
+    } }
+    ensures { record {
+      reads : Follows (run (bind (the_annot (left - 2) at) (λ annot. spec.modified left (noted none annot))) cursor.old) result cursor.new;
+      no_longer : OnOk result (length cursor.new ≤ length cursor.old);
+      fits : IfOk result (λ begun. begun_fits left begun);
+    } }
 {
     let annot = annot_behind(alloc, cursor, left - 2, at)?;
     let first = with_annot(no_mods(alloc), annot)?;
@@ -141,12 +161,16 @@ pub fn plain_local(
     left: u32,
     base: At<BaseTree>,
 ) -> Result<Begun, Stop>
-    requires few { length cursor.old ≤ 200000 }
-    requires room { 3 ≤ left }
-    requires low { base_height base.value ≤ 0 }
-    ensures reads { Follows (run (bind (the_rest (left - 2) base) (spec.named_type left none)) cursor.old) result cursor.new }
-    ensures no_longer { OnOk result (length cursor.new ≤ length cursor.old) }
-    ensures fits { IfOk result (λ begun. begun_fits left begun) }
+    requires { record {
+      few : length cursor.old ≤ 200000;
+      room : 3 ≤ left;
+      low : base_height base.value ≤ 0;
+    } }
+    ensures { record {
+      reads : Follows (run (bind (the_rest (left - 2) base) (spec.named_type left none)) cursor.old) result cursor.new;
+      no_longer : OnOk result (length cursor.new ≤ length cursor.old);
+      fits : IfOk result (λ begun. begun_fits left begun);
+    } }
 {
     let ty = type_rest(alloc, cursor, left - 2, base)?;
     named_type(alloc, cursor, left, no_mods(alloc), ty)

@@ -29,11 +29,15 @@ use std::alloc::Global;
 /// `{"," SExpr}`, behind the first expression of an update
 #[tactic(auto, unfolding(ix_descent::specs::Rule::run, ix_descent::specs::ListRules::next_of, ix_descent::specs::ListRules::more_of))]
 fn updates(alloc: Global, cursor: &mut Cursor<'_>, left: u32, first: Found) -> Result<Several, Stop>
-    requires few { length cursor.old ≤ 200000 }
-    requires fits { first.height ≤ left }
-    ensures reads { Follows (run (more_of (the_expr left) exprs.with_expr (nodes.one_expr first)) cursor.old) result cursor.new }
-    ensures no_longer { OnOk result (length cursor.new ≤ length cursor.old) }
-    ensures fits { IfOk result (λ found. found.height ≤ left) }
+    requires { record {
+      few : length cursor.old ≤ 200000;
+      fits : first.height ≤ left;
+    } }
+    ensures { record {
+      reads : Follows (run (more_of (the_expr left) exprs.with_expr (nodes.one_expr first)) cursor.old) result cursor.new;
+      no_longer : OnOk result (length cursor.new ≤ length cursor.old);
+      fits : IfOk result (λ found. found.height ≤ left);
+    } }
 {
     let mut found = with_expr(no_exprs(alloc), first)?;
     'reading: while let Some(_comma) = cursor.sign(COMMA) {
@@ -55,11 +59,15 @@ fn with_run(alloc: Global, found: Stmts, next: Found) -> Result<Stmts, Stop>
 /// `{"," SExpr}`, behind the first expression of a first part
 #[tactic(auto, unfolding(ix_descent::specs::Rule::run, ix_descent::specs::ListRules::next_of, ix_descent::specs::ListRules::more_of))]
 fn runs(alloc: Global, cursor: &mut Cursor<'_>, left: u32, first: Found) -> Result<Stmts, Stop>
-    requires few { length cursor.old ≤ 200000 }
-    requires fits { first.height + 2 ≤ left }
-    ensures reads { Follows (run (more_of (the_expr (left - 2)) nodes.with_run (nodes.one_run first)) cursor.old) result cursor.new }
-    ensures no_longer { OnOk result (length cursor.new ≤ length cursor.old) }
-    ensures fits { IfOk result (λ found. found.height + 1 ≤ left) }
+    requires { record {
+      few : length cursor.old ≤ 200000;
+      fits : first.height + 2 ≤ left;
+    } }
+    ensures { record {
+      reads : Follows (run (more_of (the_expr (left - 2)) nodes.with_run (nodes.one_run first)) cursor.old) result cursor.new;
+      no_longer : OnOk result (length cursor.new ≤ length cursor.old);
+      fits : IfOk result (λ found. found.height + 1 ≤ left);
+    } }
 {
     let mut found = with_run(alloc, no_stmts(alloc), first)?;
     'reading: while let Some(_comma) = cursor.sign(COMMA) {
@@ -87,11 +95,15 @@ fn local_part(
 /// The rest of a first part, whose statements are one lower
 #[tactic(auto, unfolding(ix_descent::specs::Rule::run, ix_descent::specs::StmtRules::for_part))]
 fn for_part(alloc: Global, cursor: &mut Cursor<'_>, left: u32, first: Begun) -> Result<Stmts, Stop>
-    requires few { length cursor.old ≤ 200000 }
-    requires fits { begun_fits (left - 1) first }
-    ensures reads { Follows (run (spec.for_part left first) cursor.old) result cursor.new }
-    ensures no_longer { OnOk result (length cursor.new ≤ length cursor.old) }
-    ensures fits { IfOk result (λ found. found.height + 1 ≤ left) }
+    requires { record {
+      few : length cursor.old ≤ 200000;
+      fits : begun_fits (left - 1) first;
+    } }
+    ensures { record {
+      reads : Follows (run (spec.for_part left first) cursor.old) result cursor.new;
+      no_longer : OnOk result (length cursor.new ≤ length cursor.old);
+      fits : IfOk result (λ found. found.height + 1 ≤ left);
+    } }
 {
     match first {
         Begun::Local(mods, ty, found) => local_part(alloc, mods, ty, found),
@@ -111,15 +123,19 @@ impl<F: Fn(Global, &mut Cursor<'_>, u32, bool) -> Result<FoundStmt, Stop>> State
         condition: Option<Found>,
         update: Several,
     ) -> Result<FoundStmt, Stop>
-        requires parts { ReadsStatements self.now.left (F.pre self.now.part) (F.post self.now.part) }
-        requires few { length cursor.old ≤ 200000 }
-        requires number { self.now.left < 2 ^ 32 }
-        requires first { first.height + 1 ≤ self.now.left }
-        requires condition { nodes.maybe_height condition + 1 ≤ self.now.left }
-        requires update { update.height + 1 ≤ self.now.left }
-        ensures reads { Follows (run (spec.for_body (spec.stmts_below self.now.left) start first condition update) cursor.old) result cursor.new }
-        ensures no_longer { OnOk result (length cursor.new ≤ length cursor.old) }
-        ensures fits { IfOk result (λ found. found.height ≤ self.now.left) }
+        requires { record {
+          parts : ReadsStatements self.now.left (F.pre self.now.part) (F.post self.now.part);
+          few : length cursor.old ≤ 200000;
+          number : self.now.left < 2 ^ 32;
+          first : first.height + 1 ≤ self.now.left;
+          condition : nodes.maybe_height condition + 1 ≤ self.now.left;
+          update : update.height + 1 ≤ self.now.left;
+        } }
+        ensures { record {
+          reads : Follows (run (spec.for_body (spec.stmts_below self.now.left) start first condition update) cursor.old) result cursor.new;
+          no_longer : OnOk result (length cursor.new ≤ length cursor.old);
+          fits : IfOk result (λ found. found.height ≤ self.now.left);
+        } }
     {
         let found = self.plain_part(cursor)?;
         for_stmt(self.alloc, start, first, condition, update, found)
@@ -134,14 +150,18 @@ impl<F: Fn(Global, &mut Cursor<'_>, u32, bool) -> Result<FoundStmt, Stop>> State
         first: Stmts,
         condition: Option<Found>,
     ) -> Result<FoundStmt, Stop>
-        requires parts { ReadsStatements self.now.left (F.pre self.now.part) (F.post self.now.part) }
-        requires few { length cursor.old ≤ 200000 }
-        requires number { self.now.left < 2 ^ 32 }
-        requires first { first.height + 1 ≤ self.now.left }
-        requires condition { nodes.maybe_height condition + 1 ≤ self.now.left }
-        ensures reads { Follows (run (spec.for_update (spec.stmts_below self.now.left) self.now.left start first condition) cursor.old) result cursor.new }
-        ensures no_longer { OnOk result (length cursor.new ≤ length cursor.old) }
-        ensures fits { IfOk result (λ found. found.height ≤ self.now.left) }
+        requires { record {
+          parts : ReadsStatements self.now.left (F.pre self.now.part) (F.post self.now.part);
+          few : length cursor.old ≤ 200000;
+          number : self.now.left < 2 ^ 32;
+          first : first.height + 1 ≤ self.now.left;
+          condition : nodes.maybe_height condition + 1 ≤ self.now.left;
+        } }
+        ensures { record {
+          reads : Follows (run (spec.for_update (spec.stmts_below self.now.left) self.now.left start first condition) cursor.old) result cursor.new;
+          no_longer : OnOk result (length cursor.new ≤ length cursor.old);
+          fits : IfOk result (λ found. found.height ≤ self.now.left);
+        } }
     {
         if let Some(_closing) = cursor.sign(CLOSE_PAREN) {
             cursor.advance();
@@ -165,13 +185,17 @@ impl<F: Fn(Global, &mut Cursor<'_>, u32, bool) -> Result<FoundStmt, Stop>> State
         start: Span,
         first: Stmts,
     ) -> Result<FoundStmt, Stop>
-        requires parts { ReadsStatements self.now.left (F.pre self.now.part) (F.post self.now.part) }
-        requires few { length cursor.old ≤ 200000 }
-        requires number { self.now.left < 2 ^ 32 }
-        requires first { first.height + 1 ≤ self.now.left }
-        ensures reads { Follows (run (spec.for_condition (spec.stmts_below self.now.left) self.now.left start first) cursor.old) result cursor.new }
-        ensures no_longer { OnOk result (length cursor.new ≤ length cursor.old) }
-        ensures fits { IfOk result (λ found. found.height ≤ self.now.left) }
+        requires { record {
+          parts : ReadsStatements self.now.left (F.pre self.now.part) (F.post self.now.part);
+          few : length cursor.old ≤ 200000;
+          number : self.now.left < 2 ^ 32;
+          first : first.height + 1 ≤ self.now.left;
+        } }
+        ensures { record {
+          reads : Follows (run (spec.for_condition (spec.stmts_below self.now.left) self.now.left start first) cursor.old) result cursor.new;
+          no_longer : OnOk result (length cursor.new ≤ length cursor.old);
+          fits : IfOk result (λ found. found.height ≤ self.now.left);
+        } }
     {
         if let Some(_end) = cursor.sign(SEMICOLON) {
             cursor.advance();
@@ -188,13 +212,17 @@ impl<F: Fn(Global, &mut Cursor<'_>, u32, bool) -> Result<FoundStmt, Stop>> State
     /// `"(" First ";" [Expr] ";" Update ")" Stmt`, behind `for`
     #[tactic(auto, unfolding(ix_descent::specs::Rule::run, ix_descent::specs::StmtRules::for_rule))]
     pub fn for_rule(&self, cursor: &mut Cursor<'_>, start: Span) -> Result<FoundStmt, Stop>
-        requires parts { ReadsStatements self.now.left (F.pre self.now.part) (F.post self.now.part) }
-        requires few { length cursor.old ≤ 200000 }
-        requires number { self.now.left < 2 ^ 32 }
-        requires room { 2 ≤ self.now.left }
-        ensures reads { Follows (run (spec.for_rule (spec.stmts_below self.now.left) self.now.left start) cursor.old) result cursor.new }
-        ensures no_longer { OnOk result (length cursor.new ≤ length cursor.old) }
-        ensures fits { IfOk result (λ found. found.height ≤ self.now.left) }
+        requires { record {
+          parts : ReadsStatements self.now.left (F.pre self.now.part) (F.post self.now.part);
+          few : length cursor.old ≤ 200000;
+          number : self.now.left < 2 ^ 32;
+          room : 2 ≤ self.now.left;
+        } }
+        ensures { record {
+          reads : Follows (run (spec.for_rule (spec.stmts_below self.now.left) self.now.left start) cursor.old) result cursor.new;
+          no_longer : OnOk result (length cursor.new ≤ length cursor.old);
+          fits : IfOk result (λ found. found.height ≤ self.now.left);
+        } }
     {
         let Some(_opening) = cursor.sign(OPEN_PAREN) else {
             return Err(Stop::Syntax);

@@ -24,9 +24,11 @@ use std::alloc::Global;
 #[tactic(auto, using(crate::proofs::LowExpressions::statement_expr_below), unfolding(ix_descent::specs::Rule::run))]
 fn expression(alloc: Global, cursor: &mut Cursor<'_>, left: u32) -> Result<Begun, Stop>
     requires few { length cursor.old ≤ 200000 }
-    ensures reads { Follows (run (bind (the_expr (left - 1)) (λ f. pure (Run f))) cursor.old) result cursor.new }
-    ensures no_longer { OnOk result (length cursor.new ≤ length cursor.old) }
-    ensures fits { IfOk result (λ begun. begun_fits left begun) }
+    ensures { record {
+      reads : Follows (run (bind (the_expr (left - 1)) (λ f. pure (Run f))) cursor.old) result cursor.new;
+      no_longer : OnOk result (length cursor.new ≤ length cursor.old);
+      fits : IfOk result (λ begun. begun_fits left begun);
+    } }
 {
     let found = statement_expr(alloc, cursor, left.saturating_sub(1))?;
     Ok(Begun::Run(found))
@@ -41,9 +43,11 @@ fn named_or_run(
     locals: bool,
 ) -> Result<Begun, Stop>
     requires few { length cursor.old ≤ 200000 }
-    ensures reads { Follows (run (reading.named_or_run locals left) cursor.old) result cursor.new }
-    ensures no_longer { OnOk result (length cursor.new ≤ length cursor.old) }
-    ensures fits { IfOk result (λ begun. begun_fits left begun) }
+    ensures { record {
+      reads : Follows (run (reading.named_or_run locals left) cursor.old) result cursor.new;
+      no_longer : OnOk result (length cursor.new ≤ length cursor.old);
+      fits : IfOk result (λ begun. begun_fits left begun);
+    } }
 {
     let Some(name) = cursor.name(alloc)? else {
         return expression(alloc, cursor, left);
@@ -65,9 +69,11 @@ fn printed_or_named(
     locals: bool,
 ) -> Result<Begun, Stop>
     requires few { length cursor.old ≤ 200000 }
-    ensures reads { Follows (run (reading.printed_or_named prints locals left) cursor.old) result cursor.new }
-    ensures no_longer { OnOk result (length cursor.new ≤ length cursor.old) }
-    ensures fits { IfOk result (λ begun. begun_fits left begun) }
+    ensures { record {
+      reads : Follows (run (reading.printed_or_named prints locals left) cursor.old) result cursor.new;
+      no_longer : OnOk result (length cursor.new ≤ length cursor.old);
+      fits : IfOk result (λ begun. begun_fits left begun);
+    } }
 {
     if !prints {
         return named_or_run(alloc, cursor, left, locals);
@@ -91,9 +97,11 @@ fn based_or_named(
     prints: bool,
 ) -> Result<Begun, Stop>
     requires few { length cursor.old ≤ 200000 }
-    ensures reads { Follows (run (reading.based_or_named prints left) cursor.old) result cursor.new }
-    ensures no_longer { OnOk result (length cursor.new ≤ length cursor.old) }
-    ensures fits { IfOk result (λ begun. begun_fits left begun) }
+    ensures { record {
+      reads : Follows (run (reading.based_or_named prints left) cursor.old) result cursor.new;
+      no_longer : OnOk result (length cursor.new ≤ length cursor.old);
+      fits : IfOk result (λ begun. begun_fits left begun);
+    } }
 {
     if let Some(span) = cursor.sign(INT) {
         if left < 3 {
@@ -122,9 +130,11 @@ pub fn begun(
     locals: bool,
 ) -> Result<Begun, Stop>
     requires few { length cursor.old ≤ 200000 }
-    ensures reads { Follows (run (spec.begun prints locals left) cursor.old) result cursor.new }
-    ensures no_longer { OnOk result (length cursor.new ≤ length cursor.old) }
-    ensures fits { IfOk result (λ begun. begun_fits left begun) }
+    ensures { record {
+      reads : Follows (run (spec.begun prints locals left) cursor.old) result cursor.new;
+      no_longer : OnOk result (length cursor.new ≤ length cursor.old);
+      fits : IfOk result (λ begun. begun_fits left begun);
+    } }
 {
     if !locals {
         return printed_or_named(alloc, cursor, left, prints, false);

@@ -50,11 +50,15 @@ fn println_part(
     out: Ident,
     println: Ident,
 ) -> Result<Begun, Stop>
-    requires few { length cursor.old ≤ 200000 }
-    requires room { 1 ≤ left }
-    ensures reads { Follows (run (spec.println_part left system out println) cursor.old) result cursor.new }
-    ensures no_longer { OnOk result (length cursor.new ≤ length cursor.old) }
-    ensures fits { IfOk result (λ begun. begun_fits left begun) }
+    requires { record {
+      few : length cursor.old ≤ 200000;
+      room : 1 ≤ left;
+    } }
+    ensures { record {
+      reads : Follows (run (spec.println_part left system out println) cursor.old) result cursor.new;
+      no_longer : OnOk result (length cursor.new ≤ length cursor.old);
+      fits : IfOk result (λ begun. begun_fits left begun);
+    } }
 {
     if let Some(_opening) = cursor.sign(OPEN_PAREN) {
         cursor.advance();
@@ -73,11 +77,15 @@ fn out_part(
     system: Ident,
     out: Ident,
 ) -> Result<Begun, Stop>
-    requires few { length cursor.old ≤ 200000 }
-    requires room { 1 ≤ left }
-    ensures reads { Follows (run (spec.out_part left system out) cursor.old) result cursor.new }
-    ensures no_longer { OnOk result (length cursor.new ≤ length cursor.old) }
-    ensures fits { IfOk result (λ begun. begun_fits left begun) }
+    requires { record {
+      few : length cursor.old ≤ 200000;
+      room : 1 ≤ left;
+    } }
+    ensures { record {
+      reads : Follows (run (spec.out_part left system out) cursor.old) result cursor.new;
+      no_longer : OnOk result (length cursor.new ≤ length cursor.old);
+      fits : IfOk result (λ begun. begun_fits left begun);
+    } }
 {
     let Some(_dot) = cursor.sign(DOT) else {
         let object = named(alloc, system)?;
@@ -108,11 +116,15 @@ pub fn system_part(
     locals: bool,
     system: Ident,
 ) -> Result<Begun, Stop>
-    requires few { length cursor.old ≤ 200000 }
-    requires room { 1 ≤ left }
-    ensures reads { Follows (run (spec.system_part locals left system) cursor.old) result cursor.new }
-    ensures no_longer { OnOk result (length cursor.new ≤ length cursor.old) }
-    ensures fits { IfOk result (λ begun. begun_fits left begun) }
+    requires { record {
+      few : length cursor.old ≤ 200000;
+      room : 1 ≤ left;
+    } }
+    ensures { record {
+      reads : Follows (run (spec.system_part locals left system) cursor.old) result cursor.new;
+      no_longer : OnOk result (length cursor.new ≤ length cursor.old);
+      fits : IfOk result (λ begun. begun_fits left begun);
+    } }
 {
     let Some(_dot) = cursor.sign(DOT) else {
         return named_first(alloc, cursor, left, locals, system);

@@ -30,11 +30,15 @@ use std::alloc::Global;
 /// `"(" Expr ")"`
 #[tactic(auto, unfolding(ix_descent::specs::Rule::run, ix_descent::specs::StmtRules::condition))]
 fn condition(alloc: Global, cursor: &mut Cursor<'_>, left: u32) -> Result<Found, Stop>
-    requires few { length cursor.old ≤ 200000 }
-    requires room { 0 < left }
-    ensures reads { Follows (run (spec.condition left) cursor.old) result cursor.new }
-    ensures no_longer { OnOk result (length cursor.new ≤ length cursor.old) }
-    ensures fits { IfOk result (λ f. f.height + 1 ≤ left) }
+    requires { record {
+      few : length cursor.old ≤ 200000;
+      room : 0 < left;
+    } }
+    ensures { record {
+      reads : Follows (run (spec.condition left) cursor.old) result cursor.new;
+      no_longer : OnOk result (length cursor.new ≤ length cursor.old);
+      fits : IfOk result (λ f. f.height + 1 ≤ left);
+    } }
 {
     let Some(_opening) = cursor.sign(OPEN_PAREN) else {
         return Err(Stop::Syntax);
@@ -51,9 +55,11 @@ fn condition(alloc: Global, cursor: &mut Cursor<'_>, left: u32) -> Result<Found,
 /// `";"`, behind `break`
 #[tactic(auto, unfolding(ix_descent::specs::Rule::run))]
 pub fn break_rule(alloc: Global, cursor: &mut Cursor<'_>, start: Span) -> Result<FoundStmt, Stop>
-    ensures reads { Follows (run (take (a_sign SEMICOLON) true (λ end. pure (nodes.stmt_node kinds.Break 0 (the_span start end))) stop) cursor.old) result cursor.new }
-    ensures no_longer { OnOk result (length cursor.new ≤ length cursor.old) }
-    ensures fits { IfOk result (λ found. found.height ≤ 1) }
+    ensures { record {
+      reads : Follows (run (take (a_sign SEMICOLON) true (λ end. pure (nodes.stmt_node kinds.Break 0 (the_span start end))) stop) cursor.old) result cursor.new;
+      no_longer : OnOk result (length cursor.new ≤ length cursor.old);
+      fits : IfOk result (λ found. found.height ≤ 1);
+    } }
 {
     let Some(end) = cursor.sign(SEMICOLON) else {
         return Err(Stop::Syntax);
@@ -65,9 +71,11 @@ pub fn break_rule(alloc: Global, cursor: &mut Cursor<'_>, start: Span) -> Result
 /// `";"`, behind `continue`
 #[tactic(auto, unfolding(ix_descent::specs::Rule::run))]
 pub fn continue_rule(alloc: Global, cursor: &mut Cursor<'_>, start: Span) -> Result<FoundStmt, Stop>
-    ensures reads { Follows (run (take (a_sign SEMICOLON) true (λ end. pure (nodes.stmt_node kinds.Continue 0 (the_span start end))) stop) cursor.old) result cursor.new }
-    ensures no_longer { OnOk result (length cursor.new ≤ length cursor.old) }
-    ensures fits { IfOk result (λ found. found.height ≤ 1) }
+    ensures { record {
+      reads : Follows (run (take (a_sign SEMICOLON) true (λ end. pure (nodes.stmt_node kinds.Continue 0 (the_span start end))) stop) cursor.old) result cursor.new;
+      no_longer : OnOk result (length cursor.new ≤ length cursor.old);
+      fits : IfOk result (λ found. found.height ≤ 1);
+    } }
 {
     let Some(end) = cursor.sign(SEMICOLON) else {
         return Err(Stop::Syntax);
@@ -84,11 +92,15 @@ pub fn return_rule(
     left: u32,
     start: Span,
 ) -> Result<FoundStmt, Stop>
-    requires few { length cursor.old ≤ 200000 }
-    requires room { 0 < left }
-    ensures reads { Follows (run (spec.return_rule left start) cursor.old) result cursor.new }
-    ensures no_longer { OnOk result (length cursor.new ≤ length cursor.old) }
-    ensures fits { IfOk result (λ found. found.height ≤ left) }
+    requires { record {
+      few : length cursor.old ≤ 200000;
+      room : 0 < left;
+    } }
+    ensures { record {
+      reads : Follows (run (spec.return_rule left start) cursor.old) result cursor.new;
+      no_longer : OnOk result (length cursor.new ≤ length cursor.old);
+      fits : IfOk result (λ found. found.height ≤ left);
+    } }
 {
     if let Some(end) = cursor.sign(SEMICOLON) {
         cursor.advance();
@@ -110,9 +122,11 @@ fn throw_end(
     start: Span,
     name: Ident,
 ) -> Result<FoundStmt, Stop>
-    ensures reads { Follows (run (spec.throw_end start name) cursor.old) result cursor.new }
-    ensures no_longer { OnOk result (length cursor.new ≤ length cursor.old) }
-    ensures fits { IfOk result (λ found. found.height ≤ 2) }
+    ensures { record {
+      reads : Follows (run (spec.throw_end start name) cursor.old) result cursor.new;
+      no_longer : OnOk result (length cursor.new ≤ length cursor.old);
+      fits : IfOk result (λ found. found.height ≤ 2);
+    } }
 {
     let Some(_closing) = cursor.sign(CLOSE_PAREN) else {
         return Err(Stop::Syntax);
@@ -128,9 +142,11 @@ fn throw_end(
 /// `"new" Ident "(" [String] ")" ";"`, behind `throw`
 #[tactic(auto, unfolding(ix_descent::specs::Rule::run, ix_descent::specs::StmtRules::throw_rule))]
 pub fn throw_rule(alloc: Global, cursor: &mut Cursor<'_>, start: Span) -> Result<FoundStmt, Stop>
-    ensures reads { Follows (run (spec.throw_rule start) cursor.old) result cursor.new }
-    ensures no_longer { OnOk result (length cursor.new ≤ length cursor.old) }
-    ensures fits { IfOk result (λ found. found.height ≤ 2) }
+    ensures { record {
+      reads : Follows (run (spec.throw_rule start) cursor.old) result cursor.new;
+      no_longer : OnOk result (length cursor.new ≤ length cursor.old);
+      fits : IfOk result (λ found. found.height ≤ 2);
+    } }
 {
     let Some(_new) = cursor.sign(NEW) else {
         return Err(Stop::Syntax);
@@ -154,12 +170,16 @@ impl<F: Fn(Global, &mut Cursor<'_>, u32, bool) -> Result<FoundStmt, Stop>> State
     /// `{BStmt} "}"`, behind the opening brace
     #[tactic(auto, unfolding(ix_descent::specs::Rule::run, ix_descent::specs::ListRules::braces_of, ix_descent::specs::ListRules::next_inside))]
     fn statements(&self, cursor: &mut Cursor<'_>) -> Result<At<Stmts>, Stop>
-        requires parts { ReadsStatements self.now.left (F.pre self.now.part) (F.post self.now.part) }
-        requires few { length cursor.old ≤ 200000 }
-        requires room { 0 < self.now.left }
-        ensures reads { Follows (run (braces_of (spec.stmts_below self.now.left).block one_more none) cursor.old) result cursor.new }
-        ensures no_longer { OnOk result (length cursor.new ≤ length cursor.old) }
-        ensures fits { IfOk result (λ found. found.value.height + 1 ≤ self.now.left) }
+        requires { record {
+          parts : ReadsStatements self.now.left (F.pre self.now.part) (F.post self.now.part);
+          few : length cursor.old ≤ 200000;
+          room : 0 < self.now.left;
+        } }
+        ensures { record {
+          reads : Follows (run (braces_of (spec.stmts_below self.now.left).block one_more none) cursor.old) result cursor.new;
+          no_longer : OnOk result (length cursor.new ≤ length cursor.old);
+          fits : IfOk result (λ found. found.value.height + 1 ≤ self.now.left);
+        } }
     {
         let mut found = no_stmts(self.alloc);
         'reading: loop {
@@ -177,13 +197,17 @@ impl<F: Fn(Global, &mut Cursor<'_>, u32, bool) -> Result<FoundStmt, Stop>> State
     /// `{BStmt} "}"`, behind the opening brace
     #[tactic(auto, unfolding(ix_descent::specs::Rule::run, ix_descent::specs::StmtRules::block_rule))]
     pub fn block_rule(&self, cursor: &mut Cursor<'_>, left: Span) -> Result<FoundStmt, Stop>
-        requires parts { ReadsStatements self.now.left (F.pre self.now.part) (F.post self.now.part) }
-        requires few { length cursor.old ≤ 200000 }
-        requires number { self.now.left < 2 ^ 32 }
-        requires room { 0 < self.now.left }
-        ensures reads { Follows (run (spec.block_rule (spec.stmts_below self.now.left) left) cursor.old) result cursor.new }
-        ensures no_longer { OnOk result (length cursor.new ≤ length cursor.old) }
-        ensures fits { IfOk result (λ found. found.height ≤ self.now.left) }
+        requires { record {
+          parts : ReadsStatements self.now.left (F.pre self.now.part) (F.post self.now.part);
+          few : length cursor.old ≤ 200000;
+          number : self.now.left < 2 ^ 32;
+          room : 0 < self.now.left;
+        } }
+        ensures { record {
+          reads : Follows (run (spec.block_rule (spec.stmts_below self.now.left) left) cursor.old) result cursor.new;
+          no_longer : OnOk result (length cursor.new ≤ length cursor.old);
+          fits : IfOk result (λ found. found.height ≤ self.now.left);
+        } }
     {
         let found = self.statements(cursor)?;
         block_stmt(self.alloc, left, found.value, found.span)
@@ -198,14 +222,18 @@ impl<F: Fn(Global, &mut Cursor<'_>, u32, bool) -> Result<FoundStmt, Stop>> State
         condition: Found,
         found: FoundStmt,
     ) -> Result<FoundStmt, Stop>
-        requires parts { ReadsStatements self.now.left (F.pre self.now.part) (F.post self.now.part) }
-        requires few { length cursor.old ≤ 200000 }
-        requires number { self.now.left < 2 ^ 32 }
-        requires condition { condition.height + 1 ≤ self.now.left }
-        requires found { found.height + 1 ≤ self.now.left }
-        ensures reads { Follows (run (spec.else_part (spec.stmts_below self.now.left) start condition found) cursor.old) result cursor.new }
-        ensures no_longer { OnOk result (length cursor.new ≤ length cursor.old) }
-        ensures fits { IfOk result (λ found. found.height ≤ self.now.left) }
+        requires { record {
+          parts : ReadsStatements self.now.left (F.pre self.now.part) (F.post self.now.part);
+          few : length cursor.old ≤ 200000;
+          number : self.now.left < 2 ^ 32;
+          condition : condition.height + 1 ≤ self.now.left;
+          found : found.height + 1 ≤ self.now.left;
+        } }
+        ensures { record {
+          reads : Follows (run (spec.else_part (spec.stmts_below self.now.left) start condition found) cursor.old) result cursor.new;
+          no_longer : OnOk result (length cursor.new ≤ length cursor.old);
+          fits : IfOk result (λ found. found.height ≤ self.now.left);
+        } }
     {
         if let Some(_else) = cursor.sign(ELSE) {
             cursor.advance();
@@ -218,12 +246,16 @@ impl<F: Fn(Global, &mut Cursor<'_>, u32, bool) -> Result<FoundStmt, Stop>> State
     /// `"(" Expr ")" Stmt ["else" Stmt]`, behind `if`
     #[tactic(auto, unfolding(ix_descent::specs::Rule::run, ix_descent::specs::StmtRules::if_rule))]
     pub fn if_rule(&self, cursor: &mut Cursor<'_>, start: Span) -> Result<FoundStmt, Stop>
-        requires parts { ReadsStatements self.now.left (F.pre self.now.part) (F.post self.now.part) }
-        requires few { length cursor.old ≤ 200000 }
-        requires room { 0 < self.now.left }
-        ensures reads { Follows (run (spec.if_rule (spec.stmts_below self.now.left) self.now.left start) cursor.old) result cursor.new }
-        ensures no_longer { OnOk result (length cursor.new ≤ length cursor.old) }
-        ensures fits { IfOk result (λ found. found.height ≤ self.now.left) }
+        requires { record {
+          parts : ReadsStatements self.now.left (F.pre self.now.part) (F.post self.now.part);
+          few : length cursor.old ≤ 200000;
+          room : 0 < self.now.left;
+        } }
+        ensures { record {
+          reads : Follows (run (spec.if_rule (spec.stmts_below self.now.left) self.now.left start) cursor.old) result cursor.new;
+          no_longer : OnOk result (length cursor.new ≤ length cursor.old);
+          fits : IfOk result (λ found. found.height ≤ self.now.left);
+        } }
     {
         let condition = condition(self.alloc, cursor, self.left)?;
         let found = self.plain_part(cursor)?;
@@ -233,12 +265,16 @@ impl<F: Fn(Global, &mut Cursor<'_>, u32, bool) -> Result<FoundStmt, Stop>> State
     /// `"(" Expr ")" Stmt`, behind `while`
     #[tactic(auto, unfolding(ix_descent::specs::Rule::run, ix_descent::specs::StmtRules::while_rule))]
     pub fn while_rule(&self, cursor: &mut Cursor<'_>, start: Span) -> Result<FoundStmt, Stop>
-        requires parts { ReadsStatements self.now.left (F.pre self.now.part) (F.post self.now.part) }
-        requires few { length cursor.old ≤ 200000 }
-        requires room { 0 < self.now.left }
-        ensures reads { Follows (run (spec.while_rule (spec.stmts_below self.now.left) self.now.left start) cursor.old) result cursor.new }
-        ensures no_longer { OnOk result (length cursor.new ≤ length cursor.old) }
-        ensures fits { IfOk result (λ found. found.height ≤ self.now.left) }
+        requires { record {
+          parts : ReadsStatements self.now.left (F.pre self.now.part) (F.post self.now.part);
+          few : length cursor.old ≤ 200000;
+          room : 0 < self.now.left;
+        } }
+        ensures { record {
+          reads : Follows (run (spec.while_rule (spec.stmts_below self.now.left) self.now.left start) cursor.old) result cursor.new;
+          no_longer : OnOk result (length cursor.new ≤ length cursor.old);
+          fits : IfOk result (λ found. found.height ≤ self.now.left);
+        } }
     {
         let condition = condition(self.alloc, cursor, self.left)?;
         let found = self.plain_part(cursor)?;
@@ -248,12 +284,16 @@ impl<F: Fn(Global, &mut Cursor<'_>, u32, bool) -> Result<FoundStmt, Stop>> State
     /// `Stmt "while" "(" Expr ")" ";"`, behind `do`
     #[tactic(auto, unfolding(ix_descent::specs::Rule::run, ix_descent::specs::StmtRules::do_rule))]
     pub fn do_rule(&self, cursor: &mut Cursor<'_>, start: Span) -> Result<FoundStmt, Stop>
-        requires parts { ReadsStatements self.now.left (F.pre self.now.part) (F.post self.now.part) }
-        requires few { length cursor.old ≤ 200000 }
-        requires room { 0 < self.now.left }
-        ensures reads { Follows (run (spec.do_rule (spec.stmts_below self.now.left) self.now.left start) cursor.old) result cursor.new }
-        ensures no_longer { OnOk result (length cursor.new ≤ length cursor.old) }
-        ensures fits { IfOk result (λ found. found.height ≤ self.now.left) }
+        requires { record {
+          parts : ReadsStatements self.now.left (F.pre self.now.part) (F.post self.now.part);
+          few : length cursor.old ≤ 200000;
+          room : 0 < self.now.left;
+        } }
+        ensures { record {
+          reads : Follows (run (spec.do_rule (spec.stmts_below self.now.left) self.now.left start) cursor.old) result cursor.new;
+          no_longer : OnOk result (length cursor.new ≤ length cursor.old);
+          fits : IfOk result (λ found. found.height ≤ self.now.left);
+        } }
     {
         let found = self.plain_part(cursor)?;
         let Some(_while) = cursor.sign(WHILE) else {

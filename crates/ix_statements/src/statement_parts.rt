@@ -24,12 +24,16 @@ impl<F: Fn(Global, &mut Cursor<'_>, u32, bool) -> Result<FoundStmt, Stop>> State
     /// A statement that declares no locals.
     #[tactic(auto, using(crate::proofs::LowerStatements::lower_statements))]
     pub fn plain_part(&self, cursor: &mut Cursor<'_>) -> Result<FoundStmt, Stop>
-        requires parts { ReadsStatements self.now.left (F.pre self.now.part) (F.post self.now.part) }
-        requires few { length cursor.old ≤ 200000 }
-        requires room { 0 < self.now.left }
-        ensures reads { Follows (run (spec.stmts_below self.now.left).plain cursor.old) result cursor.new }
-        ensures shorter { OnOk result (length cursor.new < length cursor.old) }
-        ensures fits { IfOk result (λ found. found.height + 1 ≤ self.now.left) }
+        requires { record {
+          parts : ReadsStatements self.now.left (F.pre self.now.part) (F.post self.now.part);
+          few : length cursor.old ≤ 200000;
+          room : 0 < self.now.left;
+        } }
+        ensures { record {
+          reads : Follows (run (spec.stmts_below self.now.left).plain cursor.old) result cursor.new;
+          shorter : OnOk result (length cursor.new < length cursor.old);
+          fits : IfOk result (λ found. found.height + 1 ≤ self.now.left);
+        } }
     {
         (self.part)(self.alloc, cursor, self.left - 1, false)
     }
@@ -37,12 +41,16 @@ impl<F: Fn(Global, &mut Cursor<'_>, u32, bool) -> Result<FoundStmt, Stop>> State
     /// A statement of a block.
     #[tactic(auto, using(crate::proofs::LowerStatements::lower_statements))]
     pub fn block_part(&self, cursor: &mut Cursor<'_>) -> Result<FoundStmt, Stop>
-        requires parts { ReadsStatements self.now.left (F.pre self.now.part) (F.post self.now.part) }
-        requires few { length cursor.old ≤ 200000 }
-        requires room { 0 < self.now.left }
-        ensures reads { Follows (run (spec.stmts_below self.now.left).block cursor.old) result cursor.new }
-        ensures shorter { OnOk result (length cursor.new < length cursor.old) }
-        ensures fits { IfOk result (λ found. found.height + 1 ≤ self.now.left) }
+        requires { record {
+          parts : ReadsStatements self.now.left (F.pre self.now.part) (F.post self.now.part);
+          few : length cursor.old ≤ 200000;
+          room : 0 < self.now.left;
+        } }
+        ensures { record {
+          reads : Follows (run (spec.stmts_below self.now.left).block cursor.old) result cursor.new;
+          shorter : OnOk result (length cursor.new < length cursor.old);
+          fits : IfOk result (λ found. found.height + 1 ≤ self.now.left);
+        } }
     {
         (self.part)(self.alloc, cursor, self.left - 1, true)
     }

@@ -27,9 +27,11 @@ fn begun_statement(
     locals: bool,
 ) -> Result<FoundStmt, Stop>
     requires few { length cursor.old ≤ 200000 }
-    ensures reads { Follows (run (reading.begun_stmt locals left) cursor.old) result cursor.new }
-    ensures shorter { OnOk result (length cursor.new < length cursor.old) }
-    ensures fits { IfOk result (λ found. found.height ≤ left) }
+    ensures { record {
+      reads : Follows (run (reading.begun_stmt locals left) cursor.old) result cursor.new;
+      shorter : OnOk result (length cursor.new < length cursor.old);
+      fits : IfOk result (λ found. found.height ≤ left);
+    } }
 {
     let begun = begun(alloc, cursor, left, true, locals)?;
     finished(alloc, cursor, left, begun)
@@ -44,9 +46,11 @@ fn jump_or_begun(
     locals: bool,
 ) -> Result<FoundStmt, Stop>
     requires few { length cursor.old ≤ 200000 }
-    ensures reads { Follows (run (reading.jump_or_begun locals left) cursor.old) result cursor.new }
-    ensures shorter { OnOk result (length cursor.new < length cursor.old) }
-    ensures fits { IfOk result (λ found. found.height ≤ left) }
+    ensures { record {
+      reads : Follows (run (reading.jump_or_begun locals left) cursor.old) result cursor.new;
+      shorter : OnOk result (length cursor.new < length cursor.old);
+      fits : IfOk result (λ found. found.height ≤ left);
+    } }
 {
     if let Some(start) = cursor.sign(BREAK) {
         if left < 1 {
@@ -83,11 +87,15 @@ impl<F: Fn(Global, &mut Cursor<'_>, u32, bool) -> Result<FoundStmt, Stop>> State
     /// `while`, `do` or `for`, or another statement
     #[tactic(auto, unfolding(ix_descent::specs::Rule::run))]
     fn loop_or_other(&self, cursor: &mut Cursor<'_>, locals: bool) -> Result<FoundStmt, Stop>
-        requires parts { ReadsStatements self.now.left (F.pre self.now.part) (F.post self.now.part) }
-        requires few { length cursor.old ≤ 200000 }
-        ensures reads { Follows (run (reading.loop_or_other (spec.stmts_below self.now.left) locals self.now.left) cursor.old) result cursor.new }
-        ensures shorter { OnOk result (length cursor.new < length cursor.old) }
-        ensures fits { IfOk result (λ found. found.height ≤ self.now.left) }
+        requires { record {
+          parts : ReadsStatements self.now.left (F.pre self.now.part) (F.post self.now.part);
+          few : length cursor.old ≤ 200000;
+        } }
+        ensures { record {
+          reads : Follows (run (reading.loop_or_other (spec.stmts_below self.now.left) locals self.now.left) cursor.old) result cursor.new;
+          shorter : OnOk result (length cursor.new < length cursor.old);
+          fits : IfOk result (λ found. found.height ≤ self.now.left);
+        } }
     {
         if let Some(start) = cursor.sign(WHILE) {
             if self.left < 2 {
@@ -116,11 +124,15 @@ impl<F: Fn(Global, &mut Cursor<'_>, u32, bool) -> Result<FoundStmt, Stop>> State
     /// `Stmt`, or where locals may be declared `BStmt`
     #[tactic(auto, unfolding(ix_descent::specs::Rule::run, ix_descent::specs::StmtRules::stmt_of))]
     fn statement(&self, cursor: &mut Cursor<'_>, locals: bool) -> Result<FoundStmt, Stop>
-        requires parts { ReadsStatements self.now.left (F.pre self.now.part) (F.post self.now.part) }
-        requires few { length cursor.old ≤ 200000 }
-        ensures reads { Follows (run (spec.stmt_of (spec.stmts_below self.now.left) locals self.now.left) cursor.old) result cursor.new }
-        ensures shorter { OnOk result (length cursor.new < length cursor.old) }
-        ensures fits { IfOk result (λ found. found.height ≤ self.now.left) }
+        requires { record {
+          parts : ReadsStatements self.now.left (F.pre self.now.part) (F.post self.now.part);
+          few : length cursor.old ≤ 200000;
+        } }
+        ensures { record {
+          reads : Follows (run (spec.stmt_of (spec.stmts_below self.now.left) locals self.now.left) cursor.old) result cursor.new;
+          shorter : OnOk result (length cursor.new < length cursor.old);
+          fits : IfOk result (λ found. found.height ≤ self.now.left);
+        } }
     {
         if let Some(start) = cursor.sign(OPEN_BRACE) {
             if self.left < 1 {
@@ -155,9 +167,11 @@ fn statement(
     locals: bool,
 ) -> Result<FoundStmt, Stop>
     requires few { length cursor.old ≤ 200000 }
-    ensures reads { Follows (run (reading.stmt_rule locals left) cursor.old) result cursor.new }
-    ensures shorter { OnOk result (length cursor.new < length cursor.old) }
-    ensures fits { IfOk result (λ found. found.height ≤ left) }
+    ensures { record {
+      reads : Follows (run (reading.stmt_rule locals left) cursor.old) result cursor.new;
+      shorter : OnOk result (length cursor.new < length cursor.old);
+      fits : IfOk result (λ found. found.height ≤ left);
+    } }
 {
     let rules = Statements {
         alloc,
@@ -170,9 +184,11 @@ fn statement(
 /// A statement of a block, of a height of at most `left`.
 pub fn block_statement(alloc: Global, cursor: &mut Cursor<'_>, left: u32) -> Result<FoundStmt, Stop>
     requires few { length cursor.old ≤ 200000 }
-    ensures reads { Follows (run (spec.block_statement left) cursor.old) result cursor.new }
-    ensures shorter { OnOk result (length cursor.new < length cursor.old) }
-    ensures fits { IfOk result (λ found. found.height ≤ left) }
+    ensures { record {
+      reads : Follows (run (spec.block_statement left) cursor.old) result cursor.new;
+      shorter : OnOk result (length cursor.new < length cursor.old);
+      fits : IfOk result (λ found. found.height ≤ left);
+    } }
 {
     statement(alloc, cursor, left, true)
 }
