@@ -106,9 +106,11 @@ fn declare_further<'a>(
     decls: &'a [LocalDecl],
 ) -> Result<(), AllocError>
     requires { scopes.old.next + (spec.all_declared (map (declared.further first.now) decls.now)).declares < 2 ^ 32 }
-    ensures notes { OnOk result (notes.new ≡ notes.old ++ (spec.all_declared (map (declared.further first.now) decls.now)).notes (here world.now scopes.old)) }
-    ensures scope { OnOk result (here world.now scopes.new ≡ spec.after (spec.all_declared (map (declared.further first.now) decls.now)) (here world.now scopes.old)) }
-    ensures keeps { OnOk result (Extends scopes.old scopes.new) }
+    ensures { record {
+      notes : OnOk result (notes.new ≡ notes.old ++ (spec.all_declared (map (declared.further first.now) decls.now)).notes (here world.now scopes.old));
+      scope : OnOk result (here world.now scopes.new ≡ spec.after (spec.all_declared (map (declared.further first.now) decls.now)) (here world.now scopes.old));
+      keeps : OnOk result (Extends scopes.old scopes.new);
+    } }
 {
     let begun = begin_with(alloc, first)?;
     for decl in decls {
@@ -125,11 +127,15 @@ fn declare_one_more<'a>(
     begun: &Begun<'_>,
     decl: &'a LocalDecl,
 ) -> Result<(), AllocError>
-    requires begins { Begins begun.now }
-    requires room { scopes.old.next + 1 < 2 ^ 32 }
-    ensures notes { OnOk result (notes.new ≡ notes.old ++ (spec.declared (declared.further begun.now.first.now decl.now)).notes (here world.now scopes.old)) }
-    ensures scope { OnOk result (here world.now scopes.new ≡ spec.after (spec.declared (declared.further begun.now.first.now decl.now)) (here world.now scopes.old)) }
-    ensures keeps { OnOk result (Extends scopes.old scopes.new) }
+    requires { record {
+      begins : Begins begun.now;
+      room : scopes.old.next + 1 < 2 ^ 32;
+    } }
+    ensures { record {
+      notes : OnOk result (notes.new ≡ notes.old ++ (spec.declared (declared.further begun.now.first.now decl.now)).notes (here world.now scopes.old));
+      scope : OnOk result (here world.now scopes.new ≡ spec.after (spec.declared (declared.further begun.now.first.now decl.now)) (here world.now scopes.old));
+      keeps : OnOk result (Extends scopes.old scopes.new);
+    } }
 {
     let own = further_annotations(alloc, begun, decl)?;
     declare(alloc, world, scopes, notes, &own, decl)
@@ -143,9 +149,11 @@ fn declare_first<'a>(
     decl: &'a LocalDecl,
 ) -> Result<(), AllocError>
     requires { scopes.old.next + 1 < 2 ^ 32 }
-    ensures notes { OnOk result (notes.new ≡ notes.old ++ (spec.declared decl.now).notes (here world.now scopes.old)) }
-    ensures scope { OnOk result (here world.now scopes.new ≡ spec.after (spec.declared decl.now) (here world.now scopes.old)) }
-    ensures keeps { OnOk result (Extends scopes.old scopes.new) }
+    ensures { record {
+      notes : OnOk result (notes.new ≡ notes.old ++ (spec.declared decl.now).notes (here world.now scopes.old));
+      scope : OnOk result (here world.now scopes.new ≡ spec.after (spec.declared decl.now) (here world.now scopes.old));
+      keeps : OnOk result (Extends scopes.old scopes.new);
+    } }
 {
     let own = own_annotations(alloc, decl)?;
     declare(alloc, world, scopes, notes, &own, decl)
@@ -184,9 +192,11 @@ pub fn statement<'a>(
     s: &'a Stmt,
 ) -> Result<(), AllocError>
     requires { scopes.old.next + (spec.telling s.now).declares < 2 ^ 32 }
-    ensures notes { OnOk result (notes.new ≡ notes.old ++ (spec.telling s.now).notes (here world.now scopes.old)) }
-    ensures scope { OnOk result (here world.now scopes.new ≡ spec.after (spec.telling s.now) (here world.now scopes.old)) }
-    ensures keeps { OnOk result (Extends scopes.old scopes.new) }
+    ensures { record {
+      notes : OnOk result (notes.new ≡ notes.old ++ (spec.telling s.now).notes (here world.now scopes.old));
+      scope : OnOk result (here world.now scopes.new ≡ spec.after (spec.telling s.now) (here world.now scopes.old));
+      keeps : OnOk result (Extends scopes.old scopes.new);
+    } }
 {
     statement_kind(alloc, world, scopes, notes, &s.kind, s.span)
 }
@@ -201,9 +211,11 @@ pub fn statements<'a>(
     ss: &'a [Stmt],
 ) -> Result<(), AllocError>
     requires { scopes.old.next + (spec.all_told (map spec.telling ss.now)).declares < 2 ^ 32 }
-    ensures notes { OnOk result (notes.new ≡ notes.old ++ (spec.all_told (map spec.telling ss.now)).notes (here world.now scopes.old)) }
-    ensures scope { OnOk result (here world.now scopes.new ≡ spec.after (spec.all_told (map spec.telling ss.now)) (here world.now scopes.old)) }
-    ensures keeps { OnOk result (Extends scopes.old scopes.new) }
+    ensures { record {
+      notes : OnOk result (notes.new ≡ notes.old ++ (spec.all_told (map spec.telling ss.now)).notes (here world.now scopes.old));
+      scope : OnOk result (here world.now scopes.new ≡ spec.after (spec.all_told (map spec.telling ss.now)) (here world.now scopes.old));
+      keeps : OnOk result (Extends scopes.old scopes.new);
+    } }
 {
     for s in ss {
         statement(alloc, world, scopes, notes, s)?;
@@ -222,9 +234,11 @@ fn looped<'a>(
     s: &'a Stmt,
 ) -> Result<(), AllocError>
     requires { scopes.old.next + (spec.telling s.now).declares < 2 ^ 32 }
-    ensures notes { OnOk result (notes.new ≡ notes.old ++ (spec.looped (spec.telling s.now)).notes (here world.now scopes.old)) }
-    ensures scope { OnOk result (here world.now scopes.new ≡ spec.after (spec.looped (spec.telling s.now)) (here world.now scopes.old)) }
-    ensures keeps { OnOk result (Extends scopes.old scopes.new) }
+    ensures { record {
+      notes : OnOk result (notes.new ≡ notes.old ++ (spec.looped (spec.telling s.now)).notes (here world.now scopes.old));
+      scope : OnOk result (here world.now scopes.new ≡ spec.after (spec.looped (spec.telling s.now)) (here world.now scopes.old));
+      keeps : OnOk result (Extends scopes.old scopes.new);
+    } }
 {
     let outside = scopes.in_loop;
     scopes.in_loop = true;

@@ -44,9 +44,11 @@ fn local_declaration(
     own: &Annotations<'_>,
     decl: &LocalDecl,
 ) -> Result<Declaration, AllocError>
-    ensures ty { IfOk result (λ d. d.ty ≡ (spec.local_declaration (annotated own.now decl.now) (here world.now scopes.now)).ty) }
-    ensures claims { IfOk result (λ d. d.claims ≡ (spec.local_declaration (annotated own.now decl.now) (here world.now scopes.now)).claims) }
-    ensures notes { OnOk result (notes.new ≡ notes.old ++ (spec.local_declaration (annotated own.now decl.now) (here world.now scopes.now)).notes) }
+    ensures { record {
+      ty : IfOk result (λ d. d.ty ≡ (spec.local_declaration (annotated own.now decl.now) (here world.now scopes.now)).ty);
+      claims : IfOk result (λ d. d.claims ≡ (spec.local_declaration (annotated own.now decl.now) (here world.now scopes.now)).claims);
+      notes : OnOk result (notes.new ≡ notes.old ++ (spec.local_declaration (annotated own.now decl.now) (here world.now scopes.now)).notes);
+    } }
 {
     let names = InAnnotation {
         world,
@@ -83,16 +85,18 @@ fn insert(
 /// Brings a local in scope. Of two with one name the first stays the one that is meant.
 #[tactic(auto, using(crate::proofs::NewLocals::unknown_local, crate::proofs::NewLocals::one_more_name))]
 fn bind(alloc: Global, scopes: &mut Scopes<'_>, name: &str, local: Local) -> Result<(), AllocError>
-    ensures names { OnOk result (names scopes.new ≡ (if is_some (meant name.now (names scopes.old)) then names scopes.old else names scopes.old ++ local_known_as name.now local ∷ [])) }
-    ensures keeps { OnOk result (Extends scopes.old scopes.new) }
-    ensures next { scopes.new.next ≡ scopes.old.next }
-    ensures class { scopes.new.class ≡ scopes.old.class }
-    ensures has_object { scopes.new.has_object ≡ scopes.old.has_object }
-    ensures in_constructor { scopes.new.in_constructor ≡ scopes.old.in_constructor }
-    ensures in_loop { scopes.new.in_loop ≡ scopes.old.in_loop }
-    ensures names_fields { scopes.new.names_fields ≡ scopes.old.names_fields }
-    ensures result { scopes.new.result ≡ scopes.old.result }
-    ensures pending { scopes.new.pending ≡ scopes.old.pending }
+    ensures { record {
+      names : OnOk result (names scopes.new ≡ (if is_some (meant name.now (names scopes.old)) then names scopes.old else names scopes.old ++ local_known_as name.now local ∷ []));
+      keeps : OnOk result (Extends scopes.old scopes.new);
+      next : scopes.new.next ≡ scopes.old.next;
+      class : scopes.new.class ≡ scopes.old.class;
+      has_object : scopes.new.has_object ≡ scopes.old.has_object;
+      in_constructor : scopes.new.in_constructor ≡ scopes.old.in_constructor;
+      in_loop : scopes.new.in_loop ≡ scopes.old.in_loop;
+      names_fields : scopes.new.names_fields ≡ scopes.old.names_fields;
+      result : scopes.new.result ≡ scopes.old.result;
+      pending : scopes.new.pending ≡ scopes.old.pending;
+    } }
 {
     if scopes.meant(name).is_some() {
         return Ok(());
@@ -110,9 +114,11 @@ pub fn declare<'a>(
     decl: &'a LocalDecl,
 ) -> Result<(), AllocError>
     requires { scopes.old.next + 1 < 2 ^ 32 }
-    ensures notes { OnOk result (notes.new ≡ notes.old ++ (spec.declared (annotated own.now decl.now)).notes (here world.now scopes.old)) }
-    ensures scope { OnOk result (here world.now scopes.new ≡ spec.after (spec.declared (annotated own.now decl.now)) (here world.now scopes.old)) }
-    ensures keeps { OnOk result (Extends scopes.old scopes.new) }
+    ensures { record {
+      notes : OnOk result (notes.new ≡ notes.old ++ (spec.declared (annotated own.now decl.now)).notes (here world.now scopes.old));
+      scope : OnOk result (here world.now scopes.new ≡ spec.after (spec.declared (annotated own.now decl.now)) (here world.now scopes.old));
+      keeps : OnOk result (Extends scopes.old scopes.new);
+    } }
 {
     let Declaration { ty, claims } = local_declaration(alloc, world, scopes, notes, own, decl)?;
     let name = decl.name.text.as_str();

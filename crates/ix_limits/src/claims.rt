@@ -17,10 +17,12 @@ use ix_tree::{Annot, ClassDecl, LocalDecl, Member, MethodDecl, Stmt, StmtKind, T
 /// How much annotations count behind so many claims; an error at the one that passes the limit.
 fn count_on(before: usize, annots: &[Annot]) -> Result<usize, Passed>
     requires { before ≤ most_claims }
-    ensures few { IfOk result (λ count. count ≤ most_claims) }
-    ensures counted { IfOk result (λ count. count ≡ counts.counted_on before annots.now) }
-    ensures none { IfOk result (λ _. spec.past_claims_in before annots.now ≡ None) }
-    ensures passed { IfErr result (λ passed. spec.past_claims_in before annots.now ≡ Some (shown passed)) }
+    ensures { record {
+      few : IfOk result (λ count. count ≤ most_claims);
+      counted : IfOk result (λ count. count ≡ counts.counted_on before annots.now);
+      none : IfOk result (λ _. spec.past_claims_in before annots.now ≡ None);
+      passed : IfErr result (λ passed. spec.past_claims_in before annots.now ≡ Some (shown passed));
+    } }
 {
     let mut count = before;
     for annot in annots {

@@ -47,8 +47,10 @@ fn call_parent(
     span: Span,
     body: &mut Body,
 ) -> Result<(), Stop>
-    ensures body { OnOk result (spec.parent_call (shown_site site.now) parent args.now span body.old ≡ Ok body.new) }
-    ensures limit { (which : Which) → IsErrOf result (stop.Limit which) → spec.parent_call (shown_site site.now) parent args.now span body.old ≡ Err which }
+    ensures { record {
+      limit : (which : Which) → IsErrOf result (stop.Limit which) → spec.parent_call (shown_site site.now) parent args.now span body.old ≡ Err which;
+      body : OnOk result (spec.parent_call (shown_site site.now) parent args.now span body.old ≡ Ok body.new);
+    } }
 {
     let assigned = assigned_by_all(alloc, site, args, body)?;
     let top = body.made.free;
@@ -74,8 +76,10 @@ fn super_call(
     span: Span,
     body: &mut Body,
 ) -> Result<(), Stop>
-    ensures body { OnOk result (spec.super_call (shown_site site.now) parent args.now span body.old ≡ Ok body.new) }
-    ensures limit { (which : Which) → IsErrOf result (stop.Limit which) → spec.super_call (shown_site site.now) parent args.now span body.old ≡ Err which }
+    ensures { record {
+      limit : (which : Which) → IsErrOf result (stop.Limit which) → spec.super_call (shown_site site.now) parent args.now span body.old ≡ Err which;
+      body : OnOk result (spec.super_call (shown_site site.now) parent args.now span body.old ≡ Ok body.new);
+    } }
 {
     match parent {
         None => Ok(()),
@@ -91,8 +95,10 @@ fn initialise(
     decl: &LocalDecl,
     body: &mut Body,
 ) -> Result<(), Stop>
-    ensures body { OnOk result (spec.field_initialised (shown_site site.now) field decl.now decl.now.init body.old ≡ Ok body.new) }
-    ensures limit { (which : Which) → IsErrOf result (stop.Limit which) → spec.field_initialised (shown_site site.now) field decl.now decl.now.init body.old ≡ Err which }
+    ensures { record {
+      limit : (which : Which) → IsErrOf result (stop.Limit which) → spec.field_initialised (shown_site site.now) field decl.now decl.now.init body.old ≡ Err which;
+      body : OnOk result (spec.field_initialised (shown_site site.now) field decl.now decl.now.init body.old ≡ Ok body.new);
+    } }
 {
     match &decl.init {
         None => Ok(()),
@@ -114,8 +120,10 @@ fn initialise_member(
     decl: &LocalDecl,
     body: &mut Body,
 ) -> Result<(), Stop>
-    ensures body { OnOk result (spec.member_initialised (shown_site site.now) field decl.now body.old ≡ Ok body.new) }
-    ensures limit { (which : Which) → IsErrOf result (stop.Limit which) → spec.member_initialised (shown_site site.now) field decl.now body.old ≡ Err which }
+    ensures { record {
+      limit : (which : Which) → IsErrOf result (stop.Limit which) → spec.member_initialised (shown_site site.now) field decl.now body.old ≡ Err which;
+      body : OnOk result (spec.member_initialised (shown_site site.now) field decl.now body.old ≡ Ok body.new);
+    } }
 {
     if decl.mods.get().is_static {
         return Ok(());
@@ -131,8 +139,10 @@ fn initialise_all(
     members: &[Member],
     body: &mut Body,
 ) -> Result<(), Stop>
-    ensures body { OnOk result (spec.fields_initialised (shown_site site.now) first members.now body.old ≡ Ok body.new) }
-    ensures limit { (which : Which) → IsErrOf result (stop.Limit which) → spec.fields_initialised (shown_site site.now) first members.now body.old ≡ Err which }
+    ensures { record {
+      limit : (which : Which) → IsErrOf result (stop.Limit which) → spec.fields_initialised (shown_site site.now) first members.now body.old ≡ Err which;
+      body : OnOk result (spec.fields_initialised (shown_site site.now) first members.now body.old ≡ Ok body.new);
+    } }
 {
     let mut field = first;
     for member in members {
@@ -153,8 +163,10 @@ pub fn begin_constructor(
     span: Span,
     body: &mut Body,
 ) -> Result<(), Stop>
-    ensures body { OnOk result (spec.constructor_start (shown_site site.now) (shown_home home.now) args.now span body.old ≡ Ok body.new) }
-    ensures limit { (which : Which) → IsErrOf result (stop.Limit which) → spec.constructor_start (shown_site site.now) (shown_home home.now) args.now span body.old ≡ Err which }
+    ensures { record {
+      limit : (which : Which) → IsErrOf result (stop.Limit which) → spec.constructor_start (shown_site site.now) (shown_home home.now) args.now span body.old ≡ Err which;
+      body : OnOk result (spec.constructor_start (shown_site site.now) (shown_home home.now) args.now span body.old ≡ Ok body.new);
+    } }
 {
     super_call(alloc, site, home.parent, args, span, body)?;
     initialise_all(alloc, site, home.field, home.members, body)

@@ -58,8 +58,10 @@ fn begin(
     decl: &MethodDecl,
     body: &mut Body,
 ) -> Result<(), Stop>
-    ensures body { OnOk result (spec.written_start (shown_site site.now) (shown_home home.now) decl.now body.old ≡ Ok body.new) }
-    ensures limit { (which : Which) → IsErrOf result (stop.Limit which) → spec.written_start (shown_site site.now) (shown_home home.now) decl.now body.old ≡ Err which }
+    ensures { record {
+      limit : (which : Which) → IsErrOf result (stop.Limit which) → spec.written_start (shown_site site.now) (shown_home home.now) decl.now body.old ≡ Err which;
+      body : OnOk result (spec.written_start (shown_site site.now) (shown_home home.now) decl.now body.old ≡ Ok body.new);
+    } }
 {
     if !decl.constructor {
         return Ok(());
@@ -75,8 +77,10 @@ fn written_body(
     decl: &MethodDecl,
     free: u32,
 ) -> Result<Body, Stop>
-    ensures body { IfOk result (λ body. spec.written_body (shown_site site.now) (shown_home home.now) decl.now free ≡ Ok body) }
-    ensures limit { (which : Which) → IsErrOf result (stop.Limit which) → spec.written_body (shown_site site.now) (shown_home home.now) decl.now free ≡ Err which }
+    ensures { record {
+      body : IfOk result (λ body. spec.written_body (shown_site site.now) (shown_home home.now) decl.now free ≡ Ok body);
+      limit : (which : Which) → IsErrOf result (stop.Limit which) → spec.written_body (shown_site site.now) (shown_home home.now) decl.now free ≡ Err which;
+    } }
 {
     let mut body = start(alloc, free);
     begin(alloc, site, home, decl, &mut body)?;
@@ -85,8 +89,10 @@ fn written_body(
 }
 
 fn default_body(alloc: Global, site: &Site<'_>, home: &Home<'_>, span: Span) -> Result<Body, Stop>
-    ensures body { IfOk result (λ body. spec.constructor_start (shown_site site.now) (shown_home home.now) [] span (spec.start 1) ≡ Ok body) }
-    ensures limit { (which : Which) → IsErrOf result (stop.Limit which) → spec.constructor_start (shown_site site.now) (shown_home home.now) [] span (spec.start 1) ≡ Err which }
+    ensures { record {
+      body : IfOk result (λ body. spec.constructor_start (shown_site site.now) (shown_home home.now) [] span (spec.start 1) ≡ Ok body);
+      limit : (which : Which) → IsErrOf result (stop.Limit which) → spec.constructor_start (shown_site site.now) (shown_home home.now) [] span (spec.start 1) ≡ Err which;
+    } }
 {
     let mut body = start(alloc, 1);
     begin_constructor(alloc, site, home, &[], span, &mut body)?;
@@ -95,8 +101,10 @@ fn default_body(alloc: Global, site: &Site<'_>, home: &Home<'_>, span: Span) -> 
 
 /// The method with its body, if it has no more operations than it may.
 fn with_body(head: Method, body: Body) -> Result<Method, Stop>
-    ensures method { IfOk result (λ method. spec.with_body head body ≡ Ok method) }
-    ensures limit { (which : Which) → IsErrOf result (stop.Limit which) → spec.with_body head body ≡ Err which }
+    ensures { record {
+      method : IfOk result (λ method. spec.with_body head body ≡ Ok method);
+      limit : (which : Which) → IsErrOf result (stop.Limit which) → spec.with_body head body ≡ Err which;
+    } }
 {
     let Body {
         made,
@@ -239,8 +247,10 @@ pub fn written<'t>(
     home: &Home<'t>,
     decl: &MethodDecl,
 ) -> Result<Method, Stop>
-    ensures method { IfOk result (λ method. spec.written_method (shown_tables tables.now) (shown_home home.now) decl.now ≡ Ok method) }
-    ensures limit { (which : Which) → IsErrOf result (stop.Limit which) → spec.written_method (shown_tables tables.now) (shown_home home.now) decl.now ≡ Err which }
+    ensures { record {
+      method : IfOk result (λ method. spec.written_method (shown_tables tables.now) (shown_home home.now) decl.now ≡ Ok method);
+      limit : (which : Which) → IsErrOf result (stop.Limit which) → spec.written_method (shown_tables tables.now) (shown_home home.now) decl.now ≡ Err which;
+    } }
 {
     if loops(decl.body.as_slice(), 0) > MOST_LOOPS {
         return Err(Stop::Limit(Which::Loops));
@@ -267,8 +277,10 @@ pub fn default_constructor<'t>(
     home: &Home<'t>,
     span: Span,
 ) -> Result<Method, Stop>
-    ensures method { IfOk result (λ method. spec.default (shown_tables tables.now) (shown_home home.now) span ≡ Ok method) }
-    ensures limit { (which : Which) → IsErrOf result (stop.Limit which) → spec.default (shown_tables tables.now) (shown_home home.now) span ≡ Err which }
+    ensures { record {
+      method : IfOk result (λ method. spec.default (shown_tables tables.now) (shown_home home.now) span ≡ Ok method);
+      limit : (which : Which) → IsErrOf result (stop.Limit which) → spec.default (shown_tables tables.now) (shown_home home.now) span ≡ Err which;
+    } }
 {
     let head = default_head(alloc, home, span)?;
     let site = Site {

@@ -53,8 +53,10 @@ fn placed_method<'t>(
     home: &Home<'t>,
     decl: &MethodDecl,
 ) -> Result<Method, LowerError>
-    ensures method { IfOk result (λ method. spec.placed decl.now.name.span (spec.written_method (shown_tables tables.now) (shown_home home.now) decl.now) ≡ Ok method) }
-    ensures limit { (which : Which) (place : ℕ) → IsErrOf result (error.Limit which place) → spec.placed decl.now.name.span (spec.written_method (shown_tables tables.now) (shown_home home.now) decl.now) ≡ Err (record { which = which; place = place }) }
+    ensures { record {
+      method : IfOk result (λ method. spec.placed decl.now.name.span (spec.written_method (shown_tables tables.now) (shown_home home.now) decl.now) ≡ Ok method);
+      limit : (which : Which) (place : ℕ) → IsErrOf result (error.Limit which place) → spec.placed decl.now.name.span (spec.written_method (shown_tables tables.now) (shown_home home.now) decl.now) ≡ Err (record { which = which; place = place });
+    } }
 {
     match written(alloc, tables, home, decl) {
         Ok(method) => Ok(method),
@@ -70,8 +72,10 @@ fn placed_default<'t>(
     home: &Home<'t>,
     span: Span,
 ) -> Result<Method, LowerError>
-    ensures method { IfOk result (λ method. spec.placed span (spec.default (shown_tables tables.now) (shown_home home.now) span) ≡ Ok method) }
-    ensures limit { (which : Which) (place : ℕ) → IsErrOf result (error.Limit which place) → spec.placed span (spec.default (shown_tables tables.now) (shown_home home.now) span) ≡ Err (record { which = which; place = place }) }
+    ensures { record {
+      method : IfOk result (λ method. spec.placed span (spec.default (shown_tables tables.now) (shown_home home.now) span) ≡ Ok method);
+      limit : (which : Which) (place : ℕ) → IsErrOf result (error.Limit which place) → spec.placed span (spec.default (shown_tables tables.now) (shown_home home.now) span) ≡ Err (record { which = which; place = place });
+    } }
 {
     match default_constructor(alloc, tables, home, span) {
         Ok(method) => Ok(method),
@@ -93,8 +97,10 @@ fn add_methods<'t>(
     home: &Home<'t>,
     methods: &mut List<Method>,
 ) -> Result<(), LowerError>
-    ensures methods { OnOk result (spec.methods_in (shown_tables tables.now) (shown_home home.now) home.now.members.now methods.old ≡ Ok methods.new) }
-    ensures limit { (which : Which) (place : ℕ) → IsErrOf result (error.Limit which place) → spec.methods_in (shown_tables tables.now) (shown_home home.now) home.now.members.now methods.old ≡ Err (record { which = which; place = place }) }
+    ensures { record {
+      limit : (which : Which) (place : ℕ) → IsErrOf result (error.Limit which place) → spec.methods_in (shown_tables tables.now) (shown_home home.now) home.now.members.now methods.old ≡ Err (record { which = which; place = place });
+      methods : OnOk result (spec.methods_in (shown_tables tables.now) (shown_home home.now) home.now.members.now methods.old ≡ Ok methods.new);
+    } }
 {
     for member in home.members {
         if let Member::Method(decl) = member {
@@ -113,8 +119,10 @@ fn add_default<'t>(
     span: Span,
     methods: &mut List<Method>,
 ) -> Result<(), LowerError>
-    ensures methods { OnOk result (spec.default_of (shown_tables tables.now) (shown_home home.now) span methods.old ≡ Ok methods.new) }
-    ensures limit { (which : Which) (place : ℕ) → IsErrOf result (error.Limit which place) → spec.default_of (shown_tables tables.now) (shown_home home.now) span methods.old ≡ Err (record { which = which; place = place }) }
+    ensures { record {
+      limit : (which : Which) (place : ℕ) → IsErrOf result (error.Limit which place) → spec.default_of (shown_tables tables.now) (shown_home home.now) span methods.old ≡ Err (record { which = which; place = place });
+      methods : OnOk result (spec.default_of (shown_tables tables.now) (shown_home home.now) span methods.old ≡ Ok methods.new);
+    } }
 {
     if has_constructor(home.members) {
         return Ok(());
@@ -144,8 +152,10 @@ fn add_all_methods<'t>(
     decls: &'t [ClassDecl],
     methods: &mut List<Method>,
 ) -> Result<(), LowerError>
-    ensures methods { OnOk result (spec.methods_from (shown_tables tables.now) first decls.now methods.old ≡ Ok methods.new) }
-    ensures limit { (which : Which) (place : ℕ) → IsErrOf result (error.Limit which place) → spec.methods_from (shown_tables tables.now) first decls.now methods.old ≡ Err (record { which = which; place = place }) }
+    ensures { record {
+      limit : (which : Which) (place : ℕ) → IsErrOf result (error.Limit which place) → spec.methods_from (shown_tables tables.now) first decls.now methods.old ≡ Err (record { which = which; place = place });
+      methods : OnOk result (spec.methods_from (shown_tables tables.now) first decls.now methods.old ≡ Ok methods.new);
+    } }
 {
     let mut next = first;
     for decl in decls {
@@ -164,8 +174,10 @@ fn add_all_defaults<'t>(
     decls: &'t [ClassDecl],
     methods: &mut List<Method>,
 ) -> Result<(), LowerError>
-    ensures methods { OnOk result (spec.defaults_from (shown_tables tables.now) first decls.now methods.old ≡ Ok methods.new) }
-    ensures limit { (which : Which) (place : ℕ) → IsErrOf result (error.Limit which place) → spec.defaults_from (shown_tables tables.now) first decls.now methods.old ≡ Err (record { which = which; place = place }) }
+    ensures { record {
+      limit : (which : Which) (place : ℕ) → IsErrOf result (error.Limit which place) → spec.defaults_from (shown_tables tables.now) first decls.now methods.old ≡ Err (record { which = which; place = place });
+      methods : OnOk result (spec.defaults_from (shown_tables tables.now) first decls.now methods.old ≡ Ok methods.new);
+    } }
 {
     let mut next = first;
     for decl in decls {
@@ -182,8 +194,10 @@ fn methods<'t>(
     first: Next,
     decls: &'t [ClassDecl],
 ) -> Result<List<Method>, LowerError>
-    ensures methods { IfOk result (λ methods. spec.all_methods (shown_tables tables.now) first decls.now ≡ Ok methods) }
-    ensures limit { (which : Which) (place : ℕ) → IsErrOf result (error.Limit which place) → spec.all_methods (shown_tables tables.now) first decls.now ≡ Err (record { which = which; place = place }) }
+    ensures { record {
+      methods : IfOk result (λ methods. spec.all_methods (shown_tables tables.now) first decls.now ≡ Ok methods);
+      limit : (which : Which) (place : ℕ) → IsErrOf result (error.Limit which place) → spec.all_methods (shown_tables tables.now) first decls.now ≡ Err (record { which = which; place = place });
+    } }
 {
     let mut methods = List::new(alloc);
     add_all_methods(alloc, tables, first, decls, &mut methods)?;
@@ -197,8 +211,10 @@ fn program_in<'t>(
     tables: &Tables<'t>,
     decls: &'t [ClassDecl],
 ) -> Result<Program, LowerError>
-    ensures program { IfOk result (λ program. program_in (shown_tables tables.now) decls.now ≡ Ok program) }
-    ensures limit { (which : Which) (place : ℕ) → IsErrOf result (error.Limit which place) → program_in (shown_tables tables.now) decls.now ≡ Err (record { which = which; place = place }) }
+    ensures { record {
+      program : IfOk result (λ program. program_in (shown_tables tables.now) decls.now ≡ Ok program);
+      limit : (which : Which) (place : ℕ) → IsErrOf result (error.Limit which place) → program_in (shown_tables tables.now) decls.now ≡ Err (record { which = which; place = place });
+    } }
 {
     let first = first_numbers(decls);
     let methods = methods(alloc, tables, first, decls)?;
@@ -215,8 +231,10 @@ fn program_in<'t>(
 /// The plain form of a source whose names mean what the table says. Of a tree that `parse` answers, with the table of its names and without errors on them, it is
 /// formed: its numbers are in range, its types and its calls fit.
 pub fn lower(alloc: Global, unit: &Unit, table: &Table) -> Result<Program, LowerError>
-    requires few_classes { length unit.now.classes < 2 ^ 32 }
-    requires few_members { members_in unit.now.classes + 1 < 2 ^ 32 }
+    requires { record {
+      few_classes : length unit.now.classes < 2 ^ 32;
+      few_members : members_in unit.now.classes + 1 < 2 ^ 32;
+    } }
     ensures program { IfOk result (λ program. spec.program (shown table.now) unit.now.classes ≡ Ok program) }
     ensures limit { (which : Which) (place : ℕ) → IsErrOf result (error.Limit which place) → spec.program (shown table.now) unit.now.classes ≡ Err (record { which = which; place = place }) }
     ensures formed { IsParsed unit.now → Accepts unit.now → shown table.now ≡ names unit.now → IfOk result (λ program. Formed program) }

@@ -88,8 +88,10 @@ fn declare(
     end: u32,
     body: &mut Body,
 ) -> Result<(), Stop>
-    ensures body { OnOk result (spec.with_local name.now end (shown_site site.now) body.old ≡ Ok body.new) }
-    ensures limit { (which : Which) → IsErrOf result (stop.Limit which) → spec.with_local name.now end (shown_site site.now) body.old ≡ Err which }
+    ensures { record {
+      limit : (which : Which) → IsErrOf result (stop.Limit which) → spec.with_local name.now end (shown_site site.now) body.old ≡ Err which;
+      body : OnOk result (spec.with_local name.now end (shown_site site.now) body.old ≡ Ok body.new);
+    } }
 {
     let slot = body.made.free;
     if slot >= MOST_SLOTS {
@@ -119,8 +121,10 @@ fn write_default(
     name: Span,
     body: &mut Body,
 ) -> Result<(), Stop>
-    ensures body { OnOk result (spec.with_default slot ty name body.old ≡ Ok body.new) }
-    ensures limit { (which : Which) → IsErrOf result (stop.Limit which) → spec.with_default slot ty name body.old ≡ Err which }
+    ensures { record {
+      limit : (which : Which) → IsErrOf result (stop.Limit which) → spec.with_default slot ty name body.old ≡ Err which;
+      body : OnOk result (spec.with_default slot ty name body.old ≡ Ok body.new);
+    } }
 {
     let top = body.made.free;
     let literal = default_of(alloc, &ty)?;
@@ -150,8 +154,10 @@ fn write_init(
     init: &Init,
     body: &mut Body,
 ) -> Result<(), Stop>
-    ensures body { OnOk result (spec.with_init slot ty name init.now (shown_site site.now) body.old ≡ Ok body.new) }
-    ensures limit { (which : Which) → IsErrOf result (stop.Limit which) → spec.with_init slot ty name init.now (shown_site site.now) body.old ≡ Err which }
+    ensures { record {
+      limit : (which : Which) → IsErrOf result (stop.Limit which) → spec.with_init slot ty name init.now (shown_site site.now) body.old ≡ Err which;
+      body : OnOk result (spec.with_init slot ty name init.now (shown_site site.now) body.old ≡ Ok body.new);
+    } }
 {
     let value = evaluate_init(alloc, site, init, &ty, body)?;
     let ty = value_type(alloc, site, init, &ty)?;
@@ -175,8 +181,10 @@ pub fn declaration(
     end: u32,
     body: &mut Body,
 ) -> Result<(), Stop>
-    ensures body { OnOk result (spec.declaration decl.now (shown_site site.now) end body.old ≡ Ok body.new) }
-    ensures limit { (which : Which) → IsErrOf result (stop.Limit which) → spec.declaration decl.now (shown_site site.now) end body.old ≡ Err which }
+    ensures { record {
+      limit : (which : Which) → IsErrOf result (stop.Limit which) → spec.declaration decl.now (shown_site site.now) end body.old ≡ Err which;
+      body : OnOk result (spec.declaration decl.now (shown_site site.now) end body.old ≡ Ok body.new);
+    } }
 {
     let slot = body.made.free;
     declare(alloc, site, &decl.name, end, body)?;
@@ -194,8 +202,10 @@ pub fn declarations(
     end: u32,
     body: &mut Body,
 ) -> Result<(), Stop>
-    ensures body { OnOk result (spec.declarations decls.now (shown_site site.now) end body.old ≡ Ok body.new) }
-    ensures limit { (which : Which) → IsErrOf result (stop.Limit which) → spec.declarations decls.now (shown_site site.now) end body.old ≡ Err which }
+    ensures { record {
+      limit : (which : Which) → IsErrOf result (stop.Limit which) → spec.declarations decls.now (shown_site site.now) end body.old ≡ Err which;
+      body : OnOk result (spec.declarations decls.now (shown_site site.now) end body.old ≡ Ok body.new);
+    } }
 {
     for decl in decls {
         declaration(alloc, site, decl, end, body)?;

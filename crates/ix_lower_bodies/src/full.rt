@@ -50,8 +50,10 @@ fn assigned_by_init(
 
 /// Evaluates a full expression, and answers the slot of its value.
 pub fn evaluate(alloc: Global, site: &Site<'_>, expr: &Expr, body: &mut Body) -> Result<u32, Stop>
-    ensures body { IfOk result (λ slot. spec.evaluated (shown_site site.now) expr.now body.old ≡ Ok (record { slot = slot; body = body.new })) }
-    ensures limit { (which : Which) → IsErrOf result (stop.Limit which) → spec.evaluated (shown_site site.now) expr.now body.old ≡ Err which }
+    ensures { record {
+      limit : (which : Which) → IsErrOf result (stop.Limit which) → spec.evaluated (shown_site site.now) expr.now body.old ≡ Err which;
+      body : IfOk result (λ slot. spec.evaluated (shown_site site.now) expr.now body.old ≡ Ok (record { slot = slot; body = body.new }));
+    } }
 {
     let assigned = assigned_by(alloc, site, expr, body)?;
     let top = body.made.free;
@@ -74,8 +76,10 @@ pub fn evaluate_init(
     ty: &Type_,
     body: &mut Body,
 ) -> Result<u32, Stop>
-    ensures body { IfOk result (λ slot. spec.init_evaluated (shown_site site.now) init.now ty.now body.old ≡ Ok (record { slot = slot; body = body.new })) }
-    ensures limit { (which : Which) → IsErrOf result (stop.Limit which) → spec.init_evaluated (shown_site site.now) init.now ty.now body.old ≡ Err which }
+    ensures { record {
+      limit : (which : Which) → IsErrOf result (stop.Limit which) → spec.init_evaluated (shown_site site.now) init.now ty.now body.old ≡ Err which;
+      body : IfOk result (λ slot. spec.init_evaluated (shown_site site.now) init.now ty.now body.old ≡ Ok (record { slot = slot; body = body.new }));
+    } }
 {
     let assigned = assigned_by_init(alloc, site, init, body)?;
     let top = body.made.free;
@@ -92,16 +96,20 @@ pub fn evaluate_init(
 
 /// Runs a full expression whose value isn't used.
 pub fn run(alloc: Global, site: &Site<'_>, expr: &Expr, body: &mut Body) -> Result<(), Stop>
-    ensures body { OnOk result (spec.ran (shown_site site.now) expr.now body.old ≡ Ok body.new) }
-    ensures limit { (which : Which) → IsErrOf result (stop.Limit which) → spec.ran (shown_site site.now) expr.now body.old ≡ Err which }
+    ensures { record {
+      limit : (which : Which) → IsErrOf result (stop.Limit which) → spec.ran (shown_site site.now) expr.now body.old ≡ Err which;
+      body : OnOk result (spec.ran (shown_site site.now) expr.now body.old ≡ Ok body.new);
+    } }
 {
     evaluate(alloc, site, expr, body)?;
     Ok(())
 }
 
 pub fn run_all(alloc: Global, site: &Site<'_>, exprs: &[Expr], body: &mut Body) -> Result<(), Stop>
-    ensures body { OnOk result (spec.all_ran exprs.now (shown_site site.now) body.old ≡ Ok body.new) }
-    ensures limit { (which : Which) → IsErrOf result (stop.Limit which) → spec.all_ran exprs.now (shown_site site.now) body.old ≡ Err which }
+    ensures { record {
+      limit : (which : Which) → IsErrOf result (stop.Limit which) → spec.all_ran exprs.now (shown_site site.now) body.old ≡ Err which;
+      body : OnOk result (spec.all_ran exprs.now (shown_site site.now) body.old ≡ Ok body.new);
+    } }
 {
     for expr in exprs {
         run(alloc, site, expr, body)?;
@@ -111,8 +119,10 @@ pub fn run_all(alloc: Global, site: &Site<'_>, exprs: &[Expr], body: &mut Body) 
 
 /// Asks a full expression.
 pub fn test(alloc: Global, site: &Site<'_>, expr: &Expr, body: &mut Body) -> Result<Cond, Stop>
-    ensures body { IfOk result (λ cond. spec.tested (shown_site site.now) expr.now body.old ≡ Ok (record { cond = cond; body = body.new })) }
-    ensures limit { (which : Which) → IsErrOf result (stop.Limit which) → spec.tested (shown_site site.now) expr.now body.old ≡ Err which }
+    ensures { record {
+      limit : (which : Which) → IsErrOf result (stop.Limit which) → spec.tested (shown_site site.now) expr.now body.old ≡ Err which;
+      body : IfOk result (λ cond. spec.tested (shown_site site.now) expr.now body.old ≡ Ok (record { cond = cond; body = body.new }));
+    } }
 {
     let assigned = assigned_by(alloc, site, expr, body)?;
     let scope = Scope {
@@ -133,8 +143,10 @@ pub fn test_if(
     expr: &Option<Expr>,
     body: &mut Body,
 ) -> Result<Cond, Stop>
-    ensures body { IfOk result (λ cond. spec.tested_if expr.now (shown_site site.now) body.old ≡ Ok (record { cond = cond; body = body.new })) }
-    ensures limit { (which : Which) → IsErrOf result (stop.Limit which) → spec.tested_if expr.now (shown_site site.now) body.old ≡ Err which }
+    ensures { record {
+      limit : (which : Which) → IsErrOf result (stop.Limit which) → spec.tested_if expr.now (shown_site site.now) body.old ≡ Err which;
+      body : IfOk result (λ cond. spec.tested_if expr.now (shown_site site.now) body.old ≡ Ok (record { cond = cond; body = body.new }));
+    } }
 {
     match expr {
         Some(expr) => test(alloc, site, expr, body),
@@ -168,8 +180,10 @@ pub fn return_answer(
     expr: &Expr,
     body: &mut Body,
 ) -> Result<(), Stop>
-    ensures body { OnOk result (spec.answered (shown_site site.now) expr.now body.old ≡ Ok body.new) }
-    ensures limit { (which : Which) → IsErrOf result (stop.Limit which) → spec.answered (shown_site site.now) expr.now body.old ≡ Err which }
+    ensures { record {
+      limit : (which : Which) → IsErrOf result (stop.Limit which) → spec.answered (shown_site site.now) expr.now body.old ≡ Err which;
+      body : OnOk result (spec.answered (shown_site site.now) expr.now body.old ≡ Ok body.new);
+    } }
 {
     let assigned = assigned_by(alloc, site, expr, body)?;
     let top = body.made.free;

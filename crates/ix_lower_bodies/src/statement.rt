@@ -34,8 +34,10 @@ pub enum Form {
 
 /// Begins a loop.
 fn enter_loop(body: &mut Body) -> Result<(), Stop>
-    ensures body { OnOk result (spec.in_loop body.old ≡ Ok body.new) }
-    ensures limit { (which : Which) → IsErrOf result (stop.Limit which) → spec.in_loop body.old ≡ Err which }
+    ensures { record {
+      limit : (which : Which) → IsErrOf result (stop.Limit which) → spec.in_loop body.old ≡ Err which;
+      body : OnOk result (spec.in_loop body.old ≡ Ok body.new);
+    } }
 {
     if body.loops >= MOST_LOOPS {
         return Err(Stop::Limit(Which::Loops));
@@ -46,8 +48,10 @@ fn enter_loop(body: &mut Body) -> Result<(), Stop>
 
 /// Begins a block of its own; answers what was made around it.
 fn begin(alloc: Global, body: &mut Body) -> Made
-    ensures around { result ≡ body.old.made }
-    ensures body { body.new ≡ record body.old { made = empty body.old.made.free } }
+    ensures { record {
+      around : result ≡ body.old.made;
+      body : body.new ≡ record body.old { made = empty body.old.made.free };
+    } }
 {
     let made = empty(alloc, body.made.free);
     mem::replace(&mut body.made, made)
@@ -55,8 +59,10 @@ fn begin(alloc: Global, body: &mut Body) -> Made
 
 /// Ends it.
 fn end_block(body: &mut Body, around: Made) -> Block
-    ensures block { result ≡ block body.old.made }
-    ensures body { body.new ≡ record body.old { made = around } }
+    ensures { record {
+      block : result ≡ block body.old.made;
+      body : body.new ≡ record body.old { made = around };
+    } }
 {
     let made = mem::replace(&mut body.made, around);
     Block { items: made.items }
@@ -77,8 +83,10 @@ fn update_block(
     exprs: &[Expr],
     body: &mut Body,
 ) -> Result<Block, Stop>
-    ensures body { IfOk result (λ next. spec.inside (spec.all_ran exprs.now (shown_site site.now)) body.old ≡ Ok (record { block = next; body = body.new })) }
-    ensures limit { (which : Which) → IsErrOf result (stop.Limit which) → spec.inside (spec.all_ran exprs.now (shown_site site.now)) body.old ≡ Err which }
+    ensures { record {
+      limit : (which : Which) → IsErrOf result (stop.Limit which) → spec.inside (spec.all_ran exprs.now (shown_site site.now)) body.old ≡ Err which;
+      body : IfOk result (λ next. spec.inside (spec.all_ran exprs.now (shown_site site.now)) body.old ≡ Ok (record { block = next; body = body.new }));
+    } }
 {
     let around = begin(alloc, body);
     run_all(alloc, site, exprs, body)?;
@@ -92,8 +100,10 @@ fn returned(
     span: Span,
     body: &mut Body,
 ) -> Result<(), Stop>
-    ensures body { OnOk result (spec.returned value.now span (shown_site site.now) body.old ≡ Ok body.new) }
-    ensures limit { (which : Which) → IsErrOf result (stop.Limit which) → spec.returned value.now span (shown_site site.now) body.old ≡ Err which }
+    ensures { record {
+      limit : (which : Which) → IsErrOf result (stop.Limit which) → spec.returned value.now span (shown_site site.now) body.old ≡ Err which;
+      body : OnOk result (spec.returned value.now span (shown_site site.now) body.old ≡ Ok body.new);
+    } }
 {
     match value {
         None => push_last(body, Item::Return(None, span)),
@@ -109,8 +119,10 @@ fn returned(
 }
 
 fn print(alloc: Global, site: &Site<'_>, value: &Expr, body: &mut Body) -> Result<(), Stop>
-    ensures body { OnOk result (spec.printed value.now (shown_site site.now) body.old ≡ Ok body.new) }
-    ensures limit { (which : Which) → IsErrOf result (stop.Limit which) → spec.printed value.now (shown_site site.now) body.old ≡ Err which }
+    ensures { record {
+      limit : (which : Which) → IsErrOf result (stop.Limit which) → spec.printed value.now (shown_site site.now) body.old ≡ Err which;
+      body : OnOk result (spec.printed value.now (shown_site site.now) body.old ≡ Ok body.new);
+    } }
 {
     let slot = evaluate(alloc, site, value, body)?;
     push_last(body, done(alloc, OpKind::Print(slot), value.span))
@@ -136,8 +148,10 @@ fn statement(
     end: u32,
     body: &mut Body,
 ) -> Result<(), Stop>
-    ensures body { OnOk result ((spec.statement stmt.now).run (shown_site site.now) end body.old ≡ Ok body.new) }
-    ensures limit { (which : Which) → IsErrOf result (stop.Limit which) → (spec.statement stmt.now).run (shown_site site.now) end body.old ≡ Err which }
+    ensures { record {
+      limit : (which : Which) → IsErrOf result (stop.Limit which) → (spec.statement stmt.now).run (shown_site site.now) end body.old ≡ Err which;
+      body : OnOk result ((spec.statement stmt.now).run (shown_site site.now) end body.old ≡ Ok body.new);
+    } }
 {
     match form_of(&stmt.kind) {
         Form::While => while_loop(alloc, site, stmt, end, body),
@@ -151,8 +165,10 @@ fn statement(
 #[cycle(statements)]
 fn plain(alloc: Global, site: &Site<'_>, stmt: &Stmt, end: u32, body: &mut Body) -> Result<(), Stop>
     requires { form_of stmt.now.kind ≡ form.Plain }
-    ensures body { OnOk result ((spec.statement stmt.now).run (shown_site site.now) end body.old ≡ Ok body.new) }
-    ensures limit { (which : Which) → IsErrOf result (stop.Limit which) → (spec.statement stmt.now).run (shown_site site.now) end body.old ≡ Err which }
+    ensures { record {
+      limit : (which : Which) → IsErrOf result (stop.Limit which) → (spec.statement stmt.now).run (shown_site site.now) end body.old ≡ Err which;
+      body : OnOk result ((spec.statement stmt.now).run (shown_site site.now) end body.old ≡ Ok body.new);
+    } }
 {
     match &stmt.kind {
         StmtKind::Block(statements) => {
@@ -195,8 +211,10 @@ fn while_loop(
     body: &mut Body,
 ) -> Result<(), Stop>
     requires { form_of stmt.now.kind ≡ form.While }
-    ensures body { OnOk result ((spec.statement stmt.now).run (shown_site site.now) end body.old ≡ Ok body.new) }
-    ensures limit { (which : Which) → IsErrOf result (stop.Limit which) → (spec.statement stmt.now).run (shown_site site.now) end body.old ≡ Err which }
+    ensures { record {
+      limit : (which : Which) → IsErrOf result (stop.Limit which) → (spec.statement stmt.now).run (shown_site site.now) end body.old ≡ Err which;
+      body : OnOk result ((spec.statement stmt.now).run (shown_site site.now) end body.old ≡ Ok body.new);
+    } }
 {
     match &stmt.kind {
         StmtKind::While(condition, turn) => {
@@ -229,8 +247,10 @@ fn do_loop(
     body: &mut Body,
 ) -> Result<(), Stop>
     requires { form_of stmt.now.kind ≡ form.Do }
-    ensures body { OnOk result ((spec.statement stmt.now).run (shown_site site.now) end body.old ≡ Ok body.new) }
-    ensures limit { (which : Which) → IsErrOf result (stop.Limit which) → (spec.statement stmt.now).run (shown_site site.now) end body.old ≡ Err which }
+    ensures { record {
+      limit : (which : Which) → IsErrOf result (stop.Limit which) → (spec.statement stmt.now).run (shown_site site.now) end body.old ≡ Err which;
+      body : OnOk result ((spec.statement stmt.now).run (shown_site site.now) end body.old ≡ Ok body.new);
+    } }
 {
     match &stmt.kind {
         StmtKind::Do(turn, condition) => {
@@ -263,8 +283,10 @@ fn for_loop(
     body: &mut Body,
 ) -> Result<(), Stop>
     requires { form_of stmt.now.kind ≡ form.For }
-    ensures body { OnOk result ((spec.statement stmt.now).run (shown_site site.now) end body.old ≡ Ok body.new) }
-    ensures limit { (which : Which) → IsErrOf result (stop.Limit which) → (spec.statement stmt.now).run (shown_site site.now) end body.old ≡ Err which }
+    ensures { record {
+      limit : (which : Which) → IsErrOf result (stop.Limit which) → (spec.statement stmt.now).run (shown_site site.now) end body.old ≡ Err which;
+      body : OnOk result ((spec.statement stmt.now).run (shown_site site.now) end body.old ≡ Ok body.new);
+    } }
 {
     match &stmt.kind {
         StmtKind::For(first, condition, update, turn) => {
@@ -300,8 +322,10 @@ pub fn each(
     end: u32,
     body: &mut Body,
 ) -> Result<(), Stop>
-    ensures body { OnOk result (spec.each (map spec.statement statements.now) (shown_site site.now) end body.old ≡ Ok body.new) }
-    ensures limit { (which : Which) → IsErrOf result (stop.Limit which) → spec.each (map spec.statement statements.now) (shown_site site.now) end body.old ≡ Err which }
+    ensures { record {
+      limit : (which : Which) → IsErrOf result (stop.Limit which) → spec.each (map spec.statement statements.now) (shown_site site.now) end body.old ≡ Err which;
+      body : OnOk result (spec.each (map spec.statement statements.now) (shown_site site.now) end body.old ≡ Ok body.new);
+    } }
 {
     for stmt in statements {
         statement(alloc, site, stmt, end, body)?;
@@ -312,8 +336,10 @@ pub fn each(
 /// A statement that is a part of another, in a block of its own.
 #[cycle(statements)]
 fn branch(alloc: Global, site: &Site<'_>, stmt: &Stmt, body: &mut Body) -> Result<Block, Stop>
-    ensures body { IfOk result (λ made. spec.branch (spec.statement stmt.now) (shown_site site.now) body.old ≡ Ok (record { block = made; body = body.new })) }
-    ensures limit { (which : Which) → IsErrOf result (stop.Limit which) → spec.branch (spec.statement stmt.now) (shown_site site.now) body.old ≡ Err which }
+    ensures { record {
+      limit : (which : Which) → IsErrOf result (stop.Limit which) → spec.branch (spec.statement stmt.now) (shown_site site.now) body.old ≡ Err which;
+      body : IfOk result (λ made. spec.branch (spec.statement stmt.now) (shown_site site.now) body.old ≡ Ok (record { block = made; body = body.new }));
+    } }
 {
     let around = begin(alloc, body);
     statement(alloc, site, stmt, stmt.span.to, body)?;

@@ -77,8 +77,10 @@ fn variable(
     slot: u32,
     made: &mut Made,
 ) -> Result<u32, Stop>
-    ensures made { IfOk result (λ at. spec.variable (shown_scope scope.now) span slot made.old ≡ in_place made.new at) }
-    ensures limit { (which : Which) → IsErrOf result (stop.Limit which) → spec.variable (shown_scope scope.now) span slot made.old ≡ Err which }
+    ensures { record {
+      limit : (which : Which) → IsErrOf result (stop.Limit which) → spec.variable (shown_scope scope.now) span slot made.old ≡ Err which;
+      made : IfOk result (λ at. spec.variable (shown_scope scope.now) span slot made.old ≡ in_place made.new at);
+    } }
 {
     if !is_assigned(scope, slot) {
         return Ok(slot);
@@ -96,8 +98,10 @@ fn named(
     meaning: Option<Meaning>,
     made: &mut Made,
 ) -> Result<u32, Stop>
-    ensures made { IfOk result (λ at. spec.named (shown_scope scope.now) span meaning made.old ≡ in_place made.new at) }
-    ensures limit { (which : Which) → IsErrOf result (stop.Limit which) → spec.named (shown_scope scope.now) span meaning made.old ≡ Err which }
+    ensures { record {
+      limit : (which : Which) → IsErrOf result (stop.Limit which) → spec.named (shown_scope scope.now) span meaning made.old ≡ Err which;
+      made : IfOk result (λ at. spec.named (shown_scope scope.now) span meaning made.old ≡ in_place made.new at);
+    } }
 {
     match meaning {
         Some(Meaning::Constant(n)) => constant(alloc, made, n, span),
@@ -147,8 +151,10 @@ fn class_number(meaning: Option<Meaning>) -> u32
 }
 
 fn null(alloc: Global, scope: &Scope<'_>, span: Span, made: &mut Made) -> Result<u32, Stop>
-    ensures made { IfOk result (λ at. (spec.null span).value (shown_scope scope.now) made.old ≡ in_place made.new at) }
-    ensures limit { (which : Which) → IsErrOf result (stop.Limit which) → (spec.null span).value (shown_scope scope.now) made.old ≡ Err which }
+    ensures { record {
+      limit : (which : Which) → IsErrOf result (stop.Limit which) → (spec.null span).value (shown_scope scope.now) made.old ≡ Err which;
+      made : IfOk result (λ at. (spec.null span).value (shown_scope scope.now) made.old ≡ in_place made.new at);
+    } }
 {
     let ty = type_at(alloc, scope, span)?;
     let kind = OpKind::Const(made.free, Literal::NullOf(ty));
@@ -261,8 +267,10 @@ fn loaded(
     spans: (Span, Span),
     made: &mut Made,
 ) -> Result<u32, Stop>
-    ensures made { IfOk result (λ at. computed made.old (op.Load made.old.free slots.0 slots.1 (type_at (shown_scope scope.now) spans.0)) spans.1 ≡ in_place made.new at) }
-    ensures limit { (which : Which) → IsErrOf result (stop.Limit which) → computed made.old (op.Load made.old.free slots.0 slots.1 (type_at (shown_scope scope.now) spans.0)) spans.1 ≡ Err which }
+    ensures { record {
+      limit : (which : Which) → IsErrOf result (stop.Limit which) → computed made.old (op.Load made.old.free slots.0 slots.1 (type_at (shown_scope scope.now) spans.0)) spans.1 ≡ Err which;
+      made : IfOk result (λ at. computed made.old (op.Load made.old.free slots.0 slots.1 (type_at (shown_scope scope.now) spans.0)) spans.1 ≡ in_place made.new at);
+    } }
 {
     let (array, index) = slots;
     let ty = type_at(alloc, scope, spans.0)?;
@@ -304,8 +312,10 @@ fn written(
     spans: (Span, Span, Span),
     made: &mut Made,
 ) -> Result<u32, Stop>
-    ensures made { IfOk result (λ at. in_place (with_item made.old (write spot value (type_at (shown_scope scope.now) spans.2) spans.0 spans.1 spans.2)) value ≡ in_place made.new at) }
-    ensures limit { (which : Which) → IsErrOf result (stop.Limit which) → in_place (with_item made.old (write spot value (type_at (shown_scope scope.now) spans.2) spans.0 spans.1 spans.2)) value ≡ Err which }
+    ensures { record {
+      limit : (which : Which) → IsErrOf result (stop.Limit which) → in_place (with_item made.old (write spot value (type_at (shown_scope scope.now) spans.2) spans.0 spans.1 spans.2)) value ≡ Err which;
+      made : IfOk result (λ at. in_place (with_item made.old (write spot value (type_at (shown_scope scope.now) spans.2) spans.0 spans.1 spans.2)) value ≡ in_place made.new at);
+    } }
 {
     let ty = type_at(alloc, scope, spans.2)?;
     assign(alloc, spot, value, ty, spans, made)?;
@@ -321,8 +331,10 @@ fn computed_into(
     spans: (Span, Span),
     made: &mut Made,
 ) -> Result<u32, Stop>
-    ensures made { IfOk result (λ at. (parts.◌>>=◌ (computed made.old (op.Num made.old.free arith slots.0 slots.1) spans.0) (λ t. in_place (with_item t.made (write spot t.slot int_type spans.0 spans.1 spans.0)) t.slot)) ≡ in_place made.new at) }
-    ensures limit { (which : Which) → IsErrOf result (stop.Limit which) → (parts.◌>>=◌ (computed made.old (op.Num made.old.free arith slots.0 slots.1) spans.0) (λ t. in_place (with_item t.made (write spot t.slot int_type spans.0 spans.1 spans.0)) t.slot)) ≡ Err which }
+    ensures { record {
+      limit : (which : Which) → IsErrOf result (stop.Limit which) → (parts.◌>>=◌ (computed made.old (op.Num made.old.free arith slots.0 slots.1) spans.0) (λ t. in_place (with_item t.made (write spot t.slot int_type spans.0 spans.1 spans.0)) t.slot)) ≡ Err which;
+      made : IfOk result (λ at. (parts.◌>>=◌ (computed made.old (op.Num made.old.free arith slots.0 slots.1) spans.0) (λ t. in_place (with_item t.made (write spot t.slot int_type spans.0 spans.1 spans.0)) t.slot)) ≡ in_place made.new at);
+    } }
 {
     let (y, z) = slots;
     let (whole, target) = spans;
@@ -341,8 +353,10 @@ fn stepped(
     spans: (Span, Span),
     made: &mut Made,
 ) -> Result<u32, Stop>
-    ensures made { IfOk result (λ at. (parts.◌>>=◌ (read spot spans.1 made.old) (λ y. parts.◌>>=◌ (int_value (pos 1) spans.0 y.made) (λ one. parts.◌>>=◌ (computed one.made (op.Num one.made.free (if up then arith.Add else arith.Sub) y.slot one.slot) spans.0) (λ t. in_place (with_item t.made (write spot t.slot int_type spans.0 spans.1 spans.0)) (if after then y.slot else t.slot))))) ≡ in_place made.new at) }
-    ensures limit { (which : Which) → IsErrOf result (stop.Limit which) → (parts.◌>>=◌ (read spot spans.1 made.old) (λ y. parts.◌>>=◌ (int_value (pos 1) spans.0 y.made) (λ one. parts.◌>>=◌ (computed one.made (op.Num one.made.free (if up then arith.Add else arith.Sub) y.slot one.slot) spans.0) (λ t. in_place (with_item t.made (write spot t.slot int_type spans.0 spans.1 spans.0)) (if after then y.slot else t.slot))))) ≡ Err which }
+    ensures { record {
+      limit : (which : Which) → IsErrOf result (stop.Limit which) → (parts.◌>>=◌ (read spot spans.1 made.old) (λ y. parts.◌>>=◌ (int_value (pos 1) spans.0 y.made) (λ one. parts.◌>>=◌ (computed one.made (op.Num one.made.free (if up then arith.Add else arith.Sub) y.slot one.slot) spans.0) (λ t. in_place (with_item t.made (write spot t.slot int_type spans.0 spans.1 spans.0)) (if after then y.slot else t.slot))))) ≡ Err which;
+      made : IfOk result (λ at. (parts.◌>>=◌ (read spot spans.1 made.old) (λ y. parts.◌>>=◌ (int_value (pos 1) spans.0 y.made) (λ one. parts.◌>>=◌ (computed one.made (op.Num one.made.free (if up then arith.Add else arith.Sub) y.slot one.slot) spans.0) (λ t. in_place (with_item t.made (write spot t.slot int_type spans.0 spans.1 spans.0)) (if after then y.slot else t.slot))))) ≡ in_place made.new at);
+    } }
 {
     let y = read(alloc, &spot, spans.1, made)?;
     let one = constant(alloc, made, 1, spans.0)?;
@@ -359,8 +373,10 @@ fn static_call(
     span: Span,
     made: &mut Made,
 ) -> Result<u32, Stop>
-    ensures made { IfOk result (λ at. spec.calling op.StaticCall method None class span (record { made = made.old; args = args }) ≡ in_place made.new at) }
-    ensures limit { (which : Which) → IsErrOf result (stop.Limit which) → spec.calling op.StaticCall method None class span (record { made = made.old; args = args }) ≡ Err which }
+    ensures { record {
+      limit : (which : Which) → IsErrOf result (stop.Limit which) → spec.calling op.StaticCall method None class span (record { made = made.old; args = args }) ≡ Err which;
+      made : IfOk result (λ at. spec.calling op.StaticCall method None class span (record { made = made.old; args = args }) ≡ in_place made.new at);
+    } }
 {
     let call = call_op(made.free, method, None, args, class, span);
     compute(alloc, made, OpKind::StaticCall(call), span)
@@ -376,8 +392,10 @@ fn instance_call(
     span: Span,
     made: &mut Made,
 ) -> Result<u32, Stop>
-    ensures made { IfOk result (λ at. spec.calling op.InstanceCall method (Some object) class span (record { made = made.old; args = args }) ≡ in_place made.new at) }
-    ensures limit { (which : Which) → IsErrOf result (stop.Limit which) → spec.calling op.InstanceCall method (Some object) class span (record { made = made.old; args = args }) ≡ Err which }
+    ensures { record {
+      limit : (which : Which) → IsErrOf result (stop.Limit which) → spec.calling op.InstanceCall method (Some object) class span (record { made = made.old; args = args }) ≡ Err which;
+      made : IfOk result (λ at. spec.calling op.InstanceCall method (Some object) class span (record { made = made.old; args = args }) ≡ in_place made.new at);
+    } }
 {
     let call = call_op(made.free, method, Some(object), args, class, span);
     compute(alloc, made, OpKind::InstanceCall(call), span)
@@ -392,8 +410,10 @@ fn new_object(
     span: Span,
     made: &mut Made,
 ) -> Result<u32, Stop>
-    ensures made { IfOk result (λ at. spec.calling op.NewObject method None class span (record { made = made.old; args = args }) ≡ in_place made.new at) }
-    ensures limit { (which : Which) → IsErrOf result (stop.Limit which) → spec.calling op.NewObject method None class span (record { made = made.old; args = args }) ≡ Err which }
+    ensures { record {
+      limit : (which : Which) → IsErrOf result (stop.Limit which) → spec.calling op.NewObject method None class span (record { made = made.old; args = args }) ≡ Err which;
+      made : IfOk result (λ at. spec.calling op.NewObject method None class span (record { made = made.old; args = args }) ≡ in_place made.new at);
+    } }
 {
     let call = call_op(made.free, method, None, args, class, span);
     compute(alloc, made, OpKind::NewObject(call), span)
@@ -407,8 +427,10 @@ fn new_array(
     spans: (Span, Span),
     made: &mut Made,
 ) -> Result<u32, Stop>
-    ensures made { IfOk result (λ at. computed made.old (op.NewArray made.old.free (type_at (shown_scope scope.now) spans.0) length) spans.1 ≡ in_place made.new at) }
-    ensures limit { (which : Which) → IsErrOf result (stop.Limit which) → computed made.old (op.NewArray made.old.free (type_at (shown_scope scope.now) spans.0) length) spans.1 ≡ Err which }
+    ensures { record {
+      limit : (which : Which) → IsErrOf result (stop.Limit which) → computed made.old (op.NewArray made.old.free (type_at (shown_scope scope.now) spans.0) length) spans.1 ≡ Err which;
+      made : IfOk result (λ at. computed made.old (op.NewArray made.old.free (type_at (shown_scope scope.now) spans.0) length) spans.1 ≡ in_place made.new at);
+    } }
 {
     let ty = type_at(alloc, scope, spans.0)?;
     let kind = OpKind::NewArray(made.free, ty, length);
@@ -424,8 +446,10 @@ fn array_of(
     ty: &Type_,
     made: &mut Made,
 ) -> Result<u32, Stop>
-    ensures made { IfOk result (λ at. taking made.old (done (op.Fill made.old.free ty.now slots) span (spec.spans (map spec.filling inits.now))) ≡ in_place made.new at) }
-    ensures limit { (which : Which) → IsErrOf result (stop.Limit which) → taking made.old (done (op.Fill made.old.free ty.now slots) span (spec.spans (map spec.filling inits.now))) ≡ Err which }
+    ensures { record {
+      limit : (which : Which) → IsErrOf result (stop.Limit which) → taking made.old (done (op.Fill made.old.free ty.now slots) span (spec.spans (map spec.filling inits.now))) ≡ Err which;
+      made : IfOk result (λ at. taking made.old (done (op.Fill made.old.free ty.now slots) span (spec.spans (map spec.filling inits.now))) ≡ in_place made.new at);
+    } }
 {
     let parts = init_spans(alloc, inits)?;
     let ty = copied(alloc, ty)?;
@@ -481,8 +505,10 @@ fn compared(
 /// The value of an expression: its operations are added, and the slot that holds it is answered.
 #[cycle(lowering)]
 pub fn value(alloc: Global, scope: &Scope<'_>, expr: &Expr, made: &mut Made) -> Result<u32, Stop>
-    ensures made { IfOk result (λ at. valued scope.now expr.now made.old ≡ in_place made.new at) }
-    ensures limit { (which : Which) → IsErrOf result (stop.Limit which) → valued scope.now expr.now made.old ≡ Err which }
+    ensures { record {
+      limit : (which : Which) → IsErrOf result (stop.Limit which) → valued scope.now expr.now made.old ≡ Err which;
+      made : IfOk result (λ at. valued scope.now expr.now made.old ≡ in_place made.new at);
+    } }
 {
     match form_of(&expr.kind) {
         Form::Asks => {
@@ -501,8 +527,10 @@ pub fn value(alloc: Global, scope: &Scope<'_>, expr: &Expr, made: &mut Made) -> 
 /// A literal, `this` or a name.
 fn computed(alloc: Global, scope: &Scope<'_>, expr: &Expr, made: &mut Made) -> Result<u32, Stop>
     requires { form_of expr.now.kind ≡ form.Computes }
-    ensures made { IfOk result (λ at. valued scope.now expr.now made.old ≡ in_place made.new at) }
-    ensures limit { (which : Which) → IsErrOf result (stop.Limit which) → valued scope.now expr.now made.old ≡ Err which }
+    ensures { record {
+      limit : (which : Which) → IsErrOf result (stop.Limit which) → valued scope.now expr.now made.old ≡ Err which;
+      made : IfOk result (λ at. valued scope.now expr.now made.old ≡ in_place made.new at);
+    } }
 {
     match &expr.kind {
         ExprKind::Int(n) => constant(alloc, made, *n, expr.span),
@@ -523,8 +551,10 @@ fn computed(alloc: Global, scope: &Scope<'_>, expr: &Expr, made: &mut Made) -> R
 #[cycle(lowering)]
 fn selected(alloc: Global, scope: &Scope<'_>, expr: &Expr, made: &mut Made) -> Result<u32, Stop>
     requires { form_of expr.now.kind ≡ form.Selects }
-    ensures made { IfOk result (λ at. valued scope.now expr.now made.old ≡ in_place made.new at) }
-    ensures limit { (which : Which) → IsErrOf result (stop.Limit which) → valued scope.now expr.now made.old ≡ Err which }
+    ensures { record {
+      limit : (which : Which) → IsErrOf result (stop.Limit which) → valued scope.now expr.now made.old ≡ Err which;
+      made : IfOk result (λ at. valued scope.now expr.now made.old ≡ in_place made.new at);
+    } }
 {
     match &expr.kind {
         ExprKind::Select(object, name) => match meaning_at(scope, name.span) {
@@ -562,8 +592,10 @@ fn selected(alloc: Global, scope: &Scope<'_>, expr: &Expr, made: &mut Made) -> R
 #[cycle(lowering)]
 fn operated(alloc: Global, scope: &Scope<'_>, expr: &Expr, made: &mut Made) -> Result<u32, Stop>
     requires { form_of expr.now.kind ≡ form.Operates }
-    ensures made { IfOk result (λ at. valued scope.now expr.now made.old ≡ in_place made.new at) }
-    ensures limit { (which : Which) → IsErrOf result (stop.Limit which) → valued scope.now expr.now made.old ≡ Err which }
+    ensures { record {
+      limit : (which : Which) → IsErrOf result (stop.Limit which) → valued scope.now expr.now made.old ≡ Err which;
+      made : IfOk result (λ at. valued scope.now expr.now made.old ≡ in_place made.new at);
+    } }
 {
     match &expr.kind {
         ExprKind::Unary(UnaryOp::Plus, operand) => value(alloc, scope, operand.get(), made),
@@ -590,8 +622,10 @@ fn operated(alloc: Global, scope: &Scope<'_>, expr: &Expr, made: &mut Made) -> R
 #[cycle(lowering)]
 fn assigned(alloc: Global, scope: &Scope<'_>, expr: &Expr, made: &mut Made) -> Result<u32, Stop>
     requires { form_of expr.now.kind ≡ form.Assigns }
-    ensures made { IfOk result (λ at. valued scope.now expr.now made.old ≡ in_place made.new at) }
-    ensures limit { (which : Which) → IsErrOf result (stop.Limit which) → valued scope.now expr.now made.old ≡ Err which }
+    ensures { record {
+      limit : (which : Which) → IsErrOf result (stop.Limit which) → valued scope.now expr.now made.old ≡ Err which;
+      made : IfOk result (λ at. valued scope.now expr.now made.old ≡ in_place made.new at);
+    } }
 {
     match &expr.kind {
         ExprKind::Assign(None, place, from) => {
@@ -623,8 +657,10 @@ fn assigned(alloc: Global, scope: &Scope<'_>, expr: &Expr, made: &mut Made) -> R
 #[cycle(lowering)]
 fn called(alloc: Global, scope: &Scope<'_>, expr: &Expr, made: &mut Made) -> Result<u32, Stop>
     requires { form_of expr.now.kind ≡ form.Calls }
-    ensures made { IfOk result (λ at. valued scope.now expr.now made.old ≡ in_place made.new at) }
-    ensures limit { (which : Which) → IsErrOf result (stop.Limit which) → valued scope.now expr.now made.old ≡ Err which }
+    ensures { record {
+      limit : (which : Which) → IsErrOf result (stop.Limit which) → valued scope.now expr.now made.old ≡ Err which;
+      made : IfOk result (λ at. valued scope.now expr.now made.old ≡ in_place made.new at);
+    } }
 {
     match &expr.kind {
         ExprKind::Call(None, name, args) => {
@@ -660,8 +696,10 @@ fn called(alloc: Global, scope: &Scope<'_>, expr: &Expr, made: &mut Made) -> Res
 #[cycle(lowering)]
 fn created(alloc: Global, scope: &Scope<'_>, expr: &Expr, made: &mut Made) -> Result<u32, Stop>
     requires { form_of expr.now.kind ≡ form.Creates }
-    ensures made { IfOk result (λ at. valued scope.now expr.now made.old ≡ in_place made.new at) }
-    ensures limit { (which : Which) → IsErrOf result (stop.Limit which) → valued scope.now expr.now made.old ≡ Err which }
+    ensures { record {
+      limit : (which : Which) → IsErrOf result (stop.Limit which) → valued scope.now expr.now made.old ≡ Err which;
+      made : IfOk result (λ at. valued scope.now expr.now made.old ≡ in_place made.new at);
+    } }
 {
     match &expr.kind {
         ExprKind::New(name, args) => {
@@ -690,8 +728,10 @@ pub fn arguments(
     exprs: &[Expr],
     made: &mut Made,
 ) -> Result<List<Arg>, Stop>
-    ensures made { IfOk result (λ args. all_given scope.now exprs.now made.old ≡ Ok (record { made = made.new; args = args })) }
-    ensures limit { (which : Which) → IsErrOf result (stop.Limit which) → all_given scope.now exprs.now made.old ≡ Err which }
+    ensures { record {
+      limit : (which : Which) → IsErrOf result (stop.Limit which) → all_given scope.now exprs.now made.old ≡ Err which;
+      made : IfOk result (λ args. all_given scope.now exprs.now made.old ≡ Ok (record { made = made.new; args = args }));
+    } }
 {
     let mut args = List::new(alloc);
     for expr in exprs {
@@ -711,8 +751,10 @@ fn entries(
     cell: &Type_,
     made: &mut Made,
 ) -> Result<List<u32>, Stop>
-    ensures made { IfOk result (λ slots. all_initial scope.now inits.now cell.now made.old ≡ Ok (record { made = made.new; slots = slots })) }
-    ensures limit { (which : Which) → IsErrOf result (stop.Limit which) → all_initial scope.now inits.now cell.now made.old ≡ Err which }
+    ensures { record {
+      limit : (which : Which) → IsErrOf result (stop.Limit which) → all_initial scope.now inits.now cell.now made.old ≡ Err which;
+      made : IfOk result (λ slots. all_initial scope.now inits.now cell.now made.old ≡ Ok (record { made = made.new; slots = slots }));
+    } }
 {
     let mut slots = List::new(alloc);
     for init in inits {
@@ -732,8 +774,10 @@ fn filled(
     ty: &Type_,
     made: &mut Made,
 ) -> Result<u32, Stop>
-    ensures made { IfOk result (λ at. spec.filled (map spec.filling inits.now) span (shown_scope scope.now) ty.now made.old ≡ in_place made.new at) }
-    ensures limit { (which : Which) → IsErrOf result (stop.Limit which) → spec.filled (map spec.filling inits.now) span (shown_scope scope.now) ty.now made.old ≡ Err which }
+    ensures { record {
+      limit : (which : Which) → IsErrOf result (stop.Limit which) → spec.filled (map spec.filling inits.now) span (shown_scope scope.now) ty.now made.old ≡ Err which;
+      made : IfOk result (λ at. spec.filled (map spec.filling inits.now) span (shown_scope scope.now) ty.now made.old ≡ in_place made.new at);
+    } }
 {
     let cell = cell_type(alloc, ty)?;
     let slots = entries(alloc, scope, inits, &cell, made)?;
@@ -749,8 +793,10 @@ pub fn filling(
     ty: &Type_,
     made: &mut Made,
 ) -> Result<u32, Stop>
-    ensures made { IfOk result (λ at. initial scope.now init.now ty.now made.old ≡ in_place made.new at) }
-    ensures limit { (which : Which) → IsErrOf result (stop.Limit which) → initial scope.now init.now ty.now made.old ≡ Err which }
+    ensures { record {
+      limit : (which : Which) → IsErrOf result (stop.Limit which) → initial scope.now init.now ty.now made.old ≡ Err which;
+      made : IfOk result (λ at. initial scope.now init.now ty.now made.old ≡ in_place made.new at);
+    } }
 {
     match init {
         Init::Value(expr) => value(alloc, scope, expr, made),
@@ -761,8 +807,10 @@ pub fn filling(
 /// An expression before a dot whose value isn't used.
 #[cycle(lowering)]
 fn unused(alloc: Global, scope: &Scope<'_>, expr: &Expr, made: &mut Made) -> Result<(), Stop>
-    ensures made { OnOk result (left_unused scope.now expr.now made.old ≡ Ok made.new) }
-    ensures limit { (which : Which) → IsErrOf result (stop.Limit which) → left_unused scope.now expr.now made.old ≡ Err which }
+    ensures { record {
+      limit : (which : Which) → IsErrOf result (stop.Limit which) → left_unused scope.now expr.now made.old ≡ Err which;
+      made : OnOk result (left_unused scope.now expr.now made.old ≡ Ok made.new);
+    } }
 {
     if is_class_name(scope, expr) {
         return Ok(());
@@ -774,8 +822,10 @@ fn unused(alloc: Global, scope: &Scope<'_>, expr: &Expr, made: &mut Made) -> Res
 /// The parts of an assignment's target, which are evaluated once.
 #[cycle(lowering)]
 fn target(alloc: Global, scope: &Scope<'_>, expr: &Expr, made: &mut Made) -> Result<Spot, Stop>
-    ensures made { IfOk result (λ spot. targeted scope.now expr.now made.old ≡ Ok (record { made = made.new; spot = spot })) }
-    ensures limit { (which : Which) → IsErrOf result (stop.Limit which) → targeted scope.now expr.now made.old ≡ Err which }
+    ensures { record {
+      limit : (which : Which) → IsErrOf result (stop.Limit which) → targeted scope.now expr.now made.old ≡ Err which;
+      made : IfOk result (λ spot. targeted scope.now expr.now made.old ≡ Ok (record { made = made.new; spot = spot }));
+    } }
 {
     match form_of(&expr.kind) {
         Form::Selects => selected_target(alloc, scope, expr, made),
@@ -792,8 +842,10 @@ fn selected_target(
     made: &mut Made,
 ) -> Result<Spot, Stop>
     requires { form_of expr.now.kind ≡ form.Selects }
-    ensures made { IfOk result (λ spot. targeted scope.now expr.now made.old ≡ Ok (record { made = made.new; spot = spot })) }
-    ensures limit { (which : Which) → IsErrOf result (stop.Limit which) → targeted scope.now expr.now made.old ≡ Err which }
+    ensures { record {
+      limit : (which : Which) → IsErrOf result (stop.Limit which) → targeted scope.now expr.now made.old ≡ Err which;
+      made : IfOk result (λ spot. targeted scope.now expr.now made.old ≡ Ok (record { made = made.new; spot = spot }));
+    } }
 {
     match &expr.kind {
         ExprKind::Select(object, name) => {
@@ -818,8 +870,10 @@ pub fn condition(
     expr: &Expr,
     free: &mut u32,
 ) -> Result<Cond, Stop>
-    ensures cond { IfOk result (λ cond. asked scope.now expr.now free.old ≡ Ok (record { cond = cond; free = free.new })) }
-    ensures limit { (which : Which) → IsErrOf result (stop.Limit which) → asked scope.now expr.now free.old ≡ Err which }
+    ensures { record {
+      cond : IfOk result (λ cond. asked scope.now expr.now free.old ≡ Ok (record { cond = cond; free = free.new }));
+      limit : (which : Which) → IsErrOf result (stop.Limit which) → asked scope.now expr.now free.old ≡ Err which;
+    } }
 {
     match form_of(&expr.kind) {
         Form::Asks => asked(alloc, scope, expr, free),
@@ -831,8 +885,10 @@ pub fn condition(
 #[cycle(lowering)]
 fn decided(alloc: Global, scope: &Scope<'_>, expr: &Expr, free: &mut u32) -> Result<Cond, Stop>
     requires { form_of expr.now.kind ≢ form.Asks }
-    ensures cond { IfOk result (λ cond. asked scope.now expr.now free.old ≡ Ok (record { cond = cond; free = free.new })) }
-    ensures limit { (which : Which) → IsErrOf result (stop.Limit which) → asked scope.now expr.now free.old ≡ Err which }
+    ensures { record {
+      cond : IfOk result (λ cond. asked scope.now expr.now free.old ≡ Ok (record { cond = cond; free = free.new }));
+      limit : (which : Which) → IsErrOf result (stop.Limit which) → asked scope.now expr.now free.old ≡ Err which;
+    } }
 {
     if let ExprKind::Bool(answer) = &expr.kind {
         return Ok(Cond::Known(*answer));
@@ -847,8 +903,10 @@ fn decided(alloc: Global, scope: &Scope<'_>, expr: &Expr, free: &mut u32) -> Res
 #[cycle(lowering)]
 fn asked(alloc: Global, scope: &Scope<'_>, expr: &Expr, free: &mut u32) -> Result<Cond, Stop>
     requires { form_of expr.now.kind ≡ form.Asks }
-    ensures cond { IfOk result (λ cond. asked scope.now expr.now free.old ≡ Ok (record { cond = cond; free = free.new })) }
-    ensures limit { (which : Which) → IsErrOf result (stop.Limit which) → asked scope.now expr.now free.old ≡ Err which }
+    ensures { record {
+      cond : IfOk result (λ cond. asked scope.now expr.now free.old ≡ Ok (record { cond = cond; free = free.new }));
+      limit : (which : Which) → IsErrOf result (stop.Limit which) → asked scope.now expr.now free.old ≡ Err which;
+    } }
 {
     match &expr.kind {
         ExprKind::Unary(_, operand) => {

@@ -37,8 +37,10 @@ pub fn push(made: &mut Made, item: Item) -> Result<(), AllocError>
 
 /// Adds an item whose target is the first free slot, and takes that.
 pub fn take(made: &mut Made, item: Item) -> Result<u32, Stop>
-    ensures made { IfOk result (λ at. spec.taking made.old item ≡ spec.in_place made.new at) }
-    ensures limit { (which : Which) → IsErrOf result (stop.Limit which) → spec.taking made.old item ≡ Err which }
+    ensures { record {
+      limit : (which : Which) → IsErrOf result (stop.Limit which) → spec.taking made.old item ≡ Err which;
+      made : IfOk result (λ at. spec.taking made.old item ≡ spec.in_place made.new at);
+    } }
 {
     let slot = made.free;
     if slot >= MOST_SLOTS {
@@ -62,8 +64,10 @@ pub fn done(alloc: Global, kind: OpKind, span: Span) -> Item
 
 /// Adds an operation into the first free slot, and takes that.
 pub fn compute(alloc: Global, made: &mut Made, kind: OpKind, span: Span) -> Result<u32, Stop>
-    ensures made { IfOk result (λ at. spec.computed made.old kind span ≡ spec.in_place made.new at) }
-    ensures limit { (which : Which) → IsErrOf result (stop.Limit which) → spec.computed made.old kind span ≡ Err which }
+    ensures { record {
+      limit : (which : Which) → IsErrOf result (stop.Limit which) → spec.computed made.old kind span ≡ Err which;
+      made : IfOk result (λ at. spec.computed made.old kind span ≡ spec.in_place made.new at);
+    } }
 {
     let item = done(alloc, kind, span);
     take(made, item)
@@ -71,8 +75,10 @@ pub fn compute(alloc: Global, made: &mut Made, kind: OpKind, span: Span) -> Resu
 
 /// An int in a new temporary.
 pub fn constant(alloc: Global, made: &mut Made, n: i32, span: Span) -> Result<u32, Stop>
-    ensures made { IfOk result (λ at. int_value n span made.old ≡ spec.in_place made.new at) }
-    ensures limit { (which : Which) → IsErrOf result (stop.Limit which) → int_value n span made.old ≡ Err which }
+    ensures { record {
+      limit : (which : Which) → IsErrOf result (stop.Limit which) → int_value n span made.old ≡ Err which;
+      made : IfOk result (λ at. int_value n span made.old ≡ spec.in_place made.new at);
+    } }
 {
     let kind = OpKind::Const(made.free, Literal::Int(n));
     compute(alloc, made, kind, span)
@@ -89,8 +95,10 @@ fn truth_block(alloc: Global, answer: bool, slot: u32, span: Span) -> Result<Blo
 
 /// True or false in a new temporary, by a condition whose temporaries end before the first free slot.
 pub fn truth(alloc: Global, asked: Cond, span: Span, made: &mut Made) -> Result<u32, Stop>
-    ensures made { IfOk result (λ at. spec.truth_value made.old.items span (record { cond = asked; free = made.old.free }) ≡ spec.in_place made.new at) }
-    ensures limit { (which : Which) → IsErrOf result (stop.Limit which) → spec.truth_value made.old.items span (record { cond = asked; free = made.old.free }) ≡ Err which }
+    ensures { record {
+      limit : (which : Which) → IsErrOf result (stop.Limit which) → spec.truth_value made.old.items span (record { cond = asked; free = made.old.free }) ≡ Err which;
+      made : IfOk result (λ at. spec.truth_value made.old.items span (record { cond = asked; free = made.old.free }) ≡ spec.in_place made.new at);
+    } }
 {
     let holds = truth_block(alloc, true, made.free, span)?;
     let fails = truth_block(alloc, false, made.free, span)?;
@@ -99,8 +107,10 @@ pub fn truth(alloc: Global, asked: Cond, span: Span, made: &mut Made) -> Result<
 
 /// What is in a spot, in a new temporary.
 pub fn read(alloc: Global, spot: &Spot, target: Span, made: &mut Made) -> Result<u32, Stop>
-    ensures made { IfOk result (λ at. spec.read spot.now target made.old ≡ spec.in_place made.new at) }
-    ensures limit { (which : Which) → IsErrOf result (stop.Limit which) → spec.read spot.now target made.old ≡ Err which }
+    ensures { record {
+      limit : (which : Which) → IsErrOf result (stop.Limit which) → spec.read spot.now target made.old ≡ Err which;
+      made : IfOk result (λ at. spec.read spot.now target made.old ≡ spec.in_place made.new at);
+    } }
 {
     match spot {
         Spot::Variable(slot) => {

@@ -45,8 +45,10 @@ fn instance_declaration<'p>(
     own: &Annotations<'_>,
     decl: &LocalDecl,
 ) -> Result<Declaration, AllocError>
-    ensures claims { IfOk result (λ d. d.claims ≡ (parts.instance_declaration (here world.now scopes.now) number (annotated own.now decl.now)).claims) }
-    ensures notes { OnOk result (notes.new ≡ notes.old ++ (parts.instance_declaration (here world.now scopes.now) number (annotated own.now decl.now)).notes) }
+    ensures { record {
+      claims : IfOk result (λ d. d.claims ≡ (parts.instance_declaration (here world.now scopes.now) number (annotated own.now decl.now)).claims);
+      notes : OnOk result (notes.new ≡ notes.old ++ (parts.instance_declaration (here world.now scopes.now) number (annotated own.now decl.now)).notes);
+    } }
 {
     let names = InAnnotation {
         world,
@@ -92,8 +94,10 @@ fn field_declaration(
     own: &Annotations<'_>,
     decl: &LocalDecl,
 ) -> Result<Declaration, AllocError>
-    ensures claims { IfOk result (λ d. d.claims ≡ (spec.field_declaration (at world.now number class.now) field.now (annotated own.now decl.now)).claims) }
-    ensures notes { OnOk result (notes.new ≡ notes.old ++ (spec.field_declaration (at world.now number class.now) field.now (annotated own.now decl.now)).notes) }
+    ensures { record {
+      claims : IfOk result (λ d. d.claims ≡ (spec.field_declaration (at world.now number class.now) field.now (annotated own.now decl.now)).claims);
+      notes : OnOk result (notes.new ≡ notes.old ++ (spec.field_declaration (at world.now number class.now) field.now (annotated own.now decl.now)).notes);
+    } }
 {
     if field.is_static {
         return static_field(

@@ -78,9 +78,11 @@ fn method_given<'p>(
     m: &Signature,
     annots: &[Annot],
 ) -> Result<Marks, AllocError>
-    ensures effect_free { IfOk result (λ marks. marks.effect_free ≡ (parts.method_given (here world.now scopes.now) m.now annots.now).effect_free) }
-    ensures posts { IfOk result (λ marks. marks.posts ≡ (parts.method_given (here world.now scopes.now) m.now annots.now).posts) }
-    ensures notes { OnOk result (notes.new ≡ notes.old ++ (parts.method_given (here world.now scopes.now) m.now annots.now).notes) }
+    ensures { record {
+      effect_free : IfOk result (λ marks. marks.effect_free ≡ (parts.method_given (here world.now scopes.now) m.now annots.now).effect_free);
+      posts : IfOk result (λ marks. marks.posts ≡ (parts.method_given (here world.now scopes.now) m.now annots.now).posts);
+      notes : OnOk result (notes.new ≡ notes.old ++ (parts.method_given (here world.now scopes.now) m.now annots.now).notes);
+    } }
 {
     let names = InAnnotation {
         world,
@@ -106,8 +108,10 @@ fn result_of<'p>(
     annots: &[Annot],
     ty: &Option<TypeTree>,
 ) -> Result<List<Claim>, AllocError>
-    ensures claims { IfOk result (λ claims. claims ≡ (parts.result_of (here world.now scopes.now) annots.now ty.now).claims) }
-    ensures notes { OnOk result (notes.new ≡ notes.old ++ (parts.result_of (here world.now scopes.now) annots.now ty.now).notes) }
+    ensures { record {
+      claims : IfOk result (λ claims. claims ≡ (parts.result_of (here world.now scopes.now) annots.now ty.now).claims);
+      notes : OnOk result (notes.new ≡ notes.old ++ (parts.result_of (here world.now scopes.now) annots.now ty.now).notes);
+    } }
 {
     let names = InAnnotation {
         world,
@@ -146,8 +150,10 @@ fn result_given(
     m: &Signature,
     decl: &MethodDecl,
 ) -> Result<List<Claim>, AllocError>
-    ensures claims { IfOk result (λ claims. claims ≡ (parts.result_given (here world.now scopes.now) m.now decl.now).claims) }
-    ensures notes { OnOk result (notes.new ≡ notes.old ++ (parts.result_given (here world.now scopes.now) m.now decl.now).notes) }
+    ensures { record {
+      claims : IfOk result (λ claims. claims ≡ (parts.result_given (here world.now scopes.now) m.now decl.now).claims);
+      notes : OnOk result (notes.new ≡ notes.old ++ (parts.result_given (here world.now scopes.now) m.now decl.now).notes);
+    } }
 {
     if m.constructor {
         return Ok(List::new(alloc));
@@ -158,9 +164,11 @@ fn result_given(
 
 /// What a method with these claims on its result is declared with.
 fn marked(alloc: Global, list: List<Claim>, marks: &Marks) -> Result<Claims, AllocError>
-    ensures list { IfOk result (λ claims. claims.list ≡ list) }
-    ensures effect_free { IfOk result (λ claims. claims.effect_free ≡ marks.now.effect_free) }
-    ensures posts { IfOk result (λ claims. claims.posts ≡ annotated.distinct_posts marks.now.posts) }
+    ensures { record {
+      list : IfOk result (λ claims. claims.list ≡ list);
+      effect_free : IfOk result (λ claims. claims.effect_free ≡ marks.now.effect_free);
+      posts : IfOk result (λ claims. claims.posts ≡ annotated.distinct_posts marks.now.posts);
+    } }
 {
     let posts = distinct_posts(alloc, marks.posts.as_slice())?;
     Ok(Claims {

@@ -63,8 +63,10 @@ fn head_scopes<'a>(
     decl: &'a MethodDecl,
 ) -> Result<Scopes<'a>, AllocError>
     requires { length decl.now.params < 2 ^ 32 }
-    ensures scope { IfOk result (λ scopes. here world.now scopes ≡ parts.head_scope (shown world.now) number m.now decl.now) }
-    ensures next { IfOk result (λ scopes. scopes.next ≡ 0) }
+    ensures { record {
+      scope : IfOk result (λ scopes. here world.now scopes ≡ parts.head_scope (shown world.now) number m.now decl.now);
+      next : IfOk result (λ scopes. scopes.next ≡ 0);
+    } }
 {
     let has_object = !(m.is_static || m.constructor);
     let params = params(alloc, world, decl.params.as_slice())?;
@@ -123,8 +125,10 @@ fn with_signature(
     m: &Signature,
     decl: &MethodDecl,
 ) -> Result<(), AllocError>
-    requires params { length decl.now.params < 2 ^ 32 }
-    requires locals { (bodies.all_told (map bodies.telling decl.now.body)).declares < 2 ^ 32 }
+    requires { record {
+      params : length decl.now.params < 2 ^ 32;
+      locals : (bodies.all_told (map bodies.telling decl.now.body)).declares < 2 ^ 32;
+    } }
     ensures { OnOk result (notes.new ≡ notes.old ++ spec.method_notes (at world.now number class.now) m.now decl.now) }
 {
     note_constructor(notes, world, number, class, decl)?;

@@ -55,9 +55,11 @@ fn param_declaration<'p>(
     number: u32,
     decl: &LocalDecl,
 ) -> Result<Declaration, AllocError>
-    ensures ty { IfOk result (λ d. d.ty ≡ (parts.param_declaration (here world.now scopes.now) number decl.now).ty) }
-    ensures claims { IfOk result (λ d. d.claims ≡ (parts.param_declaration (here world.now scopes.now) number decl.now).claims) }
-    ensures notes { OnOk result (notes.new ≡ notes.old ++ (parts.param_declaration (here world.now scopes.now) number decl.now).notes) }
+    ensures { record {
+      ty : IfOk result (λ d. d.ty ≡ (parts.param_declaration (here world.now scopes.now) number decl.now).ty);
+      claims : IfOk result (λ d. d.claims ≡ (parts.param_declaration (here world.now scopes.now) number decl.now).claims);
+      notes : OnOk result (notes.new ≡ notes.old ++ (parts.param_declaration (here world.now scopes.now) number decl.now).notes);
+    } }
 {
     let names = InAnnotation {
         world,

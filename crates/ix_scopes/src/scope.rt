@@ -123,16 +123,18 @@ impl<'a> Scopes<'a> {
 
     /// Leaves the scopes that were opened after `mark` locals were known.
     pub fn leave(&mut self, mark: usize)
-        ensures locals { self.new.locals.entries ≡ take mark self.old.locals.entries }
-        ensures params { self.new.params ≡ self.old.params }
-        ensures next { self.new.next ≡ self.old.next }
-        ensures class { self.new.class ≡ self.old.class }
-        ensures has_object { self.new.has_object ≡ self.old.has_object }
-        ensures in_constructor { self.new.in_constructor ≡ self.old.in_constructor }
-        ensures in_loop { self.new.in_loop ≡ self.old.in_loop }
-        ensures names_fields { self.new.names_fields ≡ self.old.names_fields }
-        ensures result { self.new.result ≡ self.old.result }
-        ensures pending { self.new.pending ≡ self.old.pending }
+        ensures { record {
+          locals : self.new.locals.entries ≡ take mark self.old.locals.entries;
+          params : self.new.params ≡ self.old.params;
+          next : self.new.next ≡ self.old.next;
+          class : self.new.class ≡ self.old.class;
+          has_object : self.new.has_object ≡ self.old.has_object;
+          in_constructor : self.new.in_constructor ≡ self.old.in_constructor;
+          in_loop : self.new.in_loop ≡ self.old.in_loop;
+          names_fields : self.new.names_fields ≡ self.old.names_fields;
+          result : self.new.result ≡ self.old.result;
+          pending : self.new.pending ≡ self.old.pending;
+        } }
     {
         self.locals.truncate(mark);
     }

@@ -84,9 +84,11 @@ fn keep_numbers(
     declarations: &mut IndexMap<Span, usize>,
     notes: &[Note],
 ) -> Result<(), AllocError>
-    ensures meanings { OnOk result ((p : Span) → get same_span meanings.new p ≡ spec.first_use p (get same_span meanings.old p) 0 notes.now) }
-    ensures types { OnOk result ((p : Span) → get same_span types.new p ≡ spec.first_typed p (get same_span types.old p) 0 notes.now) }
-    ensures declarations { OnOk result ((p : Span) → get same_span declarations.new p ≡ spec.first_declared p (get same_span declarations.old p) 0 notes.now) }
+    ensures { record {
+      meanings : OnOk result ((p : Span) → get same_span meanings.new p ≡ spec.first_use p (get same_span meanings.old p) 0 notes.now);
+      types : OnOk result ((p : Span) → get same_span types.new p ≡ spec.first_typed p (get same_span types.old p) 0 notes.now);
+      declarations : OnOk result ((p : Span) → get same_span declarations.new p ≡ spec.first_declared p (get same_span declarations.old p) 0 notes.now);
+    } }
 {
     for (number, note) in notes.iter().enumerate() {
         match note {

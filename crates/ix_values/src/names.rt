@@ -48,8 +48,10 @@ fn bare_field(
     assigned: bool,
     name: &Ident,
 ) -> Result<Option<Type_>, AllocError>
-    ensures ty { IfOk result (λ t. t ≡ (spec.bare_field (here world.now scopes.now) assigned name.now.span (members.field_named (tables.shown world.now) scopes.now.class name.now.text)).ty) }
-    ensures notes { OnOk result (notes.new ≡ notes.old ++ (spec.bare_field (here world.now scopes.now) assigned name.now.span (members.field_named (tables.shown world.now) scopes.now.class name.now.text)).notes) }
+    ensures { record {
+      ty : IfOk result (λ t. t ≡ (spec.bare_field (here world.now scopes.now) assigned name.now.span (members.field_named (tables.shown world.now) scopes.now.class name.now.text)).ty);
+      notes : OnOk result (notes.new ≡ notes.old ++ (spec.bare_field (here world.now scopes.now) assigned name.now.span (members.field_named (tables.shown world.now) scopes.now.class name.now.text)).notes);
+    } }
 {
     match world.field(scopes.class, name.text.as_str()) {
         None => {
@@ -71,8 +73,10 @@ fn known_use(
     name: &Ident,
     known: Known<'_>,
 ) -> Result<Option<Type_>, AllocError>
-    ensures ty { IfOk result (λ t. t ≡ known.entry.ty.now) }
-    ensures notes { OnOk result (notes.new ≡ notes.old ++ spec.known_notes assigned (known_as name.now.text known.entry) name.now.span) }
+    ensures { record {
+      ty : IfOk result (λ t. t ≡ known.entry.ty.now);
+      notes : OnOk result (notes.new ≡ notes.old ++ spec.known_notes assigned (known_as name.now.text known.entry) name.now.span);
+    } }
 {
     notes.push(Note::Use(name.span, known.meaning))?;
     wrong_if(
@@ -93,8 +97,10 @@ pub fn variable(
     assigned: bool,
     name: &Ident,
 ) -> Result<Option<Type_>, AllocError>
-    ensures ty { IfOk result (λ t. t ≡ (spec.variable (here world.now scopes.now) assigned name.now).ty) }
-    ensures notes { OnOk result (notes.new ≡ notes.old ++ (spec.variable (here world.now scopes.now) assigned name.now).notes) }
+    ensures { record {
+      ty : IfOk result (λ t. t ≡ (spec.variable (here world.now scopes.now) assigned name.now).ty);
+      notes : OnOk result (notes.new ≡ notes.old ++ (spec.variable (here world.now scopes.now) assigned name.now).notes);
+    } }
 {
     if scopes.is_pending(name.text.as_str()) {
         wrong(notes, Rule::UnknownName, name.span)?;
@@ -119,8 +125,10 @@ pub fn object_of(
     ty: Option<Type_>,
     span: Span,
 ) -> Result<Object, AllocError>
-    ensures object { IfOk result (λ o. objects.shown o ≡ spec.object_for ty) }
-    ensures notes { OnOk result (notes.new ≡ notes.old ++ spec.object_notes ty span) }
+    ensures { record {
+      object : IfOk result (λ o. objects.shown o ≡ spec.object_for ty);
+      notes : OnOk result (notes.new ≡ notes.old ++ spec.object_notes ty span);
+    } }
 {
     note_type(alloc, notes, &ty, span)?;
     match ty {
@@ -143,8 +151,10 @@ pub fn name_before_dot(
     name: &Ident,
     span: Span,
 ) -> Result<Object, AllocError>
-    ensures object { IfOk result (λ o. objects.shown o ≡ (spec.name_before_dot (here world.now scopes.now) name.now span).object) }
-    ensures notes { OnOk result (notes.new ≡ notes.old ++ (spec.name_before_dot (here world.now scopes.now) name.now span).notes) }
+    ensures { record {
+      object : IfOk result (λ o. objects.shown o ≡ (spec.name_before_dot (here world.now scopes.now) name.now span).object);
+      notes : OnOk result (notes.new ≡ notes.old ++ (spec.name_before_dot (here world.now scopes.now) name.now span).notes);
+    } }
 {
     if !is_variable(world, scopes, name.text.as_str()) {
         if let Some(class) = world.class(name.text.as_str()) {

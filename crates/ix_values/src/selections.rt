@@ -42,8 +42,10 @@ pub fn element_in(
     ty: &Option<Type_>,
     span: Span,
 ) -> Result<Option<Type_>, AllocError>
-    ensures ty { IfOk result (λ t. t ≡ types.element_in ty.now) }
-    ensures notes { OnOk result (notes.new ≡ notes.old ++ spec.no_array ty.now span) }
+    ensures { record {
+      notes : OnOk result (notes.new ≡ notes.old ++ spec.no_array ty.now span);
+      ty : IfOk result (λ t. t ≡ types.element_in ty.now);
+    } }
 {
     match ty {
         None => Ok(None),
@@ -65,8 +67,10 @@ fn instance_field(
     assigned: bool,
     through_this: bool,
 ) -> Result<Option<Type_>, AllocError>
-    ensures ty { IfOk result (λ t. t ≡ (spec.instance_field (here world.now scopes.now) assigned through_this name.now (members.field_named (tables.shown world.now) class name.now.text)).ty) }
-    ensures notes { OnOk result (notes.new ≡ notes.old ++ (spec.instance_field (here world.now scopes.now) assigned through_this name.now (members.field_named (tables.shown world.now) class name.now.text)).notes) }
+    ensures { record {
+      ty : IfOk result (λ t. t ≡ (spec.instance_field (here world.now scopes.now) assigned through_this name.now (members.field_named (tables.shown world.now) class name.now.text)).ty);
+      notes : OnOk result (notes.new ≡ notes.old ++ (spec.instance_field (here world.now scopes.now) assigned through_this name.now (members.field_named (tables.shown world.now) class name.now.text)).notes);
+    } }
 {
     match world.field(class, name.text.as_str()) {
         None => {
@@ -89,8 +93,10 @@ fn class_field(
     name: &Ident,
     assigned: bool,
 ) -> Result<Option<Type_>, AllocError>
-    ensures ty { IfOk result (λ t. t ≡ (spec.class_field (here world.now scopes.now) assigned name.now (members.field_named (tables.shown world.now) class name.now.text)).ty) }
-    ensures notes { OnOk result (notes.new ≡ notes.old ++ (spec.class_field (here world.now scopes.now) assigned name.now (members.field_named (tables.shown world.now) class name.now.text)).notes) }
+    ensures { record {
+      ty : IfOk result (λ t. t ≡ (spec.class_field (here world.now scopes.now) assigned name.now (members.field_named (tables.shown world.now) class name.now.text)).ty);
+      notes : OnOk result (notes.new ≡ notes.old ++ (spec.class_field (here world.now scopes.now) assigned name.now (members.field_named (tables.shown world.now) class name.now.text)).notes);
+    } }
 {
     match world.field(class, name.text.as_str()) {
         None => {
@@ -110,8 +116,10 @@ fn array_length(
     name: &Ident,
     assigned: bool,
 ) -> Result<Option<Type_>, AllocError>
-    ensures ty { IfOk result (λ t. t ≡ (spec.array_length assigned name.now).ty) }
-    ensures notes { OnOk result (notes.new ≡ notes.old ++ (spec.array_length assigned name.now).notes) }
+    ensures { record {
+      ty : IfOk result (λ t. t ≡ (spec.array_length assigned name.now).ty);
+      notes : OnOk result (notes.new ≡ notes.old ++ (spec.array_length assigned name.now).notes);
+    } }
 {
     if name.text.as_str() == "length" {
         notes.push(Note::Use(name.span, Meaning::LengthOf))?;
@@ -132,8 +140,10 @@ pub fn selected(
     assigned: bool,
     through_this: bool,
 ) -> Result<Option<Type_>, AllocError>
-    ensures ty { IfOk result (λ t. t ≡ (spec.selected (here world.now scopes.now) assigned through_this name.now (objects.shown object.now)).ty) }
-    ensures notes { OnOk result (notes.new ≡ notes.old ++ (spec.selected (here world.now scopes.now) assigned through_this name.now (objects.shown object.now)).notes) }
+    ensures { record {
+      ty : IfOk result (λ t. t ≡ (spec.selected (here world.now scopes.now) assigned through_this name.now (objects.shown object.now)).ty);
+      notes : OnOk result (notes.new ≡ notes.old ++ (spec.selected (here world.now scopes.now) assigned through_this name.now (objects.shown object.now)).notes);
+    } }
 {
     match object {
         Object::Nothing => Ok(None),

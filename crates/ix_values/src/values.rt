@@ -32,8 +32,10 @@ pub fn value(
     notes: &mut List<Note>,
     e: &Expr,
 ) -> Result<Option<Type_>, AllocError>
-    ensures ty { IfOk result (λ t. t ≡ ((spec.reading e.now).judge (here world.now scopes.now)).ty) }
-    ensures notes { OnOk result (notes.new ≡ notes.old ++ ((spec.reading e.now).judge (here world.now scopes.now)).notes) }
+    ensures { record {
+      ty : IfOk result (λ t. t ≡ ((spec.reading e.now).judge (here world.now scopes.now)).ty);
+      notes : OnOk result (notes.new ≡ notes.old ++ ((spec.reading e.now).judge (here world.now scopes.now)).notes);
+    } }
 {
     let ty = kind(alloc, world, scopes, notes, &e.kind, e.span)?;
     note_type(alloc, notes, &ty, e.span)?;
@@ -68,8 +70,10 @@ fn operand(
     notes: &mut List<Note>,
     e: &Expr,
 ) -> Result<Option<Type_>, AllocError>
-    ensures ty { IfOk result (λ t. t ≡ (spec.operand (spec.reading e.now) (here world.now scopes.now)).ty) }
-    ensures notes { OnOk result (notes.new ≡ notes.old ++ (spec.operand (spec.reading e.now) (here world.now scopes.now)).notes) }
+    ensures { record {
+      ty : IfOk result (λ t. t ≡ (spec.operand (spec.reading e.now) (here world.now scopes.now)).ty);
+      notes : OnOk result (notes.new ≡ notes.old ++ (spec.operand (spec.reading e.now) (here world.now scopes.now)).notes);
+    } }
 {
     if is_null(e) {
         return Ok(None);
@@ -129,8 +133,10 @@ fn called(
     method: Called<'_>,
     span: Span,
 ) -> Result<Option<Type_>, AllocError>
-    ensures ty { IfOk result (λ t. t ≡ (spec.called (here world.now scopes.now) span (map spec.reading args.now) (tables.callee method.entry)).ty) }
-    ensures notes { OnOk result (notes.new ≡ notes.old ++ (spec.called (here world.now scopes.now) span (map spec.reading args.now) (tables.callee method.entry)).notes) }
+    ensures { record {
+      ty : IfOk result (λ t. t ≡ (spec.called (here world.now scopes.now) span (map spec.reading args.now) (tables.callee method.entry)).ty);
+      notes : OnOk result (notes.new ≡ notes.old ++ (spec.called (here world.now scopes.now) span (map spec.reading args.now) (tables.callee method.entry)).notes);
+    } }
 {
     notes.push(Note::Use(span, Meaning::MethodNamed(method.number)))?;
     given_to(
@@ -154,8 +160,10 @@ fn unknown_call(
     args: &[Expr],
     span: Span,
 ) -> Result<Option<Type_>, AllocError>
-    ensures ty { IfOk result (λ t. t ≡ (spec.unknown_call (here world.now scopes.now) span (map spec.reading args.now)).ty) }
-    ensures notes { OnOk result (notes.new ≡ notes.old ++ (spec.unknown_call (here world.now scopes.now) span (map spec.reading args.now)).notes) }
+    ensures { record {
+      ty : IfOk result (λ t. t ≡ (spec.unknown_call (here world.now scopes.now) span (map spec.reading args.now)).ty);
+      notes : OnOk result (notes.new ≡ notes.old ++ (spec.unknown_call (here world.now scopes.now) span (map spec.reading args.now)).notes);
+    } }
 {
     wrong(notes, Rule::UnknownName, span)?;
     arguments(alloc, world, scopes, notes, args, &[])?;
@@ -171,8 +179,10 @@ fn bare_call(
     args: &[Expr],
     name: &Ident,
 ) -> Result<Option<Type_>, AllocError>
-    ensures ty { IfOk result (λ t. t ≡ (spec.bare_call (here world.now scopes.now) name.now (map spec.reading args.now) (members.method_named (tables.shown world.now) scopes.now.class name.now.text)).ty) }
-    ensures notes { OnOk result (notes.new ≡ notes.old ++ (spec.bare_call (here world.now scopes.now) name.now (map spec.reading args.now) (members.method_named (tables.shown world.now) scopes.now.class name.now.text)).notes) }
+    ensures { record {
+      ty : IfOk result (λ t. t ≡ (spec.bare_call (here world.now scopes.now) name.now (map spec.reading args.now) (members.method_named (tables.shown world.now) scopes.now.class name.now.text)).ty);
+      notes : OnOk result (notes.new ≡ notes.old ++ (spec.bare_call (here world.now scopes.now) name.now (map spec.reading args.now) (members.method_named (tables.shown world.now) scopes.now.class name.now.text)).notes);
+    } }
 {
     match world.method(scopes.class, name.text.as_str()) {
         None => unknown_call(alloc, world, scopes, notes, args, name.span),
@@ -193,8 +203,10 @@ fn class_call(
     class: u32,
     name: &Ident,
 ) -> Result<Option<Type_>, AllocError>
-    ensures ty { IfOk result (λ t. t ≡ (spec.class_call (here world.now scopes.now) name.now (map spec.reading args.now) (members.method_named (tables.shown world.now) class name.now.text)).ty) }
-    ensures notes { OnOk result (notes.new ≡ notes.old ++ (spec.class_call (here world.now scopes.now) name.now (map spec.reading args.now) (members.method_named (tables.shown world.now) class name.now.text)).notes) }
+    ensures { record {
+      ty : IfOk result (λ t. t ≡ (spec.class_call (here world.now scopes.now) name.now (map spec.reading args.now) (members.method_named (tables.shown world.now) class name.now.text)).ty);
+      notes : OnOk result (notes.new ≡ notes.old ++ (spec.class_call (here world.now scopes.now) name.now (map spec.reading args.now) (members.method_named (tables.shown world.now) class name.now.text)).notes);
+    } }
 {
     match world.method(class, name.text.as_str()) {
         None => unknown_call(alloc, world, scopes, notes, args, name.span),
@@ -220,8 +232,10 @@ fn instance_call(
     class: u32,
     name: &Ident,
 ) -> Result<Option<Type_>, AllocError>
-    ensures ty { IfOk result (λ t. t ≡ (spec.instance_call (here world.now scopes.now) name.now (map spec.reading args.now) (members.method_named (tables.shown world.now) class name.now.text)).ty) }
-    ensures notes { OnOk result (notes.new ≡ notes.old ++ (spec.instance_call (here world.now scopes.now) name.now (map spec.reading args.now) (members.method_named (tables.shown world.now) class name.now.text)).notes) }
+    ensures { record {
+      ty : IfOk result (λ t. t ≡ (spec.instance_call (here world.now scopes.now) name.now (map spec.reading args.now) (members.method_named (tables.shown world.now) class name.now.text)).ty);
+      notes : OnOk result (notes.new ≡ notes.old ++ (spec.instance_call (here world.now scopes.now) name.now (map spec.reading args.now) (members.method_named (tables.shown world.now) class name.now.text)).notes);
+    } }
 {
     match world.method(class, name.text.as_str()) {
         None => unknown_call(alloc, world, scopes, notes, args, name.span),
@@ -239,8 +253,10 @@ fn call_on(
     object: &Object,
     name: &Ident,
 ) -> Result<Option<Type_>, AllocError>
-    ensures ty { IfOk result (λ t. t ≡ (spec.call_on (here world.now scopes.now) name.now (map spec.reading args.now) (objects.shown object.now)).ty) }
-    ensures notes { OnOk result (notes.new ≡ notes.old ++ (spec.call_on (here world.now scopes.now) name.now (map spec.reading args.now) (objects.shown object.now)).notes) }
+    ensures { record {
+      ty : IfOk result (λ t. t ≡ (spec.call_on (here world.now scopes.now) name.now (map spec.reading args.now) (objects.shown object.now)).ty);
+      notes : OnOk result (notes.new ≡ notes.old ++ (spec.call_on (here world.now scopes.now) name.now (map spec.reading args.now) (objects.shown object.now)).notes);
+    } }
 {
     match object {
         Object::Nothing => {
@@ -264,8 +280,10 @@ fn creation(
     args: &[Expr],
     name: &Ident,
 ) -> Result<Option<Type_>, AllocError>
-    ensures ty { IfOk result (λ t. t ≡ (spec.creation (here world.now scopes.now) name.now (map spec.reading args.now) ((tables.shown world.now).class name.now.text)).ty) }
-    ensures notes { OnOk result (notes.new ≡ notes.old ++ (spec.creation (here world.now scopes.now) name.now (map spec.reading args.now) ((tables.shown world.now).class name.now.text)).notes) }
+    ensures { record {
+      ty : IfOk result (λ t. t ≡ (spec.creation (here world.now scopes.now) name.now (map spec.reading args.now) ((tables.shown world.now).class name.now.text)).ty);
+      notes : OnOk result (notes.new ≡ notes.old ++ (spec.creation (here world.now scopes.now) name.now (map spec.reading args.now) ((tables.shown world.now).class name.now.text)).notes);
+    } }
 {
     match world.class(name.text.as_str()) {
         None => {
@@ -298,8 +316,10 @@ fn assigned(
     notes: &mut List<Note>,
     e: &Expr,
 ) -> Result<Option<Type_>, AllocError>
-    ensures ty { IfOk result (λ t. t ≡ ((spec.reading e.now).assigned (here world.now scopes.now)).ty) }
-    ensures notes { OnOk result (notes.new ≡ notes.old ++ ((spec.reading e.now).assigned (here world.now scopes.now)).notes) }
+    ensures { record {
+      ty : IfOk result (λ t. t ≡ ((spec.reading e.now).assigned (here world.now scopes.now)).ty);
+      notes : OnOk result (notes.new ≡ notes.old ++ ((spec.reading e.now).assigned (here world.now scopes.now)).notes);
+    } }
 {
     let ty = assigned_kind(alloc, world, scopes, notes, &e.kind, e.span)?;
     note_type(alloc, notes, &ty, e.span)?;
@@ -315,8 +335,10 @@ fn assigned_kind(
     k: &ExprKind,
     span: Span,
 ) -> Result<Option<Type_>, AllocError>
-    ensures ty { IfOk result (λ t. t ≡ ((spec.kind_reading k.now).assigned (here world.now scopes.now) span).ty) }
-    ensures notes { OnOk result (notes.new ≡ notes.old ++ ((spec.kind_reading k.now).assigned (here world.now scopes.now) span).notes) }
+    ensures { record {
+      ty : IfOk result (λ t. t ≡ ((spec.kind_reading k.now).assigned (here world.now scopes.now) span).ty);
+      notes : OnOk result (notes.new ≡ notes.old ++ ((spec.kind_reading k.now).assigned (here world.now scopes.now) span).notes);
+    } }
 {
     match k {
         ExprKind::Name(name) => variable(alloc, world, scopes, notes, true, name),
@@ -347,8 +369,10 @@ fn array_part(
     notes: &mut List<Note>,
     e: &Expr,
 ) -> Result<Option<Type_>, AllocError>
-    ensures ty { IfOk result (λ t. t ≡ (spec.array_part (spec.reading e.now) (here world.now scopes.now)).ty) }
-    ensures notes { OnOk result (notes.new ≡ notes.old ++ (spec.array_part (spec.reading e.now) (here world.now scopes.now)).notes) }
+    ensures { record {
+      ty : IfOk result (λ t. t ≡ (spec.array_part (spec.reading e.now) (here world.now scopes.now)).ty);
+      notes : OnOk result (notes.new ≡ notes.old ++ (spec.array_part (spec.reading e.now) (here world.now scopes.now)).notes);
+    } }
 {
     if is_null(e) {
         wrong(notes, Rule::TypeMismatch, e.span)?;
@@ -367,8 +391,10 @@ fn receiver(
     notes: &mut List<Note>,
     e: &Expr,
 ) -> Result<Object, AllocError>
-    ensures object { IfOk result (λ o. objects.shown o ≡ ((spec.reading e.now).receiver (here world.now scopes.now)).object) }
-    ensures notes { OnOk result (notes.new ≡ notes.old ++ ((spec.reading e.now).receiver (here world.now scopes.now)).notes) }
+    ensures { record {
+      object : IfOk result (λ o. objects.shown o ≡ ((spec.reading e.now).receiver (here world.now scopes.now)).object);
+      notes : OnOk result (notes.new ≡ notes.old ++ ((spec.reading e.now).receiver (here world.now scopes.now)).notes);
+    } }
 {
     receiver_kind(alloc, world, scopes, notes, &e.kind, e.span)
 }
@@ -382,8 +408,10 @@ fn receiver_kind(
     k: &ExprKind,
     span: Span,
 ) -> Result<Object, AllocError>
-    ensures object { IfOk result (λ o. objects.shown o ≡ ((spec.kind_reading k.now).receiver (here world.now scopes.now) span).object) }
-    ensures notes { OnOk result (notes.new ≡ notes.old ++ ((spec.kind_reading k.now).receiver (here world.now scopes.now) span).notes) }
+    ensures { record {
+      object : IfOk result (λ o. objects.shown o ≡ ((spec.kind_reading k.now).receiver (here world.now scopes.now) span).object);
+      notes : OnOk result (notes.new ≡ notes.old ++ ((spec.kind_reading k.now).receiver (here world.now scopes.now) span).notes);
+    } }
 {
     match k {
         ExprKind::Null => {
@@ -407,8 +435,10 @@ fn kind(
     k: &ExprKind,
     span: Span,
 ) -> Result<Option<Type_>, AllocError>
-    ensures ty { IfOk result (λ t. t ≡ ((spec.kind_reading k.now).judge (here world.now scopes.now) span).ty) }
-    ensures notes { OnOk result (notes.new ≡ notes.old ++ ((spec.kind_reading k.now).judge (here world.now scopes.now) span).notes) }
+    ensures { record {
+      ty : IfOk result (λ t. t ≡ ((spec.kind_reading k.now).judge (here world.now scopes.now) span).ty);
+      notes : OnOk result (notes.new ≡ notes.old ++ ((spec.kind_reading k.now).judge (here world.now scopes.now) span).notes);
+    } }
 {
     match k {
         ExprKind::Int(_) => Ok(Some(INT)),

@@ -99,9 +99,11 @@ fn push_fields(
     fields: &mut List<Field>,
 ) -> Result<u32, AllocError>
     requires { first + length members.now < 2 ^ 32 }
-    ensures fields { OnOk result (fields.new ≡ fields.old ++ spec.fields_in (get_by_text classes.now) class first (declared.members members.now)) }
-    ensures next { IfOk result (λ next. next ≡ spec.next_fields first members.now) }
-    ensures few { IfOk result (λ next. next ≤ first + length members.now) }
+    ensures { record {
+      fields : OnOk result (fields.new ≡ fields.old ++ spec.fields_in (get_by_text classes.now) class first (declared.members members.now));
+      next : IfOk result (λ next. next ≡ spec.next_fields first members.now);
+      few : IfOk result (λ next. next ≤ first + length members.now);
+    } }
 {
     let mut next = first;
     let mut begun = None;
@@ -129,8 +131,10 @@ pub fn fields(
     classes: &IndexMap<String, u32>,
     decls: &[ClassDecl],
 ) -> Result<List<Field>, AllocError>
-    requires few { length decls.now < 2 ^ 32 }
-    requires members { members_in decls.now + 1 < 2 ^ 32 }
+    requires { record {
+      few : length decls.now < 2 ^ 32;
+      members : members_in decls.now + 1 < 2 ^ 32;
+    } }
     ensures { IfOk result (λ fields. fields ≡ spec.fields_from (get_by_text classes.now) 0 0 decls.now) }
 {
     let mut fields = List::new(alloc);

@@ -186,8 +186,10 @@ fn class_world(
     decls: &[ClassDecl],
     class: u32,
 ) -> Result<ClassWorld, AllocError>
-    requires few_fields { length fields.now < 2 ^ 32 }
-    requires few_methods { length methods.now < 2 ^ 32 }
+    requires { record {
+      few_fields : length fields.now < 2 ^ 32;
+      few_methods : length methods.now < 2 ^ 32;
+    } }
     ensures { IfOk result (spec.IsClass parents.now fields.now methods.now decls.now class) }
 {
     let supers = supers(alloc, parents, class)?;
@@ -211,11 +213,15 @@ fn class_worlds(
     methods: &[Signature],
     decls: &[ClassDecl],
 ) -> Result<List<ClassWorld>, AllocError>
-    requires few_fields { length fields.now < 2 ^ 32 }
-    requires few_methods { length methods.now < 2 ^ 32 }
-    requires few { length decls.now < 2 ^ 32 }
-    ensures each { IfOk result (spec.AreClasses parents.now fields.now methods.now decls.now 0) }
-    ensures all { IfOk result (λ worlds. length worlds ≡ length decls.now) }
+    requires { record {
+      few_fields : length fields.now < 2 ^ 32;
+      few_methods : length methods.now < 2 ^ 32;
+      few : length decls.now < 2 ^ 32;
+    } }
+    ensures { record {
+      each : IfOk result (spec.AreClasses parents.now fields.now methods.now decls.now 0);
+      all : IfOk result (λ worlds. length worlds ≡ length decls.now);
+    } }
 {
     let mut worlds = List::new(alloc);
     for c in 0..decls.len() {
@@ -231,8 +237,10 @@ pub fn world_of(
     alloc: Global,
     decls: &[ClassDecl],
 ) -> Result<(World, List<Option<u32>>), AllocError>
-    requires few { length decls.now < 2 ^ 32 }
-    requires members { members_in decls.now + 1 < 2 ^ 32 }
+    requires { record {
+      few : length decls.now < 2 ^ 32;
+      members : members_in decls.now + 1 < 2 ^ 32;
+    } }
     ensures { IfOk result (λ found. spec.IsWorld decls.now found.0 found.1) }
 {
     let table = class_table(alloc, decls)?;

@@ -72,10 +72,12 @@ fn one_given<N: Names>(
     names: &N,
     annot: &Annot,
 ) -> Result<bool, AllocError>
-    ensures claims { OnOk result (claims.new ≡ claims.old ++ spec.claims_from (expanded annot.now (N.names names.now))) }
-    ensures effect_free { IfOk result (λ free. free ≡ spec.frees (expanded annot.now (N.names names.now))) }
-    ensures posts { OnOk result (posts.new ≡ posts.old ++ spec.posts_from (expanded annot.now (N.names names.now))) }
-    ensures notes { OnOk result (notes.new ≡ notes.old ++ spec.errors_from (expanded annot.now (N.names names.now)) annot.now.span) }
+    ensures { record {
+      claims : OnOk result (claims.new ≡ claims.old ++ spec.claims_from (expanded annot.now (N.names names.now)));
+      effect_free : IfOk result (λ free. free ≡ spec.frees (expanded annot.now (N.names names.now)));
+      posts : OnOk result (posts.new ≡ posts.old ++ spec.posts_from (expanded annot.now (N.names names.now)));
+      notes : OnOk result (notes.new ≡ notes.old ++ spec.errors_from (expanded annot.now (N.names names.now)) annot.now.span);
+    } }
 {
     match expand(alloc, annot, names) {
         Ok(found) => {
@@ -110,10 +112,12 @@ pub fn given<N: Names>(
     names: &N,
     annots: &[&Annot],
 ) -> Result<Marks, AllocError>
-    ensures claims { OnOk result (claims.new ≡ claims.old ++ (spec.given (N.names names.now) (map (λ annot. annot.now) annots.now)).claims) }
-    ensures effect_free { IfOk result (λ marks. marks.effect_free ≡ (spec.given (N.names names.now) (map (λ annot. annot.now) annots.now)).effect_free) }
-    ensures posts { IfOk result (λ marks. marks.posts ≡ (spec.given (N.names names.now) (map (λ annot. annot.now) annots.now)).posts) }
-    ensures notes { OnOk result (notes.new ≡ notes.old ++ (spec.given (N.names names.now) (map (λ annot. annot.now) annots.now)).notes) }
+    ensures { record {
+      claims : OnOk result (claims.new ≡ claims.old ++ (spec.given (N.names names.now) (map (λ annot. annot.now) annots.now)).claims);
+      effect_free : IfOk result (λ marks. marks.effect_free ≡ (spec.given (N.names names.now) (map (λ annot. annot.now) annots.now)).effect_free);
+      posts : IfOk result (λ marks. marks.posts ≡ (spec.given (N.names names.now) (map (λ annot. annot.now) annots.now)).posts);
+      notes : OnOk result (notes.new ≡ notes.old ++ (spec.given (N.names names.now) (map (λ annot. annot.now) annots.now)).notes);
+    } }
 {
     let mut effect_free = false;
     let mut posts = List::new(alloc);

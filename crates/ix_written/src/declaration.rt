@@ -82,8 +82,10 @@ fn claims_before<N: Names>(
     first: Target,
     before: &[&Annot],
 ) -> Result<List<Claim>, AllocError>
-    ensures claims { IfOk result (λ claims. claims ≡ spec.unless (spec.is_element first) (spec.given (spec.aimed (N.names names.now) first) (map (λ annot. annot.now) before.now)).claims) }
-    ensures notes { OnOk result (notes.new ≡ notes.old ++ (spec.given (spec.aimed (N.names names.now) first) (map (λ annot. annot.now) before.now)).notes) }
+    ensures { record {
+      claims : IfOk result (λ claims. claims ≡ spec.unless (spec.is_element first) (spec.given (spec.aimed (N.names names.now) first) (map (λ annot. annot.now) before.now)).claims);
+      notes : OnOk result (notes.new ≡ notes.old ++ (spec.given (spec.aimed (N.names names.now) first) (map (λ annot. annot.now) before.now)).notes);
+    } }
 {
     let mut claims = List::new(alloc);
     let aimed = Aimed {
@@ -109,9 +111,11 @@ fn declared_on<N: Names>(
     behind: &[&Annot],
     ty: &TypeTree,
 ) -> Result<Declaration, AllocError>
-    ensures ty { IfOk result (λ d. d.ty ≡ (spec.declaration (get_by_text classes.now) (N.names names.now) first second (map (λ annot. annot.now) before.now) (behind_base (map (λ annot. annot.now) behind.now) ty.now)).ty) }
-    ensures claims { IfOk result (λ d. d.claims ≡ (spec.declaration (get_by_text classes.now) (N.names names.now) first second (map (λ annot. annot.now) before.now) (behind_base (map (λ annot. annot.now) behind.now) ty.now)).claims) }
-    ensures notes { OnOk result (notes.new ≡ notes.old ++ (spec.declaration (get_by_text classes.now) (N.names names.now) first second (map (λ annot. annot.now) before.now) (behind_base (map (λ annot. annot.now) behind.now) ty.now)).notes) }
+    ensures { record {
+      claims : IfOk result (λ d. d.claims ≡ (spec.declaration (get_by_text classes.now) (N.names names.now) first second (map (λ annot. annot.now) before.now) (behind_base (map (λ annot. annot.now) behind.now) ty.now)).claims);
+      notes : OnOk result (notes.new ≡ notes.old ++ (spec.declaration (get_by_text classes.now) (N.names names.now) first second (map (λ annot. annot.now) before.now) (behind_base (map (λ annot. annot.now) behind.now) ty.now)).notes);
+      ty : IfOk result (λ d. d.ty ≡ (spec.declaration (get_by_text classes.now) (N.names names.now) first second (map (λ annot. annot.now) before.now) (behind_base (map (λ annot. annot.now) behind.now) ty.now)).ty);
+    } }
 {
     note_class_use(classes, notes, ty)?;
     let mut claims = claims_before(alloc, notes, names, first, before)?;
@@ -136,9 +140,11 @@ pub fn variable<N: Names>(
     behind: &[&Annot],
     ty: &TypeTree,
 ) -> Result<Declaration, AllocError>
-    ensures ty { IfOk result (λ d. d.ty ≡ (spec.variable (get_by_text classes.now) (N.names names.now) (map (λ annot. annot.now) before.now) (behind_base (map (λ annot. annot.now) behind.now) ty.now)).ty) }
-    ensures claims { IfOk result (λ d. d.claims ≡ (spec.variable (get_by_text classes.now) (N.names names.now) (map (λ annot. annot.now) before.now) (behind_base (map (λ annot. annot.now) behind.now) ty.now)).claims) }
-    ensures notes { OnOk result (notes.new ≡ notes.old ++ (spec.variable (get_by_text classes.now) (N.names names.now) (map (λ annot. annot.now) before.now) (behind_base (map (λ annot. annot.now) behind.now) ty.now)).notes) }
+    ensures { record {
+      claims : IfOk result (λ d. d.claims ≡ (spec.variable (get_by_text classes.now) (N.names names.now) (map (λ annot. annot.now) before.now) (behind_base (map (λ annot. annot.now) behind.now) ty.now)).claims);
+      notes : OnOk result (notes.new ≡ notes.old ++ (spec.variable (get_by_text classes.now) (N.names names.now) (map (λ annot. annot.now) before.now) (behind_base (map (λ annot. annot.now) behind.now) ty.now)).notes);
+      ty : IfOk result (λ d. d.ty ≡ (spec.variable (get_by_text classes.now) (N.names names.now) (map (λ annot. annot.now) before.now) (behind_base (map (λ annot. annot.now) behind.now) ty.now)).ty);
+    } }
 {
     let first = target_before(ty);
     declared_on(
@@ -163,9 +169,11 @@ pub fn static_field(
     behind: &[&Annot],
     ty: &TypeTree,
 ) -> Result<Declaration, AllocError>
-    ensures ty { IfOk result (λ d. d.ty ≡ (spec.static_field (get_by_text classes.now) (map (λ annot. annot.now) before.now) (behind_base (map (λ annot. annot.now) behind.now) ty.now)).ty) }
-    ensures claims { IfOk result (λ d. d.claims ≡ (spec.static_field (get_by_text classes.now) (map (λ annot. annot.now) before.now) (behind_base (map (λ annot. annot.now) behind.now) ty.now)).claims) }
-    ensures notes { OnOk result (notes.new ≡ notes.old ++ (spec.static_field (get_by_text classes.now) (map (λ annot. annot.now) before.now) (behind_base (map (λ annot. annot.now) behind.now) ty.now)).notes) }
+    ensures { record {
+      claims : IfOk result (λ d. d.claims ≡ (spec.static_field (get_by_text classes.now) (map (λ annot. annot.now) before.now) (behind_base (map (λ annot. annot.now) behind.now) ty.now)).claims);
+      notes : OnOk result (notes.new ≡ notes.old ++ (spec.static_field (get_by_text classes.now) (map (λ annot. annot.now) before.now) (behind_base (map (λ annot. annot.now) behind.now) ty.now)).notes);
+      ty : IfOk result (λ d. d.ty ≡ (spec.static_field (get_by_text classes.now) (map (λ annot. annot.now) before.now) (behind_base (map (λ annot. annot.now) behind.now) ty.now)).ty);
+    } }
 {
     let other = Target::Other;
     let nowhere = Nowhere { target: other };
@@ -191,8 +199,10 @@ pub fn created(
     notes: &mut List<Note>,
     ty: &TypeTree,
 ) -> Result<Option<Type_>, AllocError>
-    ensures ty { IfOk result (λ t. t ≡ (created_in (get_by_text classes.now) ty.now).ty) }
-    ensures notes { OnOk result (notes.new ≡ notes.old ++ (created_in (get_by_text classes.now) ty.now).notes) }
+    ensures { record {
+      notes : OnOk result (notes.new ≡ notes.old ++ (created_in (get_by_text classes.now) ty.now).notes);
+      ty : IfOk result (λ t. t ≡ (created_in (get_by_text classes.now) ty.now).ty);
+    } }
 {
     note_class_use(classes, notes, ty)?;
     let mut claims = List::new(alloc);

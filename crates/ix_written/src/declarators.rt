@@ -32,8 +32,10 @@ fn annotations_at<'a>(
     part: Part,
     decl: &'a LocalDecl,
 ) -> Result<Annotations<'a>, AllocError>
-    ensures before { IfOk result (λ own. map (λ annot. annot.now) own.before ≡ chosen part decl.now.mods.annots) }
-    ensures behind { IfOk result (λ own. map (λ annot. annot.now) own.behind ≡ chosen part decl.now.ty.annots) }
+    ensures { record {
+      before : IfOk result (λ own. map (λ annot. annot.now) own.before ≡ chosen part decl.now.mods.annots);
+      behind : IfOk result (λ own. map (λ annot. annot.now) own.behind ≡ chosen part decl.now.ty.annots);
+    } }
 {
     let before = gathered(alloc, part, decl.mods.get().annots.as_slice())?;
     let behind = gathered(alloc, part, decl.ty.get().annots.as_slice())?;
@@ -45,16 +47,20 @@ pub fn own_annotations<'a>(
     alloc: Global,
     decl: &'a LocalDecl,
 ) -> Result<Annotations<'a>, AllocError>
-    ensures before { IfOk result (λ own. map (λ annot. annot.now) own.before ≡ decl.now.mods.annots) }
-    ensures behind { IfOk result (λ own. map (λ annot. annot.now) own.behind ≡ decl.now.ty.annots) }
+    ensures { record {
+      before : IfOk result (λ own. map (λ annot. annot.now) own.before ≡ decl.now.mods.annots);
+      behind : IfOk result (λ own. map (λ annot. annot.now) own.behind ≡ decl.now.ty.annots);
+    } }
 {
     annotations_at(alloc, Part::All, decl)
 }
 
 /// The declaration that begins with that declarator.
 pub fn begin_with<'a>(alloc: Global, first: &'a LocalDecl) -> Result<Begun<'a>, AllocError>
-    ensures begins { IfOk result Begins }
-    ensures first { IfOk result (λ begun. begun.first.now ≡ first.now) }
+    ensures { record {
+      begins : IfOk result Begins;
+      first : IfOk result (λ begun. begun.first.now ≡ first.now);
+    } }
 {
     let Annotations { before, behind } = annotations_at(alloc, Part::Counting, first)?;
     Ok(Begun {
@@ -92,8 +98,10 @@ pub fn further_annotations<'a>(
     decl: &LocalDecl,
 ) -> Result<Annotations<'a>, AllocError>
     requires { Begins begun.now }
-    ensures before { IfOk result (λ own. map (λ annot. annot.now) own.before ≡ spec.counting begun.now.first.now.mods.annots) }
-    ensures behind { IfOk result (λ own. map (λ annot. annot.now) own.behind ≡ spec.counting_behind begun.now.first.now decl.now) }
+    ensures { record {
+      before : IfOk result (λ own. map (λ annot. annot.now) own.before ≡ spec.counting begun.now.first.now.mods.annots);
+      behind : IfOk result (λ own. map (λ annot. annot.now) own.behind ≡ spec.counting_behind begun.now.first.now decl.now);
+    } }
 {
     let before = copied(&begun.before)?;
     let behind = further_behind(alloc, begun, decl)?;
@@ -107,8 +115,10 @@ pub fn field_annotations<'a>(
     decl: &'a LocalDecl,
 ) -> Result<Annotations<'a>, AllocError>
     requires { AllBegin begun.now }
-    ensures before { IfOk result (λ own. map (λ annot. annot.now) own.before ≡ spec.annots_before (option_map first_shown begun.now) decl.now) }
-    ensures behind { IfOk result (λ own. map (λ annot. annot.now) own.behind ≡ spec.annots_behind (option_map first_shown begun.now) decl.now) }
+    ensures { record {
+      before : IfOk result (λ own. map (λ annot. annot.now) own.before ≡ spec.annots_before (option_map first_shown begun.now) decl.now);
+      behind : IfOk result (λ own. map (λ annot. annot.now) own.behind ≡ spec.annots_behind (option_map first_shown begun.now) decl.now);
+    } }
 {
     match begun {
         None => own_annotations(alloc, decl),
@@ -139,8 +149,10 @@ pub fn declaration_of<'a>(
     decl: &'a LocalDecl,
 ) -> Result<Option<Begun<'a>>, AllocError>
     requires { AllBegin begun }
-    ensures begins { IfOk result AllBegin }
-    ensures first { IfOk result (λ next. option_map first_shown next ≡ Some (spec.first_of (option_map first_shown begun.entry) decl.now)) }
+    ensures { record {
+      begins : IfOk result AllBegin;
+      first : IfOk result (λ next. option_map first_shown next ≡ Some (spec.first_of (option_map first_shown begun.entry) decl.now));
+    } }
 {
     if is_further(&begun, decl) {
         return Ok(begun);
