@@ -74,8 +74,10 @@ impl<'p> Frame<'p> {
         requires fits { IsFreeFor 0 self.old.stack.room (items_code body.now) }
         requires count { count ≤ self.old.stack.room.values }
         requires values { length values.now ≤ self.old.stack.room.values }
-        ensures frame { frame_of self.new ≡ frame method (code_then (items_code body.now) Empty) (slots_with count (map held_of values.now)) }
-        ensures room { self.new.stack.room ≡ self.old.stack.room }
+        ensures { record {
+          frame : frame_of self.new ≡ frame method (code_then (items_code body.now) Empty) (slots_with count (map held_of values.now));
+          room : self.new.stack.room ≡ self.old.stack.room;
+        } }
     {
         self.method = method;
         self.stack.begin(body);
@@ -124,9 +126,11 @@ fn value_in(slots: &[Held], slot: u32) -> Held
 /// Adds a receiver, if there is one.
 fn put_receiver(slots: &mut Vec<Held>, receiver: Option<Held>)
     requires { vec_len slots.old + 1 ≤ vec_capacity slots.old }
-    ensures items { map held_of slots.new.items ≡ map held_of slots.old.items ++ receivers receiver }
-    ensures len { vec_len slots.new ≤ vec_len slots.old + 1 }
-    ensures room { vec_capacity slots.old ≤ vec_capacity slots.new }
+    ensures { record {
+      items : map held_of slots.new.items ≡ map held_of slots.old.items ++ receivers receiver;
+      len : vec_len slots.new ≤ vec_len slots.old + 1;
+      room : vec_capacity slots.old ≤ vec_capacity slots.new;
+    } }
 {
     if let Some(value) = receiver {
         slots.push_reserved(value);
@@ -136,8 +140,10 @@ fn put_receiver(slots: &mut Vec<Held>, receiver: Option<Held>)
 /// Adds the values of a call's arguments.
 fn put_args(slots: &mut Vec<Held>, from: &[Held], args: &[Arg])
     requires { vec_len slots.old + length args.now ≤ vec_capacity slots.old }
-    ensures items { map held_of slots.new.items ≡ map held_of slots.old.items ++ map (λ arg. value_at (map held_of from.now) arg.slot) args.now }
-    ensures room { vec_capacity slots.old ≤ vec_capacity slots.new }
+    ensures { record {
+      items : map held_of slots.new.items ≡ map held_of slots.old.items ++ map (λ arg. value_at (map held_of from.now) arg.slot) args.now;
+      room : vec_capacity slots.old ≤ vec_capacity slots.new;
+    } }
 {
     for arg in args {
         slots.push_reserved(value_in(from, arg.slot));
@@ -147,8 +153,10 @@ fn put_args(slots: &mut Vec<Held>, from: &[Held], args: &[Arg])
 /// Adds values.
 fn put_all(slots: &mut Vec<Held>, values: &[Held])
     requires { vec_len slots.old + length values.now ≤ vec_capacity slots.old }
-    ensures items { slots.new.items ≡ slots.old.items ++ values.now }
-    ensures room { vec_capacity slots.old ≤ vec_capacity slots.new }
+    ensures { record {
+      items : slots.new.items ≡ slots.old.items ++ values.now;
+      room : vec_capacity slots.old ≤ vec_capacity slots.new;
+    } }
 {
     for value in values {
         slots.push_reserved(*value);
@@ -158,8 +166,10 @@ fn put_all(slots: &mut Vec<Held>, values: &[Held])
 /// Adds zeros, up to that many values.
 fn fill(slots: &mut Vec<Held>, count: usize)
     requires { count ≤ vec_capacity slots.old }
-    ensures items { map held_of slots.new.items ≡ slots_with count (map held_of slots.old.items) }
-    ensures room { vec_capacity slots.old ≤ vec_capacity slots.new }
+    ensures { record {
+      items : map held_of slots.new.items ≡ slots_with count (map held_of slots.old.items);
+      room : vec_capacity slots.old ≤ vec_capacity slots.new;
+    } }
 {
     let missing = count.saturating_sub(slots.len());
     for done in 0..missing {

@@ -114,9 +114,11 @@ impl<'p> Pool<'p> {
 
 /// That many free frames with this room, and memory for one more. The one error is want of memory.
 fn spare_frames<'p>(alloc: Global, room: Room, count: u32) -> Result<Vec<Frame<'p>>, AllocError>
-    ensures fit { IfOk result (λ frames. AllHaveRoom room frames.items) }
-    ensures count { IfOk result (λ frames. vec_len frames ≡ count) }
-    ensures memory { IfOk result (λ frames. count + 1 ≤ vec_capacity frames) }
+    ensures { record {
+      fit : IfOk result (λ frames. AllHaveRoom room frames.items);
+      memory : IfOk result (λ frames. count + 1 ≤ vec_capacity frames);
+      count : IfOk result (λ frames. vec_len frames ≡ count);
+    } }
 {
     let mut frames = Vec::with_capacity(alloc, count as usize + 1)?;
     for made in 0..count {
@@ -127,9 +129,11 @@ fn spare_frames<'p>(alloc: Global, room: Room, count: u32) -> Result<Vec<Frame<'
 
 /// Takes the last value away.
 fn take_last<T>(values: &mut Vec<T>) -> Option<T>
-    ensures items { MatchOption result ((values.old.items ≡ []) × (values.new.items ≡ [])) (λ value. values.old.items ≡ values.new.items ++ value ∷ []) }
-    ensures len { MatchOption result (vec_len values.new ≡ 0) (λ _. vec_len values.old ≡ vec_len values.new + 1) }
-    ensures room { vec_capacity values.old ≤ vec_capacity values.new }
+    ensures { record {
+      items : MatchOption result ((values.old.items ≡ []) × (values.new.items ≡ [])) (λ value. values.old.items ≡ values.new.items ++ value ∷ []);
+      len : MatchOption result (vec_len values.new ≡ 0) (λ _. vec_len values.old ≡ vec_len values.new + 1);
+      room : vec_capacity values.old ≤ vec_capacity values.new;
+    } }
 {
     values.pop()
 }

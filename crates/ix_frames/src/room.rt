@@ -55,8 +55,10 @@ fn op_passes(kind: &OpKind) -> usize
 
 /// What the code of items needs. The one error is want of memory: more than can be counted is more than there is memory for.
 pub fn items_needs(items: &[Item]) -> Result<Needs, AllocError>
-    ensures above { IfOk result (λ needs. needs.above ≡ code_above (items_code items.now)) }
-    ensures values { IfOk result (λ needs. needs.values ≡ code_values (items_code items.now)) }
+    ensures { record {
+      above : IfOk result (λ needs. needs.above ≡ code_above (items_code items.now));
+      values : IfOk result (λ needs. needs.values ≡ code_values (items_code items.now));
+    } }
 {
     let needs = block_needs(items);
     if needs.above == usize::MAX || needs.values == usize::MAX {
@@ -68,8 +70,10 @@ pub fn items_needs(items: &[Item]) -> Result<Needs, AllocError>
 /// What a block needs, as far as it can be counted.
 #[cycle(needs)]
 fn block_needs(items: &[Item]) -> Needs
-    ensures above { result.above ≡ counted (code_above (items_code items.now)) }
-    ensures values { result.values ≡ counted (code_values (items_code items.now)) }
+    ensures { record {
+      above : result.above ≡ counted (code_above (items_code items.now));
+      values : result.values ≡ counted (code_values (items_code items.now));
+    } }
 {
     let mut needs = Needs {
         above: 0,

@@ -38,9 +38,11 @@ impl<'p> Stack<'p> {
     #[inline(always)]
     pub fn put(&mut self, place: Place<'p>)
         requires { IsFree (length self.old.places.items) self.old.room place }
-        ensures tasks { tasks_open self.new.places.items ≡ tasks_of (place.entry ∷ reverse self.old.places.items) }
-        ensures items { self.new.places.items ≡ self.old.places.items ++ place.entry ∷ [] }
-        ensures room { self.new.room ≡ self.old.room }
+        ensures { record {
+          tasks : tasks_open self.new.places.items ≡ tasks_of (place.entry ∷ reverse self.old.places.items);
+          items : self.new.places.items ≡ self.old.places.items ++ place.entry ∷ [];
+          room : self.new.room ≡ self.old.room;
+        } }
     {
         self.places.push_reserved(place);
     }
@@ -62,8 +64,10 @@ impl<'p> Stack<'p> {
     /// Begins a body, where nothing else is open.
     pub fn begin(&mut self, body: &'p [Item])
         requires { IsFreeFor 0 self.old.room (items_code body.now) }
-        ensures tasks { tasks_open self.new.places.items ≡ code_then (items_code body.now) Empty }
-        ensures room { self.new.room ≡ self.old.room }
+        ensures { record {
+          tasks : tasks_open self.new.places.items ≡ code_then (items_code body.now) Empty;
+          room : self.new.room ≡ self.old.room;
+        } }
     {
         self.places.clear();
         self.put(Place::Rest(body));
@@ -84,8 +88,10 @@ impl<'p> Stack<'p> {
     /// Closes the innermost place, if there is one.
     #[inline(always)]
     pub fn close(&mut self)
-        ensures items { self.new.places.items ≡ outer self.old.places.items }
-        ensures room { self.new.room ≡ self.old.room }
+        ensures { record {
+          items : self.new.places.items ≡ outer self.old.places.items;
+          room : self.new.room ≡ self.old.room;
+        } }
     {
         pop_place(&mut self.places);
     }
@@ -95,8 +101,10 @@ impl<'p> Stack<'p> {
     pub fn go_on(&mut self, rest: &'p [Item])
         requires some { 0 < length self.old.places.items }
         requires free { IsFree (length (outer self.old.places.items)) self.old.room (place.Rest rest) }
-        ensures tasks { tasks_open self.new.places.items ≡ code_then (items_code rest.now) (tasks_open (outer self.old.places.items)) }
-        ensures room { self.new.room ≡ self.old.room }
+        ensures { record {
+          tasks : tasks_open self.new.places.items ≡ code_then (items_code rest.now) (tasks_open (outer self.old.places.items));
+          room : self.new.room ≡ self.old.room;
+        } }
     {
         replace_last(&mut self.places, Place::Rest(rest));
     }
@@ -104,9 +112,11 @@ impl<'p> Stack<'p> {
     /// What is left of a block, where that is the innermost place.
     #[inline(always)]
     pub fn block(&self) -> Option<&'p [Item]>
-        ensures tasks { IfSome result (λ items. tasks_open self.now.places.items ≡ code_then (items_code items.now) (tasks_open (outer self.now.places.items))) }
-        ensures some { IfSome result (λ items. 0 < length self.now.places.items) }
-        ensures free { IfSome result (λ items. IsFree (length (outer self.now.places.items)) self.now.room (place.Rest items)) }
+        ensures { record {
+          tasks : IfSome result (λ items. tasks_open self.now.places.items ≡ code_then (items_code items.now) (tasks_open (outer self.now.places.items)));
+          some : IfSome result (λ items. 0 < length self.now.places.items);
+          free : IfSome result (λ items. IsFree (length (outer self.now.places.items)) self.now.room (place.Rest items));
+        } }
     {
         match self.innermost() {
             Some(Place::Rest(items)) => Some(items),
@@ -116,9 +126,11 @@ impl<'p> Stack<'p> {
 
     /// The innermost task; none where nothing is left to do.
     pub fn task(&self) -> Option<Place<'p>>
-        ensures some { IfSome result IsTask }
-        ensures tasks { IfSome result (λ place. (more : List Place_) × (tasks_open self.now.places.items ≡ tasks_of (place ∷ more))) }
-        ensures none { IfNone result (tasks_open self.now.places.items ≡ Empty) }
+        ensures { record {
+          some : IfSome result IsTask;
+          tasks : IfSome result (λ place. (more : List Place_) × (tasks_open self.now.places.items ≡ tasks_of (place ∷ more)));
+          none : IfNone result (tasks_open self.now.places.items ≡ Empty);
+        } }
     {
         let mut left = self.places.len();
         while left > 0 {
@@ -217,8 +229,10 @@ impl<'p> Stack<'p> {
     /// Goes the way back to a loop's head, by the part before the next turn.
     pub fn come_back(&mut self, turn: Turn<'p>)
         requires { IsFree (length self.old.places.items) self.old.room (place.Again turn) }
-        ensures tasks { tasks_open self.new.places.items ≡ code_then (items_code turn.entry.next.now) (head_of turn.entry (tasks_open self.old.places.items)) }
-        ensures room { self.new.room ≡ self.old.room }
+        ensures { record {
+          tasks : tasks_open self.new.places.items ≡ code_then (items_code turn.entry.next.now) (head_of turn.entry (tasks_open self.old.places.items));
+          room : self.new.room ≡ self.old.room;
+        } }
     {
         self.put(Place::Head(turn));
         self.put(Place::Rest(turn.next));
@@ -227,8 +241,10 @@ impl<'p> Stack<'p> {
     /// Goes on behind the innermost loop (JLS 14.15).
     #[inline(never)]
     pub fn leave_loop(&mut self)
-        ensures tasks { tasks_open self.new.places.items ≡ behind_loop (tasks_open self.old.places.items) }
-        ensures room { self.new.room ≡ self.old.room }
+        ensures { record {
+          tasks : tasks_open self.new.places.items ≡ behind_loop (tasks_open self.old.places.items);
+          room : self.new.room ≡ self.old.room;
+        } }
     {
         while let Some(place) = self.pop() {
             if let Place::Out = place {
@@ -240,8 +256,10 @@ impl<'p> Stack<'p> {
     /// Goes on at the innermost loop's way back (JLS 14.16).
     #[inline(never)]
     pub fn turn_on(&mut self)
-        ensures tasks { tasks_open self.new.places.items ≡ next_turn (tasks_open self.old.places.items) }
-        ensures room { self.new.room ≡ self.old.room }
+        ensures { record {
+          tasks : tasks_open self.new.places.items ≡ next_turn (tasks_open self.old.places.items);
+          room : self.new.room ≡ self.old.room;
+        } }
     {
         while let Some(place) = self.pop() {
             if let Place::Again(_) = place {
@@ -328,17 +346,21 @@ impl<'p> Stack<'p> {
 /// Takes the last place away.
 #[inline(always)]
 fn pop_place<'p>(places: &mut Vec<Place<'p>>) -> Option<Place<'p>>
-    ensures items { MatchOption result ((places.old.items ≡ []) × (places.new.items ≡ [])) (λ place. places.old.items ≡ places.new.items ++ place ∷ []) }
-    ensures rest { places.new.items ≡ outer places.old.items }
-    ensures room { vec_capacity places.old ≤ vec_capacity places.new }
+    ensures { record {
+      items : MatchOption result ((places.old.items ≡ []) × (places.new.items ≡ [])) (λ place. places.old.items ≡ places.new.items ++ place ∷ []);
+      rest : places.new.items ≡ outer places.old.items;
+      room : vec_capacity places.old ≤ vec_capacity places.new;
+    } }
 {
     places.pop()
 }
 
 /// Whether a place stands for a task of its own.
 fn is_task(place: Place<'_>) -> bool
-    ensures task { IsTrue result → IsTask place.entry }
-    ensures none { IsFalse result → (more : List Place_) → tasks_of (place.entry ∷ more) ≡ tasks_of more }
+    ensures { record {
+      task : IsTrue result → IsTask place.entry;
+      none : IsFalse result → (more : List Place_) → tasks_of (place.entry ∷ more) ≡ tasks_of more;
+    } }
 {
     match place {
         Place::Rest(items) => !items.is_empty(),

@@ -84,8 +84,10 @@ impl<'p> Heap<'p> {
 
     /// The class of an object; none of an array, and where there is nothing.
     pub fn class_of(&self, number: u32) -> Option<u32>
-        ensures class { IfSome result (λ class. (object_at (heap_of self.now) number).kind ≡ ObjectOf class) }
-        ensures array { IfNone result ((ty : Type_) × ((object_at (heap_of self.now) number).kind ≡ ArrayOf ty)) }
+        ensures { record {
+          class : IfSome result (λ class. (object_at (heap_of self.now) number).kind ≡ ObjectOf class);
+          array : IfNone result ((ty : Type_) × ((object_at (heap_of self.now) number).kind ≡ ArrayOf ty));
+        } }
     {
         match self.row(number) {
             Some(row) => match row.kind {
@@ -117,8 +119,10 @@ impl<'p> Heap<'p> {
 
     /// The length of an array; 0 of an instance of a class, and where there is nothing.
     pub fn array_len(&self, number: u32) -> usize
-        ensures size { result ≡ length (array_at (heap_of self.now) number) }
-        ensures small { result < 2 ^ 31 }
+        ensures { record {
+          size : result ≡ length (array_at (heap_of self.now) number);
+          small : result < 2 ^ 31;
+        } }
     {
         match self.array(number) {
             Some(row) => row.len,
@@ -295,8 +299,10 @@ fn row_at<'p>(rows: &[Row<'p>], number: u32) -> Option<Row<'p>>
 
 /// An index as a place within a length.
 fn place_within(index: i32, len: usize) -> Option<usize>
-    ensures within { IfSome result (λ place. (is_within index len ≡ true) × (place ≡ unsigned_abs index) × (place < len)) }
-    ensures outside { IfNone result (is_within index len ≡ false) }
+    ensures { record {
+      within : IfSome result (λ place. (is_within index len ≡ true) × (place ≡ unsigned_abs index) × (place < len));
+      outside : IfNone result (is_within index len ≡ false);
+    } }
 {
     if index < 0 {
         return None;
@@ -308,8 +314,10 @@ fn place_within(index: i32, len: usize) -> Option<usize>
 /// Adds a value so many times.
 fn push_copies(cells: &mut Vec<Held>, value: Held, count: usize)
     requires { vec_len cells.old + count ≤ vec_capacity cells.old }
-    ensures items { cells.new.items ≡ cells.old.items ++ replicate count value }
-    ensures room { vec_capacity cells.old ≤ vec_capacity cells.new }
+    ensures { record {
+      items : cells.new.items ≡ cells.old.items ++ replicate count value;
+      room : vec_capacity cells.old ≤ vec_capacity cells.new;
+    } }
 {
     for done in 0..count {
         cells.push_reserved(value);

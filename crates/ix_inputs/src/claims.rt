@@ -53,9 +53,11 @@ fn named(inputs: &[Input], name: Name) -> Reading
 
 /// What an offset adds.
 fn offset(inputs: &[Input], off: Off) -> i64
-    ensures value { result ≡ core.offset_of (input_names (map input_of inputs.now)) off }
-    ensures least { neg_ℤ (pos 2147483648) ≤ℤ result }
-    ensures greatest { result ≤ℤ pos 2147483648 }
+    ensures { record {
+      value : result ≡ core.offset_of (input_names (map input_of inputs.now)) off;
+      least : neg_ℤ (pos 2147483648) ≤ℤ result;
+      greatest : result ≤ℤ pos 2147483648;
+    } }
 {
     match off {
         Off::Nothing => 0,

@@ -24,8 +24,10 @@ pub struct Access {
 
 /// The access of an operation on these slots; none where the array is null.
 fn access_on(frame: &Frame<'_>, heap: &Heap<'_>, array: u32, index: u32, at: u32) -> Option<Access>
-    ensures access { option_map access_of result ≡ trace.access_on (value_at (slots_of frame.now) array) (int_at (slots_of frame.now) index) (heap_of heap.now) at }
-    ensures size { IfSome result HasSize }
+    ensures { record {
+      access : option_map access_of result ≡ trace.access_on (value_at (slots_of frame.now) array) (int_at (slots_of frame.now) index) (heap_of heap.now) at;
+      size : IfSome result HasSize;
+    } }
 {
     match frame.value(array) {
         Held::At(number) => Some(Access {
@@ -39,8 +41,10 @@ fn access_on(frame: &Frame<'_>, heap: &Heap<'_>, array: u32, index: u32, at: u32
 
 /// The access of an operation; none where it is no load or store, or the array is null.
 fn op_access(frame: &Frame<'_>, heap: &Heap<'_>, kind: &OpKind, at: u32) -> Option<Access>
-    ensures access { option_map access_of result ≡ trace.op_access kind.now (slots_of frame.now) (heap_of heap.now) at }
-    ensures size { IfSome result HasSize }
+    ensures { record {
+      access : option_map access_of result ≡ trace.op_access kind.now (slots_of frame.now) (heap_of heap.now) at;
+      size : IfSome result HasSize;
+    } }
 {
     match kind {
         OpKind::Load(_, array, index, _) => access_on(frame, heap, *array, *index, at),
@@ -51,8 +55,10 @@ fn op_access(frame: &Frame<'_>, heap: &Heap<'_>, kind: &OpKind, at: u32) -> Opti
 
 /// The operation that items begin with; none where they begin with another item.
 fn begun_op<'p>(items: &'p [Item]) -> Option<&'p Op>
-    ensures some { IfSome result (λ op. IsOp op.now (items_code items.now)) }
-    ensures none { IfNone result (0 < length items.now → IsNoOp (items_code items.now)) }
+    ensures { record {
+      some : IfSome result (λ op. IsOp op.now (items_code items.now));
+      none : IfNone result (0 < length items.now → IsNoOp (items_code items.now));
+    } }
 {
     let [item, ..] = items else {
         return None;
@@ -70,8 +76,10 @@ fn begun_op<'p>(items: &'p [Item]) -> Option<&'p Op>
 
 /// The access that the next step of a run that has not ended makes; none where it makes none.
 pub fn access_in(frame: &Frame<'_>, heap: &Heap<'_>) -> Option<Access>
-    ensures access { option_map access_of result ≡ trace.task_access (frame_of frame.now).tasks (slots_of frame.now) (heap_of heap.now) }
-    ensures size { IfSome result HasSize }
+    ensures { record {
+      access : option_map access_of result ≡ trace.task_access (frame_of frame.now).tasks (slots_of frame.now) (heap_of heap.now);
+      size : IfSome result HasSize;
+    } }
 {
     match frame.stack.task()? {
         Place::Rest(items) => {

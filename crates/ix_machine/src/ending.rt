@@ -50,9 +50,11 @@ fn result_in<'p>(program: &Program, frame: &Frame<'p>, slot: Option<u32>) -> Opt
 
 /// Writes what a called frame ended with into the slot that gets it, if one does.
 fn set_target<'p>(frame: &mut Frame<'p>, target: Option<u32>, value: Option<Held>)
-    ensures slots { slots_of frame.new ≡ model.set_target target (option_map held_of value) (slots_of frame.old) }
-    ensures method { frame.new.method ≡ frame.old.method }
-    ensures stack { frame.new.stack ≡ frame.old.stack }
+    ensures { record {
+      slots : slots_of frame.new ≡ model.set_target target (option_map held_of value) (slots_of frame.old);
+      method : frame.new.method ≡ frame.old.method;
+      stack : frame.new.stack ≡ frame.old.stack;
+    } }
 {
     match target {
         Some(slot) => match value {

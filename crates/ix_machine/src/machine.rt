@@ -67,8 +67,10 @@ impl<'p> Machine<'p> {
         inputs: &[&str],
         limits: Limits,
     ) -> Result<Machine<'p>, StartError>
-        requires cells { limits.cells < 2 ^ 31 }
-        requires frames { 0 < limits.frames }
+        requires { record {
+          cells : limits.cells < 2 ^ 31;
+          frames : 0 < limits.frames;
+        } }
         ensures begins { IfOk result (λ machine. Starts program.now entry.now (map (λ word. word.now) inputs.now) limits.cells (Ok (state_of machine))) }
         ensures entered { IfOk result (λ machine. IsStart program.now (state_of machine)) }
         ensures refused { IfErr result (Refuses program.now entry.now (map (λ word. word.now) inputs.now) limits.cells) }
@@ -150,8 +152,10 @@ impl<'p> Machine<'p> {
 
     /// The access that the next step makes; none exactly where the run has ended or that step is no load or store on an array that isn't null. It takes no memory.
     pub fn next_access(&self) -> Option<Access>
-        ensures access { option_map access_of result ≡ next_access (state_of self.now) }
-        ensures size { IfSome result HasSize }
+        ensures { record {
+          access : option_map access_of result ≡ next_access (state_of self.now);
+          size : IfSome result HasSize;
+        } }
     {
         if self.ended.is_some() {
             return None;
@@ -185,8 +189,10 @@ impl<'p> Machine<'p> {
     /// Steps of a run that has not ended: at least one and at most so many, of which only the last may print or stop the run; they take no memory.
     #[inline(always)]
     pub fn steps(&mut self, most: u32) -> Steps
-        requires goes { (state_of self.old).ended ≡ None }
-        requires some { 0 < most }
+        requires { record {
+          goes : (state_of self.old).ended ≡ None;
+          some : 0 < most;
+        } }
         ensures state { state_of self.new ≡ model.run (limits_of self.old) (tables_of self.old.rows.program.now) result.made (state_of self.old) }
         ensures printed { event_values (event_of result.event) ≡ model.printed (limits_of self.old) (tables_of self.old.rows.program.now) result.made (state_of self.old) }
         ensures some { 0 < result.made }

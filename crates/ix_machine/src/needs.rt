@@ -23,8 +23,10 @@ fn method_room(method: &Method) -> Result<Room, AllocError>
 
 /// The room that the frames of a program's methods need. The one error is want of memory.
 pub fn program_room(program: &Program) -> Result<Room, AllocError>
-    ensures places { IfOk result (λ room. room.places ≡ places_of program.now.methods) }
-    ensures values { IfOk result (λ room. room.values ≡ values_of program.now.methods) }
+    ensures { record {
+      places : IfOk result (λ room. room.places ≡ places_of program.now.methods);
+      values : IfOk result (λ room. room.values ≡ values_of program.now.methods);
+    } }
 {
     let mut places = 1;
     let mut values = 0;

@@ -168,10 +168,12 @@ fn choose<'p>(
     rest: &'p [Item],
 )
     requires { IsFreeFor (length frame.old.stack.places.items) frame.old.stack.room (If (cond_code cond.now) (block_code first.now) (block_code second.now) (items_code rest.now)) }
-    ensures tasks { tasks_open frame.new.stack.places.items ≡ Ask (cond_code cond.now) (code_then (block_code first.now) Empty) (code_then (block_code second.now) Empty) (code_then (items_code rest.now) (tasks_open frame.old.stack.places.items)) }
-    ensures slots { slots_of frame.new ≡ slots_of frame.old }
-    ensures method { frame.new.method ≡ frame.old.method }
-    ensures room { frame.new.stack.room ≡ frame.old.stack.room }
+    ensures { record {
+      tasks : tasks_open frame.new.stack.places.items ≡ Ask (cond_code cond.now) (code_then (block_code first.now) Empty) (code_then (block_code second.now) Empty) (code_then (items_code rest.now) (tasks_open frame.old.stack.places.items));
+      slots : slots_of frame.new ≡ slots_of frame.old;
+      method : frame.new.method ≡ frame.old.method;
+      room : frame.new.stack.room ≡ frame.old.stack.room;
+    } }
 {
     frame.stack.choose(cond, first.items.as_slice(), second.items.as_slice(), rest);
 }
@@ -186,10 +188,12 @@ fn begin_loop<'p>(
     rest: &'p [Item],
 )
     requires { IsFreeFor (length frame.old.stack.places.items) frame.old.stack.room (Loop test_first (cond_code cond.now) (block_code body.now) (block_code next.now) 0 0 (items_code rest.now)) }
-    ensures tasks { tasks_open frame.new.stack.places.items ≡ loop_tasks test_first (cond_code cond.now) (block_code body.now) (block_code next.now) (code_then (items_code rest.now) (tasks_open frame.old.stack.places.items)) }
-    ensures slots { slots_of frame.new ≡ slots_of frame.old }
-    ensures method { frame.new.method ≡ frame.old.method }
-    ensures room { frame.new.stack.room ≡ frame.old.stack.room }
+    ensures { record {
+      tasks : tasks_open frame.new.stack.places.items ≡ loop_tasks test_first (cond_code cond.now) (block_code body.now) (block_code next.now) (code_then (items_code rest.now) (tasks_open frame.old.stack.places.items));
+      slots : slots_of frame.new ≡ slots_of frame.old;
+      method : frame.new.method ≡ frame.old.method;
+      room : frame.new.stack.room ≡ frame.old.stack.room;
+    } }
 {
     let turn = Turn {
         cond,

@@ -73,9 +73,11 @@ pub fn turn<'p>(
     pool: &mut Pool<'p>,
     heap: &mut Heap<'p>,
 ) -> Done<'p>
-    requires fits { HasRoom pool.old.room frame.old }
-    requires places { places_of rows.now.program.now.methods ≤ pool.old.room.places }
-    requires values { values_of rows.now.program.now.methods ≤ pool.old.room.values }
+    requires { record {
+      fits : HasRoom pool.old.room frame.old;
+      places : places_of rows.now.program.now.methods ≤ pool.old.room.places;
+      values : values_of rows.now.program.now.methods ≤ pool.old.room.values;
+    } }
     ensures state { (wrapped : Bool) → model.step (with_limits heap.old.most pool.old.most) (tables_of rows.now.program.now)
         (state_with (frame_of frame.old) (waits_of pool.old.below.items) (heap_of heap.old) wrapped)
         ≡ after result (state_with (frame_of frame.new) (waits_of pool.new.below.items) (heap_of heap.new) wrapped) }

@@ -104,9 +104,11 @@ pub fn lacks_cells<'p>(rows: &Rows<'p>, kind: CallKind, heap: &Heap<'p>) -> bool
 /// Makes the object of `new`, whose number is the answer.
 pub fn make_object<'p>(rows: &Rows<'p>, kind: CallKind, heap: &mut Heap<'p>) -> u32
     requires { (frames : ℕ) → model.lacks_cells (with_limits heap.old.most frames) (tables_of rows.now.program.now) (kind_of kind) (heap_of heap.old) ≡ false }
-    ensures made { heap_of heap.new ≡ model.call_heap (tables_of rows.now.program.now) (kind_of kind) (heap_of heap.old) }
-    ensures number { (class : ℕ) → kind_of kind ≡ model.New class → result ≡ length (heap_of heap.old) }
-    ensures most { heap.new.most ≡ heap.old.most }
+    ensures { record {
+      made : heap_of heap.new ≡ model.call_heap (tables_of rows.now.program.now) (kind_of kind) (heap_of heap.old);
+      number : (class : ℕ) → kind_of kind ≡ model.New class → result ≡ length (heap_of heap.old);
+      most : heap.new.most ≡ heap.old.most;
+    } }
 {
     match kind {
         CallKind::New(class) => heap.make_object(rows.program, class, rows.fields(class)),
@@ -128,8 +130,10 @@ pub fn receiver<'p>(call: Call<'p>, number: u32, frame: &Frame<'p>) -> Option<He
 
 /// The method of that number; none where there is none.
 fn method_in(program: &Program, method: u32) -> Option<&Method>
-    ensures found { IfSome result (λ found. method_at program.now method ≡ found.now) }
-    ensures none { IfNone result (method_at program.now method ≡ no_method) }
+    ensures { record {
+      found : IfSome result (λ found. method_at program.now method ≡ found.now);
+      none : IfNone result (method_at program.now method ≡ no_method);
+    } }
 {
     program.methods.as_slice().get(method as usize)
 }

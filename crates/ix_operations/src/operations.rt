@@ -40,11 +40,13 @@ fn int_in<'p>(frame: &Frame<'p>, slot: u32) -> i32
 
 /// Keeps the low 32 bits of an exact result in a slot (JLS 4.2.2).
 fn keep<'p>(frame: &mut Frame<'p>, target: u32, exact: &i128) -> Done<'p>
-    ensures done { (limits : Limits) (tables : Tables) (place : ℕ) (heap : cells.Heap) → assign_int limits tables place (slots_of frame.old) heap target exact.now ≡ effect_of result (slots_of frame.new) heap }
-    ensures printed { IsPrinted result → ⊥ }
-    ensures stopped { IsStopped result → slots_of frame.new ≡ slots_of frame.old }
-    ensures method { frame.new.method ≡ frame.old.method }
-    ensures stack { frame.new.stack ≡ frame.old.stack }
+    ensures { record {
+      done : (limits : Limits) (tables : Tables) (place : ℕ) (heap : cells.Heap) → assign_int limits tables place (slots_of frame.old) heap target exact.now ≡ effect_of result (slots_of frame.new) heap;
+      printed : IsPrinted result → ⊥;
+      stopped : IsStopped result → slots_of frame.new ≡ slots_of frame.old;
+      method : frame.new.method ≡ frame.old.method;
+      stack : frame.new.stack ≡ frame.old.stack;
+    } }
 {
     match i32::try_from(*exact) {
         Ok(int) => {
@@ -60,8 +62,10 @@ fn keep<'p>(frame: &mut Frame<'p>, target: u32, exact: &i128) -> Done<'p>
 
 /// The exact result of `+`, `-` or `*` where it is an int, as it mostly is: found without a wider number.
 fn int_result(arith: Arith, x: i32, y: i32) -> Option<i32>
-    ensures exact { IfSome result (λ int. exact_of arith x y ≡ Some int) }
-    ensures int { IfSome result (λ int. is_int int ≡ true) }
+    ensures { record {
+      exact : IfSome result (λ int. exact_of arith x y ≡ Some int);
+      int : IfSome result (λ int. is_int int ≡ true);
+    } }
 {
     match arith {
         Arith::Add => x.checked_add(y),
@@ -132,11 +136,13 @@ fn array_length<'p>(
     target: u32,
     array: u32,
 ) -> Done<'p>
-    ensures done { (limits : Limits) (tables : Tables) → assign_length limits tables place (slots_of frame.old) (heap_of heap.now) target (value_at (slots_of frame.old) array) ≡ effect_of result (slots_of frame.new) (heap_of heap.now) }
-    ensures printed { IsPrinted result → ⊥ }
-    ensures stopped { IsStopped result → slots_of frame.new ≡ slots_of frame.old }
-    ensures method { frame.new.method ≡ frame.old.method }
-    ensures stack { frame.new.stack ≡ frame.old.stack }
+    ensures { record {
+      done : (limits : Limits) (tables : Tables) → assign_length limits tables place (slots_of frame.old) (heap_of heap.now) target (value_at (slots_of frame.old) array) ≡ effect_of result (slots_of frame.new) (heap_of heap.now);
+      printed : IsPrinted result → ⊥;
+      stopped : IsStopped result → slots_of frame.new ≡ slots_of frame.old;
+      method : frame.new.method ≡ frame.old.method;
+      stack : frame.new.stack ≡ frame.old.stack;
+    } }
 {
     let size = match frame.value(array) {
         Held::Null => return Done::Stopped(Outcome::Null(place)),
@@ -211,8 +217,10 @@ fn field_at<'p>(
     object: u32,
     field: u32,
 ) -> Option<(u32, usize)>
-    ensures found { IfSome result (λ at. (value_at (slots_of frame.now) object ≡ cells.At at.0) × (place_in (tables_of rows.now.program.now).place (object_at (heap_of heap.now) at.0).kind field ≡ Some at.1)) }
-    ensures none { IfNone result ((place : ℕ) (limits : Limits) (next : ℕ → ℕ → model.Effect) → model.Stopped (model.NullUsed place) ≡ model.at_field limits (tables_of rows.now.program.now) place (slots_of frame.now) (heap_of heap.now) object field next) }
+    ensures { record {
+      found : IfSome result (λ at. (value_at (slots_of frame.now) object ≡ cells.At at.0) × (place_in (tables_of rows.now.program.now).place (object_at (heap_of heap.now) at.0).kind field ≡ Some at.1));
+      none : IfNone result ((place : ℕ) (limits : Limits) (next : ℕ → ℕ → model.Effect) → model.Stopped (model.NullUsed place) ≡ model.at_field limits (tables_of rows.now.program.now) place (slots_of frame.now) (heap_of heap.now) object field next);
+    } }
 {
     match frame.value(object) {
         Held::At(number) => match heap.class_of(number) {

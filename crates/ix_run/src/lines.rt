@@ -27,11 +27,13 @@ pub(crate) fn write_value<K: Sink>(
     value: Held,
     out: &mut K,
 ) -> Result<(), WriteError>
-    ensures taken { OnOk result (Took (value_line (held_of value)) (K.taken out.old) (K.taken out.new)) }
-    ensures prefix { TookPrefix (value_line (held_of value)) (K.taken out.old) (K.taken out.new) }
-    ensures falls { K.faults out.old ≤ K.faults out.new }
-    ensures rose { IsErrOf result WriteError.Failed → Rose (K.faults out.old) (K.faults out.new) }
-    ensures ok { OnOk result (K.faults out.new ≡ K.faults out.old) }
+    ensures { record {
+      taken : OnOk result (Took (value_line (held_of value)) (K.taken out.old) (K.taken out.new));
+      prefix : TookPrefix (value_line (held_of value)) (K.taken out.old) (K.taken out.new);
+      falls : K.faults out.old ≤ K.faults out.new;
+      rose : IsErrOf result WriteError.Failed → Rose (K.faults out.old) (K.faults out.new);
+      ok : OnOk result (K.faults out.new ≡ K.faults out.old);
+    } }
 {
     match line_of(alloc, value) {
         Ok(line) => write_all(out, line.as_bytes()),

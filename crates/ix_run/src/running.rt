@@ -93,12 +93,14 @@ fn write_seen<K: Sink>(
     out: &mut K,
 ) -> Result<(), WriteError>
     requires { AllByRecursion (IsSeenIn (length lines.now)) (model_trace (limits_of machine.old) (tables_of machine.old.rows.program.now) steps (state_of machine.old)) }
-    ensures state { OnOk result (state_of machine.new ≡ model.run (limits_of machine.old) (tables_of machine.old.rows.program.now) steps (state_of machine.old)) }
-    ensures taken { OnOk result (Took (lines_of traced lines.now (limits_of machine.old) (tables_of machine.old.rows.program.now) steps (state_of machine.old)) (K.taken out.old) (K.taken out.new)) }
-    ensures prefix { TookPrefix (lines_of traced lines.now (limits_of machine.old) (tables_of machine.old.rows.program.now) steps (state_of machine.old)) (K.taken out.old) (K.taken out.new) }
-    ensures falls { K.faults out.old ≤ K.faults out.new }
-    ensures rose { IsErrOf result WriteError.Failed → Rose (K.faults out.old) (K.faults out.new) }
-    ensures ok { OnOk result (K.faults out.new ≡ K.faults out.old) }
+    ensures { record {
+      state : OnOk result (state_of machine.new ≡ model.run (limits_of machine.old) (tables_of machine.old.rows.program.now) steps (state_of machine.old));
+      taken : OnOk result (Took (lines_of traced lines.now (limits_of machine.old) (tables_of machine.old.rows.program.now) steps (state_of machine.old)) (K.taken out.old) (K.taken out.new));
+      prefix : TookPrefix (lines_of traced lines.now (limits_of machine.old) (tables_of machine.old.rows.program.now) steps (state_of machine.old)) (K.taken out.old) (K.taken out.new);
+      falls : K.faults out.old ≤ K.faults out.new;
+      rose : IsErrOf result WriteError.Failed → Rose (K.faults out.old) (K.faults out.new);
+      ok : OnOk result (K.faults out.new ≡ K.faults out.old);
+    } }
 {
     if traced {
         write_trace(alloc, machine, lines, steps, out)
@@ -148,9 +150,11 @@ pub fn run<K: Sink>(
     traced: bool,
     out: &mut K,
 ) -> Result<RunEnd, WriteError>
-    requires program { machine.old.rows.program.now ≡ program.now }
-    requires within { RunWithin (length lines.now) program.now (limits_of machine.old) steps (state_of machine.old) }
-    requires seen { TraceWithin (length lines.now) program.now (limits_of machine.old) steps (state_of machine.old) }
+    requires { record {
+      within : RunWithin (length lines.now) program.now (limits_of machine.old) steps (state_of machine.old);
+      seen : TraceWithin (length lines.now) program.now (limits_of machine.old) steps (state_of machine.old);
+      program : machine.old.rows.program.now ≡ program.now;
+    } }
     ensures ended { IfOk result (λ how. how ≡ end_of (model.run (limits_of machine.old) (tables_of program.now) steps (state_of machine.old)).ended) }
     ensures taken { OnOk result (Took (run_text traced program.now lines.now (limits_of machine.old) steps (state_of machine.old)) (K.taken out.old) (K.taken out.new)) }
     ensures prefix { TookPrefix (run_text traced program.now lines.now (limits_of machine.old) steps (state_of machine.old)) (K.taken out.old) (K.taken out.new) }

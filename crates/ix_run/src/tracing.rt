@@ -24,11 +24,13 @@ fn write_access<K: Sink>(
     out: &mut K,
 ) -> Result<(), WriteError>
     requires { AllByRecursion (IsSeenIn (length lines.now)) (accessed (next_access (state_of machine.now))) }
-    ensures taken { OnOk result (Took (seen_lines lines.now (accessed (next_access (state_of machine.now)))) (K.taken out.old) (K.taken out.new)) }
-    ensures prefix { TookPrefix (seen_lines lines.now (accessed (next_access (state_of machine.now)))) (K.taken out.old) (K.taken out.new) }
-    ensures falls { K.faults out.old ≤ K.faults out.new }
-    ensures rose { IsErrOf result WriteError.Failed → Rose (K.faults out.old) (K.faults out.new) }
-    ensures ok { OnOk result (K.faults out.new ≡ K.faults out.old) }
+    ensures { record {
+      taken : OnOk result (Took (seen_lines lines.now (accessed (next_access (state_of machine.now)))) (K.taken out.old) (K.taken out.new));
+      prefix : TookPrefix (seen_lines lines.now (accessed (next_access (state_of machine.now)))) (K.taken out.old) (K.taken out.new);
+      falls : K.faults out.old ≤ K.faults out.new;
+      rose : IsErrOf result WriteError.Failed → Rose (K.faults out.old) (K.faults out.new);
+      ok : OnOk result (K.faults out.new ≡ K.faults out.old);
+    } }
 {
     let Some(found) = machine.next_access() else {
         return Ok(());
@@ -46,8 +48,10 @@ fn go_seen<K: Sink>(
     lines: &LineMap,
     out: &mut K,
 ) -> Result<(), WriteError>
-    requires goes { (state_of machine.old).ended ≡ None }
-    requires within { AllByRecursion (IsSeenIn (length lines.now)) (step_seen (state_of machine.old)) }
+    requires { record {
+      goes : (state_of machine.old).ended ≡ None;
+      within : AllByRecursion (IsSeenIn (length lines.now)) (step_seen (state_of machine.old));
+    } }
     ensures state { OnOk result (state_of machine.new ≡ model.step (limits_of machine.old) (tables_of machine.old.rows.program.now) (state_of machine.old)) }
     ensures limits { limits_of machine.new ≡ limits_of machine.old }
     ensures program { machine.new.rows ≡ machine.old.rows }
