@@ -30,8 +30,10 @@ pub fn text_of(alloc: Global, mut characters: &[char]) -> Result<Text, AllocErro
 
 /// Whether a text begins with another one, which is given by its bytes in ASCII.
 pub fn begins(mut front: &[u8], mut text: &[char]) -> bool
-    ensures value { result ≡ scan.begins front.entry.now text.entry.now }
-    ensures within { result ≡ true → length front.entry.now ≤ length text.entry.now }
+    ensures { record {
+      value : result ≡ scan.begins front.entry.now text.entry.now;
+      within : result ≡ true → length front.entry.now ≤ length text.entry.now;
+    } }
 {
     while let [byte, bytes @ ..] = front {
         match text {
@@ -92,8 +94,10 @@ fn letters_and_digits(text: &[char]) -> usize
 
 /// How many characters the word at the front has.
 pub fn word_len(text: &[char]) -> usize
-    ensures value { result ≡ spec.word_len text.now }
-    ensures within { result ≤ length text.now }
+    ensures { record {
+      value : result ≡ spec.word_len text.now;
+      within : result ≤ length text.now;
+    } }
 {
     match text {
         [c, rest @ ..] if starts_identifier(*c) => 1 + letters_and_digits(rest),

@@ -202,8 +202,10 @@ fn given<N: Names>(
 }
 
 fn with_plan<N: Names>(alloc: Global, names: &N, plan: Plan) -> Result<Claims, AnnotError>
-    ensures claims { IfOk result (λ claims. spec.with_claims (N.names names.now) plan (spec.claims_of (N.names names.now) plan.written) ≡ Good claims) }
-    ensures error { IfErr result (λ e. e ≢ error.Memory → spec.with_claims (N.names names.now) plan (spec.claims_of (N.names names.now) plan.written) ≡ Bad e) }
+    ensures { record {
+      claims : IfOk result (λ claims. spec.with_claims (N.names names.now) plan (spec.claims_of (N.names names.now) plan.written) ≡ Good claims);
+      error : IfErr result (λ e. e ≢ error.Memory → spec.with_claims (N.names names.now) plan (spec.claims_of (N.names names.now) plan.written) ≡ Bad e);
+    } }
 {
     let Plan {
         first,
@@ -226,8 +228,10 @@ fn with_plan<N: Names>(alloc: Global, names: &N, plan: Plan) -> Result<Claims, A
 /// The claims of an annotation, or its one error, with no regard to how many claims it counts.
 #[tactic(auto, unfolding(crate::specs::Expansion::expanded))]
 pub fn expand<N: Names>(alloc: Global, annot: &Annot, names: &N) -> Result<Claims, AnnotError>
-    ensures claims { IfOk result (λ claims. spec.expanded annot.now (N.names names.now) ≡ Good claims) }
-    ensures error { IfErr result (λ e. e ≢ error.Memory → spec.expanded annot.now (N.names names.now) ≡ Bad e) }
+    ensures { record {
+      claims : IfOk result (λ claims. spec.expanded annot.now (N.names names.now) ≡ Good claims);
+      error : IfErr result (λ e. e ≢ error.Memory → spec.expanded annot.now (N.names names.now) ≡ Bad e);
+    } }
 {
     let Some((targets, says)) = row_named(&annot.name.text) else {
         return Err(AnnotError::Unknown);
@@ -246,8 +250,10 @@ pub fn expand<N: Names>(alloc: Global, annot: &Annot, names: &N) -> Result<Claim
 #[tactic(auto, unfolding(crate::specs::Expansion::expansion))]
 pub fn claims(alloc: Global, annot: &Annot, scope: &Scope) -> Result<Claims, AnnotError>
     requires few_params { length scope.now.params < 2 ^ 32 }
-    ensures claims { IfOk result (λ claims. spec.expansion annot.now scope.now ≡ Good claims) }
-    ensures error { IfErr result (λ e. e ≢ error.Memory → spec.expansion annot.now scope.now ≡ Bad e) }
+    ensures { record {
+      claims : IfOk result (λ claims. spec.expansion annot.now scope.now ≡ Good claims);
+      error : IfErr result (λ e. e ≢ error.Memory → spec.expansion annot.now scope.now ≡ Bad e);
+    } }
 {
     if counted(annot) > MOST_CLAIMS as u128 {
         Err(AnnotError::TooMany)

@@ -186,8 +186,10 @@ pub fn argument<'a>(name: &str, args: &'a [AnnotArg]) -> Option<&'a AnnotValue>
 }
 
 fn entries_in(value: Option<&AnnotValue>) -> u128
-    ensures value { result ≡ spec.entries_in (option_map (λ value. value.now) value.entry) }
-    ensures fits { result < 2 ^ 63 }
+    ensures { record {
+      value : result ≡ spec.entries_in (option_map (λ value. value.now) value.entry);
+      fits : result < 2 ^ 63;
+    } }
 {
     match value {
         Some(AnnotValue::Texts(texts)) => texts.as_slice().len() as u128,
@@ -197,8 +199,10 @@ fn entries_in(value: Option<&AnnotValue>) -> u128
 
 /// How many texts the argument of that name lists.
 fn entries(name: &str, args: &[AnnotArg]) -> u128
-    ensures value { result ≡ spec.entries args.now name.now }
-    ensures fits { result < 2 ^ 63 }
+    ensures { record {
+      value : result ≡ spec.entries args.now name.now;
+      fits : result < 2 ^ 63;
+    } }
 {
     entries_in(argument(name, args))
 }

@@ -12,11 +12,13 @@ use std::alloc::AllocError;
 
 /// Says on `err` that memory was wanting, where that can be written.
 pub fn wanting<E: Sink>(err: &mut E) -> Status
-    ensures status { result ≡ Status.Memory }
-    ensures err { TookPrefix out_of_memory (E.taken err.old) (E.taken err.new) }
-    ensures whole { E.refused err.new ≡ E.refused err.old → Took out_of_memory (E.taken err.old) (E.taken err.new) }
-    ensures refused { E.refused err.old ≤ E.refused err.new }
-    ensures falls { E.faults err.old ≤ E.faults err.new }
+    ensures { record {
+      status : result ≡ Status.Memory;
+      whole : E.refused err.new ≡ E.refused err.old → Took out_of_memory (E.taken err.old) (E.taken err.new);
+      refused : E.refused err.old ≤ E.refused err.new;
+      falls : E.faults err.old ≤ E.faults err.new;
+      err : TookPrefix out_of_memory (E.taken err.old) (E.taken err.new);
+    } }
 {
     let _ = write_all(err, b"out of memory\n");
     Status::Memory

@@ -28,8 +28,10 @@ fn walk(
     profile: Profile,
     labels: &[Store],
 ) -> Result<Findings, AllocError>
-    requires program { HaveSmallNames program.now }
-    requires method { HasSmallNames within.now }
+    requires { record {
+      program : HaveSmallNames program.now;
+      method : HasSmallNames within.now;
+    } }
     ensures { IfOk result (λ findings. spec.Finds program.now within.now number profile (map stored labels.now) findings.failed.items findings.errors.items) }
 {
     let marks = landmarks(alloc, program, within)?;
@@ -82,9 +84,11 @@ fn push_of_overriding(
     within: &Method,
     number: u32,
 ) -> Result<(), AllocError>
-    requires program { HaveSmallNames program.now }
-    requires method { HasSmallNames within.now }
-    requires upper { ForSome within.now.overrides (λ over. over < length program.now.methods) }
+    requires { record {
+      method : HasSmallNames within.now;
+      upper : ForSome within.now.overrides (λ over. over < length program.now.methods);
+      program : HaveSmallNames program.now;
+    } }
     ensures { OnOk result (spec.AddsTo (OverridesBy program.now within.now number within.now.overrides) out.old.items out.new.items) }
 {
     let Some(over) = within.overrides else {

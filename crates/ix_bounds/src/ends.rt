@@ -17,8 +17,10 @@ const GREATEST: i64 = 2147483647;
 /// The low end of a length's range.
 fn length_low_by(p: &Path, fact: &Fact) -> Option<i64>
     requires { HasSmallNumbers fact.now }
-    ensures bound { result ≡ spec.length_low_by p.now fact.now }
-    ensures small { IfSome result IsEnd }
+    ensures { record {
+      bound : result ≡ spec.length_low_by p.now fact.now;
+      small : IfSome result IsEnd;
+    } }
 {
     match fact {
         Fact::LenRng(b, low, _) if is_same_path(b, p) => Some(*low),
@@ -29,8 +31,10 @@ fn length_low_by(p: &Path, fact: &Fact) -> Option<i64>
 /// The high end of a length's range.
 fn length_high_by(p: &Path, fact: &Fact) -> Option<i64>
     requires { HasSmallNumbers fact.now }
-    ensures bound { result ≡ spec.length_high_by p.now fact.now }
-    ensures small { IfSome result IsEnd }
+    ensures { record {
+      bound : result ≡ spec.length_high_by p.now fact.now;
+      small : IfSome result IsEnd;
+    } }
 {
     match fact {
         Fact::LenRng(b, _, high) if is_same_path(b, p) => Some(*high),
@@ -41,8 +45,10 @@ fn length_high_by(p: &Path, fact: &Fact) -> Option<i64>
 /// The low end of an int's range, or the class that it is in.
 fn range_low_by(p: &Path, fact: &Fact) -> Option<i64>
     requires { HasSmallNumbers fact.now }
-    ensures bound { result ≡ spec.range_low_by p.now fact.now }
-    ensures small { IfSome result IsEnd }
+    ensures { record {
+      bound : result ≡ spec.range_low_by p.now fact.now;
+      small : IfSome result IsEnd;
+    } }
 {
     match fact {
         Fact::Rng(q, low, _) if is_same_path(q, p) => Some(*low),
@@ -54,8 +60,10 @@ fn range_low_by(p: &Path, fact: &Fact) -> Option<i64>
 /// The high end of an int's range.
 fn range_high_by(p: &Path, fact: &Fact) -> Option<i64>
     requires { HasSmallNumbers fact.now }
-    ensures bound { result ≡ spec.range_high_by p.now fact.now }
-    ensures small { IfSome result IsEnd }
+    ensures { record {
+      bound : result ≡ spec.range_high_by p.now fact.now;
+      small : IfSome result IsEnd;
+    } }
 {
     match fact {
         Fact::Rng(q, _, high) if is_same_path(q, p) => Some(*high),
@@ -65,8 +73,10 @@ fn range_high_by(p: &Path, fact: &Fact) -> Option<i64>
 
 fn length_low_on(on_p: &[Fact], p: &Path) -> i64
     requires { All HasSmallNumbers on_p.now }
-    ensures bound { result ≡ spec.length_low on_p.now p.now }
-    ensures small { IsEnd result }
+    ensures { record {
+      bound : result ≡ spec.length_low on_p.now p.now;
+      small : IsEnd result;
+    } }
 {
     let mut bound = 0;
     for fact in on_p {
@@ -77,8 +87,10 @@ fn length_low_on(on_p: &[Fact], p: &Path) -> i64
 
 fn length_high_on(on_p: &[Fact], p: &Path) -> i64
     requires { All HasSmallNumbers on_p.now }
-    ensures bound { result ≡ spec.length_high on_p.now p.now }
-    ensures small { IsEnd result }
+    ensures { record {
+      bound : result ≡ spec.length_high on_p.now p.now;
+      small : IsEnd result;
+    } }
 {
     let mut bound = GREATEST;
     for fact in on_p {
@@ -89,8 +101,10 @@ fn length_high_on(on_p: &[Fact], p: &Path) -> i64
 
 fn range_low_on(on_p: &[Fact], p: &Path) -> i64
     requires { All HasSmallNumbers on_p.now }
-    ensures bound { result ≡ spec.range_low on_p.now p.now }
-    ensures small { IsEnd result }
+    ensures { record {
+      bound : result ≡ spec.range_low on_p.now p.now;
+      small : IsEnd result;
+    } }
 {
     let mut bound = LEAST;
     for fact in on_p {
@@ -101,8 +115,10 @@ fn range_low_on(on_p: &[Fact], p: &Path) -> i64
 
 fn range_high_on(on_p: &[Fact], p: &Path) -> i64
     requires { All HasSmallNumbers on_p.now }
-    ensures bound { result ≡ spec.range_high on_p.now p.now }
-    ensures small { IsEnd result }
+    ensures { record {
+      bound : result ≡ spec.range_high on_p.now p.now;
+      small : IsEnd result;
+    } }
 {
     let mut bound = GREATEST;
     for fact in on_p {

@@ -12,8 +12,10 @@ use ix_index::{Fact, Path, PathOff, is_same_path};
 
 /// What a smaller int or an array's length gives of the int from below.
 fn lower_by<G: Groups>(facts: &G, p: &Path, fact: &Fact) -> Option<i64>
-    ensures bound { result ≡ spec.lower_by (G.all facts.now) p.now fact.now }
-    ensures small { IfSome result IsLimit }
+    ensures { record {
+      bound : result ≡ spec.lower_by (G.all facts.now) p.now fact.now;
+      small : IfSome result IsLimit;
+    } }
 {
     match fact {
         Fact::Less(q, r, c) => {
@@ -29,8 +31,10 @@ fn lower_by<G: Groups>(facts: &G, p: &Path, fact: &Fact) -> Option<i64>
 }
 
 fn lower_among<G: Groups>(facts: &G, p: &Path, on_p: &[Fact]) -> i64
-    ensures bound { result ≡ spec.at_least (spec.range_low (G.all facts.now) p.now) (spec.greatest (spec.lower_by (G.all facts.now) p.now) on_p.now) }
-    ensures small { IsLimit result }
+    ensures { record {
+      bound : result ≡ spec.at_least (spec.range_low (G.all facts.now) p.now) (spec.greatest (spec.lower_by (G.all facts.now) p.now) on_p.now);
+      small : IsLimit result;
+    } }
 {
     let mut bound = range_low(facts, p);
     for fact in on_p {
@@ -56,8 +60,10 @@ fn limit_by_upper<G: Groups>(
     offset: &PathOff,
     c: i32,
 ) -> Option<i64>
-    ensures bound { result ≡ spec.limit_by (G.all facts.now) p.now (Upper r.now a.now offset.now c) }
-    ensures small { IfSome result IsLimit }
+    ensures { record {
+      bound : result ≡ spec.limit_by (G.all facts.now) p.now (Upper r.now a.now offset.now c);
+      small : IfSome result IsLimit;
+    } }
 {
     match offset {
         PathOff::Nothing => {
@@ -91,8 +97,10 @@ fn limit_by<G: Groups>(facts: &G, p: &Path, fact: &Fact) -> Option<i64>
 }
 
 fn limit_among<G: Groups>(facts: &G, p: &Path, on_p: &[Fact]) -> i64
-    ensures bound { result ≡ spec.at_most (spec.range_high (G.all facts.now) p.now) (spec.least (spec.limit_by (G.all facts.now) p.now) on_p.now) }
-    ensures small { IsLimit result }
+    ensures { record {
+      bound : result ≡ spec.at_most (spec.range_high (G.all facts.now) p.now) (spec.least (spec.limit_by (G.all facts.now) p.now) on_p.now);
+      small : IsLimit result;
+    } }
 {
     let mut bound = range_high(facts, p);
     for fact in on_p {

@@ -26,30 +26,42 @@ pub(crate) fn at_most(default: i64, number: Option<i64>) -> i64
 
 /// The least number above `low - c`.
 pub fn past(low: i64, c: i64) -> i64
-    requires low { IsEnd low }
-    requires constant { IsInt c }
-    ensures value { result ≡ low -ℤ c +ℤ pos 1 }
-    ensures small { IsLimit result }
+    requires { record {
+      low : IsEnd low;
+      constant : IsInt c;
+    } }
+    ensures { record {
+      value : result ≡ low -ℤ c +ℤ pos 1;
+      small : IsLimit result;
+    } }
 {
     low - c + 1
 }
 
 /// The greatest number below `high + c`.
 pub fn short_of(high: i64, c: i64) -> i64
-    requires high { IsEnd high }
-    requires constant { IsInt c }
-    ensures value { result ≡ high +ℤ c -ℤ pos 1 }
-    ensures small { IsLimit result }
+    requires { record {
+      high : IsEnd high;
+      constant : IsInt c;
+    } }
+    ensures { record {
+      value : result ≡ high +ℤ c -ℤ pos 1;
+      small : IsLimit result;
+    } }
 {
     high + c - 1
 }
 
 /// The greatest number n with `n + c < size`.
 pub fn within(size: i64, c: i64) -> i64
-    requires size { IsEnd size }
-    requires constant { IsInt c }
-    ensures value { result ≡ size -ℤ pos 1 -ℤ c }
-    ensures small { IsLimit result }
+    requires { record {
+      size : IsEnd size;
+      constant : IsInt c;
+    } }
+    ensures { record {
+      value : result ≡ size -ℤ pos 1 -ℤ c;
+      small : IsLimit result;
+    } }
 {
     size - 1 - c
 }
@@ -67,8 +79,10 @@ pub(crate) fn negated(number: Option<i64>) -> Option<i64>
 
 /// The greatest n with `p + n < size`, where `q + c < size` and `p < q + d`.
 fn shifted(c: i64, d: i64) -> i64
-    requires constant { IsInt c }
-    requires difference { IsEnd d }
+    requires { record {
+      constant : IsInt c;
+      difference : IsEnd d;
+    } }
     ensures value { result ≡ c -ℤ d +ℤ pos 1 }
     ensures small { IsLimit result }
 {

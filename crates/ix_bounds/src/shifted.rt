@@ -18,8 +18,10 @@ use ix_index::{Fact, Path, PathOff, greater, is_same_offset, is_same_path};
 /// A bound at one offset as one at another that is smaller.
 fn offset_moved<G: Groups>(facts: &G, c: i64, from: &PathOff, to: &PathOff) -> Option<i64>
     requires { IsInt c }
-    ensures bound { result ≡ spec.offset_moved (G.all facts.now) c from.now to.now }
-    ensures small { IfSome result IsLimit }
+    ensures { record {
+      bound : result ≡ spec.offset_moved (G.all facts.now) c from.now to.now;
+      small : IfSome result IsLimit;
+    } }
 {
     match (*from, *to) {
         (PathOff::Plus(q), PathOff::Plus(r)) => through(c, stored_less(facts, &r, &q)),
@@ -38,8 +40,10 @@ fn shifted_of<G: Groups>(
     c: i64,
 ) -> Option<i64>
     requires { IsInt c }
-    ensures bound { result ≡ best int_max (when (is_offset x.now offset.now) (spec.through (G.all facts.now) c (spec.stored_less (G.all facts.now) p.now r.now))) (when (is_path r.now p.now) (spec.offset_moved (G.all facts.now) c x.now offset.now)) }
-    ensures small { IfSome result IsLimit }
+    ensures { record {
+      bound : result ≡ best int_max (when (is_offset x.now offset.now) (spec.through (G.all facts.now) c (spec.stored_less (G.all facts.now) p.now r.now))) (when (is_path r.now p.now) (spec.offset_moved (G.all facts.now) c x.now offset.now));
+      small : IfSome result IsLimit;
+    } }
 {
     let below = if is_same_offset(x, offset) {
         through(c, stored_less(facts, p, r))
@@ -61,8 +65,10 @@ fn shifted_by<G: Groups>(
     offset: &PathOff,
     fact: &Fact,
 ) -> Option<i64>
-    ensures bound { result ≡ spec.shifted_by (G.all facts.now) p.now a.now offset.now fact.now }
-    ensures small { IfSome result IsLimit }
+    ensures { record {
+      bound : result ≡ spec.shifted_by (G.all facts.now) p.now a.now offset.now fact.now;
+      small : IfSome result IsLimit;
+    } }
 {
     match (fact, offset) {
         (Fact::Upper(r, b, x, c), _) => {
@@ -95,8 +101,10 @@ fn shifted_on<G: Groups>(
     first: Option<i64>,
 ) -> Option<i64>
     requires { IfSome first IsLimit }
-    ensures bound { result ≡ best int_max first (spec.greatest (spec.shifted_by (G.all facts.now) p.now a.now offset.now) on_array.now) }
-    ensures small { IfSome result IsLimit }
+    ensures { record {
+      bound : result ≡ best int_max first (spec.greatest (spec.shifted_by (G.all facts.now) p.now a.now offset.now) on_array.now);
+      small : IfSome result IsLimit;
+    } }
 {
     let mut bound = first;
     for fact in on_array {
@@ -114,10 +122,14 @@ fn shifted_alike<G: Groups>(
     fact: &Fact,
     first: Option<i64>,
 ) -> Option<i64>
-    requires small { IfSome first IsLimit }
-    requires counted { best int_max first (spec.greatest (spec.shifted_by (G.all facts.now) p.now a.now offset.now) (G.group facts.now a.now)) ≡ first }
-    ensures bound { result ≡ best int_max first (spec.greatest (spec.shifted_by (G.all facts.now) p.now a.now offset.now) (alike_on (G.group facts.now) a.now fact.now)) }
-    ensures small { IfSome result IsLimit }
+    requires { record {
+      small : IfSome first IsLimit;
+      counted : best int_max first (spec.greatest (spec.shifted_by (G.all facts.now) p.now a.now offset.now) (G.group facts.now a.now)) ≡ first;
+    } }
+    ensures { record {
+      bound : result ≡ best int_max first (spec.greatest (spec.shifted_by (G.all facts.now) p.now a.now offset.now) (alike_on (G.group facts.now) a.now fact.now));
+      small : IfSome result IsLimit;
+    } }
 {
     match fact {
         Fact::Same(b, c) => {
@@ -141,8 +153,10 @@ fn shifted_over<G: Groups>(
 ) -> Option<i64>
     requires small { IfSome first IsLimit }
     requires counted { best int_max first (spec.greatest (spec.shifted_by (G.all facts.now) p.now a.now offset.now) (G.group facts.now a.now)) ≡ first }
-    ensures bound { result ≡ best int_max first (spec.greatest (spec.shifted_by (G.all facts.now) p.now a.now offset.now) (each (alike_on (G.group facts.now) a.now) on_a.now)) }
-    ensures small { IfSome result IsLimit }
+    ensures { record {
+      bound : result ≡ best int_max first (spec.greatest (spec.shifted_by (G.all facts.now) p.now a.now offset.now) (each (alike_on (G.group facts.now) a.now) on_a.now));
+      small : IfSome result IsLimit;
+    } }
 {
     let mut bound = first;
     for fact in on_a {

@@ -20,8 +20,10 @@ fn stored_upper_by<G: Groups>(
     offset: &PathOff,
     fact: &Fact,
 ) -> Option<i64>
-    ensures bound { result ≡ spec.stored_upper_by (G.all facts.now) p.now a.now offset.now fact.now }
-    ensures small { IfSome result IsInt }
+    ensures { record {
+      bound : result ≡ spec.stored_upper_by (G.all facts.now) p.now a.now offset.now fact.now;
+      small : IfSome result IsInt;
+    } }
 {
     match (fact, offset) {
         (Fact::Upper(r, b, x, c), _) => {
@@ -49,8 +51,10 @@ fn stored_upper_on<G: Groups>(
     offset: &PathOff,
     on_p: &[Fact],
 ) -> Option<i64>
-    ensures bound { result ≡ spec.greatest (spec.stored_upper_by (G.all facts.now) p.now a.now offset.now) on_p.now }
-    ensures small { IfSome result IsInt }
+    ensures { record {
+      bound : result ≡ spec.greatest (spec.stored_upper_by (G.all facts.now) p.now a.now offset.now) on_p.now;
+      small : IfSome result IsInt;
+    } }
 {
     let mut bound = None;
     for fact in on_p {
@@ -74,8 +78,10 @@ pub(crate) fn stored_upper<G: Groups>(
 
 /// What is below a length is below the int that is this length.
 fn below_length<G: Groups>(facts: &G, p: &Path, a: &Path) -> Option<i64>
-    ensures bound { result ≡ option_map (λ c. pos 0 -ℤ c) (spec.stored_upper (G.all facts.now) p.now a.now Nothing) }
-    ensures small { IfSome result IsEnd }
+    ensures { record {
+      bound : result ≡ option_map (λ c. pos 0 -ℤ c) (spec.stored_upper (G.all facts.now) p.now a.now Nothing);
+      small : IfSome result IsEnd;
+    } }
 {
     negated(stored_upper(facts, p, a, &PathOff::Nothing))
 }
@@ -97,8 +103,10 @@ fn length_less_by<G: Groups>(facts: &G, p: &Path, q: &Path, fact: &Fact) -> Opti
 }
 
 fn length_less_on<G: Groups>(facts: &G, p: &Path, q: &Path, lengths: &[Fact]) -> Option<i64>
-    ensures bound { result ≡ spec.least (length_less_by (G.all facts.now) p.now q.now) lengths.now }
-    ensures small { IfSome result IsEnd }
+    ensures { record {
+      bound : result ≡ spec.least (length_less_by (G.all facts.now) p.now q.now) lengths.now;
+      small : IfSome result IsEnd;
+    } }
 {
     let mut bound = None;
     for fact in lengths {
@@ -117,8 +125,10 @@ pub(crate) fn stored_less<G: Groups>(facts: &G, p: &Path, q: &Path) -> Option<i6
 }
 
 fn fact_less_by(p: &Path, q: &Path, fact: &Fact) -> Option<i64>
-    ensures bound { result ≡ spec.fact_less_by p.now q.now fact.now }
-    ensures small { IfSome result IsEnd }
+    ensures { record {
+      bound : result ≡ spec.fact_less_by p.now q.now fact.now;
+      small : IfSome result IsEnd;
+    } }
 {
     match fact {
         Fact::Less(r, s, c) => {
@@ -134,8 +144,10 @@ fn fact_less_by(p: &Path, q: &Path, fact: &Fact) -> Option<i64>
 
 /// The least c of the facts `p < q + c` among these, which a walk finds.
 pub fn fact_less_among(facts: &[Fact], p: &Path, q: &Path) -> Option<i64>
-    ensures bound { result ≡ spec.least (spec.fact_less_by p.now q.now) facts.now }
-    ensures small { IfSome result IsEnd }
+    ensures { record {
+      bound : result ≡ spec.least (spec.fact_less_by p.now q.now) facts.now;
+      small : IfSome result IsEnd;
+    } }
 {
     let mut bound = None;
     for fact in facts {

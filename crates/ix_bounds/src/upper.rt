@@ -55,8 +55,10 @@ fn upper_by<G: Groups>(facts: &G, p: &Path, a: &Path, offset: &PathOff, fact: &F
 /// A bound less an int's upper limit, which is asked only where there is a bound.
 fn less_limit<G: Groups>(facts: &G, bound: Option<i64>, q: &Path) -> Option<i64>
     requires bound { IfSome bound IsLimit }
-    ensures value { result ≡ option_map (λ c. c -ℤ spec.upper_limit (G.all facts.now) q.now) bound }
-    ensures small { IfSome result IsBound }
+    ensures { record {
+      value : result ≡ option_map (λ c. c -ℤ spec.upper_limit (G.all facts.now) q.now) bound;
+      small : IfSome result IsBound;
+    } }
 {
     match bound {
         None => None,
@@ -67,8 +69,10 @@ fn less_limit<G: Groups>(facts: &G, bound: Option<i64>, q: &Path) -> Option<i64>
 /// A bound and an int's lower bound, which is asked only where there is a bound.
 fn more_low<G: Groups>(facts: &G, bound: Option<i64>, q: &Path) -> Option<i64>
     requires bound { IfSome bound IsLimit }
-    ensures value { result ≡ option_map (λ c. c +ℤ spec.lower_bound (G.all facts.now) q.now) bound }
-    ensures small { IfSome result IsBound }
+    ensures { record {
+      value : result ≡ option_map (λ c. c +ℤ spec.lower_bound (G.all facts.now) q.now) bound;
+      small : IfSome result IsBound;
+    } }
 {
     match bound {
         None => None,
@@ -100,8 +104,10 @@ fn greatest_upper_by<G: Groups>(
     offset: &PathOff,
     on_p: &[Fact],
 ) -> Option<i64>
-    ensures bound { result ≡ spec.greatest (spec.upper_by (G.all facts.now) p.now a.now offset.now) on_p.now }
-    ensures small { IfSome result IsBound }
+    ensures { record {
+      bound : result ≡ spec.greatest (spec.upper_by (G.all facts.now) p.now a.now offset.now) on_p.now;
+      small : IfSome result IsBound;
+    } }
 {
     let mut bound = None;
     for fact in on_p {

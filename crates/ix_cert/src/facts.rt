@@ -60,8 +60,10 @@ fn checked(
     line: &[u8],
     fact: Fact,
 ) -> Result<Option<Fact>, AllocError>
-    ensures found { IfOk result (λ found. IfSome found (λ found. (found ≡ fact) × (fact_text fact ≡ line.now) × (names (is_outside slots fields) fact ≡ false))) }
-    ensures none { IfOk result (λ found. IfNone found (fact_text fact ≡ line.now → names (is_outside slots fields) fact ≡ false → ⊥)) }
+    ensures { record {
+      found : IfOk result (λ found. IfSome found (λ found. (found ≡ fact) × (fact_text fact ≡ line.now) × (names (is_outside slots fields) fact ≡ false)));
+      none : IfOk result (λ found. IfNone found (fact_text fact ≡ line.now → names (is_outside slots fields) fact ≡ false → ⊥));
+    } }
 {
     if !names_inside(slots, fields, &fact) {
         return Ok(None);

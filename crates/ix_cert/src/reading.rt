@@ -105,8 +105,10 @@ fn read_method<'a>(
     method: &Method,
     text: &'a [u8],
 ) -> Result<(List<Store>, &'a [u8]), Stop>
-    ensures method { IfOk result (λ parts. MethodText fields number method.now (map stored parts.0) text.now parts.1.now) }
-    ensures each { (stores : List Stored) (rest : List ℕ) → MethodText fields number method.now stores text.now rest → EndsLabel rest → MatchResult result (λ parts. parts.1.now ≡ rest) IsMemory }
+    ensures { record {
+      each : (stores : List Stored) (rest : List ℕ) → MethodText fields number method.now stores text.now rest → EndsLabel rest → MatchResult result (λ parts. parts.1.now ≡ rest) IsMemory;
+      method : IfOk result (λ parts. MethodText fields number method.now (map stored parts.0) text.now parts.1.now);
+    } }
 {
     let count = loops_of(method)?;
     if count == 0 {

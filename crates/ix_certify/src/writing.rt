@@ -26,9 +26,11 @@ fn labels_of(
     method: u32,
     profile: Profile,
 ) -> Result<List<Store>, AllocError>
-    requires formed { Formed program.now }
-    requires can { CanCheck program.now }
-    requires number { method < length program.now.methods }
+    requires { record {
+      formed : Formed program.now;
+      can : CanCheck program.now;
+      number : method < length program.now.methods;
+    } }
     ensures { IfOk result (λ stores. AreLoopLabels program.now (method_at program.now method) profile stores) }
 {
     let mut stores = List::new(alloc);
@@ -44,10 +46,14 @@ fn least_labels(
     program: &Program,
     profile: Profile,
 ) -> Result<List<List<Store>>, AllocError>
-    requires formed { Formed program.now }
-    requires can { CanCheck program.now }
-    ensures each { IfOk result (λ labels. length labels ≡ length program.now.methods) }
-    ensures least { IfOk result (λ labels. (number : ℕ) (stores : List Label) → slice_get labels number ≡ Some stores → AreLoopLabels program.now (method_at program.now number) profile stores) }
+    requires { record {
+      formed : Formed program.now;
+      can : CanCheck program.now;
+    } }
+    ensures { record {
+      each : IfOk result (λ labels. length labels ≡ length program.now.methods);
+      least : IfOk result (λ labels. (number : ℕ) (stores : List Label) → slice_get labels number ≡ Some stores → AreLoopLabels program.now (method_at program.now number) profile stores);
+    } }
 {
     let mut labels = List::new(alloc);
     for number in 0..program.methods.len() as u32 {
@@ -62,8 +68,10 @@ pub fn certificate(
     program: &Program,
     profile: Profile,
 ) -> Result<Vec<u8>, AllocError>
-    requires formed { Formed program.now }
-    requires can { CanCheck program.now }
+    requires { record {
+      formed : Formed program.now;
+      can : CanCheck program.now;
+    } }
     ensures { IfOk result (λ text. IsLeastCertificate program.now profile text.items) }
 {
     least_labels_may_be_written();
@@ -78,8 +86,10 @@ pub fn write(
     program: &Program,
     profile: Profile,
 ) -> Result<Option<Vec<u8>>, AllocError>
-    requires formed { Formed program.now }
-    requires can { CanCheck program.now }
+    requires { record {
+      formed : Formed program.now;
+      can : CanCheck program.now;
+    } }
     ensures none { IfOk result (λ text. IfNone text ((error : Found) × (rank : ℕ) × IsError program.now profile error rank)) }
     ensures some { IfOk result (λ text. IfSome text (λ text. (error : Found) (rank : ℕ) → IsError program.now profile error rank → ⊥)) }
     ensures least { IfOk result (λ text. IfSome text (λ text. IsLeastCertificate program.now profile text.items)) }

@@ -24,12 +24,14 @@ fn errors_with<L: Ledger>(
     profile: Profile,
     blank: Blank,
 ) -> Result<Vec<Error>, AllocError>
-    requires formed { Formed program.now }
-    requires can { CanCheck program.now }
-    requires number { method < length program.now.methods }
-    requires name { blank.name ≡ L.name }
-    requires parts { blank.parts ≡ L.parts }
-    requires one { blank.parts ≡ 1 }
+    requires { record {
+      formed : Formed program.now;
+      can : CanCheck program.now;
+      number : method < length program.now.methods;
+      name : blank.name ≡ L.name;
+      parts : blank.parts ≡ L.parts;
+      one : blank.parts ≡ 1;
+    } }
     ensures errors { IfOk result (λ errors. IsErrorList (IsErrorOf program.now profile method) errors.items) }
 {
     names_are_small();
@@ -49,9 +51,11 @@ pub fn method_errors(
     method: u32,
     profile: Profile,
 ) -> Result<Vec<Error>, AllocError>
-    requires formed { Formed program.now }
-    requires can { CanCheck program.now }
-    requires number { method < length program.now.methods }
+    requires { record {
+      formed : Formed program.now;
+      can : CanCheck program.now;
+      number : method < length program.now.methods;
+    } }
     ensures errors { IfOk result (λ errors. IsErrorList (IsErrorOf program.now profile method) errors.items) }
     ensures alone { IfOk result (λ errors. IsErrorList (ErrorsOf (signatures program.now) (method_at program.now method) method profile) errors.items) }
 {

@@ -32,12 +32,16 @@ pub fn labels<L: Ledger>(
     profile: Profile,
     steps: &mut Steps<L>,
 ) -> Result<Vec<Store>, AllocError>
-    requires formed { Formed program.now }
-    requires can { CanCheck program.now }
-    requires number { method < length program.now.methods }
-    ensures labels { IfOk result (λ found. AreLoopLabels program.now (method_at program.now method) profile found.items) }
-    ensures at_least { IfOk result (λ found. steps.old + behind_code (block_code (method_at program.now method).body) 2 ≤ steps.new) }
-    ensures at_most { IfOk result (λ found. VisitsWithin program.now (method_at program.now method) profile steps.old steps.new) }
+    requires { record {
+      formed : Formed program.now;
+      can : CanCheck program.now;
+      number : method < length program.now.methods;
+    } }
+    ensures { record {
+      labels : IfOk result (λ found. AreLoopLabels program.now (method_at program.now method) profile found.items);
+      at_least : IfOk result (λ found. steps.old + behind_code (block_code (method_at program.now method).body) 2 ≤ steps.new);
+      at_most : IfOk result (λ found. VisitsWithin program.now (method_at program.now method) profile steps.old steps.new);
+    } }
 {
     names_are_small();
     loops_are_in_order();
@@ -53,12 +57,14 @@ fn labels_with<L: Ledger>(
     profile: Profile,
     blank: Blank,
 ) -> Result<Vec<Store>, AllocError>
-    requires formed { Formed program.now }
-    requires can { CanCheck program.now }
-    requires number { method < length program.now.methods }
-    requires name { blank.name ≡ L.name }
-    requires parts { blank.parts ≡ L.parts }
-    requires one { blank.parts ≡ 1 }
+    requires { record {
+      formed : Formed program.now;
+      can : CanCheck program.now;
+      number : method < length program.now.methods;
+      name : blank.name ≡ L.name;
+      parts : blank.parts ≡ L.parts;
+      one : blank.parts ≡ 1;
+    } }
     ensures labels { IfOk result (λ found. AreLoopLabels program.now (method_at program.now method) profile found.items) }
 {
     let mut steps = Steps::<L>::new(blank);
@@ -72,9 +78,11 @@ pub fn method_labels(
     method: u32,
     profile: Profile,
 ) -> Result<Vec<Store>, AllocError>
-    requires formed { Formed program.now }
-    requires can { CanCheck program.now }
-    requires number { method < length program.now.methods }
+    requires { record {
+      formed : Formed program.now;
+      can : CanCheck program.now;
+      number : method < length program.now.methods;
+    } }
     ensures labels { IfOk result (λ found. AreLoopLabels program.now (method_at program.now method) profile found.items) }
 {
     labels_with::<Brand>(alloc, program, method, profile, Blank::new(1))

@@ -28,8 +28,10 @@ pub fn check<L: Ledger>(
     profile: Profile,
     steps: &mut Steps<L>,
 ) -> Result<Vec<Error>, AllocError>
-    requires formed { Formed program.now }
-    requires can { CanCheck program.now }
+    requires { record {
+      formed : Formed program.now;
+      can : CanCheck program.now;
+    } }
     ensures errors { IfOk result (λ errors. IsErrorList (IsError program.now profile) errors.items) }
     ensures safe { IfOk result (λ errors. errors.items ≡ [] → Safe program.now profile) }
     ensures at_least { IfOk result (λ errors. steps.old + nodes_below program.now (length program.now.methods) ≤ steps.new) }
@@ -50,13 +52,17 @@ fn check_with<L: Ledger>(
     profile: Profile,
     blank: Blank,
 ) -> Result<Vec<Error>, AllocError>
-    requires formed { Formed program.now }
-    requires can { CanCheck program.now }
-    requires name { blank.name ≡ L.name }
-    requires parts { blank.parts ≡ L.parts }
-    requires one { blank.parts ≡ 1 }
-    ensures errors { IfOk result (λ errors. IsErrorList (IsError program.now profile) errors.items) }
-    ensures safe { IfOk result (λ errors. errors.items ≡ [] → Safe program.now profile) }
+    requires { record {
+      formed : Formed program.now;
+      can : CanCheck program.now;
+      name : blank.name ≡ L.name;
+      parts : blank.parts ≡ L.parts;
+      one : blank.parts ≡ 1;
+    } }
+    ensures { record {
+      errors : IfOk result (λ errors. IsErrorList (IsError program.now profile) errors.items);
+      safe : IfOk result (λ errors. errors.items ≡ [] → Safe program.now profile);
+    } }
 {
     let mut steps = Steps::<L>::new(blank);
     check(alloc, program, profile, &mut steps)
@@ -69,8 +75,10 @@ pub fn check_program(
     program: &Program,
     profile: Profile,
 ) -> Result<Vec<Error>, AllocError>
-    requires formed { Formed program.now }
-    requires can { CanCheck program.now }
+    requires { record {
+      formed : Formed program.now;
+      can : CanCheck program.now;
+    } }
     ensures errors { IfOk result (λ errors. IsErrorList (IsError program.now profile) errors.items) }
     ensures safe { IfOk result (λ errors. errors.items ≡ [] → Safe program.now profile) }
     ensures within { (end : ℕ) → PlacesWithin end program.now → IfOk result (λ errors. All (λ error. error.span.from ≤ end) errors.items) }

@@ -111,10 +111,12 @@ fn by_same(
     links: &[Fact],
 ) -> Result<Vec<(Path, Path)>, AllocError>
     requires roots { AreRoots first.items }
-    ensures roots { IfOk result (λ roots. AreRoots roots.items) }
-    ensures coarser { IfOk result (λ roots. Coarser first.items roots.items) }
-    ensures sound { IfOk result (λ roots. (facts : List Fact) → ((f : Fact) → IsIn f links.now → Follows facts f) → AreSound facts first.items → AreSound facts roots.items) }
-    ensures same { IfOk result (λ roots. (a b : Path) → IsIn (Same a b) links.now → root_of roots.items a ≡ root_of roots.items b) }
+    ensures { record {
+      roots : IfOk result (λ roots. AreRoots roots.items);
+      coarser : IfOk result (λ roots. Coarser first.items roots.items);
+      sound : IfOk result (λ roots. (facts : List Fact) → ((f : Fact) → IsIn f links.now → Follows facts f) → AreSound facts first.items → AreSound facts roots.items);
+      same : IfOk result (λ roots. (a b : Path) → IsIn (Same a b) links.now → root_of roots.items a ≡ root_of roots.items b);
+    } }
 {
     let mut roots = first;
     for link in links {

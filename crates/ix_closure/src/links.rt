@@ -25,8 +25,10 @@ fn push_length(
     p: &Path,
     a: &Path,
 ) -> Result<(), AllocError>
-    ensures found { OnOk result (found.new.items ≡ found.old.items ++ link (first_of firsts.old.items p.now) a.now) }
-    ensures firsts { OnOk result (firsts.new.items ≡ with_first (first_of firsts.old.items p.now) firsts.old.items p.now a.now) }
+    ensures { record {
+      found : OnOk result (found.new.items ≡ found.old.items ++ link (first_of firsts.old.items p.now) a.now);
+      firsts : OnOk result (firsts.new.items ≡ with_first (first_of firsts.old.items p.now) firsts.old.items p.now a.now);
+    } }
 {
     match first(firsts, p) {
         Some(b) => found.push(Fact::Same(b, *a))?,

@@ -31,8 +31,10 @@ pub fn source_name(alloc: Global, command: &Command<'_>) -> Result<String, Alloc
 
 /// The workload of so many methods.
 fn workload(alloc: Global, count: u32) -> Result<Vec<u8>, ReadError>
-    ensures bytes { IfOk result (λ bytes. bytes.items ≡ spec.source_bytes (Bench count) []) }
-    ensures calm { IsErrOf result ReadError.Failed → ⊥ }
+    ensures { record {
+      bytes : IfOk result (λ bytes. bytes.items ≡ spec.source_bytes (Bench count) []);
+      calm : IsErrOf result ReadError.Failed → ⊥;
+    } }
 {
     match generate(alloc, count) {
         Ok(bytes) => Ok(bytes),
@@ -42,8 +44,10 @@ fn workload(alloc: Global, count: u32) -> Result<Vec<u8>, ReadError>
 
 /// The bytes of a file, joined with the library where that is asked.
 fn judged(alloc: Global, library: bool, bytes: Vec<u8>) -> Result<Vec<u8>, ReadError>
-    ensures bytes { IfOk result (λ judged. judged.items ≡ spec.judged_bytes library bytes.items) }
-    ensures calm { IsErrOf result ReadError.Failed → ⊥ }
+    ensures { record {
+      bytes : IfOk result (λ judged. judged.items ≡ spec.judged_bytes library bytes.items);
+      calm : IsErrOf result ReadError.Failed → ⊥;
+    } }
 {
     if !library {
         return Ok(bytes);

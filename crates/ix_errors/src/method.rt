@@ -29,9 +29,11 @@ fn push_of_overriding(
     within: &Method,
     number: u32,
 ) -> Result<(), AllocError>
-    requires program { HaveSmallNames program.now }
-    requires method { HasSmallNames within.now }
-    requires upper { ForSome within.now.overrides (λ over. over < length program.now.methods) }
+    requires { record {
+      method : HasSmallNames within.now;
+      upper : ForSome within.now.overrides (λ over. over < length program.now.methods);
+      program : HaveSmallNames program.now;
+    } }
     ensures { OnOk result (AddsExactly (OverridesBy program.now within.now number within.now.overrides) out.old.items out.new.items) }
 {
     let Some(over) = within.overrides else {

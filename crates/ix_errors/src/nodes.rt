@@ -28,8 +28,10 @@ fn push_of_label(
     kind: &NodeKind<'_>,
     label: &Store,
 ) -> Result<(), AllocError>
-    requires program { HaveSmallNames program.now }
-    requires method { HasSmallNames within.now }
+    requires { record {
+      program : HaveSmallNames program.now;
+      method : HasSmallNames within.now;
+    } }
     ensures { OnOk result (AddsExactly (LabelGives program.now within.now number (kind_of kind.now) (stored label.now)) out.old.items out.new.items) }
 {
     match kind {
@@ -78,8 +80,10 @@ fn push_of_node(
     kind: &NodeKind<'_>,
     label: &Store,
 ) -> Result<(), AllocError>
-    requires program { HaveSmallNames program.now }
-    requires method { HasSmallNames within.now }
+    requires { record {
+      program : HaveSmallNames program.now;
+      method : HasSmallNames within.now;
+    } }
     ensures { OnOk result (AddsExactly (NodeGives program.now within.now number (kind_of kind.now) (stored label.now)) out.old.items out.new.items) }
 {
     push_of_label(alloc, out, program, within, number, kind, label)?;

@@ -21,10 +21,12 @@ pub fn program_errors<L: Ledger>(
     steps: &mut Steps<L>,
 ) -> Result<Vec<Ranked>, AllocError>
     requires ready { IsReady program.now }
-    ensures errors { IfOk result (λ errors. AreExactly (IsError program.now profile) errors.items) }
-    ensures none { IfOk result (λ errors. errors.items ≡ [] → HaveNone program.now profile (length program.now.methods)) }
-    ensures at_least { IfOk result (λ errors. steps.old + nodes_below program.now (length program.now.methods) ≤ steps.new) }
-    ensures at_most { IfOk result (λ errors. AllVisitsWithin program.now profile steps.old steps.new) }
+    ensures { record {
+      errors : IfOk result (λ errors. AreExactly (IsError program.now profile) errors.items);
+      none : IfOk result (λ errors. errors.items ≡ [] → HaveNone program.now profile (length program.now.methods));
+      at_least : IfOk result (λ errors. steps.old + nodes_below program.now (length program.now.methods) ≤ steps.new);
+      at_most : IfOk result (λ errors. AllVisitsWithin program.now profile steps.old steps.new);
+    } }
 {
     let mut out = Vec::new(alloc);
     for number in 0..program.methods.len() as u32 {
@@ -41,8 +43,10 @@ pub fn method_errors<L: Ledger>(
     profile: Profile,
     steps: &mut Steps<L>,
 ) -> Result<Vec<Ranked>, AllocError>
-    requires ready { IsReady program.now }
-    requires number { number < length program.now.methods }
+    requires { record {
+      ready : IsReady program.now;
+      number : number < length program.now.methods;
+    } }
     ensures errors { IfOk result (λ errors. AreExactly (IsErrorOf program.now profile number) errors.items) }
 {
     let mut out = Vec::new(alloc);

@@ -23,8 +23,10 @@ use std::alloc::AllocError;
 
 /// From an int's lower bound to its upper limit.
 fn operand<K: Know>(know: &K, p: &Path) -> Interval
-    ensures value { result ≡ exact.operand (in_orders (K.known know.now)) p.now }
-    ensures ints { IsWithin result all_ints }
+    ensures { record {
+      value : result ≡ exact.operand (in_orders (K.known know.now)) p.now;
+      ints : IsWithin result all_ints;
+    } }
 {
     Interval {
         lo: know.lo(p),
@@ -34,8 +36,10 @@ fn operand<K: Know>(know: &K, p: &Path) -> Interval
 
 /// A sum that is below an array's length by this bound is at most this number.
 fn below_length(high: i64, bound: Option<i64>) -> Option<i64>
-    requires high { IsBound high }
-    requires bound { IfSome bound IsBound }
+    requires { record {
+      high : IsBound high;
+      bound : IfSome bound IsBound;
+    } }
     ensures value { result ≡ option_map (λ c. high -ℤ pos 1 -ℤ c) bound }
 {
     match bound {

@@ -44,16 +44,20 @@ pub(crate) fn ends_of(alloc: Global, facts: &[Fact]) -> Result<Vec<Fact>, AllocE
 
 /// How many facts stand up to this one, if it is a range, a class or a length, and else up to the last one before it.
 fn up_to_end(fact: &Fact, seen: usize, last: usize) -> usize
-    ensures here { is_end fact.now ≡ true → result ≡ seen }
-    ensures before { is_end fact.now ≡ false → result ≡ last }
+    ensures { record {
+      here : is_end fact.now ≡ true → result ≡ seen;
+      before : is_end fact.now ≡ false → result ≡ last;
+    } }
 {
     if is_end(fact) { seen } else { last }
 }
 
 /// How many facts stand up to the last range, class or length.
 pub fn up_to_ends(facts: &[Fact]) -> usize
-    ensures within { result ≤ length facts.now }
-    ensures ends { ends_in (take result facts.now) ≡ ends_in facts.now }
+    ensures { record {
+      within : result ≤ length facts.now;
+      ends : ends_in (take result facts.now) ≡ ends_in facts.now;
+    } }
 {
     let mut seen = 0;
     let mut last = 0;
@@ -66,9 +70,11 @@ pub fn up_to_ends(facts: &[Fact]) -> usize
 
 /// How many facts stand before the first difference or length.
 pub fn before_links(facts: &[Fact]) -> usize
-    ensures within { result ≤ length facts.now }
-    ensures links { links_in (drop result facts.now) ≡ links_in facts.now }
-    ensures first { IfSome (slice_get facts.now result) (λ fact. is_link fact ≡ true) }
+    ensures { record {
+      within : result ≤ length facts.now;
+      links : links_in (drop result facts.now) ≡ links_in facts.now;
+      first : IfSome (slice_get facts.now result) (λ fact. is_link fact ≡ true);
+    } }
 {
     let mut seen = 0;
     for fact in facts {

@@ -78,8 +78,10 @@ fn facts_beside_changed<K: Know>(
     know: &K,
     kind: &OpKind,
 ) -> Result<Vec<Fact>, AllocError>
-    ensures facts { IfOk result (λ facts. facts.items ≡ without (of_target kind.now) (K.known know.now)) }
-    ensures small { IfOk result (λ facts. All HasSmallNumbers facts.items) }
+    ensures { record {
+      facts : IfOk result (λ facts. facts.items ≡ without (of_target kind.now) (K.known know.now));
+      small : IfOk result (λ facts. All HasSmallNumbers facts.items);
+    } }
 {
     let mut facts = with_room(alloc, know.facts())?;
     for k in 0..know.facts() {
@@ -89,8 +91,10 @@ fn facts_beside_changed<K: Know>(
 }
 
 fn facts_beside_path<K: Know>(alloc: Global, know: &K, path: &Path) -> Result<Vec<Fact>, AllocError>
-    ensures facts { IfOk result (λ facts. facts.items ≡ without (of_path path.now) (K.known know.now)) }
-    ensures small { IfOk result (λ facts. All HasSmallNumbers facts.items) }
+    ensures { record {
+      facts : IfOk result (λ facts. facts.items ≡ without (of_path path.now) (K.known know.now));
+      small : IfOk result (λ facts. All HasSmallNumbers facts.items);
+    } }
 {
     let mut facts = with_room(alloc, know.facts())?;
     for k in 0..know.facts() {
@@ -105,8 +109,10 @@ fn facts_beside_target<K: Know>(
     know: &K,
     kind: &OpKind,
 ) -> Result<Vec<Fact>, AllocError>
-    ensures facts { IfOk result (λ facts. facts.items ≡ without (of_target kind.now) (K.known know.now)) }
-    ensures small { IfOk result (λ facts. All HasSmallNumbers facts.items) }
+    ensures { record {
+      facts : IfOk result (λ facts. facts.items ≡ without (of_target kind.now) (K.known know.now));
+      small : IfOk result (λ facts. All HasSmallNumbers facts.items);
+    } }
 {
     match assigned_path(kind) {
         Some(path) => facts_beside_path(alloc, know, &path),

@@ -47,8 +47,10 @@ pub(crate) fn room_of(paths: &[Path]) -> usize
 #[inline(never)]
 fn reach(numbers: &mut Vec<i64>, default: i64, place: usize) -> Result<(), AllocError>
     requires near { place < 2048 }
-    ensures reached { OnOk result (place < length numbers.new.items) }
-    ensures same { OnOk result ((at : ℕ) → get_or numbers.new.items at default ≡ get_or numbers.old.items at default) }
+    ensures { record {
+      reached : OnOk result (place < length numbers.new.items);
+      same : OnOk result ((at : ℕ) → get_or numbers.new.items at default ≡ get_or numbers.old.items at default);
+    } }
 {
     if place < numbers.len() {
         return Ok(());
@@ -212,9 +214,11 @@ fn put_range(
 
 /// The number of the path, where it is a near path.
 fn number_of(numbers: &[i64], default: i64, p: &Path) -> Option<i64>
-    ensures near { IfSome result (λ _n. is_near p.now ≡ true) }
-    ensures number { IfSome result (λ n. n ≡ number_at numbers.now default p.now) }
-    ensures none { IfNone result (is_near p.now ≡ false) }
+    ensures { record {
+      near : IfSome result (λ _n. is_near p.now ≡ true);
+      number : IfSome result (λ n. n ≡ number_at numbers.now default p.now);
+      none : IfNone result (is_near p.now ≡ false);
+    } }
 {
     match near_place(p) {
         Some(place) => Some(number_in(numbers, default, place)),
@@ -241,10 +245,12 @@ pub struct Limits {
 impl NearEnds {
     /// Counts the fact in.
     fn put(&mut self, fact: &Fact) -> Result<(), AllocError>
-        ensures lows { OnOk result (Raises self.old.lows.items self.new.lows.items least_int (λ p. spec.range_low_by p fact.now)) }
-        ensures highs { OnOk result (Lowers self.old.highs.items self.new.highs.items greatest_int (λ p. spec.range_high_by p fact.now)) }
-        ensures length_lows { OnOk result (Raises self.old.length_lows.items self.new.length_lows.items (pos 0) (λ p. spec.length_low_by p fact.now)) }
-        ensures length_highs { OnOk result (Lowers self.old.length_highs.items self.new.length_highs.items greatest_int (λ p. spec.length_high_by p fact.now)) }
+        ensures { record {
+          lows : OnOk result (Raises self.old.lows.items self.new.lows.items least_int (λ p. spec.range_low_by p fact.now));
+          highs : OnOk result (Lowers self.old.highs.items self.new.highs.items greatest_int (λ p. spec.range_high_by p fact.now));
+          length_lows : OnOk result (Raises self.old.length_lows.items self.new.length_lows.items (pos 0) (λ p. spec.length_low_by p fact.now));
+          length_highs : OnOk result (Lowers self.old.length_highs.items self.new.length_highs.items greatest_int (λ p. spec.length_high_by p fact.now));
+        } }
     {
         match *fact {
             Fact::Rng(p, low, high) => {
@@ -293,8 +299,10 @@ impl NearEnds {
     }
 
     fn low<G: Groups>(&self, facts: &G, p: &Path) -> i64
-        requires ends { HasEnds (G.all facts.now) self.now }
-        requires small { All HasSmallNumbers (G.all facts.now) }
+        requires { record {
+          ends : HasEnds (G.all facts.now) self.now;
+          small : All HasSmallNumbers (G.all facts.now);
+        } }
         ensures value { result ≡ spec.range_low (G.all facts.now) p.now }
         ensures small { IsEnd result }
     {
@@ -305,8 +313,10 @@ impl NearEnds {
     }
 
     fn high<G: Groups>(&self, facts: &G, p: &Path) -> i64
-        requires ends { HasEnds (G.all facts.now) self.now }
-        requires small { All HasSmallNumbers (G.all facts.now) }
+        requires { record {
+          ends : HasEnds (G.all facts.now) self.now;
+          small : All HasSmallNumbers (G.all facts.now);
+        } }
         ensures value { result ≡ spec.range_high (G.all facts.now) p.now }
         ensures small { IsEnd result }
     {
@@ -317,8 +327,10 @@ impl NearEnds {
     }
 
     fn length_low<G: Groups>(&self, facts: &G, a: &Path) -> i64
-        requires ends { HasEnds (G.all facts.now) self.now }
-        requires small { All HasSmallNumbers (G.all facts.now) }
+        requires { record {
+          ends : HasEnds (G.all facts.now) self.now;
+          small : All HasSmallNumbers (G.all facts.now);
+        } }
         ensures value { result ≡ spec.length_low (G.all facts.now) a.now }
         ensures small { IsEnd result }
     {
@@ -329,8 +341,10 @@ impl NearEnds {
     }
 
     fn length_high<G: Groups>(&self, facts: &G, a: &Path) -> i64
-        requires ends { HasEnds (G.all facts.now) self.now }
-        requires small { All HasSmallNumbers (G.all facts.now) }
+        requires { record {
+          ends : HasEnds (G.all facts.now) self.now;
+          small : All HasSmallNumbers (G.all facts.now);
+        } }
         ensures value { result ≡ spec.length_high (G.all facts.now) a.now }
         ensures small { IsEnd result }
     {
@@ -343,9 +357,11 @@ impl NearEnds {
 
 /// The int that the fact bounds from below by what another int or a length is at least, and by which number.
 fn low_told<G: Groups>(ends: &NearEnds, facts: &G, fact: &Fact) -> Option<(Path, i64)>
-    requires ends { HasEnds (G.all facts.now) ends.now }
-    requires small { All HasSmallNumbers (G.all facts.now) }
-    requires fact { HasSmallNumbers fact.now }
+    requires { record {
+      ends : HasEnds (G.all facts.now) ends.now;
+      small : All HasSmallNumbers (G.all facts.now);
+      fact : HasSmallNumbers fact.now;
+    } }
     ensures low { (p : Path) → told result p ≡ spec.lower_by (G.all facts.now) p fact.now }
     ensures small { IfSome result (λ low. IsLimit low.1) }
 {
@@ -358,9 +374,11 @@ fn low_told<G: Groups>(ends: &NearEnds, facts: &G, fact: &Fact) -> Option<(Path,
 
 /// The int that the fact bounds from above by what another int or a length is at most, and by which number.
 fn high_told<G: Groups>(ends: &NearEnds, facts: &G, fact: &Fact) -> Option<(Path, i64)>
-    requires ends { HasEnds (G.all facts.now) ends.now }
-    requires small { All HasSmallNumbers (G.all facts.now) }
-    requires fact { HasSmallNumbers fact.now }
+    requires { record {
+      ends : HasEnds (G.all facts.now) ends.now;
+      small : All HasSmallNumbers (G.all facts.now);
+      fact : HasSmallNumbers fact.now;
+    } }
     ensures high { (p : Path) → told result p ≡ spec.limit_by (G.all facts.now) p fact.now }
     ensures small { IfSome result (λ high. IsLimit high.1) }
 {
@@ -381,9 +399,11 @@ fn put_low<G: Groups>(
     facts: &G,
     fact: &Fact,
 ) -> Result<(), AllocError>
-    requires ends { HasEnds (G.all facts.now) ends.now }
-    requires small { All HasSmallNumbers (G.all facts.now) }
-    requires fact { HasSmallNumbers fact.now }
+    requires { record {
+      ends : HasEnds (G.all facts.now) ends.now;
+      small : All HasSmallNumbers (G.all facts.now);
+      fact : HasSmallNumbers fact.now;
+    } }
     ensures raised { OnOk result (Raises lows.old.items lows.new.items least_int (λ p. spec.lower_by (G.all facts.now) p fact.now)) }
     ensures small { OnOk result (AreLimits lows.old.items least_int → AreLimits lows.new.items least_int) }
 {
@@ -400,9 +420,11 @@ fn put_high<G: Groups>(
     facts: &G,
     fact: &Fact,
 ) -> Result<(), AllocError>
-    requires ends { HasEnds (G.all facts.now) ends.now }
-    requires small { All HasSmallNumbers (G.all facts.now) }
-    requires fact { HasSmallNumbers fact.now }
+    requires { record {
+      ends : HasEnds (G.all facts.now) ends.now;
+      small : All HasSmallNumbers (G.all facts.now);
+      fact : HasSmallNumbers fact.now;
+    } }
     ensures lowered { OnOk result (Lowers highs.old.items highs.new.items greatest_int (λ p. spec.limit_by (G.all facts.now) p fact.now)) }
     ensures small { OnOk result (AreLimits highs.old.items greatest_int → AreLimits highs.new.items greatest_int) }
 {
@@ -421,13 +443,17 @@ fn put_each<G: Groups>(
     facts: &G,
     fact: &Fact,
 ) -> Result<(), AllocError>
-    requires ends { HasEnds (G.all facts.now) ends.now }
-    requires small { All HasSmallNumbers (G.all facts.now) }
-    requires fact { HasSmallNumbers fact.now }
-    ensures raised { OnOk result (Raises lows.old.items lows.new.items least_int (λ p. spec.lower_by (G.all facts.now) p fact.now)) }
-    ensures lowered { OnOk result (Lowers highs.old.items highs.new.items greatest_int (λ p. spec.limit_by (G.all facts.now) p fact.now)) }
-    ensures small_lows { OnOk result (AreLimits lows.old.items least_int → AreLimits lows.new.items least_int) }
-    ensures small_highs { OnOk result (AreLimits highs.old.items greatest_int → AreLimits highs.new.items greatest_int) }
+    requires { record {
+      ends : HasEnds (G.all facts.now) ends.now;
+      small : All HasSmallNumbers (G.all facts.now);
+      fact : HasSmallNumbers fact.now;
+    } }
+    ensures { record {
+      raised : OnOk result (Raises lows.old.items lows.new.items least_int (λ p. spec.lower_by (G.all facts.now) p fact.now));
+      lowered : OnOk result (Lowers highs.old.items highs.new.items greatest_int (λ p. spec.limit_by (G.all facts.now) p fact.now));
+      small_lows : OnOk result (AreLimits lows.old.items least_int → AreLimits lows.new.items least_int);
+      small_highs : OnOk result (AreLimits highs.old.items greatest_int → AreLimits highs.new.items greatest_int);
+    } }
 {
     put_low(lows, ends, facts, fact)?;
     put_high(highs, ends, facts, fact)
@@ -470,10 +496,12 @@ fn put_less<G: Groups>(
     r: &Path,
     c: i32,
 ) -> Result<(), AllocError>
-    requires ends { HasEnds (G.all facts.now) ends.now }
-    requires small { All HasSmallNumbers (G.all facts.now) }
-    requires fact { HasSmallNumbers fact.now }
-    requires less { fact.now ≡ Less q.now r.now c }
+    requires { record {
+      ends : HasEnds (G.all facts.now) ends.now;
+      small : All HasSmallNumbers (G.all facts.now);
+      less : fact.now ≡ Less q.now r.now c;
+      fact : HasSmallNumbers fact.now;
+    } }
     ensures raised { OnOk result (Raises lows.old.items lows.new.items least_int (λ p. spec.lower_by (G.all facts.now) p fact.now)) }
     ensures lowered { OnOk result (Lowers highs.old.items highs.new.items greatest_int (λ p. spec.limit_by (G.all facts.now) p fact.now)) }
     ensures small_lows { OnOk result (AreLimits lows.old.items least_int → AreLimits lows.new.items least_int) }
@@ -494,13 +522,17 @@ fn put<G: Groups>(
     facts: &G,
     fact: &Fact,
 ) -> Result<(), AllocError>
-    requires ends { HasEnds (G.all facts.now) ends.now }
-    requires small { All HasSmallNumbers (G.all facts.now) }
-    requires fact { HasSmallNumbers fact.now }
-    ensures raised { OnOk result (Raises lows.old.items lows.new.items least_int (λ p. spec.lower_by (G.all facts.now) p fact.now)) }
-    ensures lowered { OnOk result (Lowers highs.old.items highs.new.items greatest_int (λ p. spec.limit_by (G.all facts.now) p fact.now)) }
-    ensures small_lows { OnOk result (AreLimits lows.old.items least_int → AreLimits lows.new.items least_int) }
-    ensures small_highs { OnOk result (AreLimits highs.old.items greatest_int → AreLimits highs.new.items greatest_int) }
+    requires { record {
+      ends : HasEnds (G.all facts.now) ends.now;
+      small : All HasSmallNumbers (G.all facts.now);
+      fact : HasSmallNumbers fact.now;
+    } }
+    ensures { record {
+      raised : OnOk result (Raises lows.old.items lows.new.items least_int (λ p. spec.lower_by (G.all facts.now) p fact.now));
+      lowered : OnOk result (Lowers highs.old.items highs.new.items greatest_int (λ p. spec.limit_by (G.all facts.now) p fact.now));
+      small_lows : OnOk result (AreLimits lows.old.items least_int → AreLimits lows.new.items least_int);
+      small_highs : OnOk result (AreLimits highs.old.items greatest_int → AreLimits highs.new.items greatest_int);
+    } }
 {
     match fact {
         Fact::Less(q, r, c) => put_less(lows, highs, ends, facts, fact, q, r, *c),

@@ -10,8 +10,10 @@ use ix_facts::{greater, lesser};
 
 /// The landmark, where it is at most the number.
 fn at_most(mark: i32, n: i64) -> Option<i64>
-    ensures mark { result ≡ when (int_le mark n) (Some mark) }
-    ensures int { IfSome result IsInt }
+    ensures { record {
+      mark : result ≡ when (int_le mark n) (Some mark);
+      int : IfSome result IsInt;
+    } }
 {
     if mark as i64 <= n {
         Some(mark as i64)
@@ -22,8 +24,10 @@ fn at_most(mark: i32, n: i64) -> Option<i64>
 
 /// The landmark, where it is at least the number.
 fn at_least(mark: i32, n: i64) -> Option<i64>
-    ensures mark { result ≡ when (int_le n mark) (Some mark) }
-    ensures int { IfSome result IsInt }
+    ensures { record {
+      mark : result ≡ when (int_le n mark) (Some mark);
+      int : IfSome result IsInt;
+    } }
 {
     if n <= mark as i64 {
         Some(mark as i64)
@@ -34,8 +38,10 @@ fn at_least(mark: i32, n: i64) -> Option<i64>
 
 /// The greatest of any landmarks that is at most the number.
 fn greatest_below(marks: &[i32], n: i64) -> Option<i64>
-    ensures mark { result ≡ round.mark_below marks.now n }
-    ensures int { IfSome result IsInt }
+    ensures { record {
+      mark : result ≡ round.mark_below marks.now n;
+      int : IfSome result IsInt;
+    } }
 {
     let mut found = None;
     for mark in marks {
@@ -46,8 +52,10 @@ fn greatest_below(marks: &[i32], n: i64) -> Option<i64>
 
 /// The least of any landmarks that is at least the number.
 fn least_above(marks: &[i32], n: i64) -> Option<i64>
-    ensures mark { result ≡ round.mark_above marks.now n }
-    ensures int { IfSome result IsInt }
+    ensures { record {
+      mark : result ≡ round.mark_above marks.now n;
+      int : IfSome result IsInt;
+    } }
 {
     let mut found = None;
     for mark in marks {

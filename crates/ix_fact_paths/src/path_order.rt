@@ -15,8 +15,10 @@ use std::cmp::Ordering;
 // Written out by variants it is a few steps at the caller, and no calls.
 #[inline(always)]
 pub fn compare_paths(p: &Path, q: &Path) -> Ordering
-    ensures value { result ≡ path_cmp p.now q.now }
-    ensures order { ⟦<Path as Ord>⟧.cmp p.now q.now ≡ path_cmp p.now q.now }
+    ensures { record {
+      value : result ≡ path_cmp p.now q.now;
+      order : ⟦<Path as Ord>⟧.cmp p.now q.now ≡ path_cmp p.now q.now;
+    } }
 {
     match (*p, *q) {
         (Path::Slot(s), Path::Slot(t)) => s.cmp(&t),
@@ -38,8 +40,10 @@ pub fn path_order_laws()
 
 /// No offset before `+`, `+` before `-`, each by its path.
 pub fn compare_offsets(x: &PathOff, y: &PathOff) -> Ordering
-    ensures value { result ≡ offset_cmp x.now y.now }
-    ensures order { ⟦<PathOff as Ord>⟧.cmp x.now y.now ≡ offset_cmp x.now y.now }
+    ensures { record {
+      value : result ≡ offset_cmp x.now y.now;
+      order : ⟦<PathOff as Ord>⟧.cmp x.now y.now ≡ offset_cmp x.now y.now;
+    } }
 {
     x.cmp(y)
 }

@@ -43,10 +43,14 @@ fn is_behind(facts: &[Fact], fact: &Fact) -> bool
 
 /// Adds a fact whose key is greater than those of all facts.
 fn add_behind(facts: &mut Vec<Fact>, fact: &Fact) -> Result<(), AllocError>
-    requires rises { rises facts.old.items ≡ true }
-    requires behind { ArePast facts.old.items (length facts.old.items) fact.now }
-    ensures both { OnOk result (HasBoth facts.old.items (fact.now ∷ []) facts.new.items) }
-    ensures rises { OnOk result (rises facts.new.items ≡ true) }
+    requires { record {
+      rises : rises facts.old.items ≡ true;
+      behind : ArePast facts.old.items (length facts.old.items) fact.now;
+    } }
+    ensures { record {
+      both : OnOk result (HasBoth facts.old.items (fact.now ∷ []) facts.new.items);
+      rises : OnOk result (rises facts.new.items ≡ true);
+    } }
 {
     facts.push(*fact)?;
     Ok(())
@@ -62,10 +66,14 @@ fn is_short(first: &[Fact], second: &[Fact]) -> bool {
 
 /// Adds a fact behind the second pile, which asks once for room: for half of the facts that the first one may have.
 fn add_second(second: &mut Vec<Fact>, fact: &Fact, room: usize) -> Result<(), AllocError>
-    requires rises { rises second.old.items ≡ true }
-    requires behind { ArePast second.old.items (length second.old.items) fact.now }
-    ensures both { OnOk result (HasBoth second.old.items (fact.now ∷ []) second.new.items) }
-    ensures rises { OnOk result (rises second.new.items ≡ true) }
+    requires { record {
+      rises : rises second.old.items ≡ true;
+      behind : ArePast second.old.items (length second.old.items) fact.now;
+    } }
+    ensures { record {
+      both : OnOk result (HasBoth second.old.items (fact.now ∷ []) second.new.items);
+      rises : OnOk result (rises second.new.items ≡ true);
+    } }
 {
     if second.is_empty() {
         second.reserve(room / 2)?;
@@ -75,8 +83,10 @@ fn add_second(second: &mut Vec<Fact>, fact: &Fact, room: usize) -> Result<(), Al
 
 /// Puts the fact into the shorter pile, where fewer facts stand behind it.
 fn put_shorter(first: &mut Vec<Fact>, second: &mut Vec<Fact>, fact: &Fact) -> Result<(), AllocError>
-    requires first { rises first.old.items ≡ true }
-    requires second { rises second.old.items ≡ true }
+    requires { record {
+      first : rises first.old.items ≡ true;
+      second : rises second.old.items ≡ true;
+    } }
     ensures piled { OnOk result (IsPiled first.old.items second.old.items fact.now first.new.items second.new.items) }
 {
     if first.len() < second.len() {
@@ -91,8 +101,10 @@ fn put_shorter(first: &mut Vec<Fact>, second: &mut Vec<Fact>, fact: &Fact) -> Re
 /// rise, of which two may alternate: to add one takes less than to search its place.
 #[inline(always)]
 fn pile(first: &mut Vec<Fact>, second: &mut Vec<Fact>, fact: &Fact) -> Result<(), AllocError>
-    requires first { rises first.old.items ≡ true }
-    requires second { rises second.old.items ≡ true }
+    requires { record {
+      first : rises first.old.items ≡ true;
+      second : rises second.old.items ≡ true;
+    } }
     ensures piled { OnOk result (IsPiled first.old.items second.old.items fact.now first.new.items second.new.items) }
 {
     if is_behind(first, fact) {

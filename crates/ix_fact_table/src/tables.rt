@@ -32,8 +32,10 @@ use std::alloc::{AllocError, Global};
 impl FactTable {
     /// The table without facts. It takes no memory.
     pub fn new(alloc: Global, kind: Kind) -> FactTable
-        ensures empty { facts_of result ≡ [] }
-        ensures kind { table_kind result ≡ kind }
+        ensures { record {
+          empty : facts_of result ≡ [];
+          kind : table_kind result ≡ kind;
+        } }
     {
         FactTable {
             kind,
@@ -44,8 +46,10 @@ impl FactTable {
     /// The table of the facts of the kind: at each key what they say together. What an int is at least has to be -1, 0 or 1.
     pub fn of_facts(alloc: Global, kind: Kind, facts: &[Fact]) -> Result<FactTable, AllocError>
         requires classes { HaveClasses facts.now }
-        ensures table { IfOk result (λ table. IsTable (of_kind kind facts.now) (facts_of table)) }
-        ensures kind { IfOk result (λ table. table_kind table ≡ kind) }
+        ensures { record {
+          table : IfOk result (λ table. IsTable (of_kind kind facts.now) (facts_of table));
+          kind : IfOk result (λ table. table_kind table ≡ kind);
+        } }
     {
         let facts = sorted(alloc, kind, facts)?;
         Ok(FactTable {
@@ -169,8 +173,10 @@ impl FactTable {
     /// The table of some of its facts: of all that name none of certain paths. It takes no memory.
     pub fn of_part(&self, facts: Vec<Fact>) -> FactTable
         requires part { (is : Path → Bool) × (facts.items ≡ without is (facts_of self.now)) }
-        ensures facts { facts_of result ≡ facts.items }
-        ensures kind { table_kind result ≡ table_kind self.now }
+        ensures { record {
+          facts : facts_of result ≡ facts.items;
+          kind : table_kind result ≡ table_kind self.now;
+        } }
     {
         FactTable {
             kind: self.kind,
@@ -197,8 +203,10 @@ impl FactTable {
         new: &[Fact],
     ) -> Result<FactTable, AllocError>
         requires classes { HaveClasses new.now }
-        ensures table { IfOk result (λ table. IsTable (without (of_target kind.now) (facts_of self.now) ++ of_kind (table_kind self.now) new.now) (facts_of table)) }
-        ensures kind { IfOk result (λ table. table_kind table ≡ table_kind self.now) }
+        ensures { record {
+          table : IfOk result (λ table. IsTable (without (of_target kind.now) (facts_of self.now) ++ of_kind (table_kind self.now) new.now) (facts_of table));
+          kind : IfOk result (λ table. table_kind table ≡ table_kind self.now);
+        } }
     {
         let beside = self.without_target(alloc, kind)?;
         let table = beside.with_facts(alloc, new)?;
@@ -213,8 +221,10 @@ impl FactTable {
         new: &[Fact],
     ) -> Result<FactTable, AllocError>
         requires classes { HaveClasses new.now }
-        ensures table { IfOk result (λ table. IsTable (without (of_path path.now) (facts_of self.now) ++ of_kind (table_kind self.now) new.now) (facts_of table)) }
-        ensures kind { IfOk result (λ table. table_kind table ≡ table_kind self.now) }
+        ensures { record {
+          table : IfOk result (λ table. IsTable (without (of_path path.now) (facts_of self.now) ++ of_kind (table_kind self.now) new.now) (facts_of table));
+          kind : IfOk result (λ table. table_kind table ≡ table_kind self.now);
+        } }
     {
         let beside = self.without_path(alloc, path)?;
         let table = beside.with_facts(alloc, new)?;

@@ -18,9 +18,11 @@ use std::process::Abort;
 /// The facts, whose numbers have to be small.
 #[tactic(auto, using(ix_systems::proofs::KnownClasses::small_classes))]
 pub fn small_facts<R: Abort>(rt: &R, alloc: Global, facts: &[Fact]) -> Result<Vec<Fact>, AllocError>
-    ensures same { IfOk result (λ known. known.items ≡ facts.now) }
-    ensures small { IfOk result (λ known. All HasSmallNumbers known.items) }
-    ensures classes { IfOk result (λ known. HaveClasses known.items) }
+    ensures { record {
+      same : IfOk result (λ known. known.items ≡ facts.now);
+      small : IfOk result (λ known. All HasSmallNumbers known.items);
+      classes : IfOk result (λ known. HaveClasses known.items);
+    } }
 {
     let mut known = Vec::new(alloc);
     for fact in facts {
@@ -70,8 +72,10 @@ pub fn known_beside_target<R: Abort, S: System>(
     others: &[Fact],
     kind: &OpKind,
 ) -> Result<FactList, AllocError>
-    ensures known { IfOk result (λ know. SaysAll know (without (of_target kind.now) (S.known table.now))) }
-    ensures beside { IfOk result (λ know. without (of_target kind.now) know ≡ know) }
+    ensures { record {
+      known : IfOk result (λ know. SaysAll know (without (of_target kind.now) (S.known table.now)));
+      beside : IfOk result (λ know. without (of_target kind.now) know ≡ know);
+    } }
 {
     let list = told(rt, alloc, table, others)?;
     let know = FactList::beside_target(alloc, &list, kind)?;
@@ -86,8 +90,10 @@ pub fn known_beside_path<R: Abort, S: System>(
     others: &[Fact],
     path: &Path,
 ) -> Result<FactList, AllocError>
-    ensures known { IfOk result (λ know. SaysAll know (without (of_path path.now) (S.known table.now))) }
-    ensures beside { IfOk result (λ know. without (of_path path.now) know ≡ know) }
+    ensures { record {
+      known : IfOk result (λ know. SaysAll know (without (of_path path.now) (S.known table.now)));
+      beside : IfOk result (λ know. without (of_path path.now) know ≡ know);
+    } }
 {
     let list = told(rt, alloc, table, others)?;
     let know = FactList::beside_path(alloc, &list, path)?;

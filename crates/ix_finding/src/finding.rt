@@ -67,8 +67,10 @@ fn of_lex_error(why: LexError) -> Option<Finding>
 
 /// Where the token of that number starts, or the end of the text.
 fn start_of(tokens: &[Token], number: u32, end: u32) -> u32
-    requires few { length tokens.now ≤ 200000 }
-    requires within { number ≤ length tokens.now }
+    requires { record {
+      few : length tokens.now ≤ 200000;
+      within : number ≤ length tokens.now;
+    } }
     ensures { result ≡ spec.start_of (drop number tokens.now) end }
 {
     match &tokens[number as usize..] {
@@ -79,8 +81,10 @@ fn start_of(tokens: &[Token], number: u32, end: u32) -> u32
 
 /// What tokens without a tree are; nothing where memory is wanting.
 fn of_parse_error(tokens: &[Token], end: u32, why: ParseError) -> Option<Finding>
-    requires few { length tokens.now ≤ 200000 }
-    requires within { TokenWithin (length tokens.now) end why }
+    requires { record {
+      few : length tokens.now ≤ 200000;
+      within : TokenWithin (length tokens.now) end why;
+    } }
     ensures { option_map seen result ≡ spec.of_parse_error tokens.now end why }
 {
     match why {
@@ -116,9 +120,11 @@ fn of_lower_error(why: LowerError) -> Option<Finding>
 /// What a source is whose names mean what the table says.
 #[tactic(auto, using(ix_counts::proofs::FewDeclarations::few_classes, ix_counts::proofs::FewDeclarations::few_members))]
 fn of_lowered(alloc: Global, unit: &Unit, table: &Table) -> Result<Finding, AllocError>
-    requires parsed { IsParsed unit.now }
-    requires accepts { Accepts unit.now }
-    requires table { shown table.now ≡ names unit.now }
+    requires { record {
+      parsed : IsParsed unit.now;
+      accepts : Accepts unit.now;
+      table : shown table.now ≡ names unit.now;
+    } }
     ensures right { IfOk result (λ finding. spec.FoundIn unit.now (seen finding)) }
     ensures only { (other : spec.Finding) → spec.FoundIn unit.now other → IfOk result (λ finding. seen finding ≡ other) }
     ensures placed { (end : ℕ) → Placed end unit.now → IfOk result (λ finding. IsPlaced end (seen finding)) }
@@ -137,13 +143,17 @@ fn of_lowered(alloc: Global, unit: &Unit, table: &Table) -> Result<Finding, Allo
 
 /// What a source without errors on names is.
 fn of_resolved(alloc: Global, unit: &Unit, table: Table) -> Result<Finding, AllocError>
-    requires parsed { IsParsed unit.now }
-    requires accepts { Accepts unit.now }
-    requires table { shown table ≡ names unit.now }
-    ensures right { IfOk result (λ finding. spec.FoundIn unit.now (seen finding)) }
-    ensures only { (other : spec.Finding) → spec.FoundIn unit.now other → IfOk result (λ finding. seen finding ≡ other) }
-    ensures placed { (end : ℕ) → Placed end unit.now → IfOk result (λ finding. IsPlaced end (seen finding)) }
-    ensures formed { IfOk result (λ finding. HasFormed (seen finding)) }
+    requires { record {
+      parsed : IsParsed unit.now;
+      accepts : Accepts unit.now;
+      table : shown table ≡ names unit.now;
+    } }
+    ensures { record {
+      right : IfOk result (λ finding. spec.FoundIn unit.now (seen finding));
+      only : (other : spec.Finding) → spec.FoundIn unit.now other → IfOk result (λ finding. seen finding ≡ other);
+      placed : (end : ℕ) → Placed end unit.now → IfOk result (λ finding. IsPlaced end (seen finding));
+      formed : IfOk result (λ finding. HasFormed (seen finding));
+    } }
 {
     of_lowered(alloc, unit, &table)
 }

@@ -71,8 +71,10 @@ fn push_beside_int<K: Know>(
     high: i64,
     r: &Path,
 ) -> Result<(), AllocError>
-    requires low { low ≡ spec.range_low new.now t.now }
-    requires high { high ≡ spec.range_high new.now t.now }
+    requires { record {
+      low : low ≡ spec.range_low new.now t.now;
+      high : high ≡ spec.range_high new.now t.now;
+    } }
     ensures { OnOk result (out.new.items ≡ out.old.items ++ kept (rule.beside_int (in_orders (K.known know.now)) new.now t.now r.now)) }
 {
     push_above(out, know, t, high, r)?;
@@ -88,8 +90,10 @@ fn push_beside_ints<K: Know>(
     high: i64,
     ints: &[Path],
 ) -> Result<(), AllocError>
-    requires low { low ≡ spec.range_low new.now t.now }
-    requires high { high ≡ spec.range_high new.now t.now }
+    requires { record {
+      low : low ≡ spec.range_low new.now t.now;
+      high : high ≡ spec.range_high new.now t.now;
+    } }
     ensures { OnOk result (out.new.items ≡ out.old.items ++ kept (each_path (rule.beside_int (in_orders (K.known know.now)) new.now t.now) ints.now)) }
 {
     for r in ints {

@@ -18,8 +18,10 @@ pub fn across(first: Span, last: Span) -> Span
 
 /// The height of what a type stands on.
 pub fn base_height(base: &BaseTree) -> u32
-    ensures is { result ≡ spec.base_height base.now }
-    ensures low { result ≤ 1 }
+    ensures { record {
+      is : result ≡ spec.base_height base.now;
+      low : result ≤ 1;
+    } }
 {
     match base {
         BaseTree::Int => 0,

@@ -96,8 +96,10 @@ impl<'a> Builder<'a> {
 
     /// Adds a node, and answers its number.
     pub fn add(&mut self, kind: NodeKind<'a>) -> Result<usize, AllocError>
-        ensures number { IfOk result (λ number. number ≡ size (made_of self.old)) }
-        ensures added { IfOk result (λ _. made_of self.new ≡ with_node (made_of self.old) (kind_of kind.entry)) }
+        ensures { record {
+          number : IfOk result (λ number. number ≡ size (made_of self.old));
+          added : IfOk result (λ _. made_of self.new ≡ with_node (made_of self.old) (kind_of kind.entry));
+        } }
     {
         let number = self.nodes.len();
         self.nodes.push(kind)?;

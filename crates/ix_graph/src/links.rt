@@ -26,8 +26,10 @@ fn attach<'a>(nodes: &mut Vec<Node<'a>>, edge: (usize, Edge, usize)) -> Result<(
 
 /// The nodes of these kinds, without edges.
 fn unlinked<'a>(alloc: Global, kinds: &[NodeKind<'a>]) -> Result<Vec<Node<'a>>, AllocError>
-    ensures kinds { IfOk result (λ nodes. kinds_in nodes.items ≡ map kind_of kinds.now) }
-    ensures none { IfOk result (λ nodes. HaveEdges nodes.items []) }
+    ensures { record {
+      kinds : IfOk result (λ nodes. kinds_in nodes.items ≡ map kind_of kinds.now);
+      none : IfOk result (λ nodes. HaveEdges nodes.items []);
+    } }
 {
     let mut nodes = Vec::new(alloc);
     for kind in kinds {

@@ -68,8 +68,10 @@ fn source_insertions(
 
 /// The first bytes, at most so many, and those behind them.
 fn cut(bytes: &[u8], count: usize) -> (&[u8], &[u8])
-    ensures first { result.0.now ≡ take count bytes.now }
-    ensures rest { result.1.now ≡ drop count bytes.now }
+    ensures { record {
+      first : result.0.now ≡ take count bytes.now;
+      rest : result.1.now ≡ drop count bytes.now;
+    } }
 {
     if count < bytes.len() {
         (&bytes[..count], &bytes[count..])

@@ -25,8 +25,10 @@ pub(crate) struct Parts<'a> {
 
 impl<'a> Parts<'a> {
     pub fn new(alloc: Global) -> Parts<'a>
-        ensures accesses { result.accesses.items ≡ [] }
-        ensures assigned { result.assigned.items ≡ [] }
+        ensures { record {
+          accesses : result.accesses.items ≡ [];
+          assigned : result.assigned.items ≡ [];
+        } }
     {
         Parts {
             accesses: Vec::new(alloc),
@@ -138,8 +140,10 @@ fn add_right<'a>(
 /// Adds what is assigned: the target, where it is a name, and what is in it.
 #[cycle(parts)]
 fn add_as_target<'a>(target: &'a Expr, found: &mut Parts<'a>) -> Result<(), AllocError>
-    ensures accesses { OnOk result (map seen found.new.accesses.items ≡ map seen found.old.accesses.items ++ (spec.as_target (spec.reading target.now)).accesses) }
-    ensures assigned { OnOk result (found.new.assigned.items ≡ found.old.assigned.items ++ (spec.as_target (spec.reading target.now)).assigned) }
+    ensures { record {
+      accesses : OnOk result (map seen found.new.accesses.items ≡ map seen found.old.accesses.items ++ (spec.as_target (spec.reading target.now)).accesses);
+      assigned : OnOk result (found.new.assigned.items ≡ found.old.assigned.items ++ (spec.as_target (spec.reading target.now)).assigned);
+    } }
 {
     add_target(target, &mut found.assigned)?;
     add_parts(target, found)
@@ -147,8 +151,10 @@ fn add_as_target<'a>(target: &'a Expr, found: &mut Parts<'a>) -> Result<(), Allo
 
 #[cycle(parts)]
 fn add_args<'a>(args: &'a [Expr], found: &mut Parts<'a>) -> Result<(), AllocError>
-    ensures accesses { OnOk result (map seen found.new.accesses.items ≡ map seen found.old.accesses.items ++ (spec.all_parts args.now).accesses) }
-    ensures assigned { OnOk result (found.new.assigned.items ≡ found.old.assigned.items ++ (spec.all_parts args.now).assigned) }
+    ensures { record {
+      accesses : OnOk result (map seen found.new.accesses.items ≡ map seen found.old.accesses.items ++ (spec.all_parts args.now).accesses);
+      assigned : OnOk result (found.new.assigned.items ≡ found.old.assigned.items ++ (spec.all_parts args.now).assigned);
+    } }
 {
     for arg in args {
         add_parts(arg, found)?;
@@ -158,8 +164,10 @@ fn add_args<'a>(args: &'a [Expr], found: &mut Parts<'a>) -> Result<(), AllocErro
 
 #[cycle(parts)]
 fn add_items<'a>(items: &'a [Init], found: &mut Parts<'a>) -> Result<(), AllocError>
-    ensures accesses { OnOk result (map seen found.new.accesses.items ≡ map seen found.old.accesses.items ++ (spec.all_init_parts items.now).accesses) }
-    ensures assigned { OnOk result (found.new.assigned.items ≡ found.old.assigned.items ++ (spec.all_init_parts items.now).assigned) }
+    ensures { record {
+      accesses : OnOk result (map seen found.new.accesses.items ≡ map seen found.old.accesses.items ++ (spec.all_init_parts items.now).accesses);
+      assigned : OnOk result (found.new.assigned.items ≡ found.old.assigned.items ++ (spec.all_init_parts items.now).assigned);
+    } }
 {
     for item in items {
         add_initial(item, found)?;
@@ -169,8 +177,10 @@ fn add_items<'a>(items: &'a [Init], found: &mut Parts<'a>) -> Result<(), AllocEr
 
 #[cycle(parts)]
 fn add_initial<'a>(init: &'a Init, found: &mut Parts<'a>) -> Result<(), AllocError>
-    ensures accesses { OnOk result (map seen found.new.accesses.items ≡ map seen found.old.accesses.items ++ (spec.init_parts init.now).accesses) }
-    ensures assigned { OnOk result (found.new.assigned.items ≡ found.old.assigned.items ++ (spec.init_parts init.now).assigned) }
+    ensures { record {
+      accesses : OnOk result (map seen found.new.accesses.items ≡ map seen found.old.accesses.items ++ (spec.init_parts init.now).accesses);
+      assigned : OnOk result (found.new.assigned.items ≡ found.old.assigned.items ++ (spec.init_parts init.now).assigned);
+    } }
 {
     match init {
         Init::Value(expr) => add_parts(expr, found),
@@ -179,8 +189,10 @@ fn add_initial<'a>(init: &'a Init, found: &mut Parts<'a>) -> Result<(), AllocErr
 }
 
 fn add_declared<'a>(decl: &'a LocalDecl, found: &mut Parts<'a>) -> Result<(), AllocError>
-    ensures accesses { OnOk result (map seen found.new.accesses.items ≡ map seen found.old.accesses.items ++ (spec.decl_parts decl.now).accesses) }
-    ensures assigned { OnOk result (found.new.assigned.items ≡ found.old.assigned.items ++ (spec.decl_parts decl.now).assigned) }
+    ensures { record {
+      accesses : OnOk result (map seen found.new.accesses.items ≡ map seen found.old.accesses.items ++ (spec.decl_parts decl.now).accesses);
+      assigned : OnOk result (found.new.assigned.items ≡ found.old.assigned.items ++ (spec.decl_parts decl.now).assigned);
+    } }
 {
     match &decl.init {
         None => Ok(()),

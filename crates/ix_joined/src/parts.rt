@@ -64,11 +64,13 @@ fn list_of_part<L: Ledger>(
     profile: Profile,
     blank: Blank,
 ) -> Result<Vec<Error>, AllocError>
-    requires formed { Formed program.now }
-    requires can { CanCheck program.now }
-    requires name { blank.name ≡ L.name }
-    requires parts { blank.parts ≡ L.parts }
-    requires one { blank.parts ≡ 1 }
+    requires { record {
+      formed : Formed program.now;
+      can : CanCheck program.now;
+      name : blank.name ≡ L.name;
+      parts : blank.parts ≡ L.parts;
+      one : blank.parts ≡ 1;
+    } }
     ensures errors { IfOk result (λ errors. IsErrorList (IsErrorOfPart before place program.now profile (length program.now.methods)) errors.items) }
 {
     names_are_small();
@@ -87,8 +89,10 @@ pub fn check_joined(
     first: u32,
     profile: Profile,
 ) -> Result<(Vec<Error>, Vec<Error>), AllocError>
-    requires formed { Formed program.now }
-    requires can { CanCheck program.now }
+    requires { record {
+      formed : Formed program.now;
+      can : CanCheck program.now;
+    } }
     ensures own { IfOk result (λ lists. IsErrorList (IsErrorBefore first program.now profile) lists.0.items) }
     ensures others { IfOk result (λ lists. IsErrorList (IsErrorBehind first program.now profile) lists.1.items) }
     ensures all { (error : Found) (rank : ℕ) → IsError program.now profile error rank ↔ (IsErrorBefore first program.now profile error rank ⊎ IsErrorBehind first program.now profile error rank) }

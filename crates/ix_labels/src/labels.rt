@@ -31,8 +31,10 @@ pub fn label_nodes<'a, L: Ledger>(
     profile: Profile,
     steps: &mut Steps<L>,
 ) -> Result<Labels<'a>, AllocError>
-    requires program { HaveSmallNames program.now }
-    requires method { HasSmallNames within.now }
+    requires { record {
+      program : HaveSmallNames program.now;
+      method : HasSmallNames within.now;
+    } }
     ensures labels { IfOk result (AreLabels program.now within.now profile) }
     ensures at_least { IfOk result (λ labels. steps.old + behind_code (block_code within.now.body) 2 ≤ steps.new) }
     ensures at_most { IfOk result (λ labels. steps.new ≤ steps.old + visits_by (block_code within.now.body) labels.stores.items) }

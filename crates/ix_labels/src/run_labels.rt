@@ -33,8 +33,10 @@ impl<'a> RunLabels<'a> {
     /// The node whose turn it is, where labels are made one after the other, each by the one before: that of the end of the body last.
     pub fn node_in_turn(&self, turn: usize) -> usize
         requires { turn < length (nodes_of self.now) }
-        ensures node { result ≡ node_in_turn (length (nodes_of self.now)) turn }
-        ensures within { result < length (nodes_of self.now) }
+        ensures { record {
+          node : result ≡ node_in_turn (length (nodes_of self.now)) turn;
+          within : result < length (nodes_of self.now);
+        } }
     {
         if turn == 0 {
             0
@@ -94,10 +96,14 @@ fn problem_of<'a>(
     profile: Profile,
     passing: bool,
 ) -> Result<Problem<'a>, AllocError>
-    requires program { HaveSmallNames program.now }
-    requires method { HasSmallNames within.now }
-    ensures problem { IfOk result (IsProblemOf program.now within.now profile) }
-    ensures all { IfOk result (λ problem. passing ≡ false → AreKept (kept_in problem)) }
+    requires { record {
+      program : HaveSmallNames program.now;
+      method : HasSmallNames within.now;
+    } }
+    ensures { record {
+      problem : IfOk result (IsProblemOf program.now within.now profile);
+      all : IfOk result (λ problem. passing ≡ false → AreKept (kept_in problem));
+    } }
 {
     let marks = landmarks(alloc, program, within)?;
     let graph = graph(alloc, within)?;
@@ -144,11 +150,15 @@ pub fn label_runs<'a, L: Ledger>(
     profile: Profile,
     steps: &mut Steps<L>,
 ) -> Result<RunLabels<'a>, AllocError>
-    requires program { HaveSmallNames program.now }
-    requires method { HasSmallNames within.now }
-    ensures labels { IfOk result (AreRunLabels program.now within.now profile) }
-    ensures at_least { IfOk result (λ labels. steps.old + behind_code (block_code within.now.body) 2 ≤ steps.new) }
-    ensures at_most { IfOk result (λ labels. steps.new ≤ steps.old + run_visits labels) }
+    requires { record {
+      program : HaveSmallNames program.now;
+      method : HasSmallNames within.now;
+    } }
+    ensures { record {
+      labels : IfOk result (AreRunLabels program.now within.now profile);
+      at_least : IfOk result (λ labels. steps.old + behind_code (block_code within.now.body) 2 ≤ steps.new);
+      at_most : IfOk result (λ labels. steps.new ≤ steps.old + run_visits labels);
+    } }
 {
     solved(alloc, program, within, profile, true, steps)
 }

@@ -97,9 +97,11 @@ fn comes_alone(node: usize, from: &[(usize, Edge)]) -> bool
 /// Whether the run from a node leads on to its reader: to the next of the code, or to the end of the body, if that one is passed. Where runs begin with passed
 /// labels, it leads to a test too, and on from where ways meet or part.
 fn leads_to(nodes: &[Node<'_>], kept: &[bool], at: usize, reader: usize, begins: bool) -> bool
-    requires node { at < length nodes.now }
-    requires reader { reader < length nodes.now }
-    requires kept { length kept.now ≡ at }
+    requires { record {
+      node : at < length nodes.now;
+      reader : reader < length nodes.now;
+      kept : length kept.now ≡ at;
+    } }
     ensures { result ≡ true → (node next : _) → slice_get nodes.now at ≡ Some node → slice_get nodes.now reader ≡ Some next → spec.leads_to at node reader next ≡ true }
 {
     if reader == END {
@@ -113,8 +115,10 @@ fn leads_to(nodes: &[Node<'_>], kept: &[bool], at: usize, reader: usize, begins:
 
 /// Whether a node's label is read by no node, or by one alone to which only this node leads and the run goes on.
 fn leads_on(nodes: &[Node<'_>], kept: &[bool], at: usize, begins: bool) -> bool
-    requires node { at < length nodes.now }
-    requires kept { length kept.now ≡ at }
+    requires { record {
+      node : at < length nodes.now;
+      kept : length kept.now ≡ at;
+    } }
     ensures { result ≡ true → (node : _) → slice_get nodes.now at ≡ Some node → spec.LeadsOn nodes.now at node }
 {
     let readers = nodes[at].readers.as_slice();
@@ -131,9 +135,11 @@ fn leads_on(nodes: &[Node<'_>], kept: &[bool], at: usize, begins: bool) -> bool
 /// Whether a run goes on with a node, or can begin with it: with those of the code alone.
 fn is_of_run(node: &Node<'_>, count: usize, at: usize, begins: bool) -> bool
     requires { at < count }
-    ensures plain { result ≡ true → spec.is_plain (kind_of node.now.kind) ≡ true }
-    ensures single { result ≡ true → spec.is_test (kind_of node.now.kind) ≡ false }
-    ensures begins { result ≡ true → spec.goes_on (spec.node_before count at) node.now.from.items ≡ false → 1 < at }
+    ensures { record {
+      plain : result ≡ true → spec.is_plain (kind_of node.now.kind) ≡ true;
+      single : result ≡ true → spec.is_test (kind_of node.now.kind) ≡ false;
+      begins : result ≡ true → spec.goes_on (spec.node_before count at) node.now.from.items ≡ false → 1 < at;
+    } }
 {
     if !is_plain(&node.kind) || is_test(&node.kind) {
         return false;
@@ -144,8 +150,10 @@ fn is_of_run(node: &Node<'_>, count: usize, at: usize, begins: bool) -> bool
 /// Whether the label of a node is kept, which all are if no runs are wanted. That of the last node of a run is where others lead to the same node as well,
 /// since that node would walk the run again at each of its visits.
 fn is_kept(nodes: &[Node<'_>], kept: &[bool], at: usize, runs: bool, begins: bool) -> bool
-    requires node { at < length nodes.now }
-    requires kept { length kept.now ≡ at }
+    requires { record {
+      node : at < length nodes.now;
+      kept : length kept.now ≡ at;
+    } }
     ensures passed { result ≡ false → spec.PassesAt nodes.now at }
     ensures all { runs ≡ false → result ≡ true }
 {
@@ -168,9 +176,11 @@ fn has_head(nodes: &[Node<'_>]) -> bool {
 /// Of each node whether its label is kept: of all of them, if no runs are wanted. Runs begin with passed labels where there are no loops, for speed alone: in a
 /// loop what leads there would be joined anew at each visit of the run's end.
 fn kept_of(alloc: Global, nodes: &[Node<'_>], runs: bool) -> Result<Vec<bool>, AllocError>
-    ensures many { IfOk result (λ kept. length kept.items ≡ length nodes.now) }
-    ensures passed { IfOk result (λ kept. spec.ArePassed nodes.now kept.items) }
-    ensures all { IfOk result (λ kept. runs ≡ false → spec.AreKept kept.items) }
+    ensures { record {
+      many : IfOk result (λ kept. length kept.items ≡ length nodes.now);
+      passed : IfOk result (λ kept. spec.ArePassed nodes.now kept.items);
+      all : IfOk result (λ kept. runs ≡ false → spec.AreKept kept.items);
+    } }
 {
     let begins = !has_head(nodes);
     let mut kept = Vec::new(alloc);
@@ -183,9 +193,11 @@ fn kept_of(alloc: Global, nodes: &[Node<'_>], runs: bool) -> Result<Vec<bool>, A
 
 /// The end of the run that begins with a node: the first from there on whose label is kept, or which leads nowhere.
 fn end_of(nodes: &[Node<'_>], kept: &[bool], from: usize) -> usize
-    requires from { from < length kept.now }
-    requires all { length kept.now ≡ length nodes.now }
-    requires linked { spec.AreLinked nodes.now }
+    requires { record {
+      from : from < length kept.now;
+      all : length kept.now ≡ length nodes.now;
+      linked : spec.AreLinked nodes.now;
+    } }
     ensures within { result < length kept.now }
     ensures end { spec.EndsAt nodes.now kept.now from result }
 {
@@ -207,9 +219,11 @@ fn ends_of(
     kept: &[bool],
     begins: &[usize],
 ) -> Result<Vec<usize>, AllocError>
-    requires begins { All (λ node. node < length kept.now) begins.now }
-    requires all { length kept.now ≡ length nodes.now }
-    requires linked { spec.AreLinked nodes.now }
+    requires { record {
+      begins : All (λ node. node < length kept.now) begins.now;
+      all : length kept.now ≡ length nodes.now;
+      linked : spec.AreLinked nodes.now;
+    } }
     ensures within { IfOk result (λ ends. All (λ node. node < length kept.now) ends.items) }
     ensures ends { IfOk result (λ ends. spec.AreEnds nodes.now kept.now begins.now ends.items) }
 {
@@ -228,12 +242,16 @@ fn readers_of(
     at: usize,
     readers: &[usize],
 ) -> Result<Vec<usize>, AllocError>
-    requires node { at < length kept.now }
-    requires readers { All (λ node. node < length kept.now) readers.now }
-    requires all { length kept.now ≡ length nodes.now }
-    requires linked { spec.AreLinked nodes.now }
-    ensures within { IfOk result (λ by. All (λ node. node < length kept.now) by.items) }
-    ensures through { IfOk result (λ by. spec.ReadsThrough nodes.now kept.now at readers.now by.items) }
+    requires { record {
+      node : at < length kept.now;
+      readers : All (λ node. node < length kept.now) readers.now;
+      all : length kept.now ≡ length nodes.now;
+      linked : spec.AreLinked nodes.now;
+    } }
+    ensures { record {
+      within : IfOk result (λ by. All (λ node. node < length kept.now) by.items);
+      through : IfOk result (λ by. spec.ReadsThrough nodes.now kept.now at readers.now by.items);
+    } }
 {
     if kept[at] {
         ends_of(alloc, nodes, kept, readers)
@@ -264,11 +282,15 @@ pub(crate) fn runs_in(alloc: Global, nodes: &[Node<'_>], passing: bool) -> Resul
 
 /// Whether a label is passed, and the run goes on with the node from that of the number before.
 fn continues(nodes: &[Node<'_>], kept: &[bool], at: usize) -> bool
-    requires some { 0 < at }
-    requires node { at < length nodes.now }
-    requires all { length kept.now ≡ length nodes.now }
-    ensures yes { result ≡ true → spec.Continues nodes.now kept.now at }
-    ensures no { result ≡ false → spec.Begins nodes.now kept.now at }
+    requires { record {
+      some : 0 < at;
+      node : at < length nodes.now;
+      all : length kept.now ≡ length nodes.now;
+    } }
+    ensures { record {
+      yes : result ≡ true → spec.Continues nodes.now kept.now at;
+      no : result ≡ false → spec.Begins nodes.now kept.now at;
+    } }
 {
     !kept[at] && goes_on(at - 1, nodes[at].from.as_slice())
 }

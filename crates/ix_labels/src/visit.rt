@@ -56,8 +56,10 @@ impl<'a> Problem<'a> {
         from: (usize, Edge),
         labels: &[Store],
     ) -> Result<Store, AllocError>
-        requires node { from.0 < length self.now.graph.nodes.items }
-        requires labels { length labels.now ≡ length self.now.graph.nodes.items }
+        requires { record {
+          node : from.0 < length self.now.graph.nodes.items;
+          labels : length labels.now ≡ length self.now.graph.nodes.items;
+        } }
         ensures least { IfOk result (λ store. IsLeastOf IsBelow (BringsOf (rules_of self.now) (kinds_at self.now) (KeptTo (rules_of self.now) (kinds_at self.now) (map stored labels.now)) from) (stored store)) }
     {
         self.brought(alloc, from, &labels[from.0])
@@ -65,8 +67,10 @@ impl<'a> Problem<'a> {
 
     /// The least store above what all edges to a node bring of labels that are kept.
     fn gathered_kept(&self, alloc: Global, at: usize, labels: &[Store]) -> Result<Store, AllocError>
-        requires node { at < length self.now.graph.nodes.items }
-        requires labels { length labels.now ≡ length self.now.graph.nodes.items }
+        requires { record {
+          node : at < length self.now.graph.nodes.items;
+          labels : length labels.now ≡ length self.now.graph.nodes.items;
+        } }
         ensures least { IfOk result (λ store. IsLeastOf IsBelow (EachBrings (rules_of self.now) (kinds_at self.now) (KeptTo (rules_of self.now) (kinds_at self.now) (map stored labels.now)) (edges_at self.now at)) (stored store)) }
     {
         let mut joined = Store::unreachable();
@@ -79,8 +83,10 @@ impl<'a> Problem<'a> {
 
     /// The least store at a node before the first of a run: its label, if that is kept, else what its edges bring of labels that are.
     fn first(&self, alloc: Global, at: usize, labels: &[Store]) -> Result<Store, AllocError>
-        requires node { at < length self.now.graph.nodes.items }
-        requires labels { length labels.now ≡ length self.now.graph.nodes.items }
+        requires { record {
+          node : at < length self.now.graph.nodes.items;
+          labels : length labels.now ≡ length self.now.graph.nodes.items;
+        } }
         ensures least { IfOk result (λ store. IsLeastOf IsBelow (FirstTo (rules_of self.now) (kinds_at self.now) self.now.runs.kept.items (edges_at self.now) (map stored labels.now) at) (stored store)) }
     {
         if self.runs.kept[at] {
@@ -97,8 +103,10 @@ impl<'a> Problem<'a> {
         from: (usize, Edge),
         labels: &[Store],
     ) -> Result<Store, AllocError>
-        requires node { from.0 < length self.now.graph.nodes.items }
-        requires labels { length labels.now ≡ length self.now.graph.nodes.items }
+        requires { record {
+          node : from.0 < length self.now.graph.nodes.items;
+          labels : length labels.now ≡ length self.now.graph.nodes.items;
+        } }
         ensures least { IfOk result (λ store. IsLeastOf IsBelow (BringsOf (rules_of self.now) (kinds_at self.now) (FirstTo (rules_of self.now) (kinds_at self.now) self.now.runs.kept.items (edges_at self.now) (map stored labels.now)) from) (stored store)) }
     {
         let before = self.first(alloc, from.0, labels)?;
@@ -126,9 +134,11 @@ impl<'a> Problem<'a> {
 
     /// The least store at a node where a run begins: its label, if that is kept, else what its edges bring.
     fn begun(&self, alloc: Global, at: usize, labels: &[Store]) -> Result<Store, AllocError>
-        requires node { at < length self.now.graph.nodes.items }
-        requires labels { length labels.now ≡ length self.now.graph.nodes.items }
-        requires begins { (at ≡ 0) ⊎ Begins self.now.graph.nodes.items self.now.runs.kept.items at }
+        requires { record {
+          node : at < length self.now.graph.nodes.items;
+          labels : length labels.now ≡ length self.now.graph.nodes.items;
+          begins : (at ≡ 0) ⊎ Begins self.now.graph.nodes.items self.now.runs.kept.items at;
+        } }
         ensures least { IfOk result (λ store. IsLeastOf IsBelow (RunsTo (rules_of self.now) (kinds_at self.now) self.now.runs.kept.items (edges_at self.now) (map stored labels.now) at) (stored store)) }
     {
         if self.runs.kept[at] {
@@ -140,8 +150,10 @@ impl<'a> Problem<'a> {
 
     /// The least store at a node by what there is where the run to it begins.
     fn walked(&self, alloc: Global, at: usize, labels: &[Store]) -> Result<Store, AllocError>
-        requires node { at < length self.now.graph.nodes.items }
-        requires labels { length labels.now ≡ length self.now.graph.nodes.items }
+        requires { record {
+          node : at < length self.now.graph.nodes.items;
+          labels : length labels.now ≡ length self.now.graph.nodes.items;
+        } }
         ensures least { IfOk result (λ store. IsLeastOf IsBelow (RunsTo (rules_of self.now) (kinds_at self.now) self.now.runs.kept.items (edges_at self.now) (map stored labels.now) at) (stored store)) }
     {
         let start = start_of(self.graph.nodes.as_slice(), self.runs.kept.as_slice(), at);
@@ -159,8 +171,10 @@ impl<'a> Problem<'a> {
         from: (usize, Edge),
         labels: &[Store],
     ) -> Result<Store, AllocError>
-        requires node { from.0 < length self.now.graph.nodes.items }
-        requires labels { length labels.now ≡ length self.now.graph.nodes.items }
+        requires { record {
+          node : from.0 < length self.now.graph.nodes.items;
+          labels : length labels.now ≡ length self.now.graph.nodes.items;
+        } }
         ensures least { IfOk result (λ store. IsLeastOf IsBelow (BringsOf (rules_of self.now) (kinds_at self.now) (RunsTo (rules_of self.now) (kinds_at self.now) self.now.runs.kept.items (edges_at self.now) (map stored labels.now)) from) (stored store)) }
     {
         let before = self.walked(alloc, from.0, labels)?;
@@ -169,8 +183,10 @@ impl<'a> Problem<'a> {
 
     /// The least store above what all edges to a node bring, each through its run.
     fn gathered(&self, alloc: Global, at: usize, labels: &[Store]) -> Result<Store, AllocError>
-        requires node { at < length self.now.graph.nodes.items }
-        requires labels { length labels.now ≡ length self.now.graph.nodes.items }
+        requires { record {
+          node : at < length self.now.graph.nodes.items;
+          labels : length labels.now ≡ length self.now.graph.nodes.items;
+        } }
         ensures least { IfOk result (λ store. IsLeastOf IsBelow (EachBrings (rules_of self.now) (kinds_at self.now) (RunsTo (rules_of self.now) (kinds_at self.now) self.now.runs.kept.items (edges_at self.now) (map stored labels.now)) (edges_at self.now at)) (stored store)) }
     {
         let mut joined = Store::unreachable();

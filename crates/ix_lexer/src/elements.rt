@@ -82,8 +82,10 @@ pub fn first(text: &[char]) -> char
 /// How many characters a string has behind its first quote, counted with both quotes; none where no quote on its line closes it.
 fn closing_quote(mut text: &[char]) -> Option<usize>
     requires { length text.now < 2 ^ 61 }
-    ensures value { result ≡ spec.closing_quote false 1 text.entry.now }
-    ensures within { IfSome result (λ end. (1 ≤ end) × (end ≤ 1 + length text.entry.now)) }
+    ensures { record {
+      value : result ≡ spec.closing_quote false 1 text.entry.now;
+      within : IfSome result (λ end. (1 ≤ end) × (end ≤ 1 + length text.entry.now));
+    } }
 {
     let mut escaped = false;
     let mut before = 1;
@@ -104,8 +106,10 @@ fn closing_quote(mut text: &[char]) -> Option<usize>
 /// How many characters a comment has, of which two stand before this text; none where nothing closes it.
 fn comment_end(mut text: &[char]) -> Option<usize>
     requires { length text.now < 2 ^ 61 }
-    ensures value { result ≡ spec.comment_end 2 text.entry.now }
-    ensures within { IfSome result (λ end. (1 ≤ end) × (end ≤ 2 + length text.entry.now)) }
+    ensures { record {
+      value : result ≡ spec.comment_end 2 text.entry.now;
+      within : IfSome result (λ end. (1 ≤ end) × (end ≤ 2 + length text.entry.now));
+    } }
 {
     let mut before = 2;
     while let [c, rest @ ..] = text {
@@ -119,8 +123,10 @@ fn comment_end(mut text: &[char]) -> Option<usize>
 }
 
 fn begins(mut sign: &[u8], mut text: &[char]) -> bool
-    ensures value { result ≡ spec.begins sign.entry.now text.entry.now }
-    ensures within { result ≡ true → length sign.entry.now ≤ length text.entry.now }
+    ensures { record {
+      value : result ≡ spec.begins sign.entry.now text.entry.now;
+      within : result ≡ true → length sign.entry.now ≤ length text.entry.now;
+    } }
 {
     while let [s, signs @ ..] = sign {
         match text {
@@ -139,8 +145,10 @@ fn begins(mut sign: &[u8], mut text: &[char]) -> bool
 
 /// The length of the longest text of the table that the text begins with, or 0.
 fn longest(mut table: &[(u8, &[u8])], text: &[char]) -> usize
-    ensures value { result ≡ spec.longest (map (λ fixed. fixed.1.now) table.entry.now) 0 text.now }
-    ensures within { result ≤ length text.now }
+    ensures { record {
+      value : result ≡ spec.longest (map (λ fixed. fixed.1.now) table.entry.now) 0 text.now;
+      within : result ≤ length text.now;
+    } }
 {
     let mut best = 0;
     while let [(_, sign), rest @ ..] = table {
@@ -154,16 +162,20 @@ fn longest(mut table: &[(u8, &[u8])], text: &[char]) -> usize
 
 #[tactic(auto, unfolding(crate::specs::Fixed::signs))]
 fn longest_sign(text: &[char]) -> usize
-    ensures value { result ≡ spec.longest elements.signs 0 text.now }
-    ensures within { result ≤ length text.now }
+    ensures { record {
+      value : result ≡ spec.longest elements.signs 0 text.now;
+      within : result ≤ length text.now;
+    } }
 {
     longest(&SIGNS, text)
 }
 
 #[tactic(auto, unfolding(crate::specs::Scan::sign))]
 fn sign(text: &[char]) -> Option<(Element, usize)>
-    ensures value { result ≡ spec.sign text.now }
-    ensures within { IfSome result (λ found. (1 ≤ found.1) × (found.1 ≤ length text.now)) }
+    ensures { record {
+      value : result ≡ spec.sign text.now;
+      within : IfSome result (λ found. (1 ≤ found.1) × (found.1 ≤ length text.now));
+    } }
 {
     let len = longest_sign(text);
     if len == 0 {
@@ -174,10 +186,14 @@ fn sign(text: &[char]) -> Option<(Element, usize)>
 }
 
 fn slash(text: &[char]) -> Option<(Element, usize)>
-    requires small { length text.now < 2 ^ 60 }
-    requires some { 1 ≤ length text.now }
-    ensures value { result ≡ spec.slash text.now }
-    ensures within { IfSome result (λ found. (1 ≤ found.1) × (found.1 ≤ length text.now)) }
+    requires { record {
+      small : length text.now < 2 ^ 60;
+      some : 1 ≤ length text.now;
+    } }
+    ensures { record {
+      value : result ≡ spec.slash text.now;
+      within : IfSome result (λ found. (1 ≤ found.1) × (found.1 ≤ length text.now));
+    } }
 {
     match text {
         [_, '/', rest @ ..] => Some((Element::Gap, 2 + line_len(rest))),
@@ -193,8 +209,10 @@ fn slash(text: &[char]) -> Option<(Element, usize)>
 #[tactic(auto, unfolding(crate::specs::Scan::element_at))]
 pub fn element_at(text: &[char]) -> Option<(Element, usize)>
     requires { length text.now < 2 ^ 60 }
-    ensures value { result ≡ spec.element_at text.now }
-    ensures within { IfSome result (λ found. (1 ≤ found.1) × (found.1 ≤ length text.now)) }
+    ensures { record {
+      value : result ≡ spec.element_at text.now;
+      within : IfSome result (λ found. (1 ≤ found.1) × (found.1 ≤ length text.now));
+    } }
 {
     match text {
         [] => None,

@@ -28,8 +28,10 @@ pub fn first_escape(mut text: &[char]) -> Option<u32>
 
 /// Whether the cause stands behind that place.
 fn is_behind(why: LexError, place: u32) -> bool
-    ensures behind { result ≡ true → IsWithin place why → ⊥ }
-    ensures within { result ≡ false → IsWithin place why }
+    ensures { record {
+      behind : result ≡ true → IsWithin place why → ⊥;
+      within : result ≡ false → IsWithin place why;
+    } }
 {
     match why {
         LexError::BadUtf8(at)

@@ -83,8 +83,10 @@ fn step(
 
 fn tokens_of(alloc: Global, mut text: &[char]) -> Result<Vec<Token>, LexError>
     requires { spec.size text.now < 2 ^ 32 }
-    ensures tokens { IfOk result (λ tokens. steps.HasTokens text.entry.now tokens.items) }
-    ensures stopped { IfErr result (λ why. why ≢ Memory → spec.Stopped text.entry.now why) }
+    ensures { record {
+      tokens : IfOk result (λ tokens. steps.HasTokens text.entry.now tokens.items);
+      stopped : IfErr result (λ why. why ≢ Memory → spec.Stopped text.entry.now why);
+    } }
 {
     let mut tokens = Vec::new(alloc);
     let mut at = 0;

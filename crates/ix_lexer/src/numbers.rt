@@ -8,8 +8,10 @@ ghost use Rattle.ix_lexer.specs.Scan as scan;
 use crate::elements::first;
 
 fn digits_from(base: u32, most: u32, mut text: &[char]) -> Option<u32>
-    requires low { 2 ≤ base }
-    requires high { base ≤ 36 }
+    requires { record {
+      low : 2 ≤ base;
+      high : base ≤ 36;
+    } }
     ensures { result ≡ scan.digits_from base most true 0 text.entry.now }
 {
     let mut value = 0;
@@ -32,8 +34,10 @@ fn digits_from(base: u32, most: u32, mut text: &[char]) -> Option<u32>
 }
 
 fn digits(base: u32, most: u32, text: &[char]) -> Option<u32>
-    requires low { 2 ≤ base }
-    requires high { base ≤ 36 }
+    requires { record {
+      low : 2 ≤ base;
+      high : base ≤ 36;
+    } }
     ensures { result ≡ spec.digits base most text.now }
 {
     if first(text) == '_' {
@@ -44,8 +48,10 @@ fn digits(base: u32, most: u32, text: &[char]) -> Option<u32>
 }
 
 pub fn is_hexadecimal(text: &[char]) -> bool
-    ensures value { result ≡ spec.is_hexadecimal text.now }
-    ensures within { result ≡ true → 2 ≤ length text.now }
+    ensures { record {
+      value : result ≡ spec.is_hexadecimal text.now;
+      within : result ≡ true → 2 ≤ length text.now;
+    } }
 {
     match text {
         ['0', x, ..] => *x == 'x' || *x == 'X',

@@ -55,9 +55,11 @@ pub fn loop_labels<L: Ledger>(
     profile: Profile,
     steps: &mut Steps<L>,
 ) -> Result<Vec<Store>, AllocError>
-    requires program { HaveSmallNames program.now }
-    requires method { HasSmallNames within.now }
-    requires loops { AreInOrder 0 (method_parts (block_code within.now.body)) }
+    requires { record {
+      program : HaveSmallNames program.now;
+      method : HasSmallNames within.now;
+      loops : AreInOrder 0 (method_parts (block_code within.now.body));
+    } }
     ensures labels { IfOk result (λ found. spec.AreLoopLabels program.now within.now profile found.items) }
     ensures at_least { IfOk result (λ found. steps.old + behind_code (block_code within.now.body) 2 ≤ steps.new) }
     ensures at_most { IfOk result (λ found. VisitsWithin program.now within.now profile steps.old steps.new) }

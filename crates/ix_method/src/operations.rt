@@ -40,8 +40,10 @@ pub fn after(
     profile: Profile,
     done: &Op,
 ) -> Result<Store, AllocError>
-    requires program { HaveSmallNames program.now }
-    requires method { HasSmallNames within.now }
+    requires { record {
+      program : HaveSmallNames program.now;
+      method : HasSmallNames within.now;
+    } }
     ensures least { IfOk result (λ after. IsLeastOf (AfterGives program.now within.now profile done.now) (stored store.now) (stored after)) }
 {
     match &done.kind {

@@ -65,8 +65,10 @@ fn local_at(method: &Method, slot: u32, place: u32) -> Option<Variable<'_>>
 /// The parameter or local that a copy to a slot at this place goes into; none where the slot is a temporary.
 pub fn variable_at(method: &Method, slot: u32, place: u32) -> Option<Variable<'_>>
     requires small { HasSmallNames method.now }
-    ensures found { option_map shown result ≡ names.variable_at method.now slot place }
-    ensures small { IfSome result (λ variable. AreSmallClaims variable.claims.now) }
+    ensures { record {
+      found : option_map shown result ≡ names.variable_at method.now slot place;
+      small : IfSome result (λ variable. AreSmallClaims variable.claims.now);
+    } }
 {
     match param_at(method, slot) {
         Some(variable) => Some(variable),

@@ -90,8 +90,10 @@ pub fn push_op_errors(
     number: u32,
     done: &Op,
 ) -> Result<(), AllocError>
-    requires program { HaveSmallNames program.now }
-    requires method { HasSmallNames within.now }
+    requires { record {
+      program : HaveSmallNames program.now;
+      method : HasSmallNames within.now;
+    } }
     ensures errors { OnOk result (AddsExactly (rules.KindErrors program.now within.now number done.now done.now.kind (stored store.now)) out.old.items out.new.items) }
 {
     match &done.kind {

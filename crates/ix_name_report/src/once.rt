@@ -37,8 +37,10 @@ struct Starts {
 /// What start comes last once an error was met that starts there.
 fn moved(told: &[NameError], was: Starts, from: u32) -> Starts
     requires { Earlier told.now was.earlier was.last }
-    ensures earlier { Earlier told.now result.earlier result.last }
-    ensures within { from ≤ result.last }
+    ensures { record {
+      earlier : Earlier told.now result.earlier result.last;
+      within : from ≤ result.last;
+    } }
 {
     if was.last < from {
         return Starts {

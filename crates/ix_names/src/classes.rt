@@ -107,8 +107,10 @@ fn one_member<'a>(
     begun: &Option<Begun<'a>>,
     member: &'a Member,
 ) -> Result<(), AllocError>
-    requires few { DeclaresFew member.now }
-    requires begins { AllBegin begun.now }
+    requires { record {
+      few : DeclaresFew member.now;
+      begins : AllBegin begun.now;
+    } }
     ensures { OnOk result (notes.new ≡ notes.old ++ spec.one_member (at world.now number class.now) next (declared.member_in (option_map first_shown begun.now) member.now)) }
 {
     match member {
@@ -133,8 +135,10 @@ fn named_member<'a>(
     begun: &Option<Begun<'a>>,
     member: &'a Member,
 ) -> Result<(), AllocError>
-    requires few { DeclaresFew member.now }
-    requires begins { AllBegin begun.now }
+    requires { record {
+      few : DeclaresFew member.now;
+      begins : AllBegin begun.now;
+    } }
     ensures { OnOk result (notes.new ≡ notes.old ++ spec.named_member (at world.now number class.now) (get_by_text table.now) i next (declared.member_in (option_map first_shown begun.now) member.now)) }
 {
     let name = member_name(member);
@@ -145,8 +149,10 @@ fn named_member<'a>(
 
 fn next_member(next: u32, member: &Member) -> u32
     requires { next + 1 < 2 ^ 32 }
-    ensures value { result ≡ spec.next_member next member.now }
-    ensures few { result ≤ next + 1 }
+    ensures { record {
+      value : result ≡ spec.next_member next member.now;
+      few : result ≤ next + 1;
+    } }
 {
     match member {
         Member::Field(decl) => {
@@ -167,8 +173,10 @@ fn declaration_behind<'a>(
     member: &'a Member,
 ) -> Result<Option<Begun<'a>>, AllocError>
     requires { AllBegin begun }
-    ensures begins { IfOk result AllBegin }
-    ensures first { IfOk result (λ next. option_map first_shown next ≡ declared.first_behind (option_map first_shown begun.entry) member.now) }
+    ensures { record {
+      begins : IfOk result AllBegin;
+      first : IfOk result (λ next. option_map first_shown next ≡ declared.first_behind (option_map first_shown begun.entry) member.now);
+    } }
 {
     match member {
         Member::Field(decl) => declaration_of(alloc, begun, decl),
@@ -186,11 +194,15 @@ fn members(
     first: u32,
     members: &[Member],
 ) -> Result<u32, AllocError>
-    requires numbers { first + length members.now + 1 < 2 ^ 32 }
-    requires each { All DeclaresFew members.now }
-    ensures next { IfOk result (λ next. next ≡ spec.next_fields first members.now) }
-    ensures few { IfOk result (λ next. next ≤ first + length members.now) }
-    ensures notes { OnOk result (notes.new ≡ notes.old ++ spec.member_notes (at world.now number class.now) (get_by_text table.now) 0 first (declared.members members.now)) }
+    requires { record {
+      numbers : first + length members.now + 1 < 2 ^ 32;
+      each : All DeclaresFew members.now;
+    } }
+    ensures { record {
+      next : IfOk result (λ next. next ≡ spec.next_fields first members.now);
+      few : IfOk result (λ next. next ≤ first + length members.now);
+      notes : OnOk result (notes.new ≡ notes.old ++ spec.member_notes (at world.now number class.now) (get_by_text table.now) 0 first (declared.members members.now));
+    } }
 {
     let mut next = first;
     let mut begun = None;
@@ -248,11 +260,15 @@ fn class(
     class: &ClassDecl,
     first: u32,
 ) -> Result<u32, AllocError>
-    requires numbers { first + length class.now.members + 1 < 2 ^ 32 }
-    requires each { DeclaresFewInClass class.now }
-    ensures next { IfOk result (λ next. next ≡ spec.next_fields first class.now.members) }
-    ensures few { IfOk result (λ next. next ≤ first + length class.now.members) }
-    ensures notes { OnOk result (notes.new ≡ notes.old ++ spec.class_notes (shown world.now) parents.now world.now.methods number first class.now) }
+    requires { record {
+      numbers : first + length class.now.members + 1 < 2 ^ 32;
+      each : DeclaresFewInClass class.now;
+    } }
+    ensures { record {
+      next : IfOk result (λ next. next ≡ spec.next_fields first class.now.members);
+      few : IfOk result (λ next. next ≤ first + length class.now.members);
+      notes : OnOk result (notes.new ≡ notes.old ++ spec.class_notes (shown world.now) parents.now world.now.methods number first class.now);
+    } }
 {
     head(world, notes, is_cyclic(parents, number), number, class)?;
     let table = member_table(alloc, class.members.as_slice())?;
@@ -277,9 +293,11 @@ fn classes(
     parents: &[Option<u32>],
     classes: &[ClassDecl],
 ) -> Result<(), AllocError>
-    requires few { length classes.now < 2 ^ 32 }
-    requires members { spec.members_in classes.now + 1 < 2 ^ 32 }
-    requires each { All DeclaresFewInClass classes.now }
+    requires { record {
+      few : length classes.now < 2 ^ 32;
+      members : spec.members_in classes.now + 1 < 2 ^ 32;
+      each : All DeclaresFewInClass classes.now;
+    } }
     ensures { OnOk result (notes.new ≡ notes.old ++ spec.notes_from (shown world.now) parents.now world.now.methods 0 0 classes.now) }
 {
     let mut next = 0;
@@ -296,9 +314,11 @@ pub fn notes_in(
     parents: &[Option<u32>],
     decls: &[ClassDecl],
 ) -> Result<List<Note>, AllocError>
-    requires few { length decls.now < 2 ^ 32 }
-    requires members { spec.members_in decls.now + 1 < 2 ^ 32 }
-    requires each { All DeclaresFewInClass decls.now }
+    requires { record {
+      few : length decls.now < 2 ^ 32;
+      members : spec.members_in decls.now + 1 < 2 ^ 32;
+      each : All DeclaresFewInClass decls.now;
+    } }
     ensures { IfOk result (λ notes. notes ≡ spec.notes_from (shown world.now) parents.now world.now.methods 0 0 decls.now) }
 {
     let mut notes = List::new(alloc);

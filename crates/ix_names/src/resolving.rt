@@ -19,9 +19,11 @@ use std::alloc::{AllocError, Global};
 
 /// What a source says.
 fn notes_of(alloc: Global, decls: &[ClassDecl]) -> Result<List<Note>, AllocError>
-    requires few { length decls.now < 2 ^ 32 }
-    requires members { source.members_in decls.now + 1 < 2 ^ 32 }
-    requires each { All DeclaresFewInClass decls.now }
+    requires { record {
+      few : length decls.now < 2 ^ 32;
+      members : source.members_in decls.now + 1 < 2 ^ 32;
+      each : All DeclaresFewInClass decls.now;
+    } }
     ensures { IfOk result (λ notes. notes ≡ source.notes decls.now) }
 {
     let (world, parents) = world_of(alloc, decls)?;
@@ -32,9 +34,11 @@ fn notes_of(alloc: Global, decls: &[ClassDecl]) -> Result<List<Note>, AllocError
 #[tactic(auto, using(ix_counts::proofs::FewDeclarations::few_classes, ix_counts::proofs::FewDeclarations::few_members, ix_counts::proofs::FewDeclarations::each_member_few))]
 fn clean_notes(alloc: Global, unit: &Unit) -> Result<List<Note>, NameErrors>
     requires { CanResolve unit.now }
-    ensures notes { IfOk result (λ notes. notes ≡ source.notes unit.now.classes) }
-    ensures accepted { IfOk result (λ _. spec.Accepts unit.now) }
-    ensures refused { IfErr result (λ e. spec.Refuses unit.now e) }
+    ensures { record {
+      notes : IfOk result (λ notes. notes ≡ source.notes unit.now.classes);
+      accepted : IfOk result (λ _. spec.Accepts unit.now);
+      refused : IfErr result (λ e. spec.Refuses unit.now e);
+    } }
 {
     let decls = unit.classes.as_slice();
     if let Some(passed) = limit(decls) {
@@ -65,9 +69,11 @@ fn clean_notes(alloc: Global, unit: &Unit) -> Result<List<Note>, NameErrors>
 /// one. `Memory` where memory is wanting.
 pub fn resolve(alloc: Global, unit: &Unit) -> Result<Table, NameErrors>
     requires { CanResolve unit.now }
-    ensures table { IfOk result (λ table. shown table ≡ spec.names unit.now) }
-    ensures accepted { IfOk result (λ _. spec.Accepts unit.now) }
-    ensures refused { IfErr result (λ e. spec.Refuses unit.now e) }
+    ensures { record {
+      table : IfOk result (λ table. shown table ≡ spec.names unit.now);
+      accepted : IfOk result (λ _. spec.Accepts unit.now);
+      refused : IfErr result (λ e. spec.Refuses unit.now e);
+    } }
 {
     let notes = clean_notes(alloc, unit)?;
     match table_of(alloc, notes) {

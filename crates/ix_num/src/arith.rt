@@ -58,8 +58,10 @@ pub fn exact(op: Arith, x: i32, y: i32) -> Option<i128>
 
 /// Java's result: the low 32 bits of the exact one. `None` comes exactly for `/` and `%` by 0, where Java throws.
 pub fn java(op: Arith, x: i32, y: i32) -> Option<i32>
-    ensures value { result ≡ java_of op x y }
-    ensures none { IsNone result ↔ DividesByZero op y }
+    ensures { record {
+      value : result ≡ java_of op x y;
+      none : IsNone result ↔ DividesByZero op y;
+    } }
 {
     match exact(op, x, y) {
         Some(n) => Some(wrap(n)),

@@ -28,16 +28,20 @@ impl Interval {
 
     /// Whether it includes no number.
     pub fn is_empty(self) -> bool
-        ensures value { result ≡ is_empty self }
-        ensures empty { IsTrue result ↔ IsEmpty self }
+        ensures { record {
+          value : result ≡ is_empty self;
+          empty : IsTrue result ↔ IsEmpty self;
+        } }
     {
         self.lo > self.hi
     }
 
     /// Whether `n` lies between the ends.
     pub fn includes(self, n: i64) -> bool
-        ensures value { result ≡ includes self n }
-        ensures member { IsTrue result ↔ Includes self n }
+        ensures { record {
+          value : result ≡ includes self n;
+          member : IsTrue result ↔ Includes self n;
+        } }
     {
         self.lo <= n && n <= self.hi
     }
@@ -127,8 +131,10 @@ impl Interval {
     /// The interval of what `op` gives of an operand in `x` and one in `y`, by the row of `op`: it includes every exact result,
     /// Java's result wherever the exact one is an int, and grows with its operands. It is empty where an operand is.
     pub fn of_op(op: Arith, x: Interval, y: Interval) -> Interval
-        requires left { IsWithin x all_ints }
-        requires right { IsWithin y all_ints }
+        requires { record {
+          left : IsWithin x all_ints;
+          right : IsWithin y all_ints;
+        } }
         ensures range { result ≡ op_range op x y }
         ensures exact { (m n : ℤ) → Includes x m → Includes y n
             → IfSome (exact_of op m n) (Includes result) }
@@ -148,8 +154,10 @@ impl Interval {
 
     /// The row of `op`, at operands that are not empty.
     fn row(op: Arith, x: Interval, y: Interval) -> Interval
-        requires left { IsIntRange x }
-        requires right { IsIntRange y }
+        requires { record {
+          left : IsIntRange x;
+          right : IsIntRange y;
+        } }
         ensures { result ≡ row_of op x y }
     {
         match op {
@@ -168,8 +176,10 @@ impl Interval {
     }
 
     fn add(self, other: Interval) -> Interval
-        requires left { IsIntRange self }
-        requires right { IsIntRange other }
+        requires { record {
+          left : IsIntRange self;
+          right : IsIntRange other;
+        } }
         ensures { result ≡ add_range self other }
     {
         Interval {
@@ -179,8 +189,10 @@ impl Interval {
     }
 
     fn sub(self, other: Interval) -> Interval
-        requires left { IsIntRange self }
-        requires right { IsIntRange other }
+        requires { record {
+          left : IsIntRange self;
+          right : IsIntRange other;
+        } }
         ensures { result ≡ sub_range self other }
     {
         Interval {
@@ -190,8 +202,10 @@ impl Interval {
     }
 
     fn mul(self, other: Interval) -> Interval
-        requires left { IsIntRange self }
-        requires right { IsIntRange other }
+        requires { record {
+          left : IsIntRange self;
+          right : IsIntRange other;
+        } }
         ensures { result ≡ mul_range self other }
     {
         let p = self.lo * other.lo;
@@ -232,8 +246,10 @@ impl Interval {
     }
 
     fn rem(self, other: Interval) -> Interval
-        requires left { IsIntRange self }
-        requires right { IsIntRange other }
+        requires { record {
+          left : IsIntRange self;
+          right : IsIntRange other;
+        } }
         ensures { result ≡ rem_range self other }
     {
         self.remainders_within(other.remainder_limit())
@@ -241,8 +257,10 @@ impl Interval {
 
     fn remainder_limit(self) -> i64
         requires { IsIntRange self }
-        ensures value { result ≡ remainder_limit self }
-        ensures limit { result ≤ℤ greatest_int }
+        ensures { record {
+          value : result ≡ remainder_limit self;
+          limit : result ≤ℤ greatest_int;
+        } }
     {
         self.lo.abs().max(self.hi.abs()) - 1
     }
@@ -361,8 +379,10 @@ fn hull_of_two(p: i64, q: i64) -> Interval
 /// The low five bits of `n`.
 fn shift_distance(n: i64) -> u32
     requires { IsInt n }
-    ensures value { result ≡ shift_distance n }
-    ensures below { result < 32 }
+    ensures { record {
+      value : result ≡ shift_distance n;
+      below : result < 32;
+    } }
 {
     (n & 31) as u32
 }

@@ -13,8 +13,10 @@ use std::alloc::AllocError;
 
 /// By how much r is at most greater than q, where `r < p + c` and `p < q + k`.
 fn apart(k: &i32, c: &i32) -> i64
-    ensures value { result ≡ c.now +ℤ k.now -ℤ pos 2 }
-    ensures small { IsLimit result }
+    ensures { record {
+      value : result ≡ c.now +ℤ k.now -ℤ pos 2;
+      small : IsLimit result;
+    } }
 {
     *c as i64 + *k as i64 - 2
 }

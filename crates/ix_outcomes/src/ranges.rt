@@ -16,8 +16,10 @@ use std::alloc::AllocError;
 
 /// The sum of two constants of differences, less 2: each says that an int is at most one less.
 fn together(k: &i32, c: &i32) -> i64
-    ensures value { result ≡ k.now +ℤ c.now -ℤ pos 2 }
-    ensures small { IsLimit result }
+    ensures { record {
+      value : result ≡ k.now +ℤ c.now -ℤ pos 2;
+      small : IsLimit result;
+    } }
 {
     *k as i64 + *c as i64 - 2
 }

@@ -20,10 +20,12 @@ pub struct MemSink {
 impl MemSink {
     /// The sink that took nothing yet. The calls of `write` are counted from 0, and those whose numbers are in `fails` fail.
     pub fn new(alloc: Global, fails: List<u64>) -> MemSink
-        ensures taken { ⟦<MemSink as Sink>⟧.taken result ≡ [] }
-        ensures refused { ⟦<MemSink as Sink>⟧.refused result ≡ 0 }
-        ensures faults { ⟦<MemSink as Sink>⟧.faults result ≡ 0 }
-        ensures fails { result.fails ≡ fails }
+        ensures { record {
+          taken : ⟦<MemSink as Sink>⟧.taken result ≡ [];
+          refused : ⟦<MemSink as Sink>⟧.refused result ≡ 0;
+          faults : ⟦<MemSink as Sink>⟧.faults result ≡ 0;
+          fails : result.fails ≡ fails;
+        } }
     {
         MemSink {
             bytes: Vec::new(alloc),
@@ -77,9 +79,11 @@ pub struct SureSink {
 impl SureSink {
     /// The sink that took nothing yet.
     pub fn new(alloc: Global) -> SureSink
-        ensures taken { ⟦<SureSink as Sink>⟧.taken result ≡ [] }
-        ensures refused { ⟦<SureSink as Sink>⟧.refused result ≡ 0 }
-        ensures faults { ⟦<SureSink as Sink>⟧.faults result ≡ 0 }
+        ensures { record {
+          taken : ⟦<SureSink as Sink>⟧.taken result ≡ [];
+          refused : ⟦<SureSink as Sink>⟧.refused result ≡ 0;
+          faults : ⟦<SureSink as Sink>⟧.faults result ≡ 0;
+        } }
     {
         SureSink {
             bytes: Vec::new(alloc),

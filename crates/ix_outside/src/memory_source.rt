@@ -22,10 +22,12 @@ fn place_of(files: &[(Text, List<u8>)], name: &str) -> Option<usize>
 
 /// Copies what it can of `bytes` into the front of `buf`, and answers how many bytes that are.
 fn fill(buf: &mut [u8], bytes: &[u8]) -> usize
-    ensures within { result ≤ length buf.old }
-    ensures bytes { take (length (take result buf.new)) bytes.now ≡ take result buf.new }
-    ensures all { result ≡ 0 → 0 < length buf.old → bytes.now ≡ [] }
-    ensures some { result ≤ length bytes.now }
+    ensures { record {
+      within : result ≤ length buf.old;
+      all : result ≡ 0 → 0 < length buf.old → bytes.now ≡ [];
+      some : result ≤ length bytes.now;
+      bytes : take (length (take result buf.new)) bytes.now ≡ take result buf.new;
+    } }
 {
     let n = if bytes.len() < buf.len() {
         bytes.len()
@@ -38,8 +40,10 @@ fn fill(buf: &mut [u8], bytes: &[u8]) -> usize
 
 /// What is left of the file at that place, of which that many bytes were read; past the last file there is nothing.
 fn left_of(files: &[(Text, List<u8>)], place: usize, at: usize) -> &[u8]
-    ensures bytes { result.now ≡ drop at (bytes_at files.now place) }
-    ensures fits { at + length result.now < 2 ^ 64 }
+    ensures { record {
+      bytes : result.now ≡ drop at (bytes_at files.now place);
+      fits : at + length result.now < 2 ^ 64;
+    } }
 {
     match files.get(place) {
         None => &[],
@@ -67,12 +71,14 @@ pub struct MemSource {
 impl MemSource {
     /// The source of these files. The calls of `open` and `read` are counted together from 0, and those whose numbers are in `fails` fail.
     pub fn new(files: List<(Text, List<u8>)>, fails: List<u64>) -> MemSource
-        ensures files { ⟦<MemSource as Source>⟧.files result ≡ Some files }
-        ensures sure { (name : List ℕ) → ⟦<MemSource as Source>⟧.IsSure result name ↔ (IsSome (held files name) × NoneToCome fails 0) }
-        ensures faults { ⟦<MemSource as Source>⟧.faults result ≡ 0 }
-        ensures names { ⟦<MemSource as Source>⟧.names result ≡ [] }
-        ensures given { ⟦<MemSource as Source>⟧.given result ≡ [] }
-        ensures reads { ⟦<MemSource as Source>⟧.reads result ≡ 0 }
+        ensures { record {
+          sure : (name : List ℕ) → ⟦<MemSource as Source>⟧.IsSure result name ↔ (IsSome (held files name) × NoneToCome fails 0);
+          files : ⟦<MemSource as Source>⟧.files result ≡ Some files;
+          faults : ⟦<MemSource as Source>⟧.faults result ≡ 0;
+          names : ⟦<MemSource as Source>⟧.names result ≡ [];
+          given : ⟦<MemSource as Source>⟧.given result ≡ [];
+          reads : ⟦<MemSource as Source>⟧.reads result ≡ 0;
+        } }
     {
         MemSource {
             files,
@@ -159,12 +165,14 @@ pub struct SureSource {
 impl SureSource {
     /// The source of these files.
     pub fn new(files: List<(Text, List<u8>)>) -> SureSource
-        ensures files { ⟦<SureSource as Source>⟧.files result ≡ Some files }
-        ensures sure { (name : List ℕ) → ⟦<SureSource as Source>⟧.IsSure result name }
-        ensures faults { ⟦<SureSource as Source>⟧.faults result ≡ 0 }
-        ensures names { ⟦<SureSource as Source>⟧.names result ≡ [] }
-        ensures given { ⟦<SureSource as Source>⟧.given result ≡ [] }
-        ensures reads { ⟦<SureSource as Source>⟧.reads result ≡ 0 }
+        ensures { record {
+          files : ⟦<SureSource as Source>⟧.files result ≡ Some files;
+          sure : (name : List ℕ) → ⟦<SureSource as Source>⟧.IsSure result name;
+          faults : ⟦<SureSource as Source>⟧.faults result ≡ 0;
+          names : ⟦<SureSource as Source>⟧.names result ≡ [];
+          given : ⟦<SureSource as Source>⟧.given result ≡ [];
+          reads : ⟦<SureSource as Source>⟧.reads result ≡ 0;
+        } }
     {
         SureSource {
             files,

@@ -7,14 +7,16 @@ use crate::sink::{Sink, WriteError};
 /// Writes the whole text, in as many writes as the sink wants. After an error, which is that of the one write that was refused, the sink took a
 /// prefix of it.
 pub fn write_all<K: Sink>(out: &mut K, text: &[u8]) -> Result<(), WriteError>
-    ensures taken { OnOk result (Took text.now (K.taken out.old) (K.taken out.new)) }
-    ensures prefix { TookPrefix text.now (K.taken out.old) (K.taken out.new) }
-    ensures refused { OnErr result (K.refused out.new ≡ K.refused out.old + 1) }
-    ensures refused_none { OnOk result (K.refused out.new ≡ K.refused out.old) }
-    ensures falls { K.faults out.old ≤ K.faults out.new }
-    ensures rose { IsErrOf result WriteError.Failed → Rose (K.faults out.old) (K.faults out.new) }
-    ensures ok { OnOk result (K.faults out.new ≡ K.faults out.old) }
-    ensures memory { IsErrOf result WriteError.Memory → K.faults out.new ≡ K.faults out.old }
+    ensures { record {
+      taken : OnOk result (Took text.now (K.taken out.old) (K.taken out.new));
+      prefix : TookPrefix text.now (K.taken out.old) (K.taken out.new);
+      refused : OnErr result (K.refused out.new ≡ K.refused out.old + 1);
+      refused_none : OnOk result (K.refused out.new ≡ K.refused out.old);
+      falls : K.faults out.old ≤ K.faults out.new;
+      rose : IsErrOf result WriteError.Failed → Rose (K.faults out.old) (K.faults out.new);
+      ok : OnOk result (K.faults out.new ≡ K.faults out.old);
+      memory : IsErrOf result WriteError.Memory → K.faults out.new ≡ K.faults out.old;
+    } }
 {
     let mut at = 0;
     while at < text.len() {

@@ -23,9 +23,11 @@ const LISTS: usize = 32;
 
 fn place_of(number: u32, turn: usize) -> Option<usize>
     requires turn { turn ≤ 1 }
-    ensures near { IfSome result (λ place. (nat_lt number 1024 ≡ true) × (place ≡ 2 * number + turn)) }
-    ensures small { IfSome result (λ place. place < 2048) }
-    ensures far { IfNone result (nat_lt number 1024 ≡ false) }
+    ensures { record {
+      near : IfSome result (λ place. (nat_lt number 1024 ≡ true) × (place ≡ 2 * number + turn));
+      small : IfSome result (λ place. place < 2048);
+      far : IfNone result (nat_lt number 1024 ≡ false);
+    } }
 {
     if number < NEAR {
         Some(2 * number as usize + turn)
@@ -36,9 +38,11 @@ fn place_of(number: u32, turn: usize) -> Option<usize>
 
 /// The place of a near path among the near ones: slots, and fields of the object in slot 0, in turns.
 pub fn near_place(p: &Path) -> Option<usize>
-    ensures near { IfSome result (λ place. (is_near p.now ≡ true) × (place ≡ near_place p.now)) }
-    ensures small { IfSome result (λ place. place < 2048) }
-    ensures far { IfNone result (is_near p.now ≡ false) }
+    ensures { record {
+      near : IfSome result (λ place. (is_near p.now ≡ true) × (place ≡ near_place p.now));
+      small : IfSome result (λ place. place < 2048);
+      far : IfNone result (is_near p.now ≡ false);
+    } }
 {
     match *p {
         Path::Slot(slot) => place_of(slot, 0),
@@ -62,8 +66,10 @@ impl Model for Places {
 /// Makes lists up to the place, and asks for room for more.
 #[inline(never)]
 fn reach(alloc: Global, near: &mut Vec<PathFacts>, place: usize) -> Result<(), AllocError>
-    requires near { place < 2048 }
-    requires beyond { vec_len near.old ≤ place }
+    requires { record {
+      beyond : vec_len near.old ≤ place;
+      near : place < 2048;
+    } }
     ensures reached { OnOk result (place < length near.new.items) }
     ensures same { OnOk result ((at : ℕ) → get_or near.new.items at [] ≡ get_or near.old.items at []) }
 {

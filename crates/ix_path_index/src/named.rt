@@ -47,8 +47,10 @@ fn put_int_and_array(
     p: &Path,
     a: &Path,
 ) -> Result<(), AllocError>
-    ensures ints { OnOk result (ints.new ≡ put_all ints.old (p.now ∷ [])) }
-    ensures arrays { OnOk result (arrays.new ≡ put_all arrays.old (a.now ∷ [])) }
+    ensures { record {
+      ints : OnOk result (ints.new ≡ put_all ints.old (p.now ∷ []));
+      arrays : OnOk result (arrays.new ≡ put_all arrays.old (a.now ∷ []));
+    } }
 {
     ints.put_copy(p)?;
     arrays.put_copy(a)
@@ -57,8 +59,10 @@ fn put_int_and_array(
 /// Puts the ints that the fact names into the one set, and the arrays into the other.
 #[inline(never)]
 fn put_named(ints: &mut PathSet, arrays: &mut PathSet, fact: &Fact) -> Result<(), AllocError>
-    ensures ints { OnOk result (ints.new ≡ put_all ints.old (ints_of fact.now)) }
-    ensures arrays { OnOk result (arrays.new ≡ put_all arrays.old (arrays_of fact.now)) }
+    ensures { record {
+      ints : OnOk result (ints.new ≡ put_all ints.old (ints_of fact.now));
+      arrays : OnOk result (arrays.new ≡ put_all arrays.old (arrays_of fact.now));
+    } }
 {
     match fact {
         Fact::Rng(p, _, _) => ints.put_copy(p),
@@ -80,8 +84,10 @@ fn put_named(ints: &mut PathSet, arrays: &mut PathSet, fact: &Fact) -> Result<()
 /// The same. Most facts are differences, ranges and classes of ints that are marked: those take a look in place, and no call.
 #[inline]
 fn put_fact(ints: &mut PathSet, arrays: &mut PathSet, fact: &Fact) -> Result<(), AllocError>
-    ensures ints { OnOk result (ints.new ≡ put_all ints.old (ints_of fact.now)) }
-    ensures arrays { OnOk result (arrays.new ≡ put_all arrays.old (arrays_of fact.now)) }
+    ensures { record {
+      ints : OnOk result (ints.new ≡ put_all ints.old (ints_of fact.now));
+      arrays : OnOk result (arrays.new ≡ put_all arrays.old (arrays_of fact.now));
+    } }
 {
     match fact {
         Fact::Less(p, q, _) => put_two(ints, p, q),
@@ -92,8 +98,10 @@ fn put_fact(ints: &mut PathSet, arrays: &mut PathSet, fact: &Fact) -> Result<(),
 
 /// Puts what the facts name.
 fn put_facts(ints: &mut PathSet, arrays: &mut PathSet, facts: &[Fact]) -> Result<(), AllocError>
-    ensures ints { OnOk result (ints.new ≡ put_all ints.old (named_ints facts.now)) }
-    ensures arrays { OnOk result (arrays.new ≡ put_all arrays.old (named_arrays facts.now)) }
+    ensures { record {
+      ints : OnOk result (ints.new ≡ put_all ints.old (named_ints facts.now));
+      arrays : OnOk result (arrays.new ≡ put_all arrays.old (named_arrays facts.now));
+    } }
 {
     for fact in facts {
         put_fact(ints, arrays, fact)?;
@@ -122,8 +130,10 @@ fn put_until(
 
 /// The ints that the facts name, and the arrays. The only error is want of memory.
 pub fn ints_and_arrays(alloc: Global, facts: &[Fact]) -> Result<(Vec<Path>, Vec<Path>), AllocError>
-    ensures ints { IfOk result (λ named. named.0.items ≡ put_all [] (named_ints facts.now)) }
-    ensures arrays { IfOk result (λ named. named.1.items ≡ put_all [] (named_arrays facts.now)) }
+    ensures { record {
+      ints : IfOk result (λ named. named.0.items ≡ put_all [] (named_ints facts.now));
+      arrays : IfOk result (λ named. named.1.items ≡ put_all [] (named_arrays facts.now));
+    } }
 {
     let mut ints = PathSet::with_room(alloc, 16)?;
     let mut arrays = PathSet::new(alloc);

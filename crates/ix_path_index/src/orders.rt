@@ -33,9 +33,11 @@ fn is_said_of_all(fact: &Fact) -> bool
 
 /// Whether the fact stands in one order alone, and is no range that is said of every path.
 fn has_one_order(fact: &Fact) -> bool
-    ensures tells { IsTrue result → is_default fact.now ≡ false }
-    ensures one { IsTrue result → orders fact.now ≡ fact.now ∷ [] }
-    ensures two { IsFalse result → is_default fact.now ≡ false → length (orders fact.now) ≡ 2 }
+    ensures { record {
+      tells : IsTrue result → is_default fact.now ≡ false;
+      one : IsTrue result → orders fact.now ≡ fact.now ∷ [];
+      two : IsFalse result → is_default fact.now ≡ false → length (orders fact.now) ≡ 2;
+    } }
 {
     match *fact {
         Fact::Same(_, _) => false,
@@ -62,9 +64,11 @@ pub fn have_one_order(facts: &[Fact]) -> bool
 #[inline(never)]
 fn push_orders(ordered: &mut Vec<Fact>, fact: &Fact)
     requires room { vec_len ordered.old + 2 ≤ vec_capacity ordered.old }
-    ensures orders { ordered.new.items ≡ ordered.old.items ++ orders fact.now }
-    ensures at_most_two { vec_len ordered.new ≤ vec_len ordered.old + 2 }
-    ensures same_room { vec_capacity ordered.new ≡ vec_capacity ordered.old }
+    ensures { record {
+      orders : ordered.new.items ≡ ordered.old.items ++ orders fact.now;
+      at_most_two : vec_len ordered.new ≤ vec_len ordered.old + 2;
+      same_room : vec_capacity ordered.new ≡ vec_capacity ordered.old;
+    } }
 {
     ordered.push_reserved(*fact);
     if let Some(other) = turned(fact) {
@@ -77,9 +81,11 @@ fn push_orders(ordered: &mut Vec<Fact>, fact: &Fact)
 #[inline]
 fn push_in_orders(ordered: &mut Vec<Fact>, fact: &Fact)
     requires room { vec_len ordered.old + 2 ≤ vec_capacity ordered.old }
-    ensures orders { ordered.new.items ≡ ordered.old.items ++ cond (is_default fact.now) [] (orders fact.now) }
-    ensures at_most_two { vec_len ordered.new ≤ vec_len ordered.old + 2 }
-    ensures same_room { vec_capacity ordered.new ≡ vec_capacity ordered.old }
+    ensures { record {
+      orders : ordered.new.items ≡ ordered.old.items ++ cond (is_default fact.now) [] (orders fact.now);
+      at_most_two : vec_len ordered.new ≤ vec_len ordered.old + 2;
+      same_room : vec_capacity ordered.new ≡ vec_capacity ordered.old;
+    } }
 {
     if has_one_order(fact) {
         ordered.push_reserved(*fact);

@@ -42,8 +42,10 @@ fn is_behind(paths: &[Path], p: &Path) -> bool
 }
 
 fn push_path(paths: &mut Vec<Path>, p: &Path) -> Result<(), AllocError>
-    ensures put { OnOk result (paths.new.items ≡ paths.old.items ++ p.now ∷ []) }
-    ensures unchanged { OnErr result (paths.new.items ≡ paths.old.items) }
+    ensures { record {
+      put : OnOk result (paths.new.items ≡ paths.old.items ++ p.now ∷ []);
+      unchanged : OnErr result (paths.new.items ≡ paths.old.items);
+    } }
 {
     if paths.len() >= paths.capacity() {
         paths.reserve(1)?;

@@ -111,10 +111,12 @@ pub fn play<K: Sink, E: Sink>(
     out: &mut K,
     err: &mut E,
 ) -> Status
-    requires cells { manner.limits.cells < 2 ^ 31 }
-    requires frames { 0 < manner.limits.frames }
-    requires short { length bytes.now ≤ 1048576 }
-    requires within { PlacesWithin (length bytes.now) program.now }
+    requires { record {
+      cells : manner.limits.cells < 2 ^ 31;
+      frames : 0 < manner.limits.frames;
+      short : length bytes.now ≤ 1048576;
+      within : PlacesWithin (length bytes.now) program.now;
+    } }
     ensures { Delivers (spec.RunAnswers manner.traced program.now bytes.now manner.limits entry.now (map (λ word. word.now) inputs.now)) result (sinks (K.taken out.old) (K.faults out.old) (E.taken err.old) (E.faults err.old) (E.refused err.old))
         (sinks (K.taken out.new) (K.faults out.new) (E.taken err.new) (E.faults err.new) (E.refused err.new)) }
 {

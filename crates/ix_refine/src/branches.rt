@@ -30,8 +30,10 @@ pub fn branch(alloc: Global, store: &Store, test: &Test, answer: bool) -> Result
 
 /// The stores where the test is true, and where it is false. The only error is want of memory.
 pub fn branch_test(alloc: Global, store: &Store, test: &Test) -> Result<(Store, Store), AllocError>
-    ensures holds { IfOk result (λ both. IsTested true test.now (stored store.now) (stored both.0)) }
-    ensures fails { IfOk result (λ both. IsTested false test.now (stored store.now) (stored both.1)) }
+    ensures { record {
+      holds : IfOk result (λ both. IsTested true test.now (stored store.now) (stored both.0));
+      fails : IfOk result (λ both. IsTested false test.now (stored store.now) (stored both.1));
+    } }
 {
     let holds = branch(alloc, store, test, true)?;
     let fails = branch(alloc, store, test, false)?;

@@ -49,8 +49,10 @@ pub fn broken_reply(
     at: u32,
     key: &str,
 ) -> Result<Reply, AllocError>
-    requires short { length bytes.now ≤ 1048576 }
-    requires within { at ≤ length bytes.now }
+    requires { record {
+      short : length bytes.now ≤ 1048576;
+      within : at ≤ length bytes.now;
+    } }
     ensures { IfOk result (λ reply. shown reply ≡ out_answer Status.Rejected (text.broken name.now bytes.now at key.now)) }
 {
     let lines = LineMap::new(alloc, bytes)?;
@@ -65,8 +67,10 @@ pub fn misnamed_reply(
     bytes: &[u8],
     errors: &[NameError],
 ) -> Result<Reply, AllocError>
-    requires short { length bytes.now ≤ 1048576 }
-    requires within { names_text.StartWithin (length bytes.now) errors.now }
+    requires { record {
+      short : length bytes.now ≤ 1048576;
+      within : names_text.StartWithin (length bytes.now) errors.now;
+    } }
     ensures { IfOk result (λ reply. shown reply ≡ out_answer Status.Rejected (names_text.misnamed name.now bytes.now errors.now)) }
 {
     let lines = LineMap::new(alloc, bytes)?;
@@ -82,8 +86,10 @@ pub fn past_reply(
     at: u32,
     limit: &str,
 ) -> Result<Reply, AllocError>
-    requires short { length bytes.now ≤ 1048576 }
-    requires within { at ≤ length bytes.now }
+    requires { record {
+      short : length bytes.now ≤ 1048576;
+      within : at ≤ length bytes.now;
+    } }
     ensures { IfOk result (λ reply. shown reply ≡ err_answer Status.Limit (text.past_limit name.now bytes.now at limit.now)) }
 {
     let lines = LineMap::new(alloc, bytes)?;

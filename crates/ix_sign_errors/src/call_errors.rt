@@ -55,8 +55,10 @@ fn push_arguments(
     call: &CallOp,
     params: &[Local],
 ) -> Result<(), AllocError>
-    requires few { length params.now + 1 < 2 ^ 32 }
-    requires small { AreSmallParams params.now }
+    requires { record {
+      few : length params.now + 1 < 2 ^ 32;
+      small : AreSmallParams params.now;
+    } }
     ensures { OnOk result (out.new.items ≡ out.old.items ++ argument_refusals (stored store.now) call.now 0 params.now call.now.args) }
 {
     let args = call.args.as_slice();

@@ -77,8 +77,10 @@ fn push_param_errors(
     own: u32,
     upper: &Method,
 ) -> Result<(), AllocError>
-    requires small { HasSmallNames method.now }
-    requires upper { HasSmallNames upper.now }
+    requires { record {
+      small : HasSmallNames method.now;
+      upper : HasSmallNames upper.now;
+    } }
     ensures errors { OnOk result (AddsExactly (OverrideParameter method.now upper.now own) out.old.items out.new.items) }
 {
     let store = asked(alloc, upper)?;
@@ -117,8 +119,10 @@ fn has_run(
     method: &Method,
     upper: &Method,
 ) -> Result<Store, AllocError>
-    requires small { HasSmallNames method.now }
-    requires upper { HasSmallNames upper.now }
+    requires { record {
+      small : HasSmallNames method.now;
+      upper : HasSmallNames upper.now;
+    } }
     ensures least { IfOk result (λ store. IsLeastAllowed (HasRun program.now method.now upper.now) (stored store)) }
 {
     let before = called(alloc, upper)?;
@@ -134,8 +138,10 @@ fn push_result_errors(
     upper: &Method,
     over: u32,
 ) -> Result<(), AllocError>
-    requires small { HasSmallNames method.now }
-    requires upper { HasSmallNames upper.now }
+    requires { record {
+      small : HasSmallNames method.now;
+      upper : HasSmallNames upper.now;
+    } }
     ensures errors { OnOk result (AddsExactly (OverrideResult program.now method.now upper.now over) out.old.items out.new.items) }
 {
     let store = has_run(alloc, program, method, upper)?;

@@ -19,8 +19,10 @@ use std::alloc::Global;
 /// What `lower` answers, under its condition and with its refusals. Of a tree that `parse` answers, with the table of its names and without errors on them, the machine
 /// does on the program what the source means.
 pub fn lower_kept(alloc: Global, unit: &Unit, table: &Table) -> Result<Program, LowerError>
-    requires few_classes { length unit.now.classes < 2 ^ 32 }
-    requires few_members { members_in unit.now.classes + 1 < 2 ^ 32 }
+    requires { record {
+      few_classes : length unit.now.classes < 2 ^ 32;
+      few_members : members_in unit.now.classes + 1 < 2 ^ 32;
+    } }
     ensures program { IfOk result (λ program. spec.program (shown table.now) unit.now.classes ≡ Ok program) }
     ensures limit { (which : Which) (place : ℕ) → IsErrOf result (error.Limit which place) → spec.program (shown table.now) unit.now.classes ≡ Err (record { which = which; place = place }) }
     ensures formed { IsParsed unit.now → Accepts unit.now → shown table.now ≡ names unit.now → IfOk result (λ program. Formed program) }

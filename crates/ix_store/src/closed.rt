@@ -86,8 +86,10 @@ fn over_with(
     table: FactTable,
     added: &[Fact],
 ) -> Result<TableOver, AllocError>
-    requires kind { table_kind table ≡ table_kind known.now.table }
-    requires table { IsTable (facts_in known.now ++ of_kind (table_kind known.now.table) added.now) (facts_of table) }
+    requires { record {
+      kind : table_kind table ≡ table_kind known.now.table;
+      table : IsTable (facts_in known.now ++ of_kind (table_kind known.now.table) added.now) (facts_of table);
+    } }
     ensures over { IfOk result (λ over. over ≡ table) }
 {
     let told = is_long(&table);
@@ -136,9 +138,11 @@ fn completed(
     first: FactTable,
     new: Vec<Fact>,
 ) -> Result<TableOver, AllocError>
-    requires plain { are_plain new.items ≡ true }
-    requires kind { table_kind first ≡ table_kind known.now.table }
-    requires table { IsTable (facts_in known.now ++ of_kind (table_kind known.now.table) new.items) (facts_of first) }
+    requires { record {
+      plain : are_plain new.items ≡ true;
+      kind : table_kind first ≡ table_kind known.now.table;
+      table : IsTable (facts_in known.now ++ of_kind (table_kind known.now.table) new.items) (facts_of first);
+    } }
     ensures closed { IfOk result (λ over. IsClosedOf (facts_in known.now ++ new.items) (facts_of over)) }
 {
     let more = more_beside(alloc, &new, first.ranges(), known.table.searches())?;
@@ -151,8 +155,10 @@ fn completed(
 
 /// The closed table of known facts and new plain ones, over more ints; none where these say the new ones already.
 fn with_plain(alloc: Global, known: &Known, new: Vec<Fact>) -> Result<Option<TableOver>, AllocError>
-    requires classes { HaveClasses new.items }
-    requires plain { are_plain new.items ≡ true }
+    requires { record {
+      classes : HaveClasses new.items;
+      plain : are_plain new.items ≡ true;
+    } }
     ensures same { IfOk result (λ more. IfNone more (IsClosedOf (facts_in known.now ++ new.items) (facts_in known.now))) }
     ensures more { IfOk result (λ more. IfSome more (λ more. IsClosedOf (facts_in known.now ++ new.items) (facts_of more))) }
 {
@@ -223,8 +229,10 @@ impl Known {
 
     /// Whether each fact has one order, and each new one too.
     fn is_plain_with(&self, new: &[Fact]) -> bool
-        ensures known { IsTrue result → in_orders (facts_in self.now) ≡ facts_in self.now }
-        ensures new { IsTrue result → in_orders new.now ≡ new.now }
+        ensures { record {
+          known : IsTrue result → in_orders (facts_in self.now) ≡ facts_in self.now;
+          new : IsTrue result → in_orders new.now ≡ new.now;
+        } }
     {
         self.is_plain() && have_one_order(new)
     }

@@ -26,9 +26,11 @@ fn table_of(alloc: Global, facts: &[Fact]) -> Result<FactTable, AllocError>
 
 /// Whether facts of which no two are at one key are all that follows from them, where the store is the closed one of these.
 fn is_all(alloc: Global, facts: &[Fact], store: &Store) -> Result<bool, AllocError>
-    requires proper { list_all is_proper facts.now ≡ true }
-    requires apart { AreApart facts.now }
-    requires closed { IsStoreOf facts.now (stored store.now) }
+    requires { record {
+      proper : list_all is_proper facts.now ≡ true;
+      apart : AreApart facts.now;
+      closed : IsStoreOf facts.now (stored store.now);
+    } }
     ensures whole { IfOk result (λ whole. IsTrue whole ↔ AreAStore facts.now) }
 {
     let Some(known) = &store.known else {

@@ -20,8 +20,10 @@ impl Store {
     /// The closed facts that are known at the place, none where no state is there. A fact that may be turned round stands in one of its orders. The only error is
     /// want of memory.
     pub fn facts(&self, alloc: Global) -> Result<Option<Vec<Fact>>, AllocError>
-        ensures unreachable { IfOk result (λ facts. IsNone facts ↔ (stored self.now ≡ Unreachable)) }
-        ensures reached { IfOk result (λ facts. IfSome facts (λ facts. stored self.now ≡ Reached facts.items)) }
+        ensures { record {
+          unreachable : IfOk result (λ facts. IsNone facts ↔ (stored self.now ≡ Unreachable));
+          reached : IfOk result (λ facts. IfSome facts (λ facts. stored self.now ≡ Reached facts.items));
+        } }
     {
         let Some(known) = &self.known else {
             return Ok(None);

@@ -12,9 +12,11 @@ use std::process::Abort;
 /// The facts, whose numbers have to be small.
 #[tactic(auto, using(ix_systems::proofs::KnownClasses::small_classes))]
 pub fn small_facts<R: Abort>(rt: &R, alloc: Global, facts: &[Fact]) -> Result<Vec<Fact>, AllocError>
-    ensures same { IfOk result (λ known. known.items ≡ facts.now) }
-    ensures small { IfOk result (λ known. All HasSmallNumbers known.items) }
-    ensures classes { IfOk result (λ known. HaveClasses known.items) }
+    ensures { record {
+      same : IfOk result (λ known. known.items ≡ facts.now);
+      small : IfOk result (λ known. All HasSmallNumbers known.items);
+      classes : IfOk result (λ known. HaveClasses known.items);
+    } }
 {
     let mut known = Vec::new(alloc);
     for fact in facts {

@@ -17,9 +17,11 @@ pub struct FileSource<'a> {
 impl<'a> FileSource<'a> {
     /// No file is open, and nothing was read.
     pub fn new(rt: &'a HostRuntime) -> FileSource<'a>
-        ensures names { ⟦<FileSource<'a> as Source>⟧.names result ≡ [] }
-        ensures given { ⟦<FileSource<'a> as Source>⟧.given result ≡ [] }
-        ensures reads { ⟦<FileSource<'a> as Source>⟧.reads result ≡ 0 }
+        ensures { record {
+          names : ⟦<FileSource<'a> as Source>⟧.names result ≡ [];
+          given : ⟦<FileSource<'a> as Source>⟧.given result ≡ [];
+          reads : ⟦<FileSource<'a> as Source>⟧.reads result ≡ 0;
+        } }
     {
         FileSource {
             rt,

@@ -25,8 +25,10 @@ pub fn new_facts<K: Know>(
     kind: &OpKind,
 ) -> Result<Vec<Fact>, AllocError>
     requires beside { without (of_target kind.now) (K.known know.now) ≡ K.known know.now }
-    ensures facts { IfOk result (λ new. AreSame new.items (kept_new (beside_target kind.now (K.known know.now)) profile kind.now ++ kept (finished (beside_target kind.now (K.known know.now)) (kept_new (beside_target kind.now (K.known know.now)) profile kind.now) kind.now))) }
-    ensures classes { IfOk result (λ new. HaveClasses new.items) }
+    ensures { record {
+      facts : IfOk result (λ new. AreSame new.items (kept_new (beside_target kind.now (K.known know.now)) profile kind.now ++ kept (finished (beside_target kind.now (K.known know.now)) (kept_new (beside_target kind.now (K.known know.now)) profile kind.now) kind.now)));
+      classes : IfOk result (λ new. HaveClasses new.items);
+    } }
 {
     let facts = all_known(alloc, know)?;
     let list = FactList::new(alloc, facts)?;
@@ -43,8 +45,10 @@ pub fn new_facts_of_copy<K: Know>(
     source: &Path,
 ) -> Result<Vec<Fact>, AllocError>
     requires beside { without (of_path target.now) (K.known know.now) ≡ K.known know.now }
-    ensures facts { IfOk result (λ new. AreSame new.items (kept (copied (in_orders (without (of_path target.now) (K.known know.now))) ty.now target.now source.now) ++ kept (finished_by ty.now (in_orders (without (of_path target.now) (K.known know.now))) (kept (copied (in_orders (without (of_path target.now) (K.known know.now))) ty.now target.now source.now)) target.now))) }
-    ensures classes { IfOk result (λ new. HaveClasses new.items) }
+    ensures { record {
+      facts : IfOk result (λ new. AreSame new.items (kept (copied (in_orders (without (of_path target.now) (K.known know.now))) ty.now target.now source.now) ++ kept (finished_by ty.now (in_orders (without (of_path target.now) (K.known know.now))) (kept (copied (in_orders (without (of_path target.now) (K.known know.now))) ty.now target.now source.now)) target.now)));
+      classes : IfOk result (λ new. HaveClasses new.items);
+    } }
 {
     let facts = all_known(alloc, know)?;
     let list = FactList::new(alloc, facts)?;

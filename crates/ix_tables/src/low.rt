@@ -18,9 +18,11 @@ impl Low {
 
     /// The strongest class that `n` is of.
     pub fn of_number(n: i64) -> Low
-        ensures value { result ≡ class_of n }
-        ensures holds { AtLeast result n }
-        ensures strongest { (x : Low) → AtLeast x n → LowBelow result x }
+        ensures { record {
+          value : result ≡ class_of n;
+          holds : AtLeast result n;
+          strongest : (x : Low) → AtLeast x n → LowBelow result x;
+        } }
     {
         if n >= 1 {
             Low::One

@@ -58,8 +58,10 @@ fn line_starts(alloc: Global, text: &[u8]) -> Result<Vec<u32>, AllocError>
 }
 
 fn characters(bytes: &[u8]) -> usize
-    ensures value { result ≡ spec.characters bytes.now }
-    ensures within { result ≤ length bytes.now }
+    ensures { record {
+      value : result ≡ spec.characters bytes.now;
+      within : result ≤ length bytes.now;
+    } }
 {
     bytes
         .iter()
@@ -92,8 +94,10 @@ fn lines_up_to(starts: &[u32], at: u32) -> usize
 }
 
 fn characters_before(text: &[u8], counts: &[u32], at: usize) -> usize
-    requires within { at ≤ length text.now }
-    requires counted { counts.now ≡ spec.block_counts text.now }
+    requires { record {
+      within : at ≤ length text.now;
+      counted : counts.now ≡ spec.block_counts text.now;
+    } }
     ensures { result ≡ spec.characters (take at text.now) }
 {
     let block = at / BLOCK;

@@ -40,9 +40,11 @@ impl<T> List<T> {
 
     /// Adds the value at the end. After want of memory, which is the one error, the list is as it was and the error holds the value.
     pub fn push(&mut self, value: T) -> Result<(), AllocFailed<T>>
-        ensures added { OnOk result (self.new ≡ self.old ++ value ∷ []) }
-        ensures unchanged { OnErr result (self.new ≡ self.old) }
-        ensures handed_back { IfErr result (λ failed. failed.value ≡ value) }
+        ensures { record {
+          added : OnOk result (self.new ≡ self.old ++ value ∷ []);
+          unchanged : OnErr result (self.new ≡ self.old);
+          handed_back : IfErr result (λ failed. failed.value ≡ value);
+        } }
     {
         self.items.push(value)
     }

@@ -45,8 +45,10 @@ fn refusal_line(
     bytes: &[u8],
     why: CertError,
 ) -> Result<String, AllocError>
-    requires short { length bytes.now ≤ 1048576 }
-    requires why { why ≢ CertError.Memory }
+    requires { record {
+      short : length bytes.now ≤ 1048576;
+      why : why ≢ CertError.Memory;
+    } }
     ensures { IfOk result (λ line. string_bytes line ≡ spec.refusal_line cert.now bytes.now why) }
 {
     match why {

@@ -36,8 +36,10 @@ fn written_reply(
     text: Vec<u8>,
     program: &Program,
 ) -> Result<Reply, AllocError>
-    requires formed { Formed program.now }
-    requires can { CanCheck program.now }
+    requires { record {
+      formed : Formed program.now;
+      can : CanCheck program.now;
+    } }
     ensures { IfOk result (λ reply. spec.AnswersGuarded profile text.items program.now (shown reply)) }
 {
     let errors = check_program(alloc, program, profile)?;

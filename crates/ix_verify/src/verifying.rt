@@ -53,8 +53,10 @@ fn verified(
     labels: &[List<Store>],
 ) -> Result<Verified, AllocError>
     requires each { map length labels.now ≡ map loops_of program.now.methods }
-    ensures profile { IfOk result (λ verified. verified.profile ≡ profile) }
-    ensures count { IfOk result (λ verified. verified.labels ≡ labels_in program.now) }
+    ensures { record {
+      profile : IfOk result (λ verified. verified.profile ≡ profile);
+      count : IfOk result (λ verified. verified.labels ≡ labels_in program.now);
+    } }
 {
     let count = count_labels(program.methods.as_slice(), labels)?;
     let labels = as_u32(count)?;
@@ -96,8 +98,10 @@ fn judge(
 /// text; and it is accepted wherever the text is a certificate whose labels are those of a flow of each method without errors. Errors: `Form` exactly where the bytes are no certificate of the program; `Loop` with the first method and loop whose label isn't above the rounded join of what
 /// comes to the loop's head, where there is one; `Rule` with the first error, where no label fails and errors are derived; `Memory` for want of memory alone.
 pub fn verify(alloc: Global, program: &Program, text: &[u8]) -> Result<Verified, CertError>
-    requires formed { Formed program.now }
-    requires can { CanVerify program.now }
+    requires { record {
+      formed : Formed program.now;
+      can : CanVerify program.now;
+    } }
     ensures verified { IfOk result (λ verified. IsVerified program.now text.now verified) }
     ensures refused { IfErr result (λ error. IsRefused program.now text.now error) }
     ensures safe { IfOk result (λ verified. Safe program.now verified.profile) }

@@ -72,8 +72,10 @@ static GUARD: [(&str, bool); 1] = [("sums", true)];
 impl Kind {
     /// The command of this name, which is compared exactly.
     fn of(name: &str) -> Option<Kind>
-        ensures some { IfSome result (λ kind. (words : List Text) → command_of (name.now ∷ words) ≡ command_with (options_in kind) (made_in kind) words) }
-        ensures none { IfNone result ((words : List Text) → command_of (name.now ∷ words) ≡ None) }
+        ensures { record {
+          some : IfSome result (λ kind. (words : List Text) → command_of (name.now ∷ words) ≡ command_with (options_in kind) (made_in kind) words);
+          none : IfNone result ((words : List Text) → command_of (name.now ∷ words) ≡ None);
+        } }
     {
         if name == "check" {
             Some(Kind::Check)
@@ -212,8 +214,10 @@ fn made<'a>(
     kind: Kind,
     matches: &ArgMatches<'a>,
 ) -> Result<Option<Command<'a>>, AllocError>
-    ensures command { IfOk result (λ r. (q : Parsed) → Says (options_in kind) q (rows_in matches.now) → option_map shown r ≡ made_in kind q q.positionals) }
-    ensures limits { IfOk result (λ r. IfSome r (λ command. HasLimits (shown command))) }
+    ensures { record {
+      command : IfOk result (λ r. (q : Parsed) → Says (options_in kind) q (rows_in matches.now) → option_map shown r ≡ made_in kind q q.positionals);
+      limits : IfOk result (λ r. IfSome r (λ command. HasLimits (shown command)));
+    } }
 {
     match kind {
         Kind::Check => Ok(check(matches)),

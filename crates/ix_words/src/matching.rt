@@ -33,8 +33,10 @@ fn are_words_fit(words: &[String]) -> bool
 
 /// The option of that name, which takes a value or none.
 fn option<'a>(alloc: Global, name: &'a str, takes: bool) -> Arg<'a>
-    ensures rule { rule_of result ≡ raw_option (name.entry.now, takes) }
-    ensures local { result.global ≡ false }
+    ensures { record {
+      rule : rule_of result ≡ raw_option (name.entry.now, takes);
+      local : result.global ≡ false;
+    } }
 {
     let arg = Arg::new(alloc, name).long(name).action(ArgAction::Set);
     if takes { arg } else { arg.num_args(0) }

@@ -4,8 +4,10 @@ ghost use Rattle.ix_words.specs.Values as spec;
 
 /// The number of the digits, where they are decimal digits and it is at most `most`.
 fn digits(bytes: &[u8], most: u32) -> Option<u32>
-    ensures value { result ≡ spec.digits_from most 0 bytes.now }
-    ensures within { IfSome result (λ value. value ≤ most) }
+    ensures { record {
+      value : result ≡ spec.digits_from most 0 bytes.now;
+      within : IfSome result (λ value. value ≤ most);
+    } }
 {
     let mut value: u64 = 0;
     for byte in bytes {
@@ -40,11 +42,15 @@ pub(crate) fn number(word: &str, least: u32, most: u32) -> Option<u32>
 
 /// The number of an option that may be left out.
 fn number_or(word: Option<&str>, least: u32, most: u32, default: u32) -> Option<u32>
-    requires least { least ≤ default }
-    requires most { default ≤ most }
-    ensures value { result ≡ spec.number_or least most default (option_map (λ w. w.now) word.entry) }
-    ensures least { IfSome result (λ value. least ≤ value) }
-    ensures most { IfSome result (λ value. value ≤ most) }
+    requires { record {
+      least : least ≤ default;
+      most : default ≤ most;
+    } }
+    ensures { record {
+      value : result ≡ spec.number_or least most default (option_map (λ w. w.now) word.entry);
+      least : IfSome result (λ value. least ≤ value);
+      most : IfSome result (λ value. value ≤ most);
+    } }
 {
     match word {
         Some(word) => number(word, least, most),
