@@ -81,6 +81,11 @@ pub shr_bounds : (x : ℤ) (s : ℕ) → Includes (interval (int_min x (pos 0)) 
 shr_bounds (pos a) s = let less = shr_le a s in record { from = omega (arith, ints, clamps); to = omega (arith, ints, clamps) }
 shr_bounds (negsuc a) s = let less = shr_le a s in record { from = omega (arith, ints, clamps); to = omega (arith, ints, clamps) }
 
+pub shr_is_int : (m : ℤ) (s : ℕ) → IsInt m → IsInt (int_shr m s)
+shr_is_int m s p =
+    let b = shr_bounds m s in
+    record { from = omega (arith, ints, clamps, b.from, p.from); to = omega (arith, ints, clamps, b.to, p.to) }
+
 -- on a number that is not negative `>>>` is `>>`
 pub ushr_natural : (x : ℤ) (s : ℕ) → pos 0 ≤ℤ x → x ≤ℤ greatest_int → to_z w32 (of_z w32 x / 2 ^ s) ≡ int_shr x s
 ushr_natural (pos a) s from to = let less = shr_le a s in to_z_pos w32 (a / 2 ^ s) (omega (arith, ints))

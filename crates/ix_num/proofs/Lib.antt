@@ -1,4 +1,5 @@
 pub mod LowBits
+pub mod IntTests
 pub mod Ends
 pub mod Casts
 pub mod Members
@@ -7,5 +8,6 @@ pub mod QuotientsKeepOrder
 pub mod BitsWithinBounds
 pub mod RowsInclude
 pub mod ExactInts
+pub mod WideResults
 pub mod RowsAreMonotone
 pub mod OpRangeLaws

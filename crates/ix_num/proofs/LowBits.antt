@@ -35,7 +35,7 @@ wrap_high n (pos m) is sign below from = wrap_high_nat n m is (omega (arith, int
 wrap_high n (negsuc m) is sign below from = absurd sign
 
 -- `y & 31` is the low five bits
-low_five : (n : ℕ) → bit_and n 31 ≡ n % 32
+pub low_five : (n : ℕ) → bit_and n 31 ≡ n % 32
 low_five n = and_mask n 5
 
 wrap_nat : (m : ℕ) → m < 2 ^ 32 → wrap_of (pos m) ≡ to_z w32 m

@@ -1,14 +1,30 @@
 -- The members of an interval, and the intervals of all common, all enclosed, all negated and all flipped numbers.
-use Rattle.std.proofs.Common.{◌≡◌, ◌⊎◌, ◌↔◌, inl, inr, true, false, ℤ, neg_ℤ, ◌≤ℤ◌, arith}
+use Rattle.std.proofs.Common.{◌≡◌, ◌⊎◌, ◌↔◌, inl, inr, true, false, refl, ℤ, neg_ℤ, ◌≤ℤ◌, arith}
+use Rattle.std.specs.Prelude.{IsTrue, int_le}
+use Rattle.std.proofs.lemmas.Bool.{both_ways}
 use Rattle.std.specs.Int.{int_min, int_max}
 use Rattle.std.proofs.lemmas.Int.{ints, clamps, by_lt_z}
+use Rattle.ix_num.proofs.IntTests.{at_most_decides}
 use Rattle.ix_num.specs.declared.interval.Interval.{Interval}
 use Rattle.ix_num.specs.Arithmetic.{flip_of}
-use Rattle.ix_num.specs.Intervals.{Includes, IsWithin, IsEmpty, interval, normal, no_numbers, is_empty, meet_of, hull_of, neg_of, not_of}
+use Rattle.ix_num.specs.Intervals.{Includes, IsWithin, IsEmpty, interval, normal, no_numbers, is_empty, includes, meet_of, hull_of, neg_of, not_of}
 
 -- which of its two answers the test gives, and what it tells
 pub cases_empty : (i : Interval) → ((is_empty i ≡ true) × IsEmpty i) ⊎ ((is_empty i ≡ false) × (i.lo ≤ℤ i.hi))
 cases_empty i = by_lt_z i.hi i.lo (λ h. inl (grind (arith, ints), h)) (λ h. inr (grind (arith, ints), h))
+
+-- the two tests of `includes`: that of the upper end where the lower one passes, and that of the lower one
+pub includes_from : (i : Interval) (n : ℤ) → int_le i.lo n ≡ true → (int_le n i.hi ≡ includes i n) × (IsTrue (int_le n i.hi) ↔ Includes i n)
+includes_from i n low = (
+  rw low,
+  (λ h. record { from = grind (arith, ints); to = (at_most_decides n i.hi).0 h }, λ p. (at_most_decides n i.hi).1 p.to),
+)
+
+pub not_from : (i : Interval) (n : ℤ) → int_le i.lo n ≡ false → (false ≡ includes i n) × (IsTrue false ↔ Includes i n)
+not_from i n low = (
+  rw low,
+  (λ h. absurd (both_ways false refl h), λ p. absurd (both_ways _ low ((at_most_decides i.lo n).1 p.from))),
+)
 
 pub within_by_ends : (i j : Interval) → j.lo ≤ℤ i.lo → i.hi ≤ℤ j.hi → IsWithin i j
 within_by_ends i j from to = record { each = λ n p. record { from = omega (arith, ints, p.from); to = omega (arith, ints, p.to) } }
@@ -28,6 +44,22 @@ low_end i some = record { from = omega (arith, ints); to = some }
 
 pub high_end : (i : Interval) → i.lo ≤ℤ i.hi → Includes i i.hi
 high_end i some = record { from = some; to = omega (arith, ints) }
+
+pub filled : (i : Interval) → is_empty i ≡ false → i.lo ≤ℤ i.hi
+filled i some = grind (arith, ints)
+
+-- the two tests of `is_within`, at an interval that is not empty: that of the upper ends where the lower ones pass, and that of the lower ones
+pub within_if_low : (i j : Interval) → i.lo ≤ℤ i.hi → int_le j.lo i.lo ≡ true → IsTrue (int_le i.hi j.hi) ↔ IsWithin i j
+within_if_low i j some low = (
+  λ high. within_by_ends i j (grind (arith, ints)) (grind (arith, ints)),
+  λ within. let top = within.each i.hi (high_end i some) in let to = top.to in grind (arith, ints),
+)
+
+pub not_within_low : (i j : Interval) → i.lo ≤ℤ i.hi → int_le j.lo i.lo ≡ false → IsTrue (int_le j.lo i.lo) ↔ IsWithin i j
+not_within_low i j some low = (
+  λ is. absurd (both_ways _ low is),
+  λ within. let bottom = within.each i.lo (low_end i some) in let from = bottom.from in grind (arith, ints),
+)
 
 -- a member is between two members where the interval is convex: what lies between two members is one
 pub between_members : (i : Interval) (m n k : ℤ) → Includes i m → Includes i n → m ≤ℤ k → k ≤ℤ n → Includes i k

@@ -39,14 +39,23 @@ pub fn exact(op: Arith, x: i32, y: i32) -> Option<i128>
     ensures none { IsNone result ↔ DividesByZero op y }
     ensures int { IsTrue (gives_ints op) → IfSome result IsInt }
 {
+    exact_value(op, x, y)
+}
+
+/// `exact`, of which all else that its contract says are laws of `exact_of`.
+fn exact_value(op: Arith, x: i32, y: i32) -> Option<i128>
+    ensures { result ≡ exact_of op x y }
+{
+    let left = x as i128;
+    let right = y as i128;
     match op {
-        Arith::Add => Some(x as i128 + y as i128),
-        Arith::Sub => Some(x as i128 - y as i128),
-        Arith::Mul => Some(x as i128 * y as i128),
+        Arith::Add => Some(left + right),
+        Arith::Sub => Some(left - right),
+        Arith::Mul => Some(left * right),
         Arith::Div if y == 0 => None,
-        Arith::Div => Some(x as i128 / y as i128),
+        Arith::Div => Some(left / right),
         Arith::Rem if y == 0 => None,
-        Arith::Rem => Some(x as i128 % y as i128),
+        Arith::Rem => Some(left % right),
         Arith::And => Some((x & y) as i128),
         Arith::Or => Some((x | y) as i128),
         Arith::Xor => Some((x ^ y) as i128),

@@ -1,11 +1,19 @@
-use Rattle.std.proofs.Common.{◌≡◌, ◌%◌, ◌*◌, ◌^◌, bit_and, arith, ap, ◌∙◌, Some, to_z, of_z}
-use Rattle.std.specs.Int.{w32, w128}
-use Rattle.std.proofs.lemmas.Int.{ints}
-use Rattle.ix_num.proofs.LowBits.{shift_left_is}
+use Rattle.std.proofs.Common.{◌≡◌, ◌∙◌}
+use Rattle.std.specs.Int.{w32}
+use Rattle.std.proofs.lemmas.Int.{to_z-of_z}
+use Rattle.ix_num.specs.Arithmetic.{exact_of}
+use Rattle.ix_num.proofs.ExactInts.{exact_is_int}
+use Rattle.ix_num.proofs.WideResults.{int_of, exact_none}
 use Rattle.ix_num.proofs.arith.exact.Goals as goal
 
-pub returns-in-Shl-clause-value : goal.returns-in-Shl-clause-value
-returns-in-Shl-clause-value c =
-    let bits = of_z w32 c.args.x * 2 ^ bit_and (of_z w32 c.args.y) 31 % 2 ^ 32 in
-    let is : to_z w128 (of_z w128 (to_z w32 bits)) ≡ to_z w32 bits = omega (arith, ints) in
-    rw c.in-Shl.is (ap Some (is ∙ shift_left_is c.args.x (of_z w32 c.args.y) c.ranges.x))
+value : (c : goal.After-exact_value) → c.exact_value.result ≡ exact_of c.args.op c.args.x c.args.y
+value c = c.exact_value.ensures ∙ (λ i. exact_of c.args.op (to_z-of_z w32 c.args.x c.ranges.x i) (to_z-of_z w32 c.args.y c.ranges.y i))
+
+pub returns-clause-value : goal.returns-clause-value
+returns-clause-value c = value c
+
+pub returns-clause-none : goal.returns-clause-none
+returns-clause-none c = rw (value c) (exact_none c.args.op c.args.x c.args.y)
+
+pub returns-clause-int : goal.returns-clause-int
+returns-clause-int c = λ h. rw (value c) (exact_is_int c.args.op c.args.x c.args.y h (int_of _ c.ranges.x) (int_of _ c.ranges.y))

@@ -12,6 +12,9 @@ value c =
     let high : to_z w64 (of_z w64 c.min-hi.result) ≡ int_min c.args.self.hi c.args.other.hi = omega (arith, ints, clamps, c.min-hi.ensures.value) in
     c.normal.ensures ∙ (λ i. normal (same_ends low high i))
 
+pub returns-clause-value : goal.returns-clause-value
+returns-clause-value c = value c
+
 pub returns-clause-common : goal.returns-clause-common
 returns-clause-common c = rw (value c) (meet_common c.args.self c.args.other)
 
