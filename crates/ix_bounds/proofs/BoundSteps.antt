@@ -4,6 +4,7 @@ use Rattle.std.specs.Option.{option_map}
 use Rattle.std.proofs.Common.{sym, ap, subst, ◌∙◌}
 use Rattle.std.proofs.lemmas.List.Elements.{All-nil, All-cons, All-head, All-tail, All-append}
 use Rattle.ix_index.specs.Path.{Path}
+use Rattle.ix_index.specs.PathOff.{PathOff}
 use Rattle.ix_index.specs.PathOff.TheVariants.{Nothing, Plus, Minus}
 use Rattle.ix_index.specs.Fact.{Fact}
 use Rattle.ix_index.specs.Fact.TheVariants.{Rng, LenRng, Low, Same, IsLen, Less, Sum, Search, Neg, Upper}
@@ -26,6 +27,22 @@ module _ (facts : List Fact) (p : Path) (fact : Fact) where
 
   pub less_of_length : (q r a : Path) (n : Option ℤ) → fact ≡ IsLen r a → is_path r q ≡ true → n ≡ option_map (λ c. pos 0 -ℤ c) (Bounds.stored_upper facts p a Nothing) → n ≡ length_less_by facts p q fact
   less_of_length q r a n e t i = subst (λ f. n ≡ length_less_by facts p q f) (sym e) (i ∙ ap (λ x. when x (option_map (λ c. pos 0 -ℤ c) (Bounds.stored_upper facts p a Nothing))) (sym t))
+
+module _ (facts : List Fact) (p a : Path) (offset : PathOff) (r b q : Path) (c n : ℤ) where
+  pub upper_of_plus : offset ≡ Plus q → is_path r p ≡ true → Bounds.are_same facts b a ≡ true → n ≡ c +ℤ Bounds.lower_bound facts q → Some n ≡ Bounds.upper_by facts p a Nothing (Upper r b offset c)
+  upper_of_plus e here same i = rw (e, here, same) (ap Some i)
+
+  pub upper_of_minus : offset ≡ Minus q → is_path r p ≡ true → Bounds.are_same facts b a ≡ true → n ≡ c -ℤ Bounds.upper_limit facts q → Some n ≡ Bounds.upper_by facts p a Nothing (Upper r b offset c)
+  upper_of_minus e here same i = rw (e, here, same) (ap Some i)
+
+pub less_of_fact : (p q : Path) (fact : Fact) (r s : Path) (c n : ℤ) → fact ≡ Less r s c → is_path r p ≡ true → is_path s q ≡ true → n ≡ c → Some n ≡ Bounds.fact_less_by p q fact
+less_of_fact p q fact r s c n e here there i = rw (e, here, there) (ap Some i)
+
+pub stored_of_upper : (facts : List Fact) (p a : Path) (offset : PathOff) (fact : Fact) (r b : Path) (x : PathOff) (c n : ℤ) → fact ≡ Upper r b x c → is_path r p ≡ true → Bounds.is_offset x offset ≡ true → Bounds.are_same facts b a ≡ true → n ≡ c → Some n ≡ Bounds.stored_upper_by facts p a offset fact
+stored_of_upper facts p a offset fact r b x c n e here at same i = rw (e, here, at, same) (ap Some i)
+
+pub low_of_class : (p : Path) (fact : Fact) (q : Path) (c n : ℤ) → fact ≡ Low q c → is_path q p ≡ true → n ≡ c → Some n ≡ Bounds.range_low_by p fact
+low_of_class p fact q c n e here i = rw (e, here) (ap Some i)
 
 -- the ends of ranges are small in each order of a fact
 pub one_small : (f : Fact) → HasSmallNumbers f → All HasSmallNumbers (f ∷ [])

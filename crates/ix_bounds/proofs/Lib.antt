@@ -1,3 +1,4 @@
+pub mod BoundedNumbers
 pub mod Looks
 pub mod OnPath
 pub mod PartsAlone

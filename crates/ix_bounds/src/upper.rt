@@ -2,6 +2,8 @@
 
 ghost use Rattle.std.specs.Prelude.{◌≡◌, IfSome, ◌+ℤ◌, ◌-ℤ◌};
 ghost use Rattle.std.specs.Option.{option_map};
+ghost use Rattle.ix_index.specs.PathOff.TheVariants.{Nothing};
+ghost use Rattle.ix_index.specs.Fact.TheVariants.{Upper};
 ghost use Rattle.ix_index.specs.Bounds as spec;
 ghost use Rattle.ix_index.specs.Small.{IsLimit, IsBound};
 
@@ -14,36 +16,51 @@ use crate::shifted::shifted_upper;
 use crate::stored::{stored_less, stored_upper};
 use ix_index::{Fact, Path, PathOff, greater, is_same_path};
 
+/// A stored bound of r and b at an offset, as one of the int and the array without.
+fn without_offset<G: Groups>(
+    facts: &G,
+    p: &Path,
+    a: &Path,
+    r: &Path,
+    b: &Path,
+    offset: &PathOff,
+    c: i32,
+) -> Option<i64>
+    ensures { record {
+      bound : result ≡ spec.upper_by (G.all facts.now) p.now a.now Nothing (Upper r.now b.now offset.now c);
+      small : IfSome result IsBound;
+    } }
+{
+    match offset {
+        PathOff::Plus(q) if is_same_path(r, p) && are_same(facts, b, a) => {
+            Some(c as i64 + lower_bound(facts, q))
+        }
+        PathOff::Minus(q) if is_same_path(r, p) && are_same(facts, b, a) => {
+            Some(c as i64 - upper_limit(facts, q))
+        }
+        _ => None,
+    }
+}
+
 /// A bound at an offset as one without, and the bound of a sum as one of its parts.
 fn upper_by<G: Groups>(facts: &G, p: &Path, a: &Path, offset: &PathOff, fact: &Fact) -> Option<i64>
-    ensures bound { result ≡ spec.upper_by (G.all facts.now) p.now a.now offset.now fact.now }
-    ensures small { IfSome result IsBound }
+    ensures { record {
+      bound : result ≡ spec.upper_by (G.all facts.now) p.now a.now offset.now fact.now;
+      small : IfSome result IsBound;
+    } }
 {
-    match (*fact, *offset) {
-        (Fact::Upper(r, b, PathOff::Plus(q), c), PathOff::Nothing) => {
-            if is_same_path(&r, p) && are_same(facts, &b, a) {
-                Some(c as i64 + lower_bound(facts, &q))
-            } else {
-                None
-            }
-        }
-        (Fact::Upper(r, b, PathOff::Minus(q), c), PathOff::Nothing) => {
-            if is_same_path(&r, p) && are_same(facts, &b, a) {
-                Some(c as i64 - upper_limit(facts, &q))
-            } else {
-                None
-            }
-        }
+    match (fact, offset) {
+        (Fact::Upper(r, b, x, c), PathOff::Nothing) => without_offset(facts, p, a, r, b, x, *c),
         (Fact::Sum(t, y, z), PathOff::Plus(q)) => {
-            if is_same_path(&y, p) && is_same_path(&z, &q) {
-                stored_upper(facts, &t, a, &PathOff::Nothing)
+            if is_same_path(y, p) && is_same_path(z, q) {
+                stored_upper(facts, t, a, &PathOff::Nothing)
             } else {
                 None
             }
         }
         (Fact::Sum(t, y, z), PathOff::Minus(q)) => {
-            if is_same_path(&t, p) && is_same_path(&z, &q) {
-                stored_upper(facts, &y, a, &PathOff::Nothing)
+            if is_same_path(t, p) && is_same_path(z, q) {
+                stored_upper(facts, y, a, &PathOff::Nothing)
             } else {
                 None
             }

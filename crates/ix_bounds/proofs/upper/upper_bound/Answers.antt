@@ -1,4 +1,5 @@
 use Rattle.std.proofs.Common.{ap, ◌∙◌}
+use Rattle.std.specs.Int.{int_max}
 use Rattle.ix_index.specs.Bounds as spec
 use Rattle.ix_bounds.proofs.OnPath.{upper_is}
 use Rattle.ix_bounds.proofs.upper.upper_bound.Goals as goal
@@ -11,7 +12,5 @@ returns-clause-bound g c =
     let o = c.args.offset.now in
     let all = g.G.Groups.all f in
     let others = c.greatest_upper_by-others.ensures.bound ∙ (ap (λ l. spec.greatest (spec.upper_by all p a o) l) c.on_path.ensures.facts ∙ upper_is (g.G.Groups.group f p) all p a o (g.met.G.Groups.named f p)) in
-    let ends = c.upper_from_ends-ends.ensures.bound in
-    let stored = c.shifted_upper.ensures.bound in
-    let first = c.greater-2.ensures in
-    cc
+    let rest = c.greater.ensures ∙ (λ i. spec.best int_max (c.upper_from_ends-ends.ensures.bound i) (others i)) in
+    c.greater-2.ensures ∙ (λ i. spec.best int_max (c.shifted_upper.ensures.bound i) (rest i))

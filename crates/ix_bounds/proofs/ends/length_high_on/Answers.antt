@@ -1,0 +1,13 @@
+use Rattle.ix_index.specs.Bounds as spec
+use Rattle.ix_bounds.proofs.BoundedNumbers.{end_kept, at_most_end, at_most_step}
+use Rattle.ix_bounds.proofs.ends.length_high_on.Goals as goal
+
+pub loop-fact-preserved : goal.loop-fact-preserved
+loop-fact-preserved c =
+    let better = c.at_most-bound.ensures in
+    let small = at_most_end _ c.at_most-bound.result _ c.loop-fact.invariant.small c.length_high_by.ensures.small better in
+    let kept = end_kept c.at_most-bound.result small in
+    record {
+      bound = rw kept (at_most_step (spec.length_high_by c.args.p.now) c.args.on_p.now c.loop-fact.fact-index _ _ c.at_most-bound.result _ _ c.loop-fact-test.true c.length_high_by.ensures.bound better c.loop-fact.invariant.bound);
+      small = rw kept small;
+    }

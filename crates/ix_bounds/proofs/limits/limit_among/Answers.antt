@@ -1,0 +1,13 @@
+use Rattle.ix_index.specs.Bounds as spec
+use Rattle.ix_bounds.proofs.BoundedNumbers.{limit_kept, at_most_limit, at_most_step}
+use Rattle.ix_bounds.proofs.limits.limit_among.Goals as goal
+
+pub loop-fact-preserved : goal.loop-fact-preserved
+loop-fact-preserved g c =
+    let better = c.at_most-bound.ensures in
+    let small = at_most_limit _ c.at_most-bound.result _ c.loop-fact.invariant.small c.limit_by.ensures.small better in
+    let kept = limit_kept c.at_most-bound.result small in
+    record {
+      bound = rw kept (at_most_step (spec.limit_by (g.G.Groups.all c.args.facts.now) c.args.p.now) c.args.on_p.now c.loop-fact.fact-index _ _ c.at_most-bound.result _ _ c.loop-fact-test.true c.limit_by.ensures.bound better c.loop-fact.invariant.bound);
+      small = rw kept small;
+    }

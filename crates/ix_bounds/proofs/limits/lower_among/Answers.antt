@@ -1,0 +1,13 @@
+use Rattle.ix_index.specs.Bounds as spec
+use Rattle.ix_bounds.proofs.BoundedNumbers.{limit_kept, at_least_limit, at_least_step}
+use Rattle.ix_bounds.proofs.limits.lower_among.Goals as goal
+
+pub loop-fact-preserved : goal.loop-fact-preserved
+loop-fact-preserved g c =
+    let better = c.at_least-bound.ensures in
+    let small = at_least_limit _ c.at_least-bound.result _ c.loop-fact.invariant.small c.lower_by.ensures.small better in
+    let kept = limit_kept c.at_least-bound.result small in
+    record {
+      bound = rw kept (at_least_step (spec.lower_by (g.G.Groups.all c.args.facts.now) c.args.p.now) c.args.on_p.now c.loop-fact.fact-index _ _ c.at_least-bound.result _ _ c.loop-fact-test.true c.lower_by.ensures.bound better c.loop-fact.invariant.bound);
+      small = rw kept small;
+    }
