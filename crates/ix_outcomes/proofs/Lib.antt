@@ -1,3 +1,5 @@
+mod IntSums
+mod Walks
 mod PathsRead
 mod OverAll
 mod ReadFacts

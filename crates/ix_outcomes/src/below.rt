@@ -1,11 +1,8 @@
 //! What `p < q + k` gives.
 
-ghost use Rattle.std.specs.Prelude.{◌≡◌, ◌++◌, filter, IfOk, OnOk};
-ghost use Rattle.ix_facts.specs.Bounds as spec;
+ghost use Rattle.std.specs.Prelude.{◌≡◌, ◌++◌, IfOk, OnOk};
 ghost use Rattle.ix_facts.specs.Closure.{kept};
 ghost use Rattle.ix_facts.specs.Facts.{in_orders};
-ghost use Rattle.ix_facts.specs.Exact.{each};
-ghost use Rattle.ix_facts.specs.AfterTest.{below_by, above_by};
 ghost use Rattle.ix_outcomes.specs.OverGroups as over;
 
 use crate::bounds::push_bounds;
@@ -19,32 +16,6 @@ use ix_core::{Fact, Path};
 use ix_index::Indexed;
 use std::alloc::{AllocError, Global};
 
-fn push_low_side<K: Indexed>(
-    out: &mut Vec<Fact>,
-    know: &K,
-    p: &Path,
-    below: &[Fact],
-    q: &Path,
-    k: &i32,
-) -> Result<(), AllocError>
-    ensures { OnOk result (out.new.items ≡ out.old.items ++ kept (each (below_by (over.range_to (spec.upper_limit (in_orders (K.known know.now)) q.now) k.now) p.now) below.now)) }
-{
-    push_ranges_to(out, &know.hi(q), k, p, below)
-}
-
-fn push_high_side<K: Indexed>(
-    out: &mut Vec<Fact>,
-    know: &K,
-    p: &Path,
-    q: &Path,
-    above: &[Fact],
-    k: &i32,
-) -> Result<(), AllocError>
-    ensures { OnOk result (out.new.items ≡ out.old.items ++ kept (each (above_by (over.range_from (spec.lower_bound (in_orders (K.known know.now)) p.now) k.now) q.now) above.now)) }
-{
-    push_ranges_from(out, &know.lo(p), k, q, above)
-}
-
 fn new_ranges<K: Indexed>(
     alloc: Global,
     know: &K,
@@ -57,8 +28,8 @@ fn new_ranges<K: Indexed>(
     ensures { IfOk result (λ ranges. ranges.items ≡ kept (over.ranges_in_turn below.now above.now p.now q.now k.now (in_orders (K.known know.now)))) }
 {
     let mut ranges = Vec::with_capacity(alloc, below.len().saturating_add(above.len()))?;
-    push_low_side(&mut ranges, know, p, below, q, k)?;
-    push_high_side(&mut ranges, know, p, q, above, k)?;
+    push_ranges_to(&mut ranges, &know.hi(q), k, p, below)?;
+    push_ranges_from(&mut ranges, &know.lo(p), k, q, above)?;
     Ok(ranges)
 }
 
@@ -83,20 +54,6 @@ fn push_all(out: &mut Vec<Fact>, facts: &[Fact]) -> Result<(), AllocError>
     out.extend_from_slice(facts)
 }
 
-/// Those of the facts on p that are read.
-fn read_on_p<K: Indexed>(alloc: Global, know: &K, p: &Path) -> Result<Vec<Fact>, AllocError>
-    ensures { IfOk result (λ read. read.items ≡ filter (over.is_read_below p.now) (K.on_path know.now p.now)) }
-{
-    read_below(alloc, p, know.on(p))
-}
-
-/// And of those on q.
-fn read_on_q<K: Indexed>(alloc: Global, know: &K, q: &Path) -> Result<Vec<Fact>, AllocError>
-    ensures { IfOk result (λ read. read.items ≡ filter (over.is_read_above q.now) (K.on_path know.now q.now)) }
-{
-    read_above(alloc, q, know.on(q))
-}
-
 /// What `p < q + k` gives, by the facts that are read.
 fn push_read<K: Indexed>(
     alloc: Global,
@@ -119,8 +76,7 @@ fn push_read<K: Indexed>(
     push_all(out, &bounds)?;
     push_lengths(out, p, on_p, &ranges)?;
     push_lengths(out, q, on_q, &ranges)?;
-    push_parts(out, p, on_p, &bounds)?;
-    Ok(())
+    push_parts(out, p, on_p, &bounds)
 }
 
 /// The ranges, differences, bounds, lengths and parts that `p < q + k` gives.
@@ -134,8 +90,7 @@ pub(crate) fn push_below<K: Indexed>(
 ) -> Result<(), AllocError>
     ensures { OnOk result (out.new.items ≡ out.old.items ++ over.below_facts (in_orders (K.known know.now)) (K.on_path know.now) p.now q.now k.now) }
 {
-    let on_p = read_on_p(alloc, know, p)?;
-    let on_q = read_on_q(alloc, know, q)?;
-    push_read(alloc, out, know, p, &on_p, q, &on_q, k)?;
-    Ok(())
+    let on_p = read_below(alloc, p, know.on(p))?;
+    let on_q = read_above(alloc, q, know.on(q))?;
+    push_read(alloc, out, know, p, &on_p, q, &on_q, k)
 }

@@ -11,8 +11,8 @@ use ix_exact::push_upper_if;
 use ix_facts::is_same_path;
 use std::alloc::AllocError;
 
-/// By how much r is at most greater than q, where `r < p + c` and `p < q + k`.
-fn apart(k: &i32, c: &i32) -> i64
+/// By how much r is at most greater than q, where `r < p + c` and `p < q + k`: each says that an int is at most one less.
+pub(crate) fn apart(k: &i32, c: &i32) -> i64
     ensures { record {
       value : result ≡ c.now +ℤ k.now -ℤ pos 2;
       small : IsLimit result;
@@ -81,24 +81,6 @@ fn push_bounds_moved(
     Ok(())
 }
 
-fn push_bounds_moved_if(
-    out: &mut Vec<Fact>,
-    test: bool,
-    r: &Path,
-    k: &i32,
-    c: &i32,
-    q: &Path,
-    on_q: &[Fact],
-) -> Result<(), AllocError>
-    ensures { OnOk result (out.new.items ≡ out.old.items ++ kept (if_so test (each (bound_moved r.now (c.now +ℤ k.now -ℤ pos 2) q.now) on_q.now))) }
-{
-    if test {
-        push_bounds_moved(out, r, k, c, q, on_q)
-    } else {
-        Ok(())
-    }
-}
-
 fn push_bounds_by(
     out: &mut Vec<Fact>,
     k: &i32,
@@ -110,7 +92,7 @@ fn push_bounds_by(
     ensures { OnOk result (out.new.items ≡ out.old.items ++ kept (below_by (λ r c. each (bound_moved r (c +ℤ k.now -ℤ pos 2) q.now) on_q.now) p.now fact.now)) }
 {
     match fact {
-        Fact::Less(r, x, c) => push_bounds_moved_if(out, is_same_path(x, p), r, k, c, q, on_q),
+        Fact::Less(r, x, c) if is_same_path(x, p) => push_bounds_moved(out, r, k, c, q, on_q),
         _ => Ok(()),
     }
 }

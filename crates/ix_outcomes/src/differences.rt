@@ -6,6 +6,7 @@ ghost use Rattle.ix_facts.specs.Exact.{if_so, each};
 ghost use Rattle.ix_facts.specs.AfterTest.{below_by, above_by};
 ghost use Rattle.ix_outcomes.specs.OverGroups.{between, differences_in_turn};
 
+use crate::bounds::apart;
 use ix_core::{Fact, Path};
 use ix_exact::push_less_if;
 use ix_facts::is_same_path;
@@ -15,7 +16,7 @@ use std::alloc::AllocError;
 fn joined(c: &i32, k: &i32, d: &i32) -> i64
     ensures value { result ≡ c.now +ℤ k.now +ℤ d.now -ℤ pos 2 }
 {
-    *c as i64 + *k as i64 + *d as i64 - 2
+    apart(k, c) + *d as i64
 }
 
 fn push_between(
@@ -31,24 +32,6 @@ fn push_between(
     push_less_if(out, !is_same_path(r, s), r, s, joined(c, k, d))
 }
 
-fn push_between_if(
-    out: &mut Vec<Fact>,
-    test: bool,
-    k: &i32,
-    r: &Path,
-    c: &i32,
-    s: &Path,
-    d: &i32,
-) -> Result<(), AllocError>
-    ensures { OnOk result (out.new.items ≡ out.old.items ++ kept (if_so test (between k.now r.now c.now s.now d.now))) }
-{
-    if test {
-        push_between(out, k, r, c, s, d)
-    } else {
-        Ok(())
-    }
-}
-
 fn push_between_by(
     out: &mut Vec<Fact>,
     k: &i32,
@@ -60,7 +43,7 @@ fn push_between_by(
     ensures { OnOk result (out.new.items ≡ out.old.items ++ kept (above_by (between k.now r.now c.now) q.now fact.now)) }
 {
     match fact {
-        Fact::Less(x, s, d) => push_between_if(out, is_same_path(x, q), k, r, c, s, d),
+        Fact::Less(x, s, d) if is_same_path(x, q) => push_between(out, k, r, c, s, d),
         _ => Ok(()),
     }
 }
@@ -82,24 +65,6 @@ fn push_from(
     Ok(())
 }
 
-fn push_from_if(
-    out: &mut Vec<Fact>,
-    test: bool,
-    k: &i32,
-    q: &Path,
-    above: &[Fact],
-    r: &Path,
-    c: &i32,
-) -> Result<(), AllocError>
-    ensures { OnOk result (out.new.items ≡ out.old.items ++ kept (if_so test (each (above_by (between k.now r.now c.now) q.now) above.now))) }
-{
-    if test {
-        push_from(out, k, q, above, r, c)
-    } else {
-        Ok(())
-    }
-}
-
 fn push_from_by(
     out: &mut Vec<Fact>,
     k: &i32,
@@ -111,7 +76,7 @@ fn push_from_by(
     ensures { OnOk result (out.new.items ≡ out.old.items ++ kept (below_by (λ r c. each (above_by (between k.now r c) q.now) above.now) p.now fact.now)) }
 {
     match fact {
-        Fact::Less(r, x, c) => push_from_if(out, is_same_path(x, p), k, q, above, r, c),
+        Fact::Less(r, x, c) if is_same_path(x, p) => push_from(out, k, q, above, r, c),
         _ => Ok(()),
     }
 }

@@ -1,6 +1,6 @@
 //! The new facts of an outcome.
 
-ghost use Rattle.std.specs.Prelude.{◌≡◌, ◌++◌, [], pos, int_le, IfOk, OnOk};
+ghost use Rattle.std.specs.Prelude.{◌≡◌, ◌++◌, pos, int_le, IfOk, OnOk};
 ghost use Rattle.ix_facts.specs.Bounds as spec;
 ghost use Rattle.ix_facts.specs.Closure.{kept};
 ghost use Rattle.ix_facts.specs.Exact.{if_so, each};
@@ -72,13 +72,6 @@ fn push_outcome<K: Indexed>(
     }
 }
 
-/// No facts, and room for as many as most outcomes give.
-fn room(alloc: Global) -> Result<Vec<Fact>, AllocError>
-    ensures { IfOk result (λ facts. facts.items ≡ []) }
-{
-    Vec::with_capacity(alloc, 64)
-}
-
 /// The new facts of an outcome by what is known: ranges, differences, bounds, lengths and parts of `p < q + k`; of ints that differ those of `p < q` where p is
 /// known to be at most q; of equal ints what the one's stored lengths and searches say of the other; of two arrays that they have the same length. The only
 /// error is want of memory.
@@ -89,7 +82,8 @@ pub fn facts_of_outcome<K: Indexed>(
 ) -> Result<Vec<Fact>, AllocError>
     ensures facts { IfOk result (λ new. AreSame new.items (kept (rule.outcome_facts (in_orders (K.known know.now)) (over.outcome_of outcome.now)))) }
 {
-    let mut new = room(alloc)?;
+    // There is room for as many as most outcomes give.
+    let mut new = Vec::with_capacity(alloc, 64)?;
     push_outcome(alloc, &mut new, know, outcome)?;
     Ok(new)
 }

@@ -43,23 +43,6 @@ fn push_parts_of(
     Ok(())
 }
 
-fn push_parts_if(
-    out: &mut Vec<Fact>,
-    test: bool,
-    p: &Path,
-    on_p: &[Fact],
-    a: &Path,
-    e: &i32,
-) -> Result<(), AllocError>
-    ensures { OnOk result (out.new.items ≡ out.old.items ++ kept (if_so test (each (part_of p.now a.now e.now) on_p.now))) }
-{
-    if test {
-        push_parts_of(out, p, on_p, a, e)
-    } else {
-        Ok(())
-    }
-}
-
 /// Of a bound at an offset there is none.
 fn push_parts_at(
     out: &mut Vec<Fact>,
@@ -73,7 +56,7 @@ fn push_parts_at(
     ensures { OnOk result (out.new.items ≡ out.old.items ++ kept (parts_by p.now on_p.now (Upper x.now a.now offset.now e.now))) }
 {
     match offset {
-        PathOff::Nothing => push_parts_if(out, is_same_path(x, p), p, on_p, a, e),
+        PathOff::Nothing if is_same_path(x, p) => push_parts_of(out, p, on_p, a, e),
         _ => Ok(()),
     }
 }

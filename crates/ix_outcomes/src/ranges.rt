@@ -5,31 +5,22 @@ ghost use Rattle.ix_core.specs.declared.fact.Fact.TheVariants.{Rng};
 ghost use Rattle.ix_facts.specs.Closure.{kept};
 ghost use Rattle.ix_facts.specs.Exact.{if_so, each};
 ghost use Rattle.ix_facts.specs.Bounds.{is_path};
-ghost use Rattle.ix_facts.specs.Small.{IsLimit, IsBound};
+ghost use Rattle.ix_facts.specs.Small.{IsBound};
 ghost use Rattle.ix_facts.specs.AfterTest.{below_by, above_by};
 ghost use Rattle.ix_outcomes.specs.OverGroups.{range_to, range_from};
 
+use crate::bounds::apart;
 use ix_core::{Fact, Path};
-use ix_exact::push_fact;
+use ix_exact::push_if;
 use ix_facts::is_same_path;
 use std::alloc::AllocError;
-
-/// The sum of two constants of differences, less 2: each says that an int is at most one less.
-fn together(k: &i32, c: &i32) -> i64
-    ensures { record {
-      value : result ≡ k.now +ℤ c.now -ℤ pos 2;
-      small : IsLimit result;
-    } }
-{
-    *k as i64 + *c as i64 - 2
-}
 
 /// What is below `p + c` is at most this, where `p < q + k` and q is at most the limit.
 fn greatest_below(limit: &i64, k: &i32, c: &i32) -> i64
     requires limit { IsBound limit.now }
     ensures value { result ≡ limit.now +ℤ k.now +ℤ c.now -ℤ pos 2 }
 {
-    *limit + together(k, c)
+    *limit + apart(k, c)
 }
 
 /// What q is below with the constant d is at least this, where `p < q + k` and p is at least the bound.
@@ -37,44 +28,7 @@ fn least_above(bound: &i64, k: &i32, d: &i32) -> i64
     requires bound { IsBound bound.now }
     ensures value { result ≡ bound.now -ℤ k.now -ℤ d.now +ℤ pos 2 }
 {
-    *bound - together(k, d)
-}
-
-fn push_rng(out: &mut Vec<Fact>, p: &Path, low: i64, high: i64) -> Result<(), AllocError>
-    ensures { OnOk result (out.new.items ≡ out.old.items ++ kept (Rng p.now low high ∷ [])) }
-{
-    push_fact(out, Fact::Rng(*p, low, high))
-}
-
-fn push_range_to(
-    out: &mut Vec<Fact>,
-    limit: &i64,
-    k: &i32,
-    r: &Path,
-    c: &i32,
-) -> Result<(), AllocError>
-    requires limit { IsBound limit.now }
-    ensures { OnOk result (out.new.items ≡ out.old.items ++ kept (range_to limit.now k.now r.now c.now)) }
-{
-    push_rng(out, r, -2147483648, greatest_below(limit, k, c))
-}
-
-fn push_range_to_if(
-    out: &mut Vec<Fact>,
-    test: bool,
-    limit: &i64,
-    k: &i32,
-    r: &Path,
-    c: &i32,
-) -> Result<(), AllocError>
-    requires limit { IsBound limit.now }
-    ensures { OnOk result (out.new.items ≡ out.old.items ++ kept (if_so test (range_to limit.now k.now r.now c.now))) }
-{
-    if test {
-        push_range_to(out, limit, k, r, c)
-    } else {
-        Ok(())
-    }
+    *bound - apart(k, d)
 }
 
 fn push_range_to_by(
@@ -88,7 +42,10 @@ fn push_range_to_by(
     ensures { OnOk result (out.new.items ≡ out.old.items ++ kept (below_by (range_to limit.now k.now) p.now fact.now)) }
 {
     match fact {
-        Fact::Less(r, x, c) => push_range_to_if(out, is_same_path(x, p), limit, k, r, c),
+        Fact::Less(r, x, c) => {
+            let range = Fact::Rng(*r, -2147483648, greatest_below(limit, k, c));
+            push_if(out, is_same_path(x, p), range)
+        }
         _ => Ok(()),
     }
 }
@@ -110,37 +67,6 @@ pub(crate) fn push_ranges_to(
     Ok(())
 }
 
-fn push_range_from(
-    out: &mut Vec<Fact>,
-    bound: &i64,
-    k: &i32,
-    s: &Path,
-    d: &i32,
-) -> Result<(), AllocError>
-    requires bound { IsBound bound.now }
-    ensures { OnOk result (out.new.items ≡ out.old.items ++ kept (range_from bound.now k.now s.now d.now)) }
-{
-    push_rng(out, s, least_above(bound, k, d), 2147483647)
-}
-
-fn push_range_from_if(
-    out: &mut Vec<Fact>,
-    test: bool,
-    bound: &i64,
-    k: &i32,
-    s: &Path,
-    d: &i32,
-) -> Result<(), AllocError>
-    requires bound { IsBound bound.now }
-    ensures { OnOk result (out.new.items ≡ out.old.items ++ kept (if_so test (range_from bound.now k.now s.now d.now))) }
-{
-    if test {
-        push_range_from(out, bound, k, s, d)
-    } else {
-        Ok(())
-    }
-}
-
 fn push_range_from_by(
     out: &mut Vec<Fact>,
     bound: &i64,
@@ -152,7 +78,10 @@ fn push_range_from_by(
     ensures { OnOk result (out.new.items ≡ out.old.items ++ kept (above_by (range_from bound.now k.now) q.now fact.now)) }
 {
     match fact {
-        Fact::Less(x, s, d) => push_range_from_if(out, is_same_path(x, q), bound, k, s, d),
+        Fact::Less(x, s, d) => {
+            let range = Fact::Rng(*s, least_above(bound, k, d), 2147483647);
+            push_if(out, is_same_path(x, q), range)
+        }
         _ => Ok(()),
     }
 }

@@ -5,6 +5,7 @@ ghost use Rattle.std.specs.Prelude.{◌≡◌, filter, IfOk};
 ghost use Rattle.ix_outcomes.specs.OverGroups as over;
 
 use ix_core::{Fact, Path};
+use ix_exact::push_if;
 use ix_facts::is_same_path;
 use std::alloc::{AllocError, Global};
 
@@ -41,9 +42,7 @@ pub(crate) fn read_below(alloc: Global, p: &Path, on_p: &[Fact]) -> Result<Vec<F
 {
     let mut read = Vec::with_capacity(alloc, ROOM)?;
     for fact in on_p {
-        if is_read_below(p, fact) {
-            read.push(*fact)?;
-        }
+        push_if(&mut read, is_read_below(p, fact), *fact)?;
     }
     Ok(read)
 }
@@ -54,9 +53,7 @@ pub(crate) fn read_above(alloc: Global, q: &Path, on_q: &[Fact]) -> Result<Vec<F
 {
     let mut read = Vec::with_capacity(alloc, ROOM)?;
     for fact in on_q {
-        if is_read_above(q, fact) {
-            read.push(*fact)?;
-        }
+        push_if(&mut read, is_read_above(q, fact), *fact)?;
     }
     Ok(read)
 }

@@ -27,20 +27,21 @@ fn opposite(rel: Rel) -> Rel
 fn of_ints(alloc: Global, rel: Rel, y: Path, z: Path) -> Result<Vec<Outcome>, AllocError>
     ensures { IfOk result (λ told. outcomes_of told.items ≡ rule.int_outcomes rel y z) }
 {
-    let mut told = Vec::new(alloc);
+    // There is room for the most that a comparison tells.
+    let mut told = Vec::with_capacity(alloc, 3)?;
     match rel {
-        Rel::Lt => told.push(Outcome::Below(y, z, 0))?,
-        Rel::Le => told.push(Outcome::Below(y, z, 1))?,
-        Rel::Gt => told.push(Outcome::Below(z, y, 0))?,
-        Rel::Ge => told.push(Outcome::Below(z, y, 1))?,
+        Rel::Lt => told.push_reserved(Outcome::Below(y, z, 0)),
+        Rel::Le => told.push_reserved(Outcome::Below(y, z, 1)),
+        Rel::Gt => told.push_reserved(Outcome::Below(z, y, 0)),
+        Rel::Ge => told.push_reserved(Outcome::Below(z, y, 1)),
         Rel::Eq => {
-            told.push(Outcome::Below(y, z, 1))?;
-            told.push(Outcome::Below(z, y, 1))?;
-            told.push(Outcome::Equal(y, z))?;
+            told.push_reserved(Outcome::Below(y, z, 1));
+            told.push_reserved(Outcome::Below(z, y, 1));
+            told.push_reserved(Outcome::Equal(y, z));
         }
         Rel::Ne => {
-            told.push(Outcome::Apart(y, z))?;
-            told.push(Outcome::Apart(z, y))?;
+            told.push_reserved(Outcome::Apart(y, z));
+            told.push_reserved(Outcome::Apart(z, y));
         }
     }
     Ok(told)

@@ -1,4 +1,5 @@
 use Rattle.std.proofs.Common.{◌++◌, ap, ◌∙◌}
+use Rattle.std.proofs.lemmas.Result.{on_ok_weaker}
 use Rattle.ix_facts.specs.Closure.{kept}
 use Rattle.ix_facts.specs.Exact.{each}
 use Rattle.ix_facts.specs.Facts.{in_orders}
@@ -20,7 +21,7 @@ returns g c =
     let ranges = c.in_ok-ranges.ensures ∙ ranges_by facts p q k _ _ below above (c.deref.ensures.value ∙ c.in_ok-below.ensures) (c.deref-2.ensures.value ∙ c.in_ok-above.ensures) in
     let differences = differences_by p q k _ _ below above (c.deref-4.ensures.value ∙ c.in_ok-below.ensures) (c.deref-5.ensures.value ∙ c.in_ok-above.ensures) in
     let bounds = c.in_ok-bounds.ensures in
-    six c.args.out.now.items c.push_all.new.out.items c.push_differences.new.out.items c.push_all-2.new.out.items c.push_lengths.new.out.items c.push_lengths-2.new.out.items c.push_parts.new.out.items
+    on_ok_weaker c.push_parts.result (λ parts. six c.args.out.now.items c.push_all.new.out.items c.push_differences.new.out.items c.push_all-2.new.out.items c.push_lengths.new.out.items c.push_lengths-2.new.out.items c.push_parts.new.out.items
     (over.ordered_ranges facts on_p on_q p q k) (kept (over.differences_in_turn below above p q k)) (kept (over.bound_part on_p on_q p q k)) (kept (over.length_by on_p (over.ordered_ranges facts on_p on_q p q k) p))
     (kept (over.length_by on_q (over.ordered_ranges facts on_p on_q p q k) q)) (kept (each (over.parts_by p on_p) (kept (over.bound_part on_p on_q p q k))))
     (c.in_ok-push_all.ensures ∙ ap (λ l. c.args.out.now.items ++ l) (c.deref-3.ensures.value ∙ ranges))
@@ -28,4 +29,4 @@ returns g c =
     (c.in_ok-push_all-2.ensures ∙ ap (λ l. c.push_differences.new.out.items ++ l) (c.deref-6.ensures.value ∙ bounds))
     (c.in_ok-push_lengths.ensures ∙ ap (λ l. c.push_all-2.new.out.items ++ kept (over.length_by on_p l p)) (c.deref-7.ensures.value ∙ ranges))
     (c.in_ok-push_lengths-2.ensures ∙ ap (λ l. c.push_lengths.new.out.items ++ kept (over.length_by on_q l q)) (c.deref-8.ensures.value ∙ ranges))
-    (c.in_ok-push_parts.ensures ∙ ap (λ l. c.push_lengths-2.new.out.items ++ kept (each (over.parts_by p on_p) l)) (c.deref-9.ensures.value ∙ bounds))
+    (parts ∙ ap (λ l. c.push_lengths-2.new.out.items ++ kept (each (over.parts_by p on_p) l)) (c.deref-9.ensures.value ∙ bounds))) c.push_parts.ensures
