@@ -3,7 +3,6 @@
 ghost use Rattle.std.specs.Prelude.{◌≡◌, ◌++◌, [], OnOk, pos};
 ghost use Rattle.ix_facts.specs.Closure.{kept};
 ghost use Rattle.ix_facts.specs.Exact as exact;
-ghost use Rattle.ix_facts.specs.Exact.{if_so};
 ghost use Rattle.ix_facts.specs.Facts.{in_orders};
 ghost use Rattle.ix_facts.specs.AfterOperation as after;
 ghost use Rattle.ix_exact.specs.OverPaths.{exact_range};
@@ -28,61 +27,6 @@ fn push_result(
 {
     push_range(out, t, i)?;
     push_low(out, profile, t, i, table)
-}
-
-fn push_sum_if<K: Know>(
-    out: &mut Vec<Fact>,
-    know: &K,
-    on_left: &[Fact],
-    on_right: &[Fact],
-    arrays: &[Path],
-    counts: bool,
-    t: &Path,
-    y: &Path,
-    z: &Path,
-) -> Result<(), AllocError>
-    ensures { OnOk result (out.new.items ≡ out.old.items ++ kept (if_so counts (over.sum_facts (in_orders (K.known know.now)) on_left.now on_right.now arrays.now t.now y.now z.now))) }
-{
-    if counts {
-        push_sum(out, know, on_left, on_right, arrays, t, y, z)
-    } else {
-        Ok(())
-    }
-}
-
-fn push_difference_if<K: Know>(
-    out: &mut Vec<Fact>,
-    know: &K,
-    arrays: &[Path],
-    counts: bool,
-    t: &Path,
-    y: &Path,
-    z: &Path,
-) -> Result<(), AllocError>
-    ensures { OnOk result (out.new.items ≡ out.old.items ++ kept (if_so counts (over.difference_facts (in_orders (K.known know.now)) [] [] arrays.now t.now y.now z.now))) }
-{
-    if counts {
-        push_difference(out, know, arrays, t, y, z)
-    } else {
-        Ok(())
-    }
-}
-
-fn push_product_if<K: Know>(
-    out: &mut Vec<Fact>,
-    know: &K,
-    counts: bool,
-    t: &Path,
-    y: &Path,
-    z: &Path,
-) -> Result<(), AllocError>
-    ensures { OnOk result (out.new.items ≡ out.old.items ++ kept (if_so counts (after.product_facts (in_orders (K.known know.now)) t.now y.now z.now))) }
-{
-    if counts {
-        push_product(out, know, t, y, z)
-    } else {
-        Ok(())
-    }
 }
 
 /// `t = y / z`, and the half of a sum.
@@ -133,13 +77,14 @@ fn push_arith<K: Know>(
     ensures { OnOk result (out.new.items ≡ out.old.items ++ kept (over.arith_facts (in_orders (K.known know.now)) on_left.now on_right.now arrays.now profile arith t.now y.now z.now)) }
 {
     match arith {
-        Arith::Add => push_sum_if(out, know, on_left, on_right, arrays, counts, t, y, z),
-        Arith::Sub => push_difference_if(out, know, arrays, counts, t, y, z),
-        Arith::Mul => push_product_if(out, know, counts, t, y, z),
+        Arith::Add if counts => push_sum(out, know, on_left, on_right, arrays, t, y, z),
+        Arith::Sub if counts => push_difference(out, know, arrays, t, y, z),
+        Arith::Mul if counts => push_product(out, know, t, y, z),
         Arith::Div => push_division(out, know, on_left, t, y, z),
         Arith::Rem => push_remainder(out, know, t, y, z),
         Arith::And => push_and(out, know, t, y, z),
         Arith::Shr | Arith::Ushr => push_right_shift(out, know, on_left, t, y, z),
+        Arith::Add | Arith::Sub | Arith::Mul => Ok(()),
         Arith::Or | Arith::Xor | Arith::Shl => Ok(()),
     }
 }
@@ -176,23 +121,6 @@ pub(crate) fn push_num<K: Know>(
     )
 }
 
-fn push_unary_rule<K: Know>(
-    out: &mut Vec<Fact>,
-    know: &K,
-    on_operand: &[Fact],
-    arrays: &[Path],
-    unary: UnaryNum,
-    t: &Path,
-    y: &Path,
-) -> Result<(), AllocError>
-    ensures { OnOk result (out.new.items ≡ out.old.items ++ kept (over.unary_rule (in_orders (K.known know.now)) on_operand.now [] arrays.now unary t.now y.now)) }
-{
-    match unary {
-        UnaryNum::Neg => Ok(()),
-        UnaryNum::Flip => push_flip(out, know, on_operand, arrays, t, y),
-    }
-}
-
 /// `t = -y` and `t = ~y`.
 pub(crate) fn push_unary<K: Know>(
     out: &mut Vec<Fact>,
@@ -208,5 +136,8 @@ pub(crate) fn push_unary<K: Know>(
 {
     let i = unary_interval(know, unary, y);
     push_result(out, profile, t, i, Low::Unknown)?;
-    push_unary_rule(out, know, on_operand, arrays, unary, t, y)
+    match unary {
+        UnaryNum::Neg => Ok(()),
+        UnaryNum::Flip => push_flip(out, know, on_operand, arrays, t, y),
+    }
 }

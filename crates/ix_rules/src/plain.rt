@@ -112,24 +112,6 @@ fn push_half_between<K: Know>(
     push_less_if(out, is_less(know, y, z, 0), t, z, 0)
 }
 
-fn push_half_of<K: Know>(
-    out: &mut Vec<Fact>,
-    know: &K,
-    t: &Path,
-    s: &Path,
-    x: &Path,
-    y: &Path,
-    z: &Path,
-) -> Result<(), AllocError>
-    ensures { OnOk result (out.new.items ≡ out.old.items ++ kept (if_so (spec.is_path x.now s.now) (after.half_between (in_orders (K.known know.now)) t.now y.now z.now))) }
-{
-    if is_same_path(x, s) {
-        push_half_between(out, know, t, y, z)
-    } else {
-        Ok(())
-    }
-}
-
 fn push_half_by<K: Know>(
     out: &mut Vec<Fact>,
     know: &K,
@@ -139,8 +121,8 @@ fn push_half_by<K: Know>(
 ) -> Result<(), AllocError>
     ensures { OnOk result (out.new.items ≡ out.old.items ++ kept (after.half_by (in_orders (K.known know.now)) t.now s.now fact.now)) }
 {
-    match *fact {
-        Fact::Sum(x, y, z) => push_half_of(out, know, t, s, &x, &y, &z),
+    match fact {
+        Fact::Sum(x, y, z) if is_same_path(x, s) => push_half_between(out, know, t, y, z),
         _ => Ok(()),
     }
 }

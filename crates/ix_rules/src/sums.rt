@@ -3,7 +3,7 @@
 ghost use Rattle.std.specs.Prelude.{◌≡◌, ◌++◌, ◌∷◌, [], pos, ◌+ℤ◌, ◌-ℤ◌, OnOk};
 ghost use Rattle.ix_facts.specs.Bounds as spec;
 ghost use Rattle.ix_facts.specs.Closure.{kept};
-ghost use Rattle.ix_facts.specs.Exact.{if_so, if_some, each, each_path};
+ghost use Rattle.ix_facts.specs.Exact.{if_some, each, each_path};
 ghost use Rattle.ix_facts.specs.Facts.{in_orders};
 ghost use Rattle.ix_facts.specs.AfterOperation as after;
 ghost use Rattle.ix_rules.specs.OverParts as over;
@@ -13,20 +13,6 @@ ghost use Rattle.ix_facts.specs.Fact.TheVariants.{Less, Sum};
 use ix_exact::{push_fact, push_less, push_some_less, push_some_upper};
 use ix_facts::{Fact, Know, Path, PathOff, is_same_path};
 use std::alloc::AllocError;
-
-/// One more than the int's limit.
-fn past_limit<K: Know>(know: &K, z: &Path) -> i64
-    ensures value { result ≡ spec.upper_limit (in_orders (K.known know.now)) z.now +ℤ pos 1 }
-{
-    know.hi(z) + 1
-}
-
-/// One less the int's lower bound.
-fn less_bound<K: Know>(know: &K, z: &Path) -> i64
-    ensures value { result ≡ pos 1 -ℤ spec.lower_bound (in_orders (K.known know.now)) z.now }
-{
-    1 - know.lo(z)
-}
 
 /// `p` is less than `q` by the greatest number that z can be.
 fn push_below_limit<K: Know>(
@@ -38,7 +24,7 @@ fn push_below_limit<K: Know>(
 ) -> Result<(), AllocError>
     ensures { OnOk result (out.new.items ≡ out.old.items ++ kept (Less p.now q.now (spec.upper_limit (in_orders (K.known know.now)) z.now +ℤ pos 1) ∷ [])) }
 {
-    push_less(out, p, q, past_limit(know, z))
+    push_less(out, p, q, know.hi(z) + 1)
 }
 
 /// `p` is less than `q` by the least number that z can be.
@@ -51,7 +37,7 @@ fn push_below_bound<K: Know>(
 ) -> Result<(), AllocError>
     ensures { OnOk result (out.new.items ≡ out.old.items ++ kept (Less p.now q.now (pos 1 -ℤ spec.lower_bound (in_orders (K.known know.now)) z.now) ∷ [])) }
 {
-    push_less(out, p, q, less_bound(know, z))
+    push_less(out, p, q, 1 - know.lo(z))
 }
 
 /// `t = y + z`, of an array.
@@ -118,25 +104,6 @@ fn push_apart<K: Know>(
     push_some_less(out, r, t, know.difference(q, z))
 }
 
-fn push_apart_if<K: Know>(
-    out: &mut Vec<Fact>,
-    know: &K,
-    x: &Path,
-    y: &Path,
-    t: &Path,
-    r: &Path,
-    z: &Path,
-    q: &Path,
-) -> Result<(), AllocError>
-    ensures { OnOk result (out.new.items ≡ out.old.items ++ kept (if_so (spec.is_path x.now y.now) (if_some (Less t.now r.now) (spec.fact_less (in_orders (K.known know.now)) z.now q.now) ++ if_some (Less r.now t.now) (spec.fact_less (in_orders (K.known know.now)) q.now z.now)))) }
-{
-    if is_same_path(x, y) {
-        push_apart(out, know, t, r, z, q)
-    } else {
-        Ok(())
-    }
-}
-
 /// `t = y + z` and stored `r = y + q`: t and r differ as z and q do.
 fn push_sum_beside<K: Know>(
     out: &mut Vec<Fact>,
@@ -148,8 +115,8 @@ fn push_sum_beside<K: Know>(
 ) -> Result<(), AllocError>
     ensures { OnOk result (out.new.items ≡ out.old.items ++ kept (after.sum_beside (in_orders (K.known know.now)) t.now y.now z.now fact.now)) }
 {
-    match *fact {
-        Fact::Sum(r, x, q) => push_apart_if(out, know, &x, y, t, &r, z, &q),
+    match fact {
+        Fact::Sum(r, x, q) if is_same_path(x, y) => push_apart(out, know, t, r, z, q),
         _ => Ok(()),
     }
 }
