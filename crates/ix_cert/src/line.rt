@@ -22,9 +22,9 @@ fn add_path(text: &mut String, path: &Path) -> Result<(), AllocError>
 fn add_two(text: &mut String, p: &Path, q: &Path) -> Result<(), AllocError>
     ensures { OnOk result (string_bytes text.new ≡ string_bytes text.old ++ spec.two p.now q.now) }
 {
-    add_path(text, p)?;
-    text.push_str(" ")?;
-    add_path(text, q)
+    add_path(text, p)
+        .and(text.push_str(" "))
+        .and(add_path(text, q))
 }
 
 /// The text of a path.
@@ -32,8 +32,7 @@ fn path_line(alloc: Global, path: &Path) -> Result<String, AllocError>
     ensures { IfOk result (λ text. string_bytes text ≡ path_text path.now) }
 {
     let mut text = String::new(alloc);
-    add_path(&mut text, path)?;
-    Ok(text)
+    add_path(&mut text, path).and(Ok(text))
 }
 
 /// Whether the text of the second path comes before that of the first.
@@ -59,9 +58,9 @@ fn add_both(alloc: Global, text: &mut String, p: &Path, q: &Path) -> Result<(), 
 fn add_sum_bound(text: &mut String, p: &Path, a: &Path, q: &Path) -> Result<(), AllocError>
     ensures { OnOk result (string_bytes text.new ≡ string_bytes text.old ++ spec.sum_bound p.now a.now q.now) }
 {
-    add_two(text, p, a)?;
-    text.push_str(" +")?;
-    add_path(text, q)
+    add_two(text, p, a)
+        .and(text.push_str(" +"))
+        .and(add_path(text, q))
 }
 
 /// Adds a bound from an array's end, without its constant.
@@ -75,10 +74,7 @@ fn add_bound(
     ensures { OnOk result (string_bytes text.new ≡ string_bytes text.old ++ spec.bound_text p.now a.now offset.now) }
 {
     match offset {
-        PathOff::Nothing => {
-            add_two(text, p, a)?;
-            text.push_str(" 0")
-        }
+        PathOff::Nothing => add_two(text, p, a).and(text.push_str(" 0")),
         PathOff::Plus(q) => {
             if is_turned(alloc, p, q)? {
                 return add_sum_bound(text, q, a, p);
@@ -86,9 +82,9 @@ fn add_bound(
             add_sum_bound(text, p, a, q)
         }
         PathOff::Minus(q) => {
-            add_two(text, p, a)?;
-            text.push_str(" -")?;
-            add_path(text, q)
+            add_two(text, p, a)
+                .and(text.push_str(" -"))
+                .and(add_path(text, q))
         }
     }
 }
@@ -131,9 +127,9 @@ fn add_args(alloc: Global, text: &mut String, fact: &Fact) -> Result<(), AllocEr
             write!(text, " {constant}")
         }
         Fact::Sum(t, y, z) => {
-            add_path(text, t)?;
-            text.push_str(" ")?;
-            add_both(alloc, text, y, z)
+            add_path(text, t)
+                .and(text.push_str(" "))
+                .and(add_both(alloc, text, y, z))
         }
         Fact::Upper(p, a, offset, constant) => {
             add_bound(alloc, text, p, a, offset)?;

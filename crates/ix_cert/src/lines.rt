@@ -14,8 +14,7 @@ pub(crate) fn fact_line(alloc: Global, fact: &Fact) -> Result<String, AllocError
     ensures { IfOk result (λ line. string_bytes line ≡ fact_text fact.now) }
 {
     let mut line = String::new(alloc);
-    add_fact(alloc, &mut line, fact)?;
-    Ok(line)
+    add_fact(alloc, &mut line, fact).and(Ok(line))
 }
 
 fn each_line(alloc: Global, facts: &[Fact]) -> Result<Vec<String>, AllocError>
@@ -42,8 +41,7 @@ fn add_each(text: &mut String, lines: &[String]) -> Result<(), AllocError>
     ensures { OnOk result (string_bytes text.new ≡ string_bytes text.old ++ lines_text (map string_bytes lines.now)) }
 {
     for line in lines {
-        text.push_str(line.as_str())?;
-        text.push_str("\n")?;
+        text.push_str(line.as_str()).and(text.push_str("\n"))?;
     }
     Ok(())
 }

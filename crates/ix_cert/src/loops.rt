@@ -51,6 +51,5 @@ pub(crate) fn loops_of(method: &Method) -> Result<usize, AllocError>
     ensures { IfOk result (λ count. count ≡ loops_of method.now) }
 {
     let mut count = 0;
-    add_block(&mut count, &method.body)?;
-    Ok(count)
+    add_block(&mut count, &method.body).and(Ok(count))
 }

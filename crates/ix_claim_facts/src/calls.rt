@@ -37,9 +37,9 @@ pub fn result_facts(
     if let Some(callee) = program.methods.as_slice().get(call.method as usize) {
         let at = Path::Slot(call.target);
         let naming = Naming::AtCall(call);
-        push_received(&mut facts, &callee.result, &at)?;
-        push_claims(&mut facts, &naming, &at, callee.result_claims.as_slice())?;
-        push_posts(&mut facts, &naming, None, callee.posts.as_slice())?;
+        push_received(&mut facts, &callee.result, &at)
+            .and(push_claims(&mut facts, &naming, &at, callee.result_claims.as_slice()))
+            .and(push_posts(&mut facts, &naming, None, callee.posts.as_slice()))?;
     }
     Ok(facts)
 }
@@ -149,7 +149,7 @@ pub fn facts_of_this(
 {
     let inherited = inherited_fields(alloc, program, within)?;
     let mut facts = Vec::new(alloc);
-    push_zero_fields(&mut facts, program, fields_of(program, within.class))?;
-    push_fields(&mut facts, program, &inherited)?;
-    Ok(facts)
+    push_zero_fields(&mut facts, program, fields_of(program, within.class))
+        .and(push_fields(&mut facts, program, &inherited))
+        .and(Ok(facts))
 }

@@ -19,8 +19,7 @@ pub fn entry_facts(
     ensures { IfOk result (λ facts. facts.items ≡ signs.entry_facts program.now method.now) }
 {
     let mut facts = Vec::new(alloc);
-    push_received_params(&mut facts, method)?;
-    push_params(&mut facts, method)?;
+    push_received_params(&mut facts, method).and(push_params(&mut facts, method))?;
     if method.constructor && parent_of(program, method.class).is_none() {
         push_zero_fields(&mut facts, program, fields_of(program, method.class))?;
     }

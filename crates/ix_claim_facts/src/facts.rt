@@ -112,8 +112,11 @@ fn push_zero_field(out: &mut Vec<Fact>, program: &Program, field: u32) -> Result
     ensures { OnOk result (out.new.items ≡ out.old.items ++ zero_facts (field_at program.now field).ty (FieldOf 0 field)) }
 {
     let at = Path::FieldOf(0, field);
-    push_if(out, holds_int(program, field), Fact::Rng(at, 0, 0))?;
-    push_if(out, holds_array(program, field), Fact::LenRng(at, 0, 0))
+    push_if(out, holds_int(program, field), Fact::Rng(at, 0, 0)).and(push_if(
+        out,
+        holds_array(program, field),
+        Fact::LenRng(at, 0, 0),
+    ))
 }
 
 /// The fields of a new object are 0 or null (JLS 4.12.5).

@@ -77,8 +77,8 @@ pub fn facts_at_write(
             &Naming::OfObject(object),
             &at,
             claims_of(program, field),
-        )?;
-        push_dependents(&mut facts, program, object, field)?;
+        )
+        .and(push_dependents(&mut facts, program, object, field))?;
     }
     Ok(facts)
 }

@@ -19,8 +19,7 @@ pub fn asked_facts(alloc: Global, upper: &Method) -> Result<Vec<Fact>, AllocErro
     ensures { IfOk result (λ facts. facts.items ≡ signs.params_facts upper.now 0 upper.now.params) }
 {
     let mut facts = Vec::new(alloc);
-    push_params(&mut facts, upper)?;
-    Ok(facts)
+    push_params(&mut facts, upper).and(Ok(facts))
 }
 
 /// The slot of the result, above those of the parameters.
@@ -37,9 +36,9 @@ pub fn called_facts(alloc: Global, upper: &Method) -> Result<Vec<Fact>, AllocErr
     ensures { IfOk result (λ facts. facts.items ≡ signs.received_params upper.now 0 upper.now.param_types ++ signs.params_facts upper.now 0 upper.now.params) }
 {
     let mut facts = Vec::new(alloc);
-    push_received_params(&mut facts, upper)?;
-    push_params(&mut facts, upper)?;
-    Ok(facts)
+    push_received_params(&mut facts, upper)
+        .and(push_params(&mut facts, upper))
+        .and(Ok(facts))
 }
 
 /// What a method's own claims say of its result. The only error is want of memory.

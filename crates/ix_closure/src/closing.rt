@@ -19,8 +19,7 @@ fn copied(alloc: Global, facts: &[Fact]) -> Result<Vec<Fact>, AllocError>
     ensures { IfOk result (λ more. more.items ≡ facts.now) }
 {
     let mut more = Vec::new(alloc);
-    more.extend_from_slice(facts)?;
-    Ok(more)
+    more.extend_from_slice(facts).and(Ok(more))
 }
 
 /// What the facts say along arrays of one length.

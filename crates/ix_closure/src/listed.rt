@@ -12,8 +12,7 @@ use std::alloc::{AllocError, Global};
 fn put_two(arrays: &mut PathSet, a: Path, b: Path) -> Result<(), AllocError>
     ensures { OnOk result (arrays.new ≡ put_all arrays.old (a ∷ b ∷ [])) }
 {
-    arrays.put(a)?;
-    arrays.put(b)
+    arrays.put(a).and(arrays.put(b))
 }
 
 fn put_listed(arrays: &mut PathSet, fact: &Fact) -> Result<(), AllocError>

@@ -1,11 +1,11 @@
 -- What is kept of lists joined end to end.
-use Rattle.std.specs.Prelude.{◌≡◌, ℕ, ◌<◌, ◌+◌, List, [], ◌∷◌, ◌++◌, length, drop, slice_index_or, refl}
+use Rattle.std.specs.Prelude.{◌≡◌, ℕ, ◌<◌, ◌≤◌, ◌+◌, List, [], ◌∷◌, ◌++◌, length, drop, slice_index_or, refl}
 use Rattle.ix_facts.specs.Path.{Path}
 use Rattle.ix_facts.specs.Exact.{each, each_path}
 use Rattle.std.proofs.Math.Seq.{drop-cons}
 use Rattle.std.proofs.Common.{add-one, sym, ap, ◌∙◌, w64, to_z, of_z, ℤ, FitsSigned}
 use Rattle.std.proofs.lemmas.Int.{to_z-of_z}
-use Rattle.std.proofs.lemmas.List.{append_assoc}
+use Rattle.std.proofs.lemmas.List.{append_assoc, append-nil, drop_all}
 use Rattle.ix_facts.specs.Fact.{Fact}
 use Rattle.ix_facts.specs.Closure.{kept_fact, kept}
 
@@ -35,6 +35,14 @@ next_fact rule facts k d h old new whole n w =
 pub next_path : (rule : Path → List Fact) (paths : List Path) (k : ℕ) (d : Path) → k < length paths → (old new whole : List Fact) → new ≡ old ++ kept (rule (slice_index_or paths k d)) → old ++ kept (each_path rule (drop k paths)) ≡ whole → new ++ kept (each_path rule (drop (k + 1) paths)) ≡ whole
 next_path rule paths k d h old new whole n w =
     joined_next old new whole (rule (slice_index_or paths k d)) (each_path rule (drop (k + 1) paths)) (each_path rule (drop k paths)) n (ap (each_path rule) (at_drop paths k d h)) w
+
+-- ---- the end of a loop
+
+pub all_facts : (rule : Fact → List Fact) (facts : List Fact) (k : ℕ) → length facts ≤ k → (out whole : List Fact) → out ++ kept (each rule (drop k facts)) ≡ whole → out ≡ whole
+all_facts rule facts k end out whole w = sym (append-nil out) ∙ (ap (λ left. out ++ kept (each rule left)) (sym (drop_all k facts end)) ∙ w)
+
+pub all_paths : (rule : Path → List Fact) (paths : List Path) (k : ℕ) → length paths ≤ k → (out whole : List Fact) → out ++ kept (each_path rule (drop k paths)) ≡ whole → out ≡ whole
+all_paths rule paths k end out whole w = sym (append-nil out) ∙ (ap (λ left. out ++ kept (each_path rule left)) (sym (drop_all k paths end)) ∙ w)
 
 -- ---- two rules
 

@@ -299,8 +299,7 @@ pub fn push_low(
     ensures { OnOk result (out.new.items ≡ out.old.items ++ kept (exact.low_facts profile t.now i table)) }
 {
     if fits(profile, i) {
-        push_class(out, t, Low::of_number(i.lo))?;
-        push_class(out, t, table)
+        push_class(out, t, Low::of_number(i.lo)).and(push_class(out, t, table))
     } else {
         Ok(())
     }

@@ -77,8 +77,7 @@ fn push_beside_int<K: Know>(
     } }
     ensures { OnOk result (out.new.items ≡ out.old.items ++ kept (rule.beside_int (in_orders (K.known know.now)) new.now t.now r.now)) }
 {
-    push_above(out, know, t, high, r)?;
-    push_below(out, know, t, low, r)
+    push_above(out, know, t, high, r).and(push_below(out, know, t, low, r))
 }
 
 fn push_beside_ints<K: Know>(
@@ -205,6 +204,7 @@ pub(crate) fn push_by_ranges<K: Know>(
     requires high { high ≡ spec.range_high new.now t.now }
     ensures { OnOk result (out.new.items ≡ out.old.items ++ kept (each_path (rule.beside_int (in_orders (K.known know.now)) new.now t.now) ints.now ++ each_path (rule.beside_array (in_orders (K.known know.now)) new.now t.now) arrays.now)) }
 {
-    push_beside_ints(out, know, new, t, low, high, ints)?;
-    push_beside_arrays(out, know, new, t, high, arrays)
+    push_beside_ints(out, know, new, t, low, high, ints).and(push_beside_arrays(
+        out, know, new, t, high, arrays,
+    ))
 }

@@ -90,8 +90,7 @@ pub fn push_finished_by<K: Indexed>(
 ) -> Result<(), AllocError>
     ensures { OnOk result (out.new.items ≡ out.old.items ++ kept (over.finished_by (in_orders (K.known know.now)) (K.on_path know.now) (K.int_paths know.now) (K.array_paths know.now) new.now ty.now t.now)) }
 {
-    push_int_if(out, know, new, is_int(ty), t)?;
-    push_array_if(out, know, new, is_array(ty), t)
+    push_int_if(out, know, new, is_int(ty), t).and(push_array_if(out, know, new, is_array(ty), t))
 }
 
 fn push_finished_load<K: Indexed>(
@@ -103,8 +102,13 @@ fn push_finished_load<K: Indexed>(
 ) -> Result<(), AllocError>
     ensures { OnOk result (out.new.items ≡ out.old.items ++ kept (over.finished_load (in_orders (K.known know.now)) (K.on_path know.now) (K.int_paths know.now) (K.array_paths know.now) new.now t.now ty.now)) }
 {
-    push_int_if(out, know, new, holds_ints(ty), t)?;
-    push_array_if(out, know, new, holds_arrays(ty), t)
+    push_int_if(out, know, new, holds_ints(ty), t).and(push_array_if(
+        out,
+        know,
+        new,
+        holds_arrays(ty),
+        t,
+    ))
 }
 
 fn push_finished_const<K: Indexed>(

@@ -1,5 +1,5 @@
 //! How much room the code of a program needs.
-ghost use Rattle.std.specs.Prelude.{◌≡◌, ◌+◌, max, length, IfOk};
+ghost use Rattle.std.specs.Prelude.{◌≡◌, ◌+◌, ◌<◌, ◌^◌, max, length, IfOk};
 ghost use Rattle.ix_core.specs.Code.{cond_code, item_code, items_code, End};
 ghost use Rattle.ix_frames.specs.Room.{counted, code_above, condition_above, code_values, condition_values, op_values};
 
@@ -58,6 +58,7 @@ pub fn items_needs(items: &[Item]) -> Result<Needs, AllocError>
     ensures { record {
       above : IfOk result (λ needs. needs.above ≡ code_above (items_code items.now));
       values : IfOk result (λ needs. needs.values ≡ code_values (items_code items.now));
+      counted : IfOk result (λ needs. needs.above + 1 < 2 ^ 64);
     } }
 {
     let needs = block_needs(items);

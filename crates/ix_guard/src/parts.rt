@@ -145,8 +145,7 @@ fn add_as_target<'a>(target: &'a Expr, found: &mut Parts<'a>) -> Result<(), Allo
       assigned : OnOk result (found.new.assigned.items ≡ found.old.assigned.items ++ (spec.as_target (spec.reading target.now)).assigned);
     } }
 {
-    add_target(target, &mut found.assigned)?;
-    add_parts(target, found)
+    add_target(target, &mut found.assigned).and(add_parts(target, found))
 }
 
 #[cycle(parts)]

@@ -41,8 +41,7 @@ fn add_around(
     ensures { OnOk result (out.new.items ≡ out.old.items ++ spec.evaluating (site_of site.now) span expr.now) }
 {
     let tests = expression_tests(alloc, site, expr)?;
-    insert_opening(alloc, out, span, &tests)?;
-    insert_closing(alloc, out, span, &tests)
+    insert_opening(alloc, out, span, &tests).and(insert_closing(alloc, out, span, &tests))
 }
 
 /// Adds what is inserted for a statement, which stands in a list of statements or doesn't.
@@ -63,8 +62,9 @@ fn add_statement(
         }
         StmtKind::If(condition, first, second) => {
             let tests = expression_tests(alloc, site, condition)?;
-            add_first(alloc, site, stmt.span, &tests, first.get(), out)?;
-            add_second(alloc, site, stmt.span, &tests, second, out)
+            add_first(alloc, site, stmt.span, &tests, first.get(), out).and(add_second(
+                alloc, site, stmt.span, &tests, second, out,
+            ))
         }
         StmtKind::While(_, body) => add_statement(alloc, site, body.get(), false, out),
         StmtKind::Do(body, _) => add_statement(alloc, site, body.get(), false, out),
@@ -92,8 +92,7 @@ fn add_first(
 ) -> Result<(), AllocError>
     ensures { OnOk result (out.new.items ≡ out.old.items ++ (spec.opening span tests.now ++ spec.alone (spec.inserting (site_of site.now) first.now))) }
 {
-    insert_opening(alloc, out, span, tests)?;
-    add_statement(alloc, site, first, false, out)
+    insert_opening(alloc, out, span, tests).and(add_statement(alloc, site, first, false, out))
 }
 
 /// What is inserted for the second branch of an `if`, and the end of a block with these tests.
@@ -111,8 +110,9 @@ fn add_second(
     match second {
         None => insert_closing(alloc, out, span, tests),
         Some(second) => {
-            add_statement(alloc, site, second.get(), false, out)?;
-            insert_closing(alloc, out, span, tests)
+            add_statement(alloc, site, second.get(), false, out).and(insert_closing(
+                alloc, out, span, tests,
+            ))
         }
     }
 }

@@ -1,3 +1,2 @@
 mod Added
 mod Ascending
-mod Walked

@@ -18,9 +18,9 @@ fn numbers(alloc: Global, program: &Program, method: &Method) -> Result<Vec<i32>
     ensures { IfOk result (λ numbers. numbers.items ≡ method_numbers program.now method.now) }
 {
     let mut out = Vec::new(alloc);
-    push_declared(&mut out, method)?;
-    push_locals(&mut out, method.locals.as_slice())?;
-    push_block(&mut out, program, &method.body)?;
+    push_declared(&mut out, method)
+        .and(push_locals(&mut out, method.locals.as_slice()))
+        .and(push_block(&mut out, program, &method.body))?;
     if method.constructor {
         let fields = instance_fields(alloc, program, method.class)?;
         push_fields(&mut out, program, &fields)?;
@@ -41,8 +41,7 @@ fn marks_of(alloc: Global, numbers: &[i32]) -> Result<Vec<i32>, AllocError>
     ensures { IfOk result (λ marks. (n : ℤ) → IsAmong n marks.items ↔ IsLandmark numbers.now n) }
 {
     let mut marks = Vec::new(alloc);
-    push_both(&mut marks, i32::MIN, i32::MAX)?;
-    push_near(&mut marks, 0)?;
+    push_both(&mut marks, i32::MIN, i32::MAX).and(push_near(&mut marks, 0))?;
     for number in numbers {
         push_near(&mut marks, *number)?;
     }

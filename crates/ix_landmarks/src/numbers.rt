@@ -97,11 +97,11 @@ fn push_posts(out: &mut Vec<i32>, posts: &[Post]) -> Result<(), AllocError>
 pub(crate) fn push_declared(out: &mut Vec<i32>, method: &Method) -> Result<(), AllocError>
     ensures { OnOk result (out.new.items ≡ out.old.items ++ numbers.declared_numbers method.now) }
 {
-    push_params(out, method.params.as_slice())?;
-    push_types(out, method.param_types.as_slice())?;
-    push_claims(out, method.result_claims.as_slice())?;
-    push_type(out, &method.result)?;
-    push_posts(out, method.posts.as_slice())
+    push_params(out, method.params.as_slice())
+        .and(push_types(out, method.param_types.as_slice()))
+        .and(push_claims(out, method.result_claims.as_slice()))
+        .and(push_type(out, &method.result))
+        .and(push_posts(out, method.posts.as_slice()))
 }
 
 fn push_called(out: &mut Vec<i32>, program: &Program, call: &CallOp) -> Result<(), AllocError>
@@ -116,8 +116,7 @@ fn push_called(out: &mut Vec<i32>, program: &Program, call: &CallOp) -> Result<(
 fn push_field(out: &mut Vec<i32>, field: &Field) -> Result<(), AllocError>
     ensures { OnOk result (out.new.items ≡ out.old.items ++ numbers.field_numbers field.now) }
 {
-    push_claims(out, field.claims.as_slice())?;
-    push_type(out, &field.ty)
+    push_claims(out, field.claims.as_slice()).and(push_type(out, &field.ty))
 }
 
 fn push_field_at(out: &mut Vec<i32>, program: &Program, number: u32) -> Result<(), AllocError>

@@ -13,9 +13,7 @@ fn method_room(method: &Method) -> Result<Room, AllocError>
     ensures { IfOk result (λ room. room ≡ record { places = 1 + code_above (body_of method.now); values = max (max method.now.slots (length method.now.param_types)) (code_values (body_of method.now)) }) }
 {
     let needs = items_needs(method.body.items.as_slice())?;
-    let Some(places) = needs.above.checked_add(1) else {
-        return Err(AllocError);
-    };
+    let places = needs.above + 1;
     let slots = (method.slots as usize).max(method.param_types.len());
     let values = slots.max(needs.values);
     Ok(Room { places, values })

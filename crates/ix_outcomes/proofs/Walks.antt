@@ -1,13 +1,9 @@
--- Where a walk that adds what a rule gives of each fact ends, and one step of a walk that picks facts.
+-- A walk that picks facts: one more step, and where it ends.
 use Rattle.std.specs.Prelude.{◌≡◌, ℕ, ◌<◌, ◌≤◌, ◌+◌, Bool, true, false, List, [], ◌∷◌, ◌++◌, length, drop, filter, slice_index_or}
 use Rattle.std.proofs.Common.{sym, ap, ◌∙◌}
 use Rattle.std.proofs.lemmas.List.{append_assoc, append-nil, at_drop_more, at_drop_all}
 use Rattle.ix_core.specs.declared.fact.Fact.{Fact}
-use Rattle.ix_facts.specs.Exact.{if_so, each}
-use Rattle.ix_facts.specs.Closure.{kept}
-
-pub walk_ends : (rule : Fact → List Fact) (facts : List Fact) (k : ℕ) → length facts ≤ k → (new whole : List Fact) → new ++ kept (each rule (drop k facts)) ≡ whole → new ≡ whole
-walk_ends rule facts k all new whole before = sym (append-nil new) ∙ sym (at_drop_all (λ l. new ++ kept (each rule l)) facts k all) ∙ before
+use Rattle.ix_facts.specs.Exact.{if_so}
 
 filter_first : (test : Fact → Bool) (fact : Fact) (rest : List Fact) (answer : Bool) → test fact ≡ answer → if_so answer (fact ∷ []) ++ filter test rest ≡ filter test (fact ∷ rest)
 filter_first test fact rest true is = rw is

@@ -3,4 +3,3 @@ pub mod Refused
 mod WritesRefused
 mod OverridesRefused
 mod PostsRefused
-mod Walked

@@ -20,6 +20,6 @@ pub use field_errors::push_field_errors;
 pub use leave::{push_constructor_errors, push_missing_return, push_return_errors};
 pub use overriding::push_override_errors;
 pub use posts::push_post_errors;
-pub use ranked::Ranked;
+pub use ranked::{Ranked, push_plain};
 pub use unproved::{Report, push_unproved, refuses};
 pub use write::Write;

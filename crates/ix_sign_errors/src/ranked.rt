@@ -15,7 +15,7 @@ pub struct Ranked {
 }
 
 /// Puts an error without a claim behind the others. The only error is want of memory.
-pub(crate) fn push_plain(out: &mut Vec<Ranked>, rule: u8, span: Span) -> Result<(), AllocError>
+pub fn push_plain(out: &mut Vec<Ranked>, rule: u8, span: Span) -> Result<(), AllocError>
     ensures { OnOk result (out.new.items ≡ out.old.items ++ record { error = plain rule span; rank = 0 } ∷ []) }
 {
     let error = Error {

@@ -62,8 +62,7 @@ fn facts_with(alloc: Global, table: &FactTable, new: &[Fact]) -> Result<Vec<Fact
     ensures { IfOk result (λ facts. facts.items ≡ facts_of table.now ++ new.now) }
 {
     let mut facts = Vec::from_slice(alloc, table.as_slice())?;
-    facts.extend_from_slice(new)?;
-    Ok(facts)
+    facts.extend_from_slice(new).and(Ok(facts))
 }
 
 /// New facts, and behind them what follows from them and those of the table.

@@ -1,2 +1,3 @@
 pub mod LineStarts
 pub mod Characters
+pub mod Walked

@@ -14,8 +14,7 @@ use std::alloc::AllocError;
 fn push_of_test(out: &mut Vec<Ranked>, test: &Test) -> Result<(), AllocError>
     ensures { OnOk result (out.new.items ≡ out.old.items ++ errors_at (escapes_in test.now)) }
 {
-    push_if_this(out, test.left, test.left_span)?;
-    push_if_this(out, test.right, test.right_span)
+    push_if_this(out, test.left, test.left_span).and(push_if_this(out, test.right, test.right_span))
 }
 
 /// `this.escapes`: a test of a constructor uses `this`. The only error is want of memory.

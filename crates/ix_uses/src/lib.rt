@@ -7,9 +7,9 @@
 #![tactic(auto)]
 
 mod comparisons;
-mod errors;
 mod operations;
 mod parameters;
+mod parts;
 mod this;
 
 pub use comparisons::push_escapes_in;

@@ -5,7 +5,7 @@ ghost use Rattle.ix_sign_errors.specs.Exactly.{AddsExactly};
 ghost use Rattle.ix_method.specs.RuleErrors.{OpEscapes, escapes_by, is_this, this_args};
 ghost use Rattle.ix_uses.specs.Escapes.{errors_at, place_if};
 
-use crate::errors::part;
+use crate::parts::part;
 use crate::this::{push_if_this, push_this_args, push_this_entries};
 use ix_core::{CallOp, Method, Op, OpKind};
 use ix_sign_errors::Ranked;
@@ -30,8 +30,7 @@ fn push_this_receiver(
 fn push_of_call(out: &mut Vec<Ranked>, call: &CallOp, place: Span) -> Result<(), AllocError>
     ensures { OnOk result (out.new.items ≡ out.old.items ++ errors_at (place_if (is_this call.now.receiver) place ++ this_args call.now.args)) }
 {
-    push_this_receiver(out, call.receiver, place)?;
-    push_this_args(out, call.args.as_slice())
+    push_this_receiver(out, call.receiver, place).and(push_this_args(out, call.args.as_slice()))
 }
 
 /// The errors of the uses of slot 0 by an operation.

@@ -6,9 +6,9 @@ ghost use Rattle.ix_sign_errors.specs.Exactly.{AddsExactly};
 ghost use Rattle.ix_method.specs.RuleErrors.{AssignsNamed};
 ghost use Rattle.ix_uses.specs.Parameters as spec;
 
-use crate::errors::{part, push_plain};
+use crate::parts::part;
 use ix_core::{Claim, Method, Name, Off, Op, OpKind, Post};
-use ix_sign_errors::Ranked;
+use ix_sign_errors::{Ranked, push_plain};
 use std::alloc::AllocError;
 
 fn is_param(number: u32, name: &Name) -> bool

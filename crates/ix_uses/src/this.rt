@@ -4,9 +4,9 @@ ghost use Rattle.std.specs.Prelude.{◌≡◌, ◌++◌, ◌==◌, [], OnOk};
 ghost use Rattle.ix_method.specs.RuleErrors.{this_args, this_entries};
 ghost use Rattle.ix_uses.specs.Escapes.{errors_at, place_if};
 
-use crate::errors::{part, push_plain};
+use crate::parts::part;
 use ix_core::{Arg, Op};
-use ix_sign_errors::Ranked;
+use ix_sign_errors::{Ranked, push_plain};
 use ix_text::Span;
 use std::alloc::AllocError;
 

@@ -242,6 +242,5 @@ pub fn read_words<'a>(alloc: Global, words: &'a [String]) -> Result<Option<Comma
     let Some(matches) = matches_of(alloc, kind.options(), words)? else {
         return Ok(None);
     };
-    let command = made(alloc, kind, &matches);
-    command
+    made(alloc, kind, &matches)
 }

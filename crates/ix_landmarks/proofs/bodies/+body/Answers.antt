@@ -3,7 +3,7 @@ use Rattle.std.proofs.lemmas.Result.{on_ok_weaker}
 use Rattle.ix_core.specs.Code.{items_code, block_code, cond_code, item_code}
 use Rattle.ix_core.proofs.Translated.{cond_code-Compare, cond_code-Truth, cond_code-Both, cond_code-Either, cond_code-Opposite, item_code-If, item_code-Loop}
 use Rattle.ix_facts.specs.MethodLandmarks.{code_numbers, condition_numbers}
-use Rattle.ix_landmarks.proofs.Walked.{next}
+use Rattle.ix_text.proofs.Walked.{next}
 use Rattle.ix_landmarks.proofs.Added.{asks_as, two_parts, three_parts}
 use Rattle.ix_landmarks.proofs.bodies.+body.Goals as goal
 
@@ -58,4 +58,4 @@ pub push_block-loop-item-preserved : goal.push_block-loop-item-preserved
 push_block-loop-item-preserved t c =
     let program = c.args.program.now in
     let added = c.in_ok-push_item.ensures in
-    next (λ items. code_numbers program (items_code items)) _ c.loop-item.item-index c.item-item.result added.more _ _ _ c.loop-item-test.true c.item-item.is (λ rest. added.of (items_code rest)) added.added c.loop-item.invariant
+    next (λ _ items. code_numbers program (items_code items)) _ c.loop-item.item-index c.item-item.result added.more _ _ _ c.loop-item-test.true c.item-item.is (λ rest. added.of (items_code rest)) added.added c.loop-item.invariant

@@ -12,7 +12,7 @@ loop-number-preserved c n =
     let k = c.loop-number.number-index in
     subst (λ front. IsAmong n c.push_near-in-loop-number.new.out.items ↔ IsLandmark front n) (sym (next_front numbers k (pos 0) (omega (arith, c.loop-number-test.true))))
     (near_more (take k numbers) (get_or numbers k (pos 0)) c.loop-number.marks.items c.push_near-in-loop-number.new.out.items c.loop-number.invariant
-    (subst (λ m. AddsNear m c.loop-number.marks.items c.push_near-in-loop-number.new.out.items) (to_z-of_z w32 (get_or numbers k (pos 0)) (search rules)) c.in_ok-push_near-2.ensures) n)
+    (subst (λ m. AddsNear m c.loop-number.marks.items c.push_near-in-loop-number.new.out.items) (to_z-of_z w32 (get_or numbers k (pos 0)) (search rules)) c.in_ok-push_near.ensures) n)
 
 pub returns : goal.returns
 returns c n = subst (λ front. IsAmong n c.loop-number.marks.items ↔ IsLandmark front n) (take_all c.loop-number.number-index c.args.numbers.now (omega (arith, c.loop-number-test.false))) (c.loop-number.invariant n)

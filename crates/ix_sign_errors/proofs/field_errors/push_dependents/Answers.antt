@@ -6,7 +6,7 @@ use Rattle.ix_core.specs.Tables.{field_at, no_field}
 use Rattle.ix_claim_facts.specs.Naming.{AreSmallClaims}
 use Rattle.ix_store.specs.StoredFacts.{stored}
 use Rattle.ix_sign_errors.specs.Refusals.{dependent_refusals}
-use Rattle.ix_sign_errors.proofs.Walked.{next, none_left}
+use Rattle.ix_text.proofs.Walked.{next, none_left}
 use Rattle.ix_sign_errors.proofs.field_errors.push_dependents.Goals as goal
 
 pub loop-number-init : goal.loop-number-init

@@ -1,7 +1,7 @@
 use Rattle.std.proofs.Common.{refl}
 use Rattle.ix_store.specs.StoredFacts.{stored}
 use Rattle.ix_sign_errors.specs.Refusals.{field_refusals}
-use Rattle.ix_sign_errors.proofs.Walked.{next_or, none_left}
+use Rattle.ix_text.proofs.Walked.{next_or, none_left}
 use Rattle.ix_sign_errors.proofs.leave.push_fields_of_this.Goals as goal
 
 pub loop-field-preserved : goal.loop-field-preserved

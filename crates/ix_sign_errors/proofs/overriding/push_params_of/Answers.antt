@@ -3,7 +3,7 @@ use Rattle.std.specs.Prelude.{slice_get, Some}
 use Rattle.std.proofs.lemmas.Option.{slice_get_read}
 use Rattle.ix_store.specs.StoredFacts.{stored}
 use Rattle.ix_sign_errors.specs.Refusals.{param_refusals}
-use Rattle.ix_sign_errors.proofs.Walked.{next, none_left}
+use Rattle.ix_text.proofs.Walked.{next, none_left}
 use Rattle.ix_sign_errors.proofs.overriding.push_params_of.Goals as goal
 
 pub push_param-requires-clause-small : goal.push_param-requires-clause-small

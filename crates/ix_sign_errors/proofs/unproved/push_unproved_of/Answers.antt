@@ -3,7 +3,7 @@ use Rattle.std.proofs.Math.Seq.{drop-cons}
 use Rattle.ix_store.specs.StoredFacts.{stored}
 use Rattle.ix_claim_facts.specs.Naming.{path_by, AreSmallClaims}
 use Rattle.ix_sign_errors.specs.Refusals.{refusals, not_proved_of}
-use Rattle.ix_sign_errors.proofs.Walked.{none_left}
+use Rattle.ix_text.proofs.Walked.{none_left}
 use Rattle.ix_sign_errors.proofs.unproved.push_unproved_of.Goals as goal
 
 pub returns : goal.returns

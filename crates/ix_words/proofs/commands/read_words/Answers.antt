@@ -18,8 +18,8 @@ pub returns-clause-command : goal.returns-clause-command
 returns-clause-command c =
     let words = c.args.words.now in
     let whole : c.as_str.result.now ∷ drop 1 (words_of words) ≡ words_of words = ap (λ first. first ∷ drop 1 (words_of words)) c.as_str.ensures.value ∙ parted words c.index-words-0.result c.is_empty.result c.is_empty.ensures c.if-is_empty.false c.index-words-0.is in
-    subst (λ all. IfOk c.made-command.result (λ r. option_map shown r ≡ command_of all)) whole
-    (answered c.in-Some.kind c.as_str.result.now (drop 1 (words_of words)) _ c.in_ok-matches.field-0 c.in-Some-2.matches c.made-command.result c.options.ensures c.in_ok-matches.ensures c.in-Some-2.is (c.in-Some.ensures.some (drop 1 (words_of words))) c.made-command.ensures.command)
+    subst (λ all. IfOk c.made.result (λ r. option_map shown r ≡ command_of all)) whole
+    (answered c.in-Some.kind c.as_str.result.now (drop 1 (words_of words)) _ c.in_ok-matches.field-0 c.in-Some-2.matches c.made.result c.options.ensures c.in_ok-matches.ensures c.in-Some-2.is (c.in-Some.ensures.some (drop 1 (words_of words))) c.made.ensures.command)
 
 pub returns-in_default-2-clause-command : goal.returns-in_default-2-clause-command
 returns-in_default-2-clause-command c =
