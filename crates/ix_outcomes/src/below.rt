@@ -44,8 +44,7 @@ fn new_bounds(
     ensures { IfOk result (λ bounds. bounds.items ≡ kept (over.bound_part on_p.now on_q.now p.now q.now k.now)) }
 {
     let mut bounds = Vec::new(alloc);
-    push_bounds(&mut bounds, k, p, on_p, q, on_q)?;
-    Ok(bounds)
+    push_bounds(&mut bounds, k, p, on_p, q, on_q).and(Ok(bounds))
 }
 
 fn push_all(out: &mut Vec<Fact>, facts: &[Fact]) -> Result<(), AllocError>

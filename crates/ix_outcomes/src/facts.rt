@@ -52,8 +52,7 @@ fn push_equal<K: Indexed>(
 ) -> Result<(), AllocError>
     ensures { OnOk result (out.new.items ≡ out.old.items ++ (kept (each (over.passed_by y.now z.now) (K.on_path know.now y.now)) ++ kept (each (over.passed_by z.now y.now) (K.on_path know.now z.now)))) }
 {
-    push_passed(out, y, z, know.on(y))?;
-    push_passed(out, z, y, know.on(z))
+    push_passed(out, y, z, know.on(y)).and(push_passed(out, z, y, know.on(z)))
 }
 
 fn push_outcome<K: Indexed>(

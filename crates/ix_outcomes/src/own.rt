@@ -88,8 +88,7 @@ pub(crate) fn with_own_below(
     let mut all = Vec::with_capacity(alloc, on_p.len().saturating_add(1))?;
     let rest = push_lesser(&mut all, p, on_p)?;
     all.push(Fact::Less(*p, *p, 1))?;
-    all.extend_from_slice(rest)?;
-    Ok(all)
+    all.extend_from_slice(rest).and(Ok(all))
 }
 
 /// The facts on q, and that q is below q + 1.
@@ -103,6 +102,5 @@ pub(crate) fn with_own_above(
     let mut all = Vec::with_capacity(alloc, on_q.len().saturating_add(1))?;
     let rest = push_to_lesser(&mut all, q, on_q)?;
     all.push(Fact::Less(*q, *q, 1))?;
-    all.extend_from_slice(rest)?;
-    Ok(all)
+    all.extend_from_slice(rest).and(Ok(all))
 }

@@ -21,9 +21,9 @@ fn push_copies(
 ) -> Result<(), AllocError>
     ensures { OnOk result (out.new.items ≡ out.old.items ++ (if_so second (new_second ∷ []) ++ (if_so first (new_first ∷ []) ++ if_so (first && second) (new_both ∷ [])))) }
 {
-    push_if(out, second, new_second)?;
-    push_if(out, first, new_first)?;
-    push_if(out, first && second, new_both)
+    push_if(out, second, new_second)
+        .and(push_if(out, first, new_first))
+        .and(push_if(out, first && second, new_both))
 }
 
 fn push_same(out: &mut Vec<Fact>, t: &Path, s: &Path, a: &Path, b: &Path) -> Result<(), AllocError>
@@ -131,8 +131,7 @@ pub(crate) fn push_copied_array(
 ) -> Result<(), AllocError>
     ensures { OnOk result (out.new.items ≡ out.old.items ++ kept (after.copied_array on_source.now t.now s.now)) }
 {
-    push_fact(out, Fact::Same(*t, *s))?;
-    push_array_copies(out, t, s, on_source)
+    push_fact(out, Fact::Same(*t, *s)).and(push_array_copies(out, t, s, on_source))
 }
 
 /// A sum of y and z with the copy for its parts.
@@ -171,8 +170,7 @@ fn push_sum_copies(
     let z_is = is_same_path(z, s);
     push_parts(out, u, t, y_is, z_is, y, z)?;
     if is_same_path(u, s) {
-        push_fact(out, Fact::Sum(*t, *y, *z))?;
-        push_parts(out, t, t, y_is, z_is, y, z)
+        push_fact(out, Fact::Sum(*t, *y, *z)).and(push_parts(out, t, t, y_is, z_is, y, z))
     } else {
         Ok(())
     }
@@ -217,9 +215,9 @@ pub(crate) fn push_copied_int(
 ) -> Result<(), AllocError>
     ensures { OnOk result (out.new.items ≡ out.old.items ++ kept (after.copied_int on_source.now t.now s.now)) }
 {
-    push_less(out, t, s, 1)?;
-    push_less(out, s, t, 1)?;
-    push_copies_of(out, t, s, on_source)
+    push_less(out, t, s, 1)
+        .and(push_less(out, s, t, 1))
+        .and(push_copies_of(out, t, s, on_source))
 }
 
 /// `t = s`, by the type: nothing of a type that is neither int nor array.

@@ -18,8 +18,7 @@ use std::alloc::AllocError;
 fn push_equal(out: &mut Vec<Fact>, test: bool, q: &Path, t: &Path) -> Result<(), AllocError>
     ensures { OnOk result (out.new.items ≡ out.old.items ++ kept (if_so test (Less q.now t.now (pos 1) ∷ Less t.now q.now (pos 1) ∷ []))) }
 {
-    push_less_if(out, test, q, t, 1)?;
-    push_less_if(out, test, t, q, 1)
+    push_less_if(out, test, q, t, 1).and(push_less_if(out, test, t, q, 1))
 }
 
 fn push_length_by(out: &mut Vec<Fact>, t: &Path, a: &Path, fact: &Fact) -> Result<(), AllocError>
@@ -60,9 +59,9 @@ pub(crate) fn push_length<K: Know>(
 {
     let low = know.len_lo(a);
     let high = know.len_hi(a);
-    push_fact(out, Fact::IsLen(*t, *a))?;
-    push_fact(out, Fact::Rng(*t, low, high))?;
-    push_lengths(out, t, a, on_operand)
+    push_fact(out, Fact::IsLen(*t, *a))
+        .and(push_fact(out, Fact::Rng(*t, low, high)))
+        .and(push_lengths(out, t, a, on_operand))
 }
 
 fn push_new_array_by(out: &mut Vec<Fact>, t: &Path, n: &Path, fact: &Fact) -> Result<(), AllocError>
@@ -108,10 +107,10 @@ pub(crate) fn push_new_array<K: Know>(
 {
     let low = know.lo(n).max(0);
     let high = know.hi(n).min(2147483647);
-    push_fact(out, Fact::IsLen(*n, *t))?;
-    push_fact(out, Fact::Same(*t, *t))?;
-    push_fact(out, Fact::LenRng(*t, low, high))?;
-    push_new_arrays(out, t, n, on_operand)
+    push_fact(out, Fact::IsLen(*n, *t))
+        .and(push_fact(out, Fact::Same(*t, *t)))
+        .and(push_fact(out, Fact::LenRng(*t, low, high)))
+        .and(push_new_arrays(out, t, n, on_operand))
 }
 
 fn reaches(number: Option<i64>, n: i64) -> bool
@@ -187,6 +186,5 @@ pub(crate) fn push_flip<K: Know>(
 ) -> Result<(), AllocError>
     ensures { OnOk result (out.new.items ≡ out.old.items ++ kept (each_path (after.flip_array (in_orders (K.known know.now)) t.now y.now) arrays.now ++ each (after.flip_by [] t.now y.now) on_operand.now)) }
 {
-    push_flip_arrays(out, know, t, y, arrays)?;
-    push_flips(out, t, y, on_operand)
+    push_flip_arrays(out, know, t, y, arrays).and(push_flips(out, t, y, on_operand))
 }

@@ -14,10 +14,11 @@ fn push_claimed(out: &mut Vec<Fact>, t: &Path, claim: &Claim) -> Result<(), Allo
 {
     match *claim {
         Claim::Range(low, high) => push_fact(out, Fact::Rng(*t, low as i64, high as i64)),
-        Claim::Low(low) => {
-            push_fact(out, Fact::Rng(*t, low as i64, 2147483647))?;
-            push_if(out, -1 <= low && low <= 1, Fact::Low(*t, low))
-        }
+        Claim::Low(low) => push_fact(out, Fact::Rng(*t, low as i64, 2147483647)).and(push_if(
+            out,
+            -1 <= low && low <= 1,
+            Fact::Low(*t, low),
+        )),
         _ => Ok(()),
     }
 }

@@ -26,8 +26,7 @@ fn push_const(out: &mut Vec<Fact>, t: &Path, value: &Literal) -> Result<(), Allo
         Literal::Int(n) => push_fact(out, Fact::Rng(*t, *n as i64, *n as i64)),
         Literal::NullOf(ty) => {
             let array = is_array(ty);
-            push_if(out, array, Fact::LenRng(*t, 0, 0))?;
-            push_if(out, array, Fact::Same(*t, *t))
+            push_if(out, array, Fact::LenRng(*t, 0, 0)).and(push_if(out, array, Fact::Same(*t, *t)))
         }
         Literal::Bool(_) => Ok(()),
     }
@@ -38,16 +37,14 @@ fn push_fill(out: &mut Vec<Fact>, t: &Path, entries: &List<u32>) -> Result<(), A
     ensures { OnOk result (out.new.items ≡ out.old.items ++ kept (over.fill_facts t.now (length entries.now))) }
 {
     let count = entries.as_slice().len() as i64;
-    push_fact(out, Fact::LenRng(*t, count, count))?;
-    push_fact(out, Fact::Same(*t, *t))
+    push_fact(out, Fact::LenRng(*t, count, count)).and(push_fact(out, Fact::Same(*t, *t)))
 }
 
 /// A cell of an array of this type.
 fn push_load(out: &mut Vec<Fact>, t: &Path, ty: &Type_) -> Result<(), AllocError>
     ensures { OnOk result (out.new.items ≡ out.old.items ++ kept (over.load_facts t.now ty.now)) }
 {
-    push_if(out, holds_arrays(ty), Fact::Same(*t, *t))?;
-    push_loaded(out, t, ty)
+    push_if(out, holds_arrays(ty), Fact::Same(*t, *t)).and(push_loaded(out, t, ty))
 }
 
 /// Adds the facts of `t = y op z`.

@@ -25,8 +25,7 @@ fn push_result(
 ) -> Result<(), AllocError>
     ensures { OnOk result (out.new.items ≡ out.old.items ++ kept (exact.range_facts t.now i ++ exact.low_facts profile t.now i table)) }
 {
-    push_range(out, t, i)?;
-    push_low(out, profile, t, i, table)
+    push_range(out, t, i).and(push_low(out, profile, t, i, table))
 }
 
 /// `t = y / z`, and the half of a sum.
@@ -40,8 +39,7 @@ fn push_division<K: Know>(
 ) -> Result<(), AllocError>
     ensures { OnOk result (out.new.items ≡ out.old.items ++ kept (after.quotient_facts (in_orders (K.known know.now)) t.now y.now z.now ++ over.half_facts (in_orders (K.known know.now)) on_left.now [] [] (pos 2) t.now y.now z.now)) }
 {
-    push_quotient(out, know, t, y, z)?;
-    push_half(out, know, on_left, 2, t, y, z)
+    push_quotient(out, know, t, y, z).and(push_half(out, know, on_left, 2, t, y, z))
 }
 
 /// `t = y >> z` and `t = y >>> z`, and the half of a sum.
@@ -55,8 +53,7 @@ fn push_right_shift<K: Know>(
 ) -> Result<(), AllocError>
     ensures { OnOk result (out.new.items ≡ out.old.items ++ kept (after.shift_facts (in_orders (K.known know.now)) t.now y.now ++ over.half_facts (in_orders (K.known know.now)) on_left.now [] [] (pos 1) t.now y.now z.now)) }
 {
-    push_shift(out, know, t, y)?;
-    push_half(out, know, on_left, 1, t, y, z)
+    push_shift(out, know, t, y).and(push_half(out, know, on_left, 1, t, y, z))
 }
 
 /// What an operator gives besides the range and the classes of its result; `counts` says whether bounds may count the exact result.
@@ -105,8 +102,7 @@ pub(crate) fn push_num<K: Know>(
     ensures { OnOk result (out.new.items ≡ out.old.items ++ kept (over.num_facts (in_orders (K.known know.now)) on_left.now on_right.now arrays.now profile arith t.now y.now z.now)) }
 {
     let i = exact_interval(know, on_left, arrays, arith, y, z);
-    push_result(out, profile, t, i, table_class(know, arith, y, z))?;
-    push_arith(
+    push_result(out, profile, t, i, table_class(know, arith, y, z)).and(push_arith(
         out,
         know,
         on_left,
@@ -118,7 +114,7 @@ pub(crate) fn push_num<K: Know>(
         t,
         y,
         z,
-    )
+    ))
 }
 
 /// `t = -y` and `t = ~y`.

@@ -28,8 +28,13 @@ pub(crate) fn push_product<K: Know>(
 ) -> Result<(), AllocError>
     ensures { OnOk result (out.new.items ≡ out.old.items ++ kept (after.product_facts (in_orders (K.known know.now)) t.now y.now z.now)) }
 {
-    push_less_if(out, is_from(know, y, 0) && is_from(know, z, 1), y, t, 1)?;
-    push_less_if(out, is_from(know, z, 0) && is_from(know, y, 1), z, t, 1)
+    push_less_if(out, is_from(know, y, 0) && is_from(know, z, 1), y, t, 1).and(push_less_if(
+        out,
+        is_from(know, z, 0) && is_from(know, y, 1),
+        z,
+        t,
+        1,
+    ))
 }
 
 /// `t = y / z`.
@@ -42,8 +47,13 @@ pub(crate) fn push_quotient<K: Know>(
 ) -> Result<(), AllocError>
     ensures { OnOk result (out.new.items ≡ out.old.items ++ kept (after.quotient_facts (in_orders (K.known know.now)) t.now y.now z.now)) }
 {
-    push_less_if(out, is_from(know, y, 0) && is_from(know, z, 0), t, y, 1)?;
-    push_less_if(out, is_from(know, y, 1) && is_from(know, z, 2), t, y, 0)
+    push_less_if(out, is_from(know, y, 0) && is_from(know, z, 0), t, y, 1).and(push_less_if(
+        out,
+        is_from(know, y, 1) && is_from(know, z, 2),
+        t,
+        y,
+        0,
+    ))
 }
 
 /// `t = y % z`.
@@ -56,8 +66,13 @@ pub(crate) fn push_remainder<K: Know>(
 ) -> Result<(), AllocError>
     ensures { OnOk result (out.new.items ≡ out.old.items ++ kept (after.remainder_facts (in_orders (K.known know.now)) t.now y.now z.now)) }
 {
-    push_less_if(out, is_from(know, z, 0), t, z, 0)?;
-    push_less_if(out, is_from(know, y, 0), t, y, 1)
+    push_less_if(out, is_from(know, z, 0), t, z, 0).and(push_less_if(
+        out,
+        is_from(know, y, 0),
+        t,
+        y,
+        1,
+    ))
 }
 
 /// `t = y & z`.
@@ -70,8 +85,13 @@ pub(crate) fn push_and<K: Know>(
 ) -> Result<(), AllocError>
     ensures { OnOk result (out.new.items ≡ out.old.items ++ kept (after.and_facts (in_orders (K.known know.now)) t.now y.now z.now)) }
 {
-    push_less_if(out, is_from(know, z, 0), t, z, 1)?;
-    push_less_if(out, is_from(know, y, 0), t, y, 1)
+    push_less_if(out, is_from(know, z, 0), t, z, 1).and(push_less_if(
+        out,
+        is_from(know, y, 0),
+        t,
+        y,
+        1,
+    ))
 }
 
 /// `t = y >> z` and `t = y >>> z`.
@@ -106,8 +126,7 @@ fn push_half_between<K: Know>(
     ensures { OnOk result (out.new.items ≡ out.old.items ++ kept (after.half_between (in_orders (K.known know.now)) t.now y.now z.now)) }
 {
     if is_less(know, y, z, 1) {
-        push_less(out, y, t, 1)?;
-        push_less(out, t, z, 1)?;
+        push_less(out, y, t, 1).and(push_less(out, t, z, 1))?;
     }
     push_less_if(out, is_less(know, y, z, 0), t, z, 0)
 }

@@ -57,21 +57,21 @@ fn push_sum_array<K: Know>(
         a,
         &PathOff::Nothing,
         know.upper(y, a, &PathOff::Plus(*z)),
-    )?;
-    push_some_upper(
+    )
+    .and(push_some_upper(
         out,
         t,
         a,
         &PathOff::Minus(*z),
         know.upper(y, a, &PathOff::Nothing),
-    )?;
-    push_some_upper(
+    ))
+    .and(push_some_upper(
         out,
         t,
         a,
         &PathOff::Minus(*y),
         know.upper(z, a, &PathOff::Nothing),
-    )
+    ))
 }
 
 fn push_sum_arrays<K: Know>(
@@ -100,8 +100,12 @@ fn push_apart<K: Know>(
 ) -> Result<(), AllocError>
     ensures { OnOk result (out.new.items ≡ out.old.items ++ kept (if_some (Less t.now r.now) (spec.fact_less (in_orders (K.known know.now)) z.now q.now) ++ if_some (Less r.now t.now) (spec.fact_less (in_orders (K.known know.now)) q.now z.now))) }
 {
-    push_some_less(out, t, r, know.difference(z, q))?;
-    push_some_less(out, r, t, know.difference(q, z))
+    push_some_less(out, t, r, know.difference(z, q)).and(push_some_less(
+        out,
+        r,
+        t,
+        know.difference(q, z),
+    ))
 }
 
 /// `t = y + z` and stored `r = y + q`: t and r differ as z and q do.
@@ -154,14 +158,14 @@ fn push_difference_array<K: Know>(
         a,
         &PathOff::Plus(*z),
         know.upper(y, a, &PathOff::Nothing),
-    )?;
-    push_some_upper(
+    )
+    .and(push_some_upper(
         out,
         t,
         a,
         &PathOff::Nothing,
         know.upper(y, a, &PathOff::Minus(*z)),
-    )
+    ))
 }
 
 fn push_difference_arrays<K: Know>(
@@ -190,8 +194,7 @@ fn push_sum_ends<K: Know>(
 ) -> Result<(), AllocError>
     ensures { OnOk result (out.new.items ≡ out.old.items ++ (kept (Less t.now y.now (spec.upper_limit (in_orders (K.known know.now)) z.now +ℤ pos 1) ∷ []) ++ kept (Less y.now t.now (pos 1 -ℤ spec.lower_bound (in_orders (K.known know.now)) z.now) ∷ []))) }
 {
-    push_below_limit(out, know, t, y, z)?;
-    push_below_bound(out, know, y, t, z)
+    push_below_limit(out, know, t, y, z).and(push_below_bound(out, know, y, t, z))
 }
 
 /// `t = y + z`.
@@ -207,12 +210,12 @@ pub(crate) fn push_sum<K: Know>(
 ) -> Result<(), AllocError>
     ensures { OnOk result (out.new.items ≡ out.old.items ++ kept (over.sum_facts (in_orders (K.known know.now)) on_left.now on_right.now arrays.now t.now y.now z.now)) }
 {
-    push_fact(out, Fact::Sum(*t, *y, *z))?;
-    push_sum_ends(out, know, t, y, z)?;
-    push_sum_ends(out, know, t, z, y)?;
-    push_sum_arrays(out, know, t, y, z, arrays)?;
-    push_sums_beside(out, know, t, y, z, on_left)?;
-    push_sums_beside(out, know, t, z, y, on_right)
+    push_fact(out, Fact::Sum(*t, *y, *z))
+        .and(push_sum_ends(out, know, t, y, z))
+        .and(push_sum_ends(out, know, t, z, y))
+        .and(push_sum_arrays(out, know, t, y, z, arrays))
+        .and(push_sums_beside(out, know, t, y, z, on_left))
+        .and(push_sums_beside(out, know, t, z, y, on_right))
 }
 
 /// `t = y - z`.
@@ -226,8 +229,8 @@ pub(crate) fn push_difference<K: Know>(
 ) -> Result<(), AllocError>
     ensures { OnOk result (out.new.items ≡ out.old.items ++ kept (over.difference_facts (in_orders (K.known know.now)) [] [] arrays.now t.now y.now z.now)) }
 {
-    push_fact(out, Fact::Sum(*y, *t, *z))?;
-    push_below_bound(out, know, t, y, z)?;
-    push_below_limit(out, know, y, t, z)?;
-    push_difference_arrays(out, know, t, y, z, arrays)
+    push_fact(out, Fact::Sum(*y, *t, *z))
+        .and(push_below_bound(out, know, t, y, z))
+        .and(push_below_limit(out, know, y, t, z))
+        .and(push_difference_arrays(out, know, t, y, z, arrays))
 }
