@@ -23,16 +23,15 @@ pub fn is_of_target(kind: &OpKind, p: &Path) -> bool
     ensures { result ≡ of_target kind.now p.now }
 {
     match kind {
-        OpKind::Const(t, _) => is_of_path(&Path::Slot(*t), p),
-        OpKind::Copy(t, _, _) => is_of_path(&Path::Slot(*t), p),
-        OpKind::Num(t, _, _, _) => is_of_path(&Path::Slot(*t), p),
-        OpKind::Unary(t, _, _) => is_of_path(&Path::Slot(*t), p),
-        OpKind::Length(t, _) => is_of_path(&Path::Slot(*t), p),
-        OpKind::NewArray(t, _, _) => is_of_path(&Path::Slot(*t), p),
-        OpKind::Fill(t, _, _) => is_of_path(&Path::Slot(*t), p),
-        OpKind::Load(t, _, _, _) => is_of_path(&Path::Slot(*t), p),
-        OpKind::Store(_, _, _, _) => false,
-        OpKind::Print(_) => false,
+        OpKind::Const(t, _)
+        | OpKind::Copy(t, _, _)
+        | OpKind::Num(t, _, _, _)
+        | OpKind::Unary(t, _, _)
+        | OpKind::Length(t, _)
+        | OpKind::NewArray(t, _, _)
+        | OpKind::Fill(t, _, _)
+        | OpKind::Load(t, _, _, _) => is_of_path(&Path::Slot(*t), p),
+        OpKind::Store(_, _, _, _) | OpKind::Print(_) => false,
         _ => true,
     }
 }
@@ -42,8 +41,7 @@ fn offset_names_path(path: &Path, offset: &PathOff) -> bool
 {
     match *offset {
         PathOff::Nothing => false,
-        PathOff::Plus(q) => is_of_path(path, &q),
-        PathOff::Minus(q) => is_of_path(path, &q),
+        PathOff::Plus(q) | PathOff::Minus(q) => is_of_path(path, &q),
     }
 }
 
@@ -52,17 +50,15 @@ pub fn names_path(path: &Path, fact: &Fact) -> bool
     ensures { result ≡ names (of_path path.now) fact.now }
 {
     match *fact {
-        Fact::Rng(p, _, _) => is_of_path(path, &p),
-        Fact::LenRng(a, _, _) => is_of_path(path, &a),
-        Fact::Low(p, _) => is_of_path(path, &p),
-        Fact::Same(a, b) => is_of_path(path, &a) || is_of_path(path, &b),
-        Fact::IsLen(p, a) => is_of_path(path, &p) || is_of_path(path, &a),
-        Fact::Less(p, q, _) => is_of_path(path, &p) || is_of_path(path, &q),
+        Fact::Rng(p, _, _) | Fact::LenRng(p, _, _) | Fact::Low(p, _) => is_of_path(path, &p),
+        Fact::Same(p, q)
+        | Fact::IsLen(p, q)
+        | Fact::Less(p, q, _)
+        | Fact::Search(p, q)
+        | Fact::Neg(p, q) => is_of_path(path, &p) || is_of_path(path, &q),
         Fact::Sum(t, y, z) => {
             is_of_path(path, &t) || (is_of_path(path, &y) || is_of_path(path, &z))
         }
-        Fact::Search(p, a) => is_of_path(path, &p) || is_of_path(path, &a),
-        Fact::Neg(p, a) => is_of_path(path, &p) || is_of_path(path, &a),
         Fact::Upper(p, a, offset, _) => {
             is_of_path(path, &p) || (is_of_path(path, &a) || offset_names_path(path, &offset))
         }
@@ -74,8 +70,7 @@ fn offset_names_target(kind: &OpKind, offset: &PathOff) -> bool
 {
     match *offset {
         PathOff::Nothing => false,
-        PathOff::Plus(q) => is_of_target(kind, &q),
-        PathOff::Minus(q) => is_of_target(kind, &q),
+        PathOff::Plus(q) | PathOff::Minus(q) => is_of_target(kind, &q),
     }
 }
 
@@ -84,17 +79,15 @@ pub fn names_target(kind: &OpKind, fact: &Fact) -> bool
     ensures { result ≡ names (of_target kind.now) fact.now }
 {
     match *fact {
-        Fact::Rng(p, _, _) => is_of_target(kind, &p),
-        Fact::LenRng(a, _, _) => is_of_target(kind, &a),
-        Fact::Low(p, _) => is_of_target(kind, &p),
-        Fact::Same(a, b) => is_of_target(kind, &a) || is_of_target(kind, &b),
-        Fact::IsLen(p, a) => is_of_target(kind, &p) || is_of_target(kind, &a),
-        Fact::Less(p, q, _) => is_of_target(kind, &p) || is_of_target(kind, &q),
+        Fact::Rng(p, _, _) | Fact::LenRng(p, _, _) | Fact::Low(p, _) => is_of_target(kind, &p),
+        Fact::Same(p, q)
+        | Fact::IsLen(p, q)
+        | Fact::Less(p, q, _)
+        | Fact::Search(p, q)
+        | Fact::Neg(p, q) => is_of_target(kind, &p) || is_of_target(kind, &q),
         Fact::Sum(t, y, z) => {
             is_of_target(kind, &t) || (is_of_target(kind, &y) || is_of_target(kind, &z))
         }
-        Fact::Search(p, a) => is_of_target(kind, &p) || is_of_target(kind, &a),
-        Fact::Neg(p, a) => is_of_target(kind, &p) || is_of_target(kind, &a),
         Fact::Upper(p, a, offset, _) => {
             is_of_target(kind, &p) || (is_of_target(kind, &a) || offset_names_target(kind, &offset))
         }

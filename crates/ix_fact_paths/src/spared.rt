@@ -16,14 +16,14 @@ pub fn assigned_path(kind: &OpKind) -> Option<Path>
     ensures none { IfNone result ((target : Path) → ((p : Path) → of_target kind.now p ≡ of_path target p) → ⊥) }
 {
     match kind {
-        OpKind::Const(t, _) => Some(Path::Slot(*t)),
-        OpKind::Copy(t, _, _) => Some(Path::Slot(*t)),
-        OpKind::Num(t, _, _, _) => Some(Path::Slot(*t)),
-        OpKind::Unary(t, _, _) => Some(Path::Slot(*t)),
-        OpKind::Length(t, _) => Some(Path::Slot(*t)),
-        OpKind::NewArray(t, _, _) => Some(Path::Slot(*t)),
-        OpKind::Fill(t, _, _) => Some(Path::Slot(*t)),
-        OpKind::Load(t, _, _, _) => Some(Path::Slot(*t)),
+        OpKind::Const(t, _)
+        | OpKind::Copy(t, _, _)
+        | OpKind::Num(t, _, _, _)
+        | OpKind::Unary(t, _, _)
+        | OpKind::Length(t, _)
+        | OpKind::NewArray(t, _, _)
+        | OpKind::Fill(t, _, _)
+        | OpKind::Load(t, _, _, _) => Some(Path::Slot(*t)),
         OpKind::Store(_, _, _, _) => None,
         OpKind::ReadField(_, _, _) => None,
         OpKind::WriteField(_, _, _) => None,
