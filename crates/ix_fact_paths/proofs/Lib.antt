@@ -1,3 +1,4 @@
+mod Filtered
 mod OnePath
 mod RisingMarks
 -- Passed on from ix_facts.
