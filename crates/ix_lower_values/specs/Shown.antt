@@ -1,6 +1,8 @@
 -- What a scope of the code is as a scope of the definition.
-use Rattle.std.specs.Prelude.{ℕ, Bool, true, false, List, [], map, Option, Some}
+use Rattle.std.specs.Prelude.{ℕ, Bool, true, false, List, [], ◌∷◌, map, Option, Some}
 use Rattle.ix_core.specs.declared.claim.Type_.{Type_}
+use Rattle.ix_core.specs.declared.op.OpKind.{OpKind}
+use Rattle.ix_core.specs.declared.op.OpKind.TheVariants as op
 use Rattle.ix_tree.specs.declared.expr.BinaryOp.{BinaryOp}
 use Rattle.ix_tree.specs.declared.expr.BinaryOp.TheVariants as binary
 use Rattle.ix_tree.specs.declared.expr.UnaryOp.{UnaryOp}
@@ -11,7 +13,10 @@ use Rattle.ix_tree.specs.declared.expr.Init.{Init}
 use Rattle.ix_table.specs.Numbered.{shown}
 use Rattle.ix_meaning.specs.declared.note.Meaning.{Meaning}
 use Rattle.ix_meaning.specs.declared.note.Meaning.TheVariants as meaning
+use Rattle.ix_text.specs.declared.span.Span.{Span}
 use Rattle.ix_plain.specs.declared.made.Made.{Made}
+use Rattle.ix_plain.specs.declared.made.Spot.{Spot}
+use Rattle.ix_plain.specs.declared.made.Spot.TheVariants as spot
 use Rattle.ix_plain.specs.Scope as spec
 use Rattle.ix_plain.specs.Parts.{Within, Value, Asked, Target}
 use Rattle.ix_plain.specs.Values.{Arguments, Entries, lowering, filling, arguments_from, entries_from}
@@ -94,3 +99,15 @@ class_name_step _ scope = false
 
 abbrev pub is_class_name : spec.Scope → Expr → Bool
 is_class_name scope expr = fold-Expr (spec.Scope → Bool) (spec.Scope → Bool) (spec.Scope → Bool) class_name_step (λ init scope. false) (λ expr. expr.kind) expr scope
+
+-- ---- what is read of an object
+
+abbrev pub member_read : ℕ → ℕ → Option Meaning → OpKind
+member_read target object (Some (meaning.FieldNamed field)) = op.ReadField target object field
+member_read target object _ = op.Length target object
+
+-- ---- the places of the parts of a write
+
+abbrev pub part_spans : Spot → Span → Span → List Span
+part_spans (spot.Cell array index ty at) target from = from ∷ []
+part_spans _ target from = target ∷ from ∷ []

@@ -44,36 +44,30 @@ pub fn add_assigned(scope: &Scope<'_>, expr: &Expr, known: &mut List<u32>) -> Re
     match &expr.kind {
         ExprKind::Select(object, _) => add_assigned(scope, object.get(), known),
         ExprKind::Index(array, index) => {
-            add_assigned(scope, array.get(), known)?;
-            add_assigned(scope, index.get(), known)
+            add_assigned(scope, array.get(), known).and(add_assigned(scope, index.get(), known))
         }
         ExprKind::Call(None, _, args) => add_all(scope, args.as_slice(), known),
         ExprKind::Call(Some(object), _, args) => {
-            add_assigned(scope, object.get(), known)?;
-            add_all(scope, args.as_slice(), known)
+            add_assigned(scope, object.get(), known).and(add_all(scope, args.as_slice(), known))
         }
         ExprKind::New(_, args) => add_all(scope, args.as_slice(), known),
         ExprKind::NewArray(_, size) => add_assigned(scope, size.get(), known),
         ExprKind::NewItems(_, items) => add_inits(scope, items.as_slice(), known),
         ExprKind::Unary(_, operand) => add_assigned(scope, operand.get(), known),
         ExprKind::Binary(_, left, right) => {
-            add_assigned(scope, left.get(), known)?;
-            add_assigned(scope, right.get(), known)
+            add_assigned(scope, left.get(), known).and(add_assigned(scope, right.get(), known))
         }
-        ExprKind::Assign(_, target, value) => {
-            add_own(scope, target.get(), known)?;
-            add_assigned(scope, target.get(), known)?;
-            add_assigned(scope, value.get(), known)
-        }
+        ExprKind::Assign(_, target, value) => add_own(scope, target.get(), known)
+            .and(add_assigned(scope, target.get(), known))
+            .and(add_assigned(scope, value.get(), known)),
         ExprKind::Step { target, .. } => {
-            add_own(scope, target.get(), known)?;
-            add_assigned(scope, target.get(), known)
+            add_own(scope, target.get(), known).and(add_assigned(scope, target.get(), known))
         }
-        ExprKind::Int(_) => Ok(()),
-        ExprKind::Bool(_) => Ok(()),
-        ExprKind::Null => Ok(()),
-        ExprKind::This => Ok(()),
-        ExprKind::Name(_) => Ok(()),
+        ExprKind::Int(_)
+        | ExprKind::Bool(_)
+        | ExprKind::Null
+        | ExprKind::This
+        | ExprKind::Name(_) => Ok(()),
     }
 }
 

@@ -3,6 +3,7 @@ ghost use Rattle.std.specs.Prelude.{◌≡◌, ◌≢◌, ◌++◌, ◌∷◌, [
 ghost use Rattle.ix_num.specs.declared.arith.Arith.TheVariants as arith;
 ghost use Rattle.ix_core.specs.Types.{int_type};
 ghost use Rattle.ix_core.specs.declared.code.Cond.TheVariants as cond;
+ghost use Rattle.ix_tree.specs.declared.expr.BinaryOp.TheVariants as binary;
 ghost use Rattle.ix_core.specs.declared.op.OpKind.TheVariants as op;
 ghost use Rattle.ix_meaning.specs.declared.note.Which.{Which};
 ghost use Rattle.ix_plain.specs.declared.made.Made.{Made};
@@ -14,7 +15,7 @@ ghost use Rattle.ix_plain.specs.Scope.{type_at};
 ghost use Rattle.ix_plain.specs.Values as spec;
 ghost use Rattle.ix_plain.specs.Values.{int_value};
 ghost use Rattle.ix_lower_values.specs.declared.expression.Form.TheVariants as form;
-ghost use Rattle.ix_lower_values.specs.Shown.{shown_scope, valued, asked, targeted, left_unused, all_given, initial, all_initial, form_of, is_class_name};
+ghost use Rattle.ix_lower_values.specs.Shown.{shown_scope, valued, asked, targeted, left_unused, all_given, initial, all_initial, form_of, is_class_name, member_read};
 
 use crate::made::{cell_type, compute, constant, empty, push, read, take, truth, write};
 use crate::scope::{
@@ -257,6 +258,16 @@ fn is_class_name(scope: &Scope<'_>, expr: &Expr) -> bool
     }
 }
 
+/// The read of an object's field, or of an array's length.
+fn member_read(meaning: Option<Meaning>, target: u32, object: u32) -> OpKind
+    ensures { result ≡ member_read target object meaning }
+{
+    match meaning {
+        Some(Meaning::FieldNamed(field)) => OpKind::ReadField(target, object, field),
+        _ => OpKind::Length(target, object),
+    }
+}
+
 // ---- operations behind their parts
 
 /// An element, in an array whose type is that of the expression at its place; the places are those of array and index.
@@ -318,8 +329,9 @@ fn written(
     } }
 {
     let ty = type_at(alloc, scope, spans.2)?;
-    assign(alloc, spot, value, ty, spans, made)?;
-    Ok(value)
+    assign(alloc, spot, value, ty, spans, made)
+        .map_err(Stop::from)
+        .and(Ok(value))
 }
 
 /// Computes with two ints, and writes the result into a spot; the places are those of the assignment and of its target.
@@ -340,8 +352,9 @@ fn computed_into(
     let (whole, target) = spans;
     let kind = OpKind::Num(made.free, arith, y, z);
     let t = compute(alloc, made, kind, whole)?;
-    assign(alloc, spot, t, INT, (whole, target, whole), made)?;
-    Ok(t)
+    assign(alloc, spot, t, INT, (whole, target, whole), made)
+        .map_err(Stop::from)
+        .and(Ok(t))
 }
 
 /// Adds 1 to a spot, or subtracts it; answers what is read or what is written.
@@ -463,16 +476,19 @@ fn opposite(alloc: Global, asked: Cond) -> Result<Cond, Stop>
     Ok(Cond::Opposite(Boxed::new(alloc, asked)?))
 }
 
-fn both(alloc: Global, first: Cond, second: Cond) -> Result<Cond, Stop>
-    ensures { MatchResult result (λ made. made ≡ cond.Both first second) (λ cause. cause ≡ stop.Memory) }
+/// Both conditions by `&&`, or one of them by `||`.
+fn joined(alloc: Global, op: BinaryOp, first: Cond, second: Cond) -> Result<Cond, Stop>
+    ensures { record {
+      both : op ≡ binary.AndAlso → MatchResult result (λ made. made ≡ cond.Both first second) (λ cause. cause ≡ stop.Memory);
+      either : op ≡ binary.OrElse → MatchResult result (λ made. made ≡ cond.Either first second) (λ cause. cause ≡ stop.Memory);
+    } }
 {
-    Ok(Cond::Both(Boxed::new(alloc, first)?, Boxed::new(alloc, second)?))
-}
-
-fn either(alloc: Global, first: Cond, second: Cond) -> Result<Cond, Stop>
-    ensures { MatchResult result (λ made. made ≡ cond.Either first second) (λ cause. cause ≡ stop.Memory) }
-{
-    Ok(Cond::Either(Boxed::new(alloc, first)?, Boxed::new(alloc, second)?))
+    let left = Boxed::new(alloc, first)?;
+    let right = Boxed::new(alloc, second)?;
+    match op {
+        BinaryOp::AndAlso => Ok(Cond::Both(left, right)),
+        _ => Ok(Cond::Either(left, right)),
+    }
 }
 
 /// A comparison of slots, which the block computes; the places are those of the sides.
@@ -562,14 +578,9 @@ fn selected(alloc: Global, scope: &Scope<'_>, expr: &Expr, made: &mut Made) -> R
                 unused(alloc, scope, object.get(), made)?;
                 constant(alloc, made, n, expr.span)
             }
-            Some(Meaning::FieldNamed(field)) => {
+            other => {
                 let o = value(alloc, scope, object.get(), made)?;
-                let kind = OpKind::ReadField(made.free, o, field);
-                compute(alloc, made, kind, expr.span)
-            }
-            _ => {
-                let o = value(alloc, scope, object.get(), made)?;
-                let kind = OpKind::Length(made.free, o);
+                let kind = member_read(other, made.free, o);
                 compute(alloc, made, kind, expr.span)
             }
         },
@@ -815,8 +826,7 @@ fn unused(alloc: Global, scope: &Scope<'_>, expr: &Expr, made: &mut Made) -> Res
     if is_class_name(scope, expr) {
         return Ok(());
     }
-    value(alloc, scope, expr, made)?;
-    Ok(())
+    value(alloc, scope, expr, made).and(Ok(()))
 }
 
 /// The parts of an assignment's target, which are evaluated once.
@@ -913,15 +923,10 @@ fn asked(alloc: Global, scope: &Scope<'_>, expr: &Expr, free: &mut u32) -> Resul
             let first = condition(alloc, scope, operand.get(), free)?;
             opposite(alloc, first)
         }
-        ExprKind::Binary(BinaryOp::AndAlso, left, right) => {
+        ExprKind::Binary(op @ (BinaryOp::AndAlso | BinaryOp::OrElse), left, right) => {
             let first = condition(alloc, scope, left.get(), free)?;
             let second = condition(alloc, scope, right.get(), free)?;
-            both(alloc, first, second)
-        }
-        ExprKind::Binary(BinaryOp::OrElse, left, right) => {
-            let first = condition(alloc, scope, left.get(), free)?;
-            let second = condition(alloc, scope, right.get(), free)?;
-            either(alloc, first, second)
+            joined(alloc, *op, first, second)
         }
         ExprKind::Binary(BinaryOp::Compare(rel), left, right) => {
             let mut block = empty(alloc, *free);

@@ -7,6 +7,7 @@ ghost use Rattle.ix_core.specs.declared.op.OpKind.TheVariants as op;
 ghost use Rattle.ix_core.specs.Types.{cell_type};
 ghost use Rattle.ix_plain.specs.Parts as spec;
 ghost use Rattle.ix_plain.specs.Values.{int_value};
+ghost use Rattle.ix_lower_values.specs.Shown.{part_spans};
 
 use ix_core::{Block, Claim, Cond, Item, Literal, Op, OpKind, Type_};
 use ix_meaning::Which;
@@ -140,6 +141,21 @@ pub fn span_list(alloc: Global, spans: &[Span]) -> Result<List<Span>, AllocError
     Ok(list)
 }
 
+/// The places of the parts of a write, of which the target is one where it isn't a cell.
+fn part_spans(
+    alloc: Global,
+    spot: &Spot,
+    target: Span,
+    from: Span,
+) -> Result<List<Span>, AllocError>
+    ensures { IfOk result (λ spans. spans ≡ part_spans spot.now target from) }
+{
+    match spot {
+        Spot::Cell(_, _, _, _) => span_list(alloc, &[from]),
+        _ => span_list(alloc, &[target, from]),
+    }
+}
+
 /// The write of a value: the places are those of the assignment, of its target and of its value.
 pub fn write(
     alloc: Global,
@@ -152,26 +168,15 @@ pub fn write(
 ) -> Result<Item, AllocError>
     ensures { IfOk result (λ item. item ≡ spec.write spot value ty whole target from) }
 {
-    match spot {
-        Spot::Variable(slot) => {
-            let parts = span_list(alloc, &[target, from])?;
-            let kind = OpKind::Copy(slot, value, ty);
-            let span = whole;
-            Ok(Item::Do(Op { kind, span, parts }))
-        }
-        Spot::FieldOf(object, field) => {
-            let parts = span_list(alloc, &[target, from])?;
-            let kind = OpKind::WriteField(object, field, value);
-            let span = whole;
-            Ok(Item::Do(Op { kind, span, parts }))
-        }
+    let parts = part_spans(alloc, &spot, target, from)?;
+    let (kind, span) = match spot {
+        Spot::Variable(slot) => (OpKind::Copy(slot, value, ty), whole),
+        Spot::FieldOf(object, field) => (OpKind::WriteField(object, field, value), whole),
         Spot::Cell(array, index, array_type, at) => {
-            let parts = span_list(alloc, &[from])?;
-            let kind = OpKind::Store(array, index, value, array_type);
-            let span = at;
-            Ok(Item::Do(Op { kind, span, parts }))
+            (OpKind::Store(array, index, value, array_type), at)
         }
-    }
+    };
+    Ok(Item::Do(Op { kind, span, parts }))
 }
 
 /// The type of a cell.
