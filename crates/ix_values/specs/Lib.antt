@@ -1,4 +1,5 @@
 pub mod Objects
+pub mod Operators
 -- Passed on from ix_scopes.
 pub use Rattle.ix_scopes.specs.Here
 pub use Rattle.ix_scopes.specs.declared.scope.Local

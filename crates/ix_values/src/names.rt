@@ -18,12 +18,21 @@ use ix_types::{copied_option, is_reference};
 use std::alloc::{AllocError, Global};
 
 /// What stands before a dot.
-#[derive(Drop)]
 pub enum Object {
     /// What has no members.
     Nothing,
     OfClass(u32),
     Value(Type_),
+}
+
+impl Drop for Object {
+    fn drop(self) {
+        match self {
+            Object::Nothing => {}
+            Object::OfClass(_) => {}
+            Object::Value(ty) => drop(ty),
+        }
+    }
 }
 
 pub fn field_use(
@@ -36,8 +45,14 @@ pub fn field_use(
 ) -> Result<(), AllocError>
     ensures { OnOk result (notes.new ≡ notes.old ++ spec.field_use_in scopes.now.in_constructor scopes.now.class assigned through_this span field.now) }
 {
-    note_use(notes, field.meaning, span)?;
-    final_assigned(scopes, notes, assigned, through_this, field, span)
+    note_use(notes, field.meaning, span).and(final_assigned(
+        scopes,
+        notes,
+        assigned,
+        through_this,
+        field,
+        span,
+    ))
 }
 
 fn bare_field(
@@ -54,15 +69,10 @@ fn bare_field(
     } }
 {
     match world.field(scopes.class, name.text.as_str()) {
-        None => {
-            wrong(notes, Rule::UnknownName, name.span)?;
-            Ok(None)
-        }
-        Some(field) => {
-            not_static(scopes, notes, field.is_static, name.span)?;
-            field_use(scopes, notes, assigned, true, name.span, field)?;
-            copied_option(alloc, &field.ty)
-        }
+        None => wrong(notes, Rule::UnknownName, name.span).and(Ok(None)),
+        Some(field) => not_static(scopes, notes, field.is_static, name.span)
+            .and(field_use(scopes, notes, assigned, true, name.span, field))
+            .and(copied_option(alloc, &field.ty)),
     }
 }
 
@@ -78,14 +88,14 @@ fn known_use(
       notes : OnOk result (notes.new ≡ notes.old ++ spec.known_notes assigned (known_as name.now.text known.entry) name.now.span);
     } }
 {
-    notes.push(Note::Use(name.span, known.meaning))?;
-    wrong_if(
-        notes,
-        assigned && known.is_fixed,
-        Rule::FinalAssigned,
-        name.span,
-    )?;
-    copied_option(alloc, known.ty)
+    note_use(notes, Some(known.meaning), name.span)
+        .and(wrong_if(
+            notes,
+            assigned && known.is_fixed,
+            Rule::FinalAssigned,
+            name.span,
+        ))
+        .and(copied_option(alloc, known.ty))
 }
 
 /// A name as a variable.
@@ -103,8 +113,7 @@ pub fn variable(
     } }
 {
     if scopes.is_pending(name.text.as_str()) {
-        wrong(notes, Rule::UnknownName, name.span)?;
-        return Ok(None);
+        return wrong(notes, Rule::UnknownName, name.span).and(Ok(None));
     }
     match scopes.meant(name.text.as_str()) {
         Some(known) => known_use(alloc, notes, assigned, name, known),
@@ -137,8 +146,7 @@ pub fn object_of(
             if is_reference(&ty) {
                 return Ok(Object::Value(ty));
             }
-            wrong(notes, Rule::TypeMismatch, span)?;
-            Ok(Object::Nothing)
+            wrong(notes, Rule::TypeMismatch, span).and(Ok(Object::Nothing))
         }
     }
 }
@@ -158,8 +166,9 @@ pub fn name_before_dot(
 {
     if !is_variable(world, scopes, name.text.as_str()) {
         if let Some(class) = world.class(name.text.as_str()) {
-            notes.push(Note::Use(name.span, Meaning::ClassNamed(class)))?;
-            return Ok(Object::OfClass(class));
+            return note_use(notes, Some(Meaning::ClassNamed(class)), name.span).and(Ok(
+                Object::OfClass(class),
+            ));
         }
     }
     let ty = variable(alloc, world, scopes, notes, false, name)?;

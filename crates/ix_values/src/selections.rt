@@ -1,9 +1,12 @@
 //! Selections (JLS 15.11), and what else is read off the types of parts.
 
-ghost use Rattle.std.specs.Prelude.{◌≡◌, ◌++◌, IfOk, OnOk};
+ghost use Rattle.std.specs.Prelude.{◌≡◌, ◌++◌, true, IfOk, OnOk};
 ghost use Rattle.ix_meaning.specs.Members as members;
 ghost use Rattle.ix_meaning.specs.Types as types;
+ghost use Rattle.ix_meaning.specs.Scope.{Scope};
 ghost use Rattle.ix_meaning.specs.Values as spec;
+ghost use Rattle.ix_text.specs.declared.span.Span.{Span};
+ghost use Rattle.ix_values.specs.Operators.{equates};
 ghost use Rattle.ix_scopes.specs.Here.{here};
 ghost use Rattle.ix_values.specs.Objects as objects;
 ghost use Rattle.ix_scopes.specs.World as tables;
@@ -12,9 +15,9 @@ use crate::names::{Object, field_use};
 use ix_core::{Base, Type_};
 use ix_meaning::{Meaning, Note, Rule};
 use ix_num::Rel;
-use ix_scopes::{Scopes, World, cannot_compare, null_mismatch, wrong, wrong_if};
+use ix_scopes::{Scopes, World, cannot_compare, note_use, null_mismatch, wrong, wrong_if};
 use ix_text::{List, Span};
-use ix_tree::{Expr, ExprKind, Ident};
+use ix_tree::{BinaryOp, Expr, ExprKind, Ident};
 use ix_types::{INT, copied_option, element, need_like};
 use std::alloc::{AllocError, Global};
 
@@ -51,8 +54,7 @@ pub fn element_in(
         None => Ok(None),
         Some(ty) => {
             let inner = element(alloc, ty)?;
-            wrong_if(notes, inner.is_none(), Rule::TypeMismatch, span)?;
-            Ok(inner)
+            wrong_if(notes, inner.is_none(), Rule::TypeMismatch, span).and(Ok(inner))
         }
     }
 }
@@ -73,13 +75,11 @@ fn instance_field(
     } }
 {
     match world.field(class, name.text.as_str()) {
-        None => {
-            wrong(notes, Rule::UnknownName, name.span)?;
-            Ok(None)
-        }
+        None => wrong(notes, Rule::UnknownName, name.span).and(Ok(None)),
         Some(field) => {
-            field_use(scopes, notes, assigned, through_this, name.span, field)?;
-            copied_option(alloc, &field.ty)
+            field_use(scopes, notes, assigned, through_this, name.span, field).and(copied_option(
+                alloc, &field.ty,
+            ))
         }
     }
 }
@@ -99,14 +99,11 @@ fn class_field(
     } }
 {
     match world.field(class, name.text.as_str()) {
-        None => {
-            wrong(notes, Rule::UnknownName, name.span)?;
-            Ok(None)
-        }
+        None => wrong(notes, Rule::UnknownName, name.span).and(Ok(None)),
         Some(field) => {
-            wrong_if(notes, !field.is_static, Rule::NotStatic, name.span)?;
-            field_use(scopes, notes, assigned, false, name.span, field)?;
-            copied_option(alloc, &field.ty)
+            wrong_if(notes, !field.is_static, Rule::NotStatic, name.span)
+                .and(field_use(scopes, notes, assigned, false, name.span, field))
+                .and(copied_option(alloc, &field.ty))
         }
     }
 }
@@ -122,12 +119,11 @@ fn array_length(
     } }
 {
     if name.text.as_str() == "length" {
-        notes.push(Note::Use(name.span, Meaning::LengthOf))?;
-        wrong_if(notes, assigned, Rule::NotAssignable, name.span)?;
-        return Ok(Some(INT));
+        return note_use(notes, Some(Meaning::LengthOf), name.span)
+            .and(wrong_if(notes, assigned, Rule::NotAssignable, name.span))
+            .and(Ok(Some(INT)));
     }
-    wrong(notes, Rule::UnknownName, name.span)?;
-    Ok(None)
+    wrong(notes, Rule::UnknownName, name.span).and(Ok(None))
 }
 
 pub fn selected(
@@ -164,12 +160,25 @@ pub fn selected(
     }
 }
 
-pub fn is_equality(rel: Rel) -> bool
+fn is_equal_or_not(rel: Rel) -> bool
     ensures { result ≡ spec.is_equality rel }
 {
     match rel {
         Rel::Eq => true,
         Rel::Ne => true,
+        _ => false,
+    }
+}
+
+/// Whether the operator is `==` or `!=`.
+pub fn is_equality(op: BinaryOp) -> bool
+    ensures { record {
+      is : result ≡ equates op;
+      then : (a b : spec.Reading) (s : Scope) (p : Span) → result ≡ true → spec.binary op a b s p ≡ spec.equality a b s p;
+    } }
+{
+    match op {
+        BinaryOp::Compare(rel) => is_equal_or_not(rel),
         _ => false,
     }
 }
@@ -189,8 +198,11 @@ pub fn compared(
 {
     if is_null(a) {
         if is_null(b) {
-            wrong(notes, Rule::TypeMismatch, a.span)?;
-            return wrong(notes, Rule::TypeMismatch, b.span);
+            return wrong(notes, Rule::TypeMismatch, a.span).and(wrong(
+                notes,
+                Rule::TypeMismatch,
+                b.span,
+            ));
         }
         return null_mismatch(alloc, notes, need_like(u), a.span);
     }

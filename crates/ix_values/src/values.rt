@@ -1,8 +1,12 @@
 //! The pass over an expression: each part is read once.
 
-ghost use Rattle.std.specs.Prelude.{◌≡◌, ◌++◌, IfOk, OnOk, map};
+ghost use Rattle.std.specs.Prelude.{◌≡◌, ◌++◌, false, Some, IfOk, OnOk, map};
 ghost use Rattle.ix_meaning.specs.Members as members;
+ghost use Rattle.ix_meaning.specs.Scope.{Scope};
+ghost use Rattle.ix_meaning.specs.Types as types;
 ghost use Rattle.ix_meaning.specs.Values as spec;
+ghost use Rattle.ix_text.specs.declared.span.Span.{Span};
+ghost use Rattle.ix_values.specs.Operators.{equates};
 ghost use Rattle.ix_scopes.specs.Here.{here};
 ghost use Rattle.ix_types.specs.Needs as needs;
 ghost use Rattle.ix_values.specs.Objects as objects;
@@ -15,13 +19,49 @@ use crate::selections::{
 use ix_core::{Base, Type_};
 use ix_meaning::{Meaning, Note, Rule};
 use ix_scopes::{
-    Called, Scopes, World, created, list_mismatch, not_static, note_type, null_mismatch,
+    Called, Scopes, World, created, list_mismatch, not_static, note_type, note_use, null_mismatch,
     type_mismatch, wrong, wrong_if,
 };
 use ix_text::{List, Span};
-use ix_tree::{BinaryOp, Expr, ExprKind, Ident, Init, UnaryOp};
+use ix_tree::{BinaryOp, Expr, ExprKind, Ident, Init, TypeTree, UnaryOp};
 use ix_types::{BOOLEAN, INT, Need, copied_option, need_like};
 use std::alloc::{AllocError, Global};
+
+/// The type of the expression at that place, which is noted.
+fn typed(
+    alloc: Global,
+    notes: &mut List<Note>,
+    found: Option<Type_>,
+    span: Span,
+) -> Result<Option<Type_>, AllocError>
+    ensures { record {
+      ty : IfOk result (λ t. t ≡ found);
+      notes : OnOk result (notes.new ≡ notes.old ++ types.type_note found span);
+    } }
+{
+    note_type(alloc, notes, &found, span).and(Ok(found))
+}
+
+/// What the operand of an operator must be, and what its value is.
+fn unary_type(op: UnaryOp) -> Type_
+    ensures { (a : spec.Reading) (s : Scope) → spec.unary op a s ≡ types.judged (Some result) (spec.check a s (types.of result)).notes }
+{
+    match op {
+        UnaryOp::Not => BOOLEAN,
+        _ => INT,
+    }
+}
+
+/// What the operands of an operator must be that is no equality, and what its value is.
+fn binary_types(op: BinaryOp) -> (Type_, Type_)
+    ensures { (a b : spec.Reading) (s : Scope) (p : Span) → equates op ≡ false → spec.binary op a b s p ≡ spec.both a b s (types.of result.0) result.1 }
+{
+    match op {
+        BinaryOp::Num(_) => (INT, INT),
+        BinaryOp::Compare(_) => (INT, BOOLEAN),
+        _ => (BOOLEAN, BOOLEAN),
+    }
+}
 
 /// An expression as a value.
 #[cycle(values)]
@@ -38,8 +78,7 @@ pub fn value(
     } }
 {
     let ty = kind(alloc, world, scopes, notes, &e.kind, e.span)?;
-    note_type(alloc, notes, &ty, e.span)?;
-    Ok(ty)
+    typed(alloc, notes, ty, e.span)
 }
 
 /// An expression at a place that needs something.
@@ -119,8 +158,8 @@ pub fn given_to(
         args.len() != params.len(),
         Rule::WrongArguments,
         span,
-    )?;
-    arguments(alloc, world, scopes, notes, args, params)
+    )
+    .and(arguments(alloc, world, scopes, notes, args, params))
 }
 
 #[cycle(values)]
@@ -138,17 +177,17 @@ fn called(
       notes : OnOk result (notes.new ≡ notes.old ++ (spec.called (here world.now scopes.now) span (map spec.reading args.now) (tables.callee method.entry)).notes);
     } }
 {
-    notes.push(Note::Use(span, Meaning::MethodNamed(method.number)))?;
-    given_to(
-        alloc,
-        world,
-        scopes,
-        notes,
-        args,
-        method.signature.params.as_slice(),
-        span,
-    )?;
-    copied_option(alloc, &method.signature.result)
+    note_use(notes, Some(Meaning::MethodNamed(method.number)), span)
+        .and(given_to(
+            alloc,
+            world,
+            scopes,
+            notes,
+            args,
+            method.signature.params.as_slice(),
+            span,
+        ))
+        .and(copied_option(alloc, &method.signature.result))
 }
 
 #[cycle(values)]
@@ -165,9 +204,9 @@ fn unknown_call(
       notes : OnOk result (notes.new ≡ notes.old ++ (spec.unknown_call (here world.now scopes.now) span (map spec.reading args.now)).notes);
     } }
 {
-    wrong(notes, Rule::UnknownName, span)?;
-    arguments(alloc, world, scopes, notes, args, &[])?;
-    Ok(None)
+    wrong(notes, Rule::UnknownName, span)
+        .and(arguments(alloc, world, scopes, notes, args, &[]))
+        .and(Ok(None))
 }
 
 #[cycle(values)]
@@ -187,8 +226,9 @@ fn bare_call(
     match world.method(scopes.class, name.text.as_str()) {
         None => unknown_call(alloc, world, scopes, notes, args, name.span),
         Some(method) => {
-            not_static(scopes, notes, method.signature.is_static, name.span)?;
-            called(alloc, world, scopes, notes, args, method, name.span)
+            not_static(scopes, notes, method.signature.is_static, name.span).and(called(
+                alloc, world, scopes, notes, args, method, name.span,
+            ))
         }
     }
 }
@@ -216,8 +256,8 @@ fn class_call(
                 !method.signature.is_static,
                 Rule::NotStatic,
                 name.span,
-            )?;
-            called(alloc, world, scopes, notes, args, method, name.span)
+            )
+            .and(called(alloc, world, scopes, notes, args, method, name.span))
         }
     }
 }
@@ -259,10 +299,7 @@ fn call_on(
     } }
 {
     match object {
-        Object::Nothing => {
-            arguments(alloc, world, scopes, notes, args, &[])?;
-            Ok(None)
-        }
+        Object::Nothing => arguments(alloc, world, scopes, notes, args, &[]).and(Ok(None)),
         Object::OfClass(class) => class_call(alloc, world, scopes, notes, args, *class, name),
         Object::Value(Type_::Plain(Base::Class(class))) => {
             instance_call(alloc, world, scopes, notes, args, *class, name)
@@ -286,25 +323,51 @@ fn creation(
     } }
 {
     match world.class(name.text.as_str()) {
-        None => {
-            wrong(notes, Rule::UnknownName, name.span)?;
-            arguments(alloc, world, scopes, notes, args, &[])?;
-            Ok(None)
-        }
+        None => unknown_call(alloc, world, scopes, notes, args, name.span),
         Some(class) => {
-            notes.push(Note::Use(name.span, Meaning::ClassNamed(class)))?;
-            given_to(
-                alloc,
-                world,
-                scopes,
-                notes,
-                args,
-                world.constructor_params(class),
-                name.span,
-            )?;
-            Ok(Some(Type_::Plain(Base::Class(class))))
+            note_use(notes, Some(Meaning::ClassNamed(class)), name.span)
+                .and(given_to(
+                    alloc,
+                    world,
+                    scopes,
+                    notes,
+                    args,
+                    world.constructor_params(class),
+                    name.span,
+                ))
+                .and(Ok(Some(Type_::Plain(Base::Class(class)))))
         }
     }
+}
+
+/// A field of what stands before a dot.
+#[cycle(values)]
+fn selection(
+    alloc: Global,
+    world: &World,
+    scopes: &Scopes<'_>,
+    notes: &mut List<Note>,
+    object: &Expr,
+    name: &Ident,
+    assigned: bool,
+) -> Result<Option<Type_>, AllocError>
+    ensures { record {
+      ty : IfOk result (λ t. t ≡ (spec.selection (spec.reading object.now) name.now assigned (here world.now scopes.now)).ty);
+      notes : OnOk result (notes.new ≡ notes.old ++ (spec.selection (spec.reading object.now) name.now assigned (here world.now scopes.now)).notes);
+    } }
+{
+    let through_this = is_this(object);
+    let found = receiver(alloc, world, scopes, notes, object)?;
+    selected(
+        alloc,
+        world,
+        scopes,
+        notes,
+        &found,
+        name,
+        assigned,
+        through_this,
+    )
 }
 
 /// The target of an assignment.
@@ -322,8 +385,7 @@ fn assigned(
     } }
 {
     let ty = assigned_kind(alloc, world, scopes, notes, &e.kind, e.span)?;
-    note_type(alloc, notes, &ty, e.span)?;
-    Ok(ty)
+    typed(alloc, notes, ty, e.span)
 }
 
 #[cycle(values)]
@@ -343,18 +405,7 @@ fn assigned_kind(
     match k {
         ExprKind::Name(name) => variable(alloc, world, scopes, notes, true, name),
         ExprKind::Select(object, name) => {
-            let through_this = is_this(object.get());
-            let found = receiver(alloc, world, scopes, notes, object.get())?;
-            selected(
-                alloc,
-                world,
-                scopes,
-                notes,
-                &found,
-                name,
-                true,
-                through_this,
-            )
+            selection(alloc, world, scopes, notes, object.get(), name, true)
         }
         _ => kind(alloc, world, scopes, notes, k, span),
     }
@@ -375,11 +426,29 @@ fn array_part(
     } }
 {
     if is_null(e) {
-        wrong(notes, Rule::TypeMismatch, e.span)?;
-        return Ok(None);
+        return wrong(notes, Rule::TypeMismatch, e.span).and(Ok(None));
     }
     let ty = value(alloc, world, scopes, notes, e)?;
     element_in(alloc, notes, &ty, e.span)
+}
+
+/// What the value of an expression is before a dot.
+#[cycle(values)]
+fn valued_object(
+    alloc: Global,
+    world: &World,
+    scopes: &Scopes<'_>,
+    notes: &mut List<Note>,
+    k: &ExprKind,
+    span: Span,
+) -> Result<Object, AllocError>
+    ensures { record {
+      object : IfOk result (λ o. objects.shown o ≡ (spec.as_object ((spec.kind_reading k.now).judge (here world.now scopes.now) span) span).object);
+      notes : OnOk result (notes.new ≡ notes.old ++ (spec.as_object ((spec.kind_reading k.now).judge (here world.now scopes.now) span) span).notes);
+    } }
+{
+    let ty = kind(alloc, world, scopes, notes, k, span)?;
+    object_of(alloc, notes, ty, span)
 }
 
 /// What an expression is before a dot.
@@ -396,34 +465,68 @@ fn receiver(
       notes : OnOk result (notes.new ≡ notes.old ++ ((spec.reading e.now).receiver (here world.now scopes.now)).notes);
     } }
 {
-    receiver_kind(alloc, world, scopes, notes, &e.kind, e.span)
+    match &e.kind {
+        ExprKind::Null => wrong(notes, Rule::TypeMismatch, e.span).and(Ok(Object::Nothing)),
+        ExprKind::Name(name) => name_before_dot(alloc, world, scopes, notes, name, e.span),
+        _ => valued_object(alloc, world, scopes, notes, &e.kind, e.span),
+    }
 }
 
+/// A new array of that length (JLS 15.10.1).
 #[cycle(values)]
-fn receiver_kind(
+fn sized(
     alloc: Global,
     world: &World,
     scopes: &Scopes<'_>,
     notes: &mut List<Note>,
-    k: &ExprKind,
-    span: Span,
-) -> Result<Object, AllocError>
+    tree: &TypeTree,
+    size: &Expr,
+) -> Result<Option<Type_>, AllocError>
     ensures { record {
-      object : IfOk result (λ o. objects.shown o ≡ ((spec.kind_reading k.now).receiver (here world.now scopes.now) span).object);
-      notes : OnOk result (notes.new ≡ notes.old ++ ((spec.kind_reading k.now).receiver (here world.now scopes.now) span).notes);
+      ty : IfOk result (λ t. t ≡ (spec.sized (spec.reading size.now) (here world.now scopes.now) (spec.created (here world.now scopes.now) tree.now)).ty);
+      notes : OnOk result (notes.new ≡ notes.old ++ (spec.sized (spec.reading size.now) (here world.now scopes.now) (spec.created (here world.now scopes.now) tree.now)).notes);
     } }
 {
-    match k {
-        ExprKind::Null => {
-            wrong(notes, Rule::TypeMismatch, span)?;
-            Ok(Object::Nothing)
-        }
-        ExprKind::Name(name) => name_before_dot(alloc, world, scopes, notes, name, span),
-        _ => {
-            let ty = kind(alloc, world, scopes, notes, k, span)?;
-            object_of(alloc, notes, ty, span)
-        }
-    }
+    let ty = created(alloc, &world.table, notes, tree)?;
+    check(alloc, world, scopes, notes, size, Need::Of(&INT)).and(Ok(ty))
+}
+
+/// A new array with these entries (JLS 15.10.1).
+#[cycle(values)]
+fn filled(
+    alloc: Global,
+    world: &World,
+    scopes: &Scopes<'_>,
+    notes: &mut List<Note>,
+    tree: &TypeTree,
+    items: &[Init],
+) -> Result<Option<Type_>, AllocError>
+    ensures { record {
+      ty : IfOk result (λ t. t ≡ (spec.filled (map spec.filling items.now) (here world.now scopes.now) (spec.created (here world.now scopes.now) tree.now)).ty);
+      notes : OnOk result (notes.new ≡ notes.old ++ (spec.filled (map spec.filling items.now) (here world.now scopes.now) (spec.created (here world.now scopes.now) tree.now)).notes);
+    } }
+{
+    let ty = created(alloc, &world.table, notes, tree)?;
+    let inner = element_if(alloc, &ty)?;
+    fill_all(alloc, world, scopes, notes, items, &inner).and(Ok(ty))
+}
+
+/// An int variable that is read and written.
+#[cycle(values)]
+fn counted(
+    alloc: Global,
+    world: &World,
+    scopes: &Scopes<'_>,
+    notes: &mut List<Note>,
+    target: &Expr,
+) -> Result<Option<Type_>, AllocError>
+    ensures { record {
+      ty : IfOk result (λ t. t ≡ (spec.counted_target (spec.reading target.now) (here world.now scopes.now)).ty);
+      notes : OnOk result (notes.new ≡ notes.old ++ (spec.counted_target (spec.reading target.now) (here world.now scopes.now)).notes);
+    } }
+{
+    let ty = assigned(alloc, world, scopes, notes, target)?;
+    type_mismatch(world, notes, Need::Of(&INT), &ty, target.span).and(Ok(ty))
 }
 
 #[cycle(values)]
@@ -443,33 +546,18 @@ fn kind(
     match k {
         ExprKind::Int(_) => Ok(Some(INT)),
         ExprKind::Bool(_) => Ok(Some(BOOLEAN)),
-        ExprKind::Null => {
-            wrong(notes, Rule::TypeMismatch, span)?;
-            Ok(None)
-        }
+        ExprKind::Null => wrong(notes, Rule::TypeMismatch, span).and(Ok(None)),
         ExprKind::This => {
-            not_static(scopes, notes, false, span)?;
-            Ok(Some(Type_::Plain(Base::Class(scopes.class))))
+            let ty = Type_::Plain(Base::Class(scopes.class));
+            not_static(scopes, notes, false, span).and(Ok(Some(ty)))
         }
         ExprKind::Name(name) => variable(alloc, world, scopes, notes, false, name),
         ExprKind::Select(object, name) => {
-            let through_this = is_this(object.get());
-            let found = receiver(alloc, world, scopes, notes, object.get())?;
-            selected(
-                alloc,
-                world,
-                scopes,
-                notes,
-                &found,
-                name,
-                false,
-                through_this,
-            )
+            selection(alloc, world, scopes, notes, object.get(), name, false)
         }
         ExprKind::Index(array, index) => {
             let ty = array_part(alloc, world, scopes, notes, array.get())?;
-            check(alloc, world, scopes, notes, index.get(), Need::Of(&INT))?;
-            Ok(ty)
+            check(alloc, world, scopes, notes, index.get(), Need::Of(&INT)).and(Ok(ty))
         }
         ExprKind::Call(None, name, args) => bare_call(
             alloc,
@@ -484,73 +572,40 @@ fn kind(
             call_on(alloc, world, scopes, notes, args.as_slice(), &found, name)
         }
         ExprKind::New(name, args) => creation(alloc, world, scopes, notes, args.as_slice(), name),
-        ExprKind::NewArray(tree, size) => {
-            let ty = created(alloc, &world.table, notes, tree)?;
-            check(alloc, world, scopes, notes, size.get(), Need::Of(&INT))?;
-            Ok(ty)
-        }
+        ExprKind::NewArray(tree, size) => sized(alloc, world, scopes, notes, tree, size.get()),
         ExprKind::NewItems(tree, items) => {
-            let ty = created(alloc, &world.table, notes, tree)?;
-            let inner = element_if(alloc, &ty)?;
-            fill_all(alloc, world, scopes, notes, items.as_slice(), &inner)?;
-            Ok(ty)
+            filled(alloc, world, scopes, notes, tree, items.as_slice())
         }
-        ExprKind::Unary(UnaryOp::Not, operand) => {
-            check(
-                alloc,
-                world,
-                scopes,
-                notes,
-                operand.get(),
-                Need::Of(&BOOLEAN),
-            )?;
-            Ok(Some(BOOLEAN))
+        ExprKind::Unary(op, operand) => {
+            let ty = unary_type(*op);
+            check(alloc, world, scopes, notes, operand.get(), Need::Of(&ty)).and(Ok(Some(ty)))
         }
-        ExprKind::Unary(_, operand) => {
-            check(alloc, world, scopes, notes, operand.get(), Need::Of(&INT))?;
-            Ok(Some(INT))
-        }
-        ExprKind::Binary(BinaryOp::Num(_), left, right) => {
-            check(alloc, world, scopes, notes, left.get(), Need::Of(&INT))?;
-            check(alloc, world, scopes, notes, right.get(), Need::Of(&INT))?;
-            Ok(Some(INT))
-        }
-        ExprKind::Binary(BinaryOp::Compare(rel), left, right) => {
-            if is_equality(*rel) {
+        ExprKind::Binary(op, left, right) => {
+            if is_equality(*op) {
                 let t = operand(alloc, world, scopes, notes, left.get())?;
                 let u = operand(alloc, world, scopes, notes, right.get())?;
-                compared(alloc, world, notes, left.get(), right.get(), &t, &u, span)?;
-                return Ok(Some(BOOLEAN));
+                return compared(alloc, world, notes, left.get(), right.get(), &t, &u, span).and(Ok(
+                    Some(BOOLEAN),
+                ));
             }
-            check(alloc, world, scopes, notes, left.get(), Need::Of(&INT))?;
-            check(alloc, world, scopes, notes, right.get(), Need::Of(&INT))?;
-            Ok(Some(BOOLEAN))
-        }
-        ExprKind::Binary(_, left, right) => {
-            check(alloc, world, scopes, notes, left.get(), Need::Of(&BOOLEAN))?;
-            check(alloc, world, scopes, notes, right.get(), Need::Of(&BOOLEAN))?;
-            Ok(Some(BOOLEAN))
+            let (need, ty) = binary_types(*op);
+            check(alloc, world, scopes, notes, left.get(), Need::Of(&need))
+                .and(check(alloc, world, scopes, notes, right.get(), Need::Of(&need)))
+                .and(Ok(Some(ty)))
         }
         ExprKind::Assign(None, target, source) => {
             let ty = assigned(alloc, world, scopes, notes, target.get())?;
-            check(alloc, world, scopes, notes, source.get(), need_like(&ty))?;
-            Ok(ty)
+            check(alloc, world, scopes, notes, source.get(), need_like(&ty)).and(Ok(ty))
         }
         ExprKind::Assign(Some(_), target, source) => {
-            let ty = assigned(alloc, world, scopes, notes, target.get())?;
-            type_mismatch(world, notes, Need::Of(&INT), &ty, target.get().span)?;
-            check(alloc, world, scopes, notes, source.get(), Need::Of(&INT))?;
-            Ok(ty)
+            let ty = counted(alloc, world, scopes, notes, target.get())?;
+            check(alloc, world, scopes, notes, source.get(), Need::Of(&INT)).and(Ok(ty))
         }
         ExprKind::Step {
             up: _,
             after: _,
             target,
-        } => {
-            let ty = assigned(alloc, world, scopes, notes, target.get())?;
-            type_mismatch(world, notes, Need::Of(&INT), &ty, target.get().span)?;
-            Ok(ty)
-        }
+        } => counted(alloc, world, scopes, notes, target.get()),
     }
 }
 
