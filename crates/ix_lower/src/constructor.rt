@@ -34,8 +34,7 @@ fn assigned_by_all(
         locals: body.locals.as_slice(),
         assigned: &[],
     };
-    add_all(&scope, args, &mut assigned)?;
-    Ok(assigned)
+    add_all(&scope, args, &mut assigned).and(Ok(assigned))
 }
 
 /// Calls the parent's constructor on the same object.
@@ -62,10 +61,10 @@ fn call_parent(
     let args = arguments(alloc, &scope, args, &mut body.made)?;
     let method = constructor_at(site, parent);
     let call = call_op(body.made.free, method, Some(0), args, parent, span);
-    compute(alloc, &mut body.made, OpKind::SuperCall(call), span)?;
+    let called = compute(alloc, &mut body.made, OpKind::SuperCall(call), span);
     body.most = body.most.max(body.made.free);
     body.made.free = top;
-    Ok(())
+    called.and(Ok(()))
 }
 
 fn super_call(
@@ -107,8 +106,7 @@ fn initialise(
             let value = evaluate_init(alloc, site, init, &ty, body)?;
             let spans = (init_span(init), decl.name.span, init_span(init));
             let spot = Spot::FieldOf(0, field);
-            assign(alloc, spot, value, Type_::Void, spans, &mut body.made)?;
-            Ok(())
+            assign(alloc, spot, value, Type_::Void, spans, &mut body.made).map_err(Stop::from)
         }
     }
 }
@@ -168,6 +166,11 @@ pub fn begin_constructor(
       body : OnOk result (spec.constructor_start (shown_site site.now) (shown_home home.now) args.now span body.old ≡ Ok body.new);
     } }
 {
-    super_call(alloc, site, home.parent, args, span, body)?;
-    initialise_all(alloc, site, home.field, home.members, body)
+    super_call(alloc, site, home.parent, args, span, body).and(initialise_all(
+        alloc,
+        site,
+        home.field,
+        home.members,
+        body,
+    ))
 }

@@ -217,13 +217,12 @@ fn class_of(
     let name = copied_text(alloc, &decl.name.text)?;
     let fields = own_fields(alloc, next.field, members)?;
     let mut methods = own_methods(alloc, next.method, members)?;
-    add_default(&mut methods, next.default, members)?;
-    Ok(Class {
+    add_default(&mut methods, next.default, members).and(Ok(Class {
         name,
         parent,
         fields,
         methods,
-    })
+    }))
 }
 
 /// The classes, with the numbers of their members.

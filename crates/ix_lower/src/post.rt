@@ -92,11 +92,12 @@ pub fn posts(
     ensures { IfOk result (λ posts. posts ≡ scope.declared_posts ((shown_tables tables.now).names.declared decl.now.name.span) ++ spec.upper_posts (shown_tables tables.now) class decl.now) }
 {
     let mut posts = List::new(alloc);
-    push_declared(&mut posts, tables.table, decl.name.span)?;
+    let declared = push_declared(&mut posts, tables.table, decl.name.span);
     if decl.constructor || decl.mods.is_static {
-        return Ok(posts);
+        return declared.and(Ok(posts));
     }
     let classes = tables.world.supers(class);
-    push_upper(&mut posts, tables, decl.name.text.as_str(), classes)?;
-    Ok(posts)
+    declared
+        .and(push_upper(&mut posts, tables, decl.name.text.as_str(), classes))
+        .and(Ok(posts))
 }
