@@ -81,16 +81,18 @@ fn one_given<N: Names>(
 {
     match expand(alloc, annot, names) {
         Ok(found) => {
-            push_all(claims, found.list.as_slice())?;
-            push_all(posts, found.posts.as_slice())?;
-            Ok(found.effect_free)
+            push_all(claims, found.list.as_slice())
+                .and(push_all(posts, found.posts.as_slice()))
+                .and(Ok(found.effect_free))
         }
         Err(AnnotError::Memory) => Err(AllocError),
         Err(error) => {
             let rule = rule_of(error);
             let span = annot.span;
-            notes.push(Note::WrongAnnot(NameError { rule, span }))?;
-            Ok(false)
+            notes
+                .push(Note::WrongAnnot(NameError { rule, span }))
+                .map_err(AllocError::from)
+                .and(Ok(false))
         }
     }
 }

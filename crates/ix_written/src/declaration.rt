@@ -70,8 +70,7 @@ pub fn element_claims(
     }
     let mut notes = List::new(alloc);
     let nowhere = Nowhere { target: first };
-    given(alloc, &mut notes, &mut claims, &nowhere, before)?;
-    distinct(alloc, claims.as_slice())
+    given(alloc, &mut notes, &mut claims, &nowhere, before).and(distinct(alloc, claims.as_slice()))
 }
 
 /// The claims of the annotations before a type; those on elements are no claims of the declaration itself.

@@ -71,13 +71,16 @@ fn note_class(notes: &mut List<Note>, class: Option<u32>, span: Span) -> Result<
     ensures { OnOk result (notes.new ≡ notes.old ++ (spec.class_use class 0 [] span).notes) }
 {
     match class {
-        Some(class) => notes.push(Note::Use(span, Meaning::ClassNamed(class)))?,
+        Some(class) => notes
+            .push(Note::Use(span, Meaning::ClassNamed(class)))
+            .map_err(AllocError::from),
         None => {
             let rule = Rule::UnknownName;
-            notes.push(Note::Wrong(NameError { rule, span }))?;
+            notes
+                .push(Note::Wrong(NameError { rule, span }))
+                .map_err(AllocError::from)
         }
     }
-    Ok(())
 }
 
 /// Notes the class that the type names, or RULE unknown.name.
