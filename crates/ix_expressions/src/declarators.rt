@@ -17,34 +17,40 @@ use ix_lexer::fixed::{ASSIGN, COMMA};
 use ix_nodes::copies::{copy_mods, copy_type};
 use ix_reading::cursor::Cursor;
 use ix_text::{Joint, List};
-use ix_tree::{Ident, Init, LocalDecl};
+use ix_tree::{Ident, LocalDecl, Mods, TypeTree};
 use std::alloc::Global;
+
+/// A copy of modifiers, which declarators hold jointly.
+fn joint_mods(alloc: Global, mods: &Mods) -> Result<Joint<Mods>, Stop>
+    ensures { MatchResult result (λ joint. joint ≡ mods.now) (λ stop. stop ≡ Memory) }
+{
+    Joint::new(alloc, copy_mods(alloc, mods)?).map_err(Stop::from)
+}
+
+/// A copy of a type, which declarators hold jointly.
+fn joint_type(alloc: Global, ty: &TypeTree) -> Result<Joint<TypeTree>, Stop>
+    ensures { MatchResult result (λ joint. joint ≡ ty.now) (λ stop. stop ≡ Memory) }
+{
+    Joint::new(alloc, copy_type(alloc, ty)?).map_err(Stop::from)
+}
 
 /// What all declarators have behind these modifiers and this type.
 pub fn shared(alloc: Global, found: &FoundMods, ty: &FoundType) -> Result<Shared, Stop>
     ensures { MatchResult result (λ all. all ≡ the_shared found.now ty.now) (λ stop. stop ≡ Memory) }
 {
-    let mods = Joint::new(alloc, copy_mods(alloc, &found.mods)?)?;
-    let tree = Joint::new(alloc, copy_type(alloc, &ty.ty)?)?;
-    Ok(Shared {
-        mods,
-        ty: tree,
-        height: found.height.max(ty.height).max(1),
-    })
+    let height = found.height.max(ty.height).max(1);
+    let mods = joint_mods(alloc, &found.mods)?;
+    let ty = joint_type(alloc, &ty.ty)?;
+    Ok(Shared { mods, ty, height })
 }
 
-/// A declaration with the modifiers and the type that all declarators have.
-fn declared(all: &Shared, name: Ident, init: Option<Init>) -> Result<LocalDecl, Stop>
-    ensures { MatchResult result (λ decl. decl ≡ nodes.declared all.now name init) (λ stop. stop ≡ Memory) }
+/// The modifiers and the type, held by one declarator more.
+fn held(all: &Shared) -> Result<(Joint<Mods>, Joint<TypeTree>), Stop>
+    ensures { MatchResult result (λ both. both ≡ (all.now.mods, all.now.ty)) (λ stop. stop ≡ Memory) }
 {
     let mods = all.mods.join()?;
     let ty = all.ty.join()?;
-    Ok(LocalDecl {
-        mods,
-        ty,
-        name,
-        init,
-    })
+    Ok((mods, ty))
 }
 
 /// What is declared without an initialiser.
@@ -52,10 +58,16 @@ pub fn plain_decl(all: &Shared, name: Ident) -> Result<FoundDecl, Stop>
     requires low { all.now.height ≤ 4 }
     ensures { MatchResult result (λ found. found ≡ nodes.plain_decl all.now name) (λ stop. stop ≡ Memory) }
 {
+    let (mods, ty) = held(all)?;
     let end = name.span;
-    let decl = declared(all, name, None)?;
+    let init = None;
     Ok(FoundDecl {
-        decl,
+        decl: LocalDecl {
+            mods,
+            ty,
+            name,
+            init,
+        },
         height: 1 + all.height,
         end,
     })
@@ -69,10 +81,16 @@ fn init_decl(left: u32, all: &Shared, name: Ident, found: FoundInit) -> Result<F
     } }
     ensures { MatchResult result (λ decl. decl ≡ nodes.init_decl all.now name found) (λ stop. stop ≡ Memory) }
 {
+    let (mods, ty) = held(all)?;
     let FoundInit { init, height, end } = found;
-    let decl = declared(all, name, Some(init.into_inner()))?;
+    let init = Some(init.into_inner());
     Ok(FoundDecl {
-        decl,
+        decl: LocalDecl {
+            mods,
+            ty,
+            name,
+            init,
+        },
         height: 1 + all.height.max(height),
         end,
     })
