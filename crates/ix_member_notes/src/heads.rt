@@ -123,8 +123,7 @@ fn result_of<'p>(
     match ty {
         None => {
             let mut claims = List::new(alloc);
-            given(alloc, notes, &mut claims, &names, before.as_slice())?;
-            Ok(List::new(alloc))
+            given(alloc, notes, &mut claims, &names, before.as_slice()).and(Ok(List::new(alloc)))
         }
         Some(ty) => {
             let behind = gathered(alloc, Part::All, ty.annots.as_slice())?;

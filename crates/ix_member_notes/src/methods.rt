@@ -37,8 +37,12 @@ fn note_constructor(
         return Ok(());
     }
     let other_name = decl.name.text.as_str() != class.name.text.as_str();
-    wrong_if(notes, other_name, Rule::UnknownName, decl.name.span)?;
-    wrong_if(notes, decl.mods.is_static, Rule::NotStatic, decl.name.span)
+    wrong_if(notes, other_name, Rule::UnknownName, decl.name.span).and(wrong_if(
+        notes,
+        decl.mods.is_static,
+        Rule::NotStatic,
+        decl.name.span,
+    ))
 }
 
 fn note_inherited(
@@ -50,8 +54,12 @@ fn note_inherited(
 ) -> Result<(), AllocError>
     ensures { OnOk result (notes.new ≡ notes.old ++ spec.inherited_notes (at world.now number class.now) m.now) }
 {
-    wrong_if(notes, clashes(world, m), Rule::DuplicateName, m.span)?;
-    wrong_if(notes, differs(world, m), Rule::TypeMismatch, m.span)
+    wrong_if(notes, clashes(world, m), Rule::DuplicateName, m.span).and(wrong_if(
+        notes,
+        differs(world, m),
+        Rule::TypeMismatch,
+        m.span,
+    ))
 }
 
 /// The scope of the head.
