@@ -72,10 +72,9 @@ fn parent_use(
         None => Ok(()),
         Some(name) => match world.class(name.text.as_str()) {
             None => wrong(notes, Rule::UnknownName, name.span),
-            Some(class) => {
-                notes.push(Note::Use(name.span, Meaning::ClassNamed(class)))?;
-                Ok(())
-            }
+            Some(class) => notes
+                .push(Note::Use(name.span, Meaning::ClassNamed(class)))
+                .map_err(AllocError::from),
         },
     }
 }
@@ -91,9 +90,9 @@ fn head(
 {
     let span = class.name.span;
     let taken = is_taken(world.class(class.name.text.as_str()), number);
-    wrong_if(notes, taken, Rule::DuplicateName, span)?;
-    parent_use(world, notes, &class.parent)?;
-    wrong_if(notes, cyclic, Rule::CyclicClass, span)
+    wrong_if(notes, taken, Rule::DuplicateName, span)
+        .and(parent_use(world, notes, &class.parent))
+        .and(wrong_if(notes, cyclic, Rule::CyclicClass, span))
 }
 
 /// A field, a method or a constructor; `next` is the number of the next instance field.
@@ -143,8 +142,9 @@ fn named_member<'a>(
 {
     let name = member_name(member);
     let taken = is_taken(table.get(name.text.as_str()).copied(), i);
-    wrong_if(notes, taken, Rule::DuplicateName, name.span)?;
-    one_member(alloc, world, notes, number, class, next, begun, member)
+    wrong_if(notes, taken, Rule::DuplicateName, name.span).and(one_member(
+        alloc, world, notes, number, class, next, begun, member,
+    ))
 }
 
 fn next_member(next: u32, member: &Member) -> u32
@@ -322,6 +322,5 @@ pub fn notes_in(
     ensures { IfOk result (λ notes. notes ≡ spec.notes_from (shown world.now) parents.now world.now.methods 0 0 decls.now) }
 {
     let mut notes = List::new(alloc);
-    classes(alloc, world, &mut notes, parents, decls)?;
-    Ok(notes)
+    classes(alloc, world, &mut notes, parents, decls).and(Ok(notes))
 }
