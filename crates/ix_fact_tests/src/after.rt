@@ -1,6 +1,6 @@
 //! Rows of what operations and claims give, and of what is proved, over a plain list of facts.
 
-use crate::known::small_facts;
+use crate::known::told;
 use ix_after::{facts_after, push_claim};
 use ix_claims::is_proved;
 use ix_core::{Fact, OpKind, Path, PathClaim, Profile};
@@ -29,15 +29,17 @@ pub enum Step {
     Proves(Path, PathClaim, bool),
 }
 
-/// What was known, what is newly known, and what it should be. What is known then is `before` without what names a target, and `new`.
+/// What was known, what is newly known, and what it should be. What is known then is `before` without what names a target, and `new`. `row` counts the rows.
 #[derive(Drop)]
 struct Walk {
     before: Vec<Fact>,
     beside: Vec<Fact>,
     wanted: Vec<Fact>,
+    row: u32,
 }
 
 fn begin(walk: &mut Walk) -> bool {
+    walk.row = walk.row.saturating_add(1);
     walk.before.clear();
     walk.beside.clear();
     walk.wanted.clear();
@@ -56,9 +58,8 @@ fn add_known<R: Abort>(rt: &R, walk: &mut Walk, fact: &Fact) -> bool {
         && add_to(rt, &mut walk.wanted, fact)
 }
 
-fn list<R: Abort>(rt: &R, alloc: Global, facts: &[Fact]) -> FactList {
-    let small = small_facts(rt, alloc, facts).expect(rt, "memory");
-    FactList::new(alloc, small).expect(rt, "memory")
+pub fn list<R: Abort>(rt: &R, alloc: Global, facts: &[Fact]) -> FactList {
+    told(rt, alloc, facts, &[]).expect(rt, "memory")
 }
 
 fn new_facts<R: Abort>(
@@ -96,29 +97,27 @@ fn is_so<R: Abort>(rt: &R, alloc: Global, facts: &[Fact], p: &Path, claim: &Path
 
 /// Takes a step: whether it is as it says.
 fn take<R: Abort>(rt: &R, alloc: Global, walk: &mut Walk, step: &Step) -> bool {
-    match *step {
+    match step {
         Step::New => begin(walk),
-        Step::Known(fact) => add_known(rt, walk, &fact),
-        Step::After(profile, does) => operate(rt, alloc, walk, profile, does),
-        Step::Claimed(p, claim) => claim_all(rt, walk, &p, &claim),
-        Step::Has(fact) => add_to(rt, &mut walk.wanted, &fact),
+        Step::Known(fact) => add_known(rt, walk, fact),
+        Step::After(profile, does) => operate(rt, alloc, walk, *profile, *does),
+        Step::Claimed(p, claim) => claim_all(rt, walk, p, claim),
+        Step::Has(fact) => add_to(rt, &mut walk.wanted, fact),
         Step::End => says_all(&walk.beside, &walk.wanted) && says_all(&walk.wanted, &walk.beside),
-        Step::Proves(p, claim, proved) => is_so(rt, alloc, &walk.before, &p, &claim) == proved,
+        Step::Proves(p, claim, proved) => is_so(rt, alloc, &walk.before, p, claim) == *proved,
     }
 }
 
 /// Each row is as it says.
-pub fn agree<R: Abort>(rt: &R, alloc: Global, steps: &[Step]) {
+pub fn agree<R: Abort + AllocGlobal>(rt: &R, steps: &[Step]) {
+    let alloc = rt.alloc();
     let mut walk = Walk {
         before: Vec::new(alloc),
         beside: Vec::new(alloc),
         wanted: Vec::new(alloc),
+        row: 0,
     };
-    let mut row = 0u32;
     for step in steps {
-        if let Step::New = step {
-            row = row.saturating_add(1);
-        }
-        assert!(rt; take(rt, alloc, &mut walk, step), "row {row}");
+        assert!(rt; take(rt, alloc, &mut walk, step), "row {}", walk.row);
     }
 }

@@ -38,10 +38,10 @@ const PROVED_ROWS: &[Step] = &[
 
 #[test]
 fn claims_add_their_facts(rt: HostRuntime) {
-    agree(&rt, rt.alloc(), ADDED_ROWS);
+    agree(&rt, ADDED_ROWS);
 }
 
 #[test]
 fn claims_are_proved_by_what_is_known(rt: HostRuntime) {
-    agree(&rt, rt.alloc(), PROVED_ROWS);
+    agree(&rt, PROVED_ROWS);
 }

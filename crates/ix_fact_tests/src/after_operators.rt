@@ -53,5 +53,5 @@ const OPERATORS_ROWS: &[Step] = &[
 
 #[test]
 fn operators_give_new_facts(rt: HostRuntime) {
-    agree(&rt, rt.alloc(), OPERATORS_ROWS);
+    agree(&rt, OPERATORS_ROWS);
 }

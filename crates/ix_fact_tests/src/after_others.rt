@@ -36,5 +36,5 @@ const OTHERS_ROWS: &[Step] = &[
 
 #[test]
 fn other_operations_give_new_facts(rt: HostRuntime) {
-    agree(&rt, rt.alloc(), OTHERS_ROWS);
+    agree(&rt, OTHERS_ROWS);
 }

@@ -1,101 +1,87 @@
 //! What is known, within the bounds that the calls ask for.
 
-ghost use Rattle.std.specs.Prelude.{◌≡◌, All, IfOk, ◌++◌};
+ghost use Rattle.std.specs.Prelude.{◌≡◌, All, IfOk, IsTrue, ◌++◌};
 ghost use Rattle.ix_facts.specs.Closure.{SaysAll};
 ghost use Rattle.ix_facts.specs.Forget.{of_path, without};
 ghost use Rattle.ix_facts.specs.After.{of_target};
 ghost use Rattle.ix_facts.specs.Small.{HasSmallNumbers};
-ghost use Rattle.ix_facts.specs.Systems.{HaveClasses};
 ghost use Rattle.ix_facts.specs.Round.{Rises};
 
 use ix_core::{Fact, List, OpKind, Path};
 use ix_fact_list::FactList;
 use ix_fact_steps::is_small;
-use ix_facts::{Landmarks, System};
+use ix_facts::Landmarks;
 use std::alloc::{AllocError, Global};
 use std::process::Abort;
 
-/// The facts, whose numbers have to be small.
-#[tactic(auto, using(ix_systems::proofs::KnownClasses::small_classes))]
-pub fn small_facts<R: Abort>(rt: &R, alloc: Global, facts: &[Fact]) -> Result<Vec<Fact>, AllocError>
-    ensures { record {
-      same : IfOk result (λ known. known.items ≡ facts.now);
-      small : IfOk result (λ known. All HasSmallNumbers known.items);
-      classes : IfOk result (λ known. HaveClasses known.items);
-    } }
+/// Whether all numbers of the facts are small.
+pub fn are_small(facts: &[Fact]) -> bool
+    ensures { IsTrue result → All HasSmallNumbers facts.now }
 {
-    let mut known = Vec::new(alloc);
     for fact in facts {
-        assert!(rt; is_small(fact), "a number is too large");
-        known.push(*fact)?;
+        if !is_small(fact) {
+            return false;
+        }
     }
-    Ok(known)
+    true
 }
 
-/// The table's facts and others, as what is known.
-fn told<R: Abort, S: System>(
-    rt: &R,
-    alloc: Global,
-    table: &S,
-    others: &[Fact],
-) -> Result<FactList, AllocError>
-    ensures facts { IfOk result (λ list. list ≡ S.known table.now ++ others.now) }
-{
-    let facts = all_facts(alloc, table, others)?;
-    let small = small_facts(rt, alloc, &facts)?;
-    FactList::new(alloc, small)
-}
-
-fn all_facts<S: System>(alloc: Global, table: &S, others: &[Fact]) -> Result<Vec<Fact>, AllocError>
-    ensures facts { IfOk result (λ facts. facts.items ≡ S.known table.now ++ others.now) }
-{
-    let mut facts = own_facts(alloc, table)?;
-    facts.extend_from_slice(others)?;
-    Ok(facts)
-}
-
-fn own_facts<S: System>(alloc: Global, table: &S) -> Result<Vec<Fact>, AllocError>
-    ensures { IfOk result (λ facts. facts.items ≡ S.known table.now) }
+fn all_facts(alloc: Global, own: &[Fact], others: &[Fact]) -> Result<Vec<Fact>, AllocError>
+    ensures { IfOk result (λ facts. facts.items ≡ own.now ++ others.now) }
 {
     let mut facts = Vec::new(alloc);
-    for k in 0..table.facts() {
-        facts.push(table.fact(k))?;
-    }
-    Ok(facts)
+    facts
+        .extend_from_slice(own)
+        .and(facts.extend_from_slice(others))
+        .and(Ok(facts))
 }
 
-/// What is known beside the target of an operation: what the table says, and others.
-pub fn known_beside_target<R: Abort, S: System>(
+/// A table's facts and others, as what is known. Their numbers have to be small.
+pub fn told<R: Abort>(
     rt: &R,
     alloc: Global,
-    table: &S,
+    own: &[Fact],
+    others: &[Fact],
+) -> Result<FactList, AllocError>
+    ensures facts { IfOk result (λ list. list ≡ own.now ++ others.now) }
+{
+    let facts = all_facts(alloc, own, others)?;
+    assert!(rt; are_small(&facts), "a number is too large");
+    FactList::new(alloc, facts)
+}
+
+/// What is known beside the target of an operation: what a table says, and others.
+pub fn known_beside_target<R: Abort>(
+    rt: &R,
+    alloc: Global,
+    own: &[Fact],
     others: &[Fact],
     kind: &OpKind,
 ) -> Result<FactList, AllocError>
     ensures { record {
-      known : IfOk result (λ know. SaysAll know (without (of_target kind.now) (S.known table.now)));
+      known : IfOk result (λ know. SaysAll know (without (of_target kind.now) own.now));
       beside : IfOk result (λ know. without (of_target kind.now) know ≡ know);
     } }
 {
-    let list = told(rt, alloc, table, others)?;
+    let list = told(rt, alloc, own, others)?;
     let know = FactList::beside_target(alloc, &list, kind)?;
     Ok(know)
 }
 
 /// The same beside the path that a copy is made to.
-pub fn known_beside_path<R: Abort, S: System>(
+pub fn known_beside_path<R: Abort>(
     rt: &R,
     alloc: Global,
-    table: &S,
+    own: &[Fact],
     others: &[Fact],
     path: &Path,
 ) -> Result<FactList, AllocError>
     ensures { record {
-      known : IfOk result (λ know. SaysAll know (without (of_path path.now) (S.known table.now)));
+      known : IfOk result (λ know. SaysAll know (without (of_path path.now) own.now));
       beside : IfOk result (λ know. without (of_path path.now) know ≡ know);
     } }
 {
-    let list = told(rt, alloc, table, others)?;
+    let list = told(rt, alloc, own, others)?;
     let know = FactList::beside_path(alloc, &list, path)?;
     Ok(know)
 }

@@ -1,6 +1,8 @@
-//! Tests of facts: of lattices, lists of facts, what operations give, and the six tables, with values from an independent checker or worked out by hand.
+//! Tests of numbers and facts: of arithmetic, intervals, the low table, keys and solvers; of lattices, lists of facts, what operations give, and the six tables. Their values are those of a Java
+//! virtual machine or of an independent checker, or worked out by hand.
 //!
-//! What goes in: rows of plain steps (`ix_fact_steps`), each with what is to be seen behind it. They stand in a crate of their own, since a crate with tests is proved a second time.
+//! What goes in: rows of questions about numbers (`numbers`), and of plain steps (`ix_fact_steps`), each with what is to be seen behind it. They stand in a crate of their own, since a crate with
+//! tests is proved a second time.
 #![tactic(auto)]
 
 #[cfg(test)]
@@ -12,11 +14,21 @@ mod after_operators;
 #[cfg(test)]
 mod after_others;
 #[cfg(test)]
+mod arith;
+#[cfg(test)]
+mod interval;
+#[cfg(test)]
 mod known;
 #[cfg(test)]
 mod lattices;
 #[cfg(test)]
 mod lists;
+#[cfg(test)]
+mod low_table;
+#[cfg(test)]
+mod numbers;
+#[cfg(test)]
+mod solvers;
 #[cfg(test)]
 mod table_copies;
 #[cfg(test)]

@@ -41,10 +41,10 @@ const PATHS_ROWS: &[Step] = &[
 
 #[test]
 fn copies_of_slots_give_their_facts(rt: HostRuntime) {
-    agree(&rt, rt.alloc(), SLOTS_ROWS);
+    agree(&rt, SLOTS_ROWS);
 }
 
 #[test]
 fn copies_of_paths_give_their_facts(rt: HostRuntime) {
-    agree(&rt, rt.alloc(), PATHS_ROWS);
+    agree(&rt, PATHS_ROWS);
 }

@@ -75,20 +75,20 @@ const ROUNDED_ROWS: &[Step] = &[
 
 #[test]
 fn tables_say_what_the_facts_say(rt: HostRuntime) {
-    agree(&rt, rt.alloc(), MADE_ROWS);
+    agree(&rt, MADE_ROWS);
 }
 
 #[test]
 fn an_added_fact_counts_where_it_is_stronger(rt: HostRuntime) {
-    agree(&rt, rt.alloc(), ADDED_ROWS);
+    agree(&rt, ADDED_ROWS);
 }
 
 #[test]
 fn a_forgotten_path_is_not_named(rt: HostRuntime) {
-    agree(&rt, rt.alloc(), FORGOTTEN_ROWS);
+    agree(&rt, FORGOTTEN_ROWS);
 }
 
 #[test]
 fn facts_move_to_landmarks(rt: HostRuntime) {
-    agree(&rt, rt.alloc(), ROUNDED_ROWS);
+    agree(&rt, ROUNDED_ROWS);
 }

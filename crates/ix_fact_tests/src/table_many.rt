@@ -60,10 +60,10 @@ const JOINED_ROWS: &[Step] = &[
 
 #[test]
 fn operations_give_their_facts_among_many(rt: HostRuntime) {
-    agree(&rt, rt.alloc(), AFTER_ROWS);
+    agree(&rt, AFTER_ROWS);
 }
 
 #[test]
 fn joins_of_many_say_what_both_say(rt: HostRuntime) {
-    agree(&rt, rt.alloc(), JOINED_ROWS);
+    agree(&rt, JOINED_ROWS);
 }

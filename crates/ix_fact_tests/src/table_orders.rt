@@ -46,10 +46,10 @@ const BELOW_ROWS: &[Step] = &[
 
 #[test]
 fn joins_say_what_both_say(rt: HostRuntime) {
-    agree(&rt, rt.alloc(), JOINED_ROWS);
+    agree(&rt, JOINED_ROWS);
 }
 
 #[test]
 fn a_table_is_below_what_says_less(rt: HostRuntime) {
-    agree(&rt, rt.alloc(), BELOW_ROWS);
+    agree(&rt, BELOW_ROWS);
 }

@@ -9,15 +9,7 @@ use ix_fact_steps::paths::{S0, S1, S2, S3, S3F0, S5, S6, S7, S9F0, S9F1};
 
 /// What is known, and an operation; what the six tables say after it.
 #[rattlefmt::skip]
-const OTHERS_ROWS: &[Step] = &[
-    New, Known(Upper(S2, S6, PathOff::Nothing, 2147483646)), After(Profile::Ideal, Does::Null(7)), Facts(4), Has(LenRng(S7, 0, 0)), Has(Same(S7, S7)), Has(Upper(S2, S6, PathOff::Nothing, 2147483646)), Has(Upper(S2, S7, PathOff::Nothing, -1)),
-    New, Known(Sum(S9F0, S0, S2)), After(Profile::Ideal, Does::Int(3, 2147483647)), Facts(5), Has(Rng(S3, 2147483647, 2147483647)), Has(Less(S0, S3, 1)), Has(Less(S2, S3, 1)), Has(Less(S9F0, S3, 1)), Has(Sum(S9F0, S0, S2)),
-    New, Known(Less(S2, S1, -2147483647)), After(Profile::Int32, Does::True(3)), Facts(1), Has(Less(S2, S1, -2147483647)),
-    New, Known(Search(S2, S6)), After(Profile::Ideal, Does::Int(3, -3)), Facts(3), Has(Rng(S3, -3, -3)), Has(Search(S2, S6)), Has(Upper(S3, S6, PathOff::Nothing, 2)),
-    New, Known(IsLen(S3F0, S9F1)), Known(Same(S9F1, S9F1)), After(Profile::Ideal, Does::Int(3, -2)), Facts(3), Has(Rng(S3, -2, -2)), Has(Same(S9F1, S9F1)), Has(Upper(S3, S9F1, PathOff::Nothing, 1)),
-    New, Known(LenRng(S9F1, 5, 2147483647)), After(Profile::Ideal, Does::True(3)), Facts(1), Has(LenRng(S9F1, 5, 2147483647)),
-    New, Known(Search(S2, S5)), Known(Neg(S2, S5)), Known(Upper(S3, S6, PathOff::Minus(S0), -2147483648)), Known(Less(S9F0, S3F0, -4)), After(Profile::Int32, Does::True(3)), Facts(2), Has(Search(S2, S5)), Has(Neg(S2, S5)),
-    New, Known(Search(S0, S5)), Known(Rng(S9F0, -3, 7)), Known(Upper(S9F0, S5, PathOff::Nothing, 3)), After(Profile::Int32, Does::Null(7)), Facts(5), Has(LenRng(S7, 0, 0)), Has(Rng(S9F0, -3, 7)), Has(Same(S7, S7)), Has(Search(S0, S5)), Has(Upper(S9F0, S5, PathOff::Nothing, 3)),
+const UNARY: &[Step] = &[
     New, Known(Low(S1, 1)), Known(Upper(S1, S9F1, PathOff::Nothing, 0)), After(Profile::Int32, Does::Unary(3, UnaryNum::Flip, 1)), Facts(6), Has(Rng(S3, -2147483647, -2)), Has(Low(S1, 1)), Has(Less(S3, S1, -2)), Has(Neg(S3, S9F1)), Has(Upper(S1, S9F1, PathOff::Nothing, 0)), Has(Upper(S3, S9F1, PathOff::Nothing, 1)),
     New, Known(Less(S0, S2, -2147483648)), Known(Upper(S2, S5, PathOff::Nothing, 12)), After(Profile::Int32, Does::Unary(3, UnaryNum::Neg, 2)), Facts(5), Has(Rng(S3, -2147483634, -1)), Has(Less(S0, S2, -2147483648)), Has(Less(S3, S2, -1)), Has(Upper(S2, S5, PathOff::Nothing, 12)), Has(Upper(S3, S5, PathOff::Nothing, 0)),
     New, Known(IsLen(S0, S5)), Known(Upper(S1, S6, PathOff::Nothing, -5)), Known(Same(S5, S5)), After(Profile::Int32, Does::Unary(3, UnaryNum::Flip, 0)), Facts(8), Has(Rng(S3, -2147483648, -1)), Has(IsLen(S0, S5)), Has(Same(S5, S5)), Has(Less(S3, S0, 0)), Has(Neg(S3, S5)), Has(Upper(S1, S6, PathOff::Nothing, -5)), Has(Upper(S3, S5, PathOff::Nothing, 0)), Has(Upper(S3, S6, PathOff::Nothing, 0)),
@@ -37,6 +29,19 @@ const OTHERS_ROWS: &[Step] = &[
     New, Known(Low(S0, -1)), Known(Upper(S0, S9F1, PathOff::Nothing, 0)), Known(Less(S2, S0, -2147483647)), After(Profile::Int32, Does::Unary(3, UnaryNum::Flip, 0)), Facts(7), Has(Rng(S3, -2147483647, -1)), Has(Low(S0, -1)), Has(Less(S2, S0, -2147483647)), Has(Less(S3, S0, 0)), Has(Neg(S3, S9F1)), Has(Upper(S0, S9F1, PathOff::Nothing, 0)), Has(Upper(S3, S9F1, PathOff::Nothing, 0)),
     New, Known(Rng(S1, -3, 2)), Known(Low(S1, 1)), Known(Upper(S1, S6, PathOff::Nothing, -1)), Known(LenRng(S9F1, 3, 2147483647)), After(Profile::Int32, Does::Unary(3, UnaryNum::Flip, 1)), Facts(10), Has(Rng(S1, -3, 2)), Has(Rng(S3, -3, -2)), Has(LenRng(S9F1, 3, 2147483647)), Has(Low(S1, 1)), Has(Less(S3, S1, -2)), Has(Neg(S3, S6)), Has(Neg(S3, S9F1)), Has(Upper(S1, S6, PathOff::Nothing, -1)), Has(Upper(S3, S6, PathOff::Nothing, 1)), Has(Upper(S3, S9F1, PathOff::Nothing, 4)),
     New, Known(Low(S2, 1)), Known(Upper(S2, S9F1, PathOff::Nothing, -1)), Known(Same(S5, S5)), Known(Same(S5, S9F1)), Known(Same(S9F1, S9F1)), After(Profile::Ideal, Does::Unary(3, UnaryNum::Flip, 2)), Facts(11), Has(Rng(S3, -2147483648, -2)), Has(Low(S2, 1)), Has(Same(S5, S5)), Has(Same(S5, S9F1)), Has(Same(S9F1, S9F1)), Has(Less(S3, S2, -2)), Has(Neg(S3, S5)), Has(Neg(S3, S9F1)), Has(Upper(S2, S9F1, PathOff::Nothing, -1)), Has(Upper(S3, S5, PathOff::Nothing, 1)), Has(Upper(S3, S9F1, PathOff::Nothing, 1)),
+];
+
+/// What is known, and an operation; what the six tables say after it.
+#[rattlefmt::skip]
+const OTHERS: &[Step] = &[
+    New, Known(Upper(S2, S6, PathOff::Nothing, 2147483646)), After(Profile::Ideal, Does::Null(7)), Facts(4), Has(LenRng(S7, 0, 0)), Has(Same(S7, S7)), Has(Upper(S2, S6, PathOff::Nothing, 2147483646)), Has(Upper(S2, S7, PathOff::Nothing, -1)),
+    New, Known(Sum(S9F0, S0, S2)), After(Profile::Ideal, Does::Int(3, 2147483647)), Facts(5), Has(Rng(S3, 2147483647, 2147483647)), Has(Less(S0, S3, 1)), Has(Less(S2, S3, 1)), Has(Less(S9F0, S3, 1)), Has(Sum(S9F0, S0, S2)),
+    New, Known(Less(S2, S1, -2147483647)), After(Profile::Int32, Does::True(3)), Facts(1), Has(Less(S2, S1, -2147483647)),
+    New, Known(Search(S2, S6)), After(Profile::Ideal, Does::Int(3, -3)), Facts(3), Has(Rng(S3, -3, -3)), Has(Search(S2, S6)), Has(Upper(S3, S6, PathOff::Nothing, 2)),
+    New, Known(IsLen(S3F0, S9F1)), Known(Same(S9F1, S9F1)), After(Profile::Ideal, Does::Int(3, -2)), Facts(3), Has(Rng(S3, -2, -2)), Has(Same(S9F1, S9F1)), Has(Upper(S3, S9F1, PathOff::Nothing, 1)),
+    New, Known(LenRng(S9F1, 5, 2147483647)), After(Profile::Ideal, Does::True(3)), Facts(1), Has(LenRng(S9F1, 5, 2147483647)),
+    New, Known(Search(S2, S5)), Known(Neg(S2, S5)), Known(Upper(S3, S6, PathOff::Minus(S0), -2147483648)), Known(Less(S9F0, S3F0, -4)), After(Profile::Int32, Does::True(3)), Facts(2), Has(Search(S2, S5)), Has(Neg(S2, S5)),
+    New, Known(Search(S0, S5)), Known(Rng(S9F0, -3, 7)), Known(Upper(S9F0, S5, PathOff::Nothing, 3)), After(Profile::Int32, Does::Null(7)), Facts(5), Has(LenRng(S7, 0, 0)), Has(Rng(S9F0, -3, 7)), Has(Same(S7, S7)), Has(Search(S0, S5)), Has(Upper(S9F0, S5, PathOff::Nothing, 3)),
     New, Known(Upper(S1, S6, PathOff::Minus(S9F0), 2147483646)), Known(Upper(S9F0, S6, PathOff::Nothing, -3)), After(Profile::Int32, Does::Length(3, 6)), Facts(6), Has(Rng(S3, 0, 2147483647)), Has(IsLen(S3, S6)), Has(Less(S9F0, S3, 3)), Has(Upper(S1, S6, PathOff::Minus(S3), 2147483644)), Has(Upper(S1, S6, PathOff::Minus(S9F0), 2147483646)), Has(Upper(S9F0, S6, PathOff::Nothing, -3)),
     New, Known(Search(S3F0, S9F1)), After(Profile::Ideal, Does::Length(3, 5)), Facts(2), Has(Rng(S3, 0, 2147483647)), Has(IsLen(S3, S5)),
     New, Known(IsLen(S1, S5)), Known(Same(S5, S5)), After(Profile::Ideal, Does::Length(3, 5)), Facts(7), Has(Rng(S3, 0, 2147483647)), Has(IsLen(S1, S5)), Has(IsLen(S3, S5)), Has(Same(S5, S5)), Has(Less(S1, S3, 1)), Has(Less(S3, S1, 1)), Has(Upper(S3, S5, PathOff::Nothing, -1)),
@@ -63,6 +68,11 @@ const OTHERS_ROWS: &[Step] = &[
 ];
 
 #[test]
+fn operators_on_one_int_give_their_facts(rt: HostRuntime) {
+    agree(&rt, UNARY);
+}
+
+#[test]
 fn other_operations_give_their_facts(rt: HostRuntime) {
-    agree(&rt, rt.alloc(), OTHERS_ROWS);
+    agree(&rt, OTHERS);
 }

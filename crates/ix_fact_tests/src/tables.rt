@@ -1,6 +1,6 @@
 //! Rows of what the six tables of facts answer.
 
-use crate::known::{known_beside_path, known_beside_target, landmarks, small_facts};
+use crate::known::{are_small, known_beside_path, known_beside_target, landmarks};
 use ix_core::{Fact, List, Op, OpKind, Path, Profile};
 use ix_fact_steps::{Does, Holds, drawn_facts, is_fact, is_proper, operation, type_of, with_fact};
 use ix_facts::System;
@@ -47,18 +47,20 @@ pub enum Step {
     Checksum(i64),
 }
 
-/// What is known, other facts, and the facts of the six tables, of which some have been seen.
+/// What is known, other facts, the facts of the six tables, of which some have been seen, and how many rows have begun.
 #[derive(Drop)]
 struct Walk {
     known: Vec<Fact>,
     others: Vec<Fact>,
     found: Vec<Fact>,
     seen: usize,
+    row: u32,
 }
 
+#[tactic(auto, using(ix_systems::proofs::KnownClasses::small_classes))]
 fn table<R: Abort, K: OneKind>(rt: &R, alloc: Global, facts: &[Fact]) -> FactsOf<K> {
-    let small = small_facts(rt, alloc, facts).expect(rt, "memory");
-    FactsOf::of_facts(alloc, &small).expect(rt, "memory")
+    assert!(rt; are_small(facts), "a number is too large");
+    FactsOf::of_facts(alloc, facts).expect(rt, "memory")
 }
 
 fn added<R: Abort, K: OneKind>(
@@ -90,7 +92,7 @@ fn copied<R: Abort, K: OneKind>(
     source: &Path,
     holds: Holds,
 ) -> Result<FactsOf<K>, AllocError> {
-    let know = known_beside_path(rt, alloc, table, known, target).expect(rt, "memory");
+    let know = known_beside_path(rt, alloc, table.as_slice(), known, target).expect(rt, "memory");
     let ty = type_of(alloc, holds);
     table.copy(alloc, target, source, &ty, &know, Profile::Int32)
 }
@@ -112,7 +114,9 @@ fn operated<R: Abort, K: OneKind>(
     does: Does,
 ) -> Result<FactsOf<K>, AllocError> {
     let op = op_of(alloc, operation(alloc, does).expect(rt, "memory"));
-    let know = known_beside_target(rt, alloc, table, known, &op.kind).expect(rt, "memory");
+    let know = known_beside_target(rt, alloc, table.as_slice(), known, &op.kind).expect(
+        rt, "memory",
+    );
     table.after(alloc, &op, &know, profile)
 }
 
@@ -124,15 +128,15 @@ fn behind<R: Abort, K: OneKind>(
     walk: &Walk,
     step: &Step,
 ) -> Result<FactsOf<K>, AllocError> {
-    match *step {
-        Step::Add(fact) => added(rt, alloc, first, &fact),
-        Step::Forget(path) => first.forget(alloc, &path),
-        Step::Round(a, b, c, d) => first.round(alloc, &landmarks(rt, alloc, a, b, c, d)),
+    match step {
+        Step::Add(fact) => added(rt, alloc, first, fact),
+        Step::Forget(path) => first.forget(alloc, path),
+        Step::Round(a, b, c, d) => first.round(alloc, &landmarks(rt, alloc, *a, *b, *c, *d)),
         Step::Join => joined(rt, alloc, first, &walk.others),
         Step::Copied(target, source, holds) => {
-            copied(rt, alloc, first, &walk.known, &target, &source, holds)
+            copied(rt, alloc, first, &walk.known, target, source, *holds)
         }
-        Step::After(profile, does) => operated(rt, alloc, first, &walk.known, profile, does),
+        Step::After(profile, does) => operated(rt, alloc, first, &walk.known, *profile, *does),
         _ => Ok(table(rt, alloc, &walk.known)),
     }
 }
@@ -176,6 +180,7 @@ fn are_below<R: Abort>(rt: &R, alloc: Global, walk: &Walk, answers: [bool; 6]) -
 }
 
 fn begin(walk: &mut Walk) -> bool {
+    walk.row = walk.row.saturating_add(1);
     walk.known.clear();
     walk.others.clear();
     walk.found.clear();
@@ -214,33 +219,31 @@ fn checksum(facts: &[Fact]) -> i64 {
 
 /// Takes a step: whether it is as it says.
 fn take<R: Abort>(rt: &R, alloc: Global, walk: &mut Walk, step: &Step) -> bool {
-    match *step {
+    match step {
         Step::New => begin(walk),
-        Step::Known(fact) => add_to(rt, &mut walk.known, &fact),
-        Step::Other(fact) => add_to(rt, &mut walk.others, &fact),
-        Step::Drawn(start, count) => draw_to(rt, alloc, &mut walk.known, start, count),
-        Step::OtherDrawn(start, count) => draw_to(rt, alloc, &mut walk.others, start, count),
-        Step::Below(answers) => are_below(rt, alloc, walk, answers),
-        Step::Facts(count) => walk.found.len() == count,
-        Step::Has(fact) => is_next(walk, &fact),
-        Step::Checksum(sum) => checksum(&walk.found) == sum,
+        Step::Known(fact) => add_to(rt, &mut walk.known, fact),
+        Step::Other(fact) => add_to(rt, &mut walk.others, fact),
+        Step::Drawn(start, count) => draw_to(rt, alloc, &mut walk.known, *start, *count),
+        Step::OtherDrawn(start, count) => draw_to(rt, alloc, &mut walk.others, *start, *count),
+        Step::Below(answers) => are_below(rt, alloc, walk, *answers),
+        Step::Facts(count) => walk.found.len() == *count,
+        Step::Has(fact) => is_next(walk, fact),
+        Step::Checksum(sum) => checksum(&walk.found) == *sum,
         _ => tell_all(rt, alloc, walk, step),
     }
 }
 
 /// Each row is as it says.
-pub fn agree<R: Abort>(rt: &R, alloc: Global, steps: &[Step]) {
+pub fn agree<R: Abort + AllocGlobal>(rt: &R, steps: &[Step]) {
+    let alloc = rt.alloc();
     let mut walk = Walk {
         known: Vec::new(alloc),
         others: Vec::new(alloc),
         found: Vec::new(alloc),
         seen: 0,
+        row: 0,
     };
-    let mut row = 0u32;
     for step in steps {
-        if let Step::New = step {
-            row = row.saturating_add(1);
-        }
-        assert!(rt; take(rt, alloc, &mut walk, step), "row {row}");
+        assert!(rt; take(rt, alloc, &mut walk, step), "row {}", walk.row);
     }
 }

@@ -7,6 +7,6 @@ returns g c =
     let list = c.in_ok-list.list in
     let know = c.in_ok-know.know in
     record {
-      known = says_own (of_path c.args.path.now) (g.S.System.known c.args.table.now) c.args.others.now list know c.in_ok-list.ensures.facts c.in_ok-know.ensures.facts;
+      known = says_own (of_path c.args.path.now) c.args.own.now c.args.others.now list know c.in_ok-list.ensures.facts c.in_ok-know.ensures.facts;
       beside = names_none (of_path c.args.path.now) list know c.in_ok-know.ensures.facts;
     }
