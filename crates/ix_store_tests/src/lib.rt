@@ -4,8 +4,6 @@
 #![tactic(auto)]
 
 #[cfg(test)]
-mod known;
-#[cfg(test)]
 mod store_changes;
 #[cfg(test)]
 mod store_claims;

@@ -43,5 +43,5 @@ const ROWS: &[Step] = &[
 
 #[test]
 fn changes_agree(rt: HostRuntime) {
-    in_both(&rt, rt.alloc(), ROWS);
+    in_both(&rt, ROWS);
 }

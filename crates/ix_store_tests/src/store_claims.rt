@@ -34,5 +34,5 @@ const ROWS: &[Step] = &[
 
 #[test]
 fn claims_agree(rt: HostRuntime) {
-    in_both(&rt, rt.alloc(), ROWS);
+    in_both(&rt, ROWS);
 }

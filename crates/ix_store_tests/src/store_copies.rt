@@ -35,5 +35,5 @@ const ROWS: &[Step] = &[
 
 #[test]
 fn copies_agree(rt: HostRuntime) {
-    in_both(&rt, rt.alloc(), ROWS);
+    in_both(&rt, ROWS);
 }

@@ -37,5 +37,5 @@ const ROWS: &[Step] = &[
 
 #[test]
 fn joins_agree(rt: HostRuntime) {
-    in_both(&rt, rt.alloc(), ROWS);
+    in_both(&rt, ROWS);
 }

@@ -29,5 +29,5 @@ const ROWS: &[Step] = &[
 
 #[test]
 fn shared_stores_agree(rt: HostRuntime) {
-    in_both(&rt, rt.alloc(), ROWS);
+    in_both(&rt, ROWS);
 }

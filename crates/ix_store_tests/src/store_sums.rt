@@ -10,7 +10,7 @@ use ix_num::Arith;
 
 /// Rows of both profiles.
 #[rattlefmt::skip]
-const ROWS: &[Step] = &[
+const ADDED_AND_SUBTRACTED: &[Step] = &[
     New, Know(Upper(S0, S5, PathOff::Plus(S1), 3)), Know(LenRng(S5, 0, 20)), Assume(S0, PathClaim::Low(0)), Assume(S1, PathClaim::Low(0)), Do(Does::Num(2, Arith::Add, 0, 1)), Facts(14), Has(LenRng(S5, 0, 20)), Has(Less(S0, S2, 1)), Has(Less(S1, S2, 1)), Has(Low(S0, 0)), Has(Low(S1, 0)), Has(Low(S2, 0)), Has(Rng(S0, 0, 2147483647)), Has(Rng(S1, 0, 2147483647)), Has(Rng(S2, 0, 16)), Has(Sum(S2, S0, S1)), Has(Upper(S0, S5, PathOff::Plus(S1), 3)), Has(Upper(S2, S5, PathOff::Minus(S0), 3)), Has(Upper(S2, S5, PathOff::Minus(S1), 3)), Has(Upper(S2, S5, PathOff::Nothing, 3)),
     New, Know(Less(S1, S0, -4)), Assume(S1, PathClaim::Low(0)), Assume(S0, PathClaim::Range(0, 90)), Do(Does::Num(2, Arith::Sub, 0, 1)), Facts(11), Has(Less(S0, S2, 86)), Has(Less(S1, S0, -4)), Has(Less(S1, S2, 81)), Has(Less(S2, S0, 1)), Has(Low(S0, 0)), Has(Low(S1, 0)), Has(Low(S2, 1)), Has(Rng(S0, 0, 90)), Has(Rng(S1, 0, 2147483647)), Has(Rng(S2, 5, 90)), Has(Sum(S0, S1, S2)),
     New, Know(Upper(S0, S5, PathOff::Minus(S1), 3)), Know(LenRng(S5, 0, 20)), Assume(S0, PathClaim::Range(-5, 900)), Assume(S1, PathClaim::Range(0, 4)), Do(Does::Num(2, Arith::Sub, 0, 1)), Facts(12), Has(LenRng(S5, 0, 20)), Has(Less(S0, S2, 5)), Has(Less(S2, S0, 1)), Has(Low(S1, 0)), Has(Rng(S0, -5, 900)), Has(Rng(S1, 0, 4)), Has(Rng(S2, -9, 16)), Has(Sum(S0, S1, S2)), Has(Upper(S0, S5, PathOff::Minus(S1), 3)), Has(Upper(S1, S5, PathOff::Plus(S2), -1)), Has(Upper(S2, S5, PathOff::Minus(S1), 3)), Has(Upper(S2, S5, PathOff::Nothing, 3)),
@@ -19,6 +19,15 @@ const ROWS: &[Step] = &[
     New, Know(Sum(S3, S0, S1)), Know(Less(S1, S2, 1)), Assume(S0, PathClaim::Range(0, 5)), Assume(S2, PathClaim::Range(0, 5)), Do(Does::Num(4, Arith::Add, 0, 2)), Facts(15), Has(Less(S0, S4, 1)), Has(Less(S1, S2, 1)), Has(Less(S1, S4, 1)), Has(Less(S2, S4, 1)), Has(Less(S3, S4, 1)), Has(Less(S4, S0, 6)), Has(Less(S4, S2, 6)), Has(Low(S0, 0)), Has(Low(S2, 0)), Has(Low(S4, 0)), Has(Rng(S0, 0, 5)), Has(Rng(S2, 0, 5)), Has(Rng(S4, 0, 10)), Has(Sum(S3, S0, S1)), Has(Sum(S4, S0, S2)),
     New, Know(Sum(S3, S0, S1)), Know(Less(S1, S0, 1)), Assume(S0, PathClaim::Range(0, 5)), Do(Does::Num(4, Arith::Add, 0, 0)), Facts(11), Has(Less(S0, S4, 1)), Has(Less(S1, S0, 1)), Has(Less(S1, S4, 1)), Has(Less(S3, S4, 1)), Has(Less(S4, S0, 6)), Has(Low(S0, 0)), Has(Low(S4, 0)), Has(Rng(S0, 0, 5)), Has(Rng(S4, 0, 10)), Has(Sum(S3, S0, S1)), Has(Sum(S4, S0, S0)),
     New, Assume(S0, PathClaim::Range(0, 5)), Know(Less(S0, S1, 1)), Assume(S1, PathClaim::Range(0, 9)), Do(Does::Num(2, Arith::Add, 0, 1)), Do(Does::Int(3, 2)), Do(Does::Num(4, Arith::Div, 2, 3)), Facts(21), Has(Less(S0, S1, 1)), Has(Less(S0, S2, 1)), Has(Less(S0, S4, 1)), Has(Less(S1, S2, 1)), Has(Less(S2, S0, 10)), Has(Less(S2, S1, 6)), Has(Less(S2, S4, 10)), Has(Less(S4, S0, 10)), Has(Less(S4, S1, 1)), Has(Less(S4, S2, 1)), Has(Low(S0, 0)), Has(Low(S1, 0)), Has(Low(S2, 0)), Has(Low(S3, 1)), Has(Low(S4, 0)), Has(Rng(S0, 0, 5)), Has(Rng(S1, 0, 9)), Has(Rng(S2, 0, 14)), Has(Rng(S3, 2, 2)), Has(Rng(S4, 0, 7)), Has(Sum(S2, S0, S1)),
+    New, Know(Less(S0, S1, -4)), Assume(S0, PathClaim::Range(0, 90)), Assume(S1, PathClaim::Range(0, 90)), Do(Does::Num(2, Arith::Sub, 0, 1)), Facts(10), Has(Less(S0, S1, -4)), Has(Less(S0, S2, 91)), Has(Less(S2, S0, -4)), Has(Less(S2, S1, -9)), Has(Low(S0, 0)), Has(Low(S1, 0)), Has(Rng(S0, 0, 90)), Has(Rng(S1, 0, 90)), Has(Rng(S2, -90, -5)), Has(Sum(S0, S1, S2)),
+    New, Know(Less(S0, S1, 2)), Assume(S0, PathClaim::Range(0, 90)), Assume(S1, PathClaim::Range(0, 90)), Do(Does::Num(2, Arith::Sub, 0, 1)), Facts(10), Has(Less(S0, S1, 2)), Has(Less(S0, S2, 91)), Has(Less(S2, S0, 1)), Has(Less(S2, S1, 2)), Has(Low(S0, 0)), Has(Low(S1, 0)), Has(Rng(S0, 0, 90)), Has(Rng(S1, 0, 90)), Has(Rng(S2, -90, 1)), Has(Sum(S0, S1, S2)),
+    New, Know(Sum(S3, S1, S0)), Know(Less(S2, S1, 0)), Assume(S0, PathClaim::Range(0, 5)), Assume(S2, PathClaim::Range(0, 5)), Do(Does::Num(4, Arith::Add, 0, 2)), Facts(15), Has(Less(S0, S4, 1)), Has(Less(S2, S1, 0)), Has(Less(S2, S4, 1)), Has(Less(S4, S0, 6)), Has(Less(S4, S1, 5)), Has(Less(S4, S2, 6)), Has(Less(S4, S3, 0)), Has(Low(S0, 0)), Has(Low(S2, 0)), Has(Low(S4, 0)), Has(Rng(S0, 0, 5)), Has(Rng(S2, 0, 5)), Has(Rng(S4, 0, 10)), Has(Sum(S3, S0, S1)), Has(Sum(S4, S0, S2)),
+    New, Assume(S0, PathClaim::Range(3, 9)), Assume(S1, PathClaim::Low(0)), Do(Does::Num(2, Arith::Sub, 0, 1)), Do(Does::Int(3, 4)), Facts(9), Has(Less(S2, S0, 1)), Has(Low(S0, 1)), Has(Low(S1, 0)), Has(Low(S3, 1)), Has(Rng(S0, 3, 9)), Has(Rng(S1, 0, 2147483647)), Has(Rng(S2, -2147483644, 9)), Has(Rng(S3, 4, 4)), Has(Sum(S0, S1, S2)),
+];
+
+/// Rows of both profiles.
+#[rattlefmt::skip]
+const OTHERS: &[Step] = &[
     New, Know(Sum(S2, S0, S1)), Know(Less(S1, S0, 1)), Assume(S2, PathClaim::Low(0)), Do(Does::Int(3, 1)), Do(Does::Num(4, Arith::Shr, 2, 3)), Facts(11), Has(Less(S1, S0, 1)), Has(Less(S1, S4, 1)), Has(Less(S4, S0, 1)), Has(Less(S4, S2, 1)), Has(Low(S2, 0)), Has(Low(S3, 1)), Has(Low(S4, 0)), Has(Rng(S2, 0, 2147483647)), Has(Rng(S3, 1, 1)), Has(Rng(S4, 0, 1073741823)), Has(Sum(S2, S0, S1)),
     New, Know(Sum(S2, S0, S1)), Know(Less(S0, S1, 2)), Assume(S2, PathClaim::Low(0)), Do(Does::Int(3, 1)), Do(Does::Num(4, Arith::Shr, 2, 3)), Facts(9), Has(Less(S0, S1, 2)), Has(Less(S4, S2, 1)), Has(Low(S2, 0)), Has(Low(S3, 1)), Has(Low(S4, 0)), Has(Rng(S2, 0, 2147483647)), Has(Rng(S3, 1, 1)), Has(Rng(S4, 0, 1073741823)), Has(Sum(S2, S0, S1)),
     New, Know(Sum(S2, S0, S1)), Know(Less(S0, S1, 0)), Assume(S2, PathClaim::Range(-1, 9)), Do(Does::Int(3, 1)), Do(Does::Num(4, Arith::Shr, 2, 3)), Facts(8), Has(Less(S0, S1, 0)), Has(Low(S2, -1)), Has(Low(S3, 1)), Has(Low(S4, -1)), Has(Rng(S2, -1, 9)), Has(Rng(S3, 1, 1)), Has(Rng(S4, -1, 4)), Has(Sum(S2, S0, S1)),
@@ -42,12 +51,8 @@ const ROWS: &[Step] = &[
     New, Know(Sum(S1, S0, S2)), Assume(S1, PathClaim::Low(0)), Do(Does::NewArray(5, 1)), Do(Does::Length(3, 5)), Facts(12), Has(IsLen(S1, S5)), Has(IsLen(S3, S5)), Has(Less(S1, S3, 1)), Has(Less(S3, S1, 1)), Has(Low(S1, 0)), Has(Low(S3, 0)), Has(Rng(S1, 0, 2147483647)), Has(Rng(S3, 0, 2147483647)), Has(Same(S5, S5)), Has(Sum(S1, S0, S2)), Has(Upper(S0, S5, PathOff::Plus(S2), -1)), Has(Upper(S3, S5, PathOff::Nothing, -1)),
     New, Assume(S0, PathClaim::Range(-4, 3)), Do(Does::NewArray(5, 0)), Facts(4), Has(IsLen(S0, S5)), Has(LenRng(S5, 0, 3)), Has(Rng(S0, -4, 3)), Has(Same(S5, S5)),
     New, Assume(S0, PathClaim::Range(-4, -3)), Do(Does::NewArray(5, 0)), Nowhere,
-    New, Know(Less(S0, S1, -4)), Assume(S0, PathClaim::Range(0, 90)), Assume(S1, PathClaim::Range(0, 90)), Do(Does::Num(2, Arith::Sub, 0, 1)), Facts(10), Has(Less(S0, S1, -4)), Has(Less(S0, S2, 91)), Has(Less(S2, S0, -4)), Has(Less(S2, S1, -9)), Has(Low(S0, 0)), Has(Low(S1, 0)), Has(Rng(S0, 0, 90)), Has(Rng(S1, 0, 90)), Has(Rng(S2, -90, -5)), Has(Sum(S0, S1, S2)),
-    New, Know(Less(S0, S1, 2)), Assume(S0, PathClaim::Range(0, 90)), Assume(S1, PathClaim::Range(0, 90)), Do(Does::Num(2, Arith::Sub, 0, 1)), Facts(10), Has(Less(S0, S1, 2)), Has(Less(S0, S2, 91)), Has(Less(S2, S0, 1)), Has(Less(S2, S1, 2)), Has(Low(S0, 0)), Has(Low(S1, 0)), Has(Rng(S0, 0, 90)), Has(Rng(S1, 0, 90)), Has(Rng(S2, -90, 1)), Has(Sum(S0, S1, S2)),
-    New, Know(Sum(S3, S1, S0)), Know(Less(S2, S1, 0)), Assume(S0, PathClaim::Range(0, 5)), Assume(S2, PathClaim::Range(0, 5)), Do(Does::Num(4, Arith::Add, 0, 2)), Facts(15), Has(Less(S0, S4, 1)), Has(Less(S2, S1, 0)), Has(Less(S2, S4, 1)), Has(Less(S4, S0, 6)), Has(Less(S4, S1, 5)), Has(Less(S4, S2, 6)), Has(Less(S4, S3, 0)), Has(Low(S0, 0)), Has(Low(S2, 0)), Has(Low(S4, 0)), Has(Rng(S0, 0, 5)), Has(Rng(S2, 0, 5)), Has(Rng(S4, 0, 10)), Has(Sum(S3, S0, S1)), Has(Sum(S4, S0, S2)),
     New, Know(Rng(S0, 0, 4)), Do(Does::Fill(5, 4)), Facts(5), Has(LenRng(S5, 4, 4)), Has(Low(S0, 0)), Has(Rng(S0, 0, 4)), Has(Same(S5, S5)), Has(Upper(S0, S5, PathOff::Nothing, -1)),
     New, Know(Rng(S0, 0, 5)), Do(Does::Fill(5, 4)), Facts(4), Has(LenRng(S5, 4, 4)), Has(Low(S0, 0)), Has(Rng(S0, 0, 5)), Has(Same(S5, S5)),
-    New, Assume(S0, PathClaim::Range(3, 9)), Assume(S1, PathClaim::Low(0)), Do(Does::Num(2, Arith::Sub, 0, 1)), Do(Does::Int(3, 4)), Facts(9), Has(Less(S2, S0, 1)), Has(Low(S0, 1)), Has(Low(S1, 0)), Has(Low(S3, 1)), Has(Rng(S0, 3, 9)), Has(Rng(S1, 0, 2147483647)), Has(Rng(S2, -2147483644, 9)), Has(Rng(S3, 4, 4)), Has(Sum(S0, S1, S2)),
 ];
 
 /// Rows with ideal sums.
@@ -87,16 +92,21 @@ const INT32: &[Step] = &[
 ];
 
 #[test]
-fn sums_agree(rt: HostRuntime) {
-    in_both(&rt, rt.alloc(), ROWS);
+fn sums_and_differences_agree(rt: HostRuntime) {
+    in_both(&rt, ADDED_AND_SUBTRACTED);
+}
+
+#[test]
+fn other_operators_agree(rt: HostRuntime) {
+    in_both(&rt, OTHERS);
 }
 
 #[test]
 fn sums_agree_with_ideal_sums(rt: HostRuntime) {
-    ideal(&rt, rt.alloc(), IDEAL);
+    ideal(&rt, IDEAL);
 }
 
 #[test]
 fn sums_agree_with_sums_of_32_bits(rt: HostRuntime) {
-    int32(&rt, rt.alloc(), INT32);
+    int32(&rt, INT32);
 }

@@ -36,5 +36,5 @@ const ROWS: &[Step] = &[
 
 #[test]
 fn unreachable_stores_agree(rt: HostRuntime) {
-    in_both(&rt, rt.alloc(), ROWS);
+    in_both(&rt, ROWS);
 }

@@ -1,8 +1,7 @@
 //! Rows of stores: steps from store to store, with what is known behind them.
 
-use crate::known::small_facts;
 use ix_core::{Base, Fact, Field, List, Path, PathClaim, PathOff, Profile, Program, Type_};
-use ix_fact_steps::{Does, Holds, is_among, operation, type_of};
+use ix_fact_steps::{Does, Holds, is_among, is_small, operation, type_of};
 use ix_facts::{Know, Landmarks};
 use ix_lattice::Lattice;
 use ix_num::Rel;
@@ -79,17 +78,19 @@ pub enum Step {
     Has(Fact),
 }
 
-/// The store that the steps have come to, its facts where they have been listed, and the stores that are kept.
+/// The store that the steps have come to, its facts where they have been listed, the stores that are kept, and how many rows have begun.
 #[derive(Drop)]
 struct Walk {
     store: Store,
     facts: Vec<Fact>,
     kept: Vec<Store>,
+    row: u32,
 }
 
+#[tactic(auto, using(crate::proofs::KnownOne::one_class))]
 fn known<R: Abort>(rt: &R, alloc: Global, store: &Store, fact: Fact) -> Result<Store, AllocError> {
-    let facts = small_facts(rt, alloc, &[fact]).expect(rt, "memory");
-    store.add(alloc, &facts)
+    assert!(rt; is_small(&fact), "a number is too large");
+    store.add(alloc, &[fact])
 }
 
 fn marks_of(alloc: Global, marks: &[i32]) -> Result<Landmarks, AllocError> {
@@ -118,26 +119,9 @@ fn test_of(alloc: Global, left: u32, rel: Rel, right: u32, holds: Holds) -> Test
 }
 
 /// The stores where a test is true and where it is false: one of them.
-fn answered(alloc: Global, store: &Store, test: &Test, answer: bool) -> Result<Store, AllocError> {
+fn tested(alloc: Global, store: &Store, test: &Test, answer: bool) -> Result<Store, AllocError> {
     let (holds, fails) = branch_test(alloc, store, test)?;
     if answer { Ok(holds) } else { Ok(fails) }
-}
-
-fn tested(alloc: Global, store: &Store, step: &Step) -> Result<Store, AllocError> {
-    match *step {
-        Step::If(left, rel, right, holds) => {
-            answered(alloc, store, &test_of(alloc, left, rel, right, holds), true)
-        }
-        Step::Unless(left, rel, right, holds) => {
-            answered(
-                alloc,
-                store,
-                &test_of(alloc, left, rel, right, holds),
-                false,
-            )
-        }
-        _ => store.share(),
-    }
 }
 
 fn copied(
@@ -152,32 +136,31 @@ fn copied(
 
 fn push_field(fields: &mut List<Field>, alloc: Global, is_final: bool) -> Result<(), AllocError> {
     let name = Text::from_str(alloc, "f")?;
-    fields.push(Field {
+    let field = Field {
         name,
         class: 0,
         ty: Type_::Plain(Base::Int),
         is_final,
         claims: List::new(alloc),
-    })?;
-    Ok(())
+    };
+    fields.push(field).map_err(AllocError::from)
 }
 
 fn push_fields(fields: &mut List<Field>, alloc: Global) -> Result<(), AllocError> {
-    push_field(fields, alloc, false)?;
-    push_field(fields, alloc, true)?;
     push_field(fields, alloc, false)
+        .and(push_field(fields, alloc, true))
+        .and(push_field(fields, alloc, false))
 }
 
 /// A program with three fields, of which that with the number 1 is final.
 fn three_fields(alloc: Global) -> Result<Program, AllocError> {
     let mut fields = List::new(alloc);
-    push_fields(&mut fields, alloc)?;
-    Ok(Program {
+    push_fields(&mut fields, alloc).and(Ok(Program {
         classes: List::new(alloc),
         methods: List::new(alloc),
         fields,
         accesses: 0,
-    })
+    }))
 }
 
 /// The store behind a call.
@@ -213,17 +196,32 @@ fn behind<R: Abort>(
     profile: Profile,
     step: &Step,
 ) -> Result<Store, AllocError> {
-    match *step {
+    match step {
         Step::Empty => Store::empty(alloc),
         Step::Unreachable => Ok(Store::unreachable()),
-        Step::Know(fact) => known(rt, alloc, store, fact),
-        Step::Assume(p, claim) => store.assume(alloc, &claim, &p),
-        Step::If(_, _, _, _) | Step::Unless(_, _, _, _) => tested(alloc, store, step),
-        Step::Round(scope, marks) => rounded(alloc, store, scope, marks),
-        Step::Forget(path) => store.forget(alloc, &path),
-        Step::Field(field, spared) => store.forget_field(alloc, field, spared),
-        Step::Do(does) => operated(alloc, store, profile, does),
-        Step::Copied(target, source, holds) => copied(alloc, store, &target, &source, holds),
+        Step::Know(fact) => known(rt, alloc, store, *fact),
+        Step::Assume(p, claim) => store.assume(alloc, claim, p),
+        Step::If(left, rel, right, holds) => {
+            tested(
+                alloc,
+                store,
+                &test_of(alloc, *left, *rel, *right, *holds),
+                true,
+            )
+        }
+        Step::Unless(left, rel, right, holds) => {
+            tested(
+                alloc,
+                store,
+                &test_of(alloc, *left, *rel, *right, *holds),
+                false,
+            )
+        }
+        Step::Round(scope, marks) => rounded(alloc, store, *scope, marks),
+        Step::Forget(path) => store.forget(alloc, path),
+        Step::Field(field, spared) => store.forget_field(alloc, *field, *spared),
+        Step::Do(does) => operated(alloc, store, profile, *does),
+        Step::Copied(target, source, holds) => copied(alloc, store, target, source, *holds),
         _ => behind_call(alloc, store, step),
     }
 }
@@ -250,23 +248,24 @@ fn counts<K: Know>(know: &K) -> (u64, u64, u64) {
 
 /// Whether the answer is that of the store.
 fn is_so<K: Know>(know: &K, question: &Question) -> bool {
-    match *question {
-        Question::Lo(p, n) => know.lo(&p) == n,
-        Question::Hi(p, n) => know.hi(&p) == n,
-        Question::Shortest(a, n) => know.len_lo(&a) == n,
-        Question::Longest(a, n) => know.len_hi(&a) == n,
-        Question::Upper(p, a, offset, n) => know.upper(&p, &a, &offset) == n,
-        Question::Less(p, q, n) => know.less(&p, &q) == n,
-        Question::Difference(p, q, n) => know.difference(&p, &q) == n,
-        Question::Same(a, b, so) => know.same(&a, &b) == so,
-        Question::IsLength(p, a, so) => know.is_len(&p, &a) == so,
-        Question::Search(p, a, so) => know.search(&p, &a) == so,
-        Question::Negative(p, a, so) => know.negative(&p, &a) == so,
-        Question::Count(facts, ints, arrays) => counts(know) == (facts, ints, arrays),
+    match question {
+        Question::Lo(p, n) => know.lo(p) == *n,
+        Question::Hi(p, n) => know.hi(p) == *n,
+        Question::Shortest(a, n) => know.len_lo(a) == *n,
+        Question::Longest(a, n) => know.len_hi(a) == *n,
+        Question::Upper(p, a, offset, n) => know.upper(p, a, offset) == *n,
+        Question::Less(p, q, n) => know.less(p, q) == *n,
+        Question::Difference(p, q, n) => know.difference(p, q) == *n,
+        Question::Same(a, b, so) => know.same(a, b) == *so,
+        Question::IsLength(p, a, so) => know.is_len(p, a) == *so,
+        Question::Search(p, a, so) => know.search(p, a) == *so,
+        Question::Negative(p, a, so) => know.negative(p, a) == *so,
+        Question::Count(facts, ints, arrays) => counts(know) == (*facts, *ints, *arrays),
     }
 }
 
 fn begin<R: Abort>(rt: &R, alloc: Global, walk: &mut Walk) -> bool {
+    walk.row = walk.row.saturating_add(1);
     walk.store = Store::empty(alloc).expect(rt, "memory");
     walk.kept.clear();
     true
@@ -323,48 +322,50 @@ fn go<R: Abort>(rt: &R, alloc: Global, walk: &mut Walk, profile: Profile, step: 
 
 /// Takes a step: whether it is as it says.
 fn take<R: Abort>(rt: &R, alloc: Global, walk: &mut Walk, profile: Profile, step: &Step) -> bool {
-    match *step {
+    match step {
         Step::New => begin(rt, alloc, walk),
         Step::Keep => keep(rt, walk),
-        Step::Back(k) => go_back(rt, walk, k),
-        Step::Join(k) => join(rt, alloc, walk, k),
-        Step::Below(k, answer) => is_below(walk, k, answer),
-        Step::Proves(p, claim, answer) => walk.store.proves(&claim, &p) == answer,
-        Step::Ask(question) => is_so(&walk.store, &question),
+        Step::Back(k) => go_back(rt, walk, *k),
+        Step::Join(k) => join(rt, alloc, walk, *k),
+        Step::Below(k, answer) => is_below(walk, *k, *answer),
+        Step::Proves(p, claim, answer) => walk.store.proves(claim, p) == *answer,
+        Step::Ask(question) => is_so(&walk.store, question),
         Step::Nowhere => list(rt, alloc, walk, None),
-        Step::Facts(count) => list(rt, alloc, walk, Some(count)),
-        Step::Has(fact) => is_among(&fact, &walk.facts),
+        Step::Facts(count) => list(rt, alloc, walk, Some(*count)),
+        Step::Has(fact) => is_among(fact, &walk.facts),
         _ => go(rt, alloc, walk, profile, step),
     }
 }
 
-fn agree<R: Abort>(rt: &R, alloc: Global, profile: Profile, steps: &[Step]) {
+fn agree<R: Abort + AllocGlobal>(rt: &R, profile: Profile, steps: &[Step]) {
+    let alloc = rt.alloc();
     let mut walk = Walk {
         store: Store::unreachable(),
         facts: Vec::new(alloc),
         kept: Vec::new(alloc),
+        row: 0,
     };
-    let mut row = 0u32;
     for step in steps {
-        if let Step::New = step {
-            row = row.saturating_add(1);
-        }
-        assert!(rt; take(rt, alloc, &mut walk, profile, step), "row {row}");
+        assert!(rt;
+            take(rt, alloc, &mut walk, profile, step),
+            "row {}",
+            walk.row
+        );
     }
 }
 
 /// Each row is as it says with ideal sums.
-pub fn ideal<R: Abort>(rt: &R, alloc: Global, steps: &[Step]) {
-    agree(rt, alloc, Profile::Ideal, steps);
+pub fn ideal<R: Abort + AllocGlobal>(rt: &R, steps: &[Step]) {
+    agree(rt, Profile::Ideal, steps);
 }
 
 /// Each row is as it says with sums of 32 bits.
-pub fn int32<R: Abort>(rt: &R, alloc: Global, steps: &[Step]) {
-    agree(rt, alloc, Profile::Int32, steps);
+pub fn int32<R: Abort + AllocGlobal>(rt: &R, steps: &[Step]) {
+    agree(rt, Profile::Int32, steps);
 }
 
 /// Each row is as it says in both profiles.
-pub fn in_both<R: Abort>(rt: &R, alloc: Global, steps: &[Step]) {
-    ideal(rt, alloc, steps);
-    int32(rt, alloc, steps);
+pub fn in_both<R: Abort + AllocGlobal>(rt: &R, steps: &[Step]) {
+    ideal(rt, steps);
+    int32(rt, steps);
 }
