@@ -5,7 +5,7 @@ use Rattle.std.proofs.lemmas.Bool.{false≢true}
 use Rattle.ix_core.specs.declared.op.Test.{Test}
 use Rattle.ix_core.specs.Posts.{last_done}
 use Rattle.ix_facts.specs.Round.{rounded}
-use Rattle.ix_facts.specs.Stores.{Stored, IsBelow, IsStoreOf, IsJoined, IsTested, IsRounded, outcomes_of}
+use Rattle.ix_facts.specs.Stores.{Stored, Unreachable, IsBelow, IsStoreOf, IsJoined, IsTested, IsRounded, outcomes_of}
 use Rattle.ix_facts.proofs.StepLaws.{told_give, told_least, given_gives, given_least}
 use Rattle.ix_facts.proofs.StoreLaws.{below_itself, store_above, store_least, joined_least}
 use Rattle.ix_flow.specs.Flow.{Rules, RulesLaws, Anything}
@@ -303,3 +303,14 @@ pub are_linked : (body : Code) (nodes : List Node) → length nodes ≡ behind_c
 are_linked body nodes size have at node found =
     subst (AreUnder (length nodes)) (sym (have at node found).readers)
     (subst (λ n. AreUnder n (targets_from at (edges_of (method_parts body)))) (sym size) (targets_within (behind_code body 2) at (method_parts body) (method_below body)))
+
+-- a label that is passed says nothing
+pub passed_asked : (problem : Problem) (labels : List Stored) (at : ℕ) (label : Stored) → is_kept (kept_in problem) at ≡ false → label ≡ Unreachable → IsLeastOf IsBelow (Asks problem at labels) label
+passed_asked problem labels at label passed is =
+    let R = rules_of problem in
+    let kept = is_kept (kept_in problem) at in
+    subst (λ (l : Stored). IsLeastOf IsBelow (Asks problem at labels) l) (sym is) (
+      of_second kept ((s : Stored) × EachBrings R (kinds_at problem) (RunsTo R (kinds_at problem) (kept_in problem) (edges_at problem) labels) (edges_at problem at) s × Settles R (Anything R) (λ number. Unreachable) (kinds_at problem at) s Unreachable) (Unit {0}) passed
+          tt,
+      λ other asks. tt,
+    )
