@@ -39,3 +39,9 @@ pub returns : goal.returns
 returns c =
     let all : c.loop-number.number ≡ length c.args.program.now.methods = search rules in
     IfOk-weaker c.answer.result _ _ (λ audit is. ends c.args.program.now c.args.profile (map (map stored) c.args.labels.now) c.loop-number.number c.loop-number.found.items audit all c.loop-number.invariant is) c.answer.ensures
+
+pub audit_method-requires-clause-upper : goal.audit_method-requires-clause-upper
+audit_method-requires-clause-upper c =
+    let number = c.loop-number.number in
+    let within : number < length c.args.program.now.methods = search rules in
+    c.requires.can.upper number within

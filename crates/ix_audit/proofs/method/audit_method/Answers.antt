@@ -1,4 +1,5 @@
 use Rattle.std.proofs.Common.{◌≡◌, ◌<◌, length, map, ap, sym, subst, ◌∙◌, ◌++◌, List}
+use Rattle.std.specs.Option.{ForSome}
 use Rattle.ix_core.specs.declared.program.Method.{Method}
 use Rattle.ix_core.specs.Code.{block_code}
 use Rattle.ix_core.specs.Tables.{method_at}
@@ -40,3 +41,20 @@ returns-clause-none c =
     let errors = c.in_ok-findings.findings.errors.items in
     let finds = subst (λ (m : Method). Finds program m c.args.number c.args.profile (map stored c.args.labels.now) failed errors) (sym is) c.in_ok-findings.ensures in
     none_sound program c.args.profile c.args.number (map stored c.args.labels.now) failed errors finds c.least_of.result (subst (λ ns. IsLeastIn ns c.least_of.result) c.as_slice-3.ensures.value c.least_of.ensures)
+
+pub walk-requires : goal.walk-requires
+walk-requires c =
+    let within : c.args.number < length c.as_slice.result.now = subst (λ ms. c.args.number < length ms) (sym c.as_slice.ensures) c.requires.number in
+    let is = method_is c.args.program.now c.args.number c.as_slice.result.now c.index-as_slice-number.result c.as_slice.ensures within c.index-as_slice-number.is in
+    record { program = c.requires.program; method = subst HasSmallNames is (c.requires.program.methods c.args.number) }
+
+pub push_of_overriding-requires : goal.push_of_overriding-requires
+push_of_overriding-requires c =
+    let program = c.args.program.now in
+    let within : c.args.number < length c.as_slice.result.now = subst (λ ms. c.args.number < length ms) (sym c.as_slice.ensures) c.requires.number in
+    let is = method_is program c.args.number c.as_slice.result.now c.index-as_slice-number.result c.as_slice.ensures within c.index-as_slice-number.is in
+    record {
+      method = subst HasSmallNames is (c.requires.program.methods c.args.number);
+      upper = subst (λ (m : Method). ForSome m.overrides (λ over. over < length program.methods)) is c.requires.upper;
+      program = c.requires.program;
+    }
