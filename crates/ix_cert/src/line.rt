@@ -1,6 +1,7 @@
 //! A fact as a line of a certificate.
 
 ghost use Rattle.std.specs.Prelude.{◌≡◌, ◌++◌, OnOk, IfOk, string_bytes, codes};
+ghost use Rattle.std.specs.Fmt.{signed_decimal};
 ghost use Rattle.ix_cert.specs.Lines as spec;
 ghost use Rattle.ix_cert.specs.Lines.{path_text, fact_text};
 ghost use Rattle.ix_cert.specs.Reading.{word_of};
@@ -107,24 +108,26 @@ fn word(fact: &Fact) -> &'static str
     }
 }
 
+/// Adds a constant behind a space.
+fn add_constant(text: &mut String, constant: i32) -> Result<(), AllocError>
+    ensures { OnOk result (string_bytes text.new ≡ string_bytes text.old ++ (codes " " ++ signed_decimal constant)) }
+{
+    write!(text, " {constant}")
+}
+
 /// Adds what stands behind the word.
 fn add_args(alloc: Global, text: &mut String, fact: &Fact) -> Result<(), AllocError>
     ensures { OnOk result (string_bytes text.new ≡ string_bytes text.old ++ spec.behind_word fact.now) }
 {
     match fact {
         Fact::Rng(p, low, high) | Fact::LenRng(p, low, high) => {
-            add_path(text, p)?;
-            write!(text, " {low} {high}")
+            add_path(text, p).and(write!(text, " {low} {high}"))
         }
-        Fact::Low(p, low) => {
-            add_path(text, p)?;
-            write!(text, " {low}")
-        }
+        Fact::Low(p, low) => add_path(text, p).and(add_constant(text, *low)),
         Fact::Same(a, b) => add_both(alloc, text, a, b),
         Fact::IsLen(p, a) | Fact::Search(p, a) | Fact::Neg(p, a) => add_two(text, p, a),
         Fact::Less(p, q, constant) => {
-            add_two(text, p, q)?;
-            write!(text, " {constant}")
+            add_two(text, p, q).and(add_constant(text, *constant))
         }
         Fact::Sum(t, y, z) => {
             add_path(text, t)
@@ -132,8 +135,7 @@ fn add_args(alloc: Global, text: &mut String, fact: &Fact) -> Result<(), AllocEr
                 .and(add_both(alloc, text, y, z))
         }
         Fact::Upper(p, a, offset, constant) => {
-            add_bound(alloc, text, p, a, offset)?;
-            write!(text, " {constant}")
+            add_bound(alloc, text, p, a, offset).and(add_constant(text, *constant))
         }
     }
 }
