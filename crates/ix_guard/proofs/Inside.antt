@@ -1,5 +1,5 @@
 -- What is in an expression, by its parts.
-use Rattle.std.proofs.Common.{◌≡◌, Option, None, Bool, true, false, if◌then◌else◌, List, [], ◌++◌, sym, ap, refl, ◌∙◌, append_assoc, append-nil}
+use Rattle.std.proofs.Common.{◌≡◌, Option, None, Some, Bool, true, false, if◌then◌else◌, List, [], ◌∷◌, ◌++◌, sym, ap, refl, ◌∙◌, append_assoc, append-nil}
 use Rattle.ix_num.specs.declared.arith.Arith.{Arith}
 use Rattle.ix_tree.specs.declared.expr.BinaryOp.{BinaryOp}
 use Rattle.ix_tree.specs.declared.expr.Expr.{Expr, fold-roll-Expr}
@@ -67,3 +67,11 @@ assign_is expr target value operator is =
 pub assign_parts : (expr target value one two : Expr) (operator : Option Arith) → expr.kind ≡ kind.Assign operator target value → one ≡ target → two ≡ value → parts_of expr ≡ both (as_target (reading one)) (parts_of two)
 assign_parts expr target value one two operator is here there =
     assign_is expr target value operator is ∙ (ap (λ (e : Expr). both (as_target (reading e)) (parts_of value)) (sym here) ∙ ap (λ (e : Expr). both (as_target (reading one)) (parts_of e)) (sym there))
+
+-- an access on names
+pub index_own : (expr array index one two : Expr) (access : Access) → expr.kind ≡ kind.Index array index → one ≡ array → two ≡ index → Some access ≡ own_access (reading one).name (reading two).name
+    → (parts_of expr).accesses ≡ access ∷ []
+index_own expr array index one two access is here there own =
+    let found : own_access (reading array).name (reading index).name ≡ Some access =
+    sym (own ∙ (ap (λ (e : Expr). own_access (reading e).name (reading two).name) here ∙ ap (λ (e : Expr). own_access (reading array).name (reading e).name) there)) in
+    ap (λ (p : Parts). p.accesses) (index_is expr array index is) ∙ ap (λ (o : Option Access). or_inside o ((parts_of array).accesses ++ (parts_of index).accesses)) found

@@ -148,9 +148,7 @@ fn add_tested(
     if !is_tested(site, changes, pairs, access) {
         return Ok(());
     }
-    add_test(text, access)?;
-    pairs.push(pair_of(site, access))?;
-    Ok(())
+    add_test(text, access).and(pairs.push(pair_of(site, access)).map_err(AllocError::from))
 }
 
 /// The tests of these accesses, each pair of variables once.

@@ -1,11 +1,14 @@
-use Rattle.std.proofs.Common.{rules, List, ap, refl, sym, ◌∙◌}
+use Rattle.std.proofs.Common.{rules, Bool, if◌then◌else◌, List, [], ◌∷◌, ◌++◌, map, ap, refl, sym, ◌∙◌}
 use Rattle.ix_tree.specs.declared.expr.Expr.{Expr}
 use Rattle.ix_tree.specs.declared.expr.Init.{Init}
+use Rattle.ix_guard.specs.declared.parts.Access.{Access}
 use Rattle.ix_guard.specs.Accesses as spec
 use Rattle.ix_guard.specs.Accesses.{Parts}
 use Rattle.ix_guard.specs.Shown.{seen}
+use Rattle.std.proofs.lemmas.List.{map-append}
 use Rattle.std.proofs.lemmas.Result.{on_ok_weaker}
-use Rattle.ix_guard.proofs.Inside.{joined, index_assigned, index_accesses, binary_assigned, binary_accesses, assign_parts}
+use Rattle.ix_guard.proofs.Inside.{joined, index_assigned, index_accesses, binary_assigned, binary_accesses, assign_parts, index_own}
+use Rattle.ix_guard.proofs.Joined.{on_mapped}
 use Rattle.ix_guard.proofs.Sums.{one_more}
 use Rattle.ix_guard.proofs.Truncated.{cut_where, vec_length}
 use Rattle.ix_guard.proofs.parts.+parts.Goals as goal
@@ -44,3 +47,10 @@ add_parts-returns-in_ok-add_as_target-in-Assign-clause-accesses t c = on_ok_weak
 
 pub add_parts-returns-in_ok-add_as_target-in-Assign-clause-assigned : goal.add_parts-returns-in_ok-add_as_target-in-Assign-clause-assigned
 add_parts-returns-in_ok-add_as_target-in-Assign-clause-assigned t c = on_ok_weaker c.add_parts-in-Assign.result (λ is. joined _ _ _ _ _ _ c.in_ok-add_as_target-in-Assign.ensures.assigned is (ap (λ (p : Parts). p.assigned) (assign_parts c.args.expr.now c.in-Assign.target c.in-Assign.value _ _ _ c.in-Assign.is c.get-in-Assign.ensures c.get-in-Assign-2.ensures))) c.add_parts-in-Assign.ensures.assigned
+
+pub add_parts-returns-in-Some-clause-accesses : goal.add_parts-returns-in-Some-clause-accesses
+add_parts-returns-in-Some-clause-accesses t c =
+    let items : List Access = c.args.found.now.accesses.items in
+    let access : Access = c.in-Some.access in
+    on_mapped c.push.result c.map_err.result _ c.map_err.ensures.variant (λ well. ap (map seen) (c.push.ensures.items ∙ ap (λ (b : Bool). if b then items ++ access ∷ [] else items) well)
+    ∙ (map-append seen items (access ∷ []) ∙ ap (λ l. map seen items ++ l) (sym (index_own c.args.expr.now c.in-Index.array c.in-Index.index _ _ (seen access) c.in-Index.is c.get-in-Index.ensures c.get-in-Index-2.ensures c.in-Some.ensures))))
