@@ -48,8 +48,7 @@ pub(crate) fn insert_opening(
         return Ok(());
     }
     let mut text = String::from_str(alloc, "{ ")?;
-    text.push_str(tests)?;
-    insert(out, span.from, text)
+    text.push_str(tests).and(insert(out, span.from, text))
 }
 
 /// The end of a block with these tests.

@@ -209,8 +209,7 @@ pub(crate) fn expression_tests(
     ensures { IfOk result (λ text. string_bytes text ≡ spec.expression_tests (site_of site.now) expr.now) }
 {
     let mut parts = Parts::new(alloc);
-    add_parts(expr, &mut parts)?;
-    tests(alloc, site, &[], &parts)
+    add_parts(expr, &mut parts).and(tests(alloc, site, &[], &parts))
 }
 
 /// The tests of a declaration of these locals.
@@ -222,6 +221,5 @@ pub(crate) fn declaration_tests(
     ensures { IfOk result (λ text. string_bytes text ≡ spec.declaration_tests (site_of site.now) decls.now) }
 {
     let mut parts = Parts::new(alloc);
-    add_all_declared(decls, &mut parts)?;
-    tests(alloc, site, decls, &parts)
+    add_all_declared(decls, &mut parts).and(tests(alloc, site, decls, &parts))
 }
