@@ -19,10 +19,10 @@ fn same_detail(
     ensures { IfOk result (λ same. same ≡ bytes_eq (spec.detail_text program.now one) (spec.detail_text program.now other)) }
 {
     let mut first = String::new(alloc);
-    add_detail(&mut first, program, one)?;
     let mut second = String::new(alloc);
-    add_detail(&mut second, program, other)?;
-    Ok(first.as_str() == second.as_str())
+    add_detail(&mut first, program, one)
+        .and(add_detail(&mut second, program, other))
+        .and(Ok(first.as_str() == second.as_str()))
 }
 
 /// Whether two errors have one line.

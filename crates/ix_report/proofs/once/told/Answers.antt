@@ -13,7 +13,7 @@ loop-error-preserved c =
     let error = get_or c.args.errors.now c.loop-error.error-index (record { rule = 0; span = record { from = 0; to = 0 }; detail = Plain }) in
     telling_more c.args.program.now c.args.errors.now c.loop-error.told.items c.if-not-branch.told.items c.loop-error.starts.earlier c.loop-error.starts.last c.moved-starts.result.earlier c.moved-starts.result.last
     error (drop c.loop-error.error-index c.args.errors.now) (drop (c.loop-error.error-index + 1) c.args.errors.now)
-    c.loop-error.invariant (drop_more c.args.errors.now c.loop-error.error-index _ (search rules)) (search rules) c.moved-starts.ensures.within
+    c.loop-error.invariant (drop_more c.args.errors.now c.loop-error.error-index _ c.loop-error-test.true) (search rules) c.moved-starts.ensures.within
     (elim c.if-not-branch.branch [
       | then-not-branch+in_ok-push w ↦ tell_new c.args.program.now c.loop-error.told.items c.if-not-branch.told.items error (search rules) (search rules)
       | else-not-branch w ↦ tell_old c.args.program.now c.loop-error.told.items c.if-not-branch.told.items error (search rules) (search rules)
