@@ -37,3 +37,20 @@ field_named program number found is = ap (λ (f : Option Field). unwrap_or (opti
 
 pub class_named : (program : Program) (number : ℕ) (found : Class) → slice_get program.classes number ≡ Some found → class_name program number ≡ found.name
 class_named program number found is = ap (λ (c : Option Class). unwrap_or (option_map (λ (c : Class). c.name) c) []) is
+
+-- ---- where nothing has the number
+
+pub param_none : (program : Program) (method number : ℕ) → slice_get program.methods method ≡ None → param_name program method number ≡ []
+param_none program method number none = ap (λ (m : Option Method). unwrap_or (option_map (λ (p : Local). p.name) (option_and_then (λ (m : Method). slice_get m.params number) m)) []) none
+
+pub local_none : (program : Program) (method number : ℕ) → slice_get program.methods method ≡ None → local_name program method number ≡ []
+local_none program method number none = ap (λ (m : Option Method). unwrap_or (option_map (λ (l : Local × Span). l.0.name) (option_and_then (λ (m : Method). slice_get m.locals number) m)) []) none
+
+pub method_none : (program : Program) (number : ℕ) → slice_get program.methods number ≡ None → method_name program number ≡ []
+method_none program number none = ap (λ (m : Option Method). unwrap_or (option_map (λ (m : Method). m.name) m) []) none
+
+pub field_none : (program : Program) (number : ℕ) → slice_get program.fields number ≡ None → field_name program number ≡ []
+field_none program number none = ap (λ (f : Option Field). unwrap_or (option_map (λ (f : Field). f.name) f) []) none
+
+pub class_none : (program : Program) (number : ℕ) → slice_get program.classes number ≡ None → class_name program number ≡ []
+class_none program number none = ap (λ (c : Option Class). unwrap_or (option_map (λ (c : Class). c.name) c) []) none
