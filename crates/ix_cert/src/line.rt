@@ -126,9 +126,7 @@ fn add_args(alloc: Global, text: &mut String, fact: &Fact) -> Result<(), AllocEr
         Fact::Low(p, low) => add_path(text, p).and(add_constant(text, *low)),
         Fact::Same(a, b) => add_both(alloc, text, a, b),
         Fact::IsLen(p, a) | Fact::Search(p, a) | Fact::Neg(p, a) => add_two(text, p, a),
-        Fact::Less(p, q, constant) => {
-            add_two(text, p, q).and(add_constant(text, *constant))
-        }
+        Fact::Less(p, q, constant) => { add_two(text, p, q).and(add_constant(text, *constant)) }
         Fact::Sum(t, y, z) => {
             add_path(text, t)
                 .and(text.push_str(" "))
