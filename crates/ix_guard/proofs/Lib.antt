@@ -4,6 +4,5 @@ mod Rows
 mod Sums
 mod Inside
 mod Inserted
-mod Joined
 mod Branches
 mod Tested

@@ -1,3 +1,4 @@
 pub mod LineStarts
 pub mod Characters
 pub mod Walked
+pub mod Chained

@@ -8,7 +8,7 @@ use Rattle.ix_guard.specs.Shown.{seen}
 use Rattle.std.proofs.lemmas.List.{map-append}
 use Rattle.std.proofs.lemmas.Result.{on_ok_weaker}
 use Rattle.ix_guard.proofs.Inside.{joined, index_assigned, index_accesses, binary_assigned, binary_accesses, assign_parts, index_own}
-use Rattle.ix_guard.proofs.Joined.{on_mapped}
+use Rattle.ix_text.proofs.Chained.{on_mapped}
 use Rattle.ix_guard.proofs.Sums.{one_more}
 use Rattle.ix_guard.proofs.Truncated.{cut_where, vec_length}
 use Rattle.ix_guard.proofs.parts.+parts.Goals as goal

@@ -2,7 +2,7 @@ use Rattle.std.proofs.Common.{rules, refl, true, ◌∙◌}
 use Rattle.ix_guard.specs.Guards as spec
 use Rattle.ix_guard.specs.Shown.{site_of}
 use Rattle.ix_guard.proofs.Inside.{joined}
-use Rattle.ix_guard.proofs.Joined.{both_ok}
+use Rattle.ix_text.proofs.Chained.{both_ok}
 use Rattle.ix_guard.proofs.Branches.{if_parts}
 use Rattle.ix_guard.proofs.Sums.{one_more, none_left}
 use Rattle.ix_guard.proofs.statement.+statements.Goals as goal

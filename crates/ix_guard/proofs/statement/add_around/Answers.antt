@@ -1,7 +1,7 @@
 use Rattle.std.proofs.Common.{◌∙◌}
 use Rattle.ix_guard.proofs.Branches.{around_parts}
 use Rattle.ix_guard.proofs.Inside.{joined}
-use Rattle.ix_guard.proofs.Joined.{both_ok}
+use Rattle.ix_text.proofs.Chained.{both_ok}
 use Rattle.ix_guard.proofs.statement.add_around.Goals as goal
 
 pub returns : goal.returns

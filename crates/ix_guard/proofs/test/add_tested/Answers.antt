@@ -1,7 +1,7 @@
 use Rattle.std.proofs.Common.{◌≡◌, Bool, if◌then◌else◌, List, [], ◌∷◌, ◌++◌, ap, ◌∙◌}
 use Rattle.ix_guard.specs.Shown.{seen, site_of, changes_of}
 use Rattle.ix_guard.specs.Tests.{Pair, is_tested}
-use Rattle.ix_guard.proofs.Joined.{both_ok, on_mapped}
+use Rattle.ix_text.proofs.Chained.{both_ok, on_mapped}
 use Rattle.ix_guard.proofs.Tested.{tested_one}
 use Rattle.ix_guard.proofs.test.add_tested.Goals as goal
 

@@ -1,7 +1,7 @@
 use Rattle.std.proofs.Common.{◌≡◌, ℕ, List, ◌++◌, ap, ◌∙◌, string_bytes}
 use Rattle.std.specs.Str.{bytes_eq}
 use Rattle.ix_report.specs.Reports.{detail_text}
-use Rattle.ix_report.proofs.Joined.{both_ok, ok_then}
+use Rattle.ix_text.proofs.Chained.{both_ok, ok_then}
 use Rattle.ix_report.proofs.once.same_detail.Goals as goal
 
 pub returns : goal.returns

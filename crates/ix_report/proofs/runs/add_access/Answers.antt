@@ -1,7 +1,7 @@
 use Rattle.std.proofs.Common.{rules, w32, ◌++◌, ap, ◌∙◌, append_assoc}
 use Rattle.std.proofs.lemmas.Int.{to_z-of_z}
 use Rattle.ix_report.specs.Outcomes.{at_place}
-use Rattle.ix_report.proofs.Joined.{both_ok}
+use Rattle.ix_text.proofs.Chained.{both_ok}
 use Rattle.ix_report.proofs.runs.add_access.Goals as goal
 
 pub returns : goal.returns

@@ -1,7 +1,7 @@
 use Rattle.std.proofs.Common.{◌≡◌, ℕ, List, [], ◌∷◌, ◌++◌, ap, ◌∙◌, string_bytes}
 use Rattle.std.specs.Prelude.{codes, decimal}
 use Rattle.ix_report.specs.Claims as spec
-use Rattle.ix_report.proofs.Joined.{both_ok}
+use Rattle.ix_text.proofs.Chained.{both_ok}
 use Rattle.ix_report.proofs.Regrouped.{refused_input}
 use Rattle.ix_report.proofs.runs.add_unmet.Goals as goal
 

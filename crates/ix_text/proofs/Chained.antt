@@ -1,5 +1,5 @@
--- Calls behind one another: what each says where it went well, and what they say together.
-use Rattle.std.proofs.Common.{◌≡◌, Bool, if◌then◌else◌, Result, Ok, Err, sym, subst}
+-- Calls behind one another: what each says where it went well, and what they say together. Functions that join calls by `and`, or map an error, cite these, in crates above.
+use Rattle.std.proofs.Common.{◌≡◌, Bool, true, if◌then◌else◌, Result, Ok, Err, sym, subst}
 use Rattle.std.specs.Result.{OnOk, IfOk, result_and, is_ok}
 
 cases : {T U E : Type 0} (one : Result T E) (two : Result U E) (A B C : Type 0) → OnOk one A → OnOk two B → (A → B → C) → OnOk (result_and one two) C
@@ -22,3 +22,8 @@ ok_then one x whole A P is first so = subst (λ r. IfOk r P) (sym is) (ends one 
 pub where_ok : {T E X : Type 0} (one : Result T E) (now good bad : X) → now ≡ (if is_ok one then good else bad) → OnOk one (now ≡ good)
 where_ok (Ok x) now good bad is = is
 where_ok (Err e) now good bad is = tt
+
+-- a call whose error is made another
+pub on_mapped : {T E F : Type 0} (one : Result T E) (two : Result T F) (A : Type 0) → is_ok two ≡ is_ok one → (is_ok one ≡ true → A) → OnOk two A
+on_mapped one (Ok y) A same so = so (sym same)
+on_mapped one (Err e) A same so = tt
