@@ -2,16 +2,16 @@
 
 ghost use Rattle.std.specs.Prelude.{◌≡◌, ◌||◌, IfOk, OnOk};
 ghost use Rattle.std.specs.List.{list_any};
-ghost use Rattle.indexmap.specs.IndexSet.{contains};
+ghost use Rattle.std.specs.HashSet.{contains};
 ghost use Rattle.ix_table.specs.Listed.{same_span};
 ghost use Rattle.ix_text.specs.declared.span.Span.{Span};
 ghost use Rattle.ix_guard.specs.Tests as spec;
 
-use indexmap::IndexSet;
 use ix_core::Error;
 use ix_table::Table;
 use ix_text::Span;
 use std::alloc::{AllocError, Global};
+use std::collections::HashSet;
 
 /// What is known of a source: what its names mean, and its errors.
 #[derive(Drop)]
@@ -19,7 +19,7 @@ pub struct Site<'a> {
     pub table: &'a Table,
     pub errors: &'a [Error],
     /// The places of indexes that aren't within their bounds by an error.
-    unproved: IndexSet<Span>,
+    unproved: HashSet<Span>,
     ghost places: { (place : Span) → contains same_span unproved place ≡ list_any (spec.is_bound_error place) errors.now },
 }
 
@@ -30,7 +30,7 @@ fn is_of_bounds(rule: u8) -> bool
 }
 
 /// Adds the place of an error, if it says that an index isn't within its bounds.
-fn add_place(places: &mut IndexSet<Span>, error: &Error) -> Result<(), AllocError>
+fn add_place(places: &mut HashSet<Span>, error: &Error) -> Result<(), AllocError>
     ensures { OnOk result ((place : Span) → contains same_span places.new place ≡ (contains same_span places.old place || spec.is_bound_error place error.now)) }
 {
     if is_of_bounds(error.rule) {
@@ -40,10 +40,10 @@ fn add_place(places: &mut IndexSet<Span>, error: &Error) -> Result<(), AllocErro
 }
 
 /// The places of the errors that say that an index isn't within its bounds.
-fn unproved_places(alloc: Global, errors: &[Error]) -> Result<IndexSet<Span>, AllocError>
+fn unproved_places(alloc: Global, errors: &[Error]) -> Result<HashSet<Span>, AllocError>
     ensures { IfOk result (λ places. (place : Span) → contains same_span places place ≡ list_any (spec.is_bound_error place) errors.now) }
 {
-    let mut places = IndexSet::new(alloc);
+    let mut places = HashSet::new(alloc);
     for error in errors {
         add_place(&mut places, error)?;
     }

@@ -1,6 +1,6 @@
 -- A table keeps the notes, and of each place the number of its first note of each kind.
 use Rattle.std.specs.Prelude.{ℕ, ◌+◌, Bool, if◌then◌else◌, Option, Some, None, List, [], ◌∷◌, slice_get}
-use Rattle.indexmap.specs.IndexMap.{get}
+use Rattle.std.specs.HashMap.{get}
 use Rattle.ix_text.specs.declared.span.Span.{Span}
 use Rattle.ix_meaning.specs.Type_.{Type_ as Ty}
 use Rattle.ix_meaning.specs.declared.note.Meaning.{Meaning}

@@ -1,15 +1,15 @@
 //! Which errors are derived: of one annotation only the one that is tested first.
 
 ghost use Rattle.std.specs.Prelude.{◌≡◌, None, Some, ◌++◌, IfOk, OnOk};
-ghost use Rattle.indexmap.specs.IndexMap.{get};
+ghost use Rattle.std.specs.HashMap.{get};
 ghost use Rattle.ix_text.specs.declared.span.Span.{Span};
 ghost use Rattle.ix_meaning.specs.Listed as spec;
 ghost use Rattle.ix_table.specs.Ranks as tested;
 
-use indexmap::IndexMap;
 use ix_meaning::{NameError, Note, Rule};
 use ix_text::Span;
 use std::alloc::{AllocError, Global};
+use std::collections::HashMap;
 
 fn rank(rule: Rule) -> u8
     ensures { result ≡ spec.rank rule }
@@ -44,7 +44,7 @@ fn lesser(least: Option<u8>, new: u8) -> u8
     }
 }
 
-fn note_rank(ranks: &mut IndexMap<Span, u8>, error: &NameError) -> Result<(), AllocError>
+fn note_rank(ranks: &mut HashMap<Span, u8>, error: &NameError) -> Result<(), AllocError>
     ensures { OnOk result ((p : Span) → get spec.same_span ranks.new p ≡ tested.lesser_at p (get spec.same_span ranks.old p) error.now) }
 {
     let least = lesser(ranks.get(&error.span).copied(), rank(error.rule));
@@ -52,10 +52,10 @@ fn note_rank(ranks: &mut IndexMap<Span, u8>, error: &NameError) -> Result<(), Al
     Ok(())
 }
 
-fn least_ranks(alloc: Global, notes: &[Note]) -> Result<IndexMap<Span, u8>, AllocError>
+fn least_ranks(alloc: Global, notes: &[Note]) -> Result<HashMap<Span, u8>, AllocError>
     ensures { IfOk result (λ least. (p : Span) → get spec.same_span least p ≡ tested.least_rank p None (spec.wrong_annots notes.now)) }
 {
-    let mut least = IndexMap::new(alloc);
+    let mut least = HashMap::new(alloc);
     for note in notes {
         if let Note::WrongAnnot(error) = note {
             note_rank(&mut least, error)?;
@@ -75,7 +75,7 @@ fn is_below(least: Option<u8>, rank: u8) -> bool
 
 fn push_firsts(
     errors: &mut Vec<NameError>,
-    least: &IndexMap<Span, u8>,
+    least: &HashMap<Span, u8>,
     notes: &[Note],
 ) -> Result<(), AllocError>
     ensures { OnOk result (errors.new.items ≡ errors.old.items ++ tested.not_above (λ p. get spec.same_span least.now p) (spec.wrong_annots notes.now)) }

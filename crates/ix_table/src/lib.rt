@@ -2,7 +2,7 @@
 //!
 //! What goes in: the notes of a source, in the order of its text. What comes out: a table of them by places, or the sorted list of errors.
 //! The contract: `names_in` of `specs/Resolved.antt` and `derived` and `IsListed` of `specs/Listed.antt`, all of `ix_meaning`.
-//! It stands on `ix_meaning`, and on `indexmap` for places.
+//! It stands on `ix_meaning`, and on maps of std for places.
 //! It never looks at the tree.
 #![tactic(auto)]
 

@@ -1,25 +1,25 @@
 //! The table: what uses mean, the types of expressions, and what declarations say.
 
 ghost use Rattle.std.specs.Prelude.{◌≡◌, None, IfOk, OnOk, option_copied};
-ghost use Rattle.indexmap.specs.IndexMap.{get};
+ghost use Rattle.std.specs.HashMap.{get};
 ghost use Rattle.ix_text.specs.declared.span.Span.{Span};
 ghost use Rattle.ix_meaning.specs.Listed.{same_span};
 ghost use Rattle.ix_meaning.specs.Resolved.{names_in};
 ghost use Rattle.ix_table.specs.Numbered as spec;
 
-use indexmap::IndexMap;
 use ix_meaning::{Declared, Meaning, Note, Type_};
 use ix_text::{List, Span};
 use std::alloc::{AllocError, Global};
+use std::collections::HashMap;
 
 /// What names mean, the types of expressions and what declarations say, by their places.
 #[derive(Drop)]
 pub struct Table {
     notes: List<Note>,
     /// Of each place the number of its first note of that kind.
-    meanings: IndexMap<Span, usize>,
-    types: IndexMap<Span, usize>,
-    declarations: IndexMap<Span, usize>,
+    meanings: HashMap<Span, usize>,
+    types: HashMap<Span, usize>,
+    declarations: HashMap<Span, usize>,
 }
 
 impl Table {
@@ -54,7 +54,7 @@ impl Table {
     }
 }
 
-fn note_at<'a>(notes: &'a [Note], numbers: &IndexMap<Span, usize>, span: Span) -> Option<&'a Note>
+fn note_at<'a>(notes: &'a [Note], numbers: &HashMap<Span, usize>, span: Span) -> Option<&'a Note>
     ensures { option_copied result ≡ spec.numbered notes.now (get same_span numbers.now span) }
 {
     match numbers.get(&span) {
@@ -64,7 +64,7 @@ fn note_at<'a>(notes: &'a [Note], numbers: &IndexMap<Span, usize>, span: Span) -
 }
 
 fn keep_first(
-    numbers: &mut IndexMap<Span, usize>,
+    numbers: &mut HashMap<Span, usize>,
     span: Span,
     number: usize,
 ) -> Result<(), AllocError>
@@ -79,9 +79,9 @@ fn keep_first(
 
 /// Keeps of each place the number of its first note of each kind.
 fn keep_numbers(
-    meanings: &mut IndexMap<Span, usize>,
-    types: &mut IndexMap<Span, usize>,
-    declarations: &mut IndexMap<Span, usize>,
+    meanings: &mut HashMap<Span, usize>,
+    types: &mut HashMap<Span, usize>,
+    declarations: &mut HashMap<Span, usize>,
     notes: &[Note],
 ) -> Result<(), AllocError>
     ensures { record {
@@ -105,9 +105,9 @@ fn keep_numbers(
 pub fn table_of(alloc: Global, notes: List<Note>) -> Result<Table, AllocError>
     ensures { IfOk result (λ table. spec.shown table ≡ names_in notes) }
 {
-    let mut meanings = IndexMap::new(alloc);
-    let mut types = IndexMap::new(alloc);
-    let mut declarations = IndexMap::new(alloc);
+    let mut meanings = HashMap::new(alloc);
+    let mut types = HashMap::new(alloc);
+    let mut declarations = HashMap::new(alloc);
     keep_numbers(
         &mut meanings,
         &mut types,

@@ -2,7 +2,7 @@
 //!
 //! What goes in: classes of the tree and types of `ix_core`. What comes out: which class a name means, which classes stand above it, and which types are one.
 //! The contract: `Classes` and `Types` of `ix_meaning`.
-//! It stands on `ix_meaning`, and on `indexmap` for the names of classes.
+//! It stands on `ix_meaning`, and on maps of std for the names of classes.
 //! It never looks at a member or at a body.
 #![tactic(auto)]
 

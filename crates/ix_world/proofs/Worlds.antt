@@ -2,7 +2,7 @@
 use Rattle.std.proofs.Common.{rules, subst, ◌≡◌, ⊎_elim, not, ◌&&◌, bytes_eq, ℕ, ◌+◌, ◌≤◌, Option, Some, None, List, [], ◌∷◌, ◌++◌, length, ap, sym, ◌∙◌, slice_get, zero, suc}
 use Rattle.std.proofs.lemmas.Option.{slice_get_cases}
 use mathlib.Core.Path.{fun_ext}
-use Rattle.indexmap.specs.IndexMap.{get_by_text}
+use Rattle.std.specs.HashMap.{get_by_text}
 use Rattle.ix_tree.specs.declared.decl.ClassDecl.{ClassDecl}
 use Rattle.ix_types.specs.Field.{Field}
 use Rattle.ix_types.specs.Signature.{Signature}

@@ -1,6 +1,6 @@
 -- The tables of the code as the world of the definitions.
 use Rattle.std.specs.Prelude.{◌≡◌, ℕ, ◌+◌, Option, Some, None, List, [], ◌∷◌, slice_get}
-use Rattle.indexmap.specs.IndexMap.{get_by_text}
+use Rattle.std.specs.HashMap.{get_by_text}
 use Rattle.ix_tree.specs.declared.decl.ClassDecl.{ClassDecl}
 use Rattle.ix_types.specs.Field.{Field}
 use Rattle.ix_types.specs.Signature.{Signature}

@@ -2,7 +2,7 @@
 //!
 //! What goes in: the classes of the tree. What comes out: their fields, methods and constructors, and which of them a name means in a class.
 //! The contract: `world` of `ix_meaning`'s `Members`, member for member.
-//! It stands on the types of `ix_types` and `ix_written`, and on `indexmap` for names.
+//! It stands on the types of `ix_types` and `ix_written`, and on maps of std for names.
 //! It never looks at a body.
 #![tactic(auto)]
 

@@ -1,6 +1,6 @@
 use Rattle.std.proofs.Common.{◌≡◌, ◌||◌, drop}
 use Rattle.std.specs.List.{list_any}
-use Rattle.indexmap.specs.IndexSet.{contains}
+use Rattle.std.specs.HashSet.{contains}
 use Rattle.ix_table.specs.Listed.{same_span}
 use Rattle.ix_text.specs.declared.span.Span.{Span}
 use Rattle.ix_guard.specs.Tests as spec

@@ -1,5 +1,5 @@
 use Rattle.std.proofs.Common.{◌≡◌, ℕ, List, None, drop}
-use Rattle.indexmap.specs.IndexMap.{get_by_text}
+use Rattle.std.specs.HashMap.{get_by_text}
 use Rattle.ix_meaning.specs.Source as spec
 use Rattle.ix_names.proofs.classes.noted_members.Given as goal
 

@@ -1,6 +1,6 @@
 use Rattle.std.proofs.Common.{rules, ◌≡◌, None, ◌++◌, ap, ◌∙◌}
 use Rattle.std.proofs.lemmas.Result.{on_ok_weaker}
-use Rattle.indexmap.specs.IndexMap.{get}
+use Rattle.std.specs.HashMap.{get}
 use Rattle.ix_text.specs.declared.span.Span.{Span}
 use Rattle.ix_meaning.specs.Listed as spec
 use Rattle.ix_table.specs.Ranks as tested

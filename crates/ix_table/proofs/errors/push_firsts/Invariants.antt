@@ -1,5 +1,5 @@
 use Rattle.std.proofs.Common.{◌≡◌, drop, ◌++◌}
-use Rattle.indexmap.specs.IndexMap.{get}
+use Rattle.std.specs.HashMap.{get}
 use Rattle.ix_meaning.specs.Listed as spec
 use Rattle.ix_table.specs.Ranks as tested
 use Rattle.ix_table.proofs.errors.push_firsts.Given as goal

@@ -1,5 +1,5 @@
 use Rattle.std.proofs.Common.{◌≡◌, drop}
-use Rattle.indexmap.specs.IndexMap.{get}
+use Rattle.std.specs.HashMap.{get}
 use Rattle.ix_text.specs.declared.span.Span.{Span}
 use Rattle.ix_meaning.specs.Listed.{same_span}
 use Rattle.ix_table.specs.Numbered as spec

@@ -1,7 +1,7 @@
 use Rattle.std.proofs.Common.{rules, ◌≡◌, ap, sym, cond, Bool, true, false, Option, Some, None, List, ℕ, arith, refl, is_some, bytes_eq}
 use Rattle.std.proofs.lemmas.Slice.Eq.{bytes_eq-Decides}
 use Rattle.std.proofs.lemmas.Map.Text.{text_keys}
-use Rattle.indexmap.specs.IndexMap.{get_by_text}
+use Rattle.std.specs.HashMap.{get_by_text}
 use Rattle.ix_meaning.specs.Classes.{first_or}
 use Rattle.ix_types.proofs.classes.note_first.Goals as goal
 

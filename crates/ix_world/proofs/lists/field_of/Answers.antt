@@ -1,5 +1,5 @@
 use Rattle.std.proofs.Common.{rules, ◌≡◌, ◌∙◌, ap}
-use Rattle.indexmap.specs.IndexMap.{get_by_text}
+use Rattle.std.specs.HashMap.{get_by_text}
 use Rattle.ix_tree.specs.declared.annot.Mods.{Mods}
 use Rattle.ix_types.specs.Members as spec
 use Rattle.ix_written.specs.Begun.{annotated}

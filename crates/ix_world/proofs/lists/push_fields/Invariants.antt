@@ -1,5 +1,5 @@
 use Rattle.std.proofs.Common.{◌≡◌, ◌++◌, ◌+◌, ◌≤◌, drop, option_map}
-use Rattle.indexmap.specs.IndexMap.{get_by_text}
+use Rattle.std.specs.HashMap.{get_by_text}
 use Rattle.ix_written.specs.Declarators as declared
 use Rattle.ix_types.specs.Members as spec
 use Rattle.ix_written.specs.Begun.{AllBegin, first_shown}

@@ -1,5 +1,5 @@
 use Rattle.std.proofs.Common.{◌≡◌, ℕ, List, None, drop}
-use Rattle.indexmap.specs.IndexMap.{get_by_text}
+use Rattle.std.specs.HashMap.{get_by_text}
 use Rattle.ix_types.specs.Members.{is_method_named}
 use Rattle.ix_world.specs.First.{first_where}
 use Rattle.ix_world.proofs.named.own_methods.Given as goal

@@ -1,5 +1,5 @@
 use Rattle.std.proofs.Common.{rules, ◌≡◌, ◌∙◌, ap, length}
-use Rattle.indexmap.specs.IndexMap.{get_by_text}
+use Rattle.std.specs.HashMap.{get_by_text}
 use Rattle.ix_types.specs.Classes.{class_named, parents_by}
 use Rattle.ix_types.specs.Members.{fields_from, methods_from}
 use Rattle.ix_world.specs.World as spec

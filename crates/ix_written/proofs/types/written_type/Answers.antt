@@ -1,5 +1,5 @@
 use Rattle.std.proofs.Common.{rules, ◌≡◌, ◌∙◌, sym, ap}
-use Rattle.indexmap.specs.IndexMap.{get_by_text}
+use Rattle.std.specs.HashMap.{get_by_text}
 use Rattle.ix_tree.specs.declared.annot.BaseTree.TheVariants.{Named}
 use Rattle.ix_meaning.specs.Annotated as spec
 use Rattle.ix_written.specs.ClassTypes.{class_type}
