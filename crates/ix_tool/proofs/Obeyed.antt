@@ -15,14 +15,15 @@ use Rattle.ix_outside.specs.Reading.{IsAllOrPast, most_bytes}
 use Rattle.ix_outside.proofs.PrefixesTaken.{TookPrefix-none}
 use Rattle.ix_words.specs.declared.values.Sums.{Sums}
 use Rattle.ix_words.specs.Commands.{Command, Check, Run, Bench, Verify, Guard}
-use Rattle.ix_tool.specs.Answers.{Answers, IsVerdict}
+use Rattle.ix_answering.specs.Answers.{Answers, IsVerdict}
 use Rattle.ix_command_inputs.specs.Sources.{AsksCert, NeedsCert, file_in, cert_in, file_of, cert_of, source_name, source_bytes, judged_bytes}
 use Rattle.ix_replies.specs.Said.{read_failed}
 use Rattle.ix_command_inputs.specs.Opened.{WasUnread, bytes_of, cert_bytes_of, last_of}
-use Rattle.ix_tool.specs.Ends.{EndsUnread, TookUnread, SafeBytes, SafeOnMachine, SafeBy, Promises}
+use Rattle.ix_tool.specs.Ends.{EndsUnread, TookUnread}
+use Rattle.ix_answering.specs.Promises.{SafeBytes, SafeOnMachine, SafeBy, Promises}
 use Rattle.ix_tool.specs.Inputs.{Obeys}
-use Rattle.ix_tool.specs.Judgements.{profile_of}
-use Rattle.ix_tool.proofs.Answered.{IsCertRead, read_right, verdict_answers, other_status}
+use Rattle.ix_answering.specs.Judgements.{profile_of}
+use Rattle.ix_answering.proofs.Answered.{IsCertRead, read_right, verdict_answers, other_status}
 
 abbrev unread_answer : List ℕ → Answer
 unread_answer file = err_answer ReadFault (read_failed file)

@@ -4,11 +4,11 @@ use Rattle.ix_words.specs.Commands.{Command}
 use Rattle.ix_answer.specs.Answer.{Answer, err_answer}
 use Rattle.ix_answer.specs.Delivery.{IsOnly}
 use Rattle.ix_answer.specs.declared.status.Status.TheVariants.{ReadFault}
-use Rattle.ix_tool.specs.Answers.{IsVerdict}
+use Rattle.ix_answering.specs.Answers.{IsVerdict}
 use Rattle.ix_command_inputs.specs.Sources.{source_bytes}
 use Rattle.ix_replies.specs.Said.{read_failed}
 use Rattle.ix_command_inputs.specs.Opened.{WasUnread, last_of}
-use Rattle.ix_tool.specs.Ends.{Promises}
+use Rattle.ix_answering.specs.Promises.{Promises}
 
 -- The only right answer on what was handed out, with what is promised of it, or that on a file that was not read.
 abbrev pub Obeys : (List ℕ → Type 0) → ℕ → ℕ → Command → List ℕ → Option (List ℕ) → Answer → Type 0

@@ -1,0 +1,6 @@
+pub mod Answered
+mod GuardsAnswered
+mod SomeAnswer
+mod WholeSources
+mod SomeGuarded
+mod Verifiable
