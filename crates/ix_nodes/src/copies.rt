@@ -7,16 +7,10 @@ use ix_text::{List, Text};
 use ix_tree::{Annot, AnnotArg, AnnotValue, BaseTree, Ident, Mods, TypeTree};
 use std::alloc::Global;
 
-fn copy_text(alloc: Global, text: &Text) -> Result<Text, Stop>
-    ensures { MatchResult result (λ copy. copy ≡ text.now) (λ stop. stop ≡ Memory) }
-{
-    Ok(Text::from_str(alloc, text.as_str())?)
-}
-
-fn copy_ident(alloc: Global, ident: &Ident) -> Result<Ident, Stop>
+fn copy_ident(ident: &Ident) -> Result<Ident, Stop>
     ensures { MatchResult result (λ copy. copy ≡ ident.now) (λ stop. stop ≡ Memory) }
 {
-    let text = copy_text(alloc, &ident.text)?;
+    let text = ident.text.clone()?;
     Ok(Ident {
         text,
         span: ident.span,
@@ -28,7 +22,7 @@ fn copy_texts(alloc: Global, texts: &[Text]) -> Result<List<Text>, Stop>
 {
     let mut copy = List::new(alloc);
     for text in texts {
-        copy.push(copy_text(alloc, text)?)?;
+        copy.push(text.clone()?)?;
     }
     Ok(copy)
 }
@@ -47,13 +41,13 @@ fn copy_value(alloc: Global, value: &AnnotValue) -> Result<AnnotValue, Stop>
 }
 
 /// A copy of the name of an argument, where it has one.
-fn copy_name(alloc: Global, name: &Option<Ident>) -> Result<Option<Ident>, Stop>
+fn copy_name(name: &Option<Ident>) -> Result<Option<Ident>, Stop>
     ensures { MatchResult result (λ copy. copy ≡ name.now) (λ stop. stop ≡ Memory) }
 {
     match name {
         None => Ok(None),
         Some(name) => {
-            let name = copy_ident(alloc, name)?;
+            let name = copy_ident(name)?;
             Ok(Some(name))
         }
     }
@@ -62,7 +56,7 @@ fn copy_name(alloc: Global, name: &Option<Ident>) -> Result<Option<Ident>, Stop>
 fn copy_arg(alloc: Global, arg: &AnnotArg) -> Result<AnnotArg, Stop>
     ensures { MatchResult result (λ copy. copy ≡ arg.now) (λ stop. stop ≡ Memory) }
 {
-    let name = copy_name(alloc, &arg.name)?;
+    let name = copy_name(&arg.name)?;
     let value = copy_value(alloc, &arg.value)?;
     Ok(AnnotArg {
         name,
@@ -84,7 +78,7 @@ fn copy_args(alloc: Global, args: &[AnnotArg]) -> Result<List<AnnotArg>, Stop>
 fn copy_annot(alloc: Global, annot: &Annot) -> Result<Annot, Stop>
     ensures { MatchResult result (λ copy. copy ≡ annot.now) (λ stop. stop ≡ Memory) }
 {
-    let name = copy_ident(alloc, &annot.name)?;
+    let name = copy_ident(&annot.name)?;
     let args = copy_args(alloc, annot.args.as_slice())?;
     Ok(Annot {
         name,
@@ -103,14 +97,14 @@ fn copy_annots(alloc: Global, annots: &[Annot]) -> Result<List<Annot>, Stop>
     Ok(copy)
 }
 
-fn copy_base(alloc: Global, base: &BaseTree) -> Result<BaseTree, Stop>
+fn copy_base(base: &BaseTree) -> Result<BaseTree, Stop>
     ensures { MatchResult result (λ copy. copy ≡ base.now) (λ stop. stop ≡ Memory) }
 {
     match base {
         BaseTree::Int => Ok(BaseTree::Int),
         BaseTree::Boolean => Ok(BaseTree::Boolean),
         BaseTree::Named(name) => {
-            let name = copy_ident(alloc, name)?;
+            let name = copy_ident(name)?;
             Ok(BaseTree::Named(name))
         }
     }
@@ -119,7 +113,7 @@ fn copy_base(alloc: Global, base: &BaseTree) -> Result<BaseTree, Stop>
 pub fn copy_type(alloc: Global, ty: &TypeTree) -> Result<TypeTree, Stop>
     ensures { MatchResult result (λ copy. copy ≡ ty.now) (λ stop. stop ≡ Memory) }
 {
-    let base = copy_base(alloc, &ty.base)?;
+    let base = copy_base(&ty.base)?;
     let annots = copy_annots(alloc, ty.annots.as_slice())?;
     Ok(TypeTree {
         base,
