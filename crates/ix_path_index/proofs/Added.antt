@@ -1,5 +1,5 @@
 -- Entries that are put at their paths.
-use Rattle.std.specs.Prelude.{◌≡◌, ℕ, true, false, cond, nat_eq, List, [], ◌∷◌, ◌++◌, get_or, refl}
+use Rattle.std.specs.Prelude.{◌≡◌, ℕ, zero, suc, true, false, cond, nat_eq, List, [], ◌∷◌, ◌++◌, get_or, refl}
 use Rattle.std.proofs.Common.{ap, sym, subst, ◌∙◌}
 use Rattle.std.proofs.lemmas.Bool.{false≢true}
 use Rattle.std.proofs.lemmas.List.{append_assoc, append-nil}
@@ -38,6 +38,13 @@ near_adds old new others p f near put = λ x.
     let one : cond (nat_eq (near_place x) (near_place p)) (f ∷ []) [] ≡ facts_in (about x ((p, f) ∷ [])) = ap (λ b. if_named b f) (place_tells x p t near) ∙ sym (one_at x p f) in
     rw t (put (near_place x) ∙ ap (λ l. get_or old (near_place x) [] ++ l) one))
     (λ t. rw t (rw (apart_back x p t near) (sym (append-nil (facts_in (about x others))))))
+
+-- a place without facts behind the others
+pub none_behind : (near : List (List Fact)) (at : ℕ) → get_or (near ++ [] ∷ []) at [] ≡ get_or near at []
+none_behind [] zero = refl
+none_behind [] (suc at) = refl
+none_behind (facts ∷ near) zero = refl
+none_behind (facts ∷ near) (suc at) = none_behind near at
 
 pub next_put : (x : Path) (f : Fact) (old new rest whole : List Fact) → new ≡ old ++ facts_in (about x (at_paths f)) → old ++ on_it x (f ∷ rest) ≡ whole → new ++ on_it x rest ≡ whole
 next_put x f old new rest whole made so_far =

@@ -1,5 +1,5 @@
 -- Facts that have one order each stand in all their orders as they are, and no others do.
-use Rattle.std.specs.Prelude.{◌≡◌, ℕ, zero, suc, ◌<◌, ◌≤◌, ◌+◌, false, List, [], ◌∷◌, ◌++◌, length, drop, slice_index_or}
+use Rattle.std.specs.Prelude.{◌≡◌, ℕ, zero, suc, ◌<◌, ◌≤◌, ◌+◌, false, cond, List, [], ◌∷◌, ◌++◌, length, drop, slice_index_or, refl}
 use Rattle.std.proofs.Common.{add-one, arith, ap, sym, ◌∙◌, subst}
 use Rattle.std.proofs.lemmas.List.{length-append}
 use Rattle.std.proofs.Math.Seq.{drop-cons}
@@ -8,6 +8,9 @@ use Rattle.ix_core.specs.declared.fact.Fact.{Fact}
 use Rattle.ix_core.specs.declared.fact.Fact.TheVariants.{Rng, LenRng, Low, Same, IsLen, Less, Sum, Search, Neg, Upper}
 use Rattle.ix_core.proofs.Cases.{by_test}
 use Rattle.ix_fact_paths.specs.Facts.{orders, is_default, in_orders}
+
+pub orders_first : (f : Fact) (rest : List Fact) → in_orders (f ∷ rest) ≡ cond (is_default f) [] (orders f) ++ in_orders rest
+orders_first f rest = by_test (is_default f) (λ t. rw t refl) (λ t. rw t refl)
 
 one_more : (f : Fact) (facts : List Fact) → is_default f ≡ false → orders f ≡ f ∷ [] → in_orders facts ≡ facts → in_orders (f ∷ facts) ≡ f ∷ facts
 one_more f facts tells one same = rw tells (ap (λ l. l ++ in_orders facts) one ∙ ap (λ l. f ∷ l) same)

@@ -28,7 +28,7 @@ pub(crate) fn paths_of(alloc: Global, entries: &[(Path, Fact)]) -> Result<Vec<Pa
 {
     let mut paths = Vec::with_capacity(alloc, entries.len())?;
     for entry in entries {
-        paths.push(entry.0)?;
+        paths.push_reserved(entry.0);
     }
     Ok(paths)
 }
@@ -38,7 +38,7 @@ pub(crate) fn facts_of(alloc: Global, entries: &[(Path, Fact)]) -> Result<Vec<Fa
 {
     let mut facts = Vec::with_capacity(alloc, entries.len())?;
     for entry in entries {
-        facts.push(entry.1)?;
+        facts.push_reserved(entry.1);
     }
     Ok(facts)
 }

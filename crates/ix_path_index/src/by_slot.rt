@@ -111,14 +111,8 @@ impl Places {
         ensures { OnOk result (Adds self.old self.new ((p.now, fact.now) ∷ [])) }
     {
         match near_place(p) {
-            Some(place) => {
-                put_near(alloc, &mut self.near, place, fact)?;
-                Ok(())
-            }
-            None => {
-                self.others.push((*p, *fact))?;
-                Ok(())
-            }
+            Some(place) => put_near(alloc, &mut self.near, place, fact),
+            None => self.others.push((*p, *fact)).map_err(AllocError::from),
         }
     }
 

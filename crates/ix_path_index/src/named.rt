@@ -29,15 +29,13 @@ fn put_offset(paths: &mut PathSet, offset: &PathOff) -> Result<(), AllocError>
 fn put_two(paths: &mut PathSet, p: &Path, q: &Path) -> Result<(), AllocError>
     ensures { OnOk result (paths.new ≡ put_all paths.old (p.now ∷ q.now ∷ [])) }
 {
-    paths.put_copy(p)?;
-    paths.put_copy(q)
+    paths.put_copy(p).and(paths.put_copy(q))
 }
 
 fn put_three(paths: &mut PathSet, t: &Path, y: &Path, z: &Path) -> Result<(), AllocError>
     ensures { OnOk result (paths.new ≡ put_all paths.old (t.now ∷ y.now ∷ z.now ∷ [])) }
 {
-    paths.put_copy(t)?;
-    put_two(paths, y, z)
+    paths.put_copy(t).and(put_two(paths, y, z))
 }
 
 #[inline]
@@ -52,8 +50,7 @@ fn put_int_and_array(
       arrays : OnOk result (arrays.new ≡ put_all arrays.old (a.now ∷ []));
     } }
 {
-    ints.put_copy(p)?;
-    arrays.put_copy(a)
+    ints.put_copy(p).and(arrays.put_copy(a))
 }
 
 /// Puts the ints that the fact names into the one set, and the arrays into the other.
@@ -75,8 +72,7 @@ fn put_named(ints: &mut PathSet, arrays: &mut PathSet, fact: &Fact) -> Result<()
         Fact::Search(p, a) => put_int_and_array(ints, arrays, p, a),
         Fact::Neg(p, a) => put_int_and_array(ints, arrays, p, a),
         Fact::Upper(p, a, offset, _) => {
-            put_int_and_array(ints, arrays, p, a)?;
-            put_offset(ints, offset)
+            put_int_and_array(ints, arrays, p, a).and(put_offset(ints, offset))
         }
     }
 }
@@ -173,8 +169,7 @@ fn arrays_of_both(alloc: Global, first: &[Fact], last: &[Fact]) -> Result<Vec<Pa
     ensures { IfOk result (λ arrays. arrays.items ≡ put_all (put_all [] (named_arrays first.now)) (named_arrays last.now)) }
 {
     let mut arrays = PathSet::new(alloc);
-    put_all_arrays(&mut arrays, first)?;
-    put_all_arrays(&mut arrays, last)?;
+    put_all_arrays(&mut arrays, first).and(put_all_arrays(&mut arrays, last))?;
     Ok(arrays.into_paths())
 }
 
@@ -217,8 +212,7 @@ fn ints_among(
 {
     let mut ints = PathSet::with_room(alloc, count)?;
     let mut arrays = PathSet::new(alloc);
-    put_facts(&mut ints, &mut arrays, first)?;
-    put_facts(&mut ints, &mut arrays, last)?;
+    put_facts(&mut ints, &mut arrays, first).and(put_facts(&mut ints, &mut arrays, last))?;
     put_until(alloc, &mut ints, between, count)?;
     Ok(ints.into_paths())
 }

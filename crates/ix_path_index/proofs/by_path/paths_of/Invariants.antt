@@ -1,6 +1,11 @@
-use Rattle.std.proofs.Common.{◌≡◌, ◌++◌, drop}
+use Rattle.std.proofs.Common.{◌≡◌, ◌++◌, ◌≤◌, drop, length}
+use Rattle.std.specs.Vec.{vec_len, vec_capacity}
 use Rattle.ix_path_index.specs.ByPath.{paths_in}
 use Rattle.ix_path_index.proofs.by_path.paths_of.Given as goal
 
 abbrev pub invariant-loop-entry : goal.invariant-loop-entry
-invariant-loop-entry l = l.paths.items ++ paths_in (drop l.entry-index l.entries) ≡ paths_in l.entries
+invariant-loop-entry l = record {
+  paths : l.paths.items ++ paths_in (drop l.entry-index l.entries) ≡ paths_in l.entries;
+  short : vec_len l.paths ≡ l.entry-index;
+  room : length l.entries ≤ vec_capacity l.paths;
+}

@@ -1,5 +1,7 @@
 use Rattle.std.specs.Prelude.{[]}
 use Rattle.std.proofs.Common.{◌≡◌, ◌∙◌, ap, sym, subst}
+use Rattle.std.proofs.lemmas.Result.{IfOk-at_ok}
+use Rattle.ix_text.proofs.Chained.{both_ok}
 use Rattle.ix_fact_paths.specs.Exact.{named_ints}
 use Rattle.ix_path_index.specs.ByPath.{put_all}
 use Rattle.ix_path_index.specs.PutUntil.{IsPutUntil}
@@ -7,7 +9,11 @@ use Rattle.ix_path_index.proofs.named.ints_among.Goals as goal
 
 pub returns : goal.returns
 returns c =
-    let first = c.args.first.now in
-    let last = c.args.last.now in
-    let is : c.put_facts-2.new.ints ≡ put_all (put_all [] (named_ints first)) (named_ints last) = c.in_ok-put_facts-2.ensures.ints ∙ ap (λ l. put_all l (named_ints last)) (c.in_ok-put_facts.ensures.ints ∙ ap (λ l. put_all l (named_ints first)) c.in_ok-ints.ensures) in
-    subst (IsPutUntil (put_all (put_all [] (named_ints first)) (named_ints last)) c.args.between.now c.args.count) (sym c.into_paths.ensures) (subst (λ l. IsPutUntil l c.args.between.now c.args.count c.put_until.new.ints) is c.in_ok-put_until.ensures)
+    let first = named_ints c.args.first.now in
+    let last = named_ints c.args.last.now in
+    let all = put_all (put_all [] first) last in
+    let is : c.put_facts-2.new.ints ≡ all =
+    IfOk-at_ok (λ _. c.put_facts-2.new.ints ≡ all) c.in_ok-and.was
+    (both_ok c.put_facts.result c.put_facts-2.result c.and.result _ _ _ c.and.ensures c.put_facts.ensures.ints c.put_facts-2.ensures.ints
+    (λ one two. two ∙ ap (λ l. put_all l last) (one ∙ ap (λ l. put_all l first) c.in_ok-ints.ensures))) in
+    subst (IsPutUntil all c.args.between.now c.args.count) (sym c.into_paths.ensures) (subst (λ l. IsPutUntil l c.args.between.now c.args.count c.put_until.new.ints) is c.in_ok-put_until.ensures)
