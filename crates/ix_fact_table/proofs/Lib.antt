@@ -10,3 +10,4 @@ mod PutFacts
 mod PiledFacts
 pub mod KeysApart
 pub mod LessFacts
+mod WentWell

@@ -22,7 +22,7 @@ fn first_orders(alloc: Global, facts: &[Fact]) -> Result<Vec<Fact>, AllocError>
 {
     let mut keys = Vec::with_capacity(alloc, facts.len())?;
     for fact in facts {
-        keys.push(in_first_order(fact))?;
+        keys.push_reserved(in_first_order(fact));
     }
     Ok(keys)
 }
@@ -32,8 +32,7 @@ fn sort_by_key(keys: &mut Vec<Fact>) -> Result<(), AllocError>
     ensures permutation { OnOk result (IsPermutation keys.old.items keys.new.items) }
     ensures sorted { OnOk result (IsSorted fact_cmp keys.new.items) }
 {
-    keys.sort_by(|one, other| compare_facts(one, other))?;
-    Ok(())
+    keys.sort_by(|one, other| compare_facts(one, other))
 }
 
 /// Whether each key is less than the next one.

@@ -52,8 +52,7 @@ fn add_behind(facts: &mut Vec<Fact>, fact: &Fact) -> Result<(), AllocError>
       rises : OnOk result (rises facts.new.items ≡ true);
     } }
 {
-    facts.push(*fact)?;
-    Ok(())
+    facts.push(*fact).map_err(AllocError::from)
 }
 
 /// Up to how many facts the first pile takes all, while it is the only one. It is for speed alone: to merge two short piles takes more than to search places in one.
@@ -90,11 +89,9 @@ fn put_shorter(first: &mut Vec<Fact>, second: &mut Vec<Fact>, fact: &Fact) -> Re
     ensures piled { OnOk result (IsPiled first.old.items second.old.items fact.now first.new.items second.new.items) }
 {
     if first.len() < second.len() {
-        put(first, fact)?;
-        return Ok(());
+        return put(first, fact);
     }
-    put(second, fact)?;
-    Ok(())
+    put(second, fact)
 }
 
 /// Adds the fact behind the first facts or behind the second ones, where its key is greater than theirs, and else puts it among the fewer. New facts come in runs that
@@ -108,16 +105,13 @@ fn pile(first: &mut Vec<Fact>, second: &mut Vec<Fact>, fact: &Fact) -> Result<()
     ensures piled { OnOk result (IsPiled first.old.items second.old.items fact.now first.new.items second.new.items) }
 {
     if is_behind(first, fact) {
-        add_behind(first, fact)?;
-        return Ok(());
+        return add_behind(first, fact);
     }
     if is_short(first, second) {
-        put(first, fact)?;
-        return Ok(());
+        return put(first, fact);
     }
     if is_behind(second, fact) {
-        add_second(second, fact, first.capacity())?;
-        return Ok(());
+        return add_second(second, fact, first.capacity());
     }
     put_shorter(first, second, fact)
 }
@@ -140,8 +134,7 @@ fn pile_form(
     if is_said_of_all(fact) {
         return Ok(());
     }
-    pile(first, second, &entry_of(fact))?;
-    Ok(())
+    pile(first, second, &entry_of(fact))
 }
 
 /// The same, where the fact is of the kind. Most facts are differences, which a table keeps as they are.
@@ -200,6 +193,5 @@ pub(crate) fn inserted(alloc: Global, kind: Kind, facts: &[Fact]) -> Result<Vec<
     if is_none(&second) {
         return Ok(first);
     }
-    let all = merged(alloc, first.as_slice(), second.as_slice())?;
-    Ok(all)
+    merged(alloc, first.as_slice(), second.as_slice())
 }

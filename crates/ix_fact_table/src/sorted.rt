@@ -33,21 +33,18 @@ fn sorted_many(alloc: Global, kind: Kind, facts: &[Fact]) -> Result<Vec<Fact>, A
     }
     let kept = kept_front(kind, facts);
     if kept == facts.len() {
-        let table = Vec::from_slice(alloc, facts)?;
-        return Ok(table);
+        return Vec::from_slice(alloc, facts);
     }
     let half = facts.len() / 2;
     if kept >= half {
         let (front, back) = facts.split_at(kept);
         let second = sorted_many(alloc, kind, back)?;
-        let all = merged(alloc, front, second.as_slice())?;
-        return Ok(all);
+        return merged(alloc, front, second.as_slice());
     }
     let (front, back) = facts.split_at(half);
     let first = sorted_many(alloc, kind, front)?;
     let second = sorted_many(alloc, kind, back)?;
-    let all = merged(alloc, first.as_slice(), second.as_slice())?;
-    Ok(all)
+    merged(alloc, first.as_slice(), second.as_slice())
 }
 
 /// The facts of the kind as a table keeps them: at each key what they say together, in the order of keys. Where no fact is of the kind it takes no memory.
@@ -58,14 +55,11 @@ pub(crate) fn sorted(alloc: Global, kind: Kind, facts: &[Fact]) -> Result<Vec<Fa
 {
     let rest = from_first(kind, facts);
     if rest.len() <= FEW {
-        let few = inserted(alloc, kind, rest)?;
-        return Ok(few);
+        return inserted(alloc, kind, rest);
     }
     if is_any(kind) {
-        let all = sorted_many(alloc, kind, rest)?;
-        return Ok(all);
+        return sorted_many(alloc, kind, rest);
     }
     let own = of_one_kind(alloc, kind, rest)?;
-    let many = sorted_many(alloc, kind, &own)?;
-    Ok(many)
+    sorted_many(alloc, kind, &own)
 }

@@ -191,8 +191,7 @@ impl FactTable {
         ensures kind { IfOk result (λ table. table_kind table ≡ table_kind self.now) }
     {
         let _number = int_of(fact);
-        let table = self.with_facts(alloc, &[*fact])?;
-        Ok(table)
+        self.with_facts(alloc, &[*fact])
     }
 
     /// The table with new facts in place of those that name a path that the operation may change.
@@ -209,8 +208,7 @@ impl FactTable {
         } }
     {
         let beside = self.without_target(alloc, kind)?;
-        let table = beside.with_facts(alloc, new)?;
-        Ok(table)
+        beside.with_facts(alloc, new)
     }
 
     /// The table with new facts in place of those that name the path.
@@ -227,8 +225,7 @@ impl FactTable {
         } }
     {
         let beside = self.without_path(alloc, path)?;
-        let table = beside.with_facts(alloc, new)?;
-        Ok(table)
+        beside.with_facts(alloc, new)
     }
 
     /// The table with each fact moved to the landmarks.

@@ -138,17 +138,16 @@ pub(crate) fn merged(
         mine = add_up_to(&mut all, rest, other);
         theirs = more;
     }
-    add_all(&mut all, mine)?;
-    Ok(all)
+    add_all(&mut all, mine).and(Ok(all))
 }
 
 fn push_shared(shared: &mut Vec<Fact>, fact: Fact) -> Result<(), AllocError>
     ensures { OnOk result (shared.new.items ≡ shared.old.items ++ if_not (is_default fact) fact) }
 {
-    if !is_said_of_all(&fact) {
-        shared.push(fact)?;
+    if is_said_of_all(&fact) {
+        return Ok(());
     }
-    Ok(())
+    shared.push(fact).map_err(AllocError::from)
 }
 
 /// Adds what the other and the fact at its key have in common, where there is one. It answers the facts that are left: those behind the other's key.

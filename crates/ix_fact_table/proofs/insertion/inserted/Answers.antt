@@ -2,6 +2,7 @@ use Rattle.std.proofs.Common.{◌≡◌, [], true, sym, subst, ◌∙◌}
 use Rattle.ix_fact_table.specs.Rising.{rises}
 use Rattle.ix_fact_table.specs.RisingLaws.{table_rises}
 use Rattle.ix_fact_table.proofs.PiledFacts.{piles_form, piles_table, first_alone}
+use Rattle.ix_fact_table.proofs.WentWell.{both_well}
 use Rattle.ix_fact_table.proofs.insertion.inserted.Goals as goal
 
 pub returns-then-is_none : goal.returns-then-is_none
@@ -21,10 +22,10 @@ merged-requires c =
 pub returns : goal.returns
 returns c =
     let now = c.in_ok-first.ensures.piles in
-    let first = c.as_slice.ensures.value in
-    let second = c.as_slice-2.ensures.value in
-    let has = rw (first, second) at c.in_ok-all.ensures.both in
+    let first = c.in_ok-first.first.items in
+    let second = c.in_ok-first.second.items in
+    let has = rw (c.as_slice.ensures.value, c.as_slice-2.ensures.value) at c.merged.ensures.both in
     record {
-      form = piles_form c.args.kind c.args.facts.now c.in_ok-first.first.items c.in_ok-first.second.items now c.in_ok-all.all.items has c.in_ok-all.ensures.rises;
-      table = piles_table c.args.kind c.args.facts.now c.in_ok-first.first.items c.in_ok-first.second.items now c.in_ok-all.all.items has c.in_ok-all.ensures.rises;
+      form = both_well c.merged.result (λ all. piles_form c.args.kind c.args.facts.now first second now all.items) has c.merged.ensures.rises;
+      table = both_well c.merged.result (λ all. piles_table c.args.kind c.args.facts.now first second now all.items) has c.merged.ensures.rises;
     }

@@ -1,11 +1,12 @@
 use Rattle.std.proofs.Common.{refl, inl, inr}
+use Rattle.ix_fact_table.proofs.WentWell.{both_well}
 use Rattle.ix_fact_table.proofs.insertion.pile.Goals as goal
 
 pub returns-then-is_behind : goal.returns-then-is_behind
-returns-then-is_behind c = record { piled = inl (record { both = c.in_ok-add_behind.ensures.both; rise = c.in_ok-add_behind.ensures.rises }, refl) }
+returns-then-is_behind c = record { piled = both_well c.add_behind.result (λ ok both rise. inl (record { both = both; rise = rise }, refl)) c.add_behind.ensures.both c.add_behind.ensures.rises }
 
 pub returns-then-is_short : goal.returns-then-is_short
-returns-then-is_short c = record { piled = inl (record { both = c.in_ok-put.ensures.both; rise = c.in_ok-put.ensures.rises }, refl) }
+returns-then-is_short c = record { piled = both_well c.put.result (λ ok both rise. inl (record { both = both; rise = rise }, refl)) c.put.ensures.both c.put.ensures.rises }
 
 pub returns-then-is_behind-2 : goal.returns-then-is_behind-2
-returns-then-is_behind-2 c = record { piled = inr (record { both = c.in_ok-add_second.ensures.both; rise = c.in_ok-add_second.ensures.rises }, refl) }
+returns-then-is_behind-2 c = record { piled = both_well c.add_second.result (λ ok both rise. inr (record { both = both; rise = rise }, refl)) c.add_second.ensures.both c.add_second.ensures.rises }

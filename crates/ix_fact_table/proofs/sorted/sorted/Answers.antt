@@ -1,4 +1,5 @@
 use Rattle.std.proofs.Common.{ap, sym, subst, ◌∙◌}
+use Rattle.std.specs.Result.{IfOk}
 use Rattle.ix_facts.specs.Kinds.{of_kind}
 use Rattle.ix_facts.specs.Systems.{HaveClasses, IsTable}
 use Rattle.ix_fact_table.proofs.OneKind.{kind_twice, kind_have}
@@ -13,8 +14,8 @@ sorted_many-requires c = record { classes = λ f i. c.requires.classes f (c.from
 pub returns-then-is_any : goal.returns-then-is_any
 returns-then-is_any c =
     record {
-      form = c.in_ok-all.ensures.form;
-      table = subst (λ l. IsTable l c.in_ok-all.all.items) c.from_first-rest.ensures.same c.in_ok-all.ensures.table;
+      form = c.sorted_many.ensures.form;
+      table = subst (λ l. IfOk c.sorted_many.result (λ all. IsTable l all.items)) c.from_first-rest.ensures.same c.sorted_many.ensures.table;
     }
 
 pub sorted_many-requires-2 : goal.sorted_many-requires-2
@@ -27,6 +28,6 @@ returns c =
     let own = c.args.kind in
     let is = c.deref.ensures.value ∙ c.in_ok-own.ensures in
     record {
-      form = c.in_ok-many.ensures.form;
-      table = subst (λ l. IsTable l c.in_ok-many.many.items) (ap (of_kind own) is ∙ (kind_twice own c.from_first-rest.result.now ∙ c.from_first-rest.ensures.same)) c.in_ok-many.ensures.table;
+      form = c.sorted_many-2.ensures.form;
+      table = subst (λ l. IfOk c.sorted_many-2.result (λ many. IsTable l many.items)) (ap (of_kind own) is ∙ (kind_twice own c.from_first-rest.result.now ∙ c.from_first-rest.ensures.same)) c.sorted_many-2.ensures.table;
     }

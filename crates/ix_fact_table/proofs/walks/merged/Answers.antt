@@ -1,5 +1,8 @@
-use Rattle.std.proofs.Common.{arith, ◌≡◌, [], inr}
+use Rattle.std.proofs.Common.{arith, ◌≡◌, true, [], inr, sym, subst}
 use Rattle.std.proofs.lemmas.List.{append-nil}
+use Rattle.ix_text.proofs.Chained.{ok_then}
+use Rattle.ix_fact_table.specs.Rising.{rises}
+use Rattle.ix_fact_table.specs.Walks.{HasBoth}
 use Rattle.ix_fact_table.proofs.WalksAlongBoth.{none_left, merging_starts, merging_passed, merging_ends}
 use Rattle.ix_fact_table.proofs.walks.merged.Goals as goal
 
@@ -35,4 +38,7 @@ returns c =
     let none : c.loop-other.theirs.now ≡ [] = none_left c.loop-other.theirs.now c.in_default.ensures.cases in
     let ends = merging_ends first second c.loop-other.mine.now c.loop-other.theirs.now c.loop-other.all.items (inr none) c.loop-other.invariant.facts in
     let whole = rw (none, append-nil) at ends in
-    rw c.in_ok-add_all.ensures.items (record { both = whole.0; rises = whole.1 })
+    record {
+      both = ok_then c.add_all.result c.add_all.new.all c.and.result _ _ c.and.ensures c.add_all.ensures.items (λ is. subst (HasBoth first second) (sym is) whole.0);
+      rises = ok_then c.add_all.result c.add_all.new.all c.and.result _ _ c.and.ensures c.add_all.ensures.items (λ is. subst (λ l. rises l ≡ true) (sym is) whole.1);
+    }
