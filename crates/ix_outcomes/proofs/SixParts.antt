@@ -18,3 +18,7 @@ pub six_equal : (a b c d e f u v w x y z : List Fact) → a ≡ u → b ≡ v �
 six_equal a b c d e f u v w x y z h1 h2 h3 h4 h5 h6 =
     joined_equal a u (b ++ (c ++ (d ++ (e ++ f)))) (v ++ (w ++ (x ++ (y ++ z)))) h1
     (joined_equal b v (c ++ (d ++ (e ++ f))) (w ++ (x ++ (y ++ z))) h2 (joined_equal c w (d ++ (e ++ f)) (x ++ (y ++ z)) h3 (joined_equal d x (e ++ f) (y ++ z) h4 (joined_equal e y f z h5 h6))))
+
+-- two facts at once
+pub both : {A B : Type 0} → A → B → A × B
+both a b = (a, b)

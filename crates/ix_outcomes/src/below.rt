@@ -28,9 +28,9 @@ fn new_ranges<K: Indexed>(
     ensures { IfOk result (λ ranges. ranges.items ≡ kept (over.ranges_in_turn below.now above.now p.now q.now k.now (in_orders (K.known know.now)))) }
 {
     let mut ranges = Vec::with_capacity(alloc, below.len().saturating_add(above.len()))?;
-    push_ranges_to(&mut ranges, &know.hi(q), k, p, below)?;
-    push_ranges_from(&mut ranges, &know.lo(p), k, q, above)?;
-    Ok(ranges)
+    push_ranges_to(&mut ranges, &know.hi(q), k, p, below)
+        .and(push_ranges_from(&mut ranges, &know.lo(p), k, q, above))
+        .and(Ok(ranges))
 }
 
 fn new_bounds(
@@ -70,12 +70,12 @@ fn push_read<K: Indexed>(
     let above = with_own_above(alloc, q, on_q)?;
     let ranges = new_ranges(alloc, know, p, &below, q, &above, k)?;
     let bounds = new_bounds(alloc, p, on_p, q, on_q, k)?;
-    push_all(out, &ranges)?;
-    push_differences(out, k, p, &below, q, &above)?;
-    push_all(out, &bounds)?;
-    push_lengths(out, p, on_p, &ranges)?;
-    push_lengths(out, q, on_q, &ranges)?;
-    push_parts(out, p, on_p, &bounds)
+    push_all(out, &ranges)
+        .and(push_differences(out, k, p, &below, q, &above))
+        .and(push_all(out, &bounds))
+        .and(push_lengths(out, p, on_p, &ranges))
+        .and(push_lengths(out, q, on_q, &ranges))
+        .and(push_parts(out, p, on_p, &bounds))
 }
 
 /// The ranges, differences, bounds, lengths and parts that `p < q + k` gives.

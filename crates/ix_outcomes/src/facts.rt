@@ -83,6 +83,5 @@ pub fn facts_of_outcome<K: Indexed>(
 {
     // There is room for as many as most outcomes give.
     let mut new = Vec::with_capacity(alloc, 64)?;
-    push_outcome(alloc, &mut new, know, outcome)?;
-    Ok(new)
+    push_outcome(alloc, &mut new, know, outcome).and(Ok(new))
 }

@@ -1,4 +1,5 @@
 use Rattle.std.proofs.Common.{◌++◌, ap, ◌∙◌, rules}
+use Rattle.ix_text.proofs.Chained.{both_ok, ok_then}
 use Rattle.ix_facts.specs.Closure.{kept}
 use Rattle.ix_facts.specs.Bounds as spec
 use Rattle.ix_facts.specs.Exact.{each}
@@ -16,7 +17,13 @@ returns g c =
     let p = c.args.p.now in
     let q = c.args.q.now in
     let k = c.args.k.now in
-    let low = c.in_ok-push_ranges_to.ensures ∙ ap (λ n. c.in_ok-ranges.ranges.items ++ kept (each (below_by (over.range_to n k) p) below)) (same_int c.hi.result (search rules) ∙ c.hi.ensures.bound) in
-    let high = c.in_ok-push_ranges_from.ensures ∙ ap (λ n. c.push_ranges_to.new.out.items ++ kept (each (above_by (over.range_from n k) q) above)) (same_int c.lo.result (search rules) ∙ c.lo.ensures.bound) in
-    joined_two c.in_ok-ranges.ranges.items c.push_ranges_to.new.out.items c.push_ranges_from.new.out.items (each (below_by (over.range_to (spec.upper_limit facts q) k) p) below) (each (above_by (over.range_from (spec.lower_bound facts p) k) q) above) low high
-    ∙ ap (λ l. l ++ kept (over.ranges_in_turn below above p q k facts)) c.in_ok-ranges.ensures.items
+    let first = c.in_ok-ranges.ranges.items in
+    let second = c.push_ranges_to.new.out.items in
+    let low = ap (λ n. first ++ kept (each (below_by (over.range_to n k) p) below)) (same_int c.hi.result (search rules) ∙ c.hi.ensures.bound) in
+    let high = ap (λ n. second ++ kept (each (above_by (over.range_from n k) q) above)) (same_int c.lo.result (search rules) ∙ c.lo.ensures.bound) in
+    ok_then c.and.result c.push_ranges_from.new.out c.and-2.result _ _ c.and-2.ensures
+    (both_ok c.push_ranges_to.result c.push_ranges_from.result c.and.result _ _ _ c.and.ensures c.push_ranges_to.ensures c.push_ranges_from.ensures
+    (λ one is.
+    joined_two first second c.push_ranges_from.new.out.items (each (below_by (over.range_to (spec.upper_limit facts q) k) p) below) (each (above_by (over.range_from (spec.lower_bound facts p) k) q) above) (one ∙ low) (is ∙ high)
+    ∙ ap (λ l. l ++ kept (over.ranges_in_turn below above p q k facts)) c.in_ok-ranges.ensures.items))
+    (λ all. all)
