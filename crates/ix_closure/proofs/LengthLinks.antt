@@ -1,6 +1,7 @@
 -- The links of arrays by the ints that are their lengths.
-use Rattle.std.specs.Prelude.{◌≡◌, ◌⊎◌, true, List, [], ◌∷◌, ◌++◌, Option, Some, None, refl}
+use Rattle.std.specs.Prelude.{◌≡◌, ◌⊎◌, true, List, [], ◌∷◌, ◌++◌, Option, Some, None, Result, Ok, Err, OnOk, refl}
 use Rattle.std.proofs.Common.{inl, inr, sym, ap, ◌∙◌, subst, ⊎_elim}
+use Rattle.std.proofs.lemmas.List.{append_assoc}
 use Rattle.ix_facts.specs.LookUps.{by_test}
 use Rattle.ix_core.specs.declared.fact.Path.{Path}
 use Rattle.ix_core.specs.declared.fact.Fact.{Fact}
@@ -140,3 +141,13 @@ module _ (same_path : (p q : Path) → is_path p q ≡ true → p ≡ q) (itself
     one_root firsts (Search _ _ ∷ rest) hold p a d i j = ⊎_elim (λ e. absurd cc) (λ m. ⊎_elim (λ e. absurd cc) (λ k. one_root firsts rest hold p a d m k) j) i
     one_root firsts (Neg _ _ ∷ rest) hold p a d i j = ⊎_elim (λ e. absurd cc) (λ m. ⊎_elim (λ e. absurd cc) (λ k. one_root firsts rest hold p a d m k) j) i
     one_root firsts (Upper _ _ _ _ ∷ rest) hold p a d i j = ⊎_elim (λ e. absurd cc) (λ m. ⊎_elim (λ e. absurd cc) (λ k. one_root firsts rest hold p a d m k) j) i
+
+-- what one more length says, where it was put
+pub one_linked : {E : Type 0} (call : Result (Unit {0}) E) (firsts firsts_new : List (Path × Path)) (found found_new : List Fact) (fact : Fact) (p a : Path) → fact ≡ IsLen p a
+    → OnOk call (found_new ≡ found ++ link (first_of firsts p) a) → OnOk call (firsts_new ≡ with_first (first_of firsts p) firsts p a)
+    → OnOk call ((rest : List Fact) → found_new ++ links firsts_new rest ≡ found ++ links firsts (fact ∷ rest))
+one_linked (Ok x) firsts firsts_new found found_new fact p a is put first = λ rest.
+    ap (λ l. l ++ links firsts_new rest) put
+    ∙ (ap (λ l. (found ++ link (first_of firsts p) a) ++ links l rest) first
+    ∙ (append_assoc found (link (first_of firsts p) a) (links (with_first (first_of firsts p) firsts p a) rest) ∙ ap (λ f. found ++ links firsts (f ∷ rest)) (sym is)))
+one_linked (Err e) firsts firsts_new found found_new fact p a is put first = tt

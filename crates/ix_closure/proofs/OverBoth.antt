@@ -28,3 +28,7 @@ over_both_and rule facts own whole n1 n2 n3 n4 more w a b c d =
 
 pub classes_behind : (facts more : List Fact) → HaveClasses (facts ++ more) → HaveClasses more
 classes_behind facts more have = λ f i. have f (in_right f facts more i)
+
+-- two facts at once
+pub both : {A B : Type 0} → A → B → A × B
+both a b = (a, b)

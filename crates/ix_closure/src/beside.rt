@@ -93,7 +93,7 @@ pub fn more_beside(
     ensures ranges { IfOk result (λ more. of_kind kind.Range more.items ≡ []) }
 {
     let mut more = Vec::with_capacity(alloc, ranges.len())?;
-    push_negatives(&mut more, ranges, searches)?;
-    push_new_classes(&mut more, new, ranges)?;
-    Ok(more)
+    push_negatives(&mut more, ranges, searches)
+        .and(push_new_classes(&mut more, new, ranges))
+        .and(Ok(more))
 }

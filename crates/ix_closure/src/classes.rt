@@ -57,8 +57,10 @@ fn relabel(
     for entry in roots {
         moved.push((entry.0, in_place(old, new, &entry.1)))?;
     }
-    moved.push((*old, *new))?;
-    Ok(moved)
+    moved
+        .push((*old, *new))
+        .map_err(AllocError::from)
+        .and(Ok(moved))
 }
 
 /// The classes with those of two arrays made one.
@@ -78,8 +80,7 @@ fn joined(
     if is_same_path(&old, &new) {
         return Ok(roots);
     }
-    let moved = relabel(&roots, alloc, &old, &new)?;
-    Ok(moved)
+    relabel(&roots, alloc, &old, &new)
 }
 
 /// The classes by one more fact that two arrays have the same length.
@@ -96,10 +97,7 @@ fn with_same(
 {
     path_order_laws();
     match *fact {
-        Fact::Same(a, b) => {
-            let next = joined(alloc, roots, &a, &b)?;
-            Ok(next)
-        }
+        Fact::Same(a, b) => joined(alloc, roots, &a, &b),
         _ => Ok(roots),
     }
 }

@@ -33,9 +33,9 @@ fn alike(
 {
     let labels = labelled(alloc, classes, arrays)?;
     let mut more = Vec::new(alloc);
-    push_pairs(&mut more, classes, arrays, &labels, arrays)?;
-    push_along(&mut more, classes, arrays, &labels, facts)?;
-    Ok(more)
+    push_pairs(&mut more, classes, arrays, &labels, arrays)
+        .and(push_along(&mut more, classes, arrays, &labels, facts))
+        .and(Ok(more))
 }
 
 /// The same with the answers of searches, which the facts tell too.
@@ -49,9 +49,9 @@ fn searched(
 {
     let alike = alike(alloc, facts, classes, arrays)?;
     let mut more = copied(alloc, &alike)?;
-    push_searches(&mut more, facts)?;
-    push_searches(&mut more, &alike)?;
-    Ok(more)
+    push_searches(&mut more, facts)
+        .and(push_searches(&mut more, &alike))
+        .and(Ok(more))
 }
 
 fn all_more(
@@ -65,10 +65,10 @@ fn all_more(
 {
     let searched = searched(alloc, facts, classes, arrays)?;
     let mut more = copied(alloc, &searched)?;
-    push_negatives(&mut more, ranges, facts)?;
-    push_negatives(&mut more, ranges, &searched)?;
-    push_classes(&mut more, ranges)?;
-    Ok(more)
+    push_negatives(&mut more, ranges, facts)
+        .and(push_negatives(&mut more, ranges, &searched))
+        .and(push_classes(&mut more, ranges))
+        .and(Ok(more))
 }
 
 /// What follows from the facts beside themselves, but for what tables say by themselves: weaker facts, ranges met and other orders. The only error is want
@@ -81,6 +81,5 @@ pub fn more_that_follows(alloc: Global, facts: &[Fact]) -> Result<Vec<Fact>, All
     let classes = same_classes(alloc, facts)?;
     let arrays = listed_arrays(alloc, facts)?;
     let ranges = FactTable::of_facts(alloc, Kind::Range, facts)?;
-    let more = all_more(alloc, facts, &classes, &arrays, ranges.as_slice())?;
-    Ok(more)
+    all_more(alloc, facts, &classes, &arrays, ranges.as_slice())
 }

@@ -21,9 +21,9 @@ pub(crate) fn labelled(
 ) -> Result<Vec<(Path, Path)>, AllocError>
     ensures { IfOk result (λ labels. labels.items ≡ labels_of classes.now arrays.now) }
 {
-    let mut labels = Vec::new(alloc);
+    let mut labels = Vec::with_capacity(alloc, arrays.len())?;
     for a in arrays {
-        labels.push((*a, classes.root(a)))?;
+        labels.push_reserved((*a, classes.root(a)));
     }
     Ok(labels)
 }
@@ -50,10 +50,11 @@ fn push_said(
 ) -> Result<(), AllocError>
     ensures { OnOk result (out.new.items ≡ out.old.items ++ if_so (is_path label.now.1 root.now) (said_of fact.now label.now.0 ∷ [])) }
 {
-    if is_same_path(&label.1, root) {
-        out.push(said_of_other(fact, &label.0))?;
+    if !is_same_path(&label.1, root) {
+        return Ok(());
     }
-    Ok(())
+    out.push(said_of_other(fact, &label.0))
+        .map_err(AllocError::from)
 }
 
 fn push_over_class(

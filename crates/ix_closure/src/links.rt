@@ -31,10 +31,9 @@ fn push_length(
     } }
 {
     match first(firsts, p) {
-        Some(b) => found.push(Fact::Same(b, *a))?,
-        None => firsts.push((*p, *a))?,
+        Some(b) => found.push(Fact::Same(b, *a)).map_err(AllocError::from),
+        None => firsts.push((*p, *a)).map_err(AllocError::from),
     }
-    Ok(())
 }
 
 fn push_link(
@@ -44,10 +43,10 @@ fn push_link(
 ) -> Result<(), AllocError>
     ensures { OnOk result ((rest : List Fact) → found.new.items ++ links firsts.new.items rest ≡ found.old.items ++ links firsts.old.items (fact.now ∷ rest)) }
 {
-    if let Fact::IsLen(p, a) = *fact {
-        push_length(firsts, found, &p, &a)?;
+    match *fact {
+        Fact::IsLen(p, a) => push_length(firsts, found, &p, &a),
+        _ => Ok(()),
     }
-    Ok(())
 }
 
 /// Each array of which an int is the length, with the first array of which it is the length.

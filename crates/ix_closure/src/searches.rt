@@ -14,10 +14,10 @@ use std::alloc::AllocError;
 fn push_search_of(out: &mut Vec<Fact>, fact: &Fact) -> Result<(), AllocError>
     ensures { OnOk result (out.new.items ≡ out.old.items ++ search_of fact.now) }
 {
-    if let Fact::Neg(p, a) = fact {
-        out.push(Fact::Search(*p, *a))?;
+    match fact {
+        Fact::Neg(p, a) => out.push(Fact::Search(*p, *a)).map_err(AllocError::from),
+        _ => Ok(()),
     }
-    Ok(())
 }
 
 /// Each negative answer of a search is an answer of a search.
@@ -56,10 +56,10 @@ fn high_among(ranges: &[Fact], p: &Path) -> i64
 fn push_negative(out: &mut Vec<Fact>, ranges: &[Fact], p: &Path, a: &Path) -> Result<(), AllocError>
     ensures { OnOk result (out.new.items ≡ out.old.items ++ negative_of ranges.now (Search p.now a.now)) }
 {
-    if high_among(ranges, p) <= -1 {
-        out.push(Fact::Neg(*p, *a))?;
+    if high_among(ranges, p) > -1 {
+        return Ok(());
     }
-    Ok(())
+    out.push(Fact::Neg(*p, *a)).map_err(AllocError::from)
 }
 
 fn push_negative_of(out: &mut Vec<Fact>, ranges: &[Fact], fact: &Fact) -> Result<(), AllocError>
@@ -97,10 +97,12 @@ pub(crate) fn push_class_of(out: &mut Vec<Fact>, fact: &Fact) -> Result<(), Allo
     ensures { OnOk result (out.new.items ≡ out.old.items ++ class_of fact.now) }
 {
     match fact {
-        Fact::Rng(p, low, _) if *low >= -1 => out.push(Fact::Low(*p, class_from(*low)))?,
-        _ => {}
+        Fact::Rng(p, low, _) if *low >= -1 => {
+            out.push(Fact::Low(*p, class_from(*low)))
+                .map_err(AllocError::from)
+        }
+        _ => Ok(()),
     }
-    Ok(())
 }
 
 /// The class of each int by the low end of its range.

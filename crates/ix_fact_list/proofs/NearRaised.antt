@@ -1,11 +1,11 @@
 -- Numbers of near paths, raised and lowered fact by fact.
-use Rattle.std.specs.Prelude.{◌≡◌, ◌≢◌, ◌<◌, ℕ, ◌+◌, ℤ, ◌+ℤ◌, ◌-ℤ◌, pos, true, false, nat_eq, get_or, length, drop, slice_set, slice_index_or, All, IfSome, Option, Some, None, List, [], ◌∷◌, refl}
+use Rattle.std.specs.Prelude.{◌≡◌, ◌≢◌, ◌<◌, ◌≤◌, ℕ, ◌+◌, ℤ, ◌+ℤ◌, ◌-ℤ◌, pos, true, false, nat_eq, get_or, length, drop, slice_set, slice_index_or, All, IfSome, Option, Some, None, List, [], ◌∷◌, refl}
 use Rattle.std.specs.Int.{int_min, int_max}
 use Rattle.std.proofs.Common.{add-one, arith, ap, sym, subst, ◌∙◌}
 use Rattle.std.proofs.Math.Seq.{drop-cons}
 use Rattle.std.proofs.lemmas.Bool.{false≢true}
 use Rattle.std.proofs.lemmas.Int.{ints, clamps}
-use Rattle.std.proofs.lemmas.List.{get_or-set_same, get_or-set_other}
+use Rattle.std.proofs.lemmas.List.{get_or-set_same, get_or-set_other, drop_all}
 use Rattle.std.proofs.lemmas.List.Elements.{All-head, All-tail}
 use Rattle.ix_core.specs.Ints.{least_int, greatest_int}
 use Rattle.ix_core.specs.declared.fact.Path.{Path}
@@ -19,7 +19,7 @@ use Rattle.ix_facts.specs.Small.{HasSmallNumbers, IsClass, IsEnd, IsLimit, IsBou
 use Rattle.ix_bounds.proofs.BestOfParts.{low_joined, high_joined}
 use Rattle.ix_path_index.specs.ByPath.{is_near, near_place}
 use Rattle.ix_path_index.proofs.NearPlaces.{number_itself, number_same, place_tells}
-use Rattle.ix_fact_list.specs.NearNumbers.{number_at, Raises, Lowers, AreLimits}
+use Rattle.ix_fact_list.specs.NearNumbers.{number_at, Raises, Lowers, AreLimits, AreNumbers}
 
 -- ---- one number
 
@@ -106,6 +106,18 @@ next_rises by of old new d fact rest more now p near =
 pub next_falls : (by : Path → Fact → Option ℤ) (of : Path → ℤ) (old new : List ℤ) (d : ℤ) (fact : Fact) (rest : List Fact) → Lowers old new d (λ p. by p fact) → Falling by of old d (fact ∷ rest) → Falling by of new d rest
 next_falls by of old new d fact rest more now p near =
     ap (λ x. at_most x (least (by p) rest)) (more p near) ∙ (high_joined (number_at old d p) (by p fact) (least (by p) rest) ∙ now p near)
+
+-- ---- no fact left
+
+pub risen : (by : Path → Fact → Option ℤ) (of : Path → ℤ) (numbers : List ℤ) (d : ℤ) (facts : List Fact) (k : ℕ) → length facts ≤ k → Rising by of numbers d (drop k facts) → AreNumbers numbers d of
+risen by of numbers d facts k past all p near = subst (λ left. at_least (number_at numbers d p) (greatest (by p) left) ≡ of p) (drop_all k facts past) (all p near)
+
+pub fallen : (by : Path → Fact → Option ℤ) (of : Path → ℤ) (numbers : List ℤ) (d : ℤ) (facts : List Fact) (k : ℕ) → length facts ≤ k → Falling by of numbers d (drop k facts) → AreNumbers numbers d of
+fallen by of numbers d facts k past all p near = subst (λ left. at_most (number_at numbers d p) (least (by p) left) ≡ of p) (drop_all k facts past) (all p near)
+
+-- a number that is told, made of two others
+pub told_by : (of : ℤ → ℤ → ℤ) (told made from end c k : ℤ) (whole : ℤ) → told ≡ made → made ≡ of from k → from ≡ end → end ≡ whole → k ≡ c → told ≡ of whole c
+told_by of told made from end c k whole a e b f d = a ∙ (e ∙ (ap (λ x. of x k) (b ∙ f) ∙ ap (of whole) d))
 
 -- ---- no fact yet
 

@@ -50,19 +50,19 @@ impl Model for FactList {
 fn push_beside_changed(facts: &mut Vec<Fact>, kind: &OpKind, fact: &Fact) -> Result<(), AllocError>
     ensures { OnOk result (facts.new.items ≡ facts.old.items ++ without (of_target kind.now) (fact.now ∷ [])) }
 {
-    if !names_target(kind, fact) {
-        facts.push(*fact)?;
+    if names_target(kind, fact) {
+        return Ok(());
     }
-    Ok(())
+    facts.push(*fact).map_err(AllocError::from)
 }
 
 fn push_beside_path(facts: &mut Vec<Fact>, path: &Path, fact: &Fact) -> Result<(), AllocError>
     ensures { OnOk result (facts.new.items ≡ facts.old.items ++ without (of_path path.now) (fact.now ∷ [])) }
 {
-    if !names_path(path, fact) {
-        facts.push(*fact)?;
+    if names_path(path, fact) {
+        return Ok(());
     }
-    Ok(())
+    facts.push(*fact).map_err(AllocError::from)
 }
 
 /// An empty list with room for as many facts, or for 1,024 if they are more.

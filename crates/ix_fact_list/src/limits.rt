@@ -455,8 +455,7 @@ fn put_each<G: Groups>(
       small_highs : OnOk result (AreLimits highs.old.items greatest_int → AreLimits highs.new.items greatest_int);
     } }
 {
-    put_low(lows, ends, facts, fact)?;
-    put_high(highs, ends, facts, fact)
+    put_low(lows, ends, facts, fact).and(put_high(highs, ends, facts, fact))
 }
 
 /// Raises and lowers the numbers at the places of two ints, of which the one is less than the other and c.

@@ -1,7 +1,9 @@
-use Rattle.std.proofs.Common.{arith, ◌≡◌, slice_get, slice_index_or, Some, pos, ⊎_elim}
+use Rattle.std.proofs.Common.{arith, ◌≡◌, slice_get, slice_index_or, Some, pos, ⊎_elim, subst, sym}
+use Rattle.std.proofs.lemmas.List.{take_all}
 use Rattle.std.proofs.lemmas.Option.{slice_get-get_or}
 use Rattle.ix_core.specs.declared.fact.Path.TheVariants.{Slot}
 use Rattle.ix_core.specs.declared.fact.Fact.TheVariants.{Rng, Same}
+use Rattle.ix_facts.specs.Facts.{IsIn}
 use Rattle.ix_closure.proofs.JoinedClasses.{in_next, in_at}
 use Rattle.ix_closure.proofs.classes.by_same.Goals as goal
 
@@ -21,3 +23,9 @@ loop-link-preserved c =
           (λ e. c.in_ok-roots.ensures.same a b e)
           (in_next links k f (Same a b) at i);
     }
+
+pub returns : goal.returns
+returns c =
+    let all = c.loop-link.invariant in
+    let whole = take_all c.loop-link.link-index c.args.links.now c.loop-link-test.false in
+    record { roots = all.roots_are; coarser = all.coarser; sound = all.sound; same = λ a b i. all.same a b (subst (IsIn (Same a b)) (sym whole) i) }

@@ -1,6 +1,7 @@
 use Rattle.std.proofs.Common.{◌≡◌, ◌∙◌, ap}
+use Rattle.std.proofs.lemmas.Result.{IfOk-weaker}
 use Rattle.ix_closure.specs.Classes.{root_of, relabelled}
-use Rattle.ix_closure.proofs.JoinedClasses.{Joined, root_relabelled, joined_roots}
+use Rattle.ix_closure.proofs.JoinedClasses.{root_relabelled, joined_roots}
 use Rattle.ix_closure.proofs.classes.joined.Goals as goal
 
 pub returns-clause-roots : goal.returns-clause-roots
@@ -13,10 +14,10 @@ returns-clause-roots c =
     let d1 = c.deref.ensures.value in
     let n = c.found-new.ensures in
     let o = c.found-old.ensures in
-    let e = c.in_ok-moved.ensures in
-    let moved : c.in_ok-moved.moved.items ≡ relabelled (root_of roots b) (root_of roots a) roots = cc in
-    let is : Joined roots c.in_ok-moved.moved.items a b = λ x. ap (λ l. root_of l x) moved ∙ root_relabelled (root_of roots b) (root_of roots a) roots x in
-    joined_roots roots c.in_ok-moved.moved.items a b c.requires.roots is
+    let relabelled_by : relabelled c.found-old.result c.found-new.result c.deref-3.result.now ≡ relabelled (root_of roots b) (root_of roots a) roots = cc in
+    IfOk-weaker c.relabel.result _ _
+    (λ moved is. joined_roots roots moved.items a b c.requires.roots (λ x. ap (λ l. root_of l x) (is ∙ relabelled_by) ∙ root_relabelled (root_of roots b) (root_of roots a) roots x))
+    c.relabel.ensures
 
 pub returns-clause-joined : goal.returns-clause-joined
 returns-clause-joined c =
@@ -28,6 +29,5 @@ returns-clause-joined c =
     let d1 = c.deref.ensures.value in
     let n = c.found-new.ensures in
     let o = c.found-old.ensures in
-    let e = c.in_ok-moved.ensures in
-    let moved : c.in_ok-moved.moved.items ≡ relabelled (root_of roots b) (root_of roots a) roots = cc in
-    λ x. ap (λ l. root_of l x) moved ∙ root_relabelled (root_of roots b) (root_of roots a) roots x
+    let relabelled_by : relabelled c.found-old.result c.found-new.result c.deref-3.result.now ≡ relabelled (root_of roots b) (root_of roots a) roots = cc in
+    IfOk-weaker c.relabel.result _ _ (λ moved is x. ap (λ l. root_of l x) (is ∙ relabelled_by) ∙ root_relabelled (root_of roots b) (root_of roots a) roots x) c.relabel.ensures

@@ -4,7 +4,7 @@ use Rattle.ix_core.specs.declared.fact.PathOff.TheVariants.{Nothing}
 use Rattle.ix_core.specs.declared.fact.Fact.TheVariants.{Upper}
 use Rattle.ix_facts.specs.Bounds as spec
 use Rattle.ix_facts.specs.Small.{IsLimit}
-use Rattle.ix_fact_list.proofs.NearRaised.{high_of_less, high_of_upper, high_of_length, limit_of_end}
+use Rattle.ix_fact_list.proofs.NearRaised.{high_of_less, high_of_upper, high_of_length, limit_of_end, told_by}
 use Rattle.ix_fact_list.proofs.limits.high_told.Goals as goal
 
 pub returns-in-Less-clause-high : goal.returns-in-Less-clause-high
@@ -13,9 +13,8 @@ returns-in-Less-clause-high g c =
     let a : to_z w64 (of_z w64 c.short_of.result) ≡ c.short_of.result = to_z-of_z w64 c.short_of.result (search rules) in
     let b : to_z w64 (of_z w64 c.high.result) ≡ c.high.result = to_z-of_z w64 c.high.result (search rules) in
     let d : to_z w64 (of_z w64 (to_z w32 (of_z w32 c.in-Less.c))) ≡ c.in-Less.c = search rules in
-    let e = c.short_of.ensures.value in
-    let f = c.high.ensures.value in
-    let n : to_z w64 (of_z w64 c.short_of.result) ≡ spec.range_high all c.in-Less.r +ℤ c.in-Less.c -ℤ pos 1 = cc in
+    let n : to_z w64 (of_z w64 c.short_of.result) ≡ spec.range_high all c.in-Less.r +ℤ c.in-Less.c -ℤ pos 1 =
+    told_by (λ end k. end +ℤ k -ℤ pos 1) _ c.short_of.result _ c.high.result c.in-Less.c _ _ a c.short_of.ensures.value b c.high.ensures.value d in
     high_of_less all c.args.fact.now c.in-Less.q c.in-Less.r c.in-Less.c _ c.in-Less.is n
 
 pub returns-in-Upper-default-default-Nothing-default-clause-high :
@@ -31,9 +30,8 @@ returns-in-Upper-default-default-Nothing-default-clause-high g c =
     let a : to_z w64 (of_z w64 c.within.result) ≡ c.within.result = to_z-of_z w64 c.within.result (search rules) in
     let b : to_z w64 (of_z w64 c.length_high.result) ≡ c.length_high.result = to_z-of_z w64 c.length_high.result (search rules) in
     let d : to_z w64 (of_z w64 (to_z w32 (of_z w32 bound))) ≡ bound = search rules in
-    let e = c.within.ensures.value in
-    let f = c.length_high.ensures.value in
-    let n : to_z w64 (of_z w64 c.within.result) ≡ spec.length_high all array -ℤ pos 1 -ℤ bound = cc in
+    let n : to_z w64 (of_z w64 c.within.result) ≡ spec.length_high all array -ℤ pos 1 -ℤ bound =
+    told_by (λ end k. end -ℤ pos 1 -ℤ k) _ c.within.result _ c.length_high.result bound _ _ a c.within.ensures.value b c.length_high.ensures.value d in
     high_of_upper all c.args.fact.now r array bound _ upper n
 
 pub returns-in-IsLen-clause-high : goal.returns-in-IsLen-clause-high

@@ -2,7 +2,7 @@ use Rattle.std.proofs.Common.{rules, ◌≡◌, pos, ◌+ℤ◌, ◌-ℤ◌, w32
 use Rattle.std.proofs.lemmas.Int.{to_z-of_z}
 use Rattle.ix_facts.specs.Bounds as spec
 use Rattle.ix_facts.specs.Small.{IsLimit}
-use Rattle.ix_fact_list.proofs.NearRaised.{low_of_less, low_of_length, limit_of_end}
+use Rattle.ix_fact_list.proofs.NearRaised.{low_of_less, low_of_length, limit_of_end, told_by}
 use Rattle.ix_fact_list.proofs.limits.low_told.Goals as goal
 
 pub returns-in-Less-clause-low : goal.returns-in-Less-clause-low
@@ -11,9 +11,8 @@ returns-in-Less-clause-low g c =
     let a : to_z w64 (of_z w64 c.past.result) ≡ c.past.result = to_z-of_z w64 c.past.result (search rules) in
     let b : to_z w64 (of_z w64 c.low.result) ≡ c.low.result = to_z-of_z w64 c.low.result (search rules) in
     let d : to_z w64 (of_z w64 (to_z w32 (of_z w32 c.in-Less.c))) ≡ c.in-Less.c = search rules in
-    let e = c.past.ensures.value in
-    let f = c.low.ensures.value in
-    let n : to_z w64 (of_z w64 c.past.result) ≡ spec.range_low all c.in-Less.q -ℤ c.in-Less.c +ℤ pos 1 = cc in
+    let n : to_z w64 (of_z w64 c.past.result) ≡ spec.range_low all c.in-Less.q -ℤ c.in-Less.c +ℤ pos 1 =
+    told_by (λ end k. end -ℤ k +ℤ pos 1) _ c.past.result _ c.low.result c.in-Less.c _ _ a c.past.ensures.value b c.low.ensures.value d in
     low_of_less all c.args.fact.now c.in-Less.q c.in-Less.r c.in-Less.c _ c.in-Less.is n
 
 pub returns-in-IsLen-clause-low : goal.returns-in-IsLen-clause-low

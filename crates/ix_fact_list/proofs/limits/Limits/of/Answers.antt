@@ -4,7 +4,7 @@ use Rattle.ix_core.specs.declared.fact.Path.TheVariants.{Slot}
 use Rattle.ix_core.specs.declared.fact.Fact.TheVariants.{Rng}
 use Rattle.ix_facts.specs.Bounds.{range_low, range_high, lower_by, lower_bound, limit_by, upper_limit}
 use Rattle.ix_fact_list.specs.NearNumbers.{Raises, Lowers}
-use Rattle.ix_fact_list.proofs.NearRaised.{limit_of_end, least_small, greatest_small, range_low_small, range_high_small, rises, falls}
+use Rattle.ix_fact_list.proofs.NearRaised.{limit_of_end, least_small, greatest_small, range_low_small, range_high_small, rises, falls, risen, fallen}
 use Rattle.ix_fact_list.proofs.NearCopied.{near_small, rising_at_ends, falling_at_ends}
 use Rattle.ix_fact_list.proofs.limits.Limits.of.Goals as goal
 
@@ -33,4 +33,19 @@ loop-fact-preserved g c =
       highs = falls (limit_by facts) (upper_limit facts) c.loop-fact.highs.items c.put.new.highs.items greatest_int facts k none more (subst (λ a. Lowers c.loop-fact.highs.items c.put.new.highs.items greatest_int (λ p. limit_by a p fact)) all both.lowered) c.loop-fact.invariant.highs;
       small_lows = both.small_lows c.loop-fact.invariant.small_lows;
       small_highs = both.small_highs c.loop-fact.invariant.small_highs;
+    }
+
+pub returns : goal.returns
+returns g c =
+    let facts = c.args.facts.now in
+    let k = c.loop-fact.fact-index in
+    let past = c.loop-fact-test.false in
+    let all = c.loop-fact.invariant in
+    record {
+      limits = record {
+        lows = risen (lower_by facts) (lower_bound facts) c.loop-fact.lows.items least_int facts k past all.lows;
+        highs = fallen (limit_by facts) (upper_limit facts) c.loop-fact.highs.items greatest_int facts k past all.highs;
+        small_lows = all.small_lows;
+        small_highs = all.small_highs;
+      };
     }

@@ -1,7 +1,7 @@
 use Rattle.std.proofs.Common.{pos, refl}
 use Rattle.ix_core.specs.Ints.{least_int, greatest_int}
 use Rattle.ix_facts.specs.Bounds.{range_low_by, range_high_by, length_low_by, length_high_by, range_low, range_high, length_low, length_high}
-use Rattle.ix_fact_list.proofs.NearRaised.{rising_at_first, falling_at_first, rises, falls}
+use Rattle.ix_fact_list.proofs.NearRaised.{rising_at_first, falling_at_first, rises, falls, risen, fallen}
 use Rattle.ix_fact_list.proofs.NearCopied.{ready_none}
 use Rattle.ix_fact_list.proofs.limits.NearEnds.of.Goals as goal
 
@@ -41,3 +41,17 @@ no_numbers-requires-3-clause-ready c = λ at. ready_none 128 (pos 0) at
 
 pub no_numbers-requires-4-clause-ready : goal.no_numbers-requires-4-clause-ready
 no_numbers-requires-4-clause-ready c = λ at. ready_none 128 greatest_int at
+
+pub returns : goal.returns
+returns c =
+    let facts = c.args.facts.now in
+    let k = c.loop-fact.fact-index in
+    let ends = c.loop-fact.ends in
+    let past = c.loop-fact-test.false in
+    let all = c.loop-fact.invariant in
+    record {
+      lows = risen range_low_by (range_low facts) ends.lows.items least_int facts k past all.lows;
+      highs = fallen range_high_by (range_high facts) ends.highs.items greatest_int facts k past all.highs;
+      length_lows = risen length_low_by (length_low facts) ends.length_lows.items (pos 0) facts k past all.length_lows;
+      length_highs = fallen length_high_by (length_high facts) ends.length_highs.items greatest_int facts k past all.length_highs;
+    }
