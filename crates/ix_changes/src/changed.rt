@@ -165,7 +165,7 @@ pub fn unchanged_paths(
     let mut kept = Vec::with_capacity(alloc, paths.len())?;
     for p in paths {
         if !changes(changed, p) {
-            kept.push(*p)?;
+            kept.push_reserved(*p);
         }
     }
     Ok(kept)
