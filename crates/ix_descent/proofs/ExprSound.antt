@@ -89,15 +89,21 @@ inner_init_sound : (b : Below) → SoundBelow b → (n : ℕ) → Sound IsInit (
 inner_init_sound b s zero = let l = s.lower in l.init
 inner_init_sound b s (suc n) = let l = s.lowest in l.init
 
+value_named : form.Value ≡ form.Variable → ⊥
+value_named e = cc
+
+statement_named : form.Statement ≡ form.Variable → ⊥
+statement_named e = cc
+
 -- A variable has no operators.
 pub as_primary : {n : ℕ} {ts : List Token} {f : Found} → IsExpr (Level n) ts f → f.form ≡ form.Variable → IsExpr Primary ts f
 as_primary (g.primary d) e = d
 as_primary (g.wider d) e = as_primary d e
-as_primary (g.least m l) e = absurd (cc)
-as_primary (g.signed n op s r d) e = absurd (cc)
-as_primary (g.step_before n up s r d v) e = absurd (cc)
-as_primary (g.step_after n up s r d v) e = absurd (cc)
-as_primary (g.operators n number op s r d x) e = absurd (cc)
+as_primary (g.least m l) e = absurd (value_named e)
+as_primary (g.signed n op s r d) e = absurd (value_named e)
+as_primary (g.step_before n up s r d v) e = absurd (statement_named e)
+as_primary (g.step_after n up s r d v) e = absurd (statement_named e)
+as_primary (g.operators n number op s r d x) e = absurd (value_named e)
 
 -- ---- creations
 

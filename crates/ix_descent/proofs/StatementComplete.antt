@@ -51,13 +51,16 @@ runs_array f e m = cc
 from_primary : (ts : List Token) (f : Found) → IsExpr Primary ts f → (left : ℕ) (us : List Token) → f.height + extra aim.Statement f.form ≤ left → AfterPrimary us → run (primary_of (below left) aim.Statement left) (ts ++ us) ≡ Ok (f, us)
 from_primary ts f d left us le a = let c : Complete Primary ts f = complete d in c aim.Statement left us le a.paren (λ m. a.bracket) ∙ chain_end (below left) aim.Statement left f us a.dot a.bracket
 
+value_runs : form.Value ≡ form.Statement → ⊥
+value_runs e = cc
+
 level_statement : {n : ℕ} {ts : List Token} {f : Found} → IsExpr (Level n) ts f → f.form ≡ form.Statement → (left : ℕ) (us : List Token) → f.height ≤ left → AfterWhole us → run (statement_expr left) (ts ++ us) ≡ Ok (f, us)
 level_statement (g.primary {ts} {f} d) e left us le a = let p = starts_primary d us in let u = a.level in let v = u.unary in
     statement_primary (below left) left f f (ts ++ us) us us p.step (from_primary ts f d left us (omega (arith, le, extra_runs f e)) v.primary) (runs_alone (below left) left f us e)
 level_statement (g.wider d) e left us le a = level_statement d e left us le a
-level_statement (g.least m l) e left us le a = absurd (cc)
-level_statement (g.signed n o s r d) e left us le a = absurd (cc)
-level_statement (g.operators n number o s r d x) e left us le a = absurd (cc)
+level_statement (g.least m l) e left us le a = absurd (value_runs e)
+level_statement (g.signed n o s r d) e left us le a = absurd (value_runs e)
+level_statement (g.operators n number o s r d x) e left us le a = absurd (value_runs e)
 level_statement (g.step_before number up s {ts} {f} r d v) e left us le a = let u = a.level in let w = u.unary in
     statement_step (below left) left number up s (ts ++ us) us f (omega (arith, le, variable_tall d v)) r (lower_variable ts f v (complete d) left us (omega (arith, le)) w.primary)
 level_statement (g.step_after number up s {ts} {f} r d v) e left us le a = let p = starts_primary d (sign number s ∷ us) in rw append_assoc
