@@ -1,9 +1,11 @@
-use Rattle.std.proofs.Common.{rules, ◌∙◌}
-use Rattle.ix_grammar.specs.Lists.{joined}
+use Rattle.std.proofs.Common.{◌≡◌, ◌≢◌, List, [], ◌∷◌, ◌++◌, Err, rules, sym, ap, ◌∙◌}
+use Rattle.ix_tree.specs.declared.annot.AnnotArg.{AnnotArg}
+use Rattle.ix_grammar.specs.Lists.{alone, joined}
 use Rattle.ix_descent.specs.ListRules.{next_of, more_of}
 use Rattle.ix_descent.specs.Rule.{run}
 use Rattle.ix_descent.specs.AnnotRules as spec
-use Rattle.ix_descent.proofs.Runs.{loop_on}
+use Rattle.ix_descent.specs.declared.stop.Stop.TheVariants.{Memory}
+use Rattle.ix_descent.proofs.Runs.{loop_on, loop_stops}
 use Rattle.ix_reading.proofs.annotations.more_named.Goals as goal
 
 pub reading-preserved : goal.reading-preserved
@@ -12,3 +14,11 @@ reading-preserved c = record {
   leads = c.reading.invariant.leads ∙ loop_on (next_of spec.named joined) c.reading.args c.push-in-Some.new.self c.reading.cursor c.named_value.new.cursor (search rules) (search rules);
   no_longer = search rules;
 }
+
+pub returns-in_err-named_value : goal.returns-in_err-named_value
+unfolding run next_of more_of spec.named
+returns-in_err-named_value c =
+    let begun : alone c.args.first ≡ c.push.new.self = sym (c.in_ok-push.ensures.added ∙ ap (λ (none : List AnnotArg). none ++ c.args.first ∷ []) c.new-args.ensures) in
+    let reads : c.in_err-named_value.field-0.0 ≢ Memory → run (more_of spec.named joined (alone c.args.first)) c.args.cursor.now ≡ Err (c.in_err-named_value.field-0.0, c.named_value.new.cursor)
+    = λ other. ap (λ (args : List AnnotArg). run (more_of spec.named joined args) c.args.cursor.now) begun ∙ (c.reading.invariant.leads ∙ loop_stops (next_of spec.named joined) c.reading.args c.reading.cursor c.named_value.new.cursor c.in_err-named_value.field-0.0 (search rules)) in
+    search rules
