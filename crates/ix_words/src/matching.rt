@@ -1,7 +1,7 @@
 //! Options and positionals of one command, by `clap`.
 ghost use Rattle.std.specs.Prelude.{◌≡◌, ◌<◌, IfOk, false, drop, map, length, string_bytes};
 ghost use Rattle.clap.specs.Walk.{rule_of};
-ghost use Rattle.ix_words.specs.Clap.{Reads, option_named, raw_option};
+ghost use Rattle.ix_words.specs.Clap.{Reads, option_named, raw_option, raw_words};
 ghost use Rattle.ix_words.specs.Words.{are_fit, is_fit, knows, words_id};
 
 use clap::error::ErrorKind;
@@ -42,6 +42,16 @@ fn option<'a>(alloc: Global, name: &'a str, takes: bool) -> Arg<'a>
     if takes { arg } else { arg.num_args(0) }
 }
 
+/// What takes the words that belong to no option.
+fn positionals<'a>(alloc: Global) -> Arg<'a>
+    ensures { record {
+      rule : rule_of result ≡ raw_words;
+      local : result.global ≡ false;
+    } }
+{
+    Arg::new(alloc, "words").action(ArgAction::Append)
+}
+
 /// What `clap` makes of the words after the first, for a command of these options, each with whether it takes a value: none exactly where the
 /// words are refused. The one error is want of memory.
 pub(crate) fn matches_of<'a>(
@@ -60,8 +70,7 @@ pub(crate) fn matches_of<'a>(
     for name in options {
         command = command.arg(option(alloc, name.0, name.1))?;
     }
-    let rest = Arg::new(alloc, "words").action(ArgAction::Append);
-    let command = command.arg(rest)?;
+    let command = command.arg(positionals(alloc))?;
     match command.try_get_matches_from(words) {
         Ok(matches) => Ok(Some(matches)),
         Err(error) => match error.kind() {
