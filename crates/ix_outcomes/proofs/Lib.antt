@@ -8,3 +8,4 @@ mod OwnAmong
 mod NewLengths
 pub mod OutcomeIs
 mod SixParts
+mod OwnPut

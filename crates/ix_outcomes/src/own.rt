@@ -1,9 +1,9 @@
 //! An int among those below it and among those above it, in the order of paths: so that new differences come in the order in which a table keeps them, and no place is sought
 //! for each.
 
-ghost use Rattle.std.specs.Prelude.{◌≡◌, ◌++◌, ◌∷◌, pos, IfOk};
+ghost use Rattle.std.specs.Prelude.{◌≡◌, ◌≤◌, ◌++◌, ◌∷◌, length, take, drop, IfOk};
 ghost use Rattle.std.specs.Ordering.{is_gt};
-ghost use Rattle.ix_core.specs.declared.fact.Fact.TheVariants.{Less};
+ghost use Rattle.ix_core.specs.declared.fact.Fact.{Fact};
 ghost use Rattle.ix_facts.specs.PathOrder.{path_cmp};
 ghost use Rattle.ix_outcomes.specs.OverGroups as over;
 
@@ -39,42 +39,51 @@ fn is_to_greater(q: &Path, fact: &Fact) -> bool
     }
 }
 
-/// Adds the facts before the first difference of a path behind p. It answers the others.
-fn push_lesser<'a>(
-    all: &mut Vec<Fact>,
-    p: &Path,
-    on_p: &'a [Fact],
-) -> Result<&'a [Fact], AllocError>
-    ensures { IfOk result (λ rest. all.new.items ++ Less p.now p.now (pos 1) ∷ rest.now ≡ all.old.items ++ over.with_own_below p.now on_p.now) }
+/// How many facts stand before the first difference of a path behind p.
+fn before_greater(p: &Path, on_p: &[Fact]) -> usize
+    ensures { record {
+      within : result ≤ length on_p.now;
+      own : (own : Fact) → over.put_before (over.is_of_greater p.now) own on_p.now ≡ take result on_p.now ++ own ∷ drop result on_p.now;
+    } }
 {
-    let mut rest = on_p;
-    while let Some((fact, more)) = rest.split_first() {
+    let mut count = 0;
+    for fact in on_p {
         if is_of_greater(p, fact) {
-            return Ok(rest);
+            return count;
         }
-        all.push(*fact)?;
-        rest = more;
+        count += 1;
     }
-    Ok(rest)
+    count
 }
 
-/// Adds the facts before the first difference to a path behind q. It answers the others.
-fn push_to_lesser<'a>(
-    all: &mut Vec<Fact>,
-    q: &Path,
-    on_q: &'a [Fact],
-) -> Result<&'a [Fact], AllocError>
-    ensures { IfOk result (λ rest. all.new.items ++ Less q.now q.now (pos 1) ∷ rest.now ≡ all.old.items ++ over.with_own_above q.now on_q.now) }
+/// How many facts stand before the first difference to a path behind q.
+fn before_to_greater(q: &Path, on_q: &[Fact]) -> usize
+    ensures { record {
+      within : result ≤ length on_q.now;
+      own : (own : Fact) → over.put_before (over.is_to_greater q.now) own on_q.now ≡ take result on_q.now ++ own ∷ drop result on_q.now;
+    } }
 {
-    let mut rest = on_q;
-    while let Some((fact, more)) = rest.split_first() {
+    let mut count = 0;
+    for fact in on_q {
         if is_to_greater(q, fact) {
-            return Ok(rest);
+            return count;
         }
-        all.push(*fact)?;
-        rest = more;
+        count += 1;
     }
-    Ok(rest)
+    count
+}
+
+/// The facts, and one more behind so many of them.
+fn with_own(alloc: Global, own: Fact, facts: &[Fact], count: usize) -> Result<Vec<Fact>, AllocError>
+    requires within { count ≤ length facts.now }
+    ensures { IfOk result (λ all. all.items ≡ take count facts.now ++ own ∷ drop count facts.now) }
+{
+    let (lesser, rest) = facts.split_at(count);
+    let mut all = Vec::with_capacity(alloc, facts.len().saturating_add(1))?;
+    all.extend_from_slice(lesser)
+        .and(all.push(own).map_err(AllocError::from))
+        .and(all.extend_from_slice(rest))
+        .and(Ok(all))
 }
 
 /// The facts on p, and that p is below p + 1.
@@ -85,10 +94,7 @@ pub(crate) fn with_own_below(
 ) -> Result<Vec<Fact>, AllocError>
     ensures { IfOk result (λ all. all.items ≡ over.with_own_below p.now on_p.now) }
 {
-    let mut all = Vec::with_capacity(alloc, on_p.len().saturating_add(1))?;
-    let rest = push_lesser(&mut all, p, on_p)?;
-    all.push(Fact::Less(*p, *p, 1))?;
-    all.extend_from_slice(rest).and(Ok(all))
+    with_own(alloc, Fact::Less(*p, *p, 1), on_p, before_greater(p, on_p))
 }
 
 /// The facts on q, and that q is below q + 1.
@@ -99,8 +105,10 @@ pub(crate) fn with_own_above(
 ) -> Result<Vec<Fact>, AllocError>
     ensures { IfOk result (λ all. all.items ≡ over.with_own_above q.now on_q.now) }
 {
-    let mut all = Vec::with_capacity(alloc, on_q.len().saturating_add(1))?;
-    let rest = push_to_lesser(&mut all, q, on_q)?;
-    all.push(Fact::Less(*q, *q, 1))?;
-    all.extend_from_slice(rest).and(Ok(all))
+    with_own(
+        alloc,
+        Fact::Less(*q, *q, 1),
+        on_q,
+        before_to_greater(q, on_q),
+    )
 }
