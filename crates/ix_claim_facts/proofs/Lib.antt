@@ -3,3 +3,4 @@ pub mod SignSteps
 pub mod SignTruth
 pub mod LeastSteps
 pub mod ForgottenAlike
+mod SmallLeft

@@ -1,12 +1,14 @@
 //! What the claims of other fields that name a field add.
 
 ghost use Rattle.std.specs.Prelude.{◌≡◌, ◌++◌, ◌==◌, filter, not, OnOk};
-ghost use Rattle.ix_core.specs.Objects.{offset_names};
+ghost use Rattle.ix_core.specs.Objects.{claim_names, offset_names};
 ghost use Rattle.ix_core.specs.declared.fact.Path.TheVariants.{FieldOf};
+ghost use Rattle.ix_steps.specs.Assume.{claim_facts};
 ghost use Rattle.ix_steps.specs.Exact.{if_so};
+ghost use Rattle.ix_steps.specs.MachineSteps.{on_paths};
 ghost use Rattle.ix_claim_facts.specs.Names as names;
 ghost use Rattle.ix_claim_facts.specs.Names.{object_path, some_field};
-ghost use Rattle.ix_claim_facts.specs.Naming.{path_by, AreSmallClaims, HaveSmallNames};
+ghost use Rattle.ix_claim_facts.specs.Naming.{path_by, AreSmallClaims, AreSmallNames, HaveSmallNames};
 ghost use Rattle.ix_claim_facts.specs.Signs.{claims_facts, dependent_facts};
 
 use crate::naming::Naming;
@@ -51,6 +53,22 @@ pub fn names_field(field: u32, claim: &Claim) -> bool
     }
 }
 
+fn push_claim_naming(
+    out: &mut Vec<Fact>,
+    field: u32,
+    naming: &Naming<'_>,
+    at: &Path,
+    claim: &Claim,
+) -> Result<(), AllocError>
+    requires small { AreSmallNames (claim_names claim.now) }
+    ensures { OnOk result (out.new.items ≡ out.old.items ++ if_so (names.names_field field claim.now) (claim_facts (on_paths (path_by naming.now) claim.now) at.now)) }
+{
+    if !names_field(field, claim) {
+        return Ok(());
+    }
+    push_claim(out, &naming.claim(claim), at)
+}
+
 /// What those of the claims that name the field add.
 fn push_claims_naming(
     out: &mut Vec<Fact>,
@@ -63,9 +81,7 @@ fn push_claims_naming(
     ensures { OnOk result (out.new.items ≡ out.old.items ++ claims_facts (path_by naming.now) at.now (filter (names.names_field field) claims.now)) }
 {
     for claim in claims {
-        if names_field(field, claim) {
-            push_claim(out, &naming.claim(claim), at)?;
-        }
+        push_claim_naming(out, field, naming, at, claim)?;
     }
     Ok(())
 }
@@ -80,12 +96,12 @@ fn push_dependent(
     requires small { AreSmallClaims other.now.claims }
     ensures { OnOk result (out.new.items ≡ out.old.items ++ if_so (not (number == field)) (claims_facts (object_path object) (FieldOf object number) (filter (names.names_field field) other.now.claims))) }
 {
-    if number != field {
-        let at = Path::FieldOf(object, number);
-        let naming = Naming::OfObject(object);
-        push_claims_naming(out, field, &naming, &at, other.claims.as_slice())?;
+    if number == field {
+        return Ok(());
     }
-    Ok(())
+    let at = Path::FieldOf(object, number);
+    let naming = Naming::OfObject(object);
+    push_claims_naming(out, field, &naming, &at, other.claims.as_slice())
 }
 
 /// What the claims of other fields that name the field add, of the object in a slot.

@@ -48,12 +48,12 @@ pub fn own_result(alloc: Global, method: &Method) -> Result<Vec<Fact>, AllocErro
 {
     let at = Path::Slot(result_slot(method));
     let mut facts = Vec::new(alloc);
-    push_received(&mut facts, &method.result, &at)?;
-    push_claims(
-        &mut facts,
-        &Naming::Inside(method),
-        &at,
-        method.result_claims.as_slice(),
-    )?;
-    Ok(facts)
+    push_received(&mut facts, &method.result, &at)
+        .and(push_claims(
+            &mut facts,
+            &Naming::Inside(method),
+            &at,
+            method.result_claims.as_slice(),
+        ))
+        .and(Ok(facts))
 }

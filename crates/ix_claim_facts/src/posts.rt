@@ -35,10 +35,10 @@ fn push_post(
     requires small { AreSmallNames (post_names post.now) }
     ensures { OnOk result (out.new.items ≡ out.old.items ++ if_so (same_when post.now.when wanted) (claim_facts (on_paths (path_by naming.now) post.now.claim) (path_by naming.now post.now.on))) }
 {
-    if is_of(post, wanted) {
-        push_claim(out, &naming.claim(&post.claim), &naming.path(&post.on))?;
+    if !is_of(post, wanted) {
+        return Ok(());
     }
-    Ok(())
+    push_claim(out, &naming.claim(&post.claim), &naming.path(&post.on))
 }
 
 /// What the posts of this answer add, or those of every return where none is given. The only error is want of memory.
