@@ -1,6 +1,6 @@
 -- A table that gets facts and then more is that of all of them, and its ranges are the table of the ranges.
-use Rattle.std.specs.Prelude.{◌≡◌, true, false, List, ◌++◌, refl}
-use Rattle.std.proofs.Common.{inl, inr, ap, sym, ◌∙◌, subst, ⊎_elim}
+use Rattle.std.specs.Prelude.{◌≡◌, true, List, ◌++◌, refl}
+use Rattle.std.proofs.Common.{inl, ap, sym, ◌∙◌, subst, ⊎_elim}
 use Rattle.std.proofs.lemmas.Bool.{false≢true}
 use Rattle.ix_core.specs.declared.fact.PathOff.TheVariants.{Nothing, Plus, Minus}
 use Rattle.ix_core.specs.declared.fact.Fact.{Fact}

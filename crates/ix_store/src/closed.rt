@@ -74,8 +74,7 @@ fn added(alloc: Global, table: &FactTable, new: Vec<Fact>) -> Result<Vec<Fact>, 
     let facts = facts_with(alloc, table, &new)?;
     let more = more_that_follows(alloc, &facts)?;
     let mut added = new;
-    added.extend_from_slice(&more)?;
-    Ok(added)
+    added.extend_from_slice(&more).and(Ok(added))
 }
 
 /// A table over the ints of known facts and of added ones, of which it is the table.
@@ -148,8 +147,7 @@ fn completed(
     let whole = with_all(alloc, first, &more)?;
     let mut added = new;
     added.extend_from_slice(&more)?;
-    let over = over_with(alloc, known, whole, &added)?;
-    Ok(over)
+    over_with(alloc, known, whole, &added)
 }
 
 /// The closed table of known facts and new plain ones, over more ints; none where these say the new ones already.
@@ -193,8 +191,7 @@ impl Known {
         if !told {
             return Ok(Vec::new(alloc));
         }
-        let ints = with_ints(alloc, &self.ints, new)?;
-        Ok(ints)
+        with_ints(alloc, &self.ints, new)
     }
 
     /// The ints that these facts name and the step doesn't change, where it is to be told.
@@ -210,8 +207,7 @@ impl Known {
         if !told {
             return Ok(Vec::new(alloc));
         }
-        let ints = unchanged_paths(alloc, &self.ints, changed)?;
-        Ok(ints)
+        unchanged_paths(alloc, &self.ints, changed)
     }
 
     /// The ints that these facts name, where it is to be told.
@@ -222,8 +218,7 @@ impl Known {
         if !told {
             return Ok(Vec::new(alloc));
         }
-        let ints = Vec::from_slice(alloc, &self.ints)?;
-        Ok(ints)
+        Vec::from_slice(alloc, &self.ints)
     }
 
     /// Whether each fact has one order, and each new one too.
@@ -298,8 +293,7 @@ impl Known {
             return with_plain(alloc, self, new);
         }
         let added = added(alloc, &self.table, new)?;
-        let more = with_added(alloc, self, &added)?;
-        Ok(more)
+        with_added(alloc, self, &added)
     }
 
     /// Whether the step may change a path that some fact names.

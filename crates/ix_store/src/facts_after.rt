@@ -113,8 +113,7 @@ impl Known {
         ensures facts { IfOk result (λ new. AreSame (facts_in self.now ++ new.items) (with_outcome (outcome_of outcome.now) (facts_in self.now))) }
         ensures classes { IfOk result (λ new. HaveClasses new.items) }
     {
-        let new = facts_of_outcome(alloc, self, outcome)?;
-        Ok(new)
+        facts_of_outcome(alloc, self, outcome)
     }
 
     /// The facts of a loop's label, before they are closed.
@@ -128,8 +127,7 @@ impl Known {
         ensures classes { IfOk result (λ facts. HaveClasses facts.items) }
     {
         let within = unchanged(alloc, self.table.as_slice(), &Changed::From(scope))?;
-        let facts = rounded_facts(alloc, &within, marks)?;
-        Ok(facts)
+        rounded_facts(alloc, &within, marks)
     }
 }
 

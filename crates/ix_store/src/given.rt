@@ -20,8 +20,7 @@ fn table_of(alloc: Global, facts: &[Fact]) -> Result<FactTable, AllocError>
     requires classes { HaveClasses facts.now }
     ensures table { IfOk result (λ table. IsTable facts.now (facts_of table)) }
 {
-    let table = FactTable::of_facts(alloc, Kind::Any, facts)?;
-    Ok(table)
+    FactTable::of_facts(alloc, Kind::Any, facts)
 }
 
 /// Whether facts of which no two are at one key are all that follows from them, where the store is the closed one of these.

@@ -28,15 +28,12 @@ fn common(
     ensures common { IfOk result (λ known. IsCommon (facts_in first.now) (facts_in second.now) (facts_in known)) }
 {
     if says_all(first, second) {
-        let known = second.join()?;
-        return Ok(known);
+        return second.join();
     }
     if says_all(second, first) {
-        let known = first.join()?;
-        return Ok(known);
+        return first.join();
     }
-    let known = Joint::new(alloc, first.get().common(alloc, second.get())?)?;
-    Ok(known)
+    Joint::new(alloc, first.get().common(alloc, second.get())?)
 }
 
 impl Lattice for Store {

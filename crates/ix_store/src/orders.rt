@@ -19,8 +19,7 @@ fn trimmed(alloc: Global, facts: Vec<Fact>) -> Result<Vec<Fact>, AllocError>
     if facts.len() <= SHORT {
         return Ok(facts);
     }
-    let trimmed = Vec::from_slice(alloc, &facts)?;
-    Ok(trimmed)
+    Vec::from_slice(alloc, &facts)
 }
 
 /// The facts in all their orders as a list, where some have two; none where each has one, so that they are such a list themselves. It looks at them unless it is told that

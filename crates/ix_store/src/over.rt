@@ -54,8 +54,7 @@ pub(crate) fn ints_and_arrays_of(
         return ints_and_arrays(alloc, over.table.as_slice());
     }
     let (first, differences, last) = over.table.around_differences();
-    let (ints, arrays) = ints_and_arrays_among(alloc, first, differences, last, &over.ints)?;
-    Ok((ints, arrays))
+    ints_and_arrays_among(alloc, first, differences, last, &over.ints)
 }
 
 /// How many facts stand up to the last range, class or length: at most those before all differences, where each fact has one order.

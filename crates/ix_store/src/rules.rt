@@ -139,8 +139,7 @@ impl Store {
         let changed = Changed::Target(kind);
         let fewer = known.get().beside(alloc, &changed)?;
         let new = rest(known, &fewer).after(alloc, profile, kind)?;
-        let store = behind(alloc, known, fewer, new)?;
-        Ok(store)
+        behind(alloc, known, fewer, new)
     }
 
     /// The store behind a copy of the value of one path to another. The only error is want of memory.
@@ -159,8 +158,7 @@ impl Store {
         let changed = Changed::At(*target);
         let fewer = known.get().beside(alloc, &changed)?;
         let new = rest(known, &fewer).copy(alloc, ty, target, source)?;
-        let store = behind(alloc, known, fewer, new)?;
-        Ok(store)
+        behind(alloc, known, fewer, new)
     }
 
     /// The store where an outcome is told. The only error is want of memory.
@@ -171,8 +169,7 @@ impl Store {
             return Ok(Store::unreachable());
         };
         let new = known.get().told(alloc, outcome)?;
-        let store = with_new(alloc, known, new)?;
-        Ok(store)
+        with_new(alloc, known, new)
     }
 
     /// The store with the facts of a claim of the path, where it is assumed. The only error is want of memory.
@@ -183,8 +180,7 @@ impl Store {
             return Ok(Store::unreachable());
         };
         let new = assumed(alloc, claim, at)?;
-        let store = with_new(alloc, known, new)?;
-        Ok(store)
+        with_new(alloc, known, new)
     }
 
     /// The store without the facts that name the path; of a slot also without those that name a field of the object in it. The only error is want of memory.
@@ -253,8 +249,7 @@ impl Store {
             return Ok(Store::unreachable());
         };
         let fewer = known.get().beside(alloc, changed)?;
-        let store = held(alloc, known, fewer)?;
-        Ok(store)
+        held(alloc, known, fewer)
     }
 
     /// The store of a loop's label: without the facts that name a slot from `scope` on, the constants of the others moved to landmarks. The only error is want of memory.
@@ -277,8 +272,7 @@ impl Store {
             return Ok(Store::unreachable());
         };
         let new = kept_facts(alloc, more)?;
-        let store = with_new(alloc, known, new)?;
-        Ok(store)
+        with_new(alloc, known, new)
     }
 
     /// The same store once more, without a copy of its facts. The only error is want of memory for one owner more.

@@ -13,8 +13,7 @@ impl Store {
     pub fn empty(alloc: Global) -> Result<Store, AllocError>
         ensures store { IfOk result (λ store. stored store ≡ Reached []) }
     {
-        let store = Store::of_facts(alloc, &[])?;
-        Ok(store)
+        Store::of_facts(alloc, &[])
     }
 
     /// The closed facts that are known at the place, none where no state is there. A fact that may be turned round stands in one of its orders. The only error is

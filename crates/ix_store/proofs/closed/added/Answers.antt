@@ -1,5 +1,6 @@
 use Rattle.std.proofs.Common.{◌≡◌, ◌++◌, sym, subst, ap, ◌∙◌}
 use Rattle.std.proofs.lemmas.List.{append_assoc}
+use Rattle.ix_text.proofs.Chained.{ok_then, where_ok}
 use Rattle.ix_facts.specs.Systems.{HaveClasses}
 use Rattle.ix_closure.specs.FactTables.{facts_of}
 use Rattle.ix_closure.specs.Saturated.{IsSaturated}
@@ -18,10 +19,12 @@ returns-clause-saturated c =
     let new = c.args.new.items in
     let more = c.in_ok-more.more.items in
     let facts : c.deref-2.result.now ≡ known ++ new = c.deref-2.ensures.value ∙ (c.in_ok-facts.ensures ∙ ap (λ l. known ++ l) c.deref.ensures.value) in
-    let added : (known ++ new) ++ more ≡ known ++ c.extend_from_slice.new.self.items =
-    append_assoc known new more ∙ ap (λ l. known ++ l) (sym (c.in_ok-extend_from_slice.ensures.items ∙ ap (λ l. new ++ l) c.deref-3.ensures.value)) in
-    subst (IsSaturated (known ++ new)) added (subst (λ l. IsSaturated l (l ++ more)) facts c.in_ok-more.ensures.saturated)
+    ok_then c.extend_from_slice.result c.extend_from_slice.new.self c.and.result _ _ c.and.ensures (where_ok c.extend_from_slice.result _ _ _ c.extend_from_slice.ensures.items)
+    (λ is.
+    subst (IsSaturated (known ++ new)) (append_assoc known new more ∙ ap (λ l. known ++ l) (sym (is ∙ ap (λ l. new ++ l) c.deref-3.ensures.value))) (subst (λ l. IsSaturated l (l ++ more)) facts c.in_ok-more.ensures.saturated))
 
 pub returns-clause-classes : goal.returns-clause-classes
 returns-clause-classes c =
-    subst HaveClasses (sym (c.in_ok-extend_from_slice.ensures.items ∙ ap (λ l. c.args.new.items ++ l) c.deref-3.ensures.value)) (app_have c.args.new.items c.in_ok-more.more.items c.requires.classes c.in_ok-more.ensures.classes)
+    let new = c.args.new.items in
+    ok_then c.extend_from_slice.result c.extend_from_slice.new.self c.and.result _ _ c.and.ensures (where_ok c.extend_from_slice.result _ _ _ c.extend_from_slice.ensures.items)
+    (λ is. subst HaveClasses (sym (is ∙ ap (λ l. new ++ l) c.deref-3.ensures.value)) (app_have new c.in_ok-more.more.items c.requires.classes c.in_ok-more.ensures.classes))

@@ -1,4 +1,5 @@
 use Rattle.std.proofs.Common.{◌≡◌, ◌++◌, ◌∙◌, ap, sym, subst}
+use Rattle.std.proofs.lemmas.Result.{IfOk-weaker}
 use Rattle.ix_facts.specs.declared.kind.Kind.TheVariants as kind
 use Rattle.ix_facts.specs.Closure.{IsClosedOf}
 use Rattle.ix_facts.specs.Kinds.{of_kind}
@@ -53,4 +54,4 @@ returns c =
     let are : AreBeside facts new ranges searches = record { closed = is_closed_known known; plain = c.requires.plain; met = met; answers = c.searches.ensures.all; only = c.searches.ensures.only } in
     let saturated : IsSaturated (facts ++ new) (facts ++ (new ++ more)) =
     subst (λ l. IsSaturated (facts ++ l) (facts ++ (l ++ more))) c.deref.ensures.value (c.in_ok-more.ensures.saturated facts (subst (λ l. AreBeside facts l ranges searches) (sym c.deref.ensures.value) are)) in
-    record { closed = subst (λ t. IsClosedOf (facts ++ new) (facts_of t)) (sym c.in_ok-over.ensures.over) (table_closed (facts ++ new) (facts ++ (new ++ more)) (facts_of whole) saturated all) }
+    record { closed = IfOk-weaker c.over_with.result _ _ (λ over is. subst (λ t. IsClosedOf (facts ++ new) (facts_of t)) (sym is) (table_closed (facts ++ new) (facts ++ (new ++ more)) (facts_of whole) saturated all)) c.over_with.ensures.over }

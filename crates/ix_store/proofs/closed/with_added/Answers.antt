@@ -1,4 +1,4 @@
-use Rattle.std.proofs.Common.{◌≡◌, ◌++◌, ◌∙◌, ap, sym, subst}
+use Rattle.std.proofs.Common.{◌≡◌, ◌++◌, sym, subst}
 use Rattle.ix_facts.specs.Closure.{IsClosedOf}
 use Rattle.ix_facts.specs.Kinds.{of_kind}
 use Rattle.ix_facts.specs.Systems.{IsTable}

@@ -1,5 +1,4 @@
 use Rattle.std.proofs.Common.{◌≡◌, ◌++◌, subst}
-use Rattle.ix_facts.specs.Closure.{IsClosedOf}
 use Rattle.ix_facts.specs.Kinds.{of_kind}
 use Rattle.ix_facts.specs.Systems.{IsTable}
 use Rattle.ix_closure.specs.FactTables.{facts_of, table_kind}

@@ -1,5 +1,6 @@
 use Rattle.std.specs.Prelude.{[]}
 use Rattle.std.proofs.Common.{sym, subst, ap, ◌∙◌}
+use Rattle.std.proofs.lemmas.Result.{IfOk-weaker}
 use Rattle.ix_facts.specs.Exact.{named_ints, named_arrays}
 use Rattle.ix_facts.specs.Named.{IsAmongPaths}
 use Rattle.ix_fact_list.specs.ByPath.{put_all}
@@ -20,8 +21,10 @@ ints_and_arrays_among-requires-clause-between c = differences_name_none c.around
 
 pub returns-clause-ints : goal.returns-clause-ints
 returns-clause-ints c =
-    c.in_ok-ints.ensures.ints ∙ (ap (λ l. put_all [] (named_ints l)) (sym c.around_differences.ensures.whole) ∙ ap (λ t. put_all [] (named_ints (facts_of t))) c.over.view_is)
+    let whole = ap (λ l. put_all [] (named_ints l)) (sym c.around_differences.ensures.whole) ∙ ap (λ t. put_all [] (named_ints (facts_of t))) c.over.view_is in
+    IfOk-weaker c.ints_and_arrays_among.result _ _ (λ paths is. is ∙ whole) c.ints_and_arrays_among.ensures.ints
 
 pub returns-clause-arrays : goal.returns-clause-arrays
 returns-clause-arrays c =
-    c.in_ok-ints.ensures.arrays ∙ (ap (λ l. put_all [] (named_arrays l)) (sym c.around_differences.ensures.whole) ∙ ap (λ t. put_all [] (named_arrays (facts_of t))) c.over.view_is)
+    let whole = ap (λ l. put_all [] (named_arrays l)) (sym c.around_differences.ensures.whole) ∙ ap (λ t. put_all [] (named_arrays (facts_of t))) c.over.view_is in
+    IfOk-weaker c.ints_and_arrays_among.result _ _ (λ paths is. is ∙ whole) c.ints_and_arrays_among.ensures.arrays

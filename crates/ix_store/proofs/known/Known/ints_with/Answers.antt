@@ -1,4 +1,5 @@
 use Rattle.std.proofs.Common.{ap, sym, subst, ◌∙◌}
+use Rattle.std.proofs.lemmas.Result.{IfOk-weaker}
 use Rattle.ix_facts.specs.Exact.{named_ints}
 use Rattle.ix_fact_list.specs.ByPath.{put_all}
 use Rattle.ix_fact_list.specs.PutLaws.{IsRising}
@@ -9,7 +10,9 @@ pub with_ints-requires : goal.with_ints-requires
 with_ints-requires c = record { rising = subst IsRising (sym c.deref.ensures.value) (known_rising c.args.self.now) }
 
 pub returns-clause-rising : goal.returns-clause-rising
-returns-clause-rising c = subst IsRising (sym (c.in_ok-ints.ensures ∙ ap (λ l. put_all l (named_ints c.args.new.now)) c.deref.ensures.value)) (grown_rising c.args.self.now c.args.new.now)
+returns-clause-rising c =
+    let new = named_ints c.args.new.now in
+    IfOk-weaker c.with_ints.result _ _ (λ ints is. subst IsRising (sym (is ∙ ap (λ l. put_all l new) c.deref.ensures.value)) (grown_rising c.args.self.now c.args.new.now)) c.with_ints.ensures
 
 pub returns-clause-told : goal.returns-clause-told
-returns-clause-told c t = c.in_ok-ints.ensures ∙ ap (λ l. put_all l (named_ints c.args.new.now)) c.deref.ensures.value
+returns-clause-told c = IfOk-weaker c.with_ints.result _ _ (λ ints is told. is ∙ ap (λ l. put_all l (named_ints c.args.new.now)) c.deref.ensures.value) c.with_ints.ensures

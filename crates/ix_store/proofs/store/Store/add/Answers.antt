@@ -1,4 +1,5 @@
 use Rattle.std.proofs.Common.{◌≡◌, ◌++◌, sym, subst, ap}
+use Rattle.std.proofs.lemmas.Result.{IfOk-weaker}
 use Rattle.ix_facts.specs.Closure.{kept}
 use Rattle.ix_facts.specs.Stores.{Reached, with_facts}
 use Rattle.ix_facts.specs.Systems.{HaveClasses}
@@ -14,9 +15,12 @@ with_new-requires c = record { classes = subst HaveClasses (sym c.in_ok-new.ensu
 pub returns : goal.returns
 returns c =
     let i = c.in-Some.is in
+    let more = c.args.more.now in
+    let new = c.in_ok-new.new.items in
     let known = facts_in c.in-Some.known in
     let is : stored c.args.self.now ≡ Reached known = cc in
     record {
-      after = given_by (with_facts c.args.more.now) (stored c.args.self.now) (stored c.in_ok-store.store) known _ is
-          (same_equal _ (known ++ kept c.args.more.now) (ap (λ l. known ++ l) c.in_ok-new.ensures.facts)) c.in_ok-store.ensures.store;
+      after = IfOk-weaker c.with_new.result _ _
+          (λ store made. given_by (with_facts more) (stored c.args.self.now) (stored store) known (known ++ new) is (same_equal (known ++ new) (known ++ kept more) (ap (λ l. known ++ l) c.in_ok-new.ensures.facts)) made)
+          c.with_new.ensures.store;
     }

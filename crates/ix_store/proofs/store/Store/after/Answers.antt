@@ -1,4 +1,5 @@
 use Rattle.std.proofs.Common.{◌≡◌, ◌++◌, subst, refl}
+use Rattle.std.proofs.lemmas.Result.{IfOk-weaker}
 use Rattle.ix_facts.specs.After.{of_target}
 use Rattle.ix_facts.specs.Facts.{in_orders}
 use Rattle.ix_facts.specs.Forget.{without}
@@ -34,4 +35,4 @@ returns c =
     let left : facts_in rest ≡ without (of_target kind) (facts_in known) = rest_left (of_target kind) known c.get.result.now c.in_ok-fewer.fewer c.get.ensures c.in_ok-fewer.ensures.same c.in_ok-fewer.ensures.fewer in
     let made : AreSame new (after_new (in_orders (facts_in rest)) profile kind) = subst (λ k. AreSame new (after_new (in_orders (facts_in k)) profile kind)) c.rest.ensures c.in_ok-new.ensures.facts in
     let same : AreSame (facts_in rest ++ new) (operated profile kind (facts_in known)) = after_is (facts_in known) (facts_in rest) new (facts_in rest ++ new) profile kind left made refl in
-    record { after = given_by (operated profile kind) (stored c.args.self.now) (stored c.in_ok-store.store) (facts_in known) (facts_in rest ++ new) is same c.in_ok-store.ensures.store }
+    record { after = IfOk-weaker c.behind.result _ _ (λ store made. given_by (operated profile kind) (stored c.args.self.now) (stored store) (facts_in known) (facts_in rest ++ new) is same made) c.behind.ensures.store }

@@ -1,4 +1,5 @@
 use Rattle.std.proofs.Common.{◌≡◌, ◌++◌, subst, refl}
+use Rattle.std.proofs.lemmas.Result.{IfOk-weaker}
 use Rattle.ix_facts.specs.Forget.{of_path, without}
 use Rattle.ix_facts.specs.Stores.{Reached, with_copy}
 use Rattle.ix_facts.specs.SameFacts.{AreSame}
@@ -34,4 +35,4 @@ returns c =
     let left : facts_in rest ≡ without (of_path target) (facts_in known) = rest_left (of_path target) known c.get.result.now c.in_ok-fewer.fewer c.get.ensures c.in_ok-fewer.ensures.same c.in_ok-fewer.ensures.fewer in
     let made : AreSame new (copy_new (facts_in rest) ty target source) = subst (λ k. AreSame new (copy_new (facts_in k) ty target source)) c.rest.ensures c.in_ok-new.ensures.facts in
     let same : AreSame (facts_in rest ++ new) (with_copy ty target source (facts_in known)) = copy_is (facts_in known) (facts_in rest) new (facts_in rest ++ new) ty target source left made refl in
-    record { after = given_by (with_copy ty target source) (stored c.args.self.now) (stored c.in_ok-store.store) (facts_in known) (facts_in rest ++ new) is same c.in_ok-store.ensures.store }
+    record { after = IfOk-weaker c.behind.result _ _ (λ store made. given_by (with_copy ty target source) (stored c.args.self.now) (stored store) (facts_in known) (facts_in rest ++ new) is same made) c.behind.ensures.store }

@@ -1,4 +1,5 @@
 use Rattle.std.proofs.Common.{◌≡◌, sym, subst}
+use Rattle.std.proofs.lemmas.Result.{IfOk-weaker}
 use Rattle.ix_facts.specs.Forget.{without}
 use Rattle.ix_facts.specs.Stores.{Reached, IsStoreOf, IsForgotten}
 use Rattle.ix_changes.specs.ChangedPaths.{is_changed}
@@ -16,5 +17,8 @@ returns c =
     let rest = rest_of known c.in_ok-fewer.fewer in
     let reached : stored c.args.self.now ≡ Reached (facts_in known) = cc in
     let left : facts_in rest ≡ without is (facts_in known) = rest_left is known c.get.result.now c.in_ok-fewer.fewer c.get.ensures c.in_ok-fewer.ensures.same c.in_ok-fewer.ensures.fewer in
-    let store : IsStoreOf (without is (facts_in known)) (stored c.in_ok-store.store) = subst (λ l. IsStoreOf l (stored c.in_ok-store.store)) left (subst (IsStoreOf (facts_in rest)) (sym c.in_ok-store.ensures) (known_store rest)) in
-    record { after = subst (λ s. IsForgotten is s (stored c.in_ok-store.store)) (sym reached) store }
+    record {
+      after = IfOk-weaker c.held.result _ _
+          (λ store holds. subst (λ s. IsForgotten is s (stored store)) (sym reached) (subst (λ l. IsStoreOf l (stored store)) left (subst (IsStoreOf (facts_in rest)) (sym holds) (known_store rest))))
+          c.held.ensures;
+    }

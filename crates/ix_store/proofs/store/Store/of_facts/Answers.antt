@@ -30,3 +30,18 @@ returns-in-Some c =
     let all : known ++ c.in_ok-told.told.items ≡ c.args.facts.now = ap (λ l. l ++ c.in_ok-told.told.items) c.in_ok-none.ensures.none ∙ told in
     let closed = at_some _ c.in-Some.over (λ more. IsClosedOf (known ++ c.in_ok-told.told.items) (facts_of more)) c.in-Some.is c.in_ok-grown.ensures.more in
     record { store = made_of c.of_table.result c.args.facts.now table c.of_table.ensures.store (subst (λ l. IsClosedOf l table) all closed) }
+
+pub invariant_of-none : goal.invariant_of-none
+invariant_of-none c =
+    let known = c.in_ok-none.none in
+    record { kind = known.kind; orders = known.orders; in_ends = known.in_ends; all_ends = known.all_ends; in_links = known.in_links; all_links = known.all_links; each_int = known.each_int; each_array = known.each_array; full = known.full; closed = known.closed; few = known.few }
+
+pub invariant_of-none-in_err-grown : goal.invariant_of-none-in_err-grown
+invariant_of-none-in_err-grown c =
+    let known = c.in_ok-none.none in
+    record { kind = known.kind; orders = known.orders; in_ends = known.in_ends; all_ends = known.all_ends; in_links = known.in_links; all_links = known.all_links; each_int = known.each_int; each_array = known.each_array; full = known.full; closed = known.closed; few = known.few }
+
+pub invariant_of-none-in-Some-branch-4 : goal.invariant_of-none-in-Some-branch-4
+invariant_of-none-in-Some-branch-4 c =
+    let known = c.in_ok-none.none in
+    record { kind = known.kind; orders = known.orders; in_ends = known.in_ends; all_ends = known.all_ends; in_links = known.in_links; all_links = known.all_links; each_int = known.each_int; each_array = known.each_array; full = known.full; closed = known.closed; few = known.few }

@@ -1,4 +1,5 @@
 use Rattle.std.proofs.Common.{◌≡◌, ◌++◌, subst}
+use Rattle.std.proofs.lemmas.Result.{IfOk-weaker}
 use Rattle.ix_facts.specs.Stores.{Reached, with_outcome}
 use Rattle.ix_facts.specs.SameFacts.{AreSame}
 use Rattle.ix_outcomes.specs.OverGroups.{outcome_of}
@@ -14,4 +15,4 @@ returns c =
     let new = c.in_ok-new.new.items in
     let is : stored c.args.self.now ≡ Reached (facts_in known) = cc in
     let same : AreSame (facts_in known ++ new) (rule (facts_in known)) = subst (λ k. AreSame (facts_in k ++ new) (rule (facts_in k))) c.get.ensures c.in_ok-new.ensures.facts in
-    record { after = given_by rule (stored c.args.self.now) (stored c.in_ok-store.store) (facts_in known) _ is same c.in_ok-store.ensures.store }
+    record { after = IfOk-weaker c.with_new.result _ _ (λ store made. given_by rule (stored c.args.self.now) (stored store) (facts_in known) (facts_in known ++ new) is same made) c.with_new.ensures.store }
