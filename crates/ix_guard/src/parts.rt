@@ -90,25 +90,21 @@ pub(crate) fn add_parts<'a>(expr: &'a Expr, found: &mut Parts<'a>) -> Result<(),
             if let Some(access) = own_access(array.get(), index.get()) {
                 return found.accesses.push(access).map_err(AllocError::from);
             }
-            add_parts(array.get(), found)?;
-            add_parts(index.get(), found)
+            add_parts(array.get(), found).and(add_parts(index.get(), found))
         }
         ExprKind::Call(None, _, args) => add_args(args.as_slice(), found),
         ExprKind::Call(Some(object), _, args) => {
-            add_parts(object.get(), found)?;
-            add_args(args.as_slice(), found)
+            add_parts(object.get(), found).and(add_args(args.as_slice(), found))
         }
         ExprKind::New(_, args) => add_args(args.as_slice(), found),
         ExprKind::NewArray(_, size) => add_parts(size.get(), found),
         ExprKind::NewItems(_, items) => add_items(items.as_slice(), found),
         ExprKind::Unary(_, operand) => add_parts(operand.get(), found),
         ExprKind::Binary(operator, left, right) => {
-            add_parts(left.get(), found)?;
-            add_right(*operator, right.get(), found)
+            add_parts(left.get(), found).and(add_right(*operator, right.get(), found))
         }
         ExprKind::Assign(_, target, value) => {
-            add_as_target(target.get(), found)?;
-            add_parts(value.get(), found)
+            add_as_target(target.get(), found).and(add_parts(value.get(), found))
         }
         ExprKind::Step { target, .. } => add_as_target(target.get(), found),
         ExprKind::Int(_) => Ok(()),

@@ -66,17 +66,17 @@ fn add_statement(
                 alloc, site, stmt.span, &tests, second, out,
             ))
         }
-        StmtKind::While(_, body) => add_statement(alloc, site, body.get(), false, out),
-        StmtKind::Do(body, _) => add_statement(alloc, site, body.get(), false, out),
-        StmtKind::For(_, _, _, body) => add_statement(alloc, site, body.get(), false, out),
-        StmtKind::Return(Some(value)) => add_around(alloc, site, stmt.span, value, out),
-        StmtKind::Print(value) => add_around(alloc, site, stmt.span, value, out),
-        StmtKind::Run(expr) => add_around(alloc, site, stmt.span, expr, out),
-        StmtKind::Return(None) => Ok(()),
-        StmtKind::Throw(_) => Ok(()),
-        StmtKind::Empty => Ok(()),
-        StmtKind::Break => Ok(()),
-        StmtKind::Continue => Ok(()),
+        StmtKind::While(_, body) | StmtKind::Do(body, _) | StmtKind::For(_, _, _, body) => {
+            add_statement(alloc, site, body.get(), false, out)
+        }
+        StmtKind::Return(Some(expr)) | StmtKind::Print(expr) | StmtKind::Run(expr) => {
+            add_around(alloc, site, stmt.span, expr, out)
+        }
+        StmtKind::Return(None)
+        | StmtKind::Throw(_)
+        | StmtKind::Empty
+        | StmtKind::Break
+        | StmtKind::Continue => Ok(()),
     }
 }
 

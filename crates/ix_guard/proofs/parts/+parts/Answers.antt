@@ -6,9 +6,8 @@ use Rattle.ix_guard.specs.Accesses as spec
 use Rattle.ix_guard.specs.Accesses.{Parts}
 use Rattle.ix_guard.specs.Shown.{seen}
 use Rattle.std.proofs.lemmas.List.{map-append}
-use Rattle.std.proofs.lemmas.Result.{on_ok_weaker}
 use Rattle.ix_guard.proofs.Inside.{joined, index_assigned, index_accesses, binary_assigned, binary_accesses, assign_parts, index_own}
-use Rattle.ix_text.proofs.Chained.{on_mapped}
+use Rattle.ix_text.proofs.Chained.{both_ok, on_mapped}
 use Rattle.ix_guard.proofs.Sums.{one_more}
 use Rattle.ix_guard.proofs.Truncated.{cut_where, vec_length}
 use Rattle.ix_guard.proofs.parts.+parts.Goals as goal
@@ -30,23 +29,23 @@ add_items-loop-item-preserved t c = (
   one_more (λ (l : List Init). (spec.all_init_parts l).assigned) (λ (x : Init). (spec.init_parts x).assigned) (λ _ _. refl) c.args.items.now c.loop-item.item-index c.item-item.result _ _ _ (search rules) (search rules) c.in_ok-add_initial.ensures.assigned c.loop-item.invariant.1,
 )
 
-pub add_parts-returns-in_ok-add_parts-in-Binary-clause-accesses : goal.add_parts-returns-in_ok-add_parts-in-Binary-clause-accesses
-add_parts-returns-in_ok-add_parts-in-Binary-clause-accesses t c = on_ok_weaker c.add_right.result (λ is. joined _ _ _ _ _ _ c.in_ok-add_parts-in-Binary.ensures.accesses is (binary_accesses c.args.expr.now c.in-Binary.left c.in-Binary.right _ _ c.in-Binary.operator c.in-Binary.is c.get-in-Binary.ensures c.get-in-Binary-2.ensures)) c.add_right.ensures.accesses
+pub add_parts-returns-in-Binary-clause-accesses : goal.add_parts-returns-in-Binary-clause-accesses
+add_parts-returns-in-Binary-clause-accesses t c = both_ok c.add_parts-in-Binary.result c.add_right.result c.and-in-Binary.result _ _ _ c.and-in-Binary.ensures c.add_parts-in-Binary.ensures.accesses c.add_right.ensures.accesses (λ one two. joined _ _ _ _ _ _ one two (binary_accesses c.args.expr.now c.in-Binary.left c.in-Binary.right _ _ c.in-Binary.operator c.in-Binary.is c.get-in-Binary.ensures c.get-in-Binary-2.ensures))
 
-pub add_parts-returns-in_ok-add_parts-in-Binary-clause-assigned : goal.add_parts-returns-in_ok-add_parts-in-Binary-clause-assigned
-add_parts-returns-in_ok-add_parts-in-Binary-clause-assigned t c = on_ok_weaker c.add_right.result (λ is. joined _ _ _ _ _ _ c.in_ok-add_parts-in-Binary.ensures.assigned is (binary_assigned c.args.expr.now c.in-Binary.left c.in-Binary.right _ _ c.in-Binary.operator c.in-Binary.is c.get-in-Binary.ensures c.get-in-Binary-2.ensures)) c.add_right.ensures.assigned
+pub add_parts-returns-in-Binary-clause-assigned : goal.add_parts-returns-in-Binary-clause-assigned
+add_parts-returns-in-Binary-clause-assigned t c = both_ok c.add_parts-in-Binary.result c.add_right.result c.and-in-Binary.result _ _ _ c.and-in-Binary.ensures c.add_parts-in-Binary.ensures.assigned c.add_right.ensures.assigned (λ one two. joined _ _ _ _ _ _ one two (binary_assigned c.args.expr.now c.in-Binary.left c.in-Binary.right _ _ c.in-Binary.operator c.in-Binary.is c.get-in-Binary.ensures c.get-in-Binary-2.ensures))
 
-pub add_parts-returns-in_ok-add_parts-in-Index-clause-assigned : goal.add_parts-returns-in_ok-add_parts-in-Index-clause-assigned
-add_parts-returns-in_ok-add_parts-in-Index-clause-assigned t c = on_ok_weaker c.add_parts-in-Index-2.result (λ is. joined _ _ _ _ _ _ c.in_ok-add_parts-in-Index.ensures.assigned is (index_assigned c.args.expr.now c.in-Index.array c.in-Index.index _ _ c.in-Index.is c.get-in-Index-3.ensures c.get-in-Index-4.ensures)) c.add_parts-in-Index-2.ensures.assigned
+pub add_parts-returns-in_default-clause-assigned : goal.add_parts-returns-in_default-clause-assigned
+add_parts-returns-in_default-clause-assigned t c = both_ok c.add_parts-in-Index.result c.add_parts-in-Index-2.result c.and.result _ _ _ c.and.ensures c.add_parts-in-Index.ensures.assigned c.add_parts-in-Index-2.ensures.assigned (λ one two. joined _ _ _ _ _ _ one two (index_assigned c.args.expr.now c.in-Index.array c.in-Index.index _ _ c.in-Index.is c.get-in-Index-3.ensures c.get-in-Index-4.ensures))
 
-pub add_parts-returns-in_ok-add_parts-in-Index-clause-accesses : goal.add_parts-returns-in_ok-add_parts-in-Index-clause-accesses
-add_parts-returns-in_ok-add_parts-in-Index-clause-accesses t c = on_ok_weaker c.add_parts-in-Index-2.result (λ is. joined _ _ _ _ _ _ c.in_ok-add_parts-in-Index.ensures.accesses is (index_accesses c.args.expr.now c.in-Index.array c.in-Index.index _ _ _ _ c.in-Index.is c.get-in-Index.ensures c.get-in-Index-2.ensures c.in_default.ensures c.get-in-Index-3.ensures c.get-in-Index-4.ensures)) c.add_parts-in-Index-2.ensures.accesses
+pub add_parts-returns-in_default-clause-accesses : goal.add_parts-returns-in_default-clause-accesses
+add_parts-returns-in_default-clause-accesses t c = both_ok c.add_parts-in-Index.result c.add_parts-in-Index-2.result c.and.result _ _ _ c.and.ensures c.add_parts-in-Index.ensures.accesses c.add_parts-in-Index-2.ensures.accesses (λ one two. joined _ _ _ _ _ _ one two (index_accesses c.args.expr.now c.in-Index.array c.in-Index.index _ _ _ _ c.in-Index.is c.get-in-Index.ensures c.get-in-Index-2.ensures c.in_default.ensures c.get-in-Index-3.ensures c.get-in-Index-4.ensures))
 
-pub add_parts-returns-in_ok-add_as_target-in-Assign-clause-accesses : goal.add_parts-returns-in_ok-add_as_target-in-Assign-clause-accesses
-add_parts-returns-in_ok-add_as_target-in-Assign-clause-accesses t c = on_ok_weaker c.add_parts-in-Assign.result (λ is. joined _ _ _ _ _ _ c.in_ok-add_as_target-in-Assign.ensures.accesses is (ap (λ (p : Parts). p.accesses) (assign_parts c.args.expr.now c.in-Assign.target c.in-Assign.value _ _ _ c.in-Assign.is c.get-in-Assign.ensures c.get-in-Assign-2.ensures))) c.add_parts-in-Assign.ensures.accesses
+pub add_parts-returns-in-Assign-clause-accesses : goal.add_parts-returns-in-Assign-clause-accesses
+add_parts-returns-in-Assign-clause-accesses t c = both_ok c.add_as_target.result c.add_parts-in-Assign.result c.and-in-Assign.result _ _ _ c.and-in-Assign.ensures c.add_as_target.ensures.accesses c.add_parts-in-Assign.ensures.accesses (λ one two. joined _ _ _ _ _ _ one two (ap (λ (p : Parts). p.accesses) (assign_parts c.args.expr.now c.in-Assign.target c.in-Assign.value _ _ _ c.in-Assign.is c.get-in-Assign.ensures c.get-in-Assign-2.ensures)))
 
-pub add_parts-returns-in_ok-add_as_target-in-Assign-clause-assigned : goal.add_parts-returns-in_ok-add_as_target-in-Assign-clause-assigned
-add_parts-returns-in_ok-add_as_target-in-Assign-clause-assigned t c = on_ok_weaker c.add_parts-in-Assign.result (λ is. joined _ _ _ _ _ _ c.in_ok-add_as_target-in-Assign.ensures.assigned is (ap (λ (p : Parts). p.assigned) (assign_parts c.args.expr.now c.in-Assign.target c.in-Assign.value _ _ _ c.in-Assign.is c.get-in-Assign.ensures c.get-in-Assign-2.ensures))) c.add_parts-in-Assign.ensures.assigned
+pub add_parts-returns-in-Assign-clause-assigned : goal.add_parts-returns-in-Assign-clause-assigned
+add_parts-returns-in-Assign-clause-assigned t c = both_ok c.add_as_target.result c.add_parts-in-Assign.result c.and-in-Assign.result _ _ _ c.and-in-Assign.ensures c.add_as_target.ensures.assigned c.add_parts-in-Assign.ensures.assigned (λ one two. joined _ _ _ _ _ _ one two (ap (λ (p : Parts). p.assigned) (assign_parts c.args.expr.now c.in-Assign.target c.in-Assign.value _ _ _ c.in-Assign.is c.get-in-Assign.ensures c.get-in-Assign-2.ensures)))
 
 pub add_parts-returns-in-Some-clause-accesses : goal.add_parts-returns-in-Some-clause-accesses
 add_parts-returns-in-Some-clause-accesses t c =
