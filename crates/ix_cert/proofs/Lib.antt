@@ -10,6 +10,7 @@ pub mod Found
 pub mod Numbers
 pub mod Counted
 pub mod OneFact
+pub mod FirstWords
 pub mod OneMeaning
 pub mod OneText
 pub mod SmallPaths

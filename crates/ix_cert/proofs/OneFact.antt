@@ -77,13 +77,13 @@ offset_first o x a b s t e =
 -- ---- a fact as it is given
 
 -- the first bytes of its word, which no other word has
-abbrev first_three : List ℕ → ℕ
+abbrev pub first_three : List ℕ → ℕ
 first_three text = get_or text 0 0 * 65536 + get_or text 1 0 * 256 + get_or text 2 0
 
-abbrev word_code : Fact → ℕ
+abbrev pub word_code : Fact → ℕ
 word_code f = first_three (word_of f)
 
-word_starts : (f : Fact) (x : List ℕ) → first_three (word_of f ++ x) ≡ word_code f
+pub word_starts : (f : Fact) (x : List ℕ) → first_three (word_of f ++ x) ≡ word_code f
 word_starts (Rng p l h) x = refl
 word_starts (LenRng a l h) x = refl
 word_starts (Low p c) x = refl

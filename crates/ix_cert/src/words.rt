@@ -10,7 +10,7 @@ ghost use Rattle.ix_core.specs.declared.fact.Fact.{Fact};
 ghost use Rattle.ix_cert.specs.Lines.{path_text};
 ghost use Rattle.ix_cert.specs.Reading.{IsSmall, IsSmallOffset, IsSmallFact, offset_text, args_text, given_text};
 
-use crate::cut::cut;
+use crate::cut::{behind, cut};
 use ix_core::{Fact, Path, PathOff};
 
 /// The bytes as text, where they are one.
@@ -191,34 +191,34 @@ fn upper(text: &[u8]) -> Option<Fact>
 pub(crate) fn fact(line: &[u8]) -> Option<Fact>
     ensures given { (fact : Fact) → IsSmallFact fact → line.now ≡ given_text fact → result ≡ Some fact }
 {
-    if let Some(rest) = line.strip_prefix(b"rng ") {
+    if let Some(rest) = behind(b"rng ", line) {
         return range(rest);
     }
-    if let Some(rest) = line.strip_prefix(b"len ") {
+    if let Some(rest) = behind(b"len ", line) {
         return length_range(rest);
     }
-    if let Some(rest) = line.strip_prefix(b"low ") {
+    if let Some(rest) = behind(b"low ", line) {
         return low(rest);
     }
-    if let Some(rest) = line.strip_prefix(b"same ") {
+    if let Some(rest) = behind(b"same ", line) {
         return same(rest);
     }
-    if let Some(rest) = line.strip_prefix(b"islen ") {
+    if let Some(rest) = behind(b"islen ", line) {
         return is_length(rest);
     }
-    if let Some(rest) = line.strip_prefix(b"less ") {
+    if let Some(rest) = behind(b"less ", line) {
         return less(rest);
     }
-    if let Some(rest) = line.strip_prefix(b"sum ") {
+    if let Some(rest) = behind(b"sum ", line) {
         return sum(rest);
     }
-    if let Some(rest) = line.strip_prefix(b"search ") {
+    if let Some(rest) = behind(b"search ", line) {
         return search(rest);
     }
-    if let Some(rest) = line.strip_prefix(b"neg ") {
+    if let Some(rest) = behind(b"neg ", line) {
         return negative(rest);
     }
-    if let Some(rest) = line.strip_prefix(b"upper ") {
+    if let Some(rest) = behind(b"upper ", line) {
         return upper(rest);
     }
     None
