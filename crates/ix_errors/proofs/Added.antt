@@ -1,6 +1,9 @@
 -- Errors that are added node by node.
 use Rattle.std.proofs.Common.{◌≡◌, ◌⊎◌, inl, inr, ◌↔◌, ◌+◌, ◌<◌, ℕ, zero, suc, List, [], ◌∷◌, ◌++◌, Some, length, slice_get, get_or, unwrap_or, arith, sym, ap, subst, ◌∙◌, append-nil}
+use Rattle.std.specs.Prelude.{Result, OnOk}
+use Rattle.std.specs.Result.{result_and}
 use Rattle.std.proofs.lemmas.Bool.{cases_lt}
+use Rattle.ix_text.proofs.Chained.{both_ok}
 use Rattle.ix_core.specs.declared.error.Error.{Error}
 use Rattle.ix_core.specs.declared.program.Method.{Method}
 use Rattle.ix_core.specs.declared.program.Program.{Program}
@@ -18,6 +21,12 @@ use Rattle.ix_labels.specs.StoredFacts.{stored}
 use Rattle.ix_labels.proofs.Filling.{get_front, get_last, ordered, ordered_there}
 use Rattle.ix_labels.proofs.Turns.{node_turn, node_within, turn_back, turn_of, turn_within}
 use Rattle.ix_errors.specs.NodeErrors.{AtNode}
+
+-- three calls behind one another
+pub three_ok : {T U V E : Type 0} (one : Result T E) (two between : Result U E) (three whole : Result V E) (A B C D : Type 0) → between ≡ result_and one two → whole ≡ result_and between three
+    → OnOk one A → OnOk two B → OnOk three C → (A → B → C → D) → OnOk whole D
+three_ok one two between three whole A B C D is last first second third so =
+    both_ok between three whole (A × B) C D last (both_ok one two between A B (A × B) is first second (λ a b. (a, b))) third (λ both c. so both.0 both.1 c)
 
 pub adds_none : (Derived : Error → ℕ → Type 0) (old : List Ranked) → ((error : Error) (rank : ℕ) → Derived error rank → ⊥) → AddsExactly Derived old old
 adds_none Derived old none = ([], sym (append-nil old), exactly_none Derived none)

@@ -65,6 +65,7 @@ pub(crate) fn push_method_errors<L: Ledger>(
 {
     let within = &program.methods.as_slice()[number as usize];
     let labels = label_runs(alloc, program, within, profile, steps)?;
-    push_of_overriding(alloc, out, program, within, number)?;
-    push_of_nodes(alloc, out, program, within, number, &labels)
+    push_of_overriding(alloc, out, program, within, number).and(push_of_nodes(
+        alloc, out, program, within, number, &labels,
+    ))
 }

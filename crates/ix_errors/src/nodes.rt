@@ -37,14 +37,14 @@ fn push_of_label(
     match kind {
         NodeKind::Do(done) => push_op_errors(alloc, out, label, program, within, number, done),
         NodeKind::Return(value, known, span) => {
-            push_return_errors(out, label, within, number, *value, *span)?;
-            push_constructor_errors(alloc, out, label, program, within)?;
-            push_post_errors(out, label, within, number, *value, *known, *span)
+            push_return_errors(out, label, within, number, *value, *span)
+                .and(push_constructor_errors(alloc, out, label, program, within))
+                .and(push_post_errors(out, label, within, number, *value, *known, *span))
         }
         NodeKind::End => {
-            push_constructor_errors(alloc, out, label, program, within)?;
-            push_missing_return(out, label, within)?;
-            push_post_errors(out, label, within, number, None, None, within.span)
+            push_constructor_errors(alloc, out, label, program, within)
+                .and(push_missing_return(out, label, within))
+                .and(push_post_errors(out, label, within, number, None, None, within.span))
         }
         _ => Ok(()),
     }
@@ -61,9 +61,9 @@ fn push_of_text(
 {
     match kind {
         NodeKind::Do(done) => {
-            push_effect_error(out, program, within, done)?;
-            push_assigned_parameter(out, within, done)?;
-            push_escapes_of(out, within, done)
+            push_effect_error(out, program, within, done)
+                .and(push_assigned_parameter(out, within, done))
+                .and(push_escapes_of(out, within, done))
         }
         NodeKind::Compare(test) => push_escapes_in(out, within, test),
         _ => Ok(()),
@@ -86,8 +86,9 @@ fn push_of_node(
     } }
     ensures { OnOk result (AddsExactly (NodeGives program.now within.now number (kind_of kind.now) (stored label.now)) out.old.items out.new.items) }
 {
-    push_of_label(alloc, out, program, within, number, kind, label)?;
-    push_of_text(out, program, within, kind)
+    push_of_label(alloc, out, program, within, number, kind, label).and(push_of_text(
+        out, program, within, kind,
+    ))
 }
 
 /// Those of all nodes, each by its label, which is made by that of the node before it in turn where it is not kept.
