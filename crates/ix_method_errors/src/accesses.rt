@@ -25,17 +25,18 @@ use std::alloc::AllocError;
 fn push_plain_if(out: &mut Vec<Ranked>, so: bool, rule: u8, span: Span) -> Result<(), AllocError>
     ensures { OnOk result (out.new.items ≡ out.old.items ++ plain_if so rule span) }
 {
-    if so {
-        out.push(Ranked {
-            error: Error {
-                rule,
-                span,
-                detail: Detail::Plain,
-            },
-            rank: 0,
-        })?;
+    if !so {
+        return Ok(());
     }
-    Ok(())
+    out.push(Ranked {
+        error: Error {
+            rule,
+            span,
+            detail: Detail::Plain,
+        },
+        rank: 0,
+    })
+    .map_err(AllocError::from)
 }
 
 /// `access.low`: the index isn't proved to be at least 0.
@@ -77,8 +78,7 @@ pub(crate) fn push_access_errors(
 ) -> Result<(), AllocError>
     ensures errors { OnOk result (AddsExactly (λ error rank. AccessLow index place (stored store.now) error rank ⊎ AccessHigh array index place (stored store.now) error rank) out.old.items out.new.items) }
 {
-    push_low_error(out, store, index, place)?;
-    push_high_error(out, store, array, index, place)
+    push_low_error(out, store, index, place).and(push_high_error(out, store, array, index, place))
 }
 
 /// `length.negative`: the length of a new array isn't proved to be at least 0.
@@ -151,8 +151,7 @@ pub(crate) fn push_new_array_errors(
 ) -> Result<(), AllocError>
     ensures errors { OnOk result (AddsExactly (λ error rank. LengthNegative size place (stored store.now) error rank ⊎ FreshElement ty.now size place (stored store.now) error rank) out.old.items out.new.items) }
 {
-    push_length_error(out, store, size, place)?;
-    push_fresh_errors(out, store, ty, size, place)
+    push_length_error(out, store, size, place).and(push_fresh_errors(out, store, ty, size, place))
 }
 
 fn push_refused_elements(

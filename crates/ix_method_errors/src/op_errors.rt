@@ -74,9 +74,9 @@ fn push_store_errors(
 ) -> Result<(), AllocError>
     ensures { OnOk result (AddsExactly (λ error rank. rules.AccessLow index done.now.span (stored store.now) error rank ⊎ (rules.AccessHigh array index done.now.span (stored store.now) error rank ⊎ rules.ElementClaim ty.now value (signs.part done.now 0) (stored store.now) error rank)) out.old.items out.new.items) }
 {
-    push_low_error(out, store, index, done.span)?;
-    push_high_error(out, store, array, index, done.span)?;
-    push_element_errors(out, store, ty, value, part(done, 0))
+    push_low_error(out, store, index, done.span)
+        .and(push_high_error(out, store, array, index, done.span))
+        .and(push_element_errors(out, store, ty, value, part(done, 0)))
 }
 
 /// The errors of an operation of a method, by the store before it: those of accesses, lengths and elements, of variables, of fields and of arguments.

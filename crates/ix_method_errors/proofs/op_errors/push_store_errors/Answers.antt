@@ -3,7 +3,8 @@ use Rattle.std.proofs.Common.{subst}
 use Rattle.ix_method.specs.StoredFacts.{stored}
 use Rattle.ix_sign_errors.specs.Exactly.{AddsExactly}
 use Rattle.ix_method.specs.SignErrors.{part}
-use Rattle.ix_sign_errors.proofs.Refused.{ok_adds_both}
+use Rattle.ix_sign_errors.proofs.Refused.{adds_both}
+use Rattle.ix_text.proofs.Chained.{both_ok}
 use Rattle.ix_method.specs.RuleErrors.{AccessLow, AccessHigh, ElementClaim}
 use Rattle.ix_method_errors.proofs.op_errors.push_store_errors.Goals as goal
 
@@ -20,5 +21,6 @@ returns c =
     let r = c.push_element_errors.result in
     let stored_by : OnOk r (AddsExactly element second last) =
     subst (λ place. OnOk r (AddsExactly (ElementClaim c.args.ty.now c.args.value place store) second last)) c.part.ensures c.push_element_errors.ensures.errors in
-    ok_adds_both low (λ error rank. high error rank ⊎ element error rank) c.args.out.now.items first last r c.in_ok-push_low_error.ensures
-    (ok_adds_both high element first second last r c.in_ok-push_high_error.ensures stored_by)
+    both_ok c.and.result r c.and-2.result _ _ _ c.and-2.ensures
+    (both_ok c.push_low_error.result c.push_high_error.result c.and.result _ _ (AddsExactly low c.args.out.now.items first × AddsExactly high first second) c.and.ensures c.push_low_error.ensures c.push_high_error.ensures (λ one two. (one, two)))
+    stored_by (λ both three. adds_both low (λ error rank. high error rank ⊎ element error rank) c.args.out.now.items first last both.0 (adds_both high element first second last both.1 three))
