@@ -1,2 +1,3 @@
 pub mod LowerParts
 pub mod NothingBelow
+pub mod FirstEntry
