@@ -1,1 +1,12 @@
 pub mod Outlined
+pub mod AccessesCounted
+pub mod OneAccess
+pub mod AccessesListed
+pub mod TestedPairs
+pub mod StandingOutlines
+pub mod GuardedStatements
+pub mod StandingExpressions
+pub mod StandingStatements
+pub mod StandingSources
+pub mod GuardedSources
+pub mod OneGuarded

@@ -17,8 +17,8 @@ use Rattle.ix_tree.specs.declared.decl.Unit.{Unit as Source}
 use Rattle.ix_meaning.specs.Bodies.{telling, all_told}
 use Rattle.ix_meaning.specs.Resolved.{Names, names}
 use Rattle.ix_meaning.specs.Source.{has_constructor}
-use Rattle.ix_counts.specs.Few.{DeclaresFew, DeclaresFewInClass}
-use Rattle.ix_counts.proofs.FewDeclarations.{few_members, each_member_few, few_in_body}
+use Rattle.ix_meaning.specs.Few.{DeclaresFew, DeclaresFewInClass}
+use Rattle.ix_meaning.proofs.FewDeclarations.{few_members, each_member_few, few_in_body}
 use Rattle.ix_plain.specs.declared.body.Body.{Body}
 use Rattle.ix_plain.specs.declared.numbers.Next.{Next}
 use Rattle.ix_plain.specs.Members.{next_behind, first_numbers, is_static, slot_behind}

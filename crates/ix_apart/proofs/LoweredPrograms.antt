@@ -5,7 +5,7 @@ use Rattle.ix_core.specs.Formed.{Formed}
 use Rattle.ix_tree.specs.declared.decl.Unit.{Unit as Source}
 use Rattle.ix_meaning.specs.Resolved.{Accepts, names}
 use Rattle.ix_plain.specs.Program.{program}
-use Rattle.ix_counts.proofs.FewDeclarations.{few_members}
+use Rattle.ix_meaning.proofs.FewDeclarations.{few_members}
 use Rattle.ix_formed.specs.Parsed.{IsParsed}
 use Rattle.ix_formed.proofs.FieldsFit.{IsAccepted}
 use Rattle.ix_formed.proofs.FormedSources.{formed_source, source_apart}

@@ -15,13 +15,13 @@ use Rattle.ix_grammar.specs.Refusals.{HasTree}
 use Rattle.ix_descent.specs.Rule.{Outcome, run}
 use Rattle.ix_descent.specs.SourceRules.{source as source_rule}
 use Rattle.ix_parser.proofs.Refusing.{placed, can_resolve, only_tree, no_tree}
-use Rattle.ix_parsed.specs.IntTokens.{HaveInts}
-use Rattle.ix_parsed.proofs.LexedInts.{tokens_have_ints}
-use Rattle.ix_parsed.proofs.ParsedTrees.{parsed}
+use Rattle.ix_formed.specs.IntTokens.{HaveInts}
+use Rattle.ix_formed.proofs.LexedInts.{tokens_have_ints}
+use Rattle.ix_formed.proofs.ParsedTrees.{parsed}
 use Rattle.ix_meaning.specs.Resolved.{Accepts, names}
 use Rattle.ix_formed.specs.Parsed.{IsParsed}
 use Rattle.ix_formed.proofs.FormedSources.{formed_source}
-use Rattle.ix_counts.proofs.FewDeclarations.{few_members}
+use Rattle.ix_meaning.proofs.FewDeclarations.{few_members}
 use Rattle.ix_apart.proofs.LoweredPrograms.{lowered_methods_few, lowered_few, lowered_apart}
 use Rattle.ix_plain.specs.Program.{program as program_of}
 use Rattle.ix_finding.specs.Found.{Finding, Found, too_long, no_tokens, lexed, no_tree as untreed, tree, FoundIn, passes_limit, misnames, inherits, too_big, named}

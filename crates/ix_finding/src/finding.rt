@@ -7,7 +7,7 @@ ghost use Rattle.ix_table.specs.Numbered.{shown};
 ghost use Rattle.ix_grammar.specs.Refusals.{IsWithin as TokenWithin};
 ghost use Rattle.ix_tree.specs.Placed.{Placed};
 ghost use Rattle.ix_formed.specs.Parsed.{IsParsed};
-ghost use Rattle.ix_parsed.specs.IntTokens.{HaveInts};
+ghost use Rattle.ix_formed.specs.IntTokens.{HaveInts};
 ghost use Rattle.ix_finding.specs.Found as spec;
 ghost use Rattle.ix_finding.specs.Findings.{seen, IsPlaced, HasFormed};
 
@@ -118,7 +118,7 @@ fn of_lower_error(why: LowerError) -> Option<Finding>
 }
 
 /// What a source is whose names mean what the table says.
-#[tactic(auto, using(ix_counts::proofs::FewDeclarations::few_classes, ix_counts::proofs::FewDeclarations::few_members))]
+#[tactic(auto, using(ix_meaning::proofs::FewDeclarations::few_classes, ix_meaning::proofs::FewDeclarations::few_members))]
 fn of_lowered(alloc: Global, unit: &Unit, table: &Table) -> Result<Finding, AllocError>
     requires { record {
       parsed : IsParsed unit.now;

@@ -79,3 +79,7 @@ pub mod ClassFields
 pub mod FieldsInitialised
 pub mod DefaultConstructors
 pub mod FormedSources
+pub mod LexedInts
+pub mod ParsedExpressions
+pub mod ParsedStatements
+pub mod ParsedTrees

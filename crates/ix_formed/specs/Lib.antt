@@ -15,3 +15,5 @@ pub mod Readable
 pub mod TypedParts
 pub mod LocalTypes
 pub mod Parsed
+-- Tokens whose literals are ints.
+pub mod IntTokens

@@ -1,7 +1,8 @@
-//! What every program that lowering gives has: it is `Formed`, as `ix_core` defines it.
+//! What every tree has that the grammar writes, and what every program has that lowering gives of one: it is `Formed`, as `ix_core` defines it.
 //!
-//! What goes in and what comes out: nothing; these are laws over the definition of the plain form.
-//! The contract: the lemmas of `proofs/`, each named for what it says; `formed_source` of `FormedSources` is the whole.
-//! They stand on the plain form of `ix_plain`, the meanings of `ix_meaning` and `Formed` of `ix_core`.
-//! They never look at how anything is computed.
+//! What goes in and what comes out: nothing; these are laws over the grammar as a relation and over the definition of the plain form.
+//! The contract: the lemmas of `proofs/`, each named for what it says. `parsed` of `ParsedTrees`: a tree of the tokens of a text is one that lowering rests on (`IsParsed`);
+//! `formed_source` of `FormedSources`: the program of such a tree is formed.
+//! They stand on the grammar of `ix_grammar`, the tokens of `ix_lexer`, the plain form of `ix_plain`, the meanings of `ix_meaning` and `Formed` of `ix_core`.
+//! They never look at how anything is computed, nor at how a text or its tokens are read.
 #![tactic(auto)]

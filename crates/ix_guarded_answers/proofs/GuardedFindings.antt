@@ -18,8 +18,8 @@ use Rattle.ix_finding.proofs.BytesFound.{some_is}
 use Rattle.ix_finding.proofs.FoundPrograms.{tree_parsed}
 use Rattle.ix_guarding.specs.Derived.{Derives}
 use Rattle.ix_guarding.proofs.DerivedAnswers.{derived_many, derived_tree}
-use Rattle.ix_guarded_names.proofs.GuardedAgain.{derived_accepts}
-use Rattle.ix_guarded_names.proofs.ParsedJoint.{parsed_joint}
+use Rattle.ix_guarded_text.proofs.GuardedAgain.{derived_accepts}
+use Rattle.ix_guarded_text.proofs.ParsedJoint.{parsed_joint}
 use Rattle.ix_guarding.specs.Guarding.{IsGuarded, IsNamed, tree_by}
 use Rattle.ix_guarding.proofs.DerivedGuards.{text_derives}
 use Rattle.ix_guarded_answers.specs.Findings.{MayBeGuarded}

@@ -13,7 +13,7 @@ use Rattle.ix_tree.specs.declared.decl.Member.{Member}
 use Rattle.ix_tree.specs.declared.decl.MethodDecl.{MethodDecl}
 use Rattle.ix_tree.specs.declared.expr.Expr.{Expr}
 use Rattle.ix_tree.specs.declared.expr.Init.{Init}
-use Rattle.ix_bare.specs.Bare.{bare_maybe}
+use Rattle.ix_moved.specs.Bare.{bare_maybe}
 use Rattle.ix_meaning.specs.declared.note.Which.TheVariants as which
 use Rattle.ix_plain.specs.declared.body.Body.{Body}
 use Rattle.ix_plain.specs.declared.made.Made.{Made}
@@ -30,22 +30,22 @@ use Rattle.ix_formed.specs.Readable.{is_readable_expr, is_readable_init, is_read
 use Rattle.ix_formed.specs.Written.{maybe_true, each_true}
 use Rattle.ix_formed.proofs.PlainItems.{makes_more, makes_then, made_is}
 use Rattle.ix_formed.proofs.PlainMethods.{each_readable}
-use Rattle.ix_kept_steps.specs.Running.{Ground}
-use Rattle.ix_kept_steps.specs.SoundStatements.{statement_soundness, where_made, each_sound}
+use Rattle.ix_kept_runs.specs.Running.{Ground}
+use Rattle.ix_kept_runs.specs.SoundStatements.{statement_soundness, where_made, each_sound}
 use Rattle.ix_well_named.proofs.SoundRuns.{runs_are}
 use Rattle.ix_guard.specs.Accesses.{Access}
 use Rattle.ix_guard.specs.Tests.{Site}
-use Rattle.ix_guarded_code.specs.Known.{Unknown, accessed}
-use Rattle.ix_guarded_code.specs.Guards.{Guards, Guarded, does, ends}
-use Rattle.ix_guarded_code.specs.Pieces.{IsElsewhere}
-use Rattle.ix_guarded_code.proofs.GuardedPieces.{elsewhere}
+use Rattle.ix_guarded_bodies.specs.Known.{Unknown, accessed}
+use Rattle.ix_guarded_bodies.specs.Guards.{Guards, Guarded, does, ends}
+use Rattle.ix_guarded_bodies.specs.Pieces.{IsElsewhere}
+use Rattle.ix_guarded_bodies.proofs.GuardedPieces.{elsewhere}
 use Rattle.ix_moved.specs.Moved.{Move, moved_span, moved_expr, moved_init, moved_decl}
-use Rattle.ix_guarded_plain.specs.TestParts.{Parts}
-use Rattle.ix_guarded_plain.specs.GuardedPlaces as placed
-use Rattle.ix_guarded_plain.specs.GuardedPlaces.{Each, PlacedMember, PlacedMethod}
+use Rattle.ix_guarded_bodies.specs.TestParts.{Parts}
+use Rattle.ix_guarded_bodies.specs.GuardedPlaces as placed
+use Rattle.ix_guarded_bodies.specs.GuardedPlaces.{Each, PlacedMember, PlacedMethod}
 use Rattle.ix_accesses.specs.AllAccesses.{all_accesses, init_accesses, decl_accesses, maybe, each_of}
 use Rattle.ix_accesses.specs.AtPlace.{HasNone}
-use Rattle.ix_kept_slots.specs.KeptSlots.{Leaves}
+use Rattle.ix_guarded_bodies.specs.KeptSlots.{Leaves}
 use Rattle.ix_accesses.specs.SourceGuards.{MemberGuards, GuardsAt, args_accesses}
 use Rattle.ix_guarded_bodies.specs.Laws.{Laws}
 use Rattle.ix_guarded_bodies.proofs.Growing.{with_sound, Grows, grows_none, grows_both, grows_item, elsewhere_known}

@@ -16,15 +16,15 @@ use Rattle.ix_plain.specs.Values.{lowering}
 use Rattle.ix_plain.specs.Statements.{Inside, Tested, Evaluated, scope_for, evaluated, behind_value, used, ran, tested, inside, in_loop, most_loops}
 use Rattle.ix_formed.specs.Additions.{Makes}
 use Rattle.ix_formed.proofs.PlainItems.{makes_more, makes_then}
-use Rattle.ix_kept_steps.specs.SoundStatements.{where_made, begun}
-use Rattle.ix_guarded_code.specs.Known as flow
-use Rattle.ix_guarded_code.specs.Known.{Known, Unknown, Says}
-use Rattle.ix_guarded_code.specs.Guards.{Guarded, GuardedAsked, ends}
-use Rattle.ix_guarded_code.specs.Pieces.{IsElsewhere, Keeps}
-use Rattle.ix_guarded_code.proofs.Saying.{says_itself, says_unknown}
-use Rattle.ix_guarded_code.proofs.GuardedPieces.{guarded_more, elsewhere, elsewhere_asked, keeps, keeps_asked}
-use Rattle.ix_guarded_code.proofs.GuardedItems.{items_then}
-use Rattle.ix_kept_slots.specs.KeptSlots.{Leaves, LeavesAsked, Appends}
+use Rattle.ix_kept_runs.specs.SoundStatements.{where_made, begun}
+use Rattle.ix_guarded_bodies.specs.Known as flow
+use Rattle.ix_guarded_bodies.specs.Known.{Known, Unknown, Says}
+use Rattle.ix_guarded_bodies.specs.Guards.{Guarded, GuardedAsked, ends}
+use Rattle.ix_guarded_bodies.specs.Pieces.{IsElsewhere, Keeps}
+use Rattle.ix_guarded_bodies.proofs.Saying.{says_itself, says_unknown}
+use Rattle.ix_guarded_bodies.proofs.GuardedPieces.{guarded_more, elsewhere, elsewhere_asked, keeps, keeps_asked}
+use Rattle.ix_guarded_bodies.proofs.GuardedItems.{items_then}
+use Rattle.ix_guarded_bodies.specs.KeptSlots.{Leaves, LeavesAsked, Appends}
 use Rattle.ix_guarded_bodies.specs.Laws.{LowersEach}
 
 -- ---- what was made

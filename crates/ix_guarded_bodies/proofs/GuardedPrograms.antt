@@ -9,11 +9,11 @@ use Rattle.ix_meaning.specs.Resolved.{Names, names, Accepts}
 use Rattle.ix_meaning.specs.Source.{members_in}
 use Rattle.ix_plain.specs.Program.{program}
 use Rattle.ix_formed.specs.Parsed.{IsParsed}
-use Rattle.ix_kept_steps.specs.Running.{Ground}
-use Rattle.ix_guarded_code.specs.Guards.{Guards}
+use Rattle.ix_kept_runs.specs.Running.{Ground}
+use Rattle.ix_guarded_bodies.specs.Guards.{Guards}
 use Rattle.ix_moved.specs.Moved.{Move, moved_span}
-use Rattle.ix_guarded_plain.specs.GuardedPlaces.{PlacedSource}
-use Rattle.ix_guarded_plain.specs.GuardedNames.{SaysMoved, IsMeant}
+use Rattle.ix_guarded_bodies.specs.GuardedPlaces.{PlacedSource}
+use Rattle.ix_guarded_bodies.specs.GuardedNames.{SaysMoved, IsMeant}
 use Rattle.ix_accesses.specs.SourceGuards.{SourceGuards}
 use Rattle.ix_guarded_bodies.proofs.LawsHold.{laws_hold}
 use Rattle.ix_guarded_bodies.proofs.ProgramsGuarded.{guarded_bodies}

@@ -19,26 +19,26 @@ use Rattle.ix_plain.specs.Statements.{scope_for, declarations}
 use Rattle.ix_formed.specs.Additions.{Makes}
 use Rattle.ix_formed.specs.Readable.{is_readable_expr, is_readable_decl}
 use Rattle.ix_formed.specs.Written.{each_true}
-use Rattle.ix_kept_steps.specs.Running.{Ground}
-use Rattle.ix_kept_steps.specs.SoundStatements.{ran_at, declared_sound}
-use Rattle.ix_bare.specs.Bare.{bare_maybe}
+use Rattle.ix_kept_runs.specs.Running.{Ground}
+use Rattle.ix_kept_runs.specs.SoundStatements.{ran_at, declared_sound}
+use Rattle.ix_moved.specs.Bare.{bare_maybe}
 use Rattle.ix_guard.specs.Accesses.{Access, parts_of, all_decl_parts}
 use Rattle.ix_guard.specs.Tests.{Site, is_variable, same_variable}
-use Rattle.ix_guarded_code.specs.Pieces.{IsElsewhere, Keeps}
-use Rattle.ix_guarded_plain.specs.GuardedNames.{SaysMoved}
-use Rattle.ix_guarded_plain.proofs.PartsMoved.{assigned_moved, decls_assigned_moved}
+use Rattle.ix_guarded_bodies.specs.Pieces.{IsElsewhere, Keeps}
+use Rattle.ix_guarded_bodies.specs.GuardedNames.{SaysMoved}
+use Rattle.ix_guarded_bodies.proofs.PartsMoved.{assigned_moved, decls_assigned_moved}
 use Rattle.ix_moved.specs.Moved.{Move, moved_span, moved_name, moved_expr, moved_init, moved_decl, moved_stmt}
 use Rattle.ix_accesses.specs.AllAccesses.{AnyAccess, all_accesses, init_accesses, decl_accesses, each_of}
 use Rattle.ix_accesses.specs.AtPlace.{HasNone, stmt_accesses}
-use Rattle.ix_kept_slots.specs.InScope.{IsAt, IsUnnamed, Calls, OnlyOf}
-use Rattle.ix_kept_slots.specs.KeptSlots.{AreBelow, Leaves, Leaving}
-use Rattle.ix_kept_slots.proofs.AccessesMoved.{moved_any, accesses_moved, init_accesses_moved, decls_accesses_moved}
-use Rattle.ix_kept_slots.proofs.StatementsMoved.{stmt_accesses_moved}
-use Rattle.ix_kept_slots.proofs.KeptNames.{kept_variable, kept_unassigned}
-use Rattle.ix_kept_slots.proofs.SoundKept.{named_at, variable_some, Spares, AreAt, are_below, sound_kept, declared_kept}
-use Rattle.ix_kept_slots.proofs.KeptPieces.{kept_leaving, kept_declarations}
-use Rattle.ix_kept_slots.proofs.Elsewhere.{expression_elsewhere, initialiser_elsewhere}
-use Rattle.ix_kept_slots.proofs.ElsewhereStatements.{statement_elsewhere}
+use Rattle.ix_guarded_bodies.specs.InScope.{IsAt, IsUnnamed, Calls, OnlyOf}
+use Rattle.ix_guarded_bodies.specs.KeptSlots.{AreBelow, Leaves, Leaving}
+use Rattle.ix_guarded_bodies.proofs.AccessesMoved.{moved_any, accesses_moved, init_accesses_moved, decls_accesses_moved}
+use Rattle.ix_guarded_bodies.proofs.StatementsMoved.{stmt_accesses_moved}
+use Rattle.ix_guarded_bodies.proofs.KeptNames.{kept_variable, kept_unassigned}
+use Rattle.ix_guarded_bodies.proofs.SoundKept.{named_at, variable_some, Spares, AreAt, are_below, sound_kept, declared_kept}
+use Rattle.ix_guarded_bodies.proofs.KeptPieces.{kept_leaving, kept_declarations}
+use Rattle.ix_guarded_bodies.proofs.Elsewhere.{expression_elsewhere, initialiser_elsewhere}
+use Rattle.ix_guarded_bodies.proofs.ElsewhereStatements.{statement_elsewhere}
 use Rattle.ix_accesses.specs.SourceGuards.{AreKept}
 use Rattle.ix_guarded_bodies.specs.Laws.{LowersEach, IsInSlot, AreInSlots, changes_of, Laws}
 use Rattle.ix_accesses.specs.SourceGuards.{HasOnly}

@@ -1,3 +1,34 @@
+pub mod Saying
+pub mod GuardedPieces
+pub mod GuardedItems
+-- What expressions become, for any property of operations.
+pub mod KeptItems
+pub mod KeptForms
+pub mod KeptExpressions
+pub mod FullExpressions
+pub mod Declarations
+-- The two properties.
+pub mod KeptFits
+-- Code that keeps what a test tells.
+pub mod AssignedApart
+pub mod KeptPieces
+pub mod KeptNames
+pub mod KeptSound
+pub mod SoundKept
+-- Code without an access at a place.
+pub mod Elsewhere
+pub mod ElsewhereStatements
+-- Trees with moved places.
+pub mod AccessesMoved
+pub mod StatementsMoved
+pub mod PartsLower
+pub mod Comparisons
+pub mod NothingAssigned
+pub mod TestLowers
+pub mod GuardLowers
+pub mod MadeWithRoom
+pub mod TestKeeps
+mod RowsTests
 -- What lowering adds, and what a statement of one full expression, a choice and a loop add, where their parts are guarded.
 pub mod Growing
 pub mod Compounds
@@ -14,5 +45,6 @@ pub mod ProgramsGuarded
 pub mod NoneInOutlines
 pub mod LawsHold
 pub mod GuardedPrograms
--- Passed on from ix_guarded_plain.
-pub use Rattle.ix_guarded_plain.proofs.SourcePlaces
+-- Passed on from ix_guarded_text.
+pub use Rattle.ix_guarded_text.proofs.PartsMoved
+pub use Rattle.ix_guarded_text.proofs.SourcePlaces

@@ -27,20 +27,20 @@ use Rattle.ix_formed.specs.Shape.{IsMethod, IsDefault, IsOneDefault, IfElse, Are
 use Rattle.ix_formed.specs.Written.{each_true}
 use Rattle.ix_formed.proofs.AllMethods.{program_has}
 use Rattle.ix_formed.proofs.NumberLists.{all_joined}
-use Rattle.ix_kept_steps.specs.Running.{Ground}
-use Rattle.ix_kept_steps.specs.SoundBodies.{IsSoundMethod, begins_sound}
-use Rattle.ix_kept_steps.specs.SoundStatements.{statement_soundness, where_made, each_sound}
+use Rattle.ix_kept_runs.specs.Running.{Ground}
+use Rattle.ix_kept_runs.specs.SoundBodies.{IsSoundMethod, begins_sound}
+use Rattle.ix_kept_runs.specs.SoundStatements.{statement_soundness, where_made, each_sound}
 use Rattle.ix_well_named.specs.Bodies.{AreSoundClasses}
 use Rattle.ix_well_named.proofs.SourcesSound.{sound_source, tables_give}
 use Rattle.ix_guard.specs.Accesses.{Access}
 use Rattle.ix_guard.specs.Tests.{Site}
-use Rattle.ix_guarded_code.specs.Known.{Unknown}
-use Rattle.ix_guarded_code.specs.Guards.{Guards, ends}
+use Rattle.ix_guarded_bodies.specs.Known.{Unknown}
+use Rattle.ix_guarded_bodies.specs.Guards.{Guards, ends}
 use Rattle.ix_moved.specs.Moved.{Move, moved_span}
-use Rattle.ix_guarded_plain.specs.TestParts.{Parts}
-use Rattle.ix_guarded_plain.specs.GuardedPlaces as placed
-use Rattle.ix_guarded_plain.specs.GuardedPlaces.{Each, PlacedMember, PlacedClass, PlacedSource}
-use Rattle.ix_guarded_plain.specs.GuardedNames.{IsMeant}
+use Rattle.ix_guarded_bodies.specs.TestParts.{Parts}
+use Rattle.ix_guarded_bodies.specs.GuardedPlaces as placed
+use Rattle.ix_guarded_bodies.specs.GuardedPlaces.{Each, PlacedMember, PlacedClass, PlacedSource}
+use Rattle.ix_guarded_bodies.specs.GuardedNames.{IsMeant}
 use Rattle.ix_accesses.specs.SourceGuards.{MemberGuards, ClassGuards, SourceGuards}
 use Rattle.ix_guarded_bodies.specs.Laws.{Laws}
 use Rattle.ix_guarded_bodies.proofs.BodiesGuarded.{default_guards, written_guards}

@@ -13,7 +13,7 @@ use Rattle.ix_tree.specs.declared.stmt.Stmt.{Stmt}
 use Rattle.ix_tree.specs.declared.stmt.StmtKind.{StmtKind-F}
 use Rattle.ix_tree.specs.declared.stmt.StmtKind.TheVariants as s
 use Rattle.ix_tree.proofs.FoldsOfForms as fold
-use Rattle.ix_bare.specs.Bare.{bare_maybe}
+use Rattle.ix_moved.specs.Bare.{bare_maybe}
 use Rattle.ix_plain.specs.declared.body.Body.{Body}
 use Rattle.ix_plain.specs.Assigned.{assigns}
 use Rattle.ix_plain.specs.Scope.{type_at}
@@ -24,26 +24,26 @@ use Rattle.ix_formed.specs.Readable.{Statement, stmt_shape, is_part, or_part, ea
 use Rattle.ix_formed.specs.Written.{maybe_true, each_true}
 use Rattle.ix_formed.proofs.NumberLists.{all_so, all_joined}
 use Rattle.ix_formed.proofs.PlainItems.{makes_more, makes_then}
-use Rattle.ix_kept_steps.specs.Running.{Ground, standing}
-use Rattle.ix_kept_steps.specs.Sound.{soundness}
-use Rattle.ix_kept_steps.specs.SoundStatements as sound
-use Rattle.ix_kept_steps.specs.SoundStatements.{StatementSoundness, statement_soundness, where_made, used_at, ran_at, used_if}
+use Rattle.ix_kept_runs.specs.Running.{Ground, standing}
+use Rattle.ix_kept_runs.specs.Sound.{soundness}
+use Rattle.ix_kept_runs.specs.SoundStatements as sound
+use Rattle.ix_kept_runs.specs.SoundStatements.{StatementSoundness, statement_soundness, where_made, used_at, ran_at, used_if}
 use Rattle.ix_well_named.proofs.SoundRuns.{running_is}
 use Rattle.ix_guard.specs.Accesses.{Access, parts_of, all_decl_parts, Parts as Read}
 use Rattle.ix_guard.specs.Tests.{Site, is_variable}
 use Rattle.ix_guard.specs.Trees.{statement, expression_tested, declaration_tested, returning, tested as tested_by}
-use Rattle.ix_guarded_code.specs.Known.{Known, Nowhere, Unknown, Inside}
-use Rattle.ix_guarded_code.specs.Guards.{ends, breaks, continues, throws}
-use Rattle.ix_guarded_code.specs.Pieces.{IsElsewhere, Keeps}
-use Rattle.ix_guarded_code.proofs.Saying.{says_unknown}
+use Rattle.ix_guarded_bodies.specs.Known.{Known, Nowhere, Unknown, Inside}
+use Rattle.ix_guarded_bodies.specs.Guards.{ends, breaks, continues, throws}
+use Rattle.ix_guarded_bodies.specs.Pieces.{IsElsewhere, Keeps}
+use Rattle.ix_guarded_bodies.proofs.Saying.{says_unknown}
 use Rattle.ix_moved.specs.Moved as moved
 use Rattle.ix_moved.specs.Moved.{Move, moved_span, moved_expr, moved_decl, moved_stmt}
-use Rattle.ix_guarded_plain.specs.TestParts.{Parts}
-use Rattle.ix_guarded_plain.specs.GuardedPlaces as placed
-use Rattle.ix_guarded_plain.specs.GuardedPlaces.{AreTests, Inner, Alone, InList}
+use Rattle.ix_guarded_bodies.specs.TestParts.{Parts}
+use Rattle.ix_guarded_bodies.specs.GuardedPlaces as placed
+use Rattle.ix_guarded_bodies.specs.GuardedPlaces.{AreTests, Inner, Alone, InList}
 use Rattle.ix_accesses.specs.AllAccesses.{AnyAccess, all_accesses, decl_accesses, maybe, each_of}
 use Rattle.ix_accesses.specs.AtPlace.{IsOff, HasNone}
-use Rattle.ix_kept_slots.specs.KeptSlots.{Leaves, Appends}
+use Rattle.ix_guarded_bodies.specs.KeptSlots.{Leaves, Appends}
 use Rattle.ix_accesses.specs.Outlines.{Outline, outline, outlines, everything}
 use Rattle.ix_accesses.specs.SourceGuards as source
 use Rattle.ix_accesses.specs.SourceGuards.{IsAmong, HasOnly, IsBehind, Guards}

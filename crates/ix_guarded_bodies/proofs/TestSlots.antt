@@ -17,13 +17,13 @@ use Rattle.ix_tree.proofs.FoldsOfForms as fold
 use Rattle.ix_meaning.specs.declared.note.Meaning.{Meaning}
 use Rattle.ix_meaning.specs.declared.note.Meaning.TheVariants as meaning
 use Rattle.ix_plain.specs.Scope.{slot_of, meaning_at, type_at}
-use Rattle.ix_kept_steps.specs.Along.{Setting}
-use Rattle.ix_kept_steps.specs.Running.{Ground, owner, in_scope}
-use Rattle.ix_kept_steps.specs.Sound as sound
-use Rattle.ix_kept_steps.specs.Sound.{Soundness, soundness, used, both_used}
+use Rattle.ix_kept_runs.specs.Along.{Setting}
+use Rattle.ix_kept_runs.specs.Running.{Ground, owner, in_scope}
+use Rattle.ix_kept_runs.specs.Sound as sound
+use Rattle.ix_kept_runs.specs.Sound.{Soundness, soundness, used, both_used}
 use Rattle.ix_guard.specs.Tests.{is_variable}
 use Rattle.ix_guard.specs.Trees.{expression, named, either}
-use Rattle.ix_guarded_plain.specs.TestParts.{Parts, null_test, negative_test, high_test, condition_of}
+use Rattle.ix_guarded_bodies.specs.TestParts.{Parts, null_test, negative_test, high_test, condition_of}
 use Rattle.ix_guarded_bodies.specs.Laws.{setting, IsInSlot}
 
 -- ---- a variable that is sound where it is named

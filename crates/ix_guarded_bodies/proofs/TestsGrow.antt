@@ -18,25 +18,25 @@ use Rattle.ix_plain.specs.Statements as plain
 use Rattle.ix_plain.specs.Statements.{Running, scope_of, assigned_by, tested, branch}
 use Rattle.ix_formed.specs.Additions.{Makes, AllOf}
 use Rattle.ix_formed.proofs.PlainItems.{makes_more, makes_then}
-use Rattle.ix_kept_steps.specs.Running.{Ground, standing}
-use Rattle.ix_kept_steps.specs.Sound.{named}
-use Rattle.ix_kept_steps.specs.SoundStatements as sound
-use Rattle.ix_kept_steps.specs.SoundStatements.{StatementSoundness, statement_soundness, running_of, where_made, used_at, part_sound, part_if, each_sound}
+use Rattle.ix_kept_runs.specs.Running.{Ground, standing}
+use Rattle.ix_kept_runs.specs.Sound.{named}
+use Rattle.ix_kept_runs.specs.SoundStatements as sound
+use Rattle.ix_kept_runs.specs.SoundStatements.{StatementSoundness, statement_soundness, running_of, where_made, used_at, part_sound, part_if, each_sound}
 use Rattle.ix_well_named.proofs.SoundRuns.{running_is}
 use Rattle.ix_guard.specs.Accesses.{Access}
 use Rattle.ix_guard.specs.Tests.{Site, is_variable}
-use Rattle.ix_guarded_code.specs.Known.{Known, Nowhere, Unknown, Inside}
-use Rattle.ix_guarded_code.specs.Guards.{ends}
-use Rattle.ix_guarded_code.proofs.GuardedPieces.{elsewhere, keeps}
-use Rattle.ix_guarded_plain.specs.TestTrees.{Means}
-use Rattle.ix_guarded_plain.specs.TestForms.{Guards}
-use Rattle.ix_guarded_plain.proofs.GuardLowers.{guard_lowers}
-use Rattle.ix_guarded_plain.proofs.TestKeeps.{behind_guard, guard_elsewhere, guard_keeps, guard_no_loop}
+use Rattle.ix_guarded_bodies.specs.Known.{Known, Nowhere, Unknown, Inside}
+use Rattle.ix_guarded_bodies.specs.Guards.{ends}
+use Rattle.ix_guarded_bodies.proofs.GuardedPieces.{elsewhere, keeps}
+use Rattle.ix_guarded_bodies.specs.TestTrees.{Means}
+use Rattle.ix_guarded_bodies.specs.TestForms.{Guards}
+use Rattle.ix_guarded_bodies.proofs.GuardLowers.{guard_lowers}
+use Rattle.ix_guarded_bodies.proofs.TestKeeps.{behind_guard, guard_elsewhere, guard_keeps, guard_no_loop}
 use Rattle.ix_moved.specs.Moved.{Move}
-use Rattle.ix_guarded_plain.specs.TestParts.{Parts, condition_of, throw_of, guard_of}
-use Rattle.ix_guarded_plain.specs.GuardedPlaces as placed
-use Rattle.ix_guarded_plain.specs.GuardedPlaces.{AreTests}
-use Rattle.ix_guarded_plain.specs.GuardedNames.{IsMeant}
+use Rattle.ix_guarded_bodies.specs.TestParts.{Parts, condition_of, throw_of, guard_of}
+use Rattle.ix_guarded_bodies.specs.GuardedPlaces as placed
+use Rattle.ix_guarded_bodies.specs.GuardedPlaces.{AreTests}
+use Rattle.ix_guarded_bodies.specs.GuardedNames.{IsMeant}
 use Rattle.ix_accesses.specs.SourceGuards.{IsAmong}
 use Rattle.ix_guarded_bodies.specs.Laws.{IsInSlot, AreInSlots}
 use Rattle.ix_guarded_bodies.proofs.Growing.{with_sound, Grows, grows_both}

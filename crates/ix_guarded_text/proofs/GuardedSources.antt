@@ -13,13 +13,13 @@ use Rattle.ix_grammar.specs.SourceGrammar.{source_parts, IsSource}
 use Rattle.ix_grammar.specs.Refusals.{HasTree}
 use Rattle.ix_core.specs.declared.error.Error.{Error}
 use Rattle.ix_guard.specs.Resolved.{Names, names}
-use Rattle.ix_bare.specs.Bare.{bare_class, bare_source}
-use Rattle.ix_bare.proofs.ListsAgain.{map_joined}
-use Rattle.ix_bare.proofs.SourcesAgain.{source_again}
-use Rattle.ix_insertions.specs.Names.{HaveNames}
-use Rattle.ix_insertions.specs.Woven.{with_added}
-use Rattle.ix_insertions.proofs.InsertedTexts.{inserted_tokens}
-use Rattle.ix_insertions.proofs.NamedTokens.{token_names}
+use Rattle.ix_moved.specs.Bare.{bare_class, bare_source}
+use Rattle.ix_moved.proofs.ListsAgain.{map_joined}
+use Rattle.ix_moved.proofs.SourcesAgain.{source_again}
+use Rattle.ix_moved.specs.Names.{HaveNames}
+use Rattle.ix_moved.specs.Woven.{with_added}
+use Rattle.ix_moved.proofs.InsertedTexts.{inserted_tokens}
+use Rattle.ix_moved.proofs.NamedTokens.{token_names}
 use Rattle.ix_guard.specs.declared.insertion.Insertion.{Insertion}
 use Rattle.ix_guard.specs.Tests.{Site}
 use Rattle.ix_guard.specs.Guards.{together, in_class, insertions, with_texts, guarded}

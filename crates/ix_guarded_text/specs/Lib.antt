@@ -2,3 +2,13 @@
 pub mod Derived
 -- The insertions of a guarded text.
 pub mod Inserted
+-- Where the tokens of a text stand once texts are inserted between them, and where the parts of a source stand in its guarded text.
+pub mod Interleaved
+pub mod GuardedPlaces
+-- A test, with a place for each of its parts.
+pub mod TestParts
+pub mod GuardedNames
+-- Notes with others between them that stand at new places.
+pub mod WithNew
+-- Passed on from ix_names_moved.
+pub use Rattle.ix_names_moved.specs.MovedNotes

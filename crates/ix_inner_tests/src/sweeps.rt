@@ -153,7 +153,7 @@ const SOURCES: &[(&str, usize)] = &[
 ];
 
 /// The plain form of a source; nothing where it has none.
-#[tactic(auto, using(ix_counts::proofs::FewDeclarations::few_classes, ix_counts::proofs::FewDeclarations::few_members))]
+#[tactic(auto, using(ix_meaning::proofs::FewDeclarations::few_classes, ix_meaning::proofs::FewDeclarations::few_members))]
 fn lowered(alloc: Global, text: &str) -> Option<Program> {
     let bytes = text.as_bytes();
     if bytes.len() > 1_000_000 {

@@ -3,3 +3,4 @@ pub mod Rows
 pub mod SmallRows
 pub mod DeclaratorNumbers
 pub mod ErrorLists
+pub mod FewDeclarations

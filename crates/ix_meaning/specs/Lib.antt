@@ -12,6 +12,7 @@ pub mod Source
 pub mod Limits
 pub mod Listed
 pub mod Resolved
+pub mod Few
 -- Passed on from ix_annot.
 pub use Rattle.ix_annot.specs.Expansion
 pub use Rattle.ix_annot.specs.Table

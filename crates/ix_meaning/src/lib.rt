@@ -1,7 +1,8 @@
 //! What each name of a source means, the type of each expression, and which rules on names, types and annotations are broken.
 //!
 //! What goes in: nothing; these are definitions and the types that they speak of. What comes out: what the crates above answer.
-//! The contract: `notes` of `specs/Source.antt`, the JLS's scopes, members and types, with the rules of `specs/Rules.antt`.
+//! The contract: `notes` of `specs/Source.antt`, the JLS's scopes, members and types, with the rules of `specs/Rules.antt`. The laws of `proofs/FewDeclarations.antt`: a source
+//! in which names can be looked up by places declares little, so that the numbers of its declarations fit.
 //! It stands on the trees of `ix_tree`, the types of `ix_core` and the claims of `ix_annot`.
 //! It never looks at tokens or at the text, and at no value.
 #![tactic(auto)]

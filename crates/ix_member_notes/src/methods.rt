@@ -1,7 +1,7 @@
 //! Methods and constructors (JLS 8.4, 8.8).
 
 ghost use Rattle.std.specs.Prelude.{◌≡◌, ◌++◌, ◌+◌, ◌<◌, ◌^◌, length, map, IfOk, OnOk, is_some};
-ghost use Rattle.ix_counts.specs.Few.{DeclaresFew};
+ghost use Rattle.ix_meaning.specs.Few.{DeclaresFew};
 ghost use Rattle.ix_tree.specs.declared.decl.Member.TheVariants.{Method};
 ghost use Rattle.ix_meaning.specs.Bodies as bodies;
 ghost use Rattle.ix_meaning.specs.Members as members;
@@ -155,7 +155,7 @@ fn with_signature(
 }
 
 /// Notes a method or constructor of the class of that number.
-#[tactic(auto, using(ix_counts::proofs::FewDeclarations::few_params, ix_counts::proofs::FewDeclarations::few_in_body))]
+#[tactic(auto, using(ix_meaning::proofs::FewDeclarations::few_params, ix_meaning::proofs::FewDeclarations::few_in_body))]
 pub fn method(
     alloc: Global,
     world: &World,

@@ -11,8 +11,8 @@ use Rattle.ix_grammar.specs.StmtGrammar.{IsBlockStmt}
 use Rattle.ix_grammar.specs.ClassGrammar as g
 use Rattle.ix_grammar.specs.ClassGrammar.{IsBody, IsBehind, IsMember, IsClassWord, IsClassWords, IsParent, IsClass, method_of, fields, fields_of, no_stmts, with_stmt, no_members, with_members, class_of}
 use Rattle.ix_grammar.specs.SourceGrammar.{source_parts}
-use Rattle.ix_bare.specs.Bare.{bare_maybe as maybe}
-use Rattle.ix_bare.proofs.ClassesAgain.{map_both}
+use Rattle.ix_moved.specs.Bare.{bare_maybe as maybe}
+use Rattle.ix_moved.proofs.ClassesAgain.{map_both}
 use Rattle.ix_moved.specs.Moved.{Move, moved_span, moved_name, moved_decl, moved_member}
 use Rattle.ix_moved.specs.MovedFound.{moved_found_type, moved_found_mods, moved_found_stmt, moved_stmts, moved_body, moved_behind, moved_members, moved_found_class}
 use Rattle.ix_moved.proofs.ListsMoved.{both, Moves, same_found, repeated}

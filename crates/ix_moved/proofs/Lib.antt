@@ -1,3 +1,17 @@
+pub mod SignFronts
+pub mod LongestAgain
+pub mod Escapes
+pub mod Gaps
+pub mod InsertedTexts
+pub mod Readings
+pub mod NamedTokens
+pub mod ListsAgain
+pub mod AnnotsAgain
+pub mod ExprsAgain
+pub mod DeclsAgain
+pub mod StmtsAgain
+pub mod ClassesAgain
+pub mod SourcesAgain
 pub mod ListsMoved
 pub mod AnnotsMoved
 pub mod ExprsMoved

@@ -11,7 +11,7 @@ use Rattle.ix_grammar.specs.DeclGrammar.{nothing_more}
 use Rattle.ix_grammar.specs.ClassGrammar as g
 use Rattle.ix_grammar.specs.ClassGrammar.{IsDotName, IsDotted, IsPackage, IsImported, IsImport, IsClass, no_classes, with_class}
 use Rattle.ix_grammar.specs.SourceGrammar.{source_parts, IsSource}
-use Rattle.ix_bare.proofs.ListsAgain.{map_joined}
+use Rattle.ix_moved.proofs.ListsAgain.{map_joined}
 use Rattle.ix_moved.specs.Moved.{Move, moved_span, moved_tokens, moved_name, moved_class}
 use Rattle.ix_moved.specs.MovedFound.{moved_found_class, moved_classes, moved_unit}
 use Rattle.ix_moved.proofs.ListsMoved.{both, Moves, repeated}

@@ -22,8 +22,8 @@ use Rattle.ix_grammar.specs.ExprNodes.{with_expr}
 use Rattle.ix_grammar.specs.ExprGrammar.{Whole, IsStatementExpr}
 use Rattle.ix_grammar.specs.StmtGrammar as g
 use Rattle.ix_grammar.specs.StmtGrammar.{stmt_node, maybe_expr, maybe_height, begins_print, run_part, one_run, with_run, one_expr, local_stmt, IsLocal, IsForFirst, IsMaybe, IsUpdate, IsReason, IsStmt, IsBlockStmt, IsStmts}
-use Rattle.ix_bare.specs.Bare.{bare_maybe as maybe}
-use Rattle.ix_bare.proofs.ListsAgain.{map_joined}
+use Rattle.ix_moved.specs.Bare.{bare_maybe as maybe}
+use Rattle.ix_moved.proofs.ListsAgain.{map_joined}
 use Rattle.ix_moved.specs.Moved.{Move, moved_span, moved_tokens, moved_name, moved_expr, moved_decl, stmt_kind_step, stmt_step, moved_stmt}
 use Rattle.ix_moved.specs.MovedFound.{moved_found_type, moved_found, moved_several, moved_found_mods, moved_decls, moved_found_stmt, moved_stmts}
 use Rattle.ix_moved.proofs.ListsMoved.{both, Moves, same_found, separated}

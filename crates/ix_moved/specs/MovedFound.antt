@@ -22,7 +22,7 @@ use Rattle.ix_grammar.specs.declared.found.FoundStmt.{FoundStmt}
 use Rattle.ix_grammar.specs.declared.found.FoundType.{FoundType}
 use Rattle.ix_grammar.specs.declared.found.Notes.{Notes}
 use Rattle.ix_grammar.specs.declared.found.Several.{Several}
-use Rattle.ix_bare.specs.Bare.{bare_maybe as maybe}
+use Rattle.ix_moved.specs.Bare.{bare_maybe as maybe}
 use Rattle.ix_moved.specs.Moved.{Move, moved_span, moved_annot, moved_base, moved_type, moved_mods, moved_expr, moved_init, moved_decl, moved_stmt, moved_member, moved_class, moved_source}
 
 module _ (move : Move) where

@@ -3,7 +3,7 @@
 ghost use Rattle.std.specs.Prelude.{◌≡◌, ◌++◌, ◌+◌, ◌<◌, ◌≤◌, ◌^◌, ℕ, List as Elements, IfOk, OnOk, length, option_map};
 ghost use Rattle.std.specs.List.{All};
 ghost use Rattle.std.specs.HashMap.{get_by_text};
-ghost use Rattle.ix_counts.specs.Few.{DeclaresFew, DeclaresFewInClass};
+ghost use Rattle.ix_meaning.specs.Few.{DeclaresFew, DeclaresFewInClass};
 ghost use Rattle.ix_meaning.specs.Source as spec;
 ghost use Rattle.ix_meaning.specs.Declarators as declared;
 ghost use Rattle.ix_member_notes.specs.World.{shown};

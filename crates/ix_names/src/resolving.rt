@@ -2,7 +2,7 @@
 
 ghost use Rattle.std.specs.Prelude.{◌≡◌, ◌+◌, ◌<◌, ◌^◌, IfOk, IfErr, length};
 ghost use Rattle.std.specs.List.{All};
-ghost use Rattle.ix_counts.specs.Few.{DeclaresFewInClass};
+ghost use Rattle.ix_meaning.specs.Few.{DeclaresFewInClass};
 ghost use Rattle.ix_table.specs.Numbered.{shown};
 ghost use Rattle.ix_tree.specs.Parts.{CanResolve};
 ghost use Rattle.ix_meaning.specs.Source as source;
@@ -31,7 +31,7 @@ fn notes_of(alloc: Global, decls: &[ClassDecl]) -> Result<List<Note>, AllocError
 }
 
 /// The notes of a source without errors; otherwise a limit that is passed, or the errors.
-#[tactic(auto, using(ix_counts::proofs::FewDeclarations::few_classes, ix_counts::proofs::FewDeclarations::few_members, ix_counts::proofs::FewDeclarations::each_member_few))]
+#[tactic(auto, using(ix_meaning::proofs::FewDeclarations::few_classes, ix_meaning::proofs::FewDeclarations::few_members, ix_meaning::proofs::FewDeclarations::each_member_few))]
 fn clean_notes(alloc: Global, unit: &Unit) -> Result<List<Note>, NameErrors>
     requires { CanResolve unit.now }
     ensures { record {

@@ -16,7 +16,7 @@ use Rattle.ix_annot.specs.Arguments.{are_taken, plan_of, plan}
 use Rattle.ix_annot.specs.Expansion.{expanded, with_row}
 use Rattle.ix_meaning.specs.Annotated.{Given, given, errors_from, is_of_method, of_method, of_result}
 use Rattle.ix_meaning.specs.Declarators.{counting}
-use Rattle.ix_bare.specs.Bare.{bare_maybe as maybe}
+use Rattle.ix_moved.specs.Bare.{bare_maybe as maybe}
 use Rattle.ix_moved.specs.Moved.{Move, moved_name, moved_arg, moved_annot}
 use Rattle.ix_names_moved.specs.MovedNotes.{AreMoved}
 use Rattle.ix_names_moved.proofs.NotesMove.{none, both}

@@ -4,7 +4,7 @@ use Rattle.ix_text.specs.declared.span.Span.{Span}
 use Rattle.ix_meaning.specs.declared.note.NameError.{NameError}
 use Rattle.ix_meaning.specs.declared.note.Note.{Note}
 use Rattle.ix_meaning.specs.declared.note.Note.TheVariants.{Use, Typed, Declares, Wrong, WrongAnnot}
-use Rattle.ix_bare.specs.Bare.{nowhere}
+use Rattle.ix_moved.specs.Bare.{nowhere}
 use Rattle.ix_moved.specs.Moved.{Move, moved_span}
 
 abbrev pub moved_error : Move → NameError → NameError

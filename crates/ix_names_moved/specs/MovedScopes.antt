@@ -5,7 +5,7 @@ use Rattle.ix_meaning.specs.Members.{World, Callee}
 use Rattle.ix_meaning.specs.Scope.{Scope}
 use Rattle.ix_meaning.specs.Source.{Place}
 use Rattle.std.specs.Prelude.{map}
-use Rattle.ix_bare.specs.Bare.{bare_maybe as maybe}
+use Rattle.ix_moved.specs.Bare.{bare_maybe as maybe}
 use Rattle.ix_moved.specs.Moved.{Move, moved_span}
 
 module _ (move : Move) where

@@ -24,8 +24,8 @@ use Rattle.ix_formed.proofs.FieldsFit.{IsAccepted}
 use Rattle.ix_source_meaning.specs.Bodies.{Written, written, written_from, name_of}
 use Rattle.ix_source_meaning.specs.Context.{type_declared}
 use Rattle.ix_source_meaning.specs.Promise.{MeetParams, Enters, claims_declared}
-use Rattle.ix_kept_calls.proofs.AcceptedTables.{method_declared}
-use Rattle.ix_kept_calls.proofs.MethodsFound.{Any, AnyDefault, any_class}
+use Rattle.ix_kept_runs.proofs.AcceptedTables.{method_declared}
+use Rattle.ix_kept_runs.proofs.MethodsFound.{Any, AnyDefault, any_class}
 
 -- ---- parameters
 

@@ -30,18 +30,18 @@ use Rattle.ix_source_meaning.specs.Statements.{Completion, Normal, Breaks, Conti
 use Rattle.ix_source_meaning.specs.Bodies.{Whole, Written, name_of, whole, written, members, static_of, variables, back, given_back, method_run, context_of, calls_within}
 use Rattle.ix_source_meaning.specs.Source as source
 use Rattle.ix_source_meaning.specs.Source.{shown_by, begun, run_of}
-use Rattle.ix_kept_steps.specs.Seen.{Leads, Frame, at, Decides}
-use Rattle.ix_kept_steps.specs.Kept.{code_before}
-use Rattle.ix_kept_steps.specs.Called.{first_slots}
-use Rattle.ix_kept_steps.specs.SoundStatements.{AssignsOwn}
-use Rattle.ix_kept_steps.specs.Running.{Ground, Stands, AlongWith, Follows, IsReturned}
-use Rattle.ix_kept_steps.proofs.Paths.{both, one_step}
+use Rattle.ix_kept_runs.specs.Seen.{Leads, Frame, at, Decides}
+use Rattle.ix_kept_runs.specs.Kept.{code_before}
+use Rattle.ix_kept_runs.specs.Called.{first_slots}
+use Rattle.ix_kept_runs.specs.SoundStatements.{AssignsOwn}
+use Rattle.ix_kept_runs.specs.Running.{Ground, Stands, AlongWith, Follows, IsReturned}
+use Rattle.ix_kept_runs.proofs.Paths.{both, one_step}
 use Rattle.ix_source.specs.Whole.{Meets}
-use Rattle.ix_kept_calls.specs.Declared.{AllClasses}
-use Rattle.ix_kept_steps.specs.SoundBodies.{IsSoundMethod, IsSoundDefault}
-use Rattle.ix_kept_calls.proofs.Calls.{not_constructor, map_none, map_some}
-use Rattle.ix_kept_calls.proofs.Depths.{declared, body_kept, below_of, one_below, callees_run}
-use Rattle.ix_kept_calls.proofs.FieldStarts.{type_same}
+use Rattle.ix_kept_runs.specs.Declared.{AllClasses}
+use Rattle.ix_kept_runs.specs.SoundBodies.{IsSoundMethod, IsSoundDefault}
+use Rattle.ix_kept_runs.proofs.Calls.{not_constructor, map_none, map_some}
+use Rattle.ix_kept_runs.proofs.Depths.{declared, body_kept, below_of, one_below, callees_run}
+use Rattle.ix_kept_runs.proofs.FieldStarts.{type_same}
 
 -- ---- the first frame ends
 

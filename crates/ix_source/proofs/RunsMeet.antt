@@ -11,7 +11,7 @@ use Rattle.ix_core.specs.Tables.{tables_of, method_at, no_method}
 use Rattle.ix_core.proofs.Cases.{by_test}
 use Rattle.ix_tree.specs.declared.decl.ClassDecl.{ClassDecl}
 use Rattle.ix_tree.specs.declared.decl.Unit.{Unit as Source}
-use Rattle.ix_counts.proofs.FewDeclarations.{few_members}
+use Rattle.ix_meaning.proofs.FewDeclarations.{few_members}
 use Rattle.ix_meaning.specs.Resolved.{Accepts, names}
 use Rattle.ix_meaning.specs.Source.{has_constructor}
 use Rattle.ix_plain.specs.declared.numbers.Next.{Next}
@@ -25,13 +25,13 @@ use Rattle.ix_formed.proofs.FieldsFit.{IsAccepted}
 use Rattle.ix_formed.proofs.FormedSources.{formed_source}
 use Rattle.ix_source_meaning.specs.Bodies.{Whole, whole, members}
 use Rattle.ix_source_meaning.specs.Source.{source}
-use Rattle.ix_kept_steps.specs.SoundBodies.{IsSoundMethod, IsSoundDefault}
-use Rattle.ix_kept_steps.proofs.Decisions.{start_decides}
-use Rattle.ix_kept_calls.specs.Declared.{AllClasses}
-use Rattle.ix_kept_calls.proofs.AcceptedTables.{method_declared, static_of_declared}
-use Rattle.ix_kept_calls.proofs.DeclaredMembers.{all_counted}
-use Rattle.ix_kept_calls.proofs.JoinedLists.{get_behind, get_so}
-use Rattle.ix_kept_calls.proofs.MethodsFound.{Any, AnyDefault, any_class}
+use Rattle.ix_kept_runs.specs.SoundBodies.{IsSoundMethod, IsSoundDefault}
+use Rattle.ix_kept_runs.proofs.Decisions.{start_decides}
+use Rattle.ix_kept_runs.specs.Declared.{AllClasses}
+use Rattle.ix_kept_runs.proofs.AcceptedTables.{method_declared, static_of_declared}
+use Rattle.ix_kept_runs.proofs.DeclaredMembers.{all_counted}
+use Rattle.ix_kept_runs.proofs.JoinedLists.{get_behind, get_so}
+use Rattle.ix_kept_runs.proofs.MethodsFound.{Any, AnyDefault, any_class}
 use Rattle.ix_well_named.specs.Bodies.{AreSoundClasses}
 use Rattle.ix_well_named.proofs.AssignedOwned.{assigns_own}
 use Rattle.ix_well_named.proofs.SourcesSound.{sound_source}

@@ -6,9 +6,9 @@ use Rattle.ix_core.specs.Tables.{Tables}
 use Rattle.ix_core.specs.Traces.{Observation}
 use Rattle.ix_source_meaning.specs.Source.{Shown}
 use Rattle.ix_core.specs.Traces.{seen_from}
-use Rattle.ix_kept_steps.specs.Seen.{seen}
+use Rattle.ix_kept_runs.specs.Seen.{seen}
 use Rattle.ix_source.specs.Whole.{Same, Begins, Keeps, Meets}
-use Rattle.ix_kept_steps.proofs.Paths.{more, run_more, seen_more}
+use Rattle.ix_kept_runs.proofs.Paths.{more, run_more, seen_more}
 
 some_none : {G : Type 0} (e : Ending) → Some e ≡ None → G
 some_none e is = absurd (cc is)

@@ -7,7 +7,7 @@ use Rattle.ix_core.specs.Tables.{Tables, tables_of}
 use Rattle.ix_tree.specs.declared.decl.Unit.{Unit as Source}
 use Rattle.ix_core.specs.Traces.{Observation}
 use Rattle.ix_source_meaning.specs.Source.{Shown, source}
-use Rattle.ix_kept_steps.specs.Seen.{seen}
+use Rattle.ix_kept_runs.specs.Seen.{seen}
 
 -- one list begins with another
 pub record Begins (whole first : List Observation) : Type 0 where

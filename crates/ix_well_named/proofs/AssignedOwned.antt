@@ -17,11 +17,11 @@ use Rattle.ix_plain.specs.Assigned.{Adding, Assigns, all, each, maybe, with_slot
 use Rattle.ix_plain.specs.Scope.{slot_of, meaning_at, type_at, is_among, head_at}
 use Rattle.ix_plain.specs.Statements.{scope_of, assigned_by}
 use Rattle.ix_formed.proofs.AssignedVariables.{Appends, assigns_append, init_assigns_append, none_appends, both_append}
-use Rattle.ix_kept_steps.specs.Along.{Setting}
-use Rattle.ix_kept_steps.specs.Running.{Ground, owner, in_scope, standing}
-use Rattle.ix_kept_steps.specs.SoundStatements.{AddsOwn, AssignsOwn}
-use Rattle.ix_kept_steps.specs.Sound as sound
-use Rattle.ix_kept_steps.specs.Sound.{Soundness, soundness, init_soundness, used, all_used}
+use Rattle.ix_kept_runs.specs.Along.{Setting}
+use Rattle.ix_kept_runs.specs.Running.{Ground, owner, in_scope, standing}
+use Rattle.ix_kept_runs.specs.SoundStatements.{AddsOwn, AssignsOwn}
+use Rattle.ix_kept_runs.specs.Sound as sound
+use Rattle.ix_kept_runs.specs.Sound.{Soundness, soundness, init_soundness, used, all_used}
 
 among_either : {G : Type 0} (slot : ℕ) (xs ys : List ℕ) → is_among slot (xs ++ ys) ≡ true → (is_among slot xs ≡ true → G) → (is_among slot ys ≡ true → G) → G
 among_either slot [] ys e one other = other e

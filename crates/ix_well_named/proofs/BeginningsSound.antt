@@ -43,12 +43,12 @@ use Rattle.ix_formed.proofs.PlainItems.{makes_more, makes_then}
 use Rattle.ix_formed.proofs.ScopedLocals.{outside_none, later_outside, ended_outside}
 use Rattle.ix_formed.proofs.TypedExpressions.{all_parted, Covers, covers_both, expression_fits}
 use Rattle.ix_formed.proofs.TypedSettings.{Apart, setting, setting_is, here_is, kept, kept_range}
-use Rattle.ix_kept_steps.specs.Running as running
-use Rattle.ix_kept_steps.specs.Running.{in_scope}
-use Rattle.ix_kept_steps.specs.SoundBodies.{super_sound, field_sound, fields_sound, start_sound}
-use Rattle.ix_kept_steps.specs.Sound.{soundness}
+use Rattle.ix_kept_runs.specs.Running as running
+use Rattle.ix_kept_runs.specs.Running.{in_scope}
+use Rattle.ix_kept_runs.specs.SoundBodies.{super_sound, field_sound, fields_sound, start_sound}
+use Rattle.ix_kept_runs.specs.Sound.{soundness}
 use Rattle.ix_well_named.specs.Sound.{HasNumbers, View, IsSeen}
-use Rattle.ix_kept_steps.specs.SoundStatements.{init_at, init_if}
+use Rattle.ix_kept_runs.specs.SoundStatements.{init_at, init_if}
 use Rattle.ix_well_named.proofs.DeclarationsSound.{makes_any}
 use Rattle.ix_well_named.proofs.ExpressionsSound.{expression_sound, initialiser_sound}
 use Rattle.ix_well_named.proofs.SoundEvaluations.{Sight, seen_ground}

@@ -44,8 +44,8 @@ use Rattle.ix_formed.proofs.TypedDeclarations.{scoped_pending}
 use Rattle.ix_formed.proofs.TypedExpressions.{all_parted}
 use Rattle.ix_formed.proofs.TypedForms.{parted}
 use Rattle.ix_formed.proofs.TypedLocals.{declaration_tells}
-use Rattle.ix_kept_steps.specs.Running as running
-use Rattle.ix_kept_steps.specs.SoundStatements.{where_made, local_init, declared_sound}
+use Rattle.ix_kept_runs.specs.Running as running
+use Rattle.ix_kept_runs.specs.SoundStatements.{where_made, local_init, declared_sound}
 use Rattle.ix_well_named.proofs.SoundEvaluations.{Sight, seen_ground, local_init_sound}
 use Rattle.ix_well_named.proofs.SoundLists.{made_so, StandsAt, none_stands, stands_within}
 use Rattle.ix_well_named.proofs.VariablesOwn.{OwnedIn, owned_pending, owned_last}

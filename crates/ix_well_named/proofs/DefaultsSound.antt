@@ -35,8 +35,8 @@ use Rattle.ix_formed.proofs.ClassFields.{HasFields}
 use Rattle.ix_formed.proofs.FieldPlaces.{Anywhere}
 use Rattle.ix_formed.proofs.FieldsFit.{IsAccepted, parents_there, parent_count}
 use Rattle.ix_formed.proofs.FieldsInitialised.{are_initialised}
-use Rattle.ix_kept_steps.specs.Running as running
-use Rattle.ix_kept_steps.specs.SoundBodies.{super_sound, default_sound, IsSoundDefault, HasResults}
+use Rattle.ix_kept_runs.specs.Running as running
+use Rattle.ix_kept_runs.specs.SoundBodies.{super_sound, default_sound, IsSoundDefault, HasResults}
 use Rattle.ix_well_named.proofs.BeginningsSound.{HasRoom, super_given, start_is_sound}
 use Rattle.ix_well_named.proofs.EntriesOwned.{entry_is}
 use Rattle.ix_well_named.proofs.NumbersThere.{has_numbers}

@@ -12,9 +12,9 @@ use Rattle.ix_meaning.specs.Source.{Place}
 use Rattle.ix_plain.specs.Scope.{Site, Scope, slot_of, slot_in_params}
 use Rattle.ix_formed.specs.Shape.{params_of}
 use Rattle.ix_formed.proofs.NumberLists.{is_itself}
-use Rattle.ix_kept_steps.specs.Running.{owner, param_owner}
+use Rattle.ix_kept_runs.specs.Running.{owner, param_owner}
 use Rattle.ix_plain.specs.Program.{first_param}
-use Rattle.ix_kept_steps.specs.SoundBodies.{IsEntry}
+use Rattle.ix_kept_runs.specs.SoundBodies.{IsEntry}
 use Rattle.ix_well_named.specs.Sound.{Owned}
 
 -- parameters in later slots don't take an earlier one

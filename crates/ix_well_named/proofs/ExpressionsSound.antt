@@ -25,9 +25,9 @@ use Rattle.ix_formed.specs.Written.{is_written_expr, is_written_init, all_true}
 use Rattle.ix_formed.proofs.AssignedVariables.{Appends, assigns_append, init_assigns_append, none_appends, both_append}
 use Rattle.ix_formed.proofs.TypedChecks.{reading_at}
 use Rattle.ix_formed.proofs.TypedExpressions.{all_parted, Covers, covers_both, expression_fits}
-use Rattle.ix_kept_steps.specs.Along.{Setting}
-use Rattle.ix_kept_steps.specs.Sound as sound
-use Rattle.ix_kept_steps.specs.Sound.{Soundness, soundness, init_soundness, used}
+use Rattle.ix_kept_runs.specs.Along.{Setting}
+use Rattle.ix_kept_runs.specs.Sound as sound
+use Rattle.ix_kept_runs.specs.Sound.{Soundness, soundness, init_soundness, used}
 use Rattle.ix_well_named.specs.Sound.{View, IsSeen, IsSound, IsSoundTarget, IsSoundFilling}
 use Rattle.ix_well_named.proofs.SoundArrays.{AllFilled, element_sound, element_target, new_array_sound, new_items_sound, value_filled, items_filled}
 use Rattle.ix_well_named.proofs.SoundCalls.{bare_sound, dot_sound, new_sound}

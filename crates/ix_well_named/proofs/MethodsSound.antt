@@ -43,9 +43,9 @@ use Rattle.ix_formed.proofs.PlainItems.{makes_more}
 use Rattle.ix_formed.proofs.PlainMethods.{own_types, g, free, s, grounded, each_written, each_readable, body_written, body_readable, known_is}
 use Rattle.ix_formed.proofs.ProgramsHaveShape.{params_behind, slots_behind}
 use Rattle.ix_formed.proofs.SourceMethods.{IsAmong, each_is_map}
-use Rattle.ix_kept_steps.specs.Running as running
-use Rattle.ix_kept_steps.specs.SoundBodies.{super_sound, start_sound, begins_sound, written_sound, IsSoundMethod}
-use Rattle.ix_kept_steps.specs.SoundStatements.{statement_soundness, each_sound}
+use Rattle.ix_kept_runs.specs.Running as running
+use Rattle.ix_kept_runs.specs.SoundBodies.{super_sound, start_sound, begins_sound, written_sound, IsSoundMethod}
+use Rattle.ix_kept_runs.specs.SoundStatements.{statement_soundness, each_sound}
 use Rattle.ix_well_named.proofs.BeginningsSound.{SameFree, start_same, HasRoom, super_given, start_is_sound}
 use Rattle.ix_well_named.proofs.EntriesOwned.{params_owned, entry_is}
 use Rattle.ix_well_named.proofs.NumbersThere.{has_numbers}
@@ -115,7 +115,7 @@ module _ (unit : Source) (p : Program) (is : IsAccepted unit p) (method : Method
   none = free unit p is method w
 
   -- as a run sees it
-  module _ (routines : core.Tables) (has_this : Bool) (this : Held) (depth : ℕ) (results : Rattle.ix_kept_steps.specs.SoundBodies.HasResults p routines) (there : not (is_static d) ≡ true → has_this ≡ true) where
+  module _ (routines : core.Tables) (has_this : Bool) (this : Held) (depth : ℕ) (results : Rattle.ix_kept_runs.specs.SoundBodies.HasResults p routines) (there : not (is_static d) ≡ true → has_this ≡ true) where
     abbrev v : Sight (g unit p is method w)
     v = record { tables = routines; has_this = has_this; this = this; depth = depth; numbers = has_numbers unit p is (g unit p is method w).site refl refl; results = results }
 

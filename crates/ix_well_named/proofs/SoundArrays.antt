@@ -25,9 +25,9 @@ use Rattle.ix_formed.proofs.EachMember.{type_known}
 use Rattle.ix_formed.proofs.NumberLists.{both_true}
 use Rattle.ix_formed.proofs.TypedArrays.{cell_is}
 use Rattle.ix_formed.proofs.TypedChecks.{parted, kept, reading_at}
-use Rattle.ix_kept_steps.specs.Along.{Setting}
-use Rattle.ix_kept_steps.specs.Sound as sound
-use Rattle.ix_kept_steps.specs.Sound.{Soundness, used}
+use Rattle.ix_kept_runs.specs.Along.{Setting}
+use Rattle.ix_kept_runs.specs.Sound as sound
+use Rattle.ix_kept_runs.specs.Sound.{Soundness, used}
 use Rattle.ix_well_named.specs.Sound.{View, viewed, IsSound, IsSoundTarget, IsSoundFilling}
 use Rattle.ix_well_named.proofs.SoundParts.{used_is, check_used, computed_sound}
 

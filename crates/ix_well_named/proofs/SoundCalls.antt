@@ -22,9 +22,9 @@ use Rattle.ix_formed.specs.Typed.{Told, IsHere, MethodIs, ReceiverIs, Fits}
 use Rattle.ix_formed.proofs.NumberLists.{both_true}
 use Rattle.ix_formed.proofs.TypedChecks.{parted, kept, Tabled, reading_at}
 use Rattle.ix_formed.proofs.TypedNames.{there_is}
-use Rattle.ix_kept_steps.specs.Along.{Setting}
-use Rattle.ix_kept_steps.specs.Sound as sound
-use Rattle.ix_kept_steps.specs.Sound.{Soundness, used, all_used}
+use Rattle.ix_kept_runs.specs.Along.{Setting}
+use Rattle.ix_kept_runs.specs.Sound as sound
+use Rattle.ix_kept_runs.specs.Sound.{Soundness, used, all_used}
 use Rattle.ix_well_named.specs.Sound.{View, viewed, IsSeen, IsSound}
 use Rattle.ix_well_named.proofs.SoundParts.{AllAre, given_used, computed_sound}
 use Rattle.ix_well_named.proofs.SoundNames.{this_is}

@@ -35,12 +35,12 @@ use Rattle.ix_formed.proofs.TypedChecks.{parted, kept}
 use Rattle.ix_formed.proofs.TypedEvaluations.{IsRead}
 use Rattle.ix_formed.proofs.TypedExpressions.{Covers}
 use Rattle.ix_formed.proofs.TypedSettings.{Apart, setting, setting_is, here_is, fits_there}
-use Rattle.ix_kept_steps.specs.Running as running
-use Rattle.ix_kept_steps.specs.Running.{in_scope}
-use Rattle.ix_kept_steps.specs.Sound.{soundness, init_soundness}
-use Rattle.ix_kept_steps.specs.SoundBodies.{HasResults}
+use Rattle.ix_kept_runs.specs.Running as running
+use Rattle.ix_kept_runs.specs.Running.{in_scope}
+use Rattle.ix_kept_runs.specs.Sound.{soundness, init_soundness}
+use Rattle.ix_kept_runs.specs.SoundBodies.{HasResults}
 use Rattle.ix_well_named.specs.Sound.{Owned, HasNumbers, View, IsSeen, IsSound}
-use Rattle.ix_kept_steps.specs.SoundStatements.{used_at, ran_at, init_at, declaring}
+use Rattle.ix_kept_runs.specs.SoundStatements.{used_at, ran_at, init_at, declaring}
 use Rattle.ix_well_named.proofs.ExpressionsSound.{expression_sound, initialiser_sound}
 use Rattle.ix_well_named.proofs.SoundParts.{used_is, check_used}
 use Rattle.ix_well_named.proofs.VariablesOwn.{OwnedIn, owned_there}

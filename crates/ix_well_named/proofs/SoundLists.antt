@@ -34,8 +34,8 @@ use Rattle.ix_formed.proofs.StatementsTell.{statement_is}
 use Rattle.ix_formed.proofs.TypedBlocks.{Nests, part_nests, closed_scope}
 use Rattle.ix_formed.proofs.TypedExpressions.{all_parted}
 use Rattle.ix_formed.proofs.TypedForms.{parted, after_both}
-use Rattle.ix_kept_steps.specs.Running as running
-use Rattle.ix_kept_steps.specs.SoundStatements.{statement_soundness, where_made, begun, part_sound, each_sound}
+use Rattle.ix_kept_runs.specs.Running as running
+use Rattle.ix_kept_runs.specs.SoundStatements.{statement_soundness, where_made, begun, part_sound, each_sound}
 use Rattle.ix_well_named.proofs.SoundEvaluations.{Sight, seen_ground}
 use Rattle.ix_well_named.proofs.SoundRuns.{running_is}
 use Rattle.ix_well_named.proofs.VariablesOwn.{Behind, OwnedIn, owned_more}

@@ -24,9 +24,9 @@ use Rattle.ix_formed.specs.Typed.{Told, IsHere, is_variable, FieldIs}
 use Rattle.ix_formed.proofs.NumberLists.{both_true, is_itself}
 use Rattle.ix_formed.proofs.TypedChecks.{parted, unbroken, kept, reading_at}
 use Rattle.ix_formed.proofs.TypedNames.{variable_is, IsCovered}
-use Rattle.ix_kept_steps.specs.Along.{Setting}
-use Rattle.ix_kept_steps.specs.Sound as sound
-use Rattle.ix_kept_steps.specs.Sound.{Soundness}
+use Rattle.ix_kept_runs.specs.Along.{Setting}
+use Rattle.ix_kept_runs.specs.Sound as sound
+use Rattle.ix_kept_runs.specs.Sound.{Soundness}
 use Rattle.ix_well_named.specs.Sound.{View, viewed, IsSeen, IsSound, IsSoundTarget}
 
 -- what is so of each variable is so of the one that a name means

@@ -5,8 +5,8 @@ use Rattle.ix_tree.specs.declared.stmt.Stmt.{Stmt, Stmt-F, ind-Stmt, map-Stmt, r
 use Rattle.ix_tree.specs.declared.stmt.StmtKind.{StmtKind, StmtKind-F, map-StmtKind, roll-StmtKind, fold-StmtKind, fold-roll-StmtKind}
 use Rattle.ix_plain.specs.Statements as statements
 use Rattle.ix_plain.specs.Statements.{Run, Running, statement}
-use Rattle.ix_kept_steps.specs.SoundStatements as sound
-use Rattle.ix_kept_steps.specs.SoundStatements.{StatementSoundness, statement_soundness, running_of}
+use Rattle.ix_kept_runs.specs.SoundStatements as sound
+use Rattle.ix_kept_runs.specs.SoundStatements.{StatementSoundness, statement_soundness, running_of}
 
 abbrev pub kind_run : StmtKind → Span → Run
 kind_run = fold-StmtKind (Span → Run) Running statements.kind_step statements.stmt_step

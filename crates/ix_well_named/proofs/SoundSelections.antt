@@ -24,9 +24,9 @@ use Rattle.ix_plain.specs.Values.{Lowering}
 use Rattle.ix_formed.specs.Typed as typed
 use Rattle.ix_formed.specs.Typed.{Told, IsHere, FieldIs, ReceiverIs, Fits}
 use Rattle.ix_formed.proofs.TypedChecks.{parted, kept, reading_at}
-use Rattle.ix_kept_steps.specs.Along.{Setting}
-use Rattle.ix_kept_steps.specs.Sound as sound
-use Rattle.ix_kept_steps.specs.Sound.{Soundness, used}
+use Rattle.ix_kept_runs.specs.Along.{Setting}
+use Rattle.ix_kept_runs.specs.Sound as sound
+use Rattle.ix_kept_runs.specs.Sound.{Soundness, used}
 use Rattle.ix_well_named.specs.Sound.{View, viewed, IsSound, IsSoundTarget}
 use Rattle.ix_well_named.proofs.SoundParts.{used_is, computed_sound}
 

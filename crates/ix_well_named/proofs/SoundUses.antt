@@ -11,11 +11,11 @@ use Rattle.ix_meaning.specs.declared.note.Meaning.{Meaning}
 use Rattle.ix_meaning.specs.declared.note.Meaning.TheVariants as meaning
 use Rattle.ix_plain.specs.Parts.{Within}
 use Rattle.ix_plain.specs.Scope.{slot_of, type_at, is_among, head_at}
-use Rattle.ix_kept_steps.specs.Along.{Setting, is_variable}
-use Rattle.ix_kept_steps.specs.Kept.{Makes}
-use Rattle.ix_kept_steps.specs.Sound as sound
-use Rattle.ix_kept_steps.specs.Sound.{Soundness, used, all_used}
-use Rattle.ix_kept_steps.specs.SoundStatements.{where_made}
+use Rattle.ix_kept_runs.specs.Along.{Setting, is_variable}
+use Rattle.ix_kept_runs.specs.Kept.{Makes}
+use Rattle.ix_kept_runs.specs.Sound as sound
+use Rattle.ix_kept_runs.specs.Sound.{Soundness, used, all_used}
+use Rattle.ix_kept_runs.specs.SoundStatements.{where_made}
 
 -- where something was made it is so
 pub made_is_so : {A : Type 0} (r : Within A) (so : A → Bool) → where_made r so ≡ true → Makes (λ made. so made ≡ true) r

@@ -34,9 +34,9 @@ use Rattle.ix_formed.proofs.SourceMethods.{both_rows}
 use Rattle.ix_formed.proofs.TypedExpressions.{all_parted}
 use Rattle.ix_formed.proofs.TypedForms.{parted}
 use Rattle.ix_formed.proofs.TypedLoops.{read_there, restarted}
-use Rattle.ix_kept_steps.specs.Running as running
-use Rattle.ix_kept_steps.specs.SoundStatements as sound
-use Rattle.ix_kept_steps.specs.SoundStatements.{StatementSoundness, statement_soundness, running_of, where_made, used_at, ran_at, all_ran_at, used_if, begun, part_sound, part_if, each_sound}
+use Rattle.ix_kept_runs.specs.Running as running
+use Rattle.ix_kept_runs.specs.SoundStatements as sound
+use Rattle.ix_kept_runs.specs.SoundStatements.{StatementSoundness, statement_soundness, running_of, where_made, used_at, ran_at, all_ran_at, used_if, begun, part_sound, part_if, each_sound}
 use Rattle.ix_well_named.proofs.DeclarationsSound.{makes_any, so_always, locals_sound}
 use Rattle.ix_well_named.proofs.SoundEvaluations.{Sight, seen_ground, condition_sound, run_sound, printed_sound, returned_sound}
 use Rattle.ix_well_named.proofs.SoundLists.{made_so, StandsAt, stands_same, stands_within, stands_inside, DoesSound, IsSoundStatement, AllSound, BehindPart, part_sounds, each_sounds}

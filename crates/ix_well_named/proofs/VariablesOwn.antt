@@ -14,7 +14,7 @@ use Rattle.ix_formed.specs.Additions.{AllOf}
 use Rattle.ix_formed.specs.TypedStatements.{Ground, HasVariable, scope_in}
 use Rattle.ix_formed.proofs.NumberLists.{is_itself, all_joined}
 use Rattle.ix_formed.proofs.ScopedLocals.{slot_front, get_behind}
-use Rattle.ix_kept_steps.specs.Running.{owner, local_owner, param_owner, in_scope}
+use Rattle.ix_kept_runs.specs.Running.{owner, local_owner, param_owner, in_scope}
 use Rattle.ix_well_named.specs.Sound.{Owned}
 
 -- the slot of each of these locals is none below that number

@@ -8,7 +8,7 @@ use Rattle.ix_plain.specs.declared.numbers.Next.{Next}
 use Rattle.ix_plain.specs.Members.{next_behind}
 use Rattle.ix_plain.specs.Program.{Tables, home}
 use Rattle.ix_formed.specs.Additions.{AllOf}
-use Rattle.ix_kept_steps.specs.SoundBodies.{IsSoundMethod, IsSoundDefault}
+use Rattle.ix_kept_runs.specs.SoundBodies.{IsSoundMethod, IsSoundDefault}
 
 -- in each class from the one with these numbers on
 abbrev pub AreSoundClasses : Program → Tables → Next → List ClassDecl → Type 0

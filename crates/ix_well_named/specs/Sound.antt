@@ -13,9 +13,9 @@ use Rattle.ix_plain.specs.Scope.{Site, Scope, slot_of}
 use Rattle.ix_formed.specs.Additions.{AllOf}
 use Rattle.ix_formed.specs.Typed as typed
 use Rattle.ix_formed.specs.Typed.{Told}
-use Rattle.ix_kept_steps.specs.Along.{Setting}
-use Rattle.ix_kept_steps.specs.Sound.{Soundness}
-use Rattle.ix_kept_steps.specs.SoundBodies.{HasResults}
+use Rattle.ix_kept_runs.specs.Along.{Setting}
+use Rattle.ix_kept_runs.specs.Sound.{Soundness}
+use Rattle.ix_kept_runs.specs.SoundBodies.{HasResults}
 
 -- Each variable in scope owns its slot.
 abbrev pub Owned : (ℕ → Option Meaning) → Scope → List Variable → Type 0

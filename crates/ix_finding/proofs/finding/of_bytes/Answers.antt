@@ -1,6 +1,6 @@
 use Rattle.std.proofs.Common.{rules, sym}
 use Rattle.std.proofs.lemmas.Result.{IfOk-weaker}
-use Rattle.ix_parsed.proofs.LexedInts.{tokens_have_ints}
+use Rattle.ix_formed.proofs.LexedInts.{tokens_have_ints}
 use Rattle.ix_finding.specs.Found as spec
 use Rattle.ix_finding.proofs.BytesFound.{of_lexed, cause_of, cause_only, lex_formed}
 use Rattle.ix_finding.proofs.finding.of_bytes.Goals as goal

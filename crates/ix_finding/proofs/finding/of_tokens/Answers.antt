@@ -1,5 +1,5 @@
 use Rattle.std.proofs.lemmas.Result.{IfOk-weaker}
-use Rattle.ix_parsed.proofs.ParsedTrees.{parsed}
+use Rattle.ix_formed.proofs.ParsedTrees.{parsed}
 use Rattle.ix_finding.specs.Found as spec
 use Rattle.ix_finding.proofs.BytesFound.{tree_found, refusal_only, refusal_of, refusal_placed, refusal_formed}
 use Rattle.ix_finding.proofs.finding.of_tokens.Goals as goal

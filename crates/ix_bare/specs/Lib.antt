@@ -1,3 +1,0 @@
--- Trees without their places, and tokens at other places.
-pub mod Bare
-pub mod Respanned

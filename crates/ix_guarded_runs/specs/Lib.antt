@@ -1,3 +1,0 @@
--- Runs of guarded texts.
-pub mod Follows
-pub mod Behind

@@ -1,2 +1,0 @@
--- Notes with others between them that stand at new places.
-pub mod WithNew

@@ -1,3 +1,0 @@
--- Texts that are inserted between the tokens of a text.
-pub mod Woven
-pub mod Names

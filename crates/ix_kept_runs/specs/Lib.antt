@@ -1,0 +1,14 @@
+pub mod Seen
+pub mod Along
+pub mod Kept
+pub mod Sound
+pub mod Calling
+pub mod Running
+pub mod SoundStatements
+pub mod SoundBodies
+pub mod Called
+pub mod Grounds
+-- What is known of a method and of a class by its number.
+pub mod Declared
+-- What is asked of the methods and constructors that a call runs.
+pub mod Callees

@@ -1,7 +1,0 @@
-pub mod Paths
-pub mod Going
-pub mod Slots
-pub mod Made
-pub mod Accesses
-pub mod Operations
-pub mod Decisions

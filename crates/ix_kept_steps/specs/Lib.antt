@@ -1,9 +1,0 @@
-pub mod Seen
-pub mod Along
-pub mod Kept
-pub mod Sound
-pub mod Calling
-pub mod Running
-pub mod SoundStatements
-pub mod SoundBodies
-pub mod Called

@@ -1,5 +1,0 @@
-pub mod JoinedLists
-pub mod DeclaredMembers
-pub mod AcceptedTables
-pub mod MethodsFound
-pub mod PlacesOfFields

@@ -1,2 +1,0 @@
--- What is known of a method and of a class by its number.
-pub mod Declared

@@ -1,6 +1,0 @@
-pub mod Forms
-pub mod Lists
-pub mod Assignments
-pub mod Conditions
-pub mod CallForms
-pub mod Expressions

@@ -1,4 +1,0 @@
-pub mod LexedInts
-pub mod ParsedExpressions
-pub mod ParsedStatements
-pub mod ParsedTrees

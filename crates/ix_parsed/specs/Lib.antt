@@ -1,2 +1,0 @@
--- Tokens whose literals are ints.
-pub mod IntTokens
