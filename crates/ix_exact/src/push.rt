@@ -12,8 +12,7 @@ use std::alloc::AllocError;
 pub fn push_fact(out: &mut Vec<Fact>, fact: Fact) -> Result<(), AllocError>
     ensures { OnOk result (out.new.items ≡ out.old.items ++ fact ∷ []) }
 {
-    out.push(fact)?;
-    Ok(())
+    out.push(fact).map_err(AllocError::from)
 }
 
 /// Adds `p < q + c`, where the constant is kept.

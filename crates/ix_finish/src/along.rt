@@ -176,9 +176,7 @@ fn push_both_above(
 ) -> Result<(), AllocError>
     ensures { OnOk result (out.new.items ≡ out.old.items ++ kept (each (rule.step_above t.now q.now c.now) on_other.now ++ each (rule.bound_above t.now q.now c.now) on_other.now)) }
 {
-    push_steps_above(out, t, q, c, on_other)?;
-    push_bounds_above(out, t, q, c, on_other)?;
-    Ok(())
+    push_steps_above(out, t, q, c, on_other).and(push_bounds_above(out, t, q, c, on_other))
 }
 
 fn push_all_above<K: Indexed>(
@@ -207,9 +205,7 @@ fn push_both_below(
 ) -> Result<(), AllocError>
     ensures { OnOk result (out.new.items ≡ out.old.items ++ kept (each (rule.step_below t.now p.now c.now) on_other.now ++ each (rule.bound_below t.now p.now c.now) on_other.now)) }
 {
-    push_steps_below(out, t, p, c, on_other)?;
-    push_bounds_below(out, t, p, c, on_other)?;
-    Ok(())
+    push_steps_below(out, t, p, c, on_other).and(push_bounds_below(out, t, p, c, on_other))
 }
 
 fn push_all_below<K: Indexed>(
@@ -239,9 +235,7 @@ fn push_along_less<K: Indexed>(
 ) -> Result<(), AllocError>
     ensures { OnOk result (out.new.items ≡ out.old.items ++ kept (over.along_by (K.on_path know.now) t.now (Less p.now q.now c.now))) }
 {
-    push_all_above(out, know, p, t, q, c)?;
-    push_all_below(out, know, q, t, p, c)?;
-    Ok(())
+    push_all_above(out, know, p, t, q, c).and(push_all_below(out, know, q, t, p, c))
 }
 
 /// What a new difference gives along stored differences and bounds.

@@ -22,9 +22,8 @@ pub fn push_finish_int<K: Indexed>(
 ) -> Result<(), AllocError>
     ensures { OnOk result (out.new.items ≡ out.old.items ++ kept (over.finish_int (in_orders (K.known know.now)) (K.on_path know.now) (K.int_paths know.now) (K.array_paths know.now) new.now t.now)) }
 {
-    push_along(out, know, t, new)?;
     let (low, high) = (new_low(new, t), new_high(new, t));
-    push_by_ranges(
+    push_along(out, know, t, new).and(push_by_ranges(
         out,
         know,
         know.int_list(),
@@ -33,7 +32,7 @@ pub fn push_finish_int<K: Indexed>(
         t,
         low,
         high,
-    )
+    ))
 }
 
 /// Adds the rest of the facts on an array: the named ints that are at most its length, by ranges.
