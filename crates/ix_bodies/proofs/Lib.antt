@@ -1,3 +1,4 @@
+pub mod MeantNames
 pub mod NewLocals
 pub mod Prefix
 pub mod Told

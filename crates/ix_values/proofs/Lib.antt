@@ -1,2 +1,0 @@
--- Passed on from ix_scopes.
-pub use Rattle.ix_scopes.proofs.MeantNames
