@@ -1,4 +1,3 @@
-mod InputsRead
 -- Passed on from ix_finding.
 pub use Rattle.ix_finding.proofs.BytesFound
 pub use Rattle.ix_finding.proofs.OneFinding

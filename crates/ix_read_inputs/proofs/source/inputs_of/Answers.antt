@@ -2,11 +2,11 @@ use Rattle.std.proofs.Common.{◌∙◌, ◌+◌, ℕ, length, Err, ap, subst, a
 use Rattle.ix_outside.specs.Outside.{bytes_under, first_given, Rose}
 use Rattle.ix_outside.specs.Reading.{IsFront}
 use Rattle.ix_words.specs.Shown.{shown}
-use Rattle.ix_finding.specs.Findings.{seen}
+use Rattle.ix_command_inputs.specs.Findings.{seen}
 use Rattle.ix_command_inputs.specs.Sources.{file_in, cert_in}
 use Rattle.ix_command_inputs.specs.Opened.{bytes_of, WasUnread}
-use Rattle.ix_command_inputs.proofs.InputsRead.{ReadTwo, read_two, of_source, reads_two, cert_length}
-use Rattle.ix_command_inputs.proofs.source.inputs_of.Goals as goal
+use Rattle.ix_read_inputs.proofs.InputsRead.{ReadTwo, read_two, of_source, reads_two, cert_length}
+use Rattle.ix_read_inputs.proofs.source.inputs_of.Goals as goal
 
 pub returns-in-Err-Failed-read_file-clause-cert_failed : goal.returns-in-Err-Failed-read_file-clause-cert_failed
 returns-in-Err-Failed-read_file-clause-cert_failed g c = λ failed.
