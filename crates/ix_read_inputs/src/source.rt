@@ -1,12 +1,11 @@
 //! What a command is answered on: its source, that is its file, joined with the library where that is asked, or the workload of `bench`; and the certificate.
-ghost use Rattle.std.specs.Prelude.{◌≡◌, ◌≤◌, ◌+◌, ◌++◌, ℕ, List, [], ◌∷◌, Option, Some, None, length, option_map, IfOk, OnOk, IsErrOf};
+ghost use Rattle.std.specs.Prelude.{◌≡◌, ◌≤◌, ◌+◌, ◌++◌, ℕ, List, [], ◌∷◌, Option, Some, None, length, option_map, IfOk, IfSome, OnOk, IsErrOf};
 ghost use Rattle.ix_outside.specs.Outside.{Files, bytes_under, first_given, second_given};
 ghost use Rattle.ix_outside.specs.Reading.{most_bytes, most_certificate, most_turns, IsFront, IsAllOrPast};
 ghost use Rattle.ix_command_inputs.specs.Found.{Finding as FoundOf, Found};
 ghost use Rattle.ix_command_inputs.specs.Findings.{seen, IsPlaced, HasFormed};
 ghost use Rattle.ix_command_inputs.specs.Sources as spec;
 ghost use Rattle.ix_command_inputs.specs.Opened.{WasUnread, ReadsWithin, bytes_of, listed, names_of, given_of, opened_by, IsOpened};
-ghost use Rattle.ix_words.specs.Commands.{Bench};
 ghost use Rattle.ix_words.specs.Shown.{shown};
 
 use ix_command_inputs::{Finding, Inputs, of_bytes};
@@ -16,14 +15,34 @@ use ix_outside::{MOST_BYTES, MOST_CERTIFICATE, ReadError, Source, read_file};
 use ix_words::Command;
 use std::alloc::{AllocError, Global};
 
-/// The workload of so many methods.
-fn workload(alloc: Global, count: u32) -> Result<Vec<u8>, ReadError>
+/// The file that a command names as its source, and whether it is joined with the library: none for the workload of `bench`.
+fn named<'a>(command: &Command<'a>) -> Option<(&'a str, bool)>
     ensures { record {
-      bytes : IfOk result (λ bytes. bytes.items ≡ spec.source_bytes (Bench count) []);
+      file : option_map (λ named. named.0.now) result ≡ spec.file_in (shown command.now);
+      judged : IfSome result (λ named. (bytes : List ℕ) → spec.source_bytes (shown command.now) bytes ≡ spec.judged_bytes named.1 bytes);
+    } }
+{
+    match command {
+        Command::Check { library, file, .. } => Some((file, *library)),
+        Command::Run { library, file, .. } => Some((file, *library)),
+        Command::Bench(_) => None,
+        Command::Verify { library, file, .. } => Some((file, *library)),
+        Command::Guard { file, .. } => Some((file, false)),
+    }
+}
+
+/// The workload of a command that names no file.
+fn workload(alloc: Global, command: &Command<'_>) -> Result<Vec<u8>, ReadError>
+    requires { spec.file_in (shown command.now) ≡ None }
+    ensures { record {
+      bytes : IfOk result (λ bytes. (any : List ℕ) → bytes.items ≡ spec.source_bytes (shown command.now) any);
       calm : IsErrOf result ReadError.Failed → ⊥;
     } }
 {
-    match generate(alloc, count) {
+    let Command::Bench(count) = command else {
+        unreachable!()
+    };
+    match generate(alloc, *count) {
         Ok(bytes) => Ok(bytes),
         Err(_) => Err(ReadError::Memory),
     }
@@ -70,18 +89,12 @@ fn source_of<S: Source>(
     ensures files { S.files files.new ≡ S.files files.old }
     ensures keeps_sure { (other : List ℕ) → S.IsSure files.old other → S.IsSure files.new other }
 {
-    match command {
-        Command::Check { library, file, .. } => {
-            judged(alloc, *library, read_file(alloc, files, file, MOST_BYTES)?)
+    match named(command) {
+        None => workload(alloc, command),
+        Some((file, library)) => {
+            let bytes = read_file(alloc, files, file, MOST_BYTES)?;
+            judged(alloc, library, bytes)
         }
-        Command::Run { library, file, .. } => {
-            judged(alloc, *library, read_file(alloc, files, file, MOST_BYTES)?)
-        }
-        Command::Bench(count) => workload(alloc, *count),
-        Command::Verify { library, file, .. } => {
-            judged(alloc, *library, read_file(alloc, files, file, MOST_BYTES)?)
-        }
-        Command::Guard { file, .. } => read_file(alloc, files, file, MOST_BYTES),
     }
 }
 
