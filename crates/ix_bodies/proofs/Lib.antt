@@ -1,4 +1,3 @@
-pub mod MeantNames
 pub mod NewLocals
 pub mod Prefix
 pub mod Told

@@ -2,8 +2,8 @@
 use Rattle.std.proofs.Common.{◌≡◌, ◌++◌, [], length, take, sym, ◌∙◌, ap, append_assoc}
 use Rattle.std.proofs.lemmas.List.{append-nil}
 use Rattle.std.proofs.Math.Seq.{take-append_seam}
-use Rattle.ix_bodies.specs.declared.scope.Scopes.{Scopes}
-use Rattle.ix_bodies.specs.Here.{Extends}
+use Rattle.ix_values.specs.Scopes.{Scopes}
+use Rattle.ix_values.specs.Here.{Extends}
 
 pub extends_same : (s t : Scopes) → t.params ≡ s.params → t.locals.entries ≡ s.locals.entries → Extends s t
 extends_same s t params locals = record { params = params; more = []; locals = locals ∙ sym (append-nil s.locals.entries) }

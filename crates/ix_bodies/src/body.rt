@@ -4,18 +4,17 @@ ghost use Rattle.std.specs.Prelude.{◌≡◌, ◌++◌, ◌+◌, ◌<◌, ◌^�
 ghost use Rattle.ix_meaning.specs.Bodies as spec;
 ghost use Rattle.ix_meaning.specs.Declarators as declared;
 ghost use Rattle.ix_meaning.specs.Rules as rules;
-ghost use Rattle.ix_world.specs.Begun.{Begins};
-ghost use Rattle.ix_bodies.specs.Here.{here, Extends};
+ghost use Rattle.ix_values.specs.Begun.{Begins};
+ghost use Rattle.ix_values.specs.Here.{here, Extends};
 
 use crate::locals::declare;
-use crate::rules::{wrong, wrong_if};
-use crate::scope::Scopes;
-use crate::values::{check, value};
 use ix_meaning::{Note, Rule};
 use ix_text::{List, Span};
 use ix_tree::{Expr, LocalDecl, Stmt, StmtKind};
-use ix_types::{BOOLEAN, Need};
-use ix_world::{Begun, World, begin_with, further_annotations, own_annotations};
+use ix_values::{
+    BOOLEAN, Begun, Need, Scopes, World, begin_with, check, further_annotations, own_annotations,
+    value, wrong, wrong_if,
+};
 use std::alloc::{AllocError, Global};
 
 fn condition(

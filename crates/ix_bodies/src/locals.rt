@@ -5,19 +5,18 @@ ghost use Rattle.ix_meaning.specs.Bodies as spec;
 ghost use Rattle.ix_meaning.specs.Scope.{meant};
 ghost use Rattle.indexmap.specs.IndexMap.{get_by_text};
 ghost use Rattle.ix_bodies.specs.Added.{AddsLast};
-ghost use Rattle.ix_world.specs.Begun.{annotated};
-ghost use Rattle.ix_bodies.specs.Here.{here, names, local_known_as, Extends};
+ghost use Rattle.ix_values.specs.Begun.{annotated};
+ghost use Rattle.ix_values.specs.Here.{here, names, local_known_as, Extends};
 
-use crate::naming::InAnnotation;
-use crate::rules::{note_declared, wrong_if};
-use crate::scope::{Local, Scopes};
-use crate::values::fill;
 use indexmap::IndexMap;
 use ix_core::{Name, Type_};
 use ix_meaning::{Note, Rule};
 use ix_text::List;
 use ix_tree::{Init, LocalDecl};
-use ix_world::{Annotations, Declaration, World, of_variable, variable};
+use ix_values::{
+    Annotations, Declaration, InAnnotation, Local, Scopes, World, fill, note_declared, of_variable,
+    variable, wrong_if,
+};
 use std::alloc::{AllocError, Global};
 
 /// What fills a variable of that type.

@@ -1,5 +1,5 @@
 use Rattle.std.proofs.Common.{◌≡◌, ◌++◌, ◌+◌, drop, map}
-use Rattle.ix_bodies.specs.Here.{here, Extends}
+use Rattle.ix_values.specs.Here.{here, Extends}
 use Rattle.ix_meaning.specs.Bodies as spec
 use Rattle.ix_meaning.specs.Declarators as declared
 use Rattle.ix_bodies.proofs.body.declare_further.Given as goal

@@ -1,5 +1,5 @@
 use Rattle.std.proofs.Common.{◌≡◌, ◌++◌, drop}
-use Rattle.ix_bodies.specs.Here.{here}
+use Rattle.ix_values.specs.Here.{here}
 use Rattle.ix_meaning.specs.Bodies as spec
 use Rattle.ix_bodies.proofs.body.run_all.Given as goal
 

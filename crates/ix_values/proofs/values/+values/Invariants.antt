@@ -1,7 +1,7 @@
 use Rattle.std.proofs.Common.{◌≡◌, ◌++◌, map, drop}
-use Rattle.ix_bodies.specs.Here.{here}
+use Rattle.ix_scopes.specs.Here.{here}
 use Rattle.ix_meaning.specs.Values as spec
-use Rattle.ix_bodies.proofs.values.+values.Given as goal
+use Rattle.ix_values.proofs.values.+values.Given as goal
 
 abbrev pub invariant-arguments-loop-i : goal.invariant-arguments-loop-i
 invariant-arguments-loop-i l =

@@ -1,0 +1,2 @@
+-- Passed on from ix_scopes.
+pub use Rattle.ix_scopes.proofs.MeantNames
