@@ -3,21 +3,21 @@ use Rattle.std.specs.Prelude.{◌≡◌, Bool, true, ◌||◌, ℤ, negsuc, Opti
 use Rattle.std.specs.Int.{int_max}
 use Rattle.std.proofs.Common.{inl, inr, ap, sym, ◌∙◌, subst, ⊎_elim}
 use Rattle.std.proofs.lemmas.Bool.{false≢true, and_parts}
-use Rattle.ix_index.specs.Path.{Path}
-use Rattle.ix_index.specs.PathOff.{PathOff}
-use Rattle.ix_index.specs.PathOff.TheVariants.{Nothing, Plus, Minus}
-use Rattle.ix_index.specs.Fact.{Fact}
-use Rattle.ix_index.specs.Fact.TheVariants.{Rng, LenRng, Low, Same, IsLen, Less, Sum, Search, Neg, Upper}
-use Rattle.ix_index.specs.Bounds
-use Rattle.ix_index.specs.Bounds.{is_path, when, says_same, stored_same, best, greatest}
-use Rattle.ix_index.specs.Exact.{if_so, each}
-use Rattle.ix_index.specs.Facts.{IsIn}
-use Rattle.ix_index.specs.Forget.{names}
-use Rattle.ix_index.specs.PathOrder.{path_itself, path_same}
-use Rattle.ix_index.proofs.FactLists.{in_left, in_right, in_either}
-use Rattle.ix_index.specs.OnPaths.{HasNamed}
-use Rattle.ix_index.specs.Cases.{by_test}
-use Rattle.ix_index.proofs.Tests.{or_first, or_second}
+use Rattle.ix_facts.specs.Path.{Path}
+use Rattle.ix_facts.specs.PathOff.{PathOff}
+use Rattle.ix_facts.specs.PathOff.TheVariants.{Nothing, Plus, Minus}
+use Rattle.ix_facts.specs.Fact.{Fact}
+use Rattle.ix_facts.specs.Fact.TheVariants.{Rng, LenRng, Low, Same, IsLen, Less, Sum, Search, Neg, Upper}
+use Rattle.ix_facts.specs.Bounds
+use Rattle.ix_facts.specs.Bounds.{is_path, when, says_same, stored_same, best, greatest}
+use Rattle.ix_facts.specs.Exact.{if_so, each}
+use Rattle.ix_facts.specs.Facts.{IsIn}
+use Rattle.ix_facts.specs.Forget.{names}
+use Rattle.ix_facts.specs.PathOrder.{path_itself, path_same}
+use Rattle.ix_facts.proofs.FactLists.{in_left, in_right, in_either}
+use Rattle.ix_facts.specs.OnPaths.{HasNamed}
+use Rattle.ix_facts.specs.Cases.{by_test}
+use Rattle.ix_facts.proofs.Tests.{or_first, or_second}
 use Rattle.ix_bounds.specs.OnArrays.{alike_on}
 use Rattle.ix_bounds.proofs.BestOfParts.{joined, Counts, same_greatest, greatest_of_both}
 

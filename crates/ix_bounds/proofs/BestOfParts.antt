@@ -4,10 +4,10 @@ use Rattle.std.specs.Int.{int_min, int_max}
 use Rattle.std.proofs.Common.{add-one, inl, inr, ap, sym, ◌∙◌, arith, ⊎_elim}
 use Rattle.std.proofs.Math.Seq.{drop-cons}
 use Rattle.std.proofs.lemmas.Int.{ints, clamps}
-use Rattle.ix_index.specs.Fact.{Fact}
-use Rattle.ix_index.specs.Facts.{IsIn}
-use Rattle.ix_index.specs.Bounds.{best, at_least, at_most, greatest}
-use Rattle.ix_index.specs.Exact.{each}
+use Rattle.ix_facts.specs.Fact.{Fact}
+use Rattle.ix_facts.specs.Facts.{IsIn}
+use Rattle.ix_facts.specs.Bounds.{best, at_least, at_most, greatest}
+use Rattle.ix_facts.specs.Exact.{each}
 
 max_joined : (x y z : ℤ) → int_max (int_max x y) z ≡ int_max x (int_max y z)
 max_joined x y z = omega (arith, ints, clamps)

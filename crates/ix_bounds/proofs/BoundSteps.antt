@@ -3,16 +3,16 @@ use Rattle.std.specs.Prelude.{◌≡◌, true, ℤ, pos, ◌+ℤ◌, ◌-ℤ◌,
 use Rattle.std.specs.Option.{option_map}
 use Rattle.std.proofs.Common.{sym, ap, subst, ◌∙◌}
 use Rattle.std.proofs.lemmas.List.Elements.{All-nil, All-cons, All-head, All-tail, All-append}
-use Rattle.ix_index.specs.Path.{Path}
-use Rattle.ix_index.specs.PathOff.{PathOff}
-use Rattle.ix_index.specs.PathOff.TheVariants.{Nothing, Plus, Minus}
-use Rattle.ix_index.specs.Fact.{Fact}
-use Rattle.ix_index.specs.Fact.TheVariants.{Rng, LenRng, Low, Same, IsLen, Less, Sum, Search, Neg, Upper}
-use Rattle.ix_index.specs.Cases.{by_test}
-use Rattle.ix_index.specs.Facts.{orders, is_default, in_orders}
-use Rattle.ix_index.specs.Small.{HasSmallNumbers}
-use Rattle.ix_index.specs.Bounds
-use Rattle.ix_index.specs.Bounds.{is_path, when}
+use Rattle.ix_facts.specs.Path.{Path}
+use Rattle.ix_facts.specs.PathOff.{PathOff}
+use Rattle.ix_facts.specs.PathOff.TheVariants.{Nothing, Plus, Minus}
+use Rattle.ix_facts.specs.Fact.{Fact}
+use Rattle.ix_facts.specs.Fact.TheVariants.{Rng, LenRng, Low, Same, IsLen, Less, Sum, Search, Neg, Upper}
+use Rattle.ix_facts.specs.Cases.{by_test}
+use Rattle.ix_facts.specs.Facts.{orders, is_default, in_orders}
+use Rattle.ix_facts.specs.Small.{HasSmallNumbers}
+use Rattle.ix_facts.specs.Bounds
+use Rattle.ix_facts.specs.Bounds.{is_path, when}
 use Rattle.ix_bounds.specs.Lengths.{length_less_by}
 
 module _ (facts : List Fact) (p : Path) (fact : Fact) where

@@ -4,10 +4,10 @@ use Rattle.std.specs.Int.{int_min, int_max}
 use Rattle.std.proofs.Common.{arith, sym, ap, ◌∙◌, FitsSigned, w32, w64, to_z, of_z, drop, get_or}
 use Rattle.std.proofs.lemmas.Int.{ints, clamps, to_z-of_z}
 use Rattle.std.proofs.lemmas.List.{at_drop_more}
-use Rattle.ix_index.specs.Ints.{IsInt}
-use Rattle.ix_index.specs.Fact.{Fact}
-use Rattle.ix_index.specs.Small.{IsEnd, IsLimit, IsBound}
-use Rattle.ix_index.specs.Bounds.{best, greatest, least, at_least, at_most}
+use Rattle.ix_facts.specs.Ints.{IsInt}
+use Rattle.ix_facts.specs.Fact.{Fact}
+use Rattle.ix_facts.specs.Small.{IsEnd, IsLimit, IsBound}
+use Rattle.ix_facts.specs.Bounds.{best, greatest, least, at_least, at_most}
 
 abbrev pub kept : ℤ → ℤ
 kept n = to_z w64 (of_z w64 n)

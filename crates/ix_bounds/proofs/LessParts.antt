@@ -3,11 +3,11 @@ use Rattle.std.specs.Prelude.{◌≡◌, ℤ, Option, Some, None, List, [], ◌�
 use Rattle.std.specs.Int.{int_min}
 use Rattle.std.proofs.Common.{ap, sym, ◌∙◌, arith}
 use Rattle.std.proofs.lemmas.Int.{ints, clamps}
-use Rattle.ix_index.specs.Path.{Path}
-use Rattle.ix_index.specs.Fact.{Fact}
-use Rattle.ix_index.specs.Fact.TheVariants.{Rng, LenRng, Low, Same, IsLen, Less, Sum, Search, Neg, Upper}
-use Rattle.ix_index.specs.Bounds
-use Rattle.ix_index.specs.Bounds.{best, least, fact_less_by}
+use Rattle.ix_facts.specs.Path.{Path}
+use Rattle.ix_facts.specs.Fact.{Fact}
+use Rattle.ix_facts.specs.Fact.TheVariants.{Rng, LenRng, Low, Same, IsLen, Less, Sum, Search, Neg, Upper}
+use Rattle.ix_facts.specs.Bounds
+use Rattle.ix_facts.specs.Bounds.{best, least, fact_less_by}
 use Rattle.ix_bounds.specs.Lengths.{length_less_by}
 use Rattle.ix_bounds.proofs.BestOfParts.{least_joined}
 

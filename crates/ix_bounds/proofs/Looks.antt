@@ -1,19 +1,19 @@
 -- Which path each bound looks at: a fact that does not name it gives no number, and is no answer to a question.
 use Rattle.std.specs.Prelude.{◌≡◌, Bool, true, false, ◌||◌, ◌&&◌, List, [], ◌∷◌, filter, refl}
 use Rattle.std.proofs.Common.{ap, sym, ◌∙◌}
-use Rattle.ix_index.specs.Path.{Path}
-use Rattle.ix_index.specs.PathOff.{PathOff}
-use Rattle.ix_index.specs.PathOff.TheVariants.{Nothing, Plus, Minus}
-use Rattle.ix_index.specs.Fact.{Fact}
-use Rattle.ix_index.specs.Fact.TheVariants.{Rng, LenRng, Low, Same, IsLen, Less, Sum, Search, Neg, Upper}
-use Rattle.ix_index.specs.Bounds
-use Rattle.ix_index.specs.Bounds.{is_path, is_offset, says_same, stored_same, length_low_by, length_high_by, range_low_by, range_high_by, fact_less_by}
-use Rattle.ix_index.specs.Assume.{has, is_length, is_search, is_negative}
-use Rattle.ix_index.specs.Forget.{names}
-use Rattle.ix_index.specs.OnPaths.{LooksOnly, HasNamed}
-use Rattle.ix_index.specs.Cases.{by_test}
+use Rattle.ix_facts.specs.Path.{Path}
+use Rattle.ix_facts.specs.PathOff.{PathOff}
+use Rattle.ix_facts.specs.PathOff.TheVariants.{Nothing, Plus, Minus}
+use Rattle.ix_facts.specs.Fact.{Fact}
+use Rattle.ix_facts.specs.Fact.TheVariants.{Rng, LenRng, Low, Same, IsLen, Less, Sum, Search, Neg, Upper}
+use Rattle.ix_facts.specs.Bounds
+use Rattle.ix_facts.specs.Bounds.{is_path, is_offset, says_same, stored_same, length_low_by, length_high_by, range_low_by, range_high_by, fact_less_by}
+use Rattle.ix_facts.specs.Assume.{has, is_length, is_search, is_negative}
+use Rattle.ix_facts.specs.Forget.{names}
+use Rattle.ix_facts.specs.OnPaths.{LooksOnly, HasNamed}
+use Rattle.ix_facts.specs.Cases.{by_test}
 use Rattle.ix_bounds.specs.Lengths.{length_less_by}
-use Rattle.ix_index.proofs.Tests.{off, not_first, not_second, no_number}
+use Rattle.ix_facts.proofs.Tests.{off, not_first, not_second, no_number}
 
 both_first : (x y : Bool) → x ≡ false → (x && y) ≡ false
 both_first x y n = ap (λ b. b && y) n

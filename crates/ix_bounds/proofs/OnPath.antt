@@ -2,13 +2,13 @@
 use Rattle.std.specs.Prelude.{◌≡◌, pos, List}
 use Rattle.std.specs.Int.{int_min, int_max}
 use Rattle.std.proofs.Common.{ap}
-use Rattle.ix_index.specs.Ints.{least_int, greatest_int}
-use Rattle.ix_index.specs.Path.{Path}
-use Rattle.ix_index.specs.PathOff.{PathOff}
-use Rattle.ix_index.specs.Fact.{Fact}
-use Rattle.ix_index.specs.Bounds
-use Rattle.ix_index.specs.Bounds.{at_least, at_most, greatest, least, length_low_by, length_high_by, range_low_by, range_high_by}
-use Rattle.ix_index.specs.OnPaths.{HasNamed, best_on}
+use Rattle.ix_facts.specs.Ints.{least_int, greatest_int}
+use Rattle.ix_facts.specs.Path.{Path}
+use Rattle.ix_facts.specs.PathOff.{PathOff}
+use Rattle.ix_facts.specs.Fact.{Fact}
+use Rattle.ix_facts.specs.Bounds
+use Rattle.ix_facts.specs.Bounds.{at_least, at_most, greatest, least, length_low_by, length_high_by, range_low_by, range_high_by}
+use Rattle.ix_facts.specs.OnPaths.{HasNamed, best_on}
 use Rattle.ix_bounds.proofs.Looks.{looks_length_low, looks_length_high, looks_range_low, looks_range_high, looks_limit, looks_stored_upper, looks_upper}
 
 module _ (part all : List Fact) where

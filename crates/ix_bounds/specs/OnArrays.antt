@@ -1,10 +1,10 @@
 -- The facts on the arrays of which facts say that they have an array's length.
 use Rattle.std.specs.Prelude.{List, []}
-use Rattle.ix_index.specs.Path.{Path}
-use Rattle.ix_index.specs.Fact.{Fact}
-use Rattle.ix_index.specs.Fact.TheVariants.{Same}
-use Rattle.ix_index.specs.Bounds.{is_path}
-use Rattle.ix_index.specs.Exact.{if_so}
+use Rattle.ix_facts.specs.Path.{Path}
+use Rattle.ix_facts.specs.Fact.{Fact}
+use Rattle.ix_facts.specs.Fact.TheVariants.{Same}
+use Rattle.ix_facts.specs.Bounds.{is_path}
+use Rattle.ix_facts.specs.Exact.{if_so}
 
 -- where the fact says that an array has the length of a, the facts on that array
 abbrev pub alike_on : (Path → List Fact) → Path → Fact → List Fact

@@ -1,12 +1,12 @@
 //! The ends of ranges.
 
 ghost use Rattle.std.specs.Prelude.{◌≡◌, All, IfSome};
-ghost use Rattle.ix_index.specs.Bounds as spec;
-ghost use Rattle.ix_index.specs.Small.{IsEnd, HasSmallNumbers};
+ghost use Rattle.ix_facts.specs.Bounds as spec;
+ghost use Rattle.ix_facts.specs.Small.{IsEnd, HasSmallNumbers};
 
 use crate::groups::Groups;
 use crate::numbers::{at_least, at_most};
-use ix_index::{Fact, Path, is_same_path};
+use ix_facts::{Fact, Path, is_same_path};
 
 /// The least int.
 const LEAST: i64 = -2147483648;

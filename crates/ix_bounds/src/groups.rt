@@ -1,18 +1,18 @@
 //! Facts by the paths that they name.
 
 ghost use Rattle.std.specs.Prelude.{◌≡◌, All, IfSome, List, filter};
-ghost use Rattle.ix_index.specs.Path.{Path};
-ghost use Rattle.ix_index.specs.Fact.{Fact};
-ghost use Rattle.ix_index.specs.Bounds.{is_path};
-ghost use Rattle.ix_index.specs.Facts.{IsIn};
-ghost use Rattle.ix_index.specs.Forget.{names};
-ghost use Rattle.ix_index.specs.Small.{IsEnd, HasSmallNumbers};
+ghost use Rattle.ix_facts.specs.Path.{Path};
+ghost use Rattle.ix_facts.specs.Fact.{Fact};
+ghost use Rattle.ix_facts.specs.Bounds.{is_path};
+ghost use Rattle.ix_facts.specs.Facts.{IsIn};
+ghost use Rattle.ix_facts.specs.Forget.{names};
+ghost use Rattle.ix_facts.specs.Small.{IsEnd, HasSmallNumbers};
 ghost use Rattle.ix_bounds.specs.Ends.{ends_in};
-ghost use Rattle.ix_index.specs.Bounds as bounds;
+ghost use Rattle.ix_facts.specs.Bounds as bounds;
 ghost use Rattle.ix_bounds.specs.Links.{links_in};
 ghost use Rattle.ix_bounds.specs.Lengths.{lengths_in};
 
-use ix_index::{Fact, Path};
+use ix_facts::{Fact, Path};
 
 /// Facts in all their orders, with those on each path at hand. No call takes memory.
 pub trait Groups {

@@ -3,7 +3,7 @@
 //! What goes in: facts in all their orders, with those that name a path at hand. What comes out: what an int or a length is at least and at most, differences,
 //! bounds from an array's end, and whether two arrays have the same length.
 //! The contract: each is the bound of `ix_facts`, of all facts.
-//! It stands on `ix_index` for the facts on a path, on `ix_facts` for bounds.
+//! It stands on `ix_facts` for the facts on a path, on `ix_facts` for bounds.
 //! It never looks at how facts are kept.
 #![tactic(auto)]
 
@@ -18,7 +18,7 @@ mod upper;
 
 pub use ends::{length_high, length_low, range_high, range_low};
 pub use groups::Groups;
-pub use ix_index::{Indexed, Know, Path, PathClaim, PathOff};
+pub use ix_facts::{Indexed, Know, Path, PathClaim, PathOff};
 pub use limits::{lower_bound, upper_limit};
 pub use numbers::{past, short_of, within};
 pub use said::{has_length, has_negative, has_search, stored_same};

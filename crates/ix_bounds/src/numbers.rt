@@ -2,9 +2,9 @@
 
 ghost use Rattle.std.specs.Prelude.{◌≡◌, IfSome, pos, ◌+ℤ◌, ◌-ℤ◌};
 ghost use Rattle.std.specs.Option.{option_map};
-ghost use Rattle.ix_index.specs.Ints.{IsInt};
-ghost use Rattle.ix_index.specs.Bounds as spec;
-ghost use Rattle.ix_index.specs.Small.{IsEnd, IsLimit, IsBound};
+ghost use Rattle.ix_facts.specs.Ints.{IsInt};
+ghost use Rattle.ix_facts.specs.Bounds as spec;
+ghost use Rattle.ix_facts.specs.Small.{IsEnd, IsLimit, IsBound};
 
 pub(crate) fn at_least(default: i64, number: Option<i64>) -> i64
     ensures { result ≡ spec.at_least default number }

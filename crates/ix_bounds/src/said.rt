@@ -1,11 +1,11 @@
 //! Whether a fact says that two arrays have the same length, or that an int is a length or an answer of a search.
 
 ghost use Rattle.std.specs.Prelude.{◌≡◌};
-ghost use Rattle.ix_index.specs.Assume.{has, is_length, is_search, is_negative};
-ghost use Rattle.ix_index.specs.Bounds as spec;
+ghost use Rattle.ix_facts.specs.Assume.{has, is_length, is_search, is_negative};
+ghost use Rattle.ix_facts.specs.Bounds as spec;
 
 use crate::groups::Groups;
-use ix_index::{Fact, Path, is_same_path};
+use ix_facts::{Fact, Path, is_same_path};
 
 fn says_same(a: &Path, b: &Path, fact: &Fact) -> bool
     ensures { result ≡ spec.says_same a.now b.now fact.now }

@@ -43,3 +43,4 @@ pub use Rattle.ix_lattice.specs.FactMap
 pub use Rattle.ix_lattice.specs.Lattice
 pub use Rattle.ix_lattice.specs.FactMapLaws
 pub use Rattle.ix_lattice.specs.LookUps
+pub mod OnPaths

@@ -10,8 +10,7 @@ ghost use Rattle.ix_facts.specs.PathOff.TheVariants.{Nothing, Minus};
 ghost use Rattle.ix_facts.specs.Fact.TheVariants.{IsLen, Less, Upper};
 
 use ix_exact::{push_less_if, push_upper_if};
-use ix_facts::{Fact, Path, PathOff, is_same_path};
-use ix_index::Indexed;
+use ix_facts::{Fact, Indexed, Path, PathOff, is_same_path};
 use std::alloc::AllocError;
 
 fn push_step_above(

@@ -15,7 +15,7 @@ use Rattle.ix_facts.specs.Facts.{IsIn}
 use Rattle.ix_facts.specs.PathOrder.{path_same}
 use Rattle.ix_facts.specs.AfterTest as rule
 use Rattle.ix_facts.proofs.FactLists.{in_left, in_right, in_either}
-use Rattle.ix_index.specs.OnPaths.{HasNamed, each_on, best_on}
+use Rattle.ix_facts.specs.OnPaths.{HasNamed, each_on, best_on}
 use Rattle.ix_exact.specs.BestLaws.{low_joined, high_joined}
 use Rattle.ix_facts.specs.SameFacts.{HasAll, AreSame}
 use Rattle.ix_core.proofs.Cases.{by_test}

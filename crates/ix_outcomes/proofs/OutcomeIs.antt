@@ -12,7 +12,7 @@ use Rattle.ix_facts.specs.Facts.{IsIn}
 use Rattle.ix_facts.specs.AfterTest as rule
 use Rattle.ix_facts.specs.AfterTest.{Outcome, Below, Apart, Equal, OneArray}
 use Rattle.ix_facts.proofs.FactLists.{in_left, in_right, in_either}
-use Rattle.ix_index.specs.OnPaths.{HasNamed, each_on}
+use Rattle.ix_facts.specs.OnPaths.{HasNamed, each_on}
 use Rattle.std.proofs.lemmas.List.{append_assoc}
 use Rattle.ix_exact.specs.KeptLaws.{kept_joined}
 use Rattle.ix_facts.specs.SameFacts.{AreSame}

@@ -9,7 +9,7 @@ use Rattle.ix_facts.specs.Bounds.{is_path}
 use Rattle.ix_facts.specs.Exact.{if_so, each}
 use Rattle.ix_facts.specs.AfterTest as rule
 use Rattle.ix_facts.specs.AfterTest.{below_by, above_by, at_below, at_above, bound_moved}
-use Rattle.ix_index.specs.OnPaths.{HasNamed, each_on}
+use Rattle.ix_facts.specs.OnPaths.{HasNamed, each_on}
 use Rattle.ix_facts.proofs.Members.{each_equal}
 use Rattle.ix_outcomes.specs.OverGroups as over
 use Rattle.ix_outcomes.proofs.PathsRead.{reads_below, reads_above, reads_moved, reads_part}

@@ -5,7 +5,7 @@ use Rattle.ix_core.specs.declared.fact.Fact.{Fact}
 use Rattle.ix_core.specs.declared.fact.Fact.TheVariants.{Rng, LenRng, Low, Same, IsLen, Less, Sum, Search, Neg, Upper}
 use Rattle.ix_facts.specs.Bounds.{is_path, own_low_by, range_high_by}
 use Rattle.ix_facts.specs.AfterTest.{below_by, above_by, bound_moved}
-use Rattle.ix_index.specs.OnPaths.{ReadsOnly, LooksOnly}
+use Rattle.ix_facts.specs.OnPaths.{ReadsOnly, LooksOnly}
 use Rattle.ix_facts.proofs.Tests.{off, not_first, not_second, none_if, no_number}
 use Rattle.ix_outcomes.specs.OverGroups as over
 

@@ -13,7 +13,7 @@ use crate::parts::push_parts;
 use crate::ranges::{push_ranges_from, push_ranges_to};
 use crate::read::{read_above, read_below};
 use ix_core::{Fact, Path};
-use ix_index::Indexed;
+use ix_facts::Indexed;
 use std::alloc::{AllocError, Global};
 
 fn new_ranges<K: Indexed>(

@@ -14,7 +14,7 @@ use crate::outcome::Outcome;
 use crate::shared::push_passed;
 use ix_core::{Fact, Path};
 use ix_exact::push_fact;
-use ix_index::Indexed;
+use ix_facts::Indexed;
 use std::alloc::{AllocError, Global};
 
 /// Whether p is known to be at most q.

@@ -1,4 +1,4 @@
-use Rattle.ix_index.specs.Bounds as spec
+use Rattle.ix_facts.specs.Bounds as spec
 use Rattle.ix_bounds.proofs.BoundedNumbers.{end_kept, at_most_end, at_most_step}
 use Rattle.ix_bounds.proofs.ends.length_high_on.Goals as goal
 

@@ -1,6 +1,6 @@
 use Rattle.std.proofs.Common.{rules, w64, ap, ◌∙◌}
 use Rattle.std.proofs.lemmas.Int.{to_z-of_z}
-use Rattle.ix_index.specs.Bounds as spec
+use Rattle.ix_facts.specs.Bounds as spec
 use Rattle.ix_bounds.proofs.PartsAlone.{range_high_of}
 use Rattle.ix_bounds.proofs.ends.range_high.Goals as goal
 

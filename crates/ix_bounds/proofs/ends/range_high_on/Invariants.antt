@@ -1,6 +1,6 @@
 use Rattle.std.proofs.Common.{◌≡◌, drop}
-use Rattle.ix_index.specs.Bounds as spec
-use Rattle.ix_index.specs.Small.{IsEnd}
+use Rattle.ix_facts.specs.Bounds as spec
+use Rattle.ix_facts.specs.Small.{IsEnd}
 use Rattle.ix_bounds.proofs.ends.range_high_on.Given as goal
 
 abbrev pub invariant-loop-fact : goal.invariant-loop-fact

@@ -1,4 +1,4 @@
-use Rattle.ix_index.specs.Bounds as spec
+use Rattle.ix_facts.specs.Bounds as spec
 use Rattle.ix_bounds.proofs.BoundedNumbers.{limit_kept, at_most_limit, at_most_step}
 use Rattle.ix_bounds.proofs.limits.limit_among.Goals as goal
 

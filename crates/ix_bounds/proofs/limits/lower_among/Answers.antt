@@ -1,4 +1,4 @@
-use Rattle.ix_index.specs.Bounds as spec
+use Rattle.ix_facts.specs.Bounds as spec
 use Rattle.ix_bounds.proofs.BoundedNumbers.{limit_kept, at_least_limit, at_least_step}
 use Rattle.ix_bounds.proofs.limits.lower_among.Goals as goal
 

@@ -1,6 +1,6 @@
 use Rattle.std.proofs.Common.{◌≡◌, drop}
-use Rattle.ix_index.specs.Bounds as spec
-use Rattle.ix_index.specs.Small.{IsLimit}
+use Rattle.ix_facts.specs.Bounds as spec
+use Rattle.ix_facts.specs.Small.{IsLimit}
 use Rattle.ix_bounds.proofs.limits.lower_among.Given as goal
 
 abbrev pub invariant-loop-fact : goal.invariant-loop-fact

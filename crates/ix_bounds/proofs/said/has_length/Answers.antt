@@ -1,5 +1,5 @@
 use Rattle.std.proofs.Common.{ap, ◌∙◌}
-use Rattle.ix_index.specs.Assume.{has, is_length}
+use Rattle.ix_facts.specs.Assume.{has, is_length}
 use Rattle.ix_bounds.proofs.Looks.{asks_length, has_on}
 use Rattle.ix_bounds.proofs.said.has_length.Goals as goal
 

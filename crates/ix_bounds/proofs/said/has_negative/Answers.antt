@@ -1,5 +1,5 @@
 use Rattle.std.proofs.Common.{ap, ◌∙◌}
-use Rattle.ix_index.specs.Assume.{has, is_negative}
+use Rattle.ix_facts.specs.Assume.{has, is_negative}
 use Rattle.ix_bounds.proofs.Looks.{asks_negative, has_on}
 use Rattle.ix_bounds.proofs.said.has_negative.Goals as goal
 

@@ -1,5 +1,5 @@
 use Rattle.std.proofs.Common.{ap, ◌∙◌}
-use Rattle.ix_index.specs.Assume.{has, is_search}
+use Rattle.ix_facts.specs.Assume.{has, is_search}
 use Rattle.ix_bounds.proofs.Looks.{asks_search, has_on}
 use Rattle.ix_bounds.proofs.said.has_search.Goals as goal
 

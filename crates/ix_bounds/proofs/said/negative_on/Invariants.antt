@@ -1,5 +1,5 @@
 use Rattle.std.proofs.Common.{◌≡◌, drop}
-use Rattle.ix_index.specs.Assume.{has, is_negative}
+use Rattle.ix_facts.specs.Assume.{has, is_negative}
 use Rattle.ix_bounds.proofs.said.negative_on.Given as goal
 
 abbrev pub invariant-loop-fact : goal.invariant-loop-fact

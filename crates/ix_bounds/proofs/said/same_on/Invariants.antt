@@ -1,5 +1,5 @@
 use Rattle.std.proofs.Common.{◌≡◌, drop}
-use Rattle.ix_index.specs.Bounds as spec
+use Rattle.ix_facts.specs.Bounds as spec
 use Rattle.ix_bounds.proofs.said.same_on.Given as goal
 
 abbrev pub invariant-loop-fact : goal.invariant-loop-fact

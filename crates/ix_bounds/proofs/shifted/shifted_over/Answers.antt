@@ -1,5 +1,5 @@
 use Rattle.std.proofs.Common.{rules, arith}
-use Rattle.ix_index.specs.Bounds as spec
+use Rattle.ix_facts.specs.Bounds as spec
 use Rattle.ix_bounds.specs.OnArrays.{alike_on}
 use Rattle.ix_bounds.proofs.BestOfParts.{next_each, counts_still}
 use Rattle.ix_bounds.proofs.shifted.shifted_over.Goals as goal

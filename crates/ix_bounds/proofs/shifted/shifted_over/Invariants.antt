@@ -1,9 +1,9 @@
 use Rattle.std.proofs.Common.{◌≡◌, drop}
 use Rattle.std.specs.Prelude.{IfSome}
 use Rattle.std.specs.Int.{int_max}
-use Rattle.ix_index.specs.Bounds as spec
-use Rattle.ix_index.specs.Exact.{each}
-use Rattle.ix_index.specs.Small.{IsLimit}
+use Rattle.ix_facts.specs.Bounds as spec
+use Rattle.ix_facts.specs.Exact.{each}
+use Rattle.ix_facts.specs.Small.{IsLimit}
 use Rattle.ix_bounds.specs.OnArrays.{alike_on}
 use Rattle.ix_bounds.proofs.shifted.shifted_over.Given as goal
 

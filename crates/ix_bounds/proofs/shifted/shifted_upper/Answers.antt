@@ -1,9 +1,9 @@
 use Rattle.std.proofs.Common.{ap, ◌∙◌}
 use Rattle.std.specs.Prelude.{List, Option, ℤ}
 use Rattle.std.specs.Int.{int_max}
-use Rattle.ix_index.specs.Fact.{Fact}
-use Rattle.ix_index.specs.Bounds as spec
-use Rattle.ix_index.specs.Exact.{each}
+use Rattle.ix_facts.specs.Fact.{Fact}
+use Rattle.ix_facts.specs.Bounds as spec
+use Rattle.ix_facts.specs.Exact.{each}
 use Rattle.ix_bounds.specs.OnArrays.{alike_on}
 use Rattle.ix_bounds.proofs.BestOfParts.{counts_second}
 use Rattle.ix_bounds.proofs.ArraysAlike.{arrays_are}

@@ -1,8 +1,8 @@
 use Rattle.std.proofs.Common.{◌≡◌, drop}
 use Rattle.std.specs.Prelude.{IfSome}
 use Rattle.std.specs.Int.{int_min}
-use Rattle.ix_index.specs.Bounds as spec
-use Rattle.ix_index.specs.Small.{IsEnd}
+use Rattle.ix_facts.specs.Bounds as spec
+use Rattle.ix_facts.specs.Small.{IsEnd}
 use Rattle.ix_bounds.specs.Lengths.{length_less_by}
 use Rattle.ix_bounds.proofs.stored.length_less_on.Given as goal
 

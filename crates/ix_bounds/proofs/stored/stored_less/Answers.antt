@@ -1,7 +1,7 @@
 use Rattle.std.specs.Prelude.{Option, ℤ}
 use Rattle.std.specs.Int.{int_min}
 use Rattle.std.proofs.Common.{ap, sym, ◌∙◌}
-use Rattle.ix_index.specs.Bounds as spec
+use Rattle.ix_facts.specs.Bounds as spec
 use Rattle.ix_bounds.specs.Lengths.{length_less_by}
 use Rattle.ix_bounds.proofs.LessParts.{less_parts}
 use Rattle.ix_bounds.proofs.PartsAlone.{length_less_of}

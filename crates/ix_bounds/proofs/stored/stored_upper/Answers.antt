@@ -1,5 +1,5 @@
 use Rattle.std.proofs.Common.{ap, ◌∙◌}
-use Rattle.ix_index.specs.Bounds as spec
+use Rattle.ix_facts.specs.Bounds as spec
 use Rattle.ix_bounds.proofs.OnPath.{stored_upper_is}
 use Rattle.ix_bounds.proofs.stored.stored_upper.Goals as goal
 

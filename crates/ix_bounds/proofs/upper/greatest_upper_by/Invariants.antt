@@ -1,8 +1,8 @@
 use Rattle.std.proofs.Common.{◌≡◌, drop}
 use Rattle.std.specs.Prelude.{IfSome}
 use Rattle.std.specs.Int.{int_max}
-use Rattle.ix_index.specs.Bounds as spec
-use Rattle.ix_index.specs.Small.{IsBound}
+use Rattle.ix_facts.specs.Bounds as spec
+use Rattle.ix_facts.specs.Small.{IsBound}
 use Rattle.ix_bounds.proofs.upper.greatest_upper_by.Given as goal
 
 abbrev pub invariant-loop-fact : goal.invariant-loop-fact

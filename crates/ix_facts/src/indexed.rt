@@ -7,7 +7,7 @@ ghost use Rattle.ix_facts.specs.Bounds.{is_path};
 ghost use Rattle.ix_facts.specs.Facts.{in_orders};
 ghost use Rattle.ix_facts.specs.Forget.{names};
 
-use ix_facts::{Fact, Know, Path};
+use crate::{Fact, Know, Path};
 
 /// What is known, with the facts on each path at hand. No call takes memory.
 pub trait Indexed: Know {
