@@ -11,8 +11,8 @@ use Rattle.ix_core.specs.Formed.{Formed}
 use Rattle.ix_core.specs.Tables.{method_at, body_of}
 use Rattle.ix_facts.specs.Stores.{Stored, IsBelow, SayTheSame}
 use Rattle.ix_flow.specs.Flow.{Point, Rules, RulesLaws, IsFlow, Anything, Avoids}
-use Rattle.ix_given.specs.Given.{judging, numbered}
-use Rattle.ix_given.proofs.GivenLabels.{all_judged}
+use Rattle.ix_flow.specs.Given.{judging, numbered}
+use Rattle.ix_flow.proofs.GivenLabels.{all_judged}
 use Rattle.ix_audit.specs.MethodRules.{method_rules}
 use Rattle.ix_audit.proofs.ErrorsWeaker.{errors_weaker}
 use Rattle.ix_audit.proofs.MethodLaws.{method_laws}

@@ -4,7 +4,7 @@ use Rattle.ix_core.specs.declared.op.Op.{Op}
 use Rattle.ix_core.specs.Code.{Code, End, Do, If, Break, Continue, Return, Throw, Loop, Condition, Known, Compare, Truth, Both, Either, Opposite}
 use Rattle.ix_core.specs.Posts.{written_answer}
 use Rattle.ix_flow.specs.Flow.{Point, Doing, Returning, Ending, Rules, RulesLaws, Flows, Asks, IsFlow}
-use Rattle.ix_given.specs.Given.{judging, numbered}
+use Rattle.ix_flow.specs.Given.{judging, numbered}
 use Rattle.ix_accepted.proofs.Loops.{EachLoop, EachLoopOf}
 
 -- What these rules, with these labels and others, have to have: those of lawful rules have it, and so have those of lawful rules that judge some labels.

@@ -5,7 +5,7 @@ use Rattle.ix_core.specs.declared.op.Op.{Op}
 use Rattle.ix_core.specs.Code.{Code}
 use Rattle.ix_facts.specs.Stores.{Stored, Unreachable, IsBelow}
 use Rattle.ix_facts.proofs.StoreLaws.{below_below}
-use Rattle.ix_given.specs.Walk.{Notes, IsIn, IsLeast, Joins}
+use Rattle.ix_flow.specs.Walk.{Notes, IsIn, IsLeast, Joins}
 use Rattle.ix_method_errors.specs.Ranked.{Ranked}
 use Rattle.ix_audit.specs.declared.walk.Walk.{Walk}
 use Rattle.ix_audit.specs.Walking.{rules, WalksCode, IsLeastIn, lesser}

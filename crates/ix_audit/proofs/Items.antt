@@ -10,7 +10,7 @@ use Rattle.ix_core.specs.Code.{Code, End, Do, If, Break, Continue, Return, Throw
 use Rattle.ix_core.specs.Posts.{last_done, written_answer}
 use Rattle.ix_facts.specs.Stores.{Stored, Unreachable}
 use Rattle.ix_flow.specs.Flow.{Doing, Returning}
-use Rattle.ix_given.specs.Walk.{Notes, IsLeast, Joins}
+use Rattle.ix_flow.specs.Walk.{Notes, IsLeast, Joins}
 use Rattle.ix_method_errors.specs.Ranked.{Ranked}
 use Rattle.ix_audit.specs.declared.walk.Walk.{Walk}
 use Rattle.ix_audit.specs.AtLabels.{label_of}

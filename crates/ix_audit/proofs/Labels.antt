@@ -2,7 +2,7 @@
 use Rattle.std.proofs.Common.{◌≡◌, ◌⊎◌, inl, inr, ◌↔◌, ℕ, zero, suc, Bool, true, false, IsTrue, List, [], ◌∷◌, ◌++◌, map, slice_get, unwrap_or, Some, None, append-nil, refl, sym, ap, subst, ◌∙◌}
 use Rattle.std.proofs.lemmas.Bool.{cases_Bool, false≢true}
 use Rattle.ix_facts.specs.Stores.{Stored, Unreachable, IsBelow, IsRounded}
-use Rattle.ix_given.specs.Walk.{IsIn, Joins}
+use Rattle.ix_flow.specs.Walk.{IsIn, Joins}
 use Rattle.ix_method_errors.specs.Store.{Store}
 use Rattle.ix_method_errors.specs.StoredFacts.{stored}
 use Rattle.ix_audit.specs.declared.walk.Walk.{Walk}

@@ -9,9 +9,9 @@ use Rattle.ix_core.specs.Code.{Code}
 use Rattle.ix_core.specs.Tables.{method_at, no_method, body_of}
 use Rattle.ix_facts.specs.Stores.{Stored, IsBelow}
 use Rattle.ix_flow.specs.Flow.{Point, Rules, RulesLaws}
-use Rattle.ix_given.specs.Given.{Fails, IsDerivedAt}
-use Rattle.ix_given.specs.Walk.{IsIn}
-use Rattle.ix_given.proofs.WalkExact.{failed_fails, fails_failed, listed_derived, derived_listed, clean_flow}
+use Rattle.ix_flow.specs.Given.{Fails, IsDerivedAt}
+use Rattle.ix_flow.specs.Walk.{IsIn}
+use Rattle.ix_flow.proofs.WalkExact.{failed_fails, fails_failed, listed_derived, derived_listed, clean_flow}
 use Rattle.ix_method_errors.specs.MethodRules.{method_rules}
 use Rattle.ix_method_errors.specs.RuleErrors.{OverridesBy, TextErrors}
 use Rattle.ix_method_errors.proofs.ErrorsWeaker.{errors_weaker}

@@ -12,7 +12,7 @@ use Rattle.ix_facts.proofs.SaidRules.{rounded_mono}
 use Rattle.ix_facts.proofs.StepLaws.{gives_step, told_give, told_least, given_gives, given_least}
 use Rattle.ix_facts.proofs.StoreLaws.{below_itself, store_above, store_least, joined_least}
 use Rattle.ix_flow.specs.Flow.{Rules}
-use Rattle.ix_given.specs.Walk.{IsIn, IsLeast, Joins}
+use Rattle.ix_flow.specs.Walk.{IsIn, IsLeast, Joins}
 use Rattle.ix_lattice.specs.Lattice.{IsJoin}
 use Rattle.ix_method_errors.specs.MethodRules.{RoundedGives, method_rules}
 use Rattle.ix_method_errors.specs.Signs as signs

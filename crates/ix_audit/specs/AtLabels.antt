@@ -7,7 +7,7 @@ use Rattle.ix_core.specs.declared.program.Program.{Program}
 use Rattle.ix_core.specs.Tables.{method_at, body_of}
 use Rattle.ix_facts.specs.Stores.{Stored, Unreachable}
 use Rattle.ix_flow.specs.Flow.{Point}
-use Rattle.ix_given.specs.Given.{Fails, IsDerivedAt}
+use Rattle.ix_flow.specs.Given.{Fails, IsDerivedAt}
 use Rattle.ix_method_errors.specs.MethodRules.{method_rules}
 use Rattle.ix_method_errors.specs.RuleErrors.{PointErrors, TextErrors}
 use Rattle.ix_method_errors.specs.Ranked.{Ranked}

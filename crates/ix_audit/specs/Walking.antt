@@ -12,7 +12,7 @@ use Rattle.ix_core.specs.Tables.{body_of}
 use Rattle.ix_facts.specs.MethodLandmarks.{AreLandmarksOf}
 use Rattle.ix_facts.specs.Stores.{Stored, Unreachable}
 use Rattle.ix_flow.specs.Flow.{Point, Rules}
-use Rattle.ix_given.specs.Walk.{Notes, IsIn, Joins, Adds, Judges, Walks, Splits, WalksBody}
+use Rattle.ix_flow.specs.Walk.{Notes, IsIn, Joins, Adds, Judges, Walks, Splits, WalksBody}
 use Rattle.ix_method_errors.specs.MethodRules.{method_rules}
 use Rattle.ix_method_errors.specs.Naming.{HasSmallNames, HaveSmallNames}
 use Rattle.ix_method_errors.specs.RuleErrors.{OpText, TestEscapes, Somewhere, SomewhereAsked}

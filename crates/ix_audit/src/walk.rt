@@ -4,7 +4,7 @@ ghost use Rattle.std.specs.Prelude.{◌≡◌, ◌↔◌, ◌++◌, [], true, fa
 ghost use Rattle.ix_core.specs.Code.{block_code, cond_code, item_code};
 ghost use Rattle.ix_flow.specs.Flow.{Doing, Returning, Ending};
 ghost use Rattle.ix_core.specs.Tables.{body_of};
-ghost use Rattle.ix_given.specs.Walk.{IsLeast, Joins, WalksBody};
+ghost use Rattle.ix_flow.specs.Walk.{IsLeast, Joins, WalksBody};
 ghost use Rattle.ix_method_errors.specs.Exactly.{IsListed};
 ghost use Rattle.ix_method_errors.specs.StoredFacts.{stored};
 ghost use Rattle.ix_audit.specs.AtLabels.{label_of};

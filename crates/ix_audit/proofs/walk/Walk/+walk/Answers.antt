@@ -7,7 +7,7 @@ use Rattle.ix_core.specs.Code.{Do, If, Break, Continue, Return, Throw, Loop, Kno
 use Rattle.ix_core.proofs.Translated.{cond_code-Compare, cond_code-Truth, cond_code-Both, cond_code-Either, cond_code-Opposite, item_code-If, item_code-Loop}
 use Rattle.ix_facts.specs.Stores.{Unreachable}
 use Rattle.ix_flow.specs.Flow.{Returning}
-use Rattle.ix_given.specs.Walk.{IsLeast}
+use Rattle.ix_flow.specs.Walk.{IsLeast}
 use Rattle.ix_method_errors.specs.StoredFacts.{stored}
 use Rattle.ix_audit.specs.Walking.{notes, rules, AddsAt}
 use Rattle.ix_audit.proofs.Items.{item_as, do_walks, if_walks, break_walks, continue_walks, return_walks, throw_walks, while_walks, do_while_walks, behind_as, asks_on, some_begins, some_goes, some_ends, ask_as, compare_splits, truth_splits, both_split, either_splits, opposite_splits}

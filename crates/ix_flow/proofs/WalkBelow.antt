@@ -4,8 +4,8 @@ use Rattle.ix_core.specs.declared.op.Op.{Op}
 use Rattle.ix_core.specs.Code.{Code, End, Do, If, Break, Continue, Return, Throw, Loop, Condition, Known, Compare, Truth, Both, Either, Opposite}
 use Rattle.ix_core.specs.Posts.{last_done, written_answer}
 use Rattle.ix_flow.specs.Flow.{Point, Doing, Returning, Ending, Rules, RulesLaws, Flows, Asks, IsFlow}
-use Rattle.ix_given.specs.Given.{judging, numbered}
-use Rattle.ix_given.specs.Walk.{Notes, IsIn, Adds, Judges, Walks, Splits, WalksBody}
+use Rattle.ix_flow.specs.Given.{judging, numbered}
+use Rattle.ix_flow.specs.Walk.{Notes, IsIn, Adds, Judges, Walks, Splits, WalksBody}
 
 module _ (R : Rules) {E Errors : Type 0} (Lists : E → Errors → Type 0) (Judged : ℕ → Type 0) (Barred : E → Type 0) where
   -- no loop that is judged failed, and no error that is barred was found

@@ -3,7 +3,7 @@ use Rattle.std.proofs.Common.{ℕ, true, false, ◌≡◌, Option, None, Some}
 use Rattle.ix_core.specs.declared.op.Op.{Op}
 use Rattle.ix_core.specs.Code.{Code, End, Do, If, Break, Continue, Return, Throw, Loop, Condition, Known, Compare, Truth, Both, Either, Opposite}
 use Rattle.ix_flow.specs.Flow.{Point, Rules, Flows, Asks, IsFlow, Anything}
-use Rattle.ix_given.specs.Given.{judging, numbered, Fails}
+use Rattle.ix_flow.specs.Given.{judging, numbered, Fails}
 
 module _ (R : Rules) (Fine : Point → R.Store → Type 0) (labels : ℕ → R.Store) where
   module _ (Judged : ℕ → Type 0) where

@@ -4,11 +4,11 @@ use Rattle.std.proofs.Common.{◌⊎◌, inl, inr, ℕ, ◌≡◌, refl, subst, 
 use Rattle.std.proofs.lemmas.Bool.{cases_eq}
 use Rattle.ix_core.specs.Code.{Code}
 use Rattle.ix_flow.specs.Flow.{Point, Rules, RulesLaws, IsFlow, Anything, Avoids}
-use Rattle.ix_given.specs.Given.{judging, Fails, IsDerivedAt}
-use Rattle.ix_given.specs.Walk.{IsIn, WalksBody}
-use Rattle.ix_given.proofs.GivenLabels.{all_judged}
-use Rattle.ix_given.proofs.WalkBelow.{flow_clear}
-use Rattle.ix_given.proofs.WalkFlows.{clear_flow}
+use Rattle.ix_flow.specs.Given.{judging, Fails, IsDerivedAt}
+use Rattle.ix_flow.specs.Walk.{IsIn, WalksBody}
+use Rattle.ix_flow.proofs.GivenLabels.{all_judged}
+use Rattle.ix_flow.proofs.WalkBelow.{flow_clear}
+use Rattle.ix_flow.proofs.WalkFlows.{clear_flow}
 
 in_or_not : (n : ℕ) (ns : List ℕ) → IsIn n ns ⊎ (IsIn n ns → ⊥)
 in_or_not n [] = inr (λ has. has)

@@ -1,4 +1,0 @@
--- Labels that are given.
-pub mod Given
--- The walk over a body with given labels.
-pub mod Walk
