@@ -1,5 +1,3 @@
--- What mirrors the code, and needs no belief: `proofs/` ties the rules to the relation of `ix_grammar`, contracts tie the code to the rules.
--- The shapes of rules and what they read; the rules, by what they read; what a function promises that follows a rule, and longer rules as
 -- the code divides them.
 pub mod Rule
 pub mod ListRules

@@ -8,3 +8,4 @@
 pub mod aims;
 pub mod begun;
 pub mod stop;
+

@@ -33,8 +33,8 @@ use Rattle.ix_meaning.specs.Declarators.{is_further, first_of, first_behind}
 use Rattle.ix_formed.specs.Additions.{AllOf}
 use Rattle.ix_formed.specs.Written.{is_written_type}
 use Rattle.ix_formed.proofs.ParsedStatements.{type_found}
-use Rattle.ix_places.proofs.TypePlaces.{type_stands}
-use Rattle.ix_places.proofs.StmtPlaces.{order_at}
+use Rattle.ix_descent.proofs.TypePlaces.{type_stands}
+use Rattle.ix_descent.proofs.StmtPlaces.{order_at}
 use Rattle.ix_moved.specs.Bare.{bare_source}
 use Rattle.ix_names_moved.specs.Joint.{AllShare, ClassShares, IsJoint}
 use Rattle.ix_names_moved.proofs.AcceptsAnywhere.{accepts_anywhere}

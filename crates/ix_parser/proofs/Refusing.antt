@@ -13,9 +13,9 @@ use Rattle.ix_descent.specs.Rule.{Rule, pure, take, bind, stop, loop, Turn, On, 
 use Rattle.ix_descent.specs.SourceRules.{source}
 use Rattle.ix_grammar.specs.Refusals.{HasTree}
 use Rattle.ix_descent.proofs.Runs.{same_ok}
-use Rattle.ix_places.proofs.ClassLaid.{source_placed}
-use Rattle.ix_places.proofs.SourceHeights.{source_low}
-use Rattle.ix_places.proofs.SourcePlaces.{source_can_resolve}
+use Rattle.ix_descent.proofs.ClassLaid.{source_placed}
+use Rattle.ix_descent.proofs.SourceHeights.{source_low}
+use Rattle.ix_descent.proofs.SourcePlaces.{source_can_resolve}
 use Rattle.ix_descent.proofs.SourceLaws.{source_is, source_is_read}
 use Rattle.ix_lexer.proofs.SplitInOrder.{some}
 

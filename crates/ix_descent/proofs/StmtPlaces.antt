@@ -29,8 +29,8 @@ use Rattle.ix_tree.proofs.TreeParts.{mapped}
 use Rattle.ix_lexer.proofs.SplitInOrder.{order_within, order_both}
 use Rattle.ix_tree.proofs.PartPlaces.{stand_joined, stand_alone, stand_no_entries}
 use Rattle.ix_tree.proofs.PartPlaces.{Stand, stand_none, stand_statement, stand_elsewhere}
-use Rattle.ix_places.proofs.ExprPlaces.{expr_tokens, expr_stands}
-use Rattle.ix_places.proofs.DeclPlaces.{wider, beside, decls_stand, listed_stand, separated_trees}
+use Rattle.ix_descent.proofs.ExprPlaces.{expr_tokens, expr_stands}
+use Rattle.ix_descent.proofs.DeclPlaces.{wider, beside, decls_stand, listed_stand, separated_trees}
 
 -- Tokens that lie in order, split at one of them.
 pub order_at : (lo hi : ℕ) (ts : List Token) (t : Token) (us : List Token) → InOrder lo hi (ts ++ t ∷ us) → (mid : ℕ) × (lo ≤ mid) × (mid ≤ t.span.to) × (t.span.to ≤ hi) × InOrder lo mid ts × InOrder t.span.to hi us

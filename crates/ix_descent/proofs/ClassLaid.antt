@@ -29,12 +29,12 @@ use Rattle.ix_grammar.specs.ClassGrammar as g
 use Rattle.ix_grammar.specs.ClassGrammar.{IsBody, IsBehind, IsMember, IsParent, IsClassWord, IsClassWords, IsClass, result_tree, method_of, fields, no_stmts, with_stmt, no_members, with_members, no_classes, with_class}
 use Rattle.ix_grammar.specs.SourceGrammar.{source_parts, IsSource}
 use Rattle.ix_lexer.proofs.SplitInOrder.{order_within, order_both}
-use Rattle.ix_places.proofs.DeclPlaces.{FirstLies, mods_stand}
-use Rattle.ix_places.proofs.ListsLaid.{repeated_laid}
-use Rattle.ix_places.proofs.ExprLaid.{args_lie, args_laid}
-use Rattle.ix_places.proofs.DeclLaid.{HaveAll, head_laid, headed, mods_laid, first_behind, group_laid, params_laid}
-use Rattle.ix_places.proofs.StmtLaid.{block_stmt_laid}
-use Rattle.ix_places.proofs.ClassPlaces.{later_assoc}
+use Rattle.ix_descent.proofs.DeclPlaces.{FirstLies, mods_stand}
+use Rattle.ix_descent.proofs.ListsLaid.{repeated_laid}
+use Rattle.ix_descent.proofs.ExprLaid.{args_lie, args_laid}
+use Rattle.ix_descent.proofs.DeclLaid.{HaveAll, head_laid, headed, mods_laid, first_behind, group_laid, params_laid}
+use Rattle.ix_descent.proofs.StmtLaid.{block_stmt_laid}
+use Rattle.ix_descent.proofs.ClassPlaces.{later_assoc}
 
 -- ---- bodies
 

@@ -16,8 +16,8 @@ use Rattle.ix_grammar.specs.TypeGrammar as grammar
 use Rattle.ix_grammar.specs.TypeGrammar.{IsBase, IsTypeRest, IsType, array_of}
 use Rattle.ix_grammar.specs.ExprNodes.{created_type, type_start}
 use Rattle.ix_lexer.proofs.SplitInOrder.{order_both}
-use Rattle.ix_places.proofs.TypePlaces.{pairs_lie}
-use Rattle.ix_places.proofs.AnnotLaid.{notes_laid}
+use Rattle.ix_descent.proofs.TypePlaces.{pairs_lie}
+use Rattle.ix_descent.proofs.AnnotLaid.{notes_laid}
 
 pub base_lies : (lo hi : ℕ) (ts : List Token) (base : At BaseTree) → IsBase ts base → InOrder lo hi ts → Lies lo hi base.span
 base_lies lo hi _ _ (grammar.int span) o = o

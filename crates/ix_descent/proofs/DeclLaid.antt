@@ -24,12 +24,12 @@ use Rattle.ix_grammar.specs.ExprGrammar.{IsInit}
 use Rattle.ix_grammar.specs.DeclGrammar as g
 use Rattle.ix_grammar.specs.DeclGrammar.{IsMods, IsDecl, IsDecls, IsParam, IsParams, marked, earlier, begins, shared, one_decl, with_decl, one_param, with_param}
 use Rattle.ix_lexer.proofs.SplitInOrder.{order_both}
-use Rattle.ix_places.proofs.DeclPlaces.{FirstLies, mods_stand}
-use Rattle.ix_places.proofs.ExprPlaces.{init_stands}
-use Rattle.ix_places.proofs.ListsLaid.{laid_joined}
-use Rattle.ix_places.proofs.AnnotLaid.{annot_laid}
-use Rattle.ix_places.proofs.TypeLaid.{type_laid}
-use Rattle.ix_places.proofs.ExprLaid.{init_laid}
+use Rattle.ix_descent.proofs.DeclPlaces.{FirstLies, mods_stand}
+use Rattle.ix_descent.proofs.ExprPlaces.{init_stands}
+use Rattle.ix_descent.proofs.ListsLaid.{laid_joined}
+use Rattle.ix_descent.proofs.AnnotLaid.{annot_laid}
+use Rattle.ix_descent.proofs.TypeLaid.{type_laid}
+use Rattle.ix_descent.proofs.ExprLaid.{init_laid}
 
 -- what begins with a node stands from that node on
 raised : (start lo hi : ℕ) (span : Span) (parts later : Layout) → LaidOut start lo hi (Layout.node span parts later) → LaidOut start span.from hi (Layout.node span parts later)

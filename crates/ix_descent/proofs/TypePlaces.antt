@@ -21,7 +21,7 @@ use Rattle.ix_lexer.proofs.SplitInOrder.{order_both}
 use Rattle.ix_tree.proofs.PartPlaces.{stand_two, stand_no_entries}
 use Rattle.ix_tree.proofs.Layouts.{Lies}
 use Rattle.ix_tree.proofs.PartPlaces.{Stand, stand_more, stand_none, stand_in_type}
-use Rattle.ix_places.proofs.AnnotPlaces.{notes_stand}
+use Rattle.ix_descent.proofs.AnnotPlaces.{notes_stand}
 
 -- ---- all of them are identifiers in types and lists
 

@@ -9,8 +9,8 @@ use Rattle.ix_grammar.specs.ClassGrammar.{IsClass, program, no_classes, with_cla
 use Rattle.ix_grammar.specs.SourceGrammar.{source_parts, IsSource}
 use Rattle.ix_lexer.proofs.SplitInOrder.{order_both}
 use Rattle.ix_tree.proofs.PartPlaces.{Short, Stand, all_more}
-use Rattle.ix_places.proofs.DeclPlaces.{wider, repeated_trees}
-use Rattle.ix_places.proofs.ClassPlaces.{class_stands}
+use Rattle.ix_descent.proofs.DeclPlaces.{wider, repeated_trees}
+use Rattle.ix_descent.proofs.ClassPlaces.{class_stands}
 
 source_stands : (lo hi : ℕ) (tokens : List Token) (found : FoundUnit) → IsSource tokens found → InOrder lo hi tokens → Stand lo hi (length tokens) (unit_parts found.unit)
 source_stands lo hi _ _ (program {first} {second} {third} {name} {imports} {classes} p i d) o =

@@ -21,10 +21,10 @@ use Rattle.ix_grammar.specs.ExprNodes.{created_type}
 use Rattle.ix_grammar.specs.ExprGrammar as g
 use Rattle.ix_grammar.specs.ExprGrammar.{Kind, IsExpr, IsExprs, IsArgs, IsInit, IsInits, IsItems}
 use Rattle.ix_lexer.proofs.SplitInOrder.{order_both}
-use Rattle.ix_places.proofs.TypePlaces.{pairs_lie}
-use Rattle.ix_places.proofs.ExprPlaces.{expr_stands, args_stand, init_stands, items_stand, more_pairs_lie}
-use Rattle.ix_places.proofs.ListsLaid.{laid_joined}
-use Rattle.ix_places.proofs.TypeLaid.{new_type_laid}
+use Rattle.ix_descent.proofs.TypePlaces.{pairs_lie}
+use Rattle.ix_descent.proofs.ExprPlaces.{expr_stands, args_stand, init_stands, items_stand, more_pairs_lie}
+use Rattle.ix_descent.proofs.ListsLaid.{laid_joined}
+use Rattle.ix_descent.proofs.TypeLaid.{new_type_laid}
 
 -- where a part of the grammar stands
 pub expr_lies : (lo hi : ℕ) (k : Kind) (ts : List Token) (f : Found) → IsExpr k ts f → InOrder lo hi ts → Lies lo hi f.outer

@@ -15,7 +15,7 @@ use Rattle.ix_grammar.specs.AnnotGrammar as grammar
 use Rattle.ix_grammar.specs.AnnotGrammar.{IsText, IsValue, IsNamed, IsAnnot, IsNotes, annot_to, plain_arg, no_notes, with_note}
 use Rattle.ix_lexer.proofs.SplitInOrder.{order_within, order_both}
 use Rattle.ix_tree.proofs.PartPlaces.{stand_two, stand_alone, stand_no_entries}
-use Rattle.ix_places.proofs.ListPlaces.{repeated_stand, separated_stand}
+use Rattle.ix_descent.proofs.ListPlaces.{repeated_stand, separated_stand}
 use Rattle.ix_tree.proofs.Layouts.{Lies}
 use Rattle.ix_tree.proofs.PartPlaces.{Stand, stand_more, stand_none, stand_entries, stand_in_type}
 

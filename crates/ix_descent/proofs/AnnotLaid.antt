@@ -18,7 +18,7 @@ use Rattle.ix_grammar.specs.Lists.{alone, joined}
 use Rattle.ix_grammar.specs.AnnotGrammar as grammar
 use Rattle.ix_grammar.specs.AnnotGrammar.{IsValue, IsNamed, IsAnnot, IsNotes, annot_to, plain_arg, named_arg, no_notes, with_note}
 use Rattle.ix_lexer.proofs.SplitInOrder.{order_both}
-use Rattle.ix_places.proofs.ListsLaid.{repeated_laid, separated_laid}
+use Rattle.ix_descent.proofs.ListsLaid.{repeated_laid, separated_laid}
 
 value_lies : (lo hi : ℕ) (ts : List Token) (v : At AnnotValue) → IsValue ts v → InOrder lo hi ts → Lies lo hi v.span
 value_lies lo hi _ _ (grammar.number found) o = o

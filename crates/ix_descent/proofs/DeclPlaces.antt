@@ -26,9 +26,9 @@ use Rattle.ix_lexer.proofs.SplitInOrder.{order_within, order_both}
 use Rattle.ix_tree.proofs.PartPlaces.{stand_two, stand_joined, stand_alone, stand_no_entries}
 use Rattle.ix_tree.proofs.Layouts.{Lies}
 use Rattle.ix_tree.proofs.PartPlaces.{Inside, Short, Stand, stand_more, stand_none, stand_entries, stand_declaration, stand_elsewhere, all_more, all_both}
-use Rattle.ix_places.proofs.AnnotPlaces.{annot_stands, annot_tokens}
-use Rattle.ix_places.proofs.TypePlaces.{InTypes, notes_in_type, type_in_type, type_stands}
-use Rattle.ix_places.proofs.ExprPlaces.{init_stands}
+use Rattle.ix_descent.proofs.AnnotPlaces.{annot_stands, annot_tokens}
+use Rattle.ix_descent.proofs.TypePlaces.{InTypes, notes_in_type, type_in_type, type_stands}
+use Rattle.ix_descent.proofs.ExprPlaces.{init_stands}
 
 -- ---- further out and one behind the other, where the pieces say what they are
 

@@ -29,8 +29,8 @@ use Rattle.ix_lexer.proofs.SplitInOrder.{order_within, order_both}
 use Rattle.ix_tree.proofs.PartPlaces.{stand_two, stand_joined, stand_alone, stand_no_entries}
 use Rattle.ix_tree.proofs.Layouts.{Lies}
 use Rattle.ix_tree.proofs.PartPlaces.{Inside, Stand, stand_more, stand_none, stand_elsewhere, Free, free_beyond, free_both, stand_expression}
-use Rattle.ix_places.proofs.AnnotPlaces.{notes_stand}
-use Rattle.ix_places.proofs.TypePlaces.{base_stands}
+use Rattle.ix_descent.proofs.AnnotPlaces.{notes_stand}
+use Rattle.ix_descent.proofs.TypePlaces.{base_stands}
 use Rattle.ix_tree.proofs.TreeParts.{kind_parts, expr_is, int_kind, bool_kind, null_kind, this_kind, name_kind, select_kind, index_kind, call_kind, call_on_kind, new_kind, new_array_kind, new_items_kind, unary_kind, binary_kind, assign_kind, step_is, value_is, items_are}
 
 abbrev pub Stands : ℕ → ℕ → ℕ → Found → Type 0

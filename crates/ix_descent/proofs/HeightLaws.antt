@@ -34,7 +34,7 @@ use Rattle.ix_grammar.specs.ExprGrammar as g
 use Rattle.ix_grammar.specs.ExprGrammar.{Kind, IsExpr, IsExprs, IsArgs, IsInit, IsInits, IsItems}
 use Rattle.ix_grammar.specs.DeclGrammar as d
 use Rattle.ix_grammar.specs.DeclGrammar.{IsMods, IsDecl, IsDecls, IsParam, IsParams, shared, one_decl, with_decl, no_params, one_param, with_param}
-use Rattle.ix_places.proofs.DeclLaid.{marked_annots}
+use Rattle.ix_descent.proofs.DeclLaid.{marked_annots}
 
 -- ---- repetitions, whose items are at most so high
 

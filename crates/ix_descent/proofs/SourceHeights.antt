@@ -31,7 +31,7 @@ use Rattle.ix_grammar.specs.StmtGrammar.{maybe_expr, maybe_height, run_part, one
 use Rattle.ix_grammar.specs.ClassGrammar as c
 use Rattle.ix_grammar.specs.ClassGrammar.{IsBody, IsBehind, IsMember, IsParent, IsClass, result_tree, result_height, method_of, fields, no_stmts, with_stmt, no_members, with_members, no_classes, with_class}
 use Rattle.ix_grammar.specs.SourceGrammar.{source_parts, IsSource}
-use Rattle.ix_places.proofs.HeightLaws.{repeated_low, separated_low, mods_low, type_low, expr_low, args_low, shared_low, decls_low, params_low}
+use Rattle.ix_descent.proofs.HeightLaws.{repeated_low, separated_low, mods_low, type_low, expr_low, args_low, shared_low, decls_low, params_low}
 
 -- ---- statements
 

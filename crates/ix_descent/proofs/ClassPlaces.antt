@@ -25,10 +25,10 @@ use Rattle.ix_grammar.specs.ClassGrammar.{IsBody, IsBehind, IsMember, IsParent, 
 use Rattle.ix_grammar.specs.SourceGrammar.{source_parts}
 use Rattle.ix_lexer.proofs.SplitInOrder.{order_within, order_both}
 use Rattle.ix_tree.proofs.PartPlaces.{Stand, stand_none, stand_declaration, stand_elsewhere}
-use Rattle.ix_places.proofs.TypePlaces.{type_stands}
-use Rattle.ix_places.proofs.ExprPlaces.{args_stand}
-use Rattle.ix_places.proofs.DeclPlaces.{wider, beside, name_beside, mods_stand, parts_both, decls_stand, listed_stand, repeated_trees, params_stand}
-use Rattle.ix_places.proofs.StmtPlaces.{order_at, body_stmt_stands}
+use Rattle.ix_descent.proofs.TypePlaces.{type_stands}
+use Rattle.ix_descent.proofs.ExprPlaces.{args_stand}
+use Rattle.ix_descent.proofs.DeclPlaces.{wider, beside, name_beside, mods_stand, parts_both, decls_stand, listed_stand, repeated_trees, params_stand}
+use Rattle.ix_descent.proofs.StmtPlaces.{order_at, body_stmt_stands}
 
 -- ---- bodies
 

@@ -25,10 +25,10 @@ use Rattle.ix_grammar.specs.ExprGrammar.{Whole, IsExpr, IsStatementExpr}
 use Rattle.ix_grammar.specs.StmtGrammar as g
 use Rattle.ix_grammar.specs.StmtGrammar.{maybe_expr, run_part, one_run, with_run, one_expr, local_stmt, IsLocal, IsForFirst, IsMaybe, IsUpdate, IsStmt, IsBlockStmt, IsStmts}
 use Rattle.ix_lexer.proofs.SplitInOrder.{order_both}
-use Rattle.ix_places.proofs.StmtPlaces.{order_at}
-use Rattle.ix_places.proofs.ListsLaid.{laid_joined, separated_laid}
-use Rattle.ix_places.proofs.ExprLaid.{expr_lies, whole_in, expr_laid}
-use Rattle.ix_places.proofs.DeclLaid.{group_laid}
+use Rattle.ix_descent.proofs.StmtPlaces.{order_at}
+use Rattle.ix_descent.proofs.ListsLaid.{laid_joined, separated_laid}
+use Rattle.ix_descent.proofs.ExprLaid.{expr_lies, whole_in, expr_laid}
+use Rattle.ix_descent.proofs.DeclLaid.{group_laid}
 
 -- ---- nodes
 
