@@ -11,9 +11,9 @@ use Rattle.ix_core.specs.declared.program.Program.{Program}
 use Rattle.ix_source.specs.LowerError.{LowerError}
 use Rattle.ix_source.specs.LowerError.TheVariants as lowering
 use Rattle.ix_plain.specs.Program.{program}
-use Rattle.ix_node_places.proofs.PlacedPrograms.{placed_limit}
+use Rattle.ix_formed.proofs.PlacedPrograms.{placed_limit}
 use Rattle.ix_name_report.specs.Texts.{limit_name}
-use Rattle.ix_node_places.proofs.RefusalsStand.{refusal_within}
+use Rattle.ix_formed.proofs.RefusalsStand.{refusal_within}
 use Rattle.ix_name_report.proofs.OneList.{one_list, none_listed}
 use Rattle.ix_finding.specs.Findings.{IsPlaced, HasFormed}
 use Rattle.ix_meaning.specs.declared.note.NameErrors.{NameErrors}

@@ -17,3 +17,6 @@ pub mod LocalTypes
 pub mod Parsed
 -- Tokens whose literals are ints.
 pub mod IntTokens
+-- What holds of the place of each node of a tree.
+pub mod EachNode
+pub mod Refusals

@@ -6,3 +6,4 @@
 //! They stand on the grammar of `ix_grammar`, the tokens of `ix_lexer`, the plain form of `ix_plain`, the meanings of `ix_meaning` and `Formed` of `ix_core`.
 //! They never look at how anything is computed, nor at how a text or its tokens are read.
 #![tactic(auto)]
+

@@ -1,6 +1,6 @@
 use Rattle.std.proofs.Common.{sym, ◌≡◌, ◌∙◌, ap, Ok, Err}
 use Rattle.ix_plain.specs.Program.{program}
-use Rattle.ix_node_places.proofs.PlacedPrograms.{placed_program}
+use Rattle.ix_formed.proofs.PlacedPrograms.{placed_program}
 use Rattle.ix_meaning.specs.Resolved.{names}
 use Rattle.ix_finding.specs.Found as spec
 use Rattle.ix_finding.proofs.NamesFound.{accepted_only, unlowered_found, unlowered_only, unlowered_placed, unlowered_formed}

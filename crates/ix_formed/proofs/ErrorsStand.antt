@@ -12,8 +12,8 @@ use Rattle.ix_meaning.specs.declared.note.Rule.TheVariants as rule
 use Rattle.ix_meaning.specs.Members.{World}
 use Rattle.ix_meaning.specs.Rules as rules
 use Rattle.ix_meaning.specs.Types.{Need, unknown, never, printed, of, is_reference, element, type_note, wrong, wrong_if}
-use Rattle.ix_node_places.specs.EachNode.{InText}
-use Rattle.ix_node_places.proofs.ListsJoin.{all_joined}
+use Rattle.ix_formed.specs.EachNode.{InText}
+use Rattle.ix_formed.proofs.ListsJoin.{all_joined}
 
 -- where the note is an error, it stands in a text of so many bytes
 abbrev pub NoteStands : ℕ → Note → Type 0

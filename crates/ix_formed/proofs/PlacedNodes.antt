@@ -11,8 +11,8 @@ use Rattle.ix_tree.specs.declared.decl.MethodDecl.{MethodDecl}
 use Rattle.ix_tree.specs.declared.decl.Unit.{Unit as Source}
 use Rattle.ix_tree.specs.declared.expr.Expr.{Expr}
 use Rattle.ix_tree.specs.Placed.{Placed, row, again, maybe, name_piece, annot_piece, type_piece, expr_piece, init_piece, shared_pieces, own_pieces, decl_pieces, params_pieces, further_pieces, locals_pieces, stmt_piece, parent_pieces, method_piece, same_span, field_shared, members_pieces, class_piece}
-use Rattle.ix_node_places.specs.EachNode.{EachNode, IfSome, InText, DeclNodes, ArgsNodes, MethodNodes, MemberNodes, ClassNodes, SourceNodes}
-use Rattle.ix_node_places.proofs.LaidNodes.{laid_nodes, nodes_first, nodes_rows, nodes_piece, nodes_again, nodes_maybe, nodes_each}
+use Rattle.ix_formed.specs.EachNode.{EachNode, IfSome, InText, DeclNodes, ArgsNodes, MethodNodes, MemberNodes, ClassNodes, SourceNodes}
+use Rattle.ix_formed.proofs.LaidNodes.{laid_nodes, nodes_first, nodes_rows, nodes_piece, nodes_again, nodes_maybe, nodes_each}
 
 module _ (P : Span → Type 0) where
   -- ---- declarations of variables

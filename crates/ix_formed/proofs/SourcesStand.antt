@@ -28,12 +28,12 @@ use Rattle.ix_meaning.specs.Source as source
 use Rattle.ix_meaning.specs.Source.{Place}
 use Rattle.ix_meaning.specs.Types.{wrong_if}
 use Rattle.ix_meaning.specs.Values.{reading, arguments, given_to}
-use Rattle.ix_node_places.specs.EachNode.{InText, IfSome, TypeNodes, DeclNodes, ArgsNodes, MethodNodes, MemberNodes, ClassNodes, SourceNodes}
-use Rattle.ix_node_places.proofs.ErrorsStand.{Stand, none, both, used, is_wrong, if_wrong}
-use Rattle.ix_node_places.proofs.TypesStand.{AnnotsStand, some_stand, given_stand, declaration_stands}
-use Rattle.ix_node_places.proofs.DeclaratorsStand.{members_nodes}
-use Rattle.ix_node_places.proofs.ExpressionsStand.{ReadingsStand, arguments_stand, given_to_stand, expression_stands}
-use Rattle.ix_node_places.proofs.StatementsStand.{declares_noted, init_stands, body_stands}
+use Rattle.ix_formed.specs.EachNode.{InText, IfSome, TypeNodes, DeclNodes, ArgsNodes, MethodNodes, MemberNodes, ClassNodes, SourceNodes}
+use Rattle.ix_formed.proofs.ErrorsStand.{Stand, none, both, used, is_wrong, if_wrong}
+use Rattle.ix_formed.proofs.TypesStand.{AnnotsStand, some_stand, given_stand, declaration_stands}
+use Rattle.ix_formed.proofs.DeclaratorsStand.{members_nodes}
+use Rattle.ix_formed.proofs.ExpressionsStand.{ReadingsStand, arguments_stand, given_to_stand, expression_stands}
+use Rattle.ix_formed.proofs.StatementsStand.{declares_noted, init_stands, body_stands}
 
 module _ (end : ℕ) where
   -- ---- fields

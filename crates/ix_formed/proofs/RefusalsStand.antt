@@ -15,14 +15,14 @@ use Rattle.ix_meaning.specs.Limits.{Passed, limit, inheritance_limit}
 use Rattle.ix_meaning.specs.Listed.{wrongs, wrong_annots, comes_before, firsts, derived, IsListed}
 use Rattle.ix_meaning.specs.Resolved.{name_errors, IsPassed, Refuses}
 use Rattle.ix_meaning.specs.Source.{notes}
-use Rattle.ix_node_places.specs.EachNode.{InText, SourceNodes}
-use Rattle.ix_node_places.proofs.PlacedNodes.{placed_nodes}
-use Rattle.ix_node_places.specs.Refusals as place
-use Rattle.ix_node_places.proofs.ListsJoin.{all_joined}
-use Rattle.ix_node_places.proofs.ErrorsStand.{AllStand}
-use Rattle.ix_node_places.proofs.LimitsStand as limits
-use Rattle.ix_node_places.proofs.LimitsStand.{limit_within, inheritance_limit_within}
-use Rattle.ix_node_places.proofs.SourcesStand.{notes_stand}
+use Rattle.ix_formed.specs.EachNode.{InText, SourceNodes}
+use Rattle.ix_formed.proofs.PlacedNodes.{placed_nodes}
+use Rattle.ix_formed.specs.Refusals as place
+use Rattle.ix_formed.proofs.ListsJoin.{all_joined}
+use Rattle.ix_formed.proofs.ErrorsStand.{AllStand}
+use Rattle.ix_formed.proofs.LimitsStand as limits
+use Rattle.ix_formed.proofs.LimitsStand.{limit_within, inheritance_limit_within}
+use Rattle.ix_formed.proofs.SourcesStand.{notes_stand}
 
 -- ---- errors
 

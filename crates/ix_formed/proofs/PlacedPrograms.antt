@@ -6,11 +6,11 @@ use Rattle.ix_tree.specs.Placed.{Placed, row, class_piece}
 use Rattle.ix_meaning.specs.Limits.{Passed}
 use Rattle.ix_meaning.specs.Resolved.{Names}
 use Rattle.ix_plain.specs.Program.{program}
-use Rattle.ix_node_places.specs.EachNode.{InText, SourceNodes}
-use Rattle.ix_node_places.proofs.LaidNodes.{laid_nodes, nodes_more}
-use Rattle.ix_node_places.proofs.PlacedNodes.{source_nodes}
+use Rattle.ix_formed.specs.EachNode.{InText, SourceNodes}
+use Rattle.ix_formed.proofs.LaidNodes.{laid_nodes, nodes_more}
+use Rattle.ix_formed.proofs.PlacedNodes.{source_nodes}
 use Rattle.ix_code_places.specs.CodePlaces.{IsIn, PlacesWithin}
-use Rattle.ix_node_places.proofs.ProgramPlaces.{Tells, program_places}
+use Rattle.ix_formed.proofs.ProgramPlaces.{Tells, program_places}
 
 abbrev StartsBy : ℕ → ℕ → Type 0
 StartsBy end at = at ≤ end

@@ -17,9 +17,9 @@ use Rattle.ix_annot.specs.Expansion.{expanded}
 use Rattle.ix_meaning.specs.declared.note.Meaning.TheVariants.{ClassNamed}
 use Rattle.ix_meaning.specs.declared.note.Rule.TheVariants as rule
 use Rattle.ix_meaning.specs.Annotated.{given, errors_from, aimed, written, based, class_use, declaration}
-use Rattle.ix_node_places.specs.EachNode.{InText, AnnotNodes, TypeNodes}
-use Rattle.ix_node_places.proofs.PiecesLie.{AllLie, row_lies, pieces_parted}
-use Rattle.ix_node_places.proofs.ErrorsStand.{Stand, none, both, used, is_wrong}
+use Rattle.ix_formed.specs.EachNode.{InText, AnnotNodes, TypeNodes}
+use Rattle.ix_formed.proofs.PiecesLie.{AllLie, row_lies, pieces_parted}
+use Rattle.ix_formed.proofs.ErrorsStand.{Stand, none, both, used, is_wrong}
 
 abbrev pub AnnotsStand : ℕ → List Annot → Type 0
 AnnotsStand end annots = AllByRecursion (AnnotNodes (InText end)) annots

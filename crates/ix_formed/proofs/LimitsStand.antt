@@ -23,12 +23,12 @@ use Rattle.ix_meaning.specs.Classes.{supers, parents}
 use Rattle.ix_meaning.specs.Declarators.{declarators, members}
 use Rattle.ix_meaning.specs.Limits as limits
 use Rattle.ix_meaning.specs.Limits.{Passed, passed, past_names, past_params, past_claims_in, past_claims, past_inheritance, limit, inheritance_limit, class_names, methods_of, all_methods, method_names, param_names, declared_annots, each_annots, together, maybe, stmt_annots, body_annots, result_annots, member_annots, all_annots}
-use Rattle.ix_node_places.specs.EachNode.{InText, IfSome, TypeNodes, StmtNodes, DeclNodes, MethodNodes, MemberNodes, ClassNodes, SourceNodes}
-use Rattle.ix_node_places.proofs.PlacedNodes.{locals_nodes}
-use Rattle.ix_node_places.proofs.DeclaratorsStand.{declarators_nodes, members_nodes}
-use Rattle.ix_node_places.proofs.ListsJoin.{all_joined}
-use Rattle.ix_node_places.proofs.PiecesLie.{Lies, AllLie, row_lies, pieces_parted}
-use Rattle.ix_node_places.proofs.TypesStand.{AnnotsStand, type_stands}
+use Rattle.ix_formed.specs.EachNode.{InText, IfSome, TypeNodes, StmtNodes, DeclNodes, MethodNodes, MemberNodes, ClassNodes, SourceNodes}
+use Rattle.ix_formed.proofs.PlacedNodes.{locals_nodes}
+use Rattle.ix_formed.proofs.DeclaratorsStand.{declarators_nodes, members_nodes}
+use Rattle.ix_formed.proofs.ListsJoin.{all_joined}
+use Rattle.ix_formed.proofs.PiecesLie.{Lies, AllLie, row_lies, pieces_parted}
+use Rattle.ix_formed.proofs.TypesStand.{AnnotsStand, type_stands}
 
 module _ (end : ℕ) where
   -- where a limit is passed, this is in the text

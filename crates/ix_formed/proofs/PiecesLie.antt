@@ -2,9 +2,9 @@
 use Rattle.std.proofs.Common.{ℕ, List, [], ◌∷◌, ◌++◌}
 use Rattle.std.specs.List.{AllByRecursion}
 use Rattle.ix_tree.specs.Placed.{Layout, row}
-use Rattle.ix_node_places.specs.EachNode.{InText, EachNode}
-use Rattle.ix_node_places.proofs.LaidNodes.{nodes_first}
-use Rattle.ix_node_places.proofs.ListsJoin.{all_parted}
+use Rattle.ix_formed.specs.EachNode.{InText, EachNode}
+use Rattle.ix_formed.proofs.LaidNodes.{nodes_first}
+use Rattle.ix_formed.proofs.ListsJoin.{all_parted}
 
 -- each node of the layout stands in a text of so many bytes
 abbrev pub Lies : ℕ → Layout → Type 0

@@ -28,11 +28,11 @@ use Rattle.ix_plain.specs.Statements as statements
 use Rattle.ix_plain.specs.Statements.{Running, Run, Inside, Evaluated, Tested, with_last, behind_value, evaluated, init_evaluated, ran, all_ran, tested, tested_if, inside, in_loop, most_loops, scope_for, with_local, no_block}
 use Rattle.ix_formed.specs.Additions.{Makes}
 use Rattle.ix_formed.proofs.PlainItems.{makes_then}
-use Rattle.ix_node_places.specs.EachNode.{EachNode, IfSome, ExprNodes, InitNodes, StmtNodes, DeclNodes}
-use Rattle.ix_node_places.proofs.LaidNodes.{nodes_first, nodes_rows, nodes_piece, nodes_alone, nodes_maybe, nodes_each}
-use Rattle.ix_node_places.proofs.PlacedNodes.{locals_nodes}
-use Rattle.ix_node_places.proofs.ItemPlaces.{ItemPlaces, ItemsPlaces, CondPlaces, done_places, if_places, loop_places}
-use Rattle.ix_node_places.proofs.ExpressionPlaces.{MadePlaces, ValuePlaces, item_made, taking_made, computed_made, write_place, expression_places, initialiser_places}
+use Rattle.ix_formed.specs.EachNode.{EachNode, IfSome, ExprNodes, InitNodes, StmtNodes, DeclNodes}
+use Rattle.ix_formed.proofs.LaidNodes.{nodes_first, nodes_rows, nodes_piece, nodes_alone, nodes_maybe, nodes_each}
+use Rattle.ix_formed.proofs.PlacedNodes.{locals_nodes}
+use Rattle.ix_formed.proofs.ItemPlaces.{ItemPlaces, ItemsPlaces, CondPlaces, done_places, if_places, loop_places}
+use Rattle.ix_formed.proofs.ExpressionPlaces.{MadePlaces, ValuePlaces, item_made, taking_made, computed_made, write_place, expression_places, initialiser_places}
 
 module _ (P : Span → Type 0) where
   abbrev pub BodyPlaces : Body → Type 0

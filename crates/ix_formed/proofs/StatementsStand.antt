@@ -22,13 +22,13 @@ use Rattle.ix_meaning.specs.Declarators.{declarators}
 use Rattle.ix_meaning.specs.Scope.{Scope}
 use Rattle.ix_meaning.specs.Types.{Need, boolean, of, printed}
 use Rattle.ix_meaning.specs.Values.{reading}
-use Rattle.ix_node_places.specs.EachNode.{InText, IfSome, InitNodes, StmtNodes, DeclNodes}
-use Rattle.ix_node_places.proofs.PlacedNodes.{locals_nodes}
-use Rattle.ix_node_places.proofs.PiecesLie.{Lies, AllLie, row_lies, pieces_parted}
-use Rattle.ix_node_places.proofs.ErrorsStand.{Stand, none, both, if_wrong, without_value}
-use Rattle.ix_node_places.proofs.TypesStand.{declaration_stands}
-use Rattle.ix_node_places.proofs.DeclaratorsStand.{declarators_nodes}
-use Rattle.ix_node_places.proofs.ExpressionsStand.{check_stands, expression_stands, initialiser_stands}
+use Rattle.ix_formed.specs.EachNode.{InText, IfSome, InitNodes, StmtNodes, DeclNodes}
+use Rattle.ix_formed.proofs.PlacedNodes.{locals_nodes}
+use Rattle.ix_formed.proofs.PiecesLie.{Lies, AllLie, row_lies, pieces_parted}
+use Rattle.ix_formed.proofs.ErrorsStand.{Stand, none, both, if_wrong, without_value}
+use Rattle.ix_formed.proofs.TypesStand.{declaration_stands}
+use Rattle.ix_formed.proofs.DeclaratorsStand.{declarators_nodes}
+use Rattle.ix_formed.proofs.ExpressionsStand.{check_stands, expression_stands, initialiser_stands}
 
 -- ---- declarations of variables
 

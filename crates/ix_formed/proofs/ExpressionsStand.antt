@@ -27,10 +27,10 @@ use Rattle.ix_meaning.specs.Scope.{Scope, Known, meant, is_pending}
 use Rattle.ix_meaning.specs.Types.{int, boolean, Need, of, need_like, is_reference, element, element_in, Judged, judged, wrong}
 use Rattle.ix_meaning.specs.Values as values
 use Rattle.ix_meaning.specs.Values.{Reading, KindReading, Filling, Object, no_object, of_class, value, reading, kind_reading, filling, check, null_at, fitted, as_object, valued, valued_and_assigned}
-use Rattle.ix_node_places.specs.EachNode.{InText}
-use Rattle.ix_node_places.proofs.PiecesLie.{Lies, AllLie, row_lies, pieces_parted}
-use Rattle.ix_node_places.proofs.ErrorsStand.{Stand, none, both, used, is_wrong, if_wrong, type_noted, mismatches, null_mismatches, list_mismatches, not_compared, use_noted}
-use Rattle.ix_node_places.proofs.TypesStand.{TypeStands, annots_stand, given_stand, written_stands}
+use Rattle.ix_formed.specs.EachNode.{InText}
+use Rattle.ix_formed.proofs.PiecesLie.{Lies, AllLie, row_lies, pieces_parted}
+use Rattle.ix_formed.proofs.ErrorsStand.{Stand, none, both, used, is_wrong, if_wrong, type_noted, mismatches, null_mismatches, list_mismatches, not_compared, use_noted}
+use Rattle.ix_formed.proofs.TypesStand.{TypeStands, annots_stand, given_stand, written_stands}
 
 module _ (end : ℕ) where
   -- An expression and its errors stand within the text.

@@ -4,7 +4,7 @@ use Rattle.std.specs.List.{AllByRecursion}
 use Rattle.ix_text.specs.declared.span.Span.{Span}
 use Rattle.ix_tree.specs.Placed.{Layout, nothing, node, copy, LaidOut, followed, row, piece, again, maybe}
 use Rattle.ix_tree.proofs.Layouts.{rows_are, laid_ends}
-use Rattle.ix_node_places.specs.EachNode.{EachNode, IfSome, InText}
+use Rattle.ix_formed.specs.EachNode.{EachNode, IfSome, InText}
 
 -- ---- a layout stands in its text
 
