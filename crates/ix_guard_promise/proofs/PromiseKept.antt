@@ -18,7 +18,7 @@ use Rattle.ix_guarding.specs.Inserted.{added}
 use Rattle.ix_guarded_text.proofs.MovingApart.{moving_is_injective}
 use Rattle.ix_guarded_bodies.specs.SourceGuards.{IsAmong}
 use Rattle.ix_guarded_bodies.proofs.GuardedPrograms.{program_guards}
-use Rattle.ix_accesses.proofs.GuardedSources.{parsed_guards}
+use Rattle.ix_guarded_bodies.proofs.GuardedSources.{parsed_guards}
 use Rattle.ix_guard_promise.proofs.GuardedRuns.{guarded_runs_follow}
 use Rattle.ix_guarding.specs.Guarding.{IsGuarded}
 use Rattle.ix_guard_promise.specs.Promise.{HaveProgram, GuardsWell, AvoidsAt, into_guarded}

@@ -7,7 +7,7 @@
 //! - `FollowsRun` of `specs/Follows`, what a run of a guarded text shows is what the run of its source shows, or as much of it as was printed before a guard threw, for every
 //!   method, all inputs and any number of turns and nested calls.
 //!
-//! They stand on `ix_guarded_bodies` and `ix_accesses` for the guards, on `ix_errors` for the rules and the errors of a method, on `ix_flow` for what a flow is and on `ix_facts` for what a
+//! They stand on `ix_guarded_bodies` and `ix_guarded_bodies` for the guards, on `ix_errors` for the rules and the errors of a method, on `ix_flow` for what a flow is and on `ix_facts` for what a
 //! test tells, on `ix_source_meaning` for what a source means, and on `ix_guarded_text` for where its parts stand in the guarded text and what its names mean.
 //! They never look at how a text is written or judged, at tokens, or at least labels.
 #![tactic(auto)]

@@ -43,15 +43,15 @@ use Rattle.ix_moved.specs.Moved.{Move, moved_span, moved_expr, moved_init, moved
 use Rattle.ix_guarded_bodies.specs.TestParts.{Parts}
 use Rattle.ix_guarded_bodies.specs.GuardedPlaces as placed
 use Rattle.ix_guarded_bodies.specs.GuardedPlaces.{Each, PlacedMember, PlacedMethod}
-use Rattle.ix_accesses.specs.AllAccesses.{all_accesses, init_accesses, decl_accesses, maybe, each_of}
-use Rattle.ix_accesses.specs.AtPlace.{HasNone}
+use Rattle.ix_guarded_bodies.specs.AllAccesses.{all_accesses, init_accesses, decl_accesses, maybe, each_of}
+use Rattle.ix_guarded_bodies.specs.AtPlace.{HasNone}
 use Rattle.ix_guarded_bodies.specs.KeptSlots.{Leaves}
-use Rattle.ix_accesses.specs.SourceGuards.{MemberGuards, GuardsAt, args_accesses}
+use Rattle.ix_guarded_bodies.specs.SourceGuards.{MemberGuards, GuardsAt, args_accesses}
 use Rattle.ix_guarded_bodies.specs.Laws.{Laws}
 use Rattle.ix_guarded_bodies.proofs.Growing.{with_sound, Grows, grows_none, grows_both, grows_item, elsewhere_known}
 use Rattle.ix_guarded_bodies.proofs.Compounds.{never_accessed}
 use Rattle.ix_guarded_bodies.proofs.TestsGrow.{IsTest}
-use Rattle.ix_accesses.proofs.Outlined.{none_split}
+use Rattle.ix_guarded_bodies.proofs.Outlined.{none_split}
 use Rattle.ix_guarded_bodies.proofs.StatementsGuarded.{list_does}
 
 module _ (site : Site) (move : Move) (place : Span) (g : Ground) (laws : Laws site move place g) where

@@ -16,8 +16,8 @@ use Rattle.ix_formed.specs.Written.{maybe_true, each_true}
 use Rattle.ix_formed.proofs.NumberLists.{all_split}
 use Rattle.ix_guard.specs.Accesses.{parts_of, init_parts}
 use Rattle.ix_guarded_bodies.specs.Pieces.{IsElsewhere}
-use Rattle.ix_accesses.specs.AllAccesses.{all_accesses, init_accesses, decl_accesses, maybe, each_of}
-use Rattle.ix_accesses.specs.AtPlace.{IsOff, HasNone}
+use Rattle.ix_guarded_bodies.specs.AllAccesses.{all_accesses, init_accesses, decl_accesses, maybe, each_of}
+use Rattle.ix_guarded_bodies.specs.AtPlace.{IsOff, HasNone}
 use Rattle.ix_guarded_bodies.specs.KeptSlots.{Leaves, Leaving, FillsLeaving}
 use Rattle.ix_guarded_bodies.proofs.KeptExpressions.{makes_all, expression_leaves, initialiser_leaves}
 use Rattle.ix_guarded_bodies.proofs.KeptFits.{Anywhere, elsewhere_allows, elsewhere_cells, all_off}

@@ -28,9 +28,9 @@ use Rattle.ix_formed.specs.Written.{maybe_true, each_true}
 use Rattle.ix_formed.proofs.NumberLists.{all_split}
 use Rattle.ix_formed.proofs.PlainItems.{makes_more, makes_then}
 use Rattle.ix_guarded_bodies.specs.Pieces.{EachOp, EachAsked, IsElsewhere}
-use Rattle.ix_accesses.specs.AllAccesses.{AnyAccess, all, maybe, each_of, all_accesses}
-use Rattle.ix_accesses.specs.AtPlace as at_place
-use Rattle.ix_accesses.specs.AtPlace.{IsOff, HasNone, stmt_accesses}
+use Rattle.ix_guarded_bodies.specs.AllAccesses.{AnyAccess, all, maybe, each_of, all_accesses}
+use Rattle.ix_guarded_bodies.specs.AtPlace as at_place
+use Rattle.ix_guarded_bodies.specs.AtPlace.{IsOff, HasNone, stmt_accesses}
 use Rattle.ix_guarded_bodies.specs.KeptSlots.{Leaves, Appends}
 use Rattle.ix_guarded_bodies.proofs.KeptItems.{each_items}
 use Rattle.ix_guarded_bodies.proofs.FullExpressions.{TestLeaves}

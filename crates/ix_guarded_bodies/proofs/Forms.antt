@@ -14,8 +14,8 @@ use Rattle.ix_kept_runs.specs.SoundStatements as sound
 use Rattle.ix_kept_runs.specs.SoundStatements.{StatementSoundness, statement_soundness}
 use Rattle.ix_guard.specs.Tests.{Site}
 use Rattle.ix_guard.specs.Trees.{statement}
-use Rattle.ix_accesses.specs.Outlines as outlines
-use Rattle.ix_accesses.specs.Outlines.{Outline, outline}
+use Rattle.ix_guarded_bodies.specs.Outlines as outlines
+use Rattle.ix_guarded_bodies.specs.Outlines.{Outline, outline}
 
 -- ---- whether it is sound, and what it becomes
 

@@ -14,7 +14,7 @@ use Rattle.ix_guarded_bodies.specs.Guards.{Guards}
 use Rattle.ix_moved.specs.Moved.{Move, moved_span}
 use Rattle.ix_guarded_bodies.specs.GuardedPlaces.{PlacedSource}
 use Rattle.ix_guarded_bodies.specs.GuardedNames.{SaysMoved, IsMeant}
-use Rattle.ix_accesses.specs.SourceGuards.{SourceGuards}
+use Rattle.ix_guarded_bodies.specs.SourceGuards.{SourceGuards}
 use Rattle.ix_guarded_bodies.proofs.LawsHold.{laws_hold}
 use Rattle.ix_guarded_bodies.proofs.ProgramsGuarded.{guarded_bodies}
 

@@ -30,8 +30,8 @@ use Rattle.ix_guard.specs.Accesses as accesses
 use Rattle.ix_guard.specs.Tests.{is_variable}
 use Rattle.ix_guard.specs.Accesses.{Parts, Reading, reading, parts_of, init_parts, all_parts, place_of}
 use Rattle.ix_guarded_bodies.specs.KeptSlots.{Leaving, FillsLeaving}
-use Rattle.ix_accesses.specs.AllAccesses as any
-use Rattle.ix_accesses.specs.AllAccesses.{AnyAccess, Form, all_accesses, init_accesses, each_of}
+use Rattle.ix_guarded_bodies.specs.AllAccesses as any
+use Rattle.ix_guarded_bodies.specs.AllAccesses.{AnyAccess, Form, all_accesses, init_accesses, each_of}
 use Rattle.ix_guarded_bodies.specs.OnlyThere.{IsNameOf}
 use Rattle.ix_guarded_bodies.proofs.KeptItems.{Allows, leaves_none, computed_leaves, computes_leaves}
 use Rattle.ix_guarded_bodies.proofs.KeptForms.{AimsAt, CellAims, int_leaves, name_leaves, selection_leaves, element_leaves, new_array_leaves, filled_leaves, unary_leaves, binary_leaves, assign_leaves, step_leaves, call_leaves, new_object_leaves}

@@ -19,8 +19,8 @@ use Rattle.ix_formed.proofs.NumberLists.{all_so}
 use Rattle.ix_guarded_bodies.specs.Known.{Known, Unknown, Inside, accessed, IsInside}
 use Rattle.ix_guarded_bodies.specs.Guards.{IsGuarded}
 use Rattle.ix_guarded_bodies.specs.Pieces.{IsElsewhere, Keeps}
-use Rattle.ix_accesses.specs.AllAccesses.{AnyAccess}
-use Rattle.ix_accesses.specs.AtPlace.{IsOff}
+use Rattle.ix_guarded_bodies.specs.AllAccesses.{AnyAccess}
+use Rattle.ix_guarded_bodies.specs.AtPlace.{IsOff}
 use Rattle.ix_guarded_bodies.specs.OnlyThere.{Names, IsOnThese, OnlyThere}
 use Rattle.ix_guarded_bodies.specs.KeptSlots.{AreBelow}
 use Rattle.ix_guarded_bodies.specs.Targets.{IsApart, AssignsApart}

@@ -23,7 +23,7 @@ use Rattle.ix_guarded_bodies.specs.Known.{Inside}
 use Rattle.ix_guarded_bodies.specs.Guards.{Guarded, GuardedAsked}
 use Rattle.ix_guarded_bodies.specs.Pieces.{EachOp, HasNoLoop, Keeps}
 use Rattle.ix_guarded_bodies.proofs.GuardedPieces.{keeps, keeps_asked}
-use Rattle.ix_accesses.specs.AllAccesses.{all_accesses, init_accesses}
+use Rattle.ix_guarded_bodies.specs.AllAccesses.{all_accesses, init_accesses}
 use Rattle.ix_guarded_bodies.specs.OnlyThere.{IsOnThese}
 use Rattle.ix_guarded_bodies.specs.KeptSlots.{AreBelow, Leaves, LeavesAsked, Leaving, FillsLeaving}
 use Rattle.ix_guarded_bodies.specs.Targets.{IsKept, IsInitKept, MaybeKept, DeclsKept}

@@ -28,8 +28,8 @@ use Rattle.ix_guarded_bodies.specs.Pieces.{IsElsewhere, Keeps}
 use Rattle.ix_guarded_bodies.specs.GuardedNames.{SaysMoved}
 use Rattle.ix_guarded_bodies.proofs.PartsMoved.{assigned_moved, decls_assigned_moved}
 use Rattle.ix_moved.specs.Moved.{Move, moved_span, moved_name, moved_expr, moved_init, moved_decl, moved_stmt}
-use Rattle.ix_accesses.specs.AllAccesses.{AnyAccess, all_accesses, init_accesses, decl_accesses, each_of}
-use Rattle.ix_accesses.specs.AtPlace.{HasNone, stmt_accesses}
+use Rattle.ix_guarded_bodies.specs.AllAccesses.{AnyAccess, all_accesses, init_accesses, decl_accesses, each_of}
+use Rattle.ix_guarded_bodies.specs.AtPlace.{HasNone, stmt_accesses}
 use Rattle.ix_guarded_bodies.specs.InScope.{IsAt, IsUnnamed, Calls, OnlyOf}
 use Rattle.ix_guarded_bodies.specs.KeptSlots.{AreBelow, Leaves, Leaving}
 use Rattle.ix_guarded_bodies.proofs.AccessesMoved.{moved_any, accesses_moved, init_accesses_moved, decls_accesses_moved}
@@ -39,9 +39,9 @@ use Rattle.ix_guarded_bodies.proofs.SoundKept.{named_at, variable_some, Spares, 
 use Rattle.ix_guarded_bodies.proofs.KeptPieces.{kept_leaving, kept_declarations}
 use Rattle.ix_guarded_bodies.proofs.Elsewhere.{expression_elsewhere, initialiser_elsewhere}
 use Rattle.ix_guarded_bodies.proofs.ElsewhereStatements.{statement_elsewhere}
-use Rattle.ix_accesses.specs.SourceGuards.{AreKept}
+use Rattle.ix_guarded_bodies.specs.SourceGuards.{AreKept}
 use Rattle.ix_guarded_bodies.specs.Laws.{LowersEach, IsInSlot, AreInSlots, changes_of, Laws}
-use Rattle.ix_accesses.specs.SourceGuards.{HasOnly}
+use Rattle.ix_guarded_bodies.specs.SourceGuards.{HasOnly}
 use Rattle.ix_guarded_bodies.proofs.NoneInOutlines.{none_in_statement}
 
 -- ---- what is added

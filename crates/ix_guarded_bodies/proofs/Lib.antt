@@ -48,3 +48,15 @@ pub mod GuardedPrograms
 -- Passed on from ix_guarded_text.
 pub use Rattle.ix_guarded_text.proofs.PartsMoved
 pub use Rattle.ix_guarded_text.proofs.SourcePlaces
+pub mod Outlined
+pub mod AccessesCounted
+pub mod OneAccess
+pub mod AccessesListed
+pub mod TestedPairs
+pub mod StandingOutlines
+pub mod GuardedStatements
+pub mod StandingExpressions
+pub mod StandingStatements
+pub mod StandingSources
+pub mod GuardedSources
+pub mod OneGuarded

@@ -5,12 +5,12 @@ use Rattle.ix_tree.specs.declared.stmt.Stmt.{Stmt, Stmt-F, ind-Stmt, map-Stmt, r
 use Rattle.ix_tree.specs.declared.stmt.StmtKind.{StmtKind, StmtKind-F, map-StmtKind, roll-StmtKind, fold-StmtKind, fold-roll-StmtKind}
 use Rattle.ix_formed.proofs.NumberLists.{all_joined}
 use Rattle.ix_guard.specs.Tests.{Site}
-use Rattle.ix_accesses.specs.AllAccesses.{AnyAccess, all, maybe, each_of, all_accesses, decl_accesses}
-use Rattle.ix_accesses.specs.AtPlace as at_place
-use Rattle.ix_accesses.specs.AtPlace.{IsOff, HasNone, stmt_accesses}
-use Rattle.ix_accesses.specs.Outlines as outlines
-use Rattle.ix_accesses.specs.Outlines.{Outline, followed, joined, everything, outline}
-use Rattle.ix_accesses.proofs.Outlined.{none_split, none_followed}
+use Rattle.ix_guarded_bodies.specs.AllAccesses.{AnyAccess, all, maybe, each_of, all_accesses, decl_accesses}
+use Rattle.ix_guarded_bodies.specs.AtPlace as at_place
+use Rattle.ix_guarded_bodies.specs.AtPlace.{IsOff, HasNone, stmt_accesses}
+use Rattle.ix_guarded_bodies.specs.Outlines as outlines
+use Rattle.ix_guarded_bodies.specs.Outlines.{Outline, followed, joined, everything, outline}
+use Rattle.ix_guarded_bodies.proofs.Outlined.{none_split, none_followed}
 
 module _ (site : Site) (place : Span) where
   join : (xs ys : List AnyAccess) → HasNone place xs → HasNone place ys → HasNone place (xs ++ ys)

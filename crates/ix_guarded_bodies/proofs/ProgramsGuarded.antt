@@ -41,7 +41,7 @@ use Rattle.ix_guarded_bodies.specs.TestParts.{Parts}
 use Rattle.ix_guarded_bodies.specs.GuardedPlaces as placed
 use Rattle.ix_guarded_bodies.specs.GuardedPlaces.{Each, PlacedMember, PlacedClass, PlacedSource}
 use Rattle.ix_guarded_bodies.specs.GuardedNames.{IsMeant}
-use Rattle.ix_accesses.specs.SourceGuards.{MemberGuards, ClassGuards, SourceGuards}
+use Rattle.ix_guarded_bodies.specs.SourceGuards.{MemberGuards, ClassGuards, SourceGuards}
 use Rattle.ix_guarded_bodies.specs.Laws.{Laws}
 use Rattle.ix_guarded_bodies.proofs.BodiesGuarded.{default_guards, written_guards}
 

@@ -33,7 +33,7 @@ use Rattle.ix_kept_runs.proofs.Scopes.{owner_more, slot_more, scope_low}
 use Rattle.ix_guard.specs.Accesses as accesses
 use Rattle.ix_guard.specs.Accesses.{parts_of, init_parts, decl_parts, all_decl_parts}
 use Rattle.ix_guard.specs.Tests.{is_variable, same_variable}
-use Rattle.ix_accesses.specs.AllAccesses.{AnyAccess, all_accesses, init_accesses, decl_accesses, maybe, each_of}
+use Rattle.ix_guarded_bodies.specs.AllAccesses.{AnyAccess, all_accesses, init_accesses, decl_accesses, maybe, each_of}
 use Rattle.ix_guarded_bodies.specs.OnlyThere.{Names as NamesIn, IsOnThese, OnlyThere}
 use Rattle.ix_guarded_bodies.specs.InScope.{IsAt, IsUnnamed, Calls, IsOfThese, OnlyOf}
 use Rattle.ix_guarded_bodies.specs.KeptSlots.{AreBelow}

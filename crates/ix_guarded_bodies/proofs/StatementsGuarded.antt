@@ -41,19 +41,19 @@ use Rattle.ix_moved.specs.Moved.{Move, moved_span, moved_expr, moved_decl, moved
 use Rattle.ix_guarded_bodies.specs.TestParts.{Parts}
 use Rattle.ix_guarded_bodies.specs.GuardedPlaces as placed
 use Rattle.ix_guarded_bodies.specs.GuardedPlaces.{AreTests, Inner, Alone, InList}
-use Rattle.ix_accesses.specs.AllAccesses.{AnyAccess, all_accesses, decl_accesses, maybe, each_of}
-use Rattle.ix_accesses.specs.AtPlace.{IsOff, HasNone}
+use Rattle.ix_guarded_bodies.specs.AllAccesses.{AnyAccess, all_accesses, decl_accesses, maybe, each_of}
+use Rattle.ix_guarded_bodies.specs.AtPlace.{IsOff, HasNone}
 use Rattle.ix_guarded_bodies.specs.KeptSlots.{Leaves, Appends}
-use Rattle.ix_accesses.specs.Outlines.{Outline, outline, outlines, everything}
-use Rattle.ix_accesses.specs.SourceGuards as source
-use Rattle.ix_accesses.specs.SourceGuards.{IsAmong, HasOnly, IsBehind, Guards}
-use Rattle.ix_accesses.specs.SourceGuards.{AreKept}
+use Rattle.ix_guarded_bodies.specs.Outlines.{Outline, outline, outlines, everything}
+use Rattle.ix_guarded_bodies.specs.SourceGuards as source
+use Rattle.ix_guarded_bodies.specs.SourceGuards.{IsAmong, HasOnly, IsBehind, Guards}
+use Rattle.ix_guarded_bodies.specs.SourceGuards.{AreKept}
 use Rattle.ix_guarded_bodies.specs.Laws.{AreInSlots, changes_of, Laws}
 use Rattle.ix_guarded_bodies.proofs.Growing.{with_sound, Grows, grows_none, grows_both, grows_more, grows_less, elsewhere_grows, keeps_grows, KeepsKnown, elsewhere_known, keeps_known}
 use Rattle.ix_guarded_bodies.proofs.Compounds.{IsFine, chosen_grows, while_grows, do_grows, for_grows, IsElse, ElseIf, KeepsIf, printed_grows, returned_grows, runs_grow, jump_grows}
 use Rattle.ix_guarded_bodies.proofs.TestsGrow.{IsTest, HasVariables, are_sound, run, Rest, tests_keep, tests_tell}
 use Rattle.ix_guarded_bodies.proofs.Forms as form
-use Rattle.ix_accesses.proofs.Outlined.{tests_of, own_of, is_behind, guards_split, none_split, none_followed, among_so, tested_kept}
+use Rattle.ix_guarded_bodies.proofs.Outlined.{tests_of, own_of, is_behind, guards_split, none_split, none_followed, among_so, tested_kept}
 
 -- ---- what is known behind the tests of a statement
 

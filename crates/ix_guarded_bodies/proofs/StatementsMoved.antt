@@ -7,9 +7,9 @@ use Rattle.ix_tree.proofs.FoldsOfForms as fold
 use Rattle.ix_moved.specs.Bare.{bare_maybe}
 use Rattle.ix_moved.specs.Moved as moved
 use Rattle.ix_moved.specs.Moved.{Move, moved_span, moved_name, moved_expr, moved_decl, moved_stmt}
-use Rattle.ix_accesses.specs.AllAccesses.{AnyAccess, all, maybe, each_of, all_accesses}
-use Rattle.ix_accesses.specs.AtPlace as at_place
-use Rattle.ix_accesses.specs.AtPlace.{stmt_accesses}
+use Rattle.ix_guarded_bodies.specs.AllAccesses.{AnyAccess, all, maybe, each_of, all_accesses}
+use Rattle.ix_guarded_bodies.specs.AtPlace as at_place
+use Rattle.ix_guarded_bodies.specs.AtPlace.{stmt_accesses}
 use Rattle.ix_guarded_bodies.proofs.AccessesMoved.{moved_any, both_moved, all_moved, accesses_moved, decls_accesses_moved}
 
 module _ (move : Move) where

@@ -37,7 +37,7 @@ use Rattle.ix_guarded_bodies.specs.TestParts.{Parts, condition_of, throw_of, gua
 use Rattle.ix_guarded_bodies.specs.GuardedPlaces as placed
 use Rattle.ix_guarded_bodies.specs.GuardedPlaces.{AreTests}
 use Rattle.ix_guarded_bodies.specs.GuardedNames.{IsMeant}
-use Rattle.ix_accesses.specs.SourceGuards.{IsAmong}
+use Rattle.ix_guarded_bodies.specs.SourceGuards.{IsAmong}
 use Rattle.ix_guarded_bodies.specs.Laws.{IsInSlot, AreInSlots}
 use Rattle.ix_guarded_bodies.proofs.Growing.{with_sound, Grows, grows_both}
 use Rattle.ix_guarded_bodies.proofs.TestSlots.{named_in_slot, array_sound, index_sound}

@@ -11,7 +11,7 @@ use Rattle.ix_plain.specs.Statements.{scope_of}
 use Rattle.ix_formed.specs.Additions.{AllOf}
 use Rattle.ix_kept_runs.specs.Running.{Ground, in_scope}
 use Rattle.ix_guard.specs.Tests.{same_variable}
-use Rattle.ix_accesses.specs.AllAccesses.{AnyAccess}
+use Rattle.ix_guarded_bodies.specs.AllAccesses.{AnyAccess}
 
 -- The variable is in scope in the body, and this is its slot, which holds no other.
 pub record IsAt (g : Ground) (body : Body) (variable : Meaning) (slot : ℕ) : Type 0 where

@@ -27,11 +27,11 @@ use Rattle.ix_guard.specs.Accesses.{Access, Parts, parts_of, all_decl_parts}
 use Rattle.ix_guard.specs.Tests.{Site, Changes}
 use Rattle.ix_guarded_bodies.specs.Pieces.{IsElsewhere, Keeps}
 use Rattle.ix_moved.specs.Moved.{Move, moved_span, moved_expr, moved_init, moved_decl, moved_stmt}
-use Rattle.ix_accesses.specs.AllAccesses.{all_accesses, init_accesses, decl_accesses, each_of}
-use Rattle.ix_accesses.specs.AtPlace.{HasNone}
+use Rattle.ix_guarded_bodies.specs.AllAccesses.{all_accesses, init_accesses, decl_accesses, each_of}
+use Rattle.ix_guarded_bodies.specs.AtPlace.{HasNone}
 use Rattle.ix_guarded_bodies.specs.KeptSlots.{Leaves, LeavesAsked, Appends}
-use Rattle.ix_accesses.specs.Outlines.{outline, everything}
-use Rattle.ix_accesses.specs.SourceGuards.{AreKept, HasOnly}
+use Rattle.ix_guarded_bodies.specs.Outlines.{outline, everything}
+use Rattle.ix_guarded_bodies.specs.SourceGuards.{AreKept, HasOnly}
 
 -- An expression adds items whose operations all have the property, as a value and as a condition.
 pub record LowersEach (P : Op → Type 0) (scope : Scope) (made : Made) (expr : Expr) : Type 0 where

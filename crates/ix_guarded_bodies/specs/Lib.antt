@@ -23,5 +23,14 @@ pub use Rattle.ix_guarded_text.specs.TestParts
 pub use Rattle.ix_guarded_text.specs.GuardedPlaces
 pub use Rattle.ix_guarded_text.specs.GuardedNames
 pub use Rattle.ix_guarded_text.specs.Interleaved
--- Passed on from ix_accesses.
-pub use Rattle.ix_accesses.specs.SourceGuards
+-- All accesses in an expression.
+pub mod AllAccesses
+-- Those in a statement, and those at a place.
+pub mod AtPlace
+-- Statements as far as guards go, and which accesses of a source stand behind tests.
+pub mod Outlines
+pub mod SourceGuards
+-- All accesses of a source.
+pub mod SourceAccesses
+-- Where names that are indices stand.
+pub mod StandingIndices

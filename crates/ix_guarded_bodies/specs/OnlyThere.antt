@@ -5,7 +5,7 @@ use Rattle.ix_tree.specs.declared.annot.Ident.{Ident}
 use Rattle.ix_plain.specs.Scope.{Scope, slot_of, meaning_at}
 use Rattle.ix_formed.specs.Additions.{AllOf}
 use Rattle.ix_guard.specs.Tests.{is_variable}
-use Rattle.ix_accesses.specs.AllAccesses.{AnyAccess}
+use Rattle.ix_guarded_bodies.specs.AllAccesses.{AnyAccess}
 
 -- The name means a local or a parameter in that slot.
 pub record IsNameOf (scope : Scope) (slot : ℕ) (name : Ident) : Type 0 where

@@ -15,7 +15,7 @@ use Rattle.ix_plain.specs.Statements.{scope_of, with_local, declaration}
 use Rattle.ix_formed.specs.Additions.{Makes, AllOf}
 use Rattle.ix_guard.specs.Accesses.{parts_of, init_parts}
 use Rattle.ix_guard.specs.Tests.{same_variable}
-use Rattle.ix_accesses.specs.AllAccesses.{all_accesses, init_accesses}
+use Rattle.ix_guarded_bodies.specs.AllAccesses.{all_accesses, init_accesses}
 use Rattle.ix_guarded_bodies.specs.OnlyThere.{OnlyThere}
 
 -- The spot is a field, a cell, or a variable in neither slot.

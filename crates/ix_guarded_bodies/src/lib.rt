@@ -11,7 +11,8 @@
 //! - where the names of a test mean variables and its index is an int, its condition becomes a condition of the form `outside`, which `IsTest` holds of,
 //!   and the statement of the test becomes a choice of that condition that throws where it holds and does nothing where it fails.
 //!
-//! They stand on `ix_guarded_text` for the guarded tree beside its source, on `ix_accesses` for what it is to stand behind a test, on the lowering of `ix_plain`, the forms of `ix_formed` that
+//! They stand on `ix_guarded_text` for the guarded tree beside its source, on `ix_guarded_bodies` for what it is to stand behind a test, on the lowering of `ix_plain`, the forms of `ix_formed` that
 //! the grammar writes, the tests of soundness in `ix_kept_runs`, and on `ix_well_named` for that names of an accepted source are sound.
 //! They never look at how names are found, at a step of the machine, at how a guard's text is written, at facts, or at what is known behind a guard.
 #![tactic(auto)]
+

@@ -4,7 +4,7 @@ use Rattle.ix_text.specs.declared.span.Span.{Span}
 use Rattle.ix_tree.specs.declared.stmt.Stmt.{Stmt, Stmt-F, fold-Stmt}
 use Rattle.ix_tree.specs.declared.stmt.StmtKind.{StmtKind-F}
 use Rattle.ix_formed.specs.Additions.{AllOf}
-use Rattle.ix_accesses.specs.AllAccesses.{AnyAccess, all, maybe, each_of, all_accesses, decl_accesses}
+use Rattle.ix_guarded_bodies.specs.AllAccesses.{AnyAccess, all, maybe, each_of, all_accesses, decl_accesses}
 
 -- ---- the accesses in a statement, those of its parts included
 

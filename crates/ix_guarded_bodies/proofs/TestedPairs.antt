@@ -13,13 +13,13 @@ use Rattle.ix_guard.specs.Accesses.{Access, Parts}
 use Rattle.ix_guard.specs.Tests.{Site, Changes, Pair, is_variable, same_variable, is_kept, is_guarded, pair_of, same_pair, is_tested, is_bound_error}
 use Rattle.ix_guard.specs.Trees.{tested_behind, tested}
 use Rattle.ix_guard.specs.GuardedAccesses.{changing, guarded_of}
-use Rattle.ix_accesses.specs.AllAccesses.{AnyAccess}
-use Rattle.ix_accesses.specs.SourceGuards.{IsAmong, IsOf, IsBehind, tested as behind_test}
-use Rattle.ix_accesses.proofs.Outlined.{among_so}
-use Rattle.ix_accesses.specs.SourceAccesses.{any_of}
-use Rattle.ix_accesses.proofs.AccessesCounted.{accesses_at}
-use Rattle.ix_accesses.proofs.OneAccess.{among_filtered, only_it}
-use Rattle.ix_accesses.proofs.AccessesListed.{Listed}
+use Rattle.ix_guarded_bodies.specs.AllAccesses.{AnyAccess}
+use Rattle.ix_guarded_bodies.specs.SourceGuards.{IsAmong, IsOf, IsBehind, tested as behind_test}
+use Rattle.ix_guarded_bodies.proofs.Outlined.{among_so}
+use Rattle.ix_guarded_bodies.specs.SourceAccesses.{any_of}
+use Rattle.ix_guarded_bodies.proofs.AccessesCounted.{accesses_at}
+use Rattle.ix_guarded_bodies.proofs.OneAccess.{among_filtered, only_it}
+use Rattle.ix_guarded_bodies.proofs.AccessesListed.{Listed}
 
 -- ---- pairs of variables
 

@@ -19,12 +19,12 @@ use Rattle.ix_formed.specs.Weights.{total}
 use Rattle.ix_formed.proofs.ExpressionNotes.{total_append}
 use Rattle.ix_guard.specs.Accesses.{Access}
 use Rattle.ix_guard.specs.Tests.{Site}
-use Rattle.ix_accesses.specs.AllAccesses as every
-use Rattle.ix_accesses.specs.AllAccesses.{AnyAccess, Form, Reading, all, inside, reading, all_accesses, init_accesses, maybe, each_of, decl_accesses}
-use Rattle.ix_accesses.specs.Outlines as outlining
-use Rattle.ix_accesses.specs.Outlines.{Outline, nothing, node, followed, joined, everything, outline, outlines}
-use Rattle.ix_accesses.specs.SourceGuards.{args_accesses}
-use Rattle.ix_accesses.specs.SourceAccesses.{member_accesses, class_accesses, source_accesses}
+use Rattle.ix_guarded_bodies.specs.AllAccesses as every
+use Rattle.ix_guarded_bodies.specs.AllAccesses.{AnyAccess, Form, Reading, all, inside, reading, all_accesses, init_accesses, maybe, each_of, decl_accesses}
+use Rattle.ix_guarded_bodies.specs.Outlines as outlining
+use Rattle.ix_guarded_bodies.specs.Outlines.{Outline, nothing, node, followed, joined, everything, outline, outlines}
+use Rattle.ix_guarded_bodies.specs.SourceGuards.{args_accesses}
+use Rattle.ix_guarded_bodies.specs.SourceAccesses.{member_accesses, class_accesses, source_accesses}
 
 module _ (place : Span) where
   abbrev pub access_at : AnyAccess → ℕ

@@ -11,9 +11,9 @@ use Rattle.ix_tree.specs.declared.expr.Expr.{Expr}
 use Rattle.ix_formed.specs.Additions.{AllOf}
 use Rattle.ix_guard.specs.Accesses.{Access}
 use Rattle.ix_guard.specs.Tests.{Site, Changes, pair_of, same_pair, is_kept}
-use Rattle.ix_accesses.specs.AllAccesses.{AnyAccess, all_accesses, decl_accesses, maybe, each_of}
-use Rattle.ix_accesses.specs.AtPlace.{HasNone}
-use Rattle.ix_accesses.specs.Outlines.{Outline, nothing, node, outlines}
+use Rattle.ix_guarded_bodies.specs.AllAccesses.{AnyAccess, all_accesses, decl_accesses, maybe, each_of}
+use Rattle.ix_guarded_bodies.specs.AtPlace.{HasNone}
+use Rattle.ix_guarded_bodies.specs.Outlines.{Outline, nothing, node, outlines}
 
 -- one of these
 abbrev pub IsAmong : {A : Type 0} → A → List A → Type 0

@@ -29,12 +29,12 @@ use Rattle.ix_formed.specs.Additions.{AllOf}
 use Rattle.ix_formed.proofs.NumberLists.{all_joined, all_so}
 use Rattle.ix_guard.specs.Tests.{Site}
 use Rattle.ix_guard.specs.Trees.{expression_tested, declaration_tested, returning}
-use Rattle.ix_accesses.specs.AllAccesses.{AnyAccess, all_accesses, maybe, each_of, decl_accesses}
-use Rattle.ix_accesses.specs.Outlines as outlining
-use Rattle.ix_accesses.specs.Outlines.{Outline, nothing, followed, joined, everything, behind, untested, outline}
-use Rattle.ix_accesses.specs.StandingIndices.{IndexStands, IndicesStand}
-use Rattle.ix_accesses.proofs.StandingOutlines.{node_stand, followed_stand, joined_stand, each_stands}
-use Rattle.ix_accesses.proofs.StandingExpressions.{ExprStands, expr_stands, init_stands}
+use Rattle.ix_guarded_bodies.specs.AllAccesses.{AnyAccess, all_accesses, maybe, each_of, decl_accesses}
+use Rattle.ix_guarded_bodies.specs.Outlines as outlining
+use Rattle.ix_guarded_bodies.specs.Outlines.{Outline, nothing, followed, joined, everything, behind, untested, outline}
+use Rattle.ix_guarded_bodies.specs.StandingIndices.{IndexStands, IndicesStand}
+use Rattle.ix_guarded_bodies.proofs.StandingOutlines.{node_stand, followed_stand, joined_stand, each_stands}
+use Rattle.ix_guarded_bodies.proofs.StandingExpressions.{ExprStands, expr_stands, init_stands}
 
 -- ---- repetitions of the grammar
 

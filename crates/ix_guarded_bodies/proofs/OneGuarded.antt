@@ -14,15 +14,15 @@ use Rattle.ix_formed.specs.Additions.{AllOf}
 use Rattle.ix_guard.specs.Accesses.{Access}
 use Rattle.ix_guard.specs.Tests.{Site}
 use Rattle.ix_guard.specs.GuardedAccesses.{in_member, in_class, guarded_accesses}
-use Rattle.ix_accesses.specs.AllAccesses.{AnyAccess, each_of, decl_accesses}
-use Rattle.ix_accesses.specs.Outlines.{everything, outlines}
-use Rattle.ix_accesses.specs.SourceGuards.{IsAmong, args_accesses}
-use Rattle.ix_accesses.specs.SourceAccesses.{any_of, member_accesses, class_accesses, source_accesses}
-use Rattle.ix_accesses.specs.StandingIndices.{MemberStands, ClassStands, SourceStands}
-use Rattle.ix_accesses.proofs.AccessesCounted.{source_counts}
-use Rattle.ix_accesses.proofs.OneAccess.{among_left, among_right, among_split, only_it, expressions_once}
-use Rattle.ix_accesses.proofs.GuardedStatements.{body_held}
-use Rattle.ix_accesses.proofs.StandingSources.{source_stands}
+use Rattle.ix_guarded_bodies.specs.AllAccesses.{AnyAccess, each_of, decl_accesses}
+use Rattle.ix_guarded_bodies.specs.Outlines.{everything, outlines}
+use Rattle.ix_guarded_bodies.specs.SourceGuards.{IsAmong, args_accesses}
+use Rattle.ix_guarded_bodies.specs.SourceAccesses.{any_of, member_accesses, class_accesses, source_accesses}
+use Rattle.ix_guarded_bodies.specs.StandingIndices.{MemberStands, ClassStands, SourceStands}
+use Rattle.ix_guarded_bodies.proofs.AccessesCounted.{source_counts}
+use Rattle.ix_guarded_bodies.proofs.OneAccess.{among_left, among_right, among_split, only_it, expressions_once}
+use Rattle.ix_guarded_bodies.proofs.GuardedStatements.{body_held}
+use Rattle.ix_guarded_bodies.proofs.StandingSources.{source_stands}
 
 -- ---- a guarded access is one of all
 

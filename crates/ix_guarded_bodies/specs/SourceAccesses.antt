@@ -6,9 +6,9 @@ use Rattle.ix_tree.specs.declared.decl.Member.TheVariants.{Field, Method}
 use Rattle.ix_tree.specs.declared.decl.Unit.{Unit as Source}
 use Rattle.ix_guard.specs.Accesses.{Access}
 use Rattle.ix_guard.specs.Tests.{Site}
-use Rattle.ix_accesses.specs.AllAccesses.{AnyAccess, each_of, decl_accesses}
-use Rattle.ix_accesses.specs.Outlines.{everything, outlines}
-use Rattle.ix_accesses.specs.SourceGuards.{args_accesses}
+use Rattle.ix_guarded_bodies.specs.AllAccesses.{AnyAccess, each_of, decl_accesses}
+use Rattle.ix_guarded_bodies.specs.Outlines.{everything, outlines}
+use Rattle.ix_guarded_bodies.specs.SourceGuards.{args_accesses}
 
 -- an access on names as one of all
 abbrev pub any_of : Access → AnyAccess

@@ -11,17 +11,17 @@ use Rattle.ix_guard.specs.Tests.{Site}
 use Rattle.ix_guard.specs.Trees.{tested, returning}
 use Rattle.ix_guard.specs.GuardedAccesses as guarded
 use Rattle.ix_guard.specs.GuardedAccesses.{guarded_of, in_value, in_each, in_statement, in_body}
-use Rattle.ix_accesses.specs.AllAccesses.{AnyAccess, all_accesses, maybe, each_of, decl_accesses}
-use Rattle.ix_accesses.specs.Outlines as outlining
-use Rattle.ix_accesses.specs.Outlines.{Outline, nothing, node, followed, joined, everything, behind, untested, outline, outlines}
-use Rattle.ix_accesses.specs.SourceGuards.{IsAmong, free, Guards}
-use Rattle.ix_accesses.specs.SourceAccesses.{any_of}
-use Rattle.ix_accesses.specs.StandingIndices.{IndicesStand}
-use Rattle.ix_accesses.proofs.StandingOutlines.{everything_followed, node_stands, followed_stands}
-use Rattle.ix_accesses.proofs.AccessesCounted.{accesses_at, made_at, node_made, followed_made}
-use Rattle.ix_accesses.proofs.OneAccess.{among_left, among_right, among_split, among_counts, none_there}
-use Rattle.ix_accesses.proofs.AccessesListed.{Listed, expression_listed, decls_listed}
-use Rattle.ix_accesses.proofs.TestedPairs.{is_there, guarded_behind}
+use Rattle.ix_guarded_bodies.specs.AllAccesses.{AnyAccess, all_accesses, maybe, each_of, decl_accesses}
+use Rattle.ix_guarded_bodies.specs.Outlines as outlining
+use Rattle.ix_guarded_bodies.specs.Outlines.{Outline, nothing, node, followed, joined, everything, behind, untested, outline, outlines}
+use Rattle.ix_guarded_bodies.specs.SourceGuards.{IsAmong, free, Guards}
+use Rattle.ix_guarded_bodies.specs.SourceAccesses.{any_of}
+use Rattle.ix_guarded_bodies.specs.StandingIndices.{IndicesStand}
+use Rattle.ix_guarded_bodies.proofs.StandingOutlines.{everything_followed, node_stands, followed_stands}
+use Rattle.ix_guarded_bodies.proofs.AccessesCounted.{accesses_at, made_at, node_made, followed_made}
+use Rattle.ix_guarded_bodies.proofs.OneAccess.{among_left, among_right, among_split, among_counts, none_there}
+use Rattle.ix_guarded_bodies.proofs.AccessesListed.{Listed, expression_listed, decls_listed}
+use Rattle.ix_guarded_bodies.proofs.TestedPairs.{is_there, guarded_behind}
 
 module _ (site : Site) (access : Access) where
   abbrev made : Outline → ℕ

@@ -5,7 +5,7 @@ use Rattle.ix_tree.specs.declared.stmt.StmtKind.{StmtKind-F}
 use Rattle.ix_guard.specs.Accesses.{Access}
 use Rattle.ix_guard.specs.Tests.{Site}
 use Rattle.ix_guard.specs.Trees.{expression_tested, declaration_tested, returning}
-use Rattle.ix_accesses.specs.AllAccesses.{AnyAccess, all_accesses, decl_accesses, maybe, each_of}
+use Rattle.ix_guarded_bodies.specs.AllAccesses.{AnyAccess, all_accesses, decl_accesses, maybe, each_of}
 
 -- Statements, one behind the other.
 pub data Outline : Type 0 where

@@ -9,11 +9,11 @@ use Rattle.ix_formed.proofs.NumberLists.{all_split, all_joined}
 use Rattle.ix_guard.specs.Accesses.{Access}
 use Rattle.ix_guard.specs.Tests.{Site, Changes, Pair, pair_of, same_pair, is_bound_error, is_guarded, is_tested, is_kept}
 use Rattle.ix_guard.specs.Trees.{tested_behind}
-use Rattle.ix_accesses.specs.AllAccesses.{AnyAccess}
-use Rattle.ix_accesses.specs.AtPlace.{IsOff, HasNone}
-use Rattle.ix_accesses.specs.Outlines.{Outline, nothing, node, followed, everything}
-use Rattle.ix_accesses.specs.SourceGuards.{IsAmong, IsBehind, free, Guards}
-use Rattle.ix_accesses.specs.SourceGuards.{AreKept}
+use Rattle.ix_guarded_bodies.specs.AllAccesses.{AnyAccess}
+use Rattle.ix_guarded_bodies.specs.AtPlace.{IsOff, HasNone}
+use Rattle.ix_guarded_bodies.specs.Outlines.{Outline, nothing, node, followed, everything}
+use Rattle.ix_guarded_bodies.specs.SourceGuards.{IsAmong, IsBehind, free, Guards}
+use Rattle.ix_guarded_bodies.specs.SourceGuards.{AreKept}
 
 -- ---- the first statement of an outline
 

@@ -9,10 +9,10 @@ use Rattle.ix_tree.specs.Parts.{Part, expression, statement, declaration, in_typ
 use Rattle.ix_meaning.specs.Listed.{same_span}
 use Rattle.ix_formed.specs.Additions.{AllOf}
 use Rattle.ix_formed.proofs.NumberLists.{is_itself, both_true, all_so}
-use Rattle.ix_accesses.specs.AllAccesses.{AnyAccess}
-use Rattle.ix_accesses.specs.AtPlace.{HasNone}
-use Rattle.ix_accesses.specs.SourceGuards.{IsAmong}
-use Rattle.ix_accesses.proofs.AccessesCounted.{accesses_at, expression_at, expressions_at}
+use Rattle.ix_guarded_bodies.specs.AllAccesses.{AnyAccess}
+use Rattle.ix_guarded_bodies.specs.AtPlace.{HasNone}
+use Rattle.ix_guarded_bodies.specs.SourceGuards.{IsAmong}
+use Rattle.ix_guarded_bodies.proofs.AccessesCounted.{accesses_at, expression_at, expressions_at}
 
 -- ---- spans
 

@@ -20,10 +20,10 @@ use Rattle.ix_grammar.specs.SourceGrammar.{source_parts, IsSource}
 use Rattle.ix_formed.specs.Additions.{AllOf}
 use Rattle.ix_formed.proofs.NumberLists.{all_joined}
 use Rattle.ix_guard.specs.Tests.{Site}
-use Rattle.ix_accesses.specs.Outlines.{outline, outlines}
-use Rattle.ix_accesses.specs.StandingIndices.{MemberStands, ClassStands, SourceStands}
-use Rattle.ix_accesses.proofs.StandingOutlines.{joined_stand}
-use Rattle.ix_accesses.proofs.StandingStatements.{OutlineStands, StmtStands, repeated_stand, block_stmt_stands}
+use Rattle.ix_guarded_bodies.specs.Outlines.{outline, outlines}
+use Rattle.ix_guarded_bodies.specs.StandingIndices.{MemberStands, ClassStands, SourceStands}
+use Rattle.ix_guarded_bodies.proofs.StandingOutlines.{joined_stand}
+use Rattle.ix_guarded_bodies.proofs.StandingStatements.{OutlineStands, StmtStands, repeated_stand, block_stmt_stands}
 
 module _ (site : Site) where
   stmts_stand : (ts : List Token) (found : Stmts) → c.IsStmts source_parts ts found → OutlineStands (outlines site found.stmts)

@@ -17,14 +17,14 @@ use Rattle.ix_formed.proofs.ExpressionNotes.{total_append}
 use Rattle.ix_guard.specs.Accesses.{Access}
 use Rattle.ix_guard.specs.Tests.{Site}
 use Rattle.ix_guard.specs.GuardedAccesses.{in_body, in_member, in_class, guarded_accesses}
-use Rattle.ix_accesses.specs.AllAccesses.{decl_accesses}
-use Rattle.ix_accesses.specs.Outlines.{outlines}
-use Rattle.ix_accesses.specs.SourceGuards.{IsAmong, args_accesses, MemberGuards, ClassGuards, SourceGuards}
-use Rattle.ix_accesses.specs.StandingIndices.{MemberStands, ClassStands, SourceStands}
-use Rattle.ix_accesses.proofs.AccessesCounted.{expression_at, expressions_at, decl_counts, parent_args_count, body_counts}
-use Rattle.ix_accesses.proofs.OneAccess.{among_split, all_among, none_there, expressions_once}
-use Rattle.ix_accesses.proofs.GuardedStatements.{none_guards, held_counts, body_held}
-use Rattle.ix_accesses.proofs.StandingSources.{source_stands}
+use Rattle.ix_guarded_bodies.specs.AllAccesses.{decl_accesses}
+use Rattle.ix_guarded_bodies.specs.Outlines.{outlines}
+use Rattle.ix_guarded_bodies.specs.SourceGuards.{IsAmong, args_accesses, MemberGuards, ClassGuards, SourceGuards}
+use Rattle.ix_guarded_bodies.specs.StandingIndices.{MemberStands, ClassStands, SourceStands}
+use Rattle.ix_guarded_bodies.proofs.AccessesCounted.{expression_at, expressions_at, decl_counts, parent_args_count, body_counts}
+use Rattle.ix_guarded_bodies.proofs.OneAccess.{among_split, all_among, none_there, expressions_once}
+use Rattle.ix_guarded_bodies.proofs.GuardedStatements.{none_guards, held_counts, body_held}
+use Rattle.ix_guarded_bodies.proofs.StandingSources.{source_stands}
 
 module _ (site : Site) (access : Access) where
   abbrev stand_there : List Part → ℕ

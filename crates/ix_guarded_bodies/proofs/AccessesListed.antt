@@ -11,12 +11,12 @@ use Rattle.ix_formed.specs.Additions.{AllOf}
 use Rattle.ix_formed.proofs.NumberLists.{all_so, all_split, all_joined}
 use Rattle.ix_guard.specs.Accesses as guard
 use Rattle.ix_guard.specs.Accesses.{Access, Parts, parts_of, init_parts, decl_parts, all_decl_parts, is_always, own_access, or_inside}
-use Rattle.ix_accesses.specs.AllAccesses as every
-use Rattle.ix_accesses.specs.AllAccesses.{AnyAccess, Form, Reading, all, inside, reading, all_accesses, init_accesses, each_of, decl_accesses}
-use Rattle.ix_accesses.specs.SourceGuards.{IsAmong}
-use Rattle.ix_accesses.specs.SourceAccesses.{any_of}
-use Rattle.ix_accesses.specs.StandingIndices.{NamedAt, IndexStands, IndicesStand}
-use Rattle.ix_accesses.proofs.OneAccess.{among_left, among_right}
+use Rattle.ix_guarded_bodies.specs.AllAccesses as every
+use Rattle.ix_guarded_bodies.specs.AllAccesses.{AnyAccess, Form, Reading, all, inside, reading, all_accesses, init_accesses, each_of, decl_accesses}
+use Rattle.ix_guarded_bodies.specs.SourceGuards.{IsAmong}
+use Rattle.ix_guarded_bodies.specs.SourceAccesses.{any_of}
+use Rattle.ix_guarded_bodies.specs.StandingIndices.{NamedAt, IndexStands, IndicesStand}
+use Rattle.ix_guarded_bodies.proofs.OneAccess.{among_left, among_right}
 
 -- Each of these accesses on names is one of those accesses.
 abbrev pub Listed : List Access → List AnyAccess → Type 0

@@ -18,9 +18,9 @@ use Rattle.ix_grammar.specs.ExprGrammar as g
 use Rattle.ix_grammar.specs.ExprGrammar.{Kind, IsExpr, IsExprs, IsArgs, IsInit, IsInits, IsItems}
 use Rattle.ix_formed.specs.Additions.{AllOf}
 use Rattle.ix_formed.proofs.NumberLists.{all_joined}
-use Rattle.ix_accesses.specs.AllAccesses as every
-use Rattle.ix_accesses.specs.AllAccesses.{AnyAccess, Form, Reading, all, inside, unnamed, accessing, reading, all_accesses, init_accesses}
-use Rattle.ix_accesses.specs.StandingIndices.{NamedAt, IndexStands, IndicesStand}
+use Rattle.ix_guarded_bodies.specs.AllAccesses as every
+use Rattle.ix_guarded_bodies.specs.AllAccesses.{AnyAccess, Form, Reading, all, inside, unnamed, accessing, reading, all_accesses, init_accesses}
+use Rattle.ix_guarded_bodies.specs.StandingIndices.{NamedAt, IndexStands, IndicesStand}
 
 -- An expression that is a name stands where its name does, and so does each index in it that is a name.
 pub record Stands (found : Reading) : Type 0 where

@@ -8,8 +8,8 @@ use Rattle.ix_tree.specs.declared.decl.Member.TheVariants.{Field, Method}
 use Rattle.ix_tree.specs.declared.decl.Unit.{Unit as Source}
 use Rattle.ix_formed.specs.Additions.{AllOf}
 use Rattle.ix_guard.specs.Tests.{Site}
-use Rattle.ix_accesses.specs.AllAccesses.{AnyAccess}
-use Rattle.ix_accesses.specs.Outlines.{everything, outlines}
+use Rattle.ix_guarded_bodies.specs.AllAccesses.{AnyAccess}
+use Rattle.ix_guarded_bodies.specs.Outlines.{everything, outlines}
 
 -- The name, where there is one, stands there.
 abbrev pub NamedAt : Option Ident → Span → Type 0

@@ -3,9 +3,9 @@ use Rattle.std.proofs.Common.{◌≡◌, List, [], ◌∷◌, ◌++◌, map, ref
 use Rattle.ix_formed.specs.Additions.{AllOf}
 use Rattle.ix_formed.proofs.NumberLists.{all_split, all_joined}
 use Rattle.ix_guard.specs.Accesses.{Access}
-use Rattle.ix_accesses.specs.AllAccesses.{AnyAccess, all, each_of}
-use Rattle.ix_accesses.specs.Outlines.{Outline, nothing, node, followed, joined, everything}
-use Rattle.ix_accesses.specs.StandingIndices.{IndexStands, IndicesStand}
+use Rattle.ix_guarded_bodies.specs.AllAccesses.{AnyAccess, all, each_of}
+use Rattle.ix_guarded_bodies.specs.Outlines.{Outline, nothing, node, followed, joined, everything}
+use Rattle.ix_guarded_bodies.specs.StandingIndices.{IndexStands, IndicesStand}
 
 -- What is made in statements one behind the other.
 pub everything_followed : (x y : Outline) → everything (followed x y) ≡ everything x ++ everything y
