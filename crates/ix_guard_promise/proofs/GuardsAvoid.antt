@@ -9,7 +9,7 @@ use Rattle.ix_facts.specs.Stores.{Stored, Reached}
 use Rattle.ix_flow.specs.Flow.{IsFlow}
 use Rattle.ix_errors.specs.MethodRules.{method_rules}
 use Rattle.ix_guard_promise.specs.KnownFacts.{store_of}
-use Rattle.ix_guarded_bodies.specs.Guards.{Guards}
+use Rattle.ix_guard_promise.specs.Guards.{Guards}
 use Rattle.ix_guard_promise.specs.BoundErrors.{IsOfBounds, GivesNo}
 use Rattle.ix_guard_promise.proofs.GuardedFlow.{body_flows}
 use Rattle.ix_guard_promise.proofs.KeptByRules.{rules_kept}

@@ -10,7 +10,7 @@ use Rattle.ix_facts.specs.Stores.{Reached, IsBelow, outcomes_of}
 use Rattle.ix_facts.proofs.StoreLaws.{below_itself}
 use Rattle.ix_claim_facts.specs.Signs.{entry_facts, told_facts}
 use Rattle.ix_errors.specs.MethodRules.{method_rules, RoundedGives}
-use Rattle.ix_guarded_bodies.specs.Known.{Known, Nowhere, Unknown, Inside, Says}
+use Rattle.ix_guard_promise.specs.Known.{Known, Nowhere, Unknown, Inside, Says}
 use Rattle.ix_guard_promise.specs.KnownFacts.{store_of}
 use Rattle.ix_guard_promise.specs.BoundErrors.{IsOfBounds, GivesNo}
 use Rattle.ix_guard_promise.proofs.FinePoints.{guarded_fine, no_access_fine, returning_fine, ending_fine}

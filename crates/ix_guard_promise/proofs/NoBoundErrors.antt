@@ -5,10 +5,10 @@ use Rattle.ix_core.specs.declared.fact.Profile.{Profile}
 use Rattle.ix_core.specs.declared.program.Program.{Program}
 use Rattle.ix_core.specs.Tables.{method_at, body_of}
 use Rattle.ix_errors.specs.MethodErrors.{IsErrorOf, IsError}
-use Rattle.ix_guarded_bodies.specs.Guards.{Guards}
-use Rattle.ix_guarded_bodies.specs.Pieces.{EachOp, IsElsewhere}
+use Rattle.ix_guard_promise.specs.Guards.{Guards}
+use Rattle.ix_guard_promise.specs.Pieces.{EachOp, IsElsewhere}
 use Rattle.ix_guard_promise.specs.BoundErrors.{IsOfBounds}
-use Rattle.ix_guarded_bodies.proofs.GuardedPieces.{elsewhere}
+use Rattle.ix_guard_promise.proofs.GuardedPieces.{elsewhere}
 use Rattle.ix_guard_promise.proofs.GuardsAvoid.{nothing_known, guards_flow}
 use Rattle.ix_guard_promise.proofs.NoTextErrors.{no_text}
 

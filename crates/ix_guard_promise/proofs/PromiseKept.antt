@@ -8,7 +8,7 @@ use Rattle.ix_tree.specs.declared.decl.Unit.{Unit as Source}
 use Rattle.ix_meaning.specs.Resolved.{names}
 use Rattle.ix_formed.specs.Additions.{AllOf}
 use Rattle.ix_meaning.proofs.FewDeclarations.{few_members}
-use Rattle.ix_guarded_bodies.specs.Guards.{Guards}
+use Rattle.ix_guard_promise.specs.Guards.{Guards}
 use Rattle.ix_guard_promise.proofs.NoBoundErrors.{all_guards_avoid}
 use Rattle.ix_core.specs.Tables.{method_at, body_of}
 use Rattle.ix_guard.specs.Accesses.{Access}
@@ -16,9 +16,9 @@ use Rattle.ix_guard.specs.GuardedAccesses.{guarded_accesses}
 use Rattle.ix_guard.specs.Guards.{insertions}
 use Rattle.ix_guarding.specs.Inserted.{added}
 use Rattle.ix_guarded_text.proofs.MovingApart.{moving_is_injective}
-use Rattle.ix_guarded_bodies.specs.SourceGuards.{IsAmong}
-use Rattle.ix_guarded_bodies.proofs.GuardedPrograms.{program_guards}
-use Rattle.ix_guarded_bodies.proofs.GuardedSources.{parsed_guards}
+use Rattle.ix_guard_promise.specs.SourceGuards.{IsAmong}
+use Rattle.ix_guard_promise.proofs.GuardedPrograms.{program_guards}
+use Rattle.ix_guard_promise.proofs.GuardedSources.{parsed_guards}
 use Rattle.ix_guard_promise.proofs.GuardedRuns.{guarded_runs_follow}
 use Rattle.ix_guarding.specs.Guarding.{IsGuarded}
 use Rattle.ix_guard_promise.specs.Promise.{HaveProgram, GuardsWell, AvoidsAt, into_guarded}

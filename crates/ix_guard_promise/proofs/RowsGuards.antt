@@ -13,9 +13,9 @@ use Rattle.ix_core.specs.declared.op.OpKind.TheVariants as op
 use Rattle.ix_core.specs.declared.op.Test.{Test}
 use Rattle.ix_core.specs.Code.{Code, End, Do, If, Return, Throw}
 use Rattle.ix_core.specs.Types.{int_type}
-use Rattle.ix_guarded_bodies.specs.Known.{Known, Nowhere, Unknown, Inside, behind}
-use Rattle.ix_guarded_bodies.specs.Guards.{Guarded, Guards, IsGuarded, IsTest, outside, ends, does, returns}
-use Rattle.ix_guarded_bodies.proofs.GuardedPieces.{guard_then}
+use Rattle.ix_guard_promise.specs.Known.{Known, Nowhere, Unknown, Inside, behind}
+use Rattle.ix_guard_promise.specs.Guards.{Guarded, Guards, IsGuarded, IsTest, outside, ends, does, returns}
+use Rattle.ix_guard_promise.proofs.GuardedPieces.{guard_then}
 
 abbrev span : ℕ → ℕ → Span
 span from to = record { from = from; to = to }

@@ -16,9 +16,9 @@ use Rattle.ix_facts.specs.Stores.{Stored, Reached, OutcomesGive, outcomes_of}
 use Rattle.ix_facts.proofs.StoreLaws.{below_itself}
 use Rattle.ix_flow.specs.Flow.{Point, Doing, Asks}
 use Rattle.ix_errors.specs.MethodRules.{AfterGives, KindGives, method_rules}
-use Rattle.ix_guarded_bodies.specs.Known.{Inside, accessed}
+use Rattle.ix_guard_promise.specs.Known.{Inside, accessed}
 use Rattle.ix_guard_promise.specs.KnownFacts.{store_of}
-use Rattle.ix_guarded_bodies.specs.Guards.{Compares, IsTest, outside}
+use Rattle.ix_guard_promise.specs.Guards.{Compares, IsTest, outside}
 use Rattle.ix_guard_promise.proofs.KeptFacts.{unknown_above, more_stays}
 use Rattle.ix_guard_promise.proofs.KeptRules.{kind_unknown}
 use Rattle.ix_guard_promise.proofs.TestFacts.{zero_facts, low_facts, length_facts, zero_made, low_told, length_made, high_told}

@@ -6,7 +6,7 @@ use Rattle.ix_core.specs.declared.fact.Fact.TheVariants.{Rng, Upper}
 use Rattle.ix_core.specs.declared.fact.Path.TheVariants.{Slot}
 use Rattle.ix_core.specs.declared.fact.PathOff.TheVariants.{Nothing}
 use Rattle.ix_facts.specs.Stores.{Stored, Unreachable, Reached}
-use Rattle.ix_guarded_bodies.specs.Known.{Known, Nowhere, Unknown, Inside}
+use Rattle.ix_guard_promise.specs.Known.{Known, Nowhere, Unknown, Inside}
 
 -- the two facts of a guard: `0 <= index`, and `index < array.length`
 abbrev pub inside_facts : (array index : ℕ) → List Fact
