@@ -4,5 +4,5 @@ mod ListedErrors
 pub use Rattle.ix_listing.proofs.Lists
 -- Passed on from ix_ready.
 pub use Rattle.ix_ready.proofs.Ready
--- Passed on from ix_signatures.
-pub use Rattle.ix_signatures.proofs.Refused
+-- Passed on from ix_errors.
+pub use Rattle.ix_errors.proofs.Refused

@@ -7,10 +7,10 @@ use Rattle.ix_core.specs.Formed.{Formed, is_formed}
 use Rattle.ix_core.specs.Safe.{Safe}
 use Rattle.ix_core.specs.declared.claim.Type_.{Type_}
 use Rattle.ix_ready.specs.Judged.{CanCheck}
-use Rattle.ix_signatures.specs.MethodErrors.{HaveNone}
+use Rattle.ix_errors.specs.MethodErrors.{HaveNone}
 use Rattle.ix_listing.specs.Ranked.{Ranked}
 use Rattle.ix_listing.specs.Exactly.{AreExactly}
-use Rattle.ix_signatures.specs.Sound.{LocalsApart, HasNoErrors}
+use Rattle.ix_errors.specs.Sound.{LocalsApart, HasNoErrors}
 use Rattle.ix_listing.specs.ErrorList.{IsErrorList, In}
 use Rattle.ix_listing.proofs.Lists.{same_list, none_listed}
 

@@ -7,8 +7,8 @@ use Rattle.ix_core.specs.declared.error.Detail.TheVariants.{Plain}
 use Rattle.ix_core.specs.declared.fact.Profile.{Profile}
 use Rattle.ix_core.specs.declared.program.Program.{Program}
 use Rattle.ix_code_places.specs.CodePlaces.{PlacesWithin}
-use Rattle.ix_signatures.specs.MethodErrors.{IsErrorOf, IsError}
-use Rattle.ix_signatures.proofs.ErrorPlaces.{error_starts}
+use Rattle.ix_errors.specs.MethodErrors.{IsErrorOf, IsError}
+use Rattle.ix_errors.proofs.ErrorPlaces.{error_starts}
 use Rattle.ix_listing.specs.ErrorList.{IsErrorList}
 
 -- ---- an error that a list doesn't have: it starts behind all of them

@@ -3,8 +3,8 @@ pub use Rattle.ix_ready.specs.Judged
 -- What is passed on of the places in a program.
 pub use Rattle.ix_code_places.specs.CodePlaces
 -- What is passed on of the errors.
-pub use Rattle.ix_signatures.specs.MethodErrors
-pub use Rattle.ix_signatures.specs.MethodRules
+pub use Rattle.ix_errors.specs.MethodErrors
+pub use Rattle.ix_errors.specs.MethodRules
 -- What is passed on of the labels.
 pub use Rattle.ix_loop_labels.specs.LoopLabels
 -- Passed on from ix_listing.

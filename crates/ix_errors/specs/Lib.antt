@@ -15,3 +15,5 @@ pub use Rattle.ix_method_errors.specs.Exactly
 pub use Rattle.ix_labels.specs.MethodRules
 pub use Rattle.ix_labels.specs.RuleErrors
 pub use Rattle.ix_labels.specs.SignErrors
+-- What is read of a program where one of its methods is judged.
+pub mod Signatures

@@ -6,6 +6,7 @@
 //! It never looks at how labels are found or how a store is kept.
 #![tactic(auto)]
 
+mod laws;
 mod method;
 mod nodes;
 mod program;
@@ -13,3 +14,4 @@ mod program;
 pub use ix_method_errors::signs::Ranked;
 pub use ix_sound::soundness;
 pub use program::{method_errors, program_errors};
+pub use laws::judged_alone;

@@ -1,7 +1,7 @@
 use Rattle.std.proofs.Common.{sym}
 use Rattle.ix_core.specs.Tables.{method_at}
-use Rattle.ix_signatures.proofs.JudgedAlone.{from_signatures, to_signatures, same_errors}
-use Rattle.ix_signatures.proofs.laws.judged_alone.Goals as goal
+use Rattle.ix_errors.proofs.JudgedAlone.{from_signatures, to_signatures, same_errors}
+use Rattle.ix_errors.proofs.laws.judged_alone.Goals as goal
 
 -- src/laws.rt
 pub returns : goal.returns

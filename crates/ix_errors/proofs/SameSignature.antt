@@ -22,8 +22,8 @@ use Rattle.ix_facts.specs.Stores.{Stored, IsAbove, Then}
 use Rattle.ix_steps.specs.MachineSteps.{IsDeclared, own_path, on_paths, path_offset}
 use Rattle.ix_errors.specs.Signs.{Adds, Forgets, claims_facts, params_facts, received, received_params}
 use Rattle.ix_errors.specs.SignErrors.{AllRefuse, Unproved, OverrideParameter, OverrideResult, OverrideEffect, result_slot, of_run}
-use Rattle.ix_signatures.specs.Signatures.{signature_of, signatures}
-use Rattle.ix_signatures.proofs.DeclaredNames.{Declared, OffsetDeclared, AllDeclared, ParamsDeclared, MethodDeclared, declared_at}
+use Rattle.ix_errors.specs.Signatures.{signature_of, signatures}
+use Rattle.ix_errors.proofs.DeclaredNames.{Declared, OffsetDeclared, AllDeclared, ParamsDeclared, MethodDeclared, declared_at}
 
 at_signature : (methods : List Method) (k : ℕ) → unwrap_or (slice_get (map signature_of methods) k) no_method ≡ signature_of (unwrap_or (slice_get methods k) no_method)
 at_signature [] k = refl

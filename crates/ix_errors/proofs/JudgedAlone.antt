@@ -8,10 +8,10 @@ use Rattle.ix_core.specs.declared.program.Program.{Program}
 use Rattle.ix_core.specs.Formed.{Formed}
 use Rattle.ix_core.specs.Tables.{method_at}
 use Rattle.ix_errors.specs.MethodErrors.{IsErrorOf}
-use Rattle.ix_signatures.specs.Signatures.{signature_of, signatures, ErrorsOf}
-use Rattle.ix_signatures.proofs.DeclaredNames.{MethodDeclared, all_declared}
-use Rattle.ix_signatures.proofs.SameErrors.{errors_of}
-use Rattle.ix_signatures.proofs.SameSignature.{signature_at}
+use Rattle.ix_errors.specs.Signatures.{signature_of, signatures, ErrorsOf}
+use Rattle.ix_errors.proofs.DeclaredNames.{MethodDeclared, all_declared}
+use Rattle.ix_errors.proofs.SameErrors.{errors_of}
+use Rattle.ix_errors.proofs.SameSignature.{signature_at}
 
 module _ (program : Program) (formed : Formed program) where
   declared : (k : ℕ) → MethodDeclared (method_at program k)

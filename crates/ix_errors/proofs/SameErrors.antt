@@ -31,10 +31,10 @@ use Rattle.ix_errors.specs.MethodRules.{method_rules, KindGives, AfterGives, Rou
 use Rattle.ix_errors.specs.RuleErrors.{KindErrors, PointErrors, OpText, Somewhere, SomewhereAsked, OverridesBy, TestEscapes, TextErrors}
 use Rattle.ix_errors.specs.Ranked.{Ranked}
 use Rattle.ix_errors.specs.MethodErrors.{Derives}
-use Rattle.ix_signatures.specs.Signatures.{signature_of, ErrorsOf}
-use Rattle.ix_signatures.proofs.DeclaredNames.{MethodDeclared}
-use Rattle.ix_signatures.proofs.SameFlows.{is_flow_with}
-use Rattle.ix_signatures.proofs.SameSignature.{Overrides, overrides_of, to_overrides}
+use Rattle.ix_errors.specs.Signatures.{signature_of, ErrorsOf}
+use Rattle.ix_errors.proofs.DeclaredNames.{MethodDeclared}
+use Rattle.ix_errors.proofs.SameFlows.{is_flow_with}
+use Rattle.ix_errors.proofs.SameSignature.{Overrides, overrides_of, to_overrides}
 
 module _ (program : Program) (methods : List Method) (accesses : ℕ) where
   -- the program with other methods

@@ -7,7 +7,7 @@ ghost use Rattle.ix_core.specs.declared.program.Program.{Program};
 ghost use Rattle.ix_core.specs.Formed.{Formed};
 ghost use Rattle.ix_core.specs.Tables.{method_at};
 ghost use Rattle.ix_errors.specs.MethodErrors.{IsErrorOf};
-ghost use Rattle.ix_signatures.specs.Signatures.{signatures, ErrorsOf};
+ghost use Rattle.ix_errors.specs.Signatures.{signatures, ErrorsOf};
 
 /// A method of a formed program is judged by itself and by signatures: it has the same errors where every method is its signature alone (`alone`). So
 /// two formed programs with the same signatures have the same errors in a method that is the same in both, whatever the bodies of the others are (`same`).
