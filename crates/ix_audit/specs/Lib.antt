@@ -4,10 +4,10 @@ pub mod AtLabels
 pub mod Audited
 -- The walk over a body, as the code has it.
 pub mod Walking
--- Passed on from ix_listing.
-pub use Rattle.ix_listing.specs.Ranked
-pub use Rattle.ix_listing.specs.ErrorList
-pub use Rattle.ix_listing.proofs.Lists
+-- Passed on from ix_sign_errors.
+pub use Rattle.ix_sign_errors.specs.Ranked
+pub use Rattle.ix_sign_errors.specs.ErrorList
+pub use Rattle.ix_sign_errors.proofs.Lists
 -- Passed on from ix_sound.
 pub use Rattle.ix_sound.specs.Errors
 pub use Rattle.ix_sound.specs.Sound

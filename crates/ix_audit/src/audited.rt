@@ -7,7 +7,7 @@ ghost use Rattle.ix_audit.specs.Audited as spec;
 use crate::answer::Audit;
 use crate::method::audit_method;
 use ix_core::{List, Profile, Program};
-use ix_listing::list_errors;
+use ix_sign_errors::list_errors;
 use ix_method_errors::Store;
 use ix_method_errors::signs::Ranked;
 use std::alloc::{AllocError, Global};

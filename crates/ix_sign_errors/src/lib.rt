@@ -8,7 +8,9 @@
 
 mod call_errors;
 mod field_errors;
+mod key;
 mod leave;
+mod list;
 mod overriding;
 mod posts;
 mod ranked;
@@ -23,3 +25,4 @@ pub use posts::push_post_errors;
 pub use ranked::{Ranked, push_plain};
 pub use unproved::{Report, push_unproved, refuses};
 pub use write::Write;
+pub use list::list_errors;

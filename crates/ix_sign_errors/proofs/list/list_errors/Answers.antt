@@ -2,9 +2,9 @@ use Rattle.std.proofs.Common.{rules, map, List, subst, sym}
 use Rattle.std.proofs.lemmas.Result.{IfOk-weaker}
 use Rattle.ix_core.specs.declared.error.Error.{Error}
 use Rattle.ix_sign_errors.specs.declared.ranked.Ranked.{Ranked}
-use Rattle.ix_listing.specs.ErrorList.{In, IsErrorList}
-use Rattle.ix_listing.proofs.InOrder.{listed_without_ranks}
-use Rattle.ix_listing.proofs.list.list_errors.Goals as goal
+use Rattle.ix_sign_errors.specs.ErrorList.{In, IsErrorList}
+use Rattle.ix_sign_errors.proofs.InOrder.{listed_without_ranks}
+use Rattle.ix_sign_errors.proofs.list.list_errors.Goals as goal
 
 pub returns : goal.returns
 returns c =

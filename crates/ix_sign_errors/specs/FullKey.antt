@@ -9,7 +9,7 @@ use Rattle.ix_core.specs.declared.claim.Off.TheVariants as off
 use Rattle.ix_core.specs.declared.error.Detail.{Detail}
 use Rattle.ix_core.specs.declared.error.Detail.TheVariants as detail
 use Rattle.ix_core.specs.declared.error.Error.{Error}
-use Rattle.ix_listing.specs.Order.{whom_key}
+use Rattle.ix_sign_errors.specs.Order.{whom_key}
 
 abbrev pub name_kind : Name → ℤ
 name_kind (Param number) = pos 0

@@ -3,7 +3,7 @@ use Rattle.std.specs.Prelude.{◌≡◌, ℕ, suc, ◌≤◌, true, List, slice_
 use Rattle.ix_core.specs.declared.error.Error.{Error}
 use Rattle.ix_sign_errors.specs.declared.ranked.Ranked.{Ranked}
 use Rattle.ix_sign_errors.specs.Exactly.{IsListed}
-use Rattle.ix_listing.specs.Order.{error_key, is_before}
+use Rattle.ix_sign_errors.specs.Order.{error_key, is_before}
 
 -- `Derived` says which errors are derived, each with the place of its claim in its declaration, its rank. One error may be derived with several ranks, of which the
 -- least decides where it is listed.

@@ -4,8 +4,8 @@ use Rattle.std.specs.List.{AllPairs}
 use Rattle.ix_core.specs.declared.error.Error.{Error}
 use Rattle.ix_sign_errors.specs.declared.ranked.Ranked.{Ranked}
 use Rattle.ix_sign_errors.specs.Exactly.{IsListed}
-use Rattle.ix_listing.specs.ErrorList.{In, HasRank}
-use Rattle.ix_listing.specs.Order.{error_key, is_before}
+use Rattle.ix_sign_errors.specs.ErrorList.{In, HasRank}
+use Rattle.ix_sign_errors.specs.Order.{error_key, is_before}
 
 -- the errors that are found, each at its least rank
 pub record AreLeast (found kept : List Ranked) : Type 0 where

@@ -1,10 +1,10 @@
 use Rattle.std.proofs.Common.{rules}
 use Rattle.std.proofs.lemmas.List.Sorted.{answers_always}
 use Rattle.ix_sign_errors.specs.declared.ranked.Ranked.{Ranked}
-use Rattle.ix_listing.specs.FullKey.{full_key}
-use Rattle.ix_listing.proofs.FullKeys.{full_cmp}
-use Rattle.ix_listing.proofs.InOrder.{least_moved, once_moved, ordered_of}
-use Rattle.ix_listing.proofs.list.sort.Goals as goal
+use Rattle.ix_sign_errors.specs.FullKey.{full_key}
+use Rattle.ix_sign_errors.proofs.FullKeys.{full_cmp}
+use Rattle.ix_sign_errors.proofs.InOrder.{least_moved, once_moved, ordered_of}
+use Rattle.ix_sign_errors.proofs.list.sort.Goals as goal
 
 pub returns-clause-least : goal.returns-clause-least
 returns-clause-least c =

@@ -2,9 +2,9 @@
 use Rattle.std.proofs.Common.{zero, suc, ◌≡◌, ℕ, ◌⊎◌, inl, inr, true, false, Some, List, [], ◌∷◌, refl, sym, ◌∙◌, subst, arith, slice_get}
 use Rattle.std.specs.List.{AllByRecursion}
 use Rattle.ix_core.specs.declared.error.Error.{Error}
-use Rattle.ix_listing.specs.ErrorList.{HasRank, IsErrorList}
-use Rattle.ix_listing.specs.Order.{error_key, is_before}
-use Rattle.ix_listing.proofs.StrictOrder.{not_before_itself, before_trans}
+use Rattle.ix_sign_errors.specs.ErrorList.{HasRank, IsErrorList}
+use Rattle.ix_sign_errors.specs.Order.{error_key, is_before}
+use Rattle.ix_sign_errors.proofs.StrictOrder.{not_before_itself, before_trans}
 
 -- ---- the same errors
 

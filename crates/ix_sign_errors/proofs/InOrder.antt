@@ -9,14 +9,14 @@ use Rattle.std.proofs.lemmas.Option.{slice_get-map, slice_get_within, get_or_fro
 use Rattle.ix_core.specs.declared.error.Error.{Error}
 use Rattle.ix_sign_errors.specs.declared.ranked.Ranked.{Ranked}
 use Rattle.ix_sign_errors.specs.Exactly.{IsListed}
-use Rattle.ix_listing.specs.ErrorList.{In, HasRank, IsErrorList}
-use Rattle.ix_listing.specs.FullKey.{full_key}
-use Rattle.ix_listing.specs.Order.{error_key, is_before}
-use Rattle.ix_listing.specs.Least.{AreLeast, AreOnce, AreOrdered}
-use Rattle.ix_listing.proofs.FullKeys.{full_cmp}
-use Rattle.ix_listing.proofs.KeysApart.{told_apart, eq_apart, eq_flips, one_before}
-use Rattle.ix_listing.proofs.Lists.{one_rank}
-use Rattle.ix_listing.proofs.LeastOfEach.{listed_moved, listed_of, place_of, same_key}
+use Rattle.ix_sign_errors.specs.ErrorList.{In, HasRank, IsErrorList}
+use Rattle.ix_sign_errors.specs.FullKey.{full_key}
+use Rattle.ix_sign_errors.specs.Order.{error_key, is_before}
+use Rattle.ix_sign_errors.specs.Least.{AreLeast, AreOnce, AreOrdered}
+use Rattle.ix_sign_errors.proofs.FullKeys.{full_cmp}
+use Rattle.ix_sign_errors.proofs.KeysApart.{told_apart, eq_apart, eq_flips, one_before}
+use Rattle.ix_sign_errors.proofs.Lists.{one_rank}
+use Rattle.ix_sign_errors.proofs.LeastOfEach.{listed_moved, listed_of, place_of, same_key}
 
 -- ---- what a second sort keeps
 

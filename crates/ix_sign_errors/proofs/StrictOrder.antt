@@ -5,7 +5,7 @@ use Rattle.std.specs.declared.cmp.Ordering.{Ordering}
 use Rattle.std.specs.declared.cmp.Ordering.TheVariants.{Less, Equal, Greater}
 use Rattle.std.specs.Cmp.{int_cmp_total, tied_itself}
 use Rattle.std.specs.Cmp.Lexicographic.{slice_cmp, lists_total}
-use Rattle.ix_listing.specs.Order.{is_before}
+use Rattle.ix_sign_errors.specs.Order.{is_before}
 
 before_by : (m n : ℤ) (less more : Bool) (rest : Ordering) → int_lt m n ≡ less → int_lt n m ≡ more
     → (less || (is_eq (cond less Less (cond more Greater Equal)) && is_lt rest)) ≡ is_lt (ordering_then (cond less Less (cond more Greater Equal)) rest)

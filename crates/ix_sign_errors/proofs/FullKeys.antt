@@ -19,8 +19,8 @@ use Rattle.ix_core.specs.declared.error.Detail.{Detail}
 use Rattle.ix_core.specs.declared.error.Detail.TheVariants as detail
 use Rattle.ix_core.specs.declared.error.Error.{Error}
 use Rattle.ix_core.specs.declared.error.Subject.TheVariants as subject
-use Rattle.ix_listing.specs.Order.{whom_key, name_key, offset_key, claim_key, last_key, error_key}
-use Rattle.ix_listing.specs.FullKey.{name_kind, name_number, offset_kind, offset_name_kind, offset_name_number, full_claim_key, full_last_key, full_key}
+use Rattle.ix_sign_errors.specs.Order.{whom_key, name_key, offset_key, claim_key, last_key, error_key}
+use Rattle.ix_sign_errors.specs.FullKey.{name_kind, name_number, offset_kind, offset_name_kind, offset_name_number, full_claim_key, full_last_key, full_key}
 
 unfoldable pub full_cmp : (x y : ℕ × ℕ × List ℤ × ℕ × ℕ × List ℤ) → Ordering
 full_cmp x y = ordering_then (ordering_then (ordering_then (ordering_then (ordering_then (nat_cmp x.0 y.0) (nat_cmp x.1 y.1)) (slice_cmp int_cmp x.2 y.2)) (nat_cmp x.3 y.3)) (nat_cmp x.4 y.4)) (slice_cmp int_cmp x.5 y.5)

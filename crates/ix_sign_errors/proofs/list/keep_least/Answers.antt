@@ -2,12 +2,12 @@ use Rattle.std.proofs.Common.{rules}
 use Rattle.std.proofs.lemmas.Fn.{dedup_same}
 use Rattle.std.proofs.lemmas.List.Sorted.{answers_always}
 use Rattle.ix_sign_errors.specs.declared.ranked.Ranked.{Ranked}
-use Rattle.ix_listing.specs.FullKey.{full_key}
-use Rattle.ix_listing.specs.Least.{AreLeast, AreOnce}
-use Rattle.ix_listing.proofs.FullKeys.{full_cmp}
-use Rattle.ix_listing.proofs.KeysApart.{full_eq}
-use Rattle.ix_listing.proofs.LeastOfEach.{least_of_sorted, ranked_cmp, same_key}
-use Rattle.ix_listing.proofs.list.keep_least.Goals as goal
+use Rattle.ix_sign_errors.specs.FullKey.{full_key}
+use Rattle.ix_sign_errors.specs.Least.{AreLeast, AreOnce}
+use Rattle.ix_sign_errors.proofs.FullKeys.{full_cmp}
+use Rattle.ix_sign_errors.proofs.KeysApart.{full_eq}
+use Rattle.ix_sign_errors.proofs.LeastOfEach.{least_of_sorted, ranked_cmp, same_key}
+use Rattle.ix_sign_errors.proofs.list.keep_least.Goals as goal
 
 kept : (c : goal.After-dedup_by_key) → AreLeast c.args.found.now.items c.dedup_by_key.new.self.items × AreOnce c.dedup_by_key.new.self.items
 unfolding full_cmp full_eq ranked_cmp

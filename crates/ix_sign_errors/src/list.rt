@@ -1,12 +1,12 @@
 //! The list of errors.
 
 ghost use Rattle.std.specs.Prelude.{◌≡◌, IfOk, OnOk, map};
-ghost use Rattle.ix_listing.specs.ErrorList.{IsErrorList, In};
-ghost use Rattle.ix_listing.specs.Least.{AreLeast, AreOnce, AreOrdered};
+ghost use Rattle.ix_sign_errors.specs.ErrorList.{IsErrorList, In};
+ghost use Rattle.ix_sign_errors.specs.Least.{AreLeast, AreOnce, AreOrdered};
 
 use crate::key::key_of;
 use ix_core::Error;
-use ix_sign_errors::Ranked;
+use crate::Ranked;
 use std::alloc::{AllocError, Global};
 
 /// Leaves each error once, at its least rank: sorted by the error and then the rank, the first of each run.

@@ -11,11 +11,11 @@ use Rattle.std.proofs.lemmas.List.Sorted.{Contains-permutation, IsPermutation-sy
 use Rattle.ix_core.specs.declared.error.Error.{Error}
 use Rattle.ix_sign_errors.specs.declared.ranked.Ranked.{Ranked}
 use Rattle.ix_sign_errors.specs.Exactly.{IsListed}
-use Rattle.ix_listing.specs.ErrorList.{In, HasRank}
-use Rattle.ix_listing.specs.FullKey.{full_key}
-use Rattle.ix_listing.specs.Least.{AreLeast, AreOnce}
-use Rattle.ix_listing.proofs.FullKeys.{full_cmp, full_total}
-use Rattle.ix_listing.proofs.KeysApart.{full_eq, full_apart, told_same, told_apart}
+use Rattle.ix_sign_errors.specs.ErrorList.{In, HasRank}
+use Rattle.ix_sign_errors.specs.FullKey.{full_key}
+use Rattle.ix_sign_errors.specs.Least.{AreLeast, AreOnce}
+use Rattle.ix_sign_errors.proofs.FullKeys.{full_cmp, full_total}
+use Rattle.ix_sign_errors.proofs.KeysApart.{full_eq, full_apart, told_same, told_apart}
 
 -- ---- the order of the sort
 

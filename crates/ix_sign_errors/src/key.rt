@@ -1,8 +1,8 @@
 //! The key by which errors are sorted: numbers of one length, so that no memory is taken.
 
 ghost use Rattle.std.specs.Prelude.{◌≡◌, pos, [], ◌∷◌};
-ghost use Rattle.ix_listing.specs.FullKey.{name_kind, name_number, offset_kind, offset_name_kind, offset_name_number, full_claim_key, full_last_key, full_key};
-ghost use Rattle.ix_listing.specs.Order.{subject_key, whom_key};
+ghost use Rattle.ix_sign_errors.specs.FullKey.{name_kind, name_number, offset_kind, offset_name_kind, offset_name_number, full_claim_key, full_last_key, full_key};
+ghost use Rattle.ix_sign_errors.specs.Order.{subject_key, whom_key};
 
 use ix_core::{Claim, Detail, Error, Name, Off, Subject};
 

@@ -18,10 +18,10 @@ use Rattle.ix_core.specs.declared.error.Detail.TheVariants as detail
 use Rattle.ix_core.specs.declared.error.Error.{Error}
 use Rattle.ix_core.specs.declared.error.Subject.{Subject}
 use Rattle.ix_core.specs.declared.error.Subject.TheVariants as subject
-use Rattle.ix_listing.specs.Order.{subject_key, whom_key, error_key, is_before}
-use Rattle.ix_listing.specs.FullKey.{name_kind, name_number, offset_kind, offset_name_kind, offset_name_number, full_claim_key, full_last_key, full_key}
-use Rattle.ix_listing.proofs.FullKeys.{full_cmp, same_order, full_total}
-use Rattle.ix_listing.proofs.StrictOrder.{before_is}
+use Rattle.ix_sign_errors.specs.Order.{subject_key, whom_key, error_key, is_before}
+use Rattle.ix_sign_errors.specs.FullKey.{name_kind, name_number, offset_kind, offset_name_kind, offset_name_number, full_claim_key, full_last_key, full_key}
+use Rattle.ix_sign_errors.proofs.FullKeys.{full_cmp, same_order, full_total}
+use Rattle.ix_sign_errors.proofs.StrictOrder.{before_is}
 
 both_equal : (a b : Ordering) → ordering_then a b ≡ Equal → (a ≡ Equal) × (b ≡ Equal)
 both_equal Less b h = cc
