@@ -6,7 +6,7 @@ pub use Rattle.ix_code_places.specs.CodePlaces
 pub use Rattle.ix_errors.specs.MethodErrors
 pub use Rattle.ix_errors.specs.MethodRules
 -- What is passed on of the labels.
-pub use Rattle.ix_loop_labels.specs.LoopLabels
+pub use Rattle.ix_labels.specs.LoopLabels
 -- Passed on from ix_sign_errors.
 pub use Rattle.ix_sign_errors.specs.ErrorList
 pub use Rattle.ix_sign_errors.specs.Ranked

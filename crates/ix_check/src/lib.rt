@@ -2,7 +2,7 @@
 //!
 //! What goes in: a formed program, and a profile. What comes out: its errors or those of one method, and the least labels of a method's loops.
 //! The contract: exactly the list of the errors that the rules derive at the least labels; a program without errors is `Safe`.
-//! It stands on `ix_errors` for the errors, on `ix_errors` for methods that are judged alone, on `ix_sign_errors` for lists of errors, on `ix_loop_labels` for labels, on `ix_sound` for the promise.
+//! It stands on `ix_errors` for the errors, on `ix_errors` for methods that are judged alone, on `ix_sign_errors` for lists of errors, on `ix_labels` for labels, on `ix_sound` for the promise.
 //! It never looks at a source: neither at its tree, nor at its text.
 #![tactic(auto)]
 
@@ -12,7 +12,7 @@ mod whole;
 
 pub use alone::method_errors;
 pub use ix_sign_errors::list_errors;
-pub use ix_loop_labels::Store;
+pub use ix_labels::Store;
 pub use ix_ready::{loops_are_in_order, names_are_small, overridden_is_there};
 pub use ix_errors::{Ranked, method_errors as ranked_errors};
 pub use loops::{labels, method_labels};

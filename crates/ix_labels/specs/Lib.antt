@@ -20,3 +20,7 @@ pub use Rattle.ix_method.specs.RuleErrors
 pub use Rattle.ix_method.specs.SignErrors
 pub use Rattle.ix_method.specs.StoredFacts
 pub use Rattle.ix_facts.specs.Stores
+-- The least labels of a method's loops.
+pub mod LoopLabels
+-- What is passed on of the graph, for the bound on visits.
+pub use Rattle.ix_graph.specs.Graph

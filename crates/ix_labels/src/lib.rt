@@ -10,6 +10,7 @@
 
 mod kept;
 mod labels;
+mod loops;
 mod problem;
 mod run_labels;
 mod runs;
@@ -19,3 +20,4 @@ pub use ix_method::Store;
 pub use kept::RunLabels;
 pub use labels::{Labels, label_nodes};
 pub use run_labels::label_runs;
+pub use loops::loop_labels;

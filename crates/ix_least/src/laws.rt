@@ -9,7 +9,7 @@ ghost use Rattle.ix_cert.specs.Store.{Store};
 ghost use Rattle.ix_cert.specs.StoredFacts.{stored};
 ghost use Rattle.ix_cert.specs.Labellings.{loops_of};
 ghost use Rattle.ix_cert.specs.Adding.{AreLabels, MayBeLabels};
-ghost use Rattle.ix_loop_labels.specs.LoopLabels.{AreLoopLabels};
+ghost use Rattle.ix_labels.specs.LoopLabels.{AreLoopLabels};
 
 use ix_within::labels_are_within;
 

@@ -3,8 +3,8 @@ use Rattle.std.proofs.lemmas.List.{length-map}
 use Rattle.std.proofs.lemmas.Result.{IfOk-weaker}
 use Rattle.ix_labels.specs.StoredFacts.{stored}
 use Rattle.ix_labels.proofs.Bounded.{visits_within}
-use Rattle.ix_loop_labels.proofs.HeadStores.{found_labels}
-use Rattle.ix_loop_labels.proofs.loops.loop_labels.Goals as goal
+use Rattle.ix_labels.proofs.HeadStores.{found_labels}
+use Rattle.ix_labels.proofs.loops.loop_labels.Goals as goal
 
 pub at_heads-requires : goal.at_heads-requires
 at_heads-requires g c =

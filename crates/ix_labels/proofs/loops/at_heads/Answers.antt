@@ -1,7 +1,7 @@
 use Rattle.std.proofs.Common.{◌+◌, ◌++◌, ◌<◌, drop, length, arith, ap, ◌∙◌}
-use Rattle.ix_loop_labels.specs.LoopLabels.{head_stores}
-use Rattle.ix_loop_labels.proofs.HeadStores.{next}
-use Rattle.ix_loop_labels.proofs.loops.at_heads.Goals as goal
+use Rattle.ix_labels.specs.LoopLabels.{head_stores}
+use Rattle.ix_labels.proofs.HeadStores.{next}
+use Rattle.ix_labels.proofs.loops.at_heads.Goals as goal
 
 pub loop-at-preserved : goal.loop-at-preserved
 loop-at-preserved c =

@@ -22,7 +22,7 @@ use Rattle.ix_labels.proofs.MethodLaws.{method_laws}
 use Rattle.ix_labels.specs.Store.{Store}
 use Rattle.ix_labels.specs.StoredFacts.{stored}
 use Rattle.ix_solve.proofs.LabelLists.{meaning_at}
-use Rattle.ix_loop_labels.specs.LoopLabels.{AreLoopLabels, is_head, one_if, head_stores}
+use Rattle.ix_labels.specs.LoopLabels.{AreLoopLabels, is_head, one_if, head_stores}
 
 -- ---- one node more
 

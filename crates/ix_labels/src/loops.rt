@@ -5,13 +5,13 @@ ghost use Rattle.ix_core.specs.Code.{block_code};
 ghost use Rattle.ix_graph.specs.Built.{kind_of};
 ghost use Rattle.ix_graph.specs.Graph.{behind_code, method_parts};
 ghost use Rattle.ix_graph.specs.Heads.{AreInOrder};
-ghost use Rattle.ix_loop_labels.specs.LoopLabels as spec;
+ghost use Rattle.ix_labels.specs.LoopLabels as spec;
 ghost use Rattle.ix_labels.specs.Naming.{HasSmallNames, HaveSmallNames};
 ghost use Rattle.ix_labels.specs.Visits.{VisitsWithin};
 
 use ix_core::{Method, Profile, Program};
 use ix_graph::{Node, NodeKind};
-use ix_labels::{Store, label_nodes};
+use crate::{Store, label_nodes};
 use ix_solve::Steps;
 use std::alloc::{AllocError, Global};
 use std::sync::ledger::Ledger;
