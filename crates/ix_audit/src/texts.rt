@@ -7,7 +7,7 @@ ghost use Rattle.ix_audit.specs.Walking as spec;
 
 use ix_core::{Block, Cond, Item, Method, Op, Program};
 use ix_method_errors::signs::{Ranked, push_effect_error};
-use ix_uses::{push_assigned_parameter, push_escapes_in, push_escapes_of};
+use ix_method_errors::{push_assigned_parameter, push_escapes_in, push_escapes_of};
 use std::alloc::AllocError;
 
 fn push_of_op(

@@ -4,3 +4,5 @@ pub use Rattle.ix_sign_errors.proofs.Refused
 -- Passed on from ix_method.
 pub use Rattle.ix_method.proofs.ErrorsWeaker
 pub use Rattle.ix_method.proofs.MethodLaws
+mod NamedParameters
+mod EscapeErrors

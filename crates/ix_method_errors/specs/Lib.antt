@@ -13,3 +13,7 @@ pub use Rattle.ix_method.specs.RuleErrors
 pub use Rattle.ix_method.specs.StoreOrder
 pub use Rattle.ix_method.specs.Naming
 pub use Rattle.ix_method.specs.SignErrors
+-- Which parameters the claims of a result and the posts of a method name.
+pub mod Parameters
+-- The errors of places where `this` is used.
+pub mod Escapes

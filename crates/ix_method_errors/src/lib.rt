@@ -7,10 +7,18 @@
 #![tactic(auto)]
 
 mod accesses;
+mod comparisons;
 mod elements;
 mod op_errors;
+mod operations;
+mod parameters;
+mod parts;
+mod this;
 
 pub use ix_method::signs::{enter, tell};
 pub use ix_method::{Store, after};
-pub use ix_sign_errors as signs;
+pub use None::pub use ix_sign_errors as signs;;
 pub use op_errors::push_op_errors;
+pub use comparisons::push_escapes_in;
+pub use operations::push_escapes_of;
+pub use parameters::push_assigned_parameter;

@@ -3,8 +3,8 @@ use Rattle.std.proofs.Common.{sym, ◌∙◌, subst, append-nil}
 use Rattle.ix_method.specs.SignErrors.{plain, part}
 use Rattle.ix_sign_errors.proofs.Refused.{ok_adds}
 use Rattle.ix_method.specs.RuleErrors.{AssignsNamed}
-use Rattle.ix_uses.proofs.NamedParameters.{named_error, not_named}
-use Rattle.ix_uses.proofs.parameters.push_assigned_parameter.Goals as goal
+use Rattle.ix_method_errors.proofs.NamedParameters.{named_error, not_named}
+use Rattle.ix_method_errors.proofs.parameters.push_assigned_parameter.Goals as goal
 
 pub returns-then-is_named : goal.returns-then-is_named
 returns-then-is_named c =

@@ -3,7 +3,7 @@
 ghost use Rattle.std.specs.Prelude.{◌≡◌, ◌++◌, OnOk};
 ghost use Rattle.ix_sign_errors.specs.Exactly.{AddsExactly};
 ghost use Rattle.ix_method.specs.RuleErrors.{TestEscapes, escapes_in};
-ghost use Rattle.ix_uses.specs.Escapes.{errors_at};
+ghost use Rattle.ix_method_errors.specs.Escapes.{errors_at};
 
 use crate::this::push_if_this;
 use ix_core::{Method, Test};

@@ -2,7 +2,7 @@
 
 ghost use Rattle.std.specs.Prelude.{◌≡◌, ◌++◌, ◌==◌, [], OnOk};
 ghost use Rattle.ix_method.specs.RuleErrors.{this_args, this_entries};
-ghost use Rattle.ix_uses.specs.Escapes.{errors_at, place_if};
+ghost use Rattle.ix_method_errors.specs.Escapes.{errors_at, place_if};
 
 use crate::parts::part;
 use ix_core::{Arg, Op};

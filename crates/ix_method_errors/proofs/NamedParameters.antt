@@ -17,7 +17,7 @@ use Rattle.ix_sign_errors.specs.Exactly.{AreExactly}
 use Rattle.ix_method.specs.SignErrors.{plain, part}
 use Rattle.ix_sign_errors.proofs.Refused.{exactly_none}
 use Rattle.ix_method.specs.RuleErrors.{AssignsNamed}
-use Rattle.ix_uses.specs.Parameters.{is_param, some_param, names_param, some_names_param, post_names_param, some_post_names_param, param_of, is_named_by, is_named}
+use Rattle.ix_method_errors.specs.Parameters.{is_param, some_param, names_param, some_names_param, post_names_param, some_post_names_param, param_of, is_named_by, is_named}
 
 param_is : (number : ℕ) (name : Name) → (is_param number name ≡ true) ↔ (name ≡ Param number)
 param_is number (Param other) = (λ t. ap Param (eqb-true other number t), λ e. let same : other ≡ number = cc in eq-eqb other number same)

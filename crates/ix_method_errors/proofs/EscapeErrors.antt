@@ -11,7 +11,7 @@ use Rattle.ix_sign_errors.specs.Exactly.{AreExactly}
 use Rattle.ix_method.specs.SignErrors.{plain}
 use Rattle.ix_sign_errors.proofs.Refused.{exactly_none, exactly_both, exactly_same}
 use Rattle.ix_method.specs.RuleErrors.{EscapesAt, OpEscapes, TestEscapes, escapes_by, escapes_in}
-use Rattle.ix_uses.specs.Escapes.{errors_at}
+use Rattle.ix_method_errors.specs.Escapes.{errors_at}
 
 abbrev OneAt : Span → Error → ℕ → Type 0
 OneAt place error rank = (error ≡ plain 14 place) × (rank ≡ 0)

@@ -4,7 +4,7 @@ ghost use Rattle.std.specs.Prelude.{◌≡◌, OnOk};
 ghost use Rattle.ix_core.specs.Objects.{offset_names};
 ghost use Rattle.ix_sign_errors.specs.Exactly.{AddsExactly};
 ghost use Rattle.ix_method.specs.RuleErrors.{AssignsNamed};
-ghost use Rattle.ix_uses.specs.Parameters as spec;
+ghost use Rattle.ix_method_errors.specs.Parameters as spec;
 
 use crate::parts::part;
 use ix_core::{Claim, Method, Name, Off, Op, OpKind, Post};

@@ -1,7 +1,7 @@
 use Rattle.std.proofs.Common.{◌≡◌, ◌++◌, drop}
 use Rattle.ix_method.specs.RuleErrors.{this_entries}
-use Rattle.ix_uses.specs.Escapes.{errors_at}
-use Rattle.ix_uses.proofs.this.push_this_entries.Given as goal
+use Rattle.ix_method_errors.specs.Escapes.{errors_at}
+use Rattle.ix_method_errors.proofs.this.push_this_entries.Given as goal
 
 abbrev pub invariant-loop-at : goal.invariant-loop-at
 invariant-loop-at l = l.out.items ++ errors_at (this_entries l.done l.at (drop l.at l.entries)) ≡ l.fn.out.items ++ errors_at (this_entries l.done 0 l.entries)

@@ -1,8 +1,8 @@
 use Rattle.ix_sign_errors.proofs.Refused.{ok_adds}
 use Rattle.ix_method.specs.RuleErrors.{OpEscapes, escapes_by}
-use Rattle.ix_uses.specs.Escapes.{errors_at}
-use Rattle.ix_uses.proofs.EscapeErrors.{op_escapes}
-use Rattle.ix_uses.proofs.operations.push_escapes_of.Goals as goal
+use Rattle.ix_method_errors.specs.Escapes.{errors_at}
+use Rattle.ix_method_errors.proofs.EscapeErrors.{op_escapes}
+use Rattle.ix_method_errors.proofs.operations.push_escapes_of.Goals as goal
 
 pub returns-then-within : goal.returns-then-within
 returns-then-within c =

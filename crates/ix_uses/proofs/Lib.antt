@@ -1,2 +1,0 @@
-mod NamedParameters
-mod EscapeErrors
