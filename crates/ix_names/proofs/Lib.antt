@@ -1,0 +1,3 @@
+mod FirstPassed
+mod Places
+mod JointClaims

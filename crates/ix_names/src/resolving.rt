@@ -9,7 +9,7 @@ ghost use Rattle.ix_meaning.specs.Source as source;
 ghost use Rattle.ix_meaning.specs.Resolved as spec;
 
 use crate::classes::notes_in;
-use ix_limits::{inheritance_limit, limit};
+use crate::{inheritance_limit, limit};
 use ix_meaning::{NameErrors, Note};
 use ix_member_notes::world_of;
 use ix_table::{Table, errors_of, table_of};

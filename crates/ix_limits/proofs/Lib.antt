@@ -1,3 +1,0 @@
-mod FirstPassed
-mod Places
-mod JointClaims

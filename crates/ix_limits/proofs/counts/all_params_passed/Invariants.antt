@@ -1,6 +1,0 @@
-use Rattle.std.proofs.Common.{◌≡◌, drop}
-use Rattle.ix_meaning.specs.Limits as spec
-use Rattle.ix_limits.proofs.counts.all_params_passed.Given as goal
-
-abbrev pub invariant-loop-class : goal.invariant-loop-class
-invariant-loop-class l = spec.past_params (spec.all_methods (drop l.class-index l.classes)) ≡ spec.past_params (spec.all_methods l.classes)
