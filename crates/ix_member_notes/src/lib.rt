@@ -2,7 +2,7 @@
 //!
 //! What goes in: a field, or a method or constructor, and the members of all classes. What comes out: the notes of all that it says.
 //! The contract: `field_notes` and `method_notes` of `ix_meaning`'s `Source`.
-//! It stands on the statements of `ix_bodies` and the rules of `ix_inheritance`.
+//! It stands on the statements of `ix_bodies` and the rules of `ix_world`.
 //! It never looks at another member's text.
 #![tactic(auto)]
 

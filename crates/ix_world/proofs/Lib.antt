@@ -2,3 +2,4 @@ pub mod FewMembers
 pub mod FirstNumbers
 pub mod NoMembers
 pub mod Worlds
+mod OneWalk

@@ -4,12 +4,12 @@ ghost use Rattle.std.specs.Prelude.{◌≡◌, option_map};
 ghost use Rattle.ix_meaning.specs.Inheritance as spec;
 ghost use Rattle.ix_meaning.specs.Members as members;
 ghost use Rattle.ix_world.specs.World.{shown, callee};
-ghost use Rattle.ix_inheritance.specs.Overriding as parts;
+ghost use Rattle.ix_world.specs.Overriding as parts;
 
 use ix_core::Type_;
 use ix_meaning::Signature;
 use ix_types::{is_among, same_type};
-use ix_world::{Called, World};
+use crate::{Called, World};
 
 fn clashes_with(m: &Signature, other: &Signature) -> bool
     ensures { result ≡ spec.clashes_with m.now other.now }

@@ -6,7 +6,7 @@ use Rattle.ix_meaning.specs.declared.members.Signature.{Signature}
 use Rattle.ix_meaning.specs.Classes.{is_among}
 use Rattle.ix_meaning.specs.Members.{is_method_named}
 use Rattle.ix_meaning.specs.Inheritance.{clashes_with, clashes_in}
-use Rattle.ix_inheritance.specs.Overriding.{clashes_there, some_clashes}
+use Rattle.ix_world.specs.Overriding.{clashes_there, some_clashes}
 
 none_of_none : (m : Signature) (classes : List ℕ) → list_any (clashes_in [] m) classes ≡ false
 none_of_none m [] = refl

@@ -6,7 +6,7 @@ ghost use Rattle.ix_meaning.specs.Members.{nearest};
 ghost use Rattle.ix_world.specs.World.{shown};
 
 use ix_meaning::Field;
-use ix_world::World;
+use crate::World;
 
 fn some_declares(world: &World, classes: &[u32], name: &str) -> bool
     ensures { result ≡ is_some (nearest (λ class. (shown world.now).field class name.now) classes.now) }
