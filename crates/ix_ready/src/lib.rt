@@ -6,6 +6,6 @@
 //! It never looks at facts, at rules, nor at how a program comes of a source.
 #![tactic(auto)]
 
-mod laws;
+mod judged;
 
-pub use laws::{loops_are_in_order, names_are_small, overridden_is_there};
+pub use judged::{loops_are_in_order, names_are_small, overridden_is_there};

@@ -6,6 +6,6 @@
 //! It never looks at how labels are found or kept, nor at errors.
 #![tactic(auto)]
 
-mod laws;
+mod within;
 
-pub use laws::labels_are_within;
+pub use within::labels_are_within;
