@@ -1,2 +1,2 @@
--- Passed on from ix_ready.
-pub use Rattle.ix_ready.specs.Judged
+-- Passed on from ix_sound.
+pub use Rattle.ix_sound.specs.Judged

@@ -6,7 +6,7 @@ use Rattle.ix_core.specs.declared.program.Program.{Program}
 use Rattle.ix_core.specs.Formed.{Formed, is_formed}
 use Rattle.ix_core.specs.Safe.{Safe}
 use Rattle.ix_core.specs.declared.claim.Type_.{Type_}
-use Rattle.ix_ready.specs.Judged.{CanCheck}
+use Rattle.ix_sound.specs.Judged.{CanCheck}
 use Rattle.ix_errors.specs.MethodErrors.{HaveNone}
 use Rattle.ix_sign_errors.specs.Ranked.{Ranked}
 use Rattle.ix_sign_errors.specs.Exactly.{AreExactly}

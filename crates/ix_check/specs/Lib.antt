@@ -1,5 +1,5 @@
 -- What is asked of a program that is checked.
-pub use Rattle.ix_ready.specs.Judged
+pub use Rattle.ix_sound.specs.Judged
 -- What is passed on of the places in a program.
 pub use Rattle.ix_code_places.specs.CodePlaces
 -- What is passed on of the errors.

@@ -36,3 +36,6 @@ mod Moves
 mod Dispatched
 pub mod NoErrorsAreSafe
 mod SharedSlots
+mod LoopsInOrder
+mod NamesInRange
+pub mod Ready

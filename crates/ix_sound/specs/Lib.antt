@@ -16,3 +16,7 @@ pub mod Sound
 pub mod Stands
 -- Passed on from ix_method.
 pub use Rattle.ix_method.specs.Naming
+-- What a formed program lacks.
+pub mod Few
+-- What is asked of a program that is judged.
+pub mod Judged

@@ -6,6 +6,8 @@
 //! It never looks at a body, nor at how the solver and the checker find what a flow is.
 #![tactic(auto)]
 
+mod judged;
 mod laws;
 
 pub use laws::soundness;
+pub use judged::{loops_are_in_order, names_are_small, overridden_is_there};

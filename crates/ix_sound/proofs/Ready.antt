@@ -17,9 +17,9 @@ use Rattle.ix_core.proofs.FormedParts.{locals_of, method_is, posts_are, fields_a
 use Rattle.ix_graph.specs.Graph.{method_parts}
 use Rattle.ix_graph.specs.Heads.{AreInOrder}
 use Rattle.ix_sound.specs.Naming.{HasSmallNames, HaveSmallNames}
-use Rattle.ix_ready.specs.Few.{HasFew}
-use Rattle.ix_ready.proofs.LoopsInOrder.{body_in_order}
-use Rattle.ix_ready.proofs.NamesInRange.{params_small, locals_small, result_small, promises_small, as_many_types, few_params, fields_small}
+use Rattle.ix_sound.specs.Few.{HasFew}
+use Rattle.ix_sound.proofs.LoopsInOrder.{body_in_order}
+use Rattle.ix_sound.proofs.NamesInRange.{params_small, locals_small, result_small, promises_small, as_many_types, few_params, fields_small}
 
 module _ (program : Program) (formed : Formed program) where
   abbrev at : ℕ → Method

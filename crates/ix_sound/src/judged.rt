@@ -8,7 +8,7 @@ ghost use Rattle.ix_core.specs.Formed.{Formed};
 ghost use Rattle.ix_core.specs.Tables.{method_at};
 ghost use Rattle.ix_graph.specs.Graph.{method_parts};
 ghost use Rattle.ix_graph.specs.Heads.{AreInOrder};
-ghost use Rattle.ix_ready.specs.Few.{HasFew};
+ghost use Rattle.ix_sound.specs.Few.{HasFew};
 ghost use Rattle.ix_sound.specs.Naming.{HaveSmallNames};
 
 /// The claims of a formed program name parameters that are there, and parameters can be counted with 32 bits; so can locals and fields, where this is told.

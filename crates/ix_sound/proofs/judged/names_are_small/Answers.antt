@@ -1,5 +1,5 @@
-use Rattle.ix_ready.proofs.Ready.{ready}
-use Rattle.ix_ready.proofs.judged.names_are_small.Goals as goal
+use Rattle.ix_sound.proofs.Ready.{ready}
+use Rattle.ix_sound.proofs.judged.names_are_small.Goals as goal
 
 -- src/laws.rt
 pub returns : goal.returns

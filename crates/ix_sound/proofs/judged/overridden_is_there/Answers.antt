@@ -1,5 +1,5 @@
-use Rattle.ix_ready.proofs.Ready.{upper_in_range}
-use Rattle.ix_ready.proofs.judged.overridden_is_there.Goals as goal
+use Rattle.ix_sound.proofs.Ready.{upper_in_range}
+use Rattle.ix_sound.proofs.judged.overridden_is_there.Goals as goal
 
 -- src/laws.rt
 pub returns : goal.returns

@@ -1,3 +1,0 @@
-mod LoopsInOrder
-mod NamesInRange
-pub mod Ready
