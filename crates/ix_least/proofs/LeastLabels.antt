@@ -14,8 +14,8 @@ use Rattle.ix_flow.specs.Flow.{IsLeastFlow}
 use Rattle.ix_cert.specs.Store.{Store}
 use Rattle.ix_cert.specs.StoredFacts.{stored}
 use Rattle.ix_cert.specs.WholeStores.{AreAStore}
-use Rattle.ix_within.specs.MethodRules.{method_rules}
-use Rattle.ix_within.specs.Within.{is_inside, StoreWithin}
+use Rattle.ix_least.specs.MethodRules.{method_rules}
+use Rattle.ix_least.specs.Within.{is_inside, StoreWithin}
 use Rattle.ix_labels.specs.LoopLabels.{AreLoopLabels}
 use Rattle.ix_cert.specs.Adding.{AreLabels}
 use Rattle.ix_cert.proofs.FormedLoops.{formed_loops}

@@ -19,7 +19,7 @@ use Rattle.ix_facts.specs.Stores.{Stored, Unreachable, Reached}
 use Rattle.ix_fact_table.specs.Apart.{compares_two, is_proper}
 use Rattle.ix_fact_table.specs.Entries.{has_ends}
 use Rattle.ix_cert.specs.WholeStores.{AreAStore}
-use Rattle.ix_within.specs.Within.{is_inside, is_out, is_within, are_within, StoreWithin}
+use Rattle.ix_least.specs.Within.{is_inside, is_out, is_within, are_within, StoreWithin}
 use Rattle.ix_cert.specs.Labellings.{is_outside, loops_of}
 use Rattle.ix_cert.specs.Adding.{MayBeLabel, MayBeLabels, MayLabel}
 use Rattle.ix_cert.proofs.Bytes.{not_true}

@@ -11,7 +11,7 @@ ghost use Rattle.ix_cert.specs.Labellings.{loops_of};
 ghost use Rattle.ix_cert.specs.Adding.{AreLabels, MayBeLabels};
 ghost use Rattle.ix_labels.specs.LoopLabels.{AreLoopLabels};
 
-use ix_within::labels_are_within;
+use crate::labels_are_within;
 
 /// The least labels of a method of a formed program are as many as it has loops, and may be written down; and so may those of all its methods together.
 pub fn least_labels_may_be_written()

@@ -22,8 +22,8 @@ use Rattle.ix_core.proofs.FormedParts.{locals_of, method_is, field_listed, flat_
 use Rattle.ix_core.proofs.TypedCalls.{method_has, params_count}
 use Rattle.ix_steps.specs.MachineSteps.{own_path, local_slot}
 use Rattle.ix_claim_facts.specs.Names.{object_path}
-use Rattle.ix_within.specs.Within.{is_inside}
-use Rattle.ix_within.proofs.Claims.{AllNamed}
+use Rattle.ix_least.specs.Within.{is_inside}
+use Rattle.ix_least.proofs.Claims.{AllNamed}
 
 pub no_type : {A : Type 0} (ty : Type_) → ◌≡◌ {A = Option Type_} None (Some ty) → A
 no_type ty is = absurd cc

@@ -9,7 +9,7 @@ use Rattle.ix_core.specs.declared.program.Program.{Program}
 use Rattle.ix_core.specs.Types.{Point, meeting, point_below}
 use Rattle.ix_core.specs.Code.{Code, End, Do, If, Break, Continue, Return, Throw, Loop, Condition, Known, Compare, Truth, Both, Either, Opposite}
 use Rattle.ix_core.specs.Formed.{op_fits, op_types, operand_fits, code_ways, condition_ways, body_start, is_straight, is_straight_condition}
-use Rattle.ix_within.proofs.Fitting.{AllFit, AllAsked}
+use Rattle.ix_least.proofs.Fitting.{AllFit, AllAsked}
 
 module _ (program : Program) (method : Method) (locals : List Type_) where
   abbrev pub OpTyped : Op → Type 0

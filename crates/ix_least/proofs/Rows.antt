@@ -5,7 +5,7 @@ use Rattle.ix_core.specs.declared.fact.Fact.{Fact}
 use Rattle.ix_core.specs.declared.fact.Fact.TheVariants.{Rng, Same, Less, Upper}
 use Rattle.ix_core.specs.declared.fact.Path.TheVariants.{Slot, FieldOf}
 use Rattle.ix_core.specs.declared.fact.PathOff.TheVariants.{Plus}
-use Rattle.ix_within.specs.Within.{is_inside, is_within}
+use Rattle.ix_least.specs.Within.{is_inside, is_within}
 
 may_stand : Fact → Bool
 may_stand = is_within (is_inside 2 1)

@@ -9,7 +9,7 @@ use Rattle.ix_core.specs.declared.fact.Fact.TheVariants.{Rng, LenRng, Same, IsLe
 use Rattle.ix_facts.specs.Facts.{Covers, rng, len_rng, low, same, is_len, less, sum, search, neg, upper}
 use Rattle.ix_facts.specs.Closure.{Follows, given, weaker, any_int, any_size, met, len_met, class, class_one, turned, joined, both_len, len_along, is_len_along, search_along, neg_along, neg_search, search_neg, sum_turned, upper_turned, Default}
 use Rattle.ix_facts.proofs.SaidLaws.{default_weaker}
-use Rattle.ix_within.proofs.Paths.{Within, AreWithin}
+use Rattle.ix_least.proofs.Paths.{Within, AreWithin}
 
 module _ (In : Path → Type 0) where
   pub covered_within : (g f : Fact) → Covers g f → Within In g → Within In f

@@ -11,7 +11,7 @@ use Rattle.ix_core.proofs.Cases.{by_test}
 use Rattle.ix_facts.specs.Facts.{IsIn}
 use Rattle.ix_facts.specs.Closure.{kept_fact, kept}
 use Rattle.ix_facts.specs.Exact.{if_so, each, each_path, if_some, offset_paths, ints_of, arrays_of, paths_of, named_ints, named_arrays}
-use Rattle.ix_within.proofs.Paths.{OffsetWithin, Within}
+use Rattle.ix_least.proofs.Paths.{OffsetWithin, Within}
 
 pub data Each (In : Path → Type 0) : List Fact → Type 0 where
   none : Each In []

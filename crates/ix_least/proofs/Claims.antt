@@ -19,9 +19,9 @@ use Rattle.ix_core.proofs.Cases.{by_test}
 use Rattle.ix_steps.specs.MachineSteps.{on_paths, path_offset}
 use Rattle.ix_claim_facts.specs.Signs.{claims_facts, posts_facts}
 use Rattle.ix_facts.specs.Assume.{claim_facts}
-use Rattle.ix_within.proofs.Paths.{OffsetWithin, ClaimWithin}
-use Rattle.ix_within.proofs.Lists.{Each, none, both, if_within}
-use Rattle.ix_within.proofs.Tests.{claim_within}
+use Rattle.ix_least.proofs.Paths.{OffsetWithin, ClaimWithin}
+use Rattle.ix_least.proofs.Lists.{Each, none, both, if_within}
+use Rattle.ix_least.proofs.Tests.{claim_within}
 
 -- each name that has a type stands for one of these paths
 abbrev pub AllNamed : (Path → Type 0) → (Name → Option Type_) → (Name → Path) → Type 0

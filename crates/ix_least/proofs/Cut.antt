@@ -17,12 +17,12 @@ use Rattle.ix_facts.specs.Stores.{Stored, Unreachable, Reached, IsBelow, IsAbove
 use Rattle.ix_facts.proofs.SaidLaws.{default_is, is_a_default, said_itself}
 use Rattle.ix_facts.proofs.Tests.{neither, or_first, or_second}
 use Rattle.ix_fact_table.specs.Apart.{compares_two}
-use Rattle.ix_within.specs.Within.{is_out, is_within, are_within, StoreWithin}
-use Rattle.ix_within.proofs.Paths.{OffsetWithin, Within, AreWithin, OutcomeWithin}
-use Rattle.ix_within.proofs.Closing.{covered_within, follows_within}
-use Rattle.ix_within.proofs.Lists.{each_in, kept_within}
-use Rattle.ix_within.proofs.Stored.{in_orders_within, app_within, each_are}
-use Rattle.ix_within.proofs.Tests.{outcome_within}
+use Rattle.ix_least.specs.Within.{is_out, is_within, are_within, StoreWithin}
+use Rattle.ix_least.proofs.Paths.{OffsetWithin, Within, AreWithin, OutcomeWithin}
+use Rattle.ix_least.proofs.Closing.{covered_within, follows_within}
+use Rattle.ix_least.proofs.Lists.{each_in, kept_within}
+use Rattle.ix_least.proofs.Stored.{in_orders_within, app_within, each_are}
+use Rattle.ix_least.proofs.Tests.{outcome_within}
 
 -- all of these say so
 abbrev pub AllOutcomesWithin : (Path → Type 0) → List Outcome → Type 0

@@ -30,9 +30,9 @@ use Rattle.ix_steps.specs.MachineSteps.{own_path}
 use Rattle.ix_claim_facts.specs.Names.{call_path, object_path, names_field, param_in, local_in, or_else}
 use Rattle.ix_claim_facts.specs.Signs.{claims_facts, posts_facts, params_facts, received, received_params, zero_facts, zero_fields, fields_facts, dependent_facts}
 use Rattle.ix_method.specs.MethodRules.{variable_claims, copied_claims}
-use Rattle.ix_within.proofs.Claims.{AllNamed, claims_in, posts_in, filtered_in, others_named}
-use Rattle.ix_within.proofs.Inside.{method, local_types, In, field_is, field_within, slot_of_param, names_inside, local_names_inside, field_names_inside}
-use Rattle.ix_within.proofs.Lists.{Each, none, one, both, if_within}
+use Rattle.ix_least.proofs.Claims.{AllNamed, claims_in, posts_in, filtered_in, others_named}
+use Rattle.ix_least.proofs.Inside.{method, local_types, In, field_is, field_within, slot_of_param, names_inside, local_names_inside, field_names_inside}
+use Rattle.ix_least.proofs.Lists.{Each, none, one, both, if_within}
 
 pub received_within : (Of : Path → Type 0) (ty : Type_) (p : Path) → Of p → Each Of (received ty p)
 received_within Of ty p i = if_within Of (is_array ty) (Same p p ∷ []) (one Of _ (i, i))
@@ -88,7 +88,7 @@ module _ (program : Program) (locals : List (List Type_)) (formed : is_formed pr
   copied_within slot place i =
       either (param_in own slot 0 own.params) (local_in slot place 0 own.locals) (Slot slot)
       (param_claims 0 own.params own.param_types slot (Slot slot) i (method_has program locals formed number lt).params)
-      (local_claims 0 own.locals types_of slot place (Slot slot) i (Rattle.ix_within.proofs.Inside.locals_fit_all program locals formed number lt))
+      (local_claims 0 own.locals types_of slot place (Slot slot) i (Rattle.ix_least.proofs.Inside.locals_fit_all program locals formed number lt))
 
   pub params_within : (k : ℕ) (params : List Variable) (types : List Type_) → params_fit program own k params types ≡ true → k + length params ≡ length own.params → Each Inside (params_facts own k params)
   params_within k [] types fits count = none
@@ -186,9 +186,9 @@ module _ (program : Program) (locals : List (List Type_)) (formed : is_formed pr
       (receiver : has_this program (method_at program call.method) ≡ true → is_slot program own (unwrap_or call.receiver 0) ≡ true) where
     call_named : AllNamed Inside (named_type program (method_at program call.method)) (call_path call)
     call_named (Param k) ty is = arg_is types call.args (method_at program call.method).param_types k ty args is
-    call_named (Local k) ty is = Rattle.ix_within.proofs.Inside.no_type ty is
+    call_named (Local k) ty is = Rattle.ix_least.proofs.Inside.no_type ty is
     call_named (FieldNamed field) ty is =
-        let found = Rattle.ix_within.proofs.Inside.if_allowed program locals formed (has_this program (method_at program call.method)) (method_at program call.method).class field ty (field_at program field).ty is in
+        let found = Rattle.ix_least.proofs.Inside.if_allowed program locals formed (has_this program (method_at program call.method)) (method_at program call.method).class field ty (field_at program field).ty is in
         field_within program locals formed number lt (unwrap_or call.receiver 0) field (receiver found.0) (field_is program locals formed (method_at program call.method).class field found.1)
 
     pub result_within : (p : Path) → Inside p → Each Inside (claims_facts (call_path call) p (method_at program call.method).result_claims)

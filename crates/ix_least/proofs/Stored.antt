@@ -13,8 +13,8 @@ use Rattle.ix_facts.proofs.FactLists.{in_either, from_in_orders}
 use Rattle.ix_facts.proofs.Frame.{in_without}
 use Rattle.ix_facts.proofs.SaidLaws.{default_is}
 use Rattle.ix_facts.proofs.Tests.{neither}
-use Rattle.ix_within.proofs.Paths.{OffsetWithin, Within, AreWithin}
-use Rattle.ix_within.proofs.Lists.{Each, each_in, in_each}
+use Rattle.ix_least.proofs.Paths.{OffsetWithin, Within, AreWithin}
+use Rattle.ix_least.proofs.Lists.{Each, each_in, in_each}
 
 -- one of these paths, and none of those
 abbrev pub Beside : (Path → Type 0) → (Path → Bool) → Path → Type 0
@@ -72,7 +72,7 @@ module _ (In : Path → Type 0) where
         (λ x i.
         let f = from_in_orders x (without is facts) i in
         let j = in_without is f.0 facts f.1 in
-        Rattle.ix_within.proofs.Stored.order_within (Beside In is) f.0 x f.2 (fact_beside f.0 (telling facts within f.0 j.0 f.3) j.1))
+        Rattle.ix_least.proofs.Stored.order_within (Beside In is) f.0 x f.2 (fact_beside f.0 (telling facts within f.0 j.0 f.3) j.1))
 
   pub app_within : (a b : List Fact) → AreWithin In a → AreWithin In b → AreWithin In (a ++ b)
   app_within a b x y f i = ⊎_elim (λ j. x f j) (λ j. y f j) (in_either f a b i)

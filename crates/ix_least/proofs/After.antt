@@ -17,10 +17,10 @@ use Rattle.ix_facts.specs.Facts.{in_orders}
 use Rattle.ix_facts.specs.Finish as finish
 use Rattle.ix_facts.specs.Forget.{of_slot, of_path, without}
 use Rattle.ix_facts.proofs.Tests.{off}
-use Rattle.ix_within.proofs.Paths.{AreWithin, OperationWithin}
-use Rattle.ix_within.proofs.Lists.{Each, none, one, two, both, if_within, kept_within}
-use Rattle.ix_within.proofs.Operations as rules
-use Rattle.ix_within.proofs.Stored.{Beside, beside_within, without_within, app_within, each_are}
+use Rattle.ix_least.proofs.Paths.{AreWithin, OperationWithin}
+use Rattle.ix_least.proofs.Lists.{Each, none, one, two, both, if_within, kept_within}
+use Rattle.ix_least.proofs.Operations as rules
+use Rattle.ix_least.proofs.Stored.{Beside, beside_within, without_within, app_within, each_are}
 
 slot_apart : (t : ℕ) (p : Path) → of_slot t p ≡ false → is_path (Slot t) p ≡ false
 slot_apart t (Slot s) n = off (Slot s) (Slot t) n

@@ -6,7 +6,7 @@ use Rattle.ix_core.specs.declared.op.Test.{Test}
 use Rattle.ix_core.specs.Code.{Code, End, Do, If, Break, Continue, Return, Throw, Loop, Condition, Known, Compare, Truth, Both, Either, Opposite}
 use Rattle.ix_core.specs.Posts.{last_done}
 use Rattle.ix_flow.specs.Flow.{Rules, Flows, Asks, IsFlow, IsLeastFlow, Anything}
-use Rattle.ix_within.proofs.Fitting.{AllFit, AllAsked, LastFits, Maps}
+use Rattle.ix_least.proofs.Fitting.{AllFit, AllAsked, LastFits, Maps}
 
 module _ (Fits : Op → Type 0) (Asked : Test → Type 0) (R : Rules) (map : R.Store → R.Store) (maps : Maps Fits Asked R map) (labels : ℕ → R.Store) where
   abbrev mapped : ℕ → R.Store

@@ -1,5 +1,5 @@
-use Rattle.ix_within.proofs.LabelsWithin.{labels_within}
-use Rattle.ix_within.proofs.within.labels_are_within.Goals as goal
+use Rattle.ix_least.proofs.LabelsWithin.{labels_within}
+use Rattle.ix_least.proofs.within.labels_are_within.Goals as goal
 
 -- src/laws.rt
 pub returns : goal.returns

@@ -13,8 +13,8 @@ use Rattle.ix_facts.specs.Exact.{each}
 use Rattle.ix_facts.specs.AfterTest as test
 use Rattle.ix_facts.specs.AfterTest.{Outcome, Below, Apart, Equal, OneArray, outcome_facts}
 use Rattle.ix_facts.specs.Assume.{claim_facts}
-use Rattle.ix_within.proofs.Paths.{Within, OutcomeWithin, ClaimWithin}
-use Rattle.ix_within.proofs.Lists.{Each, none, one, two, next, both, if_within, so_within, fact_within}
+use Rattle.ix_least.proofs.Paths.{Within, OutcomeWithin, ClaimWithin}
+use Rattle.ix_least.proofs.Lists.{Each, none, one, two, next, both, if_within, so_within, fact_within}
 
 module _ (In : Path → Type 0) where
   module _ (facts : List Fact) (stored : Each In facts) (p q : Path) (k : ℤ) (left : In p) (right : In q) where

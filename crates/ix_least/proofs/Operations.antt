@@ -25,8 +25,8 @@ use Rattle.ix_facts.specs.AfterOperation.{is_int, is_array, copied_by, claimed_b
 use Rattle.ix_facts.specs.After.{finished_by}
 use Rattle.ix_facts.specs.Finish as finish
 use Rattle.ix_facts.proofs.Tests.{off}
-use Rattle.ix_within.proofs.Paths.{OffsetWithin, Within}
-use Rattle.ix_within.proofs.Lists.{Each, none, next, one, two, both, if_within, some_within, path_within, fact_within, named_ints_within, named_arrays_within}
+use Rattle.ix_least.proofs.Paths.{OffsetWithin, Within}
+use Rattle.ix_least.proofs.Lists.{Each, none, next, one, two, both, if_within, some_within, path_within, fact_within, named_ints_within, named_arrays_within}
 
 -- The target is one of the paths; the stored facts speak of others, of which none is the target.
 module _ (In Of : Path → Type 0) (t : Path) (own : In t) (more : (p : Path) → Of p → In p) (apart : (p : Path) → Of p → is_path t p ≡ false) where

@@ -36,19 +36,19 @@ use Rattle.ix_flow.specs.Flow.{IsLeastFlow}
 use Rattle.ix_claim_facts.specs.Names.{is_built}
 use Rattle.ix_claim_facts.specs.Signs.{Adds, Forgets, Copies, entry_facts, read_facts, write_facts, result_facts, answer_facts, told_by, told_by_call, told_facts, own_fields, inherited_fields, fields_above, zero_fields, fields_facts, has_no_parent}
 use Rattle.ix_method.specs.MethodRules.{method_rules, KindGives, AfterGives}
-use Rattle.ix_within.specs.Within.{StoreWithin, is_inside}
-use Rattle.ix_within.proofs.Paths.{OperationWithin}
-use Rattle.ix_within.proofs.Cut.{cut}
-use Rattle.ix_within.proofs.Fitting.{Maps, LastFits}
-use Rattle.ix_within.proofs.After.{after_within, copy_within}
-use Rattle.ix_within.proofs.Closing.{covered_within}
-use Rattle.ix_within.proofs.Cut.{AllOutcomesWithin, cut_below, cut_gives, cut_then, cut_outcomes, above_cut, within_cut}
-use Rattle.ix_within.proofs.Declared.{received_within, copied_within, params_within, received_all, field_facts, dependent_within, zero_fields_within, fields_within, result_within, posts_within}
-use Rattle.ix_within.proofs.Inside.{method, local_types, In, field_is, own_field_is, field_within, this_is}
-use Rattle.ix_within.proofs.Lists.{Each, none, both, if_within, so_within, kept_within}
-use Rattle.ix_within.proofs.Mapped.{least_mapped}
-use Rattle.ix_within.proofs.Stored.{without_within, app_within, each_are}
-use Rattle.ix_within.proofs.Typed.{OpTyped, TestTyped, body_typed}
+use Rattle.ix_least.specs.Within.{StoreWithin, is_inside}
+use Rattle.ix_least.proofs.Paths.{OperationWithin}
+use Rattle.ix_least.proofs.Cut.{cut}
+use Rattle.ix_least.proofs.Fitting.{Maps, LastFits}
+use Rattle.ix_least.proofs.After.{after_within, copy_within}
+use Rattle.ix_least.proofs.Closing.{covered_within}
+use Rattle.ix_least.proofs.Cut.{AllOutcomesWithin, cut_below, cut_gives, cut_then, cut_outcomes, above_cut, within_cut}
+use Rattle.ix_least.proofs.Declared.{received_within, copied_within, params_within, received_all, field_facts, dependent_within, zero_fields_within, fields_within, result_within, posts_within}
+use Rattle.ix_least.proofs.Inside.{method, local_types, In, field_is, own_field_is, field_within, this_is}
+use Rattle.ix_least.proofs.Lists.{Each, none, both, if_within, so_within, kept_within}
+use Rattle.ix_least.proofs.Mapped.{least_mapped}
+use Rattle.ix_least.proofs.Stored.{without_within, app_within, each_are}
+use Rattle.ix_least.proofs.Typed.{OpTyped, TestTyped, body_typed}
 
 -- ---- single rules
 
