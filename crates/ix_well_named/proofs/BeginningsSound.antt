@@ -47,7 +47,7 @@ use Rattle.ix_kept_runs.specs.Running as running
 use Rattle.ix_kept_runs.specs.Running.{in_scope}
 use Rattle.ix_kept_runs.specs.SoundBodies.{super_sound, field_sound, fields_sound, start_sound}
 use Rattle.ix_kept_runs.specs.Sound.{soundness}
-use Rattle.ix_well_named.specs.Sound.{HasNumbers, View, IsSeen}
+use Rattle.ix_well_named.specs.WellNamed.{HasNumbers, View, IsSeen}
 use Rattle.ix_kept_runs.specs.SoundStatements.{init_at, init_if}
 use Rattle.ix_well_named.proofs.DeclarationsSound.{makes_any}
 use Rattle.ix_well_named.proofs.ExpressionsSound.{expression_sound, initialiser_sound}

@@ -28,7 +28,7 @@ use Rattle.ix_formed.proofs.TypedExpressions.{all_parted, Covers, covers_both, e
 use Rattle.ix_kept_runs.specs.Along.{Setting}
 use Rattle.ix_kept_runs.specs.Sound as sound
 use Rattle.ix_kept_runs.specs.Sound.{Soundness, soundness, init_soundness, used}
-use Rattle.ix_well_named.specs.Sound.{View, IsSeen, IsSound, IsSoundTarget, IsSoundFilling}
+use Rattle.ix_well_named.specs.WellNamed.{View, IsSeen, IsSound, IsSoundTarget, IsSoundFilling}
 use Rattle.ix_well_named.proofs.SoundArrays.{AllFilled, element_sound, element_target, new_array_sound, new_items_sound, value_filled, items_filled}
 use Rattle.ix_well_named.proofs.SoundCalls.{bare_sound, dot_sound, new_sound}
 use Rattle.ix_well_named.proofs.SoundNames.{name_sound, name_target, this_is}

@@ -25,7 +25,7 @@ use Rattle.ix_formed.proofs.TypedNames.{there_is}
 use Rattle.ix_kept_runs.specs.Along.{Setting}
 use Rattle.ix_kept_runs.specs.Sound as sound
 use Rattle.ix_kept_runs.specs.Sound.{Soundness, used, all_used}
-use Rattle.ix_well_named.specs.Sound.{View, viewed, IsSeen, IsSound}
+use Rattle.ix_well_named.specs.WellNamed.{View, viewed, IsSeen, IsSound}
 use Rattle.ix_well_named.proofs.SoundParts.{AllAre, given_used, computed_sound}
 use Rattle.ix_well_named.proofs.SoundNames.{this_is}
 use Rattle.ix_well_named.proofs.SoundSelections.{object_used}

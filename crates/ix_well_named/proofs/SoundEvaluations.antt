@@ -39,7 +39,7 @@ use Rattle.ix_kept_runs.specs.Running as running
 use Rattle.ix_kept_runs.specs.Running.{in_scope}
 use Rattle.ix_kept_runs.specs.Sound.{soundness, init_soundness}
 use Rattle.ix_kept_runs.specs.SoundBodies.{HasResults}
-use Rattle.ix_well_named.specs.Sound.{Owned, HasNumbers, View, IsSeen, IsSound}
+use Rattle.ix_well_named.specs.WellNamed.{Owned, HasNumbers, View, IsSeen, IsSound}
 use Rattle.ix_kept_runs.specs.SoundStatements.{used_at, ran_at, init_at, declaring}
 use Rattle.ix_well_named.proofs.ExpressionsSound.{expression_sound, initialiser_sound}
 use Rattle.ix_well_named.proofs.SoundParts.{used_is, check_used}
