@@ -32,7 +32,7 @@ use Rattle.ix_formed.proofs.PlainItems.{makes_more, makes_then, made_is}
 use Rattle.ix_formed.proofs.PlainMethods.{each_readable}
 use Rattle.ix_kept_runs.specs.Running.{Ground}
 use Rattle.ix_kept_runs.specs.SoundStatements.{statement_soundness, where_made, each_sound}
-use Rattle.ix_well_named.proofs.SoundRuns.{runs_are}
+use Rattle.ix_kept_runs.proofs.SoundRuns.{runs_are}
 use Rattle.ix_guard.specs.Accesses.{Access}
 use Rattle.ix_guard.specs.Tests.{Site}
 use Rattle.ix_guard_promise.specs.Known.{Unknown, accessed}

@@ -30,8 +30,8 @@ use Rattle.ix_formed.proofs.NumberLists.{all_joined}
 use Rattle.ix_kept_runs.specs.Running.{Ground}
 use Rattle.ix_kept_runs.specs.SoundBodies.{IsSoundMethod, begins_sound}
 use Rattle.ix_kept_runs.specs.SoundStatements.{statement_soundness, where_made, each_sound}
-use Rattle.ix_well_named.specs.Bodies.{AreSoundClasses}
-use Rattle.ix_well_named.proofs.SourcesSound.{sound_source, tables_give}
+use Rattle.ix_kept_runs.specs.Bodies.{AreSoundClasses}
+use Rattle.ix_kept_runs.proofs.SourcesSound.{sound_source, tables_give}
 use Rattle.ix_guard.specs.Accesses.{Access}
 use Rattle.ix_guard.specs.Tests.{Site}
 use Rattle.ix_guard_promise.specs.Known.{Unknown}

@@ -28,7 +28,7 @@ use Rattle.ix_kept_runs.specs.Running.{Ground, standing}
 use Rattle.ix_kept_runs.specs.Sound.{soundness}
 use Rattle.ix_kept_runs.specs.SoundStatements as sound
 use Rattle.ix_kept_runs.specs.SoundStatements.{StatementSoundness, statement_soundness, where_made, used_at, ran_at, used_if}
-use Rattle.ix_well_named.proofs.SoundRuns.{running_is}
+use Rattle.ix_kept_runs.proofs.SoundRuns.{running_is}
 use Rattle.ix_guard.specs.Accesses.{Access, parts_of, all_decl_parts, Parts as Read}
 use Rattle.ix_guard.specs.Tests.{Site, is_variable}
 use Rattle.ix_guard.specs.Trees.{statement, expression_tested, declaration_tested, returning, tested as tested_by}

@@ -22,7 +22,7 @@ use Rattle.ix_kept_runs.specs.Running.{Ground, standing}
 use Rattle.ix_kept_runs.specs.Sound.{named}
 use Rattle.ix_kept_runs.specs.SoundStatements as sound
 use Rattle.ix_kept_runs.specs.SoundStatements.{StatementSoundness, statement_soundness, running_of, where_made, used_at, part_sound, part_if, each_sound}
-use Rattle.ix_well_named.proofs.SoundRuns.{running_is}
+use Rattle.ix_kept_runs.proofs.SoundRuns.{running_is}
 use Rattle.ix_guard.specs.Accesses.{Access}
 use Rattle.ix_guard.specs.Tests.{Site, is_variable}
 use Rattle.ix_guard_promise.specs.Known.{Known, Nowhere, Unknown, Inside}

@@ -12,3 +12,7 @@ pub mod Grounds
 pub mod Declared
 -- What is asked of the methods and constructors that a call runs.
 pub mod Callees
+-- An expression without errors on names is sound: the statement of the induction.
+pub mod WellNamed
+-- Whole bodies of methods and constructors, and of all classes.
+pub mod Bodies

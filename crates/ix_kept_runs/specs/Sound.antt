@@ -2,9 +2,9 @@
 -- fields of it where there is an object, a call a written method, a creation a class of the source; and what is used has a value, since its type isn't `void`.
 --
 -- It is a test on the tree, beside the fold of lowering. An induction over expressions takes `(soundness e).value z ≡ true` as the hypothesis of each expression, and what
--- its parts have by splitting the test of the whole (`and_parts`, and the lemmas of `ix_well_named/proofs/SoundUses` for names, selections and calls): an operand, an argument or an entry is
+-- its parts have by splitting the test of the whole (`and_parts`, and the lemmas of `ix_kept_runs/proofs/SoundUses` for names, selections and calls): an operand, an argument or an entry is
 -- `used`, what stands before the dot of a static member is `unused`, and what is assigned has `target`. What the setting of a sound full expression has besides is in
--- `ix_well_named/proofs/AssignedOwned`.
+-- `ix_kept_runs/proofs/AssignedOwned`.
 use Rattle.std.specs.Prelude.{ℕ, ◌==◌, Bool, true, false, not, ◌&&◌, ◌||◌, List, [], ◌∷◌, length, nat_lt, Option, Some, None, is_some}
 use Rattle.ix_text.specs.declared.span.Span.{Span}
 use Rattle.ix_core.specs.Tables.{Tables}

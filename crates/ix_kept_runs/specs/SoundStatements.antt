@@ -2,7 +2,7 @@
 --
 -- A statement is tested at the body that was made before it, and each part of it at the body that lowering has made when it comes to that part. So an induction over lowering
 -- and the meaning of statements takes `(statement_soundness x).sound g end body ≡ true` as the hypothesis of each statement, where it takes the end of the block and the body;
--- behind a part that was made `made_is_so` of `ix_well_named/proofs/SoundUses` gives what is asked of the next, and `running_is` of `ix_well_named/proofs/SoundRuns` that the part's plain form is the
+-- behind a part that was made `made_is_so` of `ix_kept_runs/proofs/SoundUses` gives what is asked of the next, and `running_is` of `ix_kept_runs/proofs/SoundRuns` that the part's plain form is the
 -- statement's. Where lowering has passed a limit nothing is asked.
 use Rattle.std.specs.Prelude.{◌≡◌, ℕ, Bool, true, not, ◌&&◌, List, [], ◌∷◌, map, Option, Some, None, Ok, Err}
 use Rattle.ix_text.specs.declared.span.Span.{Span}

@@ -15,3 +15,4 @@
 //! They stand on the meaning of the tree in `ix_source_meaning`, the plain form of `ix_plain`, what `ix_formed` knows of it, and the machine of `ix_core`.
 //! They never look at how names are found, at why a body is sound, nor at how anything is computed.
 #![tactic(auto)]
+

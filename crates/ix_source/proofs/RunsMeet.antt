@@ -32,9 +32,9 @@ use Rattle.ix_kept_runs.proofs.AcceptedTables.{method_declared, static_of_declar
 use Rattle.ix_kept_runs.proofs.DeclaredMembers.{all_counted}
 use Rattle.ix_kept_runs.proofs.JoinedLists.{get_behind, get_so}
 use Rattle.ix_kept_runs.proofs.MethodsFound.{Any, AnyDefault, any_class}
-use Rattle.ix_well_named.specs.Bodies.{AreSoundClasses}
-use Rattle.ix_well_named.proofs.AssignedOwned.{assigns_own}
-use Rattle.ix_well_named.proofs.SourcesSound.{sound_source}
+use Rattle.ix_kept_runs.specs.Bodies.{AreSoundClasses}
+use Rattle.ix_kept_runs.proofs.AssignedOwned.{assigns_own}
+use Rattle.ix_kept_runs.proofs.SourcesSound.{sound_source}
 use Rattle.ix_source.specs.Whole.{Meets}
 use Rattle.ix_source.proofs.EntryMethods.{entry_meets}
 

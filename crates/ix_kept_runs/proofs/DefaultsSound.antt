@@ -37,10 +37,10 @@ use Rattle.ix_formed.proofs.FieldsFit.{IsAccepted, parents_there, parent_count}
 use Rattle.ix_formed.proofs.FieldsInitialised.{are_initialised}
 use Rattle.ix_kept_runs.specs.Running as running
 use Rattle.ix_kept_runs.specs.SoundBodies.{super_sound, default_sound, IsSoundDefault, HasResults}
-use Rattle.ix_well_named.proofs.BeginningsSound.{HasRoom, super_given, start_is_sound}
-use Rattle.ix_well_named.proofs.EntriesOwned.{entry_is}
-use Rattle.ix_well_named.proofs.NumbersThere.{has_numbers}
-use Rattle.ix_well_named.proofs.SoundEvaluations.{Sight}
+use Rattle.ix_kept_runs.proofs.BeginningsSound.{HasRoom, super_given, start_is_sound}
+use Rattle.ix_kept_runs.proofs.EntriesOwned.{entry_is}
+use Rattle.ix_kept_runs.proofs.NumbersThere.{has_numbers}
+use Rattle.ix_kept_runs.proofs.SoundEvaluations.{Sight}
 
 module _ (unit : Source) (p : Program) (is : IsAccepted unit p) (ss : List Signature) (c : ℕ) (next : Next) (class : ClassDecl) (number : next.class ≡ c) (there : c < length unit.classes) (fields : HasFields unit p is ss c next class)
     (said : Say (Agrees (names unit) (unit_parts unit)) (source.implicit_super_of (world unit.classes) ((world unit.classes).parent c) class.name.span)) (method : Method)

@@ -28,13 +28,13 @@ use Rattle.ix_formed.proofs.TypedExpressions.{all_parted, Covers, covers_both, e
 use Rattle.ix_kept_runs.specs.Along.{Setting}
 use Rattle.ix_kept_runs.specs.Sound as sound
 use Rattle.ix_kept_runs.specs.Sound.{Soundness, soundness, init_soundness, used}
-use Rattle.ix_well_named.specs.WellNamed.{View, IsSeen, IsSound, IsSoundTarget, IsSoundFilling}
-use Rattle.ix_well_named.proofs.SoundArrays.{AllFilled, element_sound, element_target, new_array_sound, new_items_sound, value_filled, items_filled}
-use Rattle.ix_well_named.proofs.SoundCalls.{bare_sound, dot_sound, new_sound}
-use Rattle.ix_well_named.proofs.SoundNames.{name_sound, name_target, this_is}
-use Rattle.ix_well_named.proofs.SoundOperators.{unary_sound, binary_sound, assign_sound, step_sound}
-use Rattle.ix_well_named.proofs.SoundParts.{AllAre, computed_sound}
-use Rattle.ix_well_named.proofs.SoundSelections.{selection_sound, selection_target}
+use Rattle.ix_kept_runs.specs.WellNamed.{View, IsSeen, IsSound, IsSoundTarget, IsSoundFilling}
+use Rattle.ix_kept_runs.proofs.SoundArrays.{AllFilled, element_sound, element_target, new_array_sound, new_items_sound, value_filled, items_filled}
+use Rattle.ix_kept_runs.proofs.SoundCalls.{bare_sound, dot_sound, new_sound}
+use Rattle.ix_kept_runs.proofs.SoundNames.{name_sound, name_target, this_is}
+use Rattle.ix_kept_runs.proofs.SoundOperators.{unary_sound, binary_sound, assign_sound, step_sound}
+use Rattle.ix_kept_runs.proofs.SoundParts.{AllAre, computed_sound}
+use Rattle.ix_kept_runs.proofs.SoundSelections.{selection_sound, selection_target}
 
 module _ (y : typed.Setting) (set : typed.IsSet y) (v : View) (n : IsSeen y v) where
   abbrev Here : List Part → Type 0

@@ -46,9 +46,9 @@ use Rattle.ix_formed.proofs.TypedForms.{parted}
 use Rattle.ix_formed.proofs.TypedLocals.{declaration_tells}
 use Rattle.ix_kept_runs.specs.Running as running
 use Rattle.ix_kept_runs.specs.SoundStatements.{where_made, local_init, declared_sound}
-use Rattle.ix_well_named.proofs.SoundEvaluations.{Sight, seen_ground, local_init_sound}
-use Rattle.ix_well_named.proofs.SoundLists.{made_so, StandsAt, none_stands, stands_within}
-use Rattle.ix_well_named.proofs.VariablesOwn.{OwnedIn, owned_pending, owned_last}
+use Rattle.ix_kept_runs.proofs.SoundEvaluations.{Sight, seen_ground, local_init_sound}
+use Rattle.ix_kept_runs.proofs.SoundLists.{made_so, StandsAt, none_stands, stands_within}
+use Rattle.ix_kept_runs.proofs.VariablesOwn.{OwnedIn, owned_pending, owned_last}
 
 -- whatever is made
 pub makes_any : {A : Type 0} (r : Within A) → Makes (λ (made : A). Unit {0}) r

@@ -37,11 +37,11 @@ use Rattle.ix_formed.proofs.TypedLoops.{read_there, restarted}
 use Rattle.ix_kept_runs.specs.Running as running
 use Rattle.ix_kept_runs.specs.SoundStatements as sound
 use Rattle.ix_kept_runs.specs.SoundStatements.{StatementSoundness, statement_soundness, running_of, where_made, used_at, ran_at, all_ran_at, used_if, begun, part_sound, part_if, each_sound}
-use Rattle.ix_well_named.proofs.DeclarationsSound.{makes_any, so_always, locals_sound}
-use Rattle.ix_well_named.proofs.SoundEvaluations.{Sight, seen_ground, condition_sound, run_sound, printed_sound, returned_sound}
-use Rattle.ix_well_named.proofs.SoundLists.{made_so, StandsAt, stands_same, stands_within, stands_inside, DoesSound, IsSoundStatement, AllSound, BehindPart, part_sounds, each_sounds}
-use Rattle.ix_well_named.proofs.SoundRuns.{running_is, runs_are}
-use Rattle.ix_well_named.proofs.VariablesOwn.{OwnedIn}
+use Rattle.ix_kept_runs.proofs.DeclarationsSound.{makes_any, so_always, locals_sound}
+use Rattle.ix_kept_runs.proofs.SoundEvaluations.{Sight, seen_ground, condition_sound, run_sound, printed_sound, returned_sound}
+use Rattle.ix_kept_runs.proofs.SoundLists.{made_so, StandsAt, stands_same, stands_within, stands_inside, DoesSound, IsSoundStatement, AllSound, BehindPart, part_sounds, each_sounds}
+use Rattle.ix_kept_runs.proofs.SoundRuns.{running_is, runs_are}
+use Rattle.ix_kept_runs.proofs.VariablesOwn.{OwnedIn}
 
 -- ---- what lowering leaves as it was
 
@@ -153,10 +153,10 @@ module _ (g : Ground) (ground : IsGround g) (v : Sight g) where
   -- ---- the folds
 
   abbrev kind_run : StmtKind → Span → Run
-  kind_run = Rattle.ix_well_named.proofs.SoundRuns.kind_run
+  kind_run = Rattle.ix_kept_runs.proofs.SoundRuns.kind_run
 
   abbrev kind_soundness : StmtKind → Span → StatementSoundness
-  kind_soundness = Rattle.ix_well_named.proofs.SoundRuns.kind_soundness
+  kind_soundness = Rattle.ix_kept_runs.proofs.SoundRuns.kind_soundness
 
   abbrev kind_telling : StmtKind → Span → Telling
   kind_telling = bodies.kind_telling

@@ -28,8 +28,8 @@ use Rattle.ix_formed.proofs.TypedChecks.{parted, kept, reading_at}
 use Rattle.ix_kept_runs.specs.Along.{Setting}
 use Rattle.ix_kept_runs.specs.Sound as sound
 use Rattle.ix_kept_runs.specs.Sound.{Soundness, used}
-use Rattle.ix_well_named.specs.WellNamed.{View, viewed, IsSound, IsSoundTarget, IsSoundFilling}
-use Rattle.ix_well_named.proofs.SoundParts.{used_is, check_used, computed_sound}
+use Rattle.ix_kept_runs.specs.WellNamed.{View, viewed, IsSound, IsSoundTarget, IsSoundFilling}
+use Rattle.ix_kept_runs.proofs.SoundParts.{used_is, check_used, computed_sound}
 
 -- what has elements is an array
 array_real : (p : Program) (ty : Type_) → IsResult p ty → is_some (element ty) ≡ true → is_type p ty ≡ true

@@ -27,7 +27,7 @@ use Rattle.ix_formed.proofs.TypedNames.{variable_is, IsCovered}
 use Rattle.ix_kept_runs.specs.Along.{Setting}
 use Rattle.ix_kept_runs.specs.Sound as sound
 use Rattle.ix_kept_runs.specs.Sound.{Soundness}
-use Rattle.ix_well_named.specs.WellNamed.{View, viewed, IsSeen, IsSound, IsSoundTarget}
+use Rattle.ix_kept_runs.specs.WellNamed.{View, viewed, IsSeen, IsSound, IsSoundTarget}
 
 -- what is so of each variable is so of the one that a name means
 meant_is : (P : Variable → Type 0) (text : List ℕ) (vs : List Variable) → AllOf P vs → (k : Variable) → meant text vs ≡ Some k → P k

@@ -27,8 +27,8 @@ use Rattle.ix_formed.proofs.TypedChecks.{parted, kept, reading_at}
 use Rattle.ix_kept_runs.specs.Along.{Setting}
 use Rattle.ix_kept_runs.specs.Sound as sound
 use Rattle.ix_kept_runs.specs.Sound.{Soundness, used}
-use Rattle.ix_well_named.specs.WellNamed.{View, viewed, IsSound, IsSoundTarget}
-use Rattle.ix_well_named.proofs.SoundParts.{used_is, computed_sound}
+use Rattle.ix_kept_runs.specs.WellNamed.{View, viewed, IsSound, IsSoundTarget}
+use Rattle.ix_kept_runs.proofs.SoundParts.{used_is, computed_sound}
 
 module _ (y : typed.Setting) (set : typed.IsSet y) (v : View) where
   abbrev z : Setting

@@ -39,9 +39,9 @@ use Rattle.ix_formed.proofs.HeadsFit.{HasHead}
 use Rattle.ix_formed.proofs.Numbering.{goes, goes_on}
 use Rattle.ix_formed.proofs.ProgramsHaveShape.{types_behind}
 use Rattle.ix_kept_runs.specs.SoundBodies.{IsSoundMethod, IsSoundDefault, HasResults}
-use Rattle.ix_well_named.specs.Bodies.{AreSoundClasses}
-use Rattle.ix_well_named.proofs.DefaultsSound.{default_is_sound}
-use Rattle.ix_well_named.proofs.MethodsSound.{method_sound}
+use Rattle.ix_kept_runs.specs.Bodies.{AreSoundClasses}
+use Rattle.ix_kept_runs.proofs.DefaultsSound.{default_is_sound}
+use Rattle.ix_kept_runs.proofs.MethodsSound.{method_sound}
 
 module _ (unit : Source) (p : Program) (is : IsAccepted unit p) where
   abbrev t : Tables

@@ -25,10 +25,10 @@ use Rattle.ix_formed.proofs.TypedNames.{there_is}
 use Rattle.ix_kept_runs.specs.Along.{Setting}
 use Rattle.ix_kept_runs.specs.Sound as sound
 use Rattle.ix_kept_runs.specs.Sound.{Soundness, used, all_used}
-use Rattle.ix_well_named.specs.WellNamed.{View, viewed, IsSeen, IsSound}
-use Rattle.ix_well_named.proofs.SoundParts.{AllAre, given_used, computed_sound}
-use Rattle.ix_well_named.proofs.SoundNames.{this_is}
-use Rattle.ix_well_named.proofs.SoundSelections.{object_used}
+use Rattle.ix_kept_runs.specs.WellNamed.{View, viewed, IsSeen, IsSound}
+use Rattle.ix_kept_runs.proofs.SoundParts.{AllAre, given_used, computed_sound}
+use Rattle.ix_kept_runs.proofs.SoundNames.{this_is}
+use Rattle.ix_kept_runs.proofs.SoundSelections.{object_used}
 
 -- a method gives something back, or its result is `void`
 gives_or_void : (ty : Type_) → (is_some (default_result ty) || is_void ty) ≡ true

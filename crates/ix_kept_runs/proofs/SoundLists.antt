@@ -36,9 +36,9 @@ use Rattle.ix_formed.proofs.TypedExpressions.{all_parted}
 use Rattle.ix_formed.proofs.TypedForms.{parted, after_both}
 use Rattle.ix_kept_runs.specs.Running as running
 use Rattle.ix_kept_runs.specs.SoundStatements.{statement_soundness, where_made, begun, part_sound, each_sound}
-use Rattle.ix_well_named.proofs.SoundEvaluations.{Sight, seen_ground}
-use Rattle.ix_well_named.proofs.SoundRuns.{running_is}
-use Rattle.ix_well_named.proofs.VariablesOwn.{Behind, OwnedIn, owned_more}
+use Rattle.ix_kept_runs.proofs.SoundEvaluations.{Sight, seen_ground}
+use Rattle.ix_kept_runs.proofs.SoundRuns.{running_is}
+use Rattle.ix_kept_runs.proofs.VariablesOwn.{Behind, OwnedIn, owned_more}
 
 -- what is so of all that is made
 pub made_so : {A : Type 0} (r : Within A) (so : A → Bool) → Makes (λ made. so made ≡ true) r → where_made r so ≡ true

@@ -47,14 +47,14 @@ use Rattle.ix_kept_runs.specs.Running as running
 use Rattle.ix_kept_runs.specs.Running.{in_scope}
 use Rattle.ix_kept_runs.specs.SoundBodies.{super_sound, field_sound, fields_sound, start_sound}
 use Rattle.ix_kept_runs.specs.Sound.{soundness}
-use Rattle.ix_well_named.specs.WellNamed.{HasNumbers, View, IsSeen}
+use Rattle.ix_kept_runs.specs.WellNamed.{HasNumbers, View, IsSeen}
 use Rattle.ix_kept_runs.specs.SoundStatements.{init_at, init_if}
-use Rattle.ix_well_named.proofs.DeclarationsSound.{makes_any}
-use Rattle.ix_well_named.proofs.ExpressionsSound.{expression_sound, initialiser_sound}
-use Rattle.ix_well_named.proofs.SoundEvaluations.{Sight, seen_ground}
-use Rattle.ix_well_named.proofs.SoundLists.{made_so}
-use Rattle.ix_well_named.proofs.SoundParts.{AllAre, given_used}
-use Rattle.ix_well_named.proofs.VariablesOwn.{OwnedIn, owned_there}
+use Rattle.ix_kept_runs.proofs.DeclarationsSound.{makes_any}
+use Rattle.ix_kept_runs.proofs.ExpressionsSound.{expression_sound, initialiser_sound}
+use Rattle.ix_kept_runs.proofs.SoundEvaluations.{Sight, seen_ground}
+use Rattle.ix_kept_runs.proofs.SoundLists.{made_so}
+use Rattle.ix_kept_runs.proofs.SoundParts.{AllAre, given_used}
+use Rattle.ix_kept_runs.proofs.VariablesOwn.{OwnedIn, owned_there}
 
 -- ---- what lowering leaves as it was
 

@@ -22,7 +22,7 @@ use Rattle.ix_formed.proofs.NumberLists.{both_true}
 use Rattle.ix_formed.proofs.TypedChecks.{parted, kept, tabled, Tabled, check_fits, reading_at}
 use Rattle.ix_kept_runs.specs.Along.{Setting}
 use Rattle.ix_kept_runs.specs.Sound.{Soundness, used, all_used}
-use Rattle.ix_well_named.specs.WellNamed.{View, viewed, IsSound}
+use Rattle.ix_kept_runs.specs.WellNamed.{View, viewed, IsSound}
 
 pub no_void : (p : Program) (ty : Type_) → is_type p ty ≡ true → is_void ty ≡ false
 no_void p type.Void real = absurd (false≢true real)

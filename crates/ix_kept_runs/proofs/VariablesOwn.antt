@@ -15,7 +15,7 @@ use Rattle.ix_formed.specs.TypedStatements.{Ground, HasVariable, scope_in}
 use Rattle.ix_formed.proofs.NumberLists.{is_itself, all_joined}
 use Rattle.ix_formed.proofs.ScopedLocals.{slot_front, get_behind}
 use Rattle.ix_kept_runs.specs.Running.{owner, local_owner, param_owner, in_scope}
-use Rattle.ix_well_named.specs.WellNamed.{Owned}
+use Rattle.ix_kept_runs.specs.WellNamed.{Owned}
 
 -- the slot of each of these locals is none below that number
 abbrev pub Behind : ℕ → List (Local × Span) → Type 0

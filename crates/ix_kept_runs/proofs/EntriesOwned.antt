@@ -15,7 +15,7 @@ use Rattle.ix_formed.proofs.NumberLists.{is_itself}
 use Rattle.ix_kept_runs.specs.Running.{owner, param_owner}
 use Rattle.ix_plain.specs.Program.{first_param}
 use Rattle.ix_kept_runs.specs.SoundBodies.{IsEntry}
-use Rattle.ix_well_named.specs.WellNamed.{Owned}
+use Rattle.ix_kept_runs.specs.WellNamed.{Owned}
 
 -- parameters in later slots don't take an earlier one
 owner_before : (number : ℕ) (table : Names) (first : ℕ) (ds : List LocalDecl) (slot : ℕ) (found : Option Meaning) → slot < first → param_owner number (params_of table first ds) slot found ≡ found

@@ -17,7 +17,7 @@ use Rattle.ix_formed.proofs.AcceptedMethods.{IsCalled, signatures_called, found_
 use Rattle.ix_formed.proofs.ClassesHaveWays.{named_within}
 use Rattle.ix_formed.proofs.FieldsFit.{IsAccepted}
 use Rattle.ix_formed.proofs.Overrides.{nearest_is}
-use Rattle.ix_well_named.specs.WellNamed.{HasNumbers}
+use Rattle.ix_kept_runs.specs.WellNamed.{HasNumbers}
 
 there_below : {A : Type 0} (xs : List A) (n : ℕ) (x : A) → slice_get xs n ≡ Some x → n < length xs
 there_below [] n x e = absurd cc

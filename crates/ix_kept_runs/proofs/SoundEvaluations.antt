@@ -39,11 +39,11 @@ use Rattle.ix_kept_runs.specs.Running as running
 use Rattle.ix_kept_runs.specs.Running.{in_scope}
 use Rattle.ix_kept_runs.specs.Sound.{soundness, init_soundness}
 use Rattle.ix_kept_runs.specs.SoundBodies.{HasResults}
-use Rattle.ix_well_named.specs.WellNamed.{Owned, HasNumbers, View, IsSeen, IsSound}
+use Rattle.ix_kept_runs.specs.WellNamed.{Owned, HasNumbers, View, IsSeen, IsSound}
 use Rattle.ix_kept_runs.specs.SoundStatements.{used_at, ran_at, init_at, declaring}
-use Rattle.ix_well_named.proofs.ExpressionsSound.{expression_sound, initialiser_sound}
-use Rattle.ix_well_named.proofs.SoundParts.{used_is, check_used}
-use Rattle.ix_well_named.proofs.VariablesOwn.{OwnedIn, owned_there}
+use Rattle.ix_kept_runs.proofs.ExpressionsSound.{expression_sound, initialiser_sound}
+use Rattle.ix_kept_runs.proofs.SoundParts.{used_is, check_used}
+use Rattle.ix_kept_runs.proofs.VariablesOwn.{OwnedIn, owned_there}
 
 -- What a run sees of a body.
 pub record Sight (g : Ground) : Type 0 where

@@ -46,13 +46,13 @@ use Rattle.ix_formed.proofs.SourceMethods.{IsAmong, each_is_map}
 use Rattle.ix_kept_runs.specs.Running as running
 use Rattle.ix_kept_runs.specs.SoundBodies.{super_sound, start_sound, begins_sound, written_sound, IsSoundMethod}
 use Rattle.ix_kept_runs.specs.SoundStatements.{statement_soundness, each_sound}
-use Rattle.ix_well_named.proofs.BeginningsSound.{SameFree, start_same, HasRoom, super_given, start_is_sound}
-use Rattle.ix_well_named.proofs.EntriesOwned.{params_owned, entry_is}
-use Rattle.ix_well_named.proofs.NumbersThere.{has_numbers}
-use Rattle.ix_well_named.proofs.SoundEvaluations.{Sight}
-use Rattle.ix_well_named.proofs.SoundLists.{made_so, StandsAt, stands_same, each_sounds}
-use Rattle.ix_well_named.proofs.StatementsSound.{statements_sound}
-use Rattle.ix_well_named.proofs.VariablesOwn.{OwnedIn}
+use Rattle.ix_kept_runs.proofs.BeginningsSound.{SameFree, start_same, HasRoom, super_given, start_is_sound}
+use Rattle.ix_kept_runs.proofs.EntriesOwned.{params_owned, entry_is}
+use Rattle.ix_kept_runs.proofs.NumbersThere.{has_numbers}
+use Rattle.ix_kept_runs.proofs.SoundEvaluations.{Sight}
+use Rattle.ix_kept_runs.proofs.SoundLists.{made_so, StandsAt, stands_same, each_sounds}
+use Rattle.ix_kept_runs.proofs.StatementsSound.{statements_sound}
+use Rattle.ix_kept_runs.proofs.VariablesOwn.{OwnedIn}
 
 -- ---- arguments of the parent's constructor
 
