@@ -26,7 +26,7 @@ use Rattle.ix_formed.specs.Written.{each_true, maybe_true}
 use Rattle.ix_formed.proofs.CleanNotes.{all_clean, clean_parts}
 use Rattle.ix_guard.specs.Tests.{Site}
 use Rattle.ix_guard.specs.Trees.{guarded_body, guarded_class, guarded_tree}
-use Rattle.ix_names_moved.proofs.ErrorsAgain.{none_derived}
+use Rattle.ix_guarded_text.proofs.ErrorsAgain.{none_derived}
 use Rattle.ix_guarded_text.proofs.AccessesFit.{Clean}
 use Rattle.ix_guarded_text.proofs.TestsClean.{clean_both}
 use Rattle.ix_guarded_text.proofs.StatementsAccepted.{body_guards}

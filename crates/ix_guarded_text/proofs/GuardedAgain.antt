@@ -19,8 +19,8 @@ use Rattle.ix_guard.specs.Trees.{guarded_tree}
 use Rattle.ix_guarded_text.specs.Derived.{Derives}
 use Rattle.ix_guarded_text.proofs.DerivedAnswers.{derived_only}
 use Rattle.ix_guarded_text.proofs.GuardedSources.{guarded_derives}
-use Rattle.ix_names_moved.specs.Joint.{AllShare, ClassShares, IsJoint}
-use Rattle.ix_names_moved.proofs.AcceptsAnywhere.{accepts_anywhere}
+use Rattle.ix_guarded_text.specs.Joint.{AllShare, ClassShares, IsJoint}
+use Rattle.ix_guarded_text.proofs.AcceptsAnywhere.{accepts_anywhere}
 use Rattle.ix_guarded_text.proofs.KeptWorlds.{guarded_members, guarded_classes}
 use Rattle.ix_guarded_text.proofs.GuardedAccepts.{guarded_accepts_with}
 use Rattle.ix_guarded_text.proofs.ParsedJoint.{parsed_joint}

@@ -45,5 +45,32 @@ pub mod TestsMeant
 pub mod PlacedMeant
 -- Passed on from ix_parser.
 pub use Rattle.ix_parser.proofs.Laws
--- Passed on from ix_names_moved.
-pub use Rattle.ix_names_moved.proofs.AcceptedMoved
+-- Passed on from ix_guarded_text.
+pub mod NotesMove
+pub mod AnnotsMove
+pub mod TypesMove
+pub mod ScopesMove
+pub mod LiteralsMove
+pub mod DeclaratorsMove
+pub mod ExpressionsMove
+pub mod StatementsMove
+pub mod MembersMove
+pub mod SpansMove
+pub mod FieldsMove
+pub mod WorldsMove
+pub mod SourcesMove
+pub mod AcceptedMoved
+pub mod NotesAlike
+pub mod FieldsAgain
+pub mod WorldsAgain
+pub mod SourcesAlike
+pub mod ErrorsAgain
+pub mod LimitsAgain
+pub mod MeansAgain
+pub mod UncountedAnnots
+pub mod CountedAnnots
+pub mod JointFields
+pub mod NotesAnywhere
+pub mod AcceptsAnywhere
+pub mod JointSources
+pub mod PartsAgain

@@ -5,8 +5,8 @@ use Rattle.ix_lexer.specs.Tokens.{Tokens}
 use Rattle.ix_lexer.proofs.TokensInOrder.{in_order}
 use Rattle.ix_tree.specs.declared.decl.Unit.{Unit as Source}
 use Rattle.ix_grammar.specs.Refusals.{HasTree}
-use Rattle.ix_names_moved.specs.Joint.{IsJoint}
-use Rattle.ix_names_moved.proofs.JointSources.{source_is_joint}
+use Rattle.ix_guarded_text.specs.Joint.{IsJoint}
+use Rattle.ix_guarded_text.proofs.JointSources.{source_is_joint}
 
 pub parsed_joint : (bytes : List ℕ) (tokens : List Token) (unit : Source) → Tokens bytes tokens → HasTree tokens unit → IsJoint unit
 parsed_joint bytes tokens unit text (height, low) = source_is_joint 0 (length bytes) tokens (record { unit = unit; height = height }) low.0 (in_order bytes tokens text)

@@ -10,5 +10,13 @@ pub mod TestParts
 pub mod GuardedNames
 -- Notes with others between them that stand at new places.
 pub mod WithNew
--- Passed on from ix_names_moved.
-pub use Rattle.ix_names_moved.specs.MovedNotes
+-- Notes whose places are moved, and moves of places that keep places apart.
+pub mod MovedNotes
+pub mod MovedScopes
+-- Notes without their places, and what tables of names say of their places.
+pub mod Alike
+pub mod Gathered
+pub mod Same
+pub mod Joint
+-- Passed on from ix_moved.
+pub use Rattle.ix_moved.specs.Moved

@@ -9,12 +9,12 @@ use Rattle.ix_meaning.specs.Declarators as declared
 use Rattle.ix_meaning.specs.Members.{World, world, methods, next_fields}
 use Rattle.ix_meaning.specs.Source.{class_notes, notes_from, notes}
 use Rattle.ix_moved.specs.Bare.{bare_member, bare_class}
-use Rattle.ix_names_moved.proofs.SourcesMove.{class_notes_of, class_moves}
-use Rattle.ix_names_moved.specs.Alike.{AreAlike, joined, AreSame}
-use Rattle.ix_names_moved.specs.Gathered.{gathered, bare_signature, bare_world}
-use Rattle.ix_names_moved.proofs.NotesAlike.{none, both, flipped, chained, alike}
-use Rattle.ix_names_moved.proofs.FieldsAgain.{members_again}
-use Rattle.ix_names_moved.proofs.WorldsAgain.{next_again, parents_again, methods_again, world_again}
+use Rattle.ix_guarded_text.proofs.SourcesMove.{class_notes_of, class_moves}
+use Rattle.ix_guarded_text.specs.Alike.{AreAlike, joined, AreSame}
+use Rattle.ix_guarded_text.specs.Gathered.{gathered, bare_signature, bare_world}
+use Rattle.ix_guarded_text.proofs.NotesAlike.{none, both, flipped, chained, alike}
+use Rattle.ix_guarded_text.proofs.FieldsAgain.{members_again}
+use Rattle.ix_guarded_text.proofs.WorldsAgain.{next_again, parents_again, methods_again, world_again}
 
 -- ---- one class
 

@@ -4,9 +4,9 @@ use Rattle.std.proofs.lemmas.List.{map-append}
 use Rattle.ix_meaning.specs.declared.note.Note.{Note}
 use Rattle.ix_meaning.specs.declared.note.Note.TheVariants.{Use, Typed, Declares, Wrong, WrongAnnot}
 use Rattle.ix_meaning.specs.Types.{Judged}
-use Rattle.ix_names_moved.specs.MovedNotes.{moved_note, unplaced, AreMoved}
-use Rattle.ix_names_moved.specs.Alike.{bare_note, AreAlike}
-use Rattle.ix_names_moved.specs.Gathered.{gathered}
+use Rattle.ix_guarded_text.specs.MovedNotes.{moved_note, unplaced, AreMoved}
+use Rattle.ix_guarded_text.specs.Alike.{bare_note, AreAlike}
+use Rattle.ix_guarded_text.specs.Gathered.{gathered}
 
 pub none : AreAlike [] []
 none = record { same = refl }

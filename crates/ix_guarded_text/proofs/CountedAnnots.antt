@@ -19,7 +19,7 @@ use Rattle.ix_formed.specs.Additions.{AllOf}
 use Rattle.ix_formed.specs.NoErrors.{IsClean}
 use Rattle.ix_formed.proofs.CleanNotes.{clean_parts}
 use Rattle.ix_formed.proofs.NumberLists.{all_joined}
-use Rattle.ix_names_moved.proofs.UncountedAnnots.{is_variable, uncounted}
+use Rattle.ix_guarded_text.proofs.UncountedAnnots.{is_variable, uncounted}
 
 pub none_counted : (n : ℕ) → nat_lt 0 n ≡ false → n ≡ 0
 none_counted n e = grind (arith, nat_tests)

@@ -5,7 +5,7 @@ use Rattle.ix_tree.specs.declared.annot.Annot.{Annot}
 use Rattle.ix_tree.specs.declared.decl.LocalDecl.{LocalDecl}
 use Rattle.ix_meaning.specs.Declarators.{counting, counting_behind, with_annots, further, declarators}
 use Rattle.ix_moved.specs.Moved.{Move, moved_annot, moved_decl}
-use Rattle.ix_names_moved.proofs.AnnotsMove.{counting_moved}
+use Rattle.ix_guarded_text.proofs.AnnotsMove.{counting_moved}
 
 module _ (move : Move) where
   pub behind_moved : (first d : LocalDecl) → counting_behind (moved_decl move first) (moved_decl move d) ≡ map (moved_annot move) (counting_behind first d)

@@ -12,10 +12,10 @@ use Rattle.ix_meaning.specs.Source.{notes}
 use Rattle.ix_formed.specs.Additions.{AllOf}
 use Rattle.ix_formed.specs.NoErrors.{Agrees}
 use Rattle.ix_formed.proofs.NamesAgree.{notes_agree}
-use Rattle.ix_names_moved.specs.Alike.{bare_note, AreSame}
-use Rattle.ix_names_moved.specs.Same.{AllPairs, SaySame}
-use Rattle.ix_names_moved.proofs.SourcesAlike.{notes_again}
-use Rattle.ix_names_moved.proofs.LimitsAgain.{accepts_again}
+use Rattle.ix_guarded_text.specs.Alike.{bare_note, AreSame}
+use Rattle.ix_guarded_text.specs.Same.{AllPairs, SaySame}
+use Rattle.ix_guarded_text.proofs.SourcesAlike.{notes_again}
+use Rattle.ix_guarded_text.proofs.LimitsAgain.{accepts_again}
 
 module _ (one : Names) (parts : List Part) (two : Names) (more : List Part) where
   pair_again : (n m : Note) → bare_note n ≡ bare_note m → Agrees one parts n → Agrees two more m → SaySame one parts two more n m

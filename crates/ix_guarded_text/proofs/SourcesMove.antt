@@ -17,13 +17,13 @@ use Rattle.ix_meaning.specs.Members.{World, world, methods, next_fields}
 use Rattle.ix_meaning.specs.Source.{Place, is_taken, is_constructor, has_constructor, default_notes_of, implicit_super_of, class_use_notes, parent_use, place, head_notes, member_named, member_notes, class_notes, notes_from, notes}
 use Rattle.ix_moved.specs.Bare.{bare_maybe as maybe}
 use Rattle.ix_moved.specs.Moved.{Move, moved_span, moved_name, moved_member, moved_class, moved_source}
-use Rattle.ix_names_moved.specs.MovedNotes.{AreMoved, IsInjective}
-use Rattle.ix_names_moved.proofs.NotesMove.{none, both, used, is_wrong, if_wrong}
-use Rattle.ix_names_moved.specs.MovedScopes.{moved_signature, moved_world, moved_place}
-use Rattle.ix_names_moved.proofs.ExpressionsMove.{some_moved}
-use Rattle.ix_names_moved.proofs.MembersMove.{implicit_moves, member_named_moved, next_fields_moved, members_moves}
-use Rattle.ix_names_moved.proofs.FieldsMove.{members_moved}
-use Rattle.ix_names_moved.proofs.WorldsMove.{parents_moved, methods_moved, world_moves}
+use Rattle.ix_guarded_text.specs.MovedNotes.{AreMoved, IsInjective}
+use Rattle.ix_guarded_text.proofs.NotesMove.{none, both, used, is_wrong, if_wrong}
+use Rattle.ix_guarded_text.specs.MovedScopes.{moved_signature, moved_world, moved_place}
+use Rattle.ix_guarded_text.proofs.ExpressionsMove.{some_moved}
+use Rattle.ix_guarded_text.proofs.MembersMove.{implicit_moves, member_named_moved, next_fields_moved, members_moves}
+use Rattle.ix_guarded_text.proofs.FieldsMove.{members_moved}
+use Rattle.ix_guarded_text.proofs.WorldsMove.{parents_moved, methods_moved, world_moves}
 
 -- the notes of a class that has these members
 abbrev pub class_notes_of : World → List (Option ℕ) → List Signature → ℕ → ℕ → ClassDecl → List Member → List Note

@@ -16,17 +16,17 @@ use Rattle.ix_formed.specs.NoErrors.{IsClean}
 use Rattle.ix_formed.proofs.CleanNotes.{clean_parts}
 use Rattle.ix_formed.proofs.NumberLists.{all_joined}
 use Rattle.ix_moved.specs.Bare.{bare_member, bare_class, bare_source}
-use Rattle.ix_names_moved.proofs.MembersMove.{next_fields_moved}
-use Rattle.ix_names_moved.proofs.WorldsMove.{fields_in_moved}
-use Rattle.ix_names_moved.proofs.SourcesMove.{class_notes_of}
-use Rattle.ix_names_moved.specs.Alike.{AreAlike}
-use Rattle.ix_names_moved.specs.Gathered.{gathered, bare_field, bare_signature, bare_world}
-use Rattle.ix_names_moved.specs.Joint.{ClassShares, IsJoint}
-use Rattle.ix_names_moved.proofs.NotesAlike.{none, both, flipped, chained}
-use Rattle.ix_names_moved.proofs.WorldsAgain.{class_named_again, parents_again, methods_again, world_with}
-use Rattle.ix_names_moved.proofs.SourcesAlike.{class_alike}
-use Rattle.ix_names_moved.proofs.ErrorsAgain.{clean_again}
-use Rattle.ix_names_moved.proofs.JointFields.{members_trim, members_clean, fields_trim}
+use Rattle.ix_guarded_text.proofs.MembersMove.{next_fields_moved}
+use Rattle.ix_guarded_text.proofs.WorldsMove.{fields_in_moved}
+use Rattle.ix_guarded_text.proofs.SourcesMove.{class_notes_of}
+use Rattle.ix_guarded_text.specs.Alike.{AreAlike}
+use Rattle.ix_guarded_text.specs.Gathered.{gathered, bare_field, bare_signature, bare_world}
+use Rattle.ix_guarded_text.specs.Joint.{ClassShares, IsJoint}
+use Rattle.ix_guarded_text.proofs.NotesAlike.{none, both, flipped, chained}
+use Rattle.ix_guarded_text.proofs.WorldsAgain.{class_named_again, parents_again, methods_again, world_with}
+use Rattle.ix_guarded_text.proofs.SourcesAlike.{class_alike}
+use Rattle.ix_guarded_text.proofs.ErrorsAgain.{clean_again}
+use Rattle.ix_guarded_text.proofs.JointFields.{members_trim, members_clean, fields_trim}
 
 -- ---- fields, each by itself
 

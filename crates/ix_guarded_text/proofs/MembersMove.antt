@@ -41,15 +41,15 @@ use Rattle.ix_meaning.specs.Types.{Need, wrong_if}
 use Rattle.ix_meaning.specs.Values.{arguments, given_to, reading}
 use Rattle.ix_moved.specs.Bare.{bare_maybe as maybe}
 use Rattle.ix_moved.specs.Moved.{Move, moved_span, moved_name, moved_annot, moved_type, moved_init, moved_expr, moved_stmt, moved_decl, moved_method, moved_member}
-use Rattle.ix_names_moved.specs.MovedNotes.{AreMoved}
-use Rattle.ix_names_moved.proofs.NotesMove.{none, both, if_wrong}
-use Rattle.ix_names_moved.proofs.AnnotsMove.{MovedGiven, given_moves, of_method_moved, of_result_moved}
-use Rattle.ix_names_moved.proofs.TypesMove.{int_tree_moved, target_moved, written_moves, element_claims_moved, MovedDeclaration, declaration_moves, variable_moves}
-use Rattle.ix_names_moved.specs.MovedScopes.{moved_field, moved_signature, moved_callee, moved_world, moved_scope, moved_place}
-use Rattle.ix_names_moved.proofs.ScopesMove.{nearest_moved, constructor_moved, annot_names_moved}
-use Rattle.ix_names_moved.proofs.LiteralsMove.{literal_moved}
-use Rattle.ix_names_moved.proofs.ExpressionsMove.{AllMoved, arguments_moves, given_to_moves, expression_moves, some_moved}
-use Rattle.ix_names_moved.proofs.StatementsMove.{declares_moves, init_moves, body_moves}
+use Rattle.ix_guarded_text.specs.MovedNotes.{AreMoved}
+use Rattle.ix_guarded_text.proofs.NotesMove.{none, both, if_wrong}
+use Rattle.ix_guarded_text.proofs.AnnotsMove.{MovedGiven, given_moves, of_method_moved, of_result_moved}
+use Rattle.ix_guarded_text.proofs.TypesMove.{int_tree_moved, target_moved, written_moves, element_claims_moved, MovedDeclaration, declaration_moves, variable_moves}
+use Rattle.ix_guarded_text.specs.MovedScopes.{moved_field, moved_signature, moved_callee, moved_world, moved_scope, moved_place}
+use Rattle.ix_guarded_text.proofs.ScopesMove.{nearest_moved, constructor_moved, annot_names_moved}
+use Rattle.ix_guarded_text.proofs.LiteralsMove.{literal_moved}
+use Rattle.ix_guarded_text.proofs.ExpressionsMove.{AllMoved, arguments_moves, given_to_moves, expression_moves, some_moved}
+use Rattle.ix_guarded_text.proofs.StatementsMove.{declares_moves, init_moves, body_moves}
 
 any_moved : {A B : Type 0} (f : A → B) (p : A → Bool) (q : B → Bool) → ((x : A) → q (f x) ≡ p x) → (xs : List A) → list_any q (map f xs) ≡ list_any p xs
 any_moved f p q h [] = refl

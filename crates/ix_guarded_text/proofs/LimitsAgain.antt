@@ -27,13 +27,13 @@ use Rattle.ix_meaning.specs.Limits.{Passed, passed, most_classes, most_methods, 
 use Rattle.ix_meaning.specs.Resolved.{Accepts}
 use Rattle.ix_moved.specs.Bare as bare
 use Rattle.ix_moved.specs.Bare.{nowhere, bare_maybe, bare_name, bare_annot, bare_type, bare_expr, bare_decl, bare_stmt, bare_method, bare_member, bare_class}
-use Rattle.ix_names_moved.proofs.AnnotsMove.{counted_moved}
-use Rattle.ix_names_moved.proofs.DeclaratorsMove.{declarators_moved}
-use Rattle.ix_names_moved.specs.Alike.{joined, AreSame}
-use Rattle.ix_names_moved.specs.Gathered.{gathered}
-use Rattle.ix_names_moved.proofs.FieldsAgain.{members_again}
-use Rattle.ix_names_moved.proofs.WorldsAgain.{parents_again}
-use Rattle.ix_names_moved.proofs.ErrorsAgain.{no_errors_again}
+use Rattle.ix_guarded_text.proofs.AnnotsMove.{counted_moved}
+use Rattle.ix_guarded_text.proofs.DeclaratorsMove.{declarators_moved}
+use Rattle.ix_guarded_text.specs.Alike.{joined, AreSame}
+use Rattle.ix_guarded_text.specs.Gathered.{gathered}
+use Rattle.ix_guarded_text.proofs.FieldsAgain.{members_again}
+use Rattle.ix_guarded_text.proofs.WorldsAgain.{parents_again}
+use Rattle.ix_guarded_text.proofs.ErrorsAgain.{no_errors_again}
 
 -- which limit is passed, if one is
 abbrev pub passed_which : Option Passed → Option Which

@@ -15,7 +15,7 @@ use Rattle.ix_meaning.specs.Members.{World, Callee, or_nearest, nearest, field_n
 use Rattle.ix_meaning.specs.Scope.{Scope, is_pending, known_found, meant, instance_field, instance_field_in, field_of_this, found_at, annot_names}
 use Rattle.ix_moved.specs.Bare.{bare_maybe as maybe}
 use Rattle.ix_moved.specs.Moved.{Move}
-use Rattle.ix_names_moved.specs.MovedScopes.{moved_field, moved_callee, moved_world, moved_scope}
+use Rattle.ix_guarded_text.specs.MovedScopes.{moved_field, moved_callee, moved_world, moved_scope}
 
 or_nearest_moved : {A : Type 0} (of : A → A) (first further : Option A) → or_nearest (maybe of first) (maybe of further) ≡ maybe of (or_nearest first further)
 or_nearest_moved of None further = refl

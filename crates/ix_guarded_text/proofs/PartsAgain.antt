@@ -13,14 +13,14 @@ use Rattle.ix_meaning.specs.Source.{Place, one_member}
 use Rattle.ix_meaning.specs.Types.{Need, Judged}
 use Rattle.ix_meaning.specs.Values.{Reading, Received, reading, filling, check}
 use Rattle.ix_moved.specs.Bare.{bare_expr, bare_init, bare_stmt, bare_member}
-use Rattle.ix_names_moved.proofs.NotesMove.{MovedJudged}
-use Rattle.ix_names_moved.proofs.ExpressionsMove.{MovedReceived, check_moves, expression_moves, initialiser_moves}
-use Rattle.ix_names_moved.proofs.StatementsMove.{MovedTelling, after_moved, statement_moves, body_moves}
-use Rattle.ix_names_moved.proofs.MembersMove.{one_moves}
-use Rattle.ix_names_moved.specs.Alike.{bare_note, AreAlike}
-use Rattle.ix_names_moved.specs.Gathered.{gathered, bare_scope, bare_place}
-use Rattle.ix_names_moved.specs.Same.{AllPairs}
-use Rattle.ix_names_moved.proofs.NotesAlike.{flipped, chained, alike, SameJudged}
+use Rattle.ix_guarded_text.proofs.NotesMove.{MovedJudged}
+use Rattle.ix_guarded_text.proofs.ExpressionsMove.{MovedReceived, check_moves, expression_moves, initialiser_moves}
+use Rattle.ix_guarded_text.proofs.StatementsMove.{MovedTelling, after_moved, statement_moves, body_moves}
+use Rattle.ix_guarded_text.proofs.MembersMove.{one_moves}
+use Rattle.ix_guarded_text.specs.Alike.{bare_note, AreAlike}
+use Rattle.ix_guarded_text.specs.Gathered.{gathered, bare_scope, bare_place}
+use Rattle.ix_guarded_text.specs.Same.{AllPairs}
+use Rattle.ix_guarded_text.proofs.NotesAlike.{flipped, chained, alike, SameJudged}
 
 -- ---- expressions
 

@@ -25,14 +25,14 @@ use Rattle.ix_formed.specs.Written.{is_written_type}
 use Rattle.ix_formed.proofs.CleanNotes.{all_clean}
 use Rattle.ix_formed.proofs.NamesAgree.{notes_agree}
 use Rattle.ix_moved.specs.Bare.{bare_annot, bare_class, bare_source}
-use Rattle.ix_names_moved.specs.Same.{AllPairs, SaySame}
-use Rattle.ix_names_moved.specs.Joint.{SharesWith, AllShare, ClassShares, IsJoint}
-use Rattle.ix_names_moved.proofs.ErrorsAgain.{clean_again, none_derived}
-use Rattle.ix_names_moved.proofs.LimitsAgain.{passed_which, or_else_which, either_which, all_bare, claims_which, members_bare, limit_with, inheritance_limit_again, none_passed}
-use Rattle.ix_names_moved.proofs.CountedAnnots.{none_counted}
-use Rattle.ix_names_moved.proofs.MeansAgain.{pairs_again}
-use Rattle.ix_names_moved.proofs.JointFields.{trimmed, trimmed_or_not}
-use Rattle.ix_names_moved.proofs.NotesAnywhere.{notes_anywhere}
+use Rattle.ix_guarded_text.specs.Same.{AllPairs, SaySame}
+use Rattle.ix_guarded_text.specs.Joint.{SharesWith, AllShare, ClassShares, IsJoint}
+use Rattle.ix_guarded_text.proofs.ErrorsAgain.{clean_again, none_derived}
+use Rattle.ix_guarded_text.proofs.LimitsAgain.{passed_which, or_else_which, either_which, all_bare, claims_which, members_bare, limit_with, inheritance_limit_again, none_passed}
+use Rattle.ix_guarded_text.proofs.CountedAnnots.{none_counted}
+use Rattle.ix_guarded_text.proofs.MeansAgain.{pairs_again}
+use Rattle.ix_guarded_text.proofs.JointFields.{trimmed, trimmed_or_not}
+use Rattle.ix_guarded_text.proofs.NotesAnywhere.{notes_anywhere}
 
 -- ---- the claims of a declaration, without the annotations that count none
 

@@ -18,8 +18,8 @@ use Rattle.ix_meaning.specs.Annotated.{Given, given, errors_from, is_of_method, 
 use Rattle.ix_meaning.specs.Declarators.{counting}
 use Rattle.ix_moved.specs.Bare.{bare_maybe as maybe}
 use Rattle.ix_moved.specs.Moved.{Move, moved_name, moved_arg, moved_annot}
-use Rattle.ix_names_moved.specs.MovedNotes.{AreMoved}
-use Rattle.ix_names_moved.proofs.NotesMove.{none, both}
+use Rattle.ix_guarded_text.specs.MovedNotes.{AreMoved}
+use Rattle.ix_guarded_text.proofs.NotesMove.{none, both}
 
 module _ (move : Move) where
   arg_name_moved : (name : Option Ident) → arg_name (maybe (moved_name move) name) ≡ arg_name name

@@ -11,9 +11,9 @@ use Rattle.ix_formed.specs.Additions.{AllOf}
 use Rattle.ix_formed.specs.NoErrors.{IsClean}
 use Rattle.ix_formed.proofs.CleanNotes.{all_clean}
 use Rattle.ix_moved.specs.Moved.{Move, moved_span, moved_source}
-use Rattle.ix_names_moved.specs.MovedNotes.{moved_note, unplaced, IsInjective}
-use Rattle.ix_names_moved.proofs.SpansMove.{same_span_moved}
-use Rattle.ix_names_moved.proofs.SourcesMove.{notes_move}
+use Rattle.ix_guarded_text.specs.MovedNotes.{moved_note, unplaced, IsInjective}
+use Rattle.ix_guarded_text.proofs.SpansMove.{same_span_moved}
+use Rattle.ix_guarded_text.proofs.SourcesMove.{notes_move}
 
 -- ---- notes without errors
 

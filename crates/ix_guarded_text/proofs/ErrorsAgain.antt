@@ -10,8 +10,8 @@ use Rattle.ix_meaning.specs.Source.{notes}
 use Rattle.ix_formed.specs.Additions.{AllOf}
 use Rattle.ix_formed.specs.NoErrors.{IsClean}
 use Rattle.ix_formed.proofs.CleanNotes.{all_clean}
-use Rattle.ix_names_moved.specs.Alike.{bare_note, AreSame}
-use Rattle.ix_names_moved.proofs.SourcesAlike.{notes_again}
+use Rattle.ix_guarded_text.specs.Alike.{bare_note, AreSame}
+use Rattle.ix_guarded_text.proofs.SourcesAlike.{notes_again}
 
 bare_clean : (n : Note) → IsClean n → IsClean (bare_note n)
 bare_clean (Use span meaning) h = tt

@@ -4,8 +4,8 @@ use Rattle.ix_meaning.specs.declared.members.Signature.{Signature}
 use Rattle.ix_meaning.specs.Members.{World}
 use Rattle.ix_meaning.specs.Scope.{Scope}
 use Rattle.ix_meaning.specs.Source.{Place}
-use Rattle.ix_names_moved.specs.Moved.{Move}
-use Rattle.ix_names_moved.specs.MovedScopes.{moved_field, moved_signature, moved_world, moved_scope, moved_place}
+use Rattle.ix_guarded_text.specs.Moved.{Move}
+use Rattle.ix_guarded_text.specs.MovedScopes.{moved_field, moved_signature, moved_world, moved_scope, moved_place}
 
 -- All begins and ends at the first place, as in a tree without places.
 abbrev pub gathered : Move

@@ -7,9 +7,9 @@ use Rattle.ix_tree.specs.declared.decl.Member.TheVariants as member
 use Rattle.ix_meaning.specs.Declarators.{counting, counting_behind, with_annots, is_further, field_in, first_of, member_in, first_behind, members_behind, members}
 use Rattle.ix_moved.specs.Bare.{bare_maybe as maybe}
 use Rattle.ix_moved.specs.Moved.{Move, moved_annot, moved_decl, moved_member}
-use Rattle.ix_names_moved.specs.MovedNotes.{IsInjective}
-use Rattle.ix_names_moved.proofs.SpansMove.{same_span_moved}
-use Rattle.ix_names_moved.proofs.DeclaratorsMove.{further_moved}
+use Rattle.ix_guarded_text.specs.MovedNotes.{IsInjective}
+use Rattle.ix_guarded_text.proofs.SpansMove.{same_span_moved}
+use Rattle.ix_guarded_text.proofs.DeclaratorsMove.{further_moved}
 
 module _ (move : Move) (apart : IsInjective move) where
   field_in_moved : (first : Option LocalDecl) (d : LocalDecl) → field_in (maybe (moved_decl move) first) (moved_decl move d) ≡ moved_decl move (field_in first d)

@@ -36,8 +36,8 @@ use Rattle.ix_formed.proofs.ParsedStatements.{type_found}
 use Rattle.ix_descent.proofs.TypePlaces.{type_stands}
 use Rattle.ix_descent.proofs.StmtPlaces.{order_at}
 use Rattle.ix_moved.specs.Bare.{bare_source}
-use Rattle.ix_names_moved.specs.Joint.{AllShare, ClassShares, IsJoint}
-use Rattle.ix_names_moved.proofs.AcceptsAnywhere.{accepts_anywhere}
+use Rattle.ix_guarded_text.specs.Joint.{AllShare, ClassShares, IsJoint}
+use Rattle.ix_guarded_text.proofs.AcceptsAnywhere.{accepts_anywhere}
 
 -- The type of the field that began the last declaration stands before that place.
 abbrev Before : ℕ → Option LocalDecl → Type 0

@@ -24,13 +24,13 @@ use Rattle.ix_meaning.proofs.Equations as equations
 use Rattle.ix_moved.specs.Moved as moved
 use Rattle.ix_moved.specs.Bare.{bare_maybe as maybe}
 use Rattle.ix_moved.specs.Moved.{Move, moved_span, moved_name, moved_decl, moved_init, moved_expr, moved_stmt}
-use Rattle.ix_names_moved.specs.MovedNotes.{AreMoved}
-use Rattle.ix_names_moved.proofs.NotesMove.{none, both, is_wrong_at, if_wrong, if_wrong_at}
-use Rattle.ix_names_moved.proofs.TypesMove.{MovedDeclaration, variable_moves}
-use Rattle.ix_names_moved.specs.MovedScopes.{moved_scope}
-use Rattle.ix_names_moved.proofs.ScopesMove.{annot_names_moved}
-use Rattle.ix_names_moved.proofs.DeclaratorsMove.{declarators_moved}
-use Rattle.ix_names_moved.proofs.ExpressionsMove.{check_moves, expression_moves, initialiser_moves, some_moved}
+use Rattle.ix_guarded_text.specs.MovedNotes.{AreMoved}
+use Rattle.ix_guarded_text.proofs.NotesMove.{none, both, is_wrong_at, if_wrong, if_wrong_at}
+use Rattle.ix_guarded_text.proofs.TypesMove.{MovedDeclaration, variable_moves}
+use Rattle.ix_guarded_text.specs.MovedScopes.{moved_scope}
+use Rattle.ix_guarded_text.proofs.ScopesMove.{annot_names_moved}
+use Rattle.ix_guarded_text.proofs.DeclaratorsMove.{declarators_moved}
+use Rattle.ix_guarded_text.proofs.ExpressionsMove.{check_moves, expression_moves, initialiser_moves, some_moved}
 
 module _ (move : Move) where
   -- ---- declarations of variables

@@ -30,12 +30,12 @@ use Rattle.ix_meaning.proofs.Equations as equations
 use Rattle.ix_moved.specs.Moved as moved
 use Rattle.ix_moved.specs.Bare.{bare_maybe as maybe}
 use Rattle.ix_moved.specs.Moved.{Move, moved_span, moved_name, moved_type, moved_expr, moved_init}
-use Rattle.ix_names_moved.specs.MovedNotes.{AreMoved}
-use Rattle.ix_names_moved.proofs.NotesMove.{none, both, used, is_wrong, if_wrong, type_noted, MovedJudged}
-use Rattle.ix_names_moved.proofs.AnnotsMove.{given_moves}
-use Rattle.ix_names_moved.proofs.TypesMove.{int_tree_moved, written_moves}
-use Rattle.ix_names_moved.specs.MovedScopes.{moved_field, moved_callee, moved_world, moved_scope}
-use Rattle.ix_names_moved.proofs.ScopesMove.{field_moved, method_moved, constructor_moved}
+use Rattle.ix_guarded_text.specs.MovedNotes.{AreMoved}
+use Rattle.ix_guarded_text.proofs.NotesMove.{none, both, used, is_wrong, if_wrong, type_noted, MovedJudged}
+use Rattle.ix_guarded_text.proofs.AnnotsMove.{given_moves}
+use Rattle.ix_guarded_text.proofs.TypesMove.{int_tree_moved, written_moves}
+use Rattle.ix_guarded_text.specs.MovedScopes.{moved_field, moved_callee, moved_world, moved_scope}
+use Rattle.ix_guarded_text.proofs.ScopesMove.{field_moved, method_moved, constructor_moved}
 
 pub some_moved : {A B : Type 0} (f : A → B) (x : Option A) → is_some (maybe f x) ≡ is_some x
 some_moved f None = refl

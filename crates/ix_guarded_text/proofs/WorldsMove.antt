@@ -15,10 +15,10 @@ use Rattle.ix_meaning.specs.Declarators as declared
 use Rattle.ix_meaning.specs.Members.{ClassOf, World, Callee, next_field, next_fields, fields_in, fields_from, fields, methods_in, methods_from, methods, own_field, callable_if, is_method_named, is_constructor_named, own_method, own_constructor, class_name, world}
 use Rattle.ix_moved.specs.Bare.{bare_maybe as maybe}
 use Rattle.ix_moved.specs.Moved.{Move, moved_name, moved_member, moved_class}
-use Rattle.ix_names_moved.specs.MovedNotes.{IsInjective}
-use Rattle.ix_names_moved.specs.MovedScopes.{moved_field, moved_signature, moved_callee, moved_world}
-use Rattle.ix_names_moved.proofs.MembersMove.{field_of_moved, signature_moved, next_fields_moved}
-use Rattle.ix_names_moved.proofs.FieldsMove.{members_moved}
+use Rattle.ix_guarded_text.specs.MovedNotes.{IsInjective}
+use Rattle.ix_guarded_text.specs.MovedScopes.{moved_field, moved_signature, moved_callee, moved_world}
+use Rattle.ix_guarded_text.proofs.MembersMove.{field_of_moved, signature_moved, next_fields_moved}
+use Rattle.ix_guarded_text.proofs.FieldsMove.{members_moved}
 
 -- The classes, fields and methods of a source, by its tables and the names of its classes.
 abbrev pub world_of : ClassOf → List (Option ℕ) → List Field → List Signature → (ℕ → List ℕ) → World

@@ -34,9 +34,9 @@ use Rattle.ix_formed.specs.NoErrors.{IsClean}
 use Rattle.ix_formed.specs.Written.{is_empty, is_written_type}
 use Rattle.ix_formed.proofs.CleanNotes.{clean_parts}
 use Rattle.ix_formed.proofs.NumberLists.{all_joined}
-use Rattle.ix_names_moved.specs.Joint.{SharesWith, AllShare}
-use Rattle.ix_names_moved.proofs.UncountedAnnots.{is_variable}
-use Rattle.ix_names_moved.proofs.CountedAnnots.{Clean, claims_counted, counting_clean, AllSettled, settled, clean_again, no_notes}
+use Rattle.ix_guarded_text.specs.Joint.{SharesWith, AllShare}
+use Rattle.ix_guarded_text.proofs.UncountedAnnots.{is_variable}
+use Rattle.ix_guarded_text.proofs.CountedAnnots.{Clean, claims_counted, counting_clean, AllSettled, settled, clean_again, no_notes}
 
 -- ---- the annotations of a further field, where it has those of the first one
 

@@ -7,7 +7,7 @@ use Rattle.ix_core.proofs.Cases.{by_test, equal}
 use Rattle.ix_meaning.specs.Listed.{same_span}
 use Rattle.ix_formed.proofs.NumberLists.{is_itself, both_true}
 use Rattle.ix_moved.specs.Moved.{Move, moved_span}
-use Rattle.ix_names_moved.specs.MovedNotes.{IsInjective}
+use Rattle.ix_guarded_text.specs.MovedNotes.{IsInjective}
 
 same_itself : (a : Span) → same_span a a ≡ true
 same_itself a = both_true (a.from == a.from) (a.to == a.to) (is_itself a.from) (is_itself a.to)
