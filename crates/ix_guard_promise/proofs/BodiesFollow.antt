@@ -12,8 +12,8 @@ use Rattle.ix_source_meaning.specs.Context.{Context, Members, Calls, declared_at
 use Rattle.ix_source_meaning.specs.Values.{initial, arguments_from, of_this, at_field, written as write_cell, put_field}
 use Rattle.ix_source_meaning.specs.Statements.{Completion, each}
 use Rattle.ix_source_meaning.specs.Bodies.{Written, Field, Class, Whole, variables, back, with_own, given_back, method_body, method_run, parent_constructed, field_initialised, fields_initialised, args_of, body_of, constructed, construct_run, context_of, no_calls, calls_within}
-use Rattle.ix_moved.specs.Bare.{bare_maybe as maybe}
-use Rattle.ix_moved.specs.Moved.{Move, moved_span, moved_init}
+use Rattle.ix_guarded_text.specs.Bare.{bare_maybe as maybe}
+use Rattle.ix_guarded_text.specs.Moved.{Move, moved_span, moved_init}
 use Rattle.ix_guarded_text.specs.GuardedPlaces as placed
 use Rattle.ix_guarded_text.specs.GuardedPlaces.{Each}
 use Rattle.ix_guard_promise.specs.Behind.{Like, now_of, PrintedFirst, Shows, Behind, both_give, both_stop, both_cut, thrown, Follows, CallsFollow, ContextFollows}

@@ -13,7 +13,7 @@ use Rattle.ix_tree.specs.declared.decl.Member.{Member}
 use Rattle.ix_tree.specs.declared.decl.MethodDecl.{MethodDecl}
 use Rattle.ix_tree.specs.declared.expr.Expr.{Expr}
 use Rattle.ix_tree.specs.declared.expr.Init.{Init}
-use Rattle.ix_moved.specs.Bare.{bare_maybe}
+use Rattle.ix_guarded_text.specs.Bare.{bare_maybe}
 use Rattle.ix_meaning.specs.declared.note.Which.TheVariants as which
 use Rattle.ix_plain.specs.declared.body.Body.{Body}
 use Rattle.ix_plain.specs.declared.made.Made.{Made}
@@ -39,7 +39,7 @@ use Rattle.ix_guard_promise.specs.Known.{Unknown, accessed}
 use Rattle.ix_guard_promise.specs.Guards.{Guards, Guarded, does, ends}
 use Rattle.ix_guard_promise.specs.Pieces.{IsElsewhere}
 use Rattle.ix_guard_promise.proofs.GuardedPieces.{elsewhere}
-use Rattle.ix_moved.specs.Moved.{Move, moved_span, moved_expr, moved_init, moved_decl}
+use Rattle.ix_guarded_text.specs.Moved.{Move, moved_span, moved_expr, moved_init, moved_decl}
 use Rattle.ix_guard_promise.specs.TestParts.{Parts}
 use Rattle.ix_guard_promise.specs.GuardedPlaces as placed
 use Rattle.ix_guard_promise.specs.GuardedPlaces.{Each, PlacedMember, PlacedMethod}

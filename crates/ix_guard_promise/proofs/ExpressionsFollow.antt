@@ -11,8 +11,8 @@ use Rattle.ix_source_meaning.specs.Values as source
 use Rattle.ix_source_meaning.specs.Values.{Evaluation, Initial, evaluation, initial}
 use Rattle.ix_source_meaning.proofs.Equations as equations
 use Rattle.ix_source_meaning.proofs.Equations.{kind_evaluation}
-use Rattle.ix_moved.specs.Moved as moved
-use Rattle.ix_moved.specs.Moved.{Move, moved_span, moved_name, moved_type, moved_expr, moved_init}
+use Rattle.ix_guarded_text.specs.Moved as moved
+use Rattle.ix_guarded_text.specs.Moved.{Move, moved_span, moved_name, moved_type, moved_expr, moved_init}
 use Rattle.ix_guard_promise.specs.Behind.{FollowsBy, Follows, SameTarget, ContextFollows}
 use Rattle.ix_guard_promise.proofs.ActionsKeep.{in_context, this_keeps}
 use Rattle.ix_guard_promise.proofs.FormsKeep as form

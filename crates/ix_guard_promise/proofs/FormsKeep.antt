@@ -24,7 +24,7 @@ use Rattle.ix_source_meaning.specs.Runs.{Action, ◌>>=◌, gives}
 use Rattle.ix_source_meaning.specs.Context.{Members, Calls, Context, or_void, type_at}
 use Rattle.ix_source_meaning.specs.Values as source
 use Rattle.ix_source_meaning.specs.Values.{Target, Variable, FieldOf, Cell, Evaluation, Initial, computes, asks}
-use Rattle.ix_moved.specs.Moved.{Move, moved_span, moved_name}
+use Rattle.ix_guarded_text.specs.Moved.{Move, moved_span, moved_name}
 use Rattle.ix_guarded_text.specs.GuardedNames.{SaysMoved}
 use Rattle.ix_guard_promise.specs.Behind.{SameTarget, CallsFollow}
 use Rattle.ix_guard_promise.proofs.Following.{Equal, KeepsBy, Keeps, keeps_then, keeps_then_by, gives_keep, stops_keep, heap_keeps}

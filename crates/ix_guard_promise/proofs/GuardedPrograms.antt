@@ -11,7 +11,7 @@ use Rattle.ix_plain.specs.Program.{program}
 use Rattle.ix_formed.specs.Parsed.{IsParsed}
 use Rattle.ix_kept_runs.specs.Running.{Ground}
 use Rattle.ix_guard_promise.specs.Guards.{Guards}
-use Rattle.ix_moved.specs.Moved.{Move, moved_span}
+use Rattle.ix_guarded_text.specs.Moved.{Move, moved_span}
 use Rattle.ix_guard_promise.specs.GuardedPlaces.{PlacedSource}
 use Rattle.ix_guard_promise.specs.GuardedNames.{SaysMoved, IsMeant}
 use Rattle.ix_guard_promise.specs.SourceGuards.{SourceGuards}

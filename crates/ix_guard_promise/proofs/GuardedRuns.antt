@@ -16,7 +16,7 @@ use Rattle.ix_source_meaning.specs.Context.{type_declared}
 use Rattle.ix_source_meaning.specs.Bodies.{Written, Whole, whole, method_run, context_of, calls_within}
 use Rattle.ix_source_meaning.specs.Source.{shown_by, types_of, begun, run_of, source}
 use Rattle.ix_guard.specs.Tests.{Site}
-use Rattle.ix_moved.specs.Moved.{Move, moved_span}
+use Rattle.ix_guarded_text.specs.Moved.{Move, moved_span}
 use Rattle.ix_guarded_text.specs.GuardedNames.{SaysMoved, IsMeant}
 use Rattle.ix_guarded_text.specs.GuardedPlaces.{Each, PlacedClass, PlacedSource}
 use Rattle.ix_guard_promise.specs.Follows.{printed, FollowsRun, same, cut}

@@ -21,13 +21,13 @@ use Rattle.ix_formed.specs.Readable.{is_readable_expr, is_readable_decl}
 use Rattle.ix_formed.specs.Written.{each_true}
 use Rattle.ix_kept_runs.specs.Running.{Ground}
 use Rattle.ix_kept_runs.specs.SoundStatements.{ran_at, declared_sound}
-use Rattle.ix_moved.specs.Bare.{bare_maybe}
+use Rattle.ix_guarded_text.specs.Bare.{bare_maybe}
 use Rattle.ix_guard.specs.Accesses.{Access, parts_of, all_decl_parts}
 use Rattle.ix_guard.specs.Tests.{Site, is_variable, same_variable}
 use Rattle.ix_guard_promise.specs.Pieces.{IsElsewhere, Keeps}
 use Rattle.ix_guard_promise.specs.GuardedNames.{SaysMoved}
 use Rattle.ix_guard_promise.proofs.PartsMoved.{assigned_moved, decls_assigned_moved}
-use Rattle.ix_moved.specs.Moved.{Move, moved_span, moved_name, moved_expr, moved_init, moved_decl, moved_stmt}
+use Rattle.ix_guarded_text.specs.Moved.{Move, moved_span, moved_name, moved_expr, moved_init, moved_decl, moved_stmt}
 use Rattle.ix_guard_promise.specs.AllAccesses.{AnyAccess, all_accesses, init_accesses, decl_accesses, each_of}
 use Rattle.ix_guard_promise.specs.AtPlace.{HasNone, stmt_accesses}
 use Rattle.ix_guard_promise.specs.InScope.{IsAt, IsUnnamed, Calls, OnlyOf}

@@ -8,9 +8,9 @@ use Rattle.ix_source_meaning.specs.Statements as statements
 use Rattle.ix_source_meaning.specs.Statements.{Normal, Breaks, Continues, Execution, or_nothing, execution}
 use Rattle.ix_source_meaning.proofs.Equations as equations
 use Rattle.ix_source_meaning.proofs.Equations.{kind_execution}
-use Rattle.ix_moved.specs.Bare.{bare_maybe as maybe}
-use Rattle.ix_moved.specs.Moved as moved
-use Rattle.ix_moved.specs.Moved.{Move, moved_span, moved_name, moved_expr, moved_decl, moved_stmt}
+use Rattle.ix_guarded_text.specs.Bare.{bare_maybe as maybe}
+use Rattle.ix_guarded_text.specs.Moved as moved
+use Rattle.ix_guarded_text.specs.Moved.{Move, moved_span, moved_name, moved_expr, moved_decl, moved_stmt}
 use Rattle.ix_guard_promise.specs.Behind.{ContextFollows}
 use Rattle.ix_guard_promise.proofs.StatementForms.{Keeps, AllKeep, none_keep, more_keep, keeps_as, completes_keeps, throw_keeps, print_keeps, run_keeps, return_keeps, local_keeps, block_keeps, choice_keeps, while_keeps, do_keeps, for_keeps}
 

@@ -10,7 +10,7 @@ use Rattle.ix_tree.specs.declared.expr.Init.{Init}
 use Rattle.ix_source_meaning.specs.Runs.{Action, stops}
 use Rattle.ix_source_meaning.specs.Context.{Calls, Context}
 use Rattle.ix_source_meaning.specs.Values.{evaluation, initial}
-use Rattle.ix_moved.specs.Moved.{Move}
+use Rattle.ix_guarded_text.specs.Moved.{Move}
 use Rattle.ix_guard_promise.specs.Behind.{now_of, Shows, Follows, thrown, ContextFollows}
 use Rattle.ix_guard_promise.proofs.Following.{first_beside}
 use Rattle.ix_guard_promise.proofs.ExpressionsFollow.{expression_keeps, initialiser_keeps}

@@ -21,8 +21,8 @@ use Rattle.ix_formed.specs.Additions.{AllOf}
 use Rattle.ix_guard.specs.Accesses.{Access, parts_of, all_decl_parts}
 use Rattle.ix_guard.specs.Tests.{Site, Changes, Pair, pair_of, same_pair, is_variable, is_called, is_kept, is_guarded, is_tested, is_bound_error, same_variable}
 use Rattle.ix_guard.specs.Trees.{statement, tested_behind, expression_tested, declaration_tested, returning}
-use Rattle.ix_moved.specs.Bare.{bare_maybe as maybe}
-use Rattle.ix_moved.specs.Moved.{Move, moved_span, moved_name, moved_expr, moved_decl, moved_stmt}
+use Rattle.ix_guarded_text.specs.Bare.{bare_maybe as maybe}
+use Rattle.ix_guarded_text.specs.Moved.{Move, moved_span, moved_name, moved_expr, moved_decl, moved_stmt}
 use Rattle.ix_guarded_text.specs.TestParts.{Parts, guard_of}
 use Rattle.ix_guarded_text.specs.GuardedNames.{IsMeant}
 use Rattle.ix_guarded_text.specs.GuardedPlaces as placed

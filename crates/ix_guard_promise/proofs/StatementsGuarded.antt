@@ -13,7 +13,7 @@ use Rattle.ix_tree.specs.declared.stmt.Stmt.{Stmt}
 use Rattle.ix_tree.specs.declared.stmt.StmtKind.{StmtKind-F}
 use Rattle.ix_tree.specs.declared.stmt.StmtKind.TheVariants as s
 use Rattle.ix_tree.proofs.FoldsOfForms as fold
-use Rattle.ix_moved.specs.Bare.{bare_maybe}
+use Rattle.ix_guarded_text.specs.Bare.{bare_maybe}
 use Rattle.ix_plain.specs.declared.body.Body.{Body}
 use Rattle.ix_plain.specs.Assigned.{assigns}
 use Rattle.ix_plain.specs.Scope.{type_at}
@@ -36,8 +36,8 @@ use Rattle.ix_guard_promise.specs.Known.{Known, Nowhere, Unknown, Inside}
 use Rattle.ix_guard_promise.specs.Guards.{ends, breaks, continues, throws}
 use Rattle.ix_guard_promise.specs.Pieces.{IsElsewhere, Keeps}
 use Rattle.ix_guard_promise.proofs.Saying.{says_unknown}
-use Rattle.ix_moved.specs.Moved as moved
-use Rattle.ix_moved.specs.Moved.{Move, moved_span, moved_expr, moved_decl, moved_stmt}
+use Rattle.ix_guarded_text.specs.Moved as moved
+use Rattle.ix_guarded_text.specs.Moved.{Move, moved_span, moved_expr, moved_decl, moved_stmt}
 use Rattle.ix_guard_promise.specs.TestParts.{Parts}
 use Rattle.ix_guard_promise.specs.GuardedPlaces as placed
 use Rattle.ix_guard_promise.specs.GuardedPlaces.{AreTests, Inner, Alone, InList}

@@ -32,7 +32,7 @@ use Rattle.ix_guard_promise.specs.TestTrees.{Means}
 use Rattle.ix_guard_promise.specs.TestForms.{Guards}
 use Rattle.ix_guard_promise.proofs.GuardLowers.{guard_lowers}
 use Rattle.ix_guard_promise.proofs.TestKeeps.{behind_guard, guard_elsewhere, guard_keeps, guard_no_loop}
-use Rattle.ix_moved.specs.Moved.{Move}
+use Rattle.ix_guarded_text.specs.Moved.{Move}
 use Rattle.ix_guard_promise.specs.TestParts.{Parts, condition_of, throw_of, guard_of}
 use Rattle.ix_guard_promise.specs.GuardedPlaces as placed
 use Rattle.ix_guard_promise.specs.GuardedPlaces.{AreTests}

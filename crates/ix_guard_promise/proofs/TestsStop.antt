@@ -26,7 +26,7 @@ use Rattle.ix_guard.specs.Accesses.{Access}
 use Rattle.ix_guard.specs.Tests.{is_variable}
 use Rattle.ix_guard.specs.Trees as tree
 use Rattle.ix_guard.specs.Trees.{expression}
-use Rattle.ix_moved.specs.Moved.{Move}
+use Rattle.ix_guarded_text.specs.Moved.{Move}
 use Rattle.ix_guarded_text.specs.TestParts.{Parts, null_test, negative_test, high_test, condition_of, throw_of, guard_of}
 use Rattle.ix_guarded_text.specs.GuardedNames.{IsMeant}
 use Rattle.ix_guard_promise.specs.Follows.{IsOfGuard}

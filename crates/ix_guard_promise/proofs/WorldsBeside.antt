@@ -14,10 +14,10 @@ use Rattle.ix_meaning.specs.Classes.{first_or, first_class, class_named, parent_
 use Rattle.ix_meaning.specs.Members.{ClassOf, Callee, signature, methods_in, methods_from, methods, callable_if, is_method_named, own_method, or_nearest, nearest}
 use Rattle.ix_meaning.specs.Inheritance.{if_instance}
 use Rattle.ix_source_meaning.specs.Bodies.{Whole, overridden_by, stands_for, found_in, found}
-use Rattle.ix_moved.specs.Bare.{nowhere, bare_maybe as maybe}
+use Rattle.ix_guarded_text.specs.Bare.{nowhere, bare_maybe as maybe}
 use Rattle.ix_guard.specs.Accesses.{Access}
 use Rattle.ix_guard.specs.Tests.{Site}
-use Rattle.ix_moved.specs.Moved.{Move, moved_name}
+use Rattle.ix_guarded_text.specs.Moved.{Move, moved_name}
 use Rattle.ix_guarded_text.specs.TestParts.{Parts}
 use Rattle.ix_guarded_text.specs.GuardedPlaces as placed
 use Rattle.ix_guarded_text.specs.GuardedPlaces.{Each, PlacedMethod, PlacedMember, PlacedClass}

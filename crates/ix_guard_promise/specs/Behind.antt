@@ -5,7 +5,7 @@ use Rattle.ix_core.specs.Machine.{Ending}
 use Rattle.ix_source_meaning.specs.Context.{Context, Calls}
 use Rattle.ix_source_meaning.specs.Runs.{Now, Result, Gives, Stops, Cuts, Action}
 use Rattle.ix_source_meaning.specs.Values.{Target, Variable, FieldOf, Cell}
-use Rattle.ix_moved.specs.Moved.{Move}
+use Rattle.ix_guarded_text.specs.Moved.{Move}
 use Rattle.ix_guarded_text.specs.GuardedNames.{SaysMoved}
 use Rattle.ix_guard_promise.specs.Follows.{printed, SameEnding, IsOfGuard, IsFirst}
 

@@ -4,7 +4,7 @@ use Rattle.ix_core.specs.Heap.{Held}
 use Rattle.ix_core.specs.Machine.{Ending, Ended, Outside, Negative, NullUsed, ZeroDivisor, Thrown, HeapFull, FrameFull}
 use Rattle.ix_core.specs.Traces.{Observation, Printed, Accessed}
 use Rattle.ix_source_meaning.specs.Source.{Shown}
-use Rattle.ix_moved.specs.Moved.{Move}
+use Rattle.ix_guarded_text.specs.Moved.{Move}
 use Rattle.ix_guarded_text.specs.TestParts.{IsNew}
 
 -- the values that are printed, first to last

@@ -26,7 +26,7 @@ use Rattle.ix_kept_runs.specs.SoundStatements.{ran_at, declared_sound}
 use Rattle.ix_guard.specs.Accesses.{Access, Parts, parts_of, all_decl_parts}
 use Rattle.ix_guard.specs.Tests.{Site, Changes}
 use Rattle.ix_guard_promise.specs.Pieces.{IsElsewhere, Keeps}
-use Rattle.ix_moved.specs.Moved.{Move, moved_span, moved_expr, moved_init, moved_decl, moved_stmt}
+use Rattle.ix_guarded_text.specs.Moved.{Move, moved_span, moved_expr, moved_init, moved_decl, moved_stmt}
 use Rattle.ix_guard_promise.specs.AllAccesses.{all_accesses, init_accesses, decl_accesses, each_of}
 use Rattle.ix_guard_promise.specs.AtPlace.{HasNone}
 use Rattle.ix_guard_promise.specs.KeptSlots.{Leaves, LeavesAsked, Appends}

@@ -19,7 +19,7 @@ use Rattle.ix_guard.specs.Accesses.{Access}
 use Rattle.ix_guard.specs.GuardedAccesses.{guarded_accesses}
 use Rattle.ix_guard.specs.Guards.{source_insertions}
 use Rattle.ix_guarding.specs.Inserted.{added}
-use Rattle.ix_moved.specs.Moved.{Move, moved_span}
+use Rattle.ix_guarded_text.specs.Moved.{Move, moved_span}
 use Rattle.ix_guard_promise.specs.Interleaved.{moving}
 use Rattle.ix_guard_promise.specs.Follows.{FollowsRun}
 use Rattle.ix_guarding.specs.Guarding.{IsGuarded}

@@ -10,7 +10,7 @@ use Rattle.ix_meaning.specs.Source.{notes}
 use Rattle.ix_formed.specs.Additions.{AllOf}
 use Rattle.ix_formed.specs.NoErrors.{IsClean}
 use Rattle.ix_formed.proofs.CleanNotes.{all_clean}
-use Rattle.ix_moved.specs.Moved.{Move, moved_span, moved_source}
+use Rattle.ix_guarded_text.specs.Moved.{Move, moved_span, moved_source}
 use Rattle.ix_guarded_text.specs.MovedNotes.{moved_note, unplaced, IsInjective}
 use Rattle.ix_guarded_text.proofs.SpansMove.{same_span_moved}
 use Rattle.ix_guarded_text.proofs.SourcesMove.{notes_move}

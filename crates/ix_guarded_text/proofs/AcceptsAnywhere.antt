@@ -24,7 +24,7 @@ use Rattle.ix_formed.specs.Additions.{AllOf}
 use Rattle.ix_formed.specs.Written.{is_written_type}
 use Rattle.ix_formed.proofs.CleanNotes.{all_clean}
 use Rattle.ix_formed.proofs.NamesAgree.{notes_agree}
-use Rattle.ix_moved.specs.Bare.{bare_annot, bare_class, bare_source}
+use Rattle.ix_guarded_text.specs.Bare.{bare_annot, bare_class, bare_source}
 use Rattle.ix_guarded_text.specs.Same.{AllPairs, SaySame}
 use Rattle.ix_guarded_text.specs.Joint.{SharesWith, AllShare, ClassShares, IsJoint}
 use Rattle.ix_guarded_text.proofs.ErrorsAgain.{clean_again, none_derived}

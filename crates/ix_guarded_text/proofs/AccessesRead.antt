@@ -34,7 +34,7 @@ use Rattle.ix_formed.proofs.EachMember.{said_parts, not_broken}
 use Rattle.ix_guard.specs.Accesses.{Access, parts_of, all_decl_parts}
 use Rattle.ix_guard.specs.Tests.{Site, Changes, Pair, is_variable, same_variable, is_bound_error, is_kept, is_called, is_guarded, is_tested, pair_of, same_pair}
 use Rattle.ix_guard.specs.Trees.{tested_behind, expression_tested, declaration_tested}
-use Rattle.ix_moved.specs.Moved.{Move, moved_span, moved_name, moved_expr, moved_decl}
+use Rattle.ix_guarded_text.specs.Moved.{Move, moved_span, moved_name, moved_expr, moved_decl}
 use Rattle.ix_guarded_text.specs.GuardedNames.{SaysMoved}
 use Rattle.ix_guarded_text.proofs.PartsMoved.{moved_access, accesses_moved, declared_moved}
 use Rattle.ix_guarded_text.proofs.AccessesKnown.{IsKnown, AllKnown, accesses_known, declared_known}

@@ -16,8 +16,8 @@ use Rattle.ix_annot.specs.Arguments.{are_taken, plan_of, plan}
 use Rattle.ix_annot.specs.Expansion.{expanded, with_row}
 use Rattle.ix_meaning.specs.Annotated.{Given, given, errors_from, is_of_method, of_method, of_result}
 use Rattle.ix_meaning.specs.Declarators.{counting}
-use Rattle.ix_moved.specs.Bare.{bare_maybe as maybe}
-use Rattle.ix_moved.specs.Moved.{Move, moved_name, moved_arg, moved_annot}
+use Rattle.ix_guarded_text.specs.Bare.{bare_maybe as maybe}
+use Rattle.ix_guarded_text.specs.Moved.{Move, moved_name, moved_arg, moved_annot}
 use Rattle.ix_guarded_text.specs.MovedNotes.{AreMoved}
 use Rattle.ix_guarded_text.proofs.NotesMove.{none, both}
 

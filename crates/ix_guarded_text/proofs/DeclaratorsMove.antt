@@ -4,7 +4,7 @@ use Rattle.std.specs.Prelude.{if◌then◌else◌, nat_lt}
 use Rattle.ix_tree.specs.declared.annot.Annot.{Annot}
 use Rattle.ix_tree.specs.declared.decl.LocalDecl.{LocalDecl}
 use Rattle.ix_meaning.specs.Declarators.{counting, counting_behind, with_annots, further, declarators}
-use Rattle.ix_moved.specs.Moved.{Move, moved_annot, moved_decl}
+use Rattle.ix_guarded_text.specs.Moved.{Move, moved_annot, moved_decl}
 use Rattle.ix_guarded_text.proofs.AnnotsMove.{counting_moved}
 
 module _ (move : Move) where

@@ -27,8 +27,8 @@ use Rattle.ix_parser.proofs.SourceOver.{source_over}
 use Rattle.ix_parser.proofs.Refusing.{has_tree, never_memory}
 use Rattle.ix_parser.proofs.ExactPlaces.{refused_exact}
 use Rattle.ix_parser.proofs.Answered.{viable, over}
-use Rattle.ix_moved.specs.Bare.{bare_source}
-use Rattle.ix_moved.proofs.LongestAgain.{not_empty}
+use Rattle.ix_guarded_text.specs.Bare.{bare_source}
+use Rattle.ix_guarded_text.proofs.LongestAgain.{not_empty}
 use Rattle.ix_guarded_text.specs.Derived.{Derives}
 
 -- ---- tokens

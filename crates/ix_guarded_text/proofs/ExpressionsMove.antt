@@ -27,9 +27,9 @@ use Rattle.ix_meaning.specs.Types.{int, boolean, Need, unknown, never, printed, 
 use Rattle.ix_meaning.specs.Values as values
 use Rattle.ix_meaning.specs.Values.{Reading, KindReading, Filling, Object, no_object, of_class, value, Received, reading, kind_reading, filling, check, null_at, fitted, as_object, valued, valued_and_assigned}
 use Rattle.ix_meaning.proofs.Equations as equations
-use Rattle.ix_moved.specs.Moved as moved
-use Rattle.ix_moved.specs.Bare.{bare_maybe as maybe}
-use Rattle.ix_moved.specs.Moved.{Move, moved_span, moved_name, moved_type, moved_expr, moved_init}
+use Rattle.ix_guarded_text.specs.Moved as moved
+use Rattle.ix_guarded_text.specs.Bare.{bare_maybe as maybe}
+use Rattle.ix_guarded_text.specs.Moved.{Move, moved_span, moved_name, moved_type, moved_expr, moved_init}
 use Rattle.ix_guarded_text.specs.MovedNotes.{AreMoved}
 use Rattle.ix_guarded_text.proofs.NotesMove.{none, both, used, is_wrong, if_wrong, type_noted, MovedJudged}
 use Rattle.ix_guarded_text.proofs.AnnotsMove.{given_moves}

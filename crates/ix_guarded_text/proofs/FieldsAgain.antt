@@ -5,7 +5,7 @@ use Rattle.ix_tree.specs.declared.decl.LocalDecl.{LocalDecl}
 use Rattle.ix_tree.specs.declared.decl.Member.{Member}
 use Rattle.ix_tree.specs.declared.decl.Member.TheVariants as member
 use Rattle.ix_meaning.specs.Declarators.{counting, counting_behind, with_annots, further, is_further, field_in, first_of, member_in, first_behind, members_behind, members}
-use Rattle.ix_moved.specs.Bare.{bare_maybe, bare_decl, bare_member}
+use Rattle.ix_guarded_text.specs.Bare.{bare_maybe, bare_decl, bare_member}
 use Rattle.ix_guarded_text.proofs.DeclaratorsMove.{further_moved}
 use Rattle.ix_guarded_text.specs.Alike.{is_joined, joined_behind}
 use Rattle.ix_guarded_text.specs.Gathered.{gathered}

@@ -5,8 +5,8 @@ use Rattle.ix_tree.specs.declared.decl.LocalDecl.{LocalDecl}
 use Rattle.ix_tree.specs.declared.decl.Member.{Member}
 use Rattle.ix_tree.specs.declared.decl.Member.TheVariants as member
 use Rattle.ix_meaning.specs.Declarators.{counting, counting_behind, with_annots, is_further, field_in, first_of, member_in, first_behind, members_behind, members}
-use Rattle.ix_moved.specs.Bare.{bare_maybe as maybe}
-use Rattle.ix_moved.specs.Moved.{Move, moved_annot, moved_decl, moved_member}
+use Rattle.ix_guarded_text.specs.Bare.{bare_maybe as maybe}
+use Rattle.ix_guarded_text.specs.Moved.{Move, moved_annot, moved_decl, moved_member}
 use Rattle.ix_guarded_text.specs.MovedNotes.{IsInjective}
 use Rattle.ix_guarded_text.proofs.SpansMove.{same_span_moved}
 use Rattle.ix_guarded_text.proofs.DeclaratorsMove.{further_moved}

@@ -14,7 +14,7 @@ use Rattle.ix_meaning.specs.Declarators as declared
 use Rattle.ix_meaning.specs.Declarators.{first_of, members_behind}
 use Rattle.ix_meaning.specs.Members.{ClassOf, World, field_of, next_field, next_fields, fields_in, fields_from, fields, signature, methods_in, methods_from, methods, own_field, own_method, own_constructor, class_name, world}
 use Rattle.ix_meaning.specs.Source.{first_member, member_named, has_constructor}
-use Rattle.ix_moved.specs.Moved.{Move}
+use Rattle.ix_guarded_text.specs.Moved.{Move}
 use Rattle.ix_guarded_text.specs.GuardedPlaces as q
 use Rattle.ix_guarded_text.specs.GuardedPlaces.{Each}
 use Rattle.ix_guarded_text.proofs.StatementsWithNew.{Grows, all_of}

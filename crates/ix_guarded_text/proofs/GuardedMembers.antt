@@ -24,10 +24,10 @@ use Rattle.ix_grammar.specs.StmtGrammar.{IsBlockStmt, IsStmts}
 use Rattle.ix_grammar.specs.ClassGrammar as g
 use Rattle.ix_grammar.specs.ClassGrammar.{IsBody, IsBehind, IsMember, IsClass, result_tree, method_of, fields, no_stmts, with_stmt, no_members, with_members, class_of}
 use Rattle.ix_grammar.specs.SourceGrammar.{source_parts}
-use Rattle.ix_moved.specs.Bare.{nowhere, bare_maybe, bare_name, bare_type, bare_mods, bare_expr, bare_decl, bare_stmt, bare_member, bare_class}
-use Rattle.ix_moved.proofs.ClassesAgain.{map_both}
-use Rattle.ix_moved.specs.Names.{HaveNames}
-use Rattle.ix_moved.specs.Woven.{Added, is_word_like, Woven, done, keep}
+use Rattle.ix_guarded_text.specs.Bare.{nowhere, bare_maybe, bare_name, bare_type, bare_mods, bare_expr, bare_decl, bare_stmt, bare_member, bare_class}
+use Rattle.ix_guarded_text.proofs.ClassesAgain.{map_both}
+use Rattle.ix_guarded_text.specs.Names.{HaveNames}
+use Rattle.ix_guarded_text.specs.Woven.{Added, is_word_like, Woven, done, keep}
 use Rattle.ix_guard.specs.declared.insertion.Insertion.{Insertion}
 use Rattle.ix_guard.specs.Tests.{Site}
 use Rattle.ix_guard.specs.Guards.{together, listed, in_member, in_members, in_class}

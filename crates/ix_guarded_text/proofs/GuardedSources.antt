@@ -13,13 +13,13 @@ use Rattle.ix_grammar.specs.SourceGrammar.{source_parts, IsSource}
 use Rattle.ix_grammar.specs.Refusals.{HasTree}
 use Rattle.ix_core.specs.declared.error.Error.{Error}
 use Rattle.ix_guard.specs.Resolved.{Names, names}
-use Rattle.ix_moved.specs.Bare.{bare_class, bare_source}
-use Rattle.ix_moved.proofs.ListsAgain.{map_joined}
-use Rattle.ix_moved.proofs.SourcesAgain.{source_again}
-use Rattle.ix_moved.specs.Names.{HaveNames}
-use Rattle.ix_moved.specs.Woven.{with_added}
-use Rattle.ix_moved.proofs.InsertedTexts.{inserted_tokens}
-use Rattle.ix_moved.proofs.NamedTokens.{token_names}
+use Rattle.ix_guarded_text.specs.Bare.{bare_class, bare_source}
+use Rattle.ix_guarded_text.proofs.ListsAgain.{map_joined}
+use Rattle.ix_guarded_text.proofs.SourcesAgain.{source_again}
+use Rattle.ix_guarded_text.specs.Names.{HaveNames}
+use Rattle.ix_guarded_text.specs.Woven.{with_added}
+use Rattle.ix_guarded_text.proofs.InsertedTexts.{inserted_tokens}
+use Rattle.ix_guarded_text.proofs.NamedTokens.{token_names}
 use Rattle.ix_guard.specs.declared.insertion.Insertion.{Insertion}
 use Rattle.ix_guard.specs.Tests.{Site}
 use Rattle.ix_guard.specs.Guards.{together, in_class, insertions, with_texts, guarded}

@@ -20,11 +20,11 @@ use Rattle.ix_grammar.specs.Lists.{IsSeparated, first_item, next_item}
 use Rattle.ix_grammar.specs.ExprGrammar.{Whole, IsStatementExpr}
 use Rattle.ix_grammar.specs.StmtGrammar as g
 use Rattle.ix_grammar.specs.StmtGrammar.{SYSTEM, OUT, PRINTLN, word_token, maybe_expr, run_part, one_run, with_run, local_stmt, IsLocal, IsForFirst, IsMaybe, IsStmt, IsBlockStmt, IsStmts}
-use Rattle.ix_moved.specs.Bare.{bare_stmt}
-use Rattle.ix_moved.proofs.ListsAgain.{map_joined}
-use Rattle.ix_moved.proofs.StmtsAgain.{node_same, block_same, if_same, if_else_same, while_same, do_same, for_same}
-use Rattle.ix_moved.specs.Names.{HaveNames}
-use Rattle.ix_moved.specs.Woven.{Added, is_word_like, Woven, done, keep, before}
+use Rattle.ix_guarded_text.specs.Bare.{bare_stmt}
+use Rattle.ix_guarded_text.proofs.ListsAgain.{map_joined}
+use Rattle.ix_guarded_text.proofs.StmtsAgain.{node_same, block_same, if_same, if_else_same, while_same, do_same, for_same}
+use Rattle.ix_guarded_text.specs.Names.{HaveNames}
+use Rattle.ix_guarded_text.specs.Woven.{Added, is_word_like, Woven, done, keep, before}
 use Rattle.ix_guard.specs.declared.insertion.Insertion.{Insertion}
 use Rattle.ix_guard.specs.Accesses.{Access, parts_of}
 use Rattle.ix_guard.specs.Tests.{Site, expression_tests}

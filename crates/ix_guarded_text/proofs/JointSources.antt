@@ -35,7 +35,7 @@ use Rattle.ix_formed.specs.Written.{is_written_type}
 use Rattle.ix_formed.proofs.ParsedStatements.{type_found}
 use Rattle.ix_descent.proofs.TypePlaces.{type_stands}
 use Rattle.ix_descent.proofs.StmtPlaces.{order_at}
-use Rattle.ix_moved.specs.Bare.{bare_source}
+use Rattle.ix_guarded_text.specs.Bare.{bare_source}
 use Rattle.ix_guarded_text.specs.Joint.{AllShare, ClassShares, IsJoint}
 use Rattle.ix_guarded_text.proofs.AcceptsAnywhere.{accepts_anywhere}
 

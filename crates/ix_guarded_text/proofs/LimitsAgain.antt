@@ -25,8 +25,8 @@ use Rattle.ix_meaning.specs.Declarators.{declarators}
 use Rattle.ix_meaning.specs.Limits as limits
 use Rattle.ix_meaning.specs.Limits.{Passed, passed, most_classes, most_methods, most_params, most_inherited, class_names, methods_of, all_methods, method_names, param_names, declared_annots, each_annots, together, stmt_annots, body_annots, result_annots, member_annots, all_annots, past_names, past_params, past_claims_in, past_claims, limit, past_inheritance, inheritance_limit}
 use Rattle.ix_meaning.specs.Resolved.{Accepts}
-use Rattle.ix_moved.specs.Bare as bare
-use Rattle.ix_moved.specs.Bare.{nowhere, bare_maybe, bare_name, bare_annot, bare_type, bare_expr, bare_decl, bare_stmt, bare_method, bare_member, bare_class}
+use Rattle.ix_guarded_text.specs.Bare as bare
+use Rattle.ix_guarded_text.specs.Bare.{nowhere, bare_maybe, bare_name, bare_annot, bare_type, bare_expr, bare_decl, bare_stmt, bare_method, bare_member, bare_class}
 use Rattle.ix_guarded_text.proofs.AnnotsMove.{counted_moved}
 use Rattle.ix_guarded_text.proofs.DeclaratorsMove.{declarators_moved}
 use Rattle.ix_guarded_text.specs.Alike.{joined, AreSame}

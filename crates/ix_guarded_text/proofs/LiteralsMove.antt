@@ -5,8 +5,8 @@ use Rattle.ix_tree.specs.declared.expr.ExprKind.{ExprKind, ExprKind-F, map-ExprK
 use Rattle.ix_tree.specs.declared.expr.Init.{Init, Init-F, ind-Init, map-Init, roll-Init, fold-roll-Init}
 use Rattle.ix_tree.proofs.FoldsOfForms as fold
 use Rattle.ix_meaning.specs.Members.{Literal, literal_step, literal_init_step, literal}
-use Rattle.ix_moved.specs.Moved as moved
-use Rattle.ix_moved.specs.Moved.{Move, moved_span, moved_name, moved_type, moved_expr, moved_init}
+use Rattle.ix_guarded_text.specs.Moved as moved
+use Rattle.ix_guarded_text.specs.Moved.{Move, moved_span, moved_name, moved_type, moved_expr, moved_init}
 
 module _ (move : Move) where
   abbrev literal_of : Expr-F Literal (Option ℤ) Literal → Literal

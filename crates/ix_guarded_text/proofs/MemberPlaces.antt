@@ -22,23 +22,23 @@ use Rattle.ix_grammar.specs.StmtGrammar.{IsStmts}
 use Rattle.ix_grammar.specs.ClassGrammar as g
 use Rattle.ix_grammar.specs.ClassGrammar.{IsBody, IsBehind, IsMember, IsClass, result_tree, method_of, fields, fields_of, no_members, with_members, class_of}
 use Rattle.ix_grammar.specs.SourceGrammar.{source_parts}
-use Rattle.ix_moved.specs.Bare.{bare_maybe as maybe}
-use Rattle.ix_moved.specs.Respanned.{Places, next}
-use Rattle.ix_moved.proofs.ClassesAgain.{map_both}
-use Rattle.ix_moved.specs.Names.{HaveNames}
-use Rattle.ix_moved.specs.Woven.{Added, is_word_like}
+use Rattle.ix_guarded_text.specs.Bare.{bare_maybe as maybe}
+use Rattle.ix_guarded_text.specs.Respanned.{Places, next}
+use Rattle.ix_guarded_text.proofs.ClassesAgain.{map_both}
+use Rattle.ix_guarded_text.specs.Names.{HaveNames}
+use Rattle.ix_guarded_text.specs.Woven.{Added, is_word_like}
 use Rattle.ix_guard.specs.declared.insertion.Insertion.{Insertion}
 use Rattle.ix_guard.specs.Tests.{Site}
 use Rattle.ix_guard.specs.Guards.{together, listed, in_member, in_members, in_class}
 use Rattle.ix_guarded_text.proofs.NamedAccesses.{names_split}
 use Rattle.ix_guarded_text.specs.Inserted.{added}
 use Rattle.ix_guarded_text.proofs.Wrapped.{added_both}
-use Rattle.ix_moved.specs.Moved.{Move, moved_span, moved_name, moved_type, moved_expr, moved_member}
-use Rattle.ix_moved.specs.MovedFound.{moved_found_type, moved_args, moved_found_mods, moved_params, moved_members}
-use Rattle.ix_moved.proofs.AnnotsMoved.{type_moves}
-use Rattle.ix_moved.proofs.ExprsMoved.{args_move}
-use Rattle.ix_moved.proofs.DeclsMoved.{begins_moved, mods_move, params_move, throws_move}
-use Rattle.ix_moved.proofs.ClassesMoved.{member_moves, words_move, parent_moves}
+use Rattle.ix_guarded_text.specs.Moved.{Move, moved_span, moved_name, moved_type, moved_expr, moved_member}
+use Rattle.ix_guarded_text.specs.MovedFound.{moved_found_type, moved_args, moved_found_mods, moved_params, moved_members}
+use Rattle.ix_guarded_text.proofs.AnnotsMoved.{type_moves}
+use Rattle.ix_guarded_text.proofs.ExprsMoved.{args_move}
+use Rattle.ix_guarded_text.proofs.DeclsMoved.{begins_moved, mods_move, params_move, throws_move}
+use Rattle.ix_guarded_text.proofs.ClassesMoved.{member_moves, words_move, parent_moves}
 use Rattle.ix_guarded_text.specs.Interleaved.{Piece, old, olds, Interleaved, done, keep}
 use Rattle.ix_guarded_text.specs.GuardedPlaces as q
 use Rattle.ix_guarded_text.specs.GuardedPlaces.{Each, InList, PlacedMember, PlacedClass}

@@ -39,8 +39,8 @@ use Rattle.ix_meaning.specs.Source as source
 use Rattle.ix_meaning.specs.Source.{Place, member_scope, field_declaration, field_notes, params_from, param_declaration, is_named_in, param_notes, return_need, body_scope, head_scope, nothing_declared, result_of, method_given, result_given, constructor_notes, inherited_notes, super_args, outside_object, implicit_super_of, super_given, super_notes, method_notes, member_name, first_member, member_named, one_member, named_member, member_notes}
 use Rattle.ix_meaning.specs.Types.{Need, wrong_if}
 use Rattle.ix_meaning.specs.Values.{arguments, given_to, reading}
-use Rattle.ix_moved.specs.Bare.{bare_maybe as maybe}
-use Rattle.ix_moved.specs.Moved.{Move, moved_span, moved_name, moved_annot, moved_type, moved_init, moved_expr, moved_stmt, moved_decl, moved_method, moved_member}
+use Rattle.ix_guarded_text.specs.Bare.{bare_maybe as maybe}
+use Rattle.ix_guarded_text.specs.Moved.{Move, moved_span, moved_name, moved_annot, moved_type, moved_init, moved_expr, moved_stmt, moved_decl, moved_method, moved_member}
 use Rattle.ix_guarded_text.specs.MovedNotes.{AreMoved}
 use Rattle.ix_guarded_text.proofs.NotesMove.{none, both, if_wrong}
 use Rattle.ix_guarded_text.proofs.AnnotsMove.{MovedGiven, given_moves, of_method_moved, of_result_moved}

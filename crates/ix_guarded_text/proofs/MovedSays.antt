@@ -4,8 +4,8 @@ use Rattle.ix_tree.specs.declared.decl.Unit.{Unit as Source}
 use Rattle.ix_meaning.specs.declared.note.Note.{Note}
 use Rattle.ix_meaning.specs.Resolved.{Accepts, names_in, names}
 use Rattle.ix_meaning.specs.Source.{notes}
-use Rattle.ix_moved.specs.Woven.{Added}
-use Rattle.ix_moved.specs.Moved.{Move, moved_source, moved_span}
+use Rattle.ix_guarded_text.specs.Woven.{Added}
+use Rattle.ix_guarded_text.specs.Moved.{Move, moved_source, moved_span}
 use Rattle.ix_guarded_text.specs.GuardedNames.{SaysMoved}
 use Rattle.ix_guarded_text.specs.Interleaved.{moving}
 use Rattle.ix_guarded_text.specs.MovedNotes.{moved_note, IsInjective}

@@ -3,7 +3,7 @@ use Rattle.std.proofs.Common.{◌≡◌, ℕ, ◌≤◌, ◌<◌, nat_lt, if◌t
 use Rattle.std.specs.Prelude.{◌==◌}
 use Rattle.ix_core.proofs.Cases.{by_test, differ, equal}
 use Rattle.ix_text.specs.declared.span.Span.{Span}
-use Rattle.ix_moved.specs.Woven.{Added}
+use Rattle.ix_guarded_text.specs.Woven.{Added}
 use Rattle.ix_guarded_text.specs.Interleaved.{added_before, moving}
 use Rattle.ix_guarded_text.proofs.Shifts.{begins_later}
 use Rattle.ix_guarded_text.specs.MovedNotes.{IsInjective}

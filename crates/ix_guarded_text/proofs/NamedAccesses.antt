@@ -31,7 +31,7 @@ use Rattle.ix_grammar.specs.DeclGrammar as d
 use Rattle.ix_grammar.specs.DeclGrammar.{shared, IsDecl, IsDecls, one_decl, with_decl}
 use Rattle.ix_grammar.specs.StmtGrammar as s
 use Rattle.ix_grammar.specs.StmtGrammar.{IsLocal}
-use Rattle.ix_moved.specs.Names.{IsName, HaveNames}
+use Rattle.ix_guarded_text.specs.Names.{IsName, HaveNames}
 use Rattle.ix_guard.specs.Accesses.{Access, Parts, Reading, nothing, both, all, each, called, is_always, operands, as_target, own_access, or_inside, accessing, unnamed, kind_step, init_step, expr_step, reading, init_parts, parts_of, decl_parts, all_decl_parts}
 
 -- ---- lists

@@ -15,7 +15,7 @@ use Rattle.ix_formed.specs.Additions.{AllOf}
 use Rattle.ix_formed.specs.NoErrors.{IsClean}
 use Rattle.ix_formed.proofs.CleanNotes.{clean_parts}
 use Rattle.ix_formed.proofs.NumberLists.{all_joined}
-use Rattle.ix_moved.specs.Bare.{bare_member, bare_class, bare_source}
+use Rattle.ix_guarded_text.specs.Bare.{bare_member, bare_class, bare_source}
 use Rattle.ix_guarded_text.proofs.MembersMove.{next_fields_moved}
 use Rattle.ix_guarded_text.proofs.WorldsMove.{fields_in_moved}
 use Rattle.ix_guarded_text.proofs.SourcesMove.{class_notes_of}

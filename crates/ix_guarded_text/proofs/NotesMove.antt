@@ -8,7 +8,7 @@ use Rattle.ix_meaning.specs.declared.note.Note.{Note}
 use Rattle.ix_meaning.specs.declared.note.Note.TheVariants.{Use}
 use Rattle.ix_meaning.specs.declared.note.Rule.{Rule}
 use Rattle.ix_meaning.specs.Types.{Judged, type_note, wrong, wrong_if}
-use Rattle.ix_moved.specs.Moved.{Move, moved_span}
+use Rattle.ix_guarded_text.specs.Moved.{Move, moved_span}
 use Rattle.ix_guarded_text.specs.MovedNotes.{moved_note, unplaced, AreMoved}
 
 abbrev told : Move → List Note → List Note

@@ -9,7 +9,7 @@ use Rattle.ix_meaning.specs.declared.note.Note.TheVariants.{Use, Typed, Declares
 use Rattle.ix_meaning.specs.Listed.{same_span}
 use Rattle.ix_meaning.specs.Resolved.{or_found, meaning_at, type_at, declared_at}
 use Rattle.ix_formed.specs.Additions.{AllOf}
-use Rattle.ix_moved.specs.Moved.{Move, moved_span}
+use Rattle.ix_guarded_text.specs.Moved.{Move, moved_span}
 use Rattle.ix_guarded_text.specs.TestParts.{IsNew}
 use Rattle.ix_guarded_text.specs.WithNew.{IsNewNote, WithNew, none, kept, new}
 

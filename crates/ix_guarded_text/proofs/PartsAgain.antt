@@ -12,7 +12,7 @@ use Rattle.ix_meaning.specs.Scope.{Scope}
 use Rattle.ix_meaning.specs.Source.{Place, one_member}
 use Rattle.ix_meaning.specs.Types.{Need, Judged}
 use Rattle.ix_meaning.specs.Values.{Reading, Received, reading, filling, check}
-use Rattle.ix_moved.specs.Bare.{bare_expr, bare_init, bare_stmt, bare_member}
+use Rattle.ix_guarded_text.specs.Bare.{bare_expr, bare_init, bare_stmt, bare_member}
 use Rattle.ix_guarded_text.proofs.NotesMove.{MovedJudged}
 use Rattle.ix_guarded_text.proofs.ExpressionsMove.{MovedReceived, check_moves, expression_moves, initialiser_moves}
 use Rattle.ix_guarded_text.proofs.StatementsMove.{MovedTelling, after_moved, statement_moves, body_moves}

@@ -10,11 +10,11 @@ use Rattle.ix_tree.specs.declared.expr.Expr.{Expr, Expr-F, ind-Expr, map-Expr, r
 use Rattle.ix_tree.specs.declared.expr.ExprKind.{ExprKind, ExprKind-F, map-ExprKind, roll-ExprKind, fold-roll-ExprKind}
 use Rattle.ix_tree.specs.declared.expr.Init.{Init, Init-F, ind-Init, map-Init, roll-Init, fold-roll-Init}
 use Rattle.ix_tree.proofs.FoldsOfForms as fold
-use Rattle.ix_moved.specs.Bare.{bare_maybe as maybe}
+use Rattle.ix_guarded_text.specs.Bare.{bare_maybe as maybe}
 use Rattle.ix_guard.specs.Accesses as accesses
 use Rattle.ix_guard.specs.Accesses.{Access, Parts, Reading, both, all, each, is_always, operands, place_of, as_target, own_access, or_inside, accessing, unnamed, reading, init_parts, parts_of, decl_parts, all_decl_parts}
-use Rattle.ix_moved.specs.Moved as moved
-use Rattle.ix_moved.specs.Moved.{Move, moved_span, moved_name, moved_type, moved_expr, moved_init, moved_decl}
+use Rattle.ix_guarded_text.specs.Moved as moved
+use Rattle.ix_guarded_text.specs.Moved.{Move, moved_span, moved_name, moved_type, moved_expr, moved_init, moved_decl}
 
 module _ (move : Move) where
   abbrev pub moved_access : Access → Access

@@ -30,7 +30,7 @@ use Rattle.ix_meaning.specs.Source.{Place, place, member_named, method_notes, no
 use Rattle.ix_meaning.specs.Types.{Need, boolean, of, printed}
 use Rattle.ix_meaning.specs.Values.{check, reading}
 use Rattle.ix_meaning.proofs.Equations as equations
-use Rattle.ix_moved.specs.Bare.{bare_maybe as maybe}
+use Rattle.ix_guarded_text.specs.Bare.{bare_maybe as maybe}
 use Rattle.ix_formed.specs.Additions.{AllOf}
 use Rattle.ix_formed.specs.NoErrors.{IsClean, Agrees, named_at, MembersSay, ClassesSay}
 use Rattle.ix_formed.specs.Weights.{total}
@@ -42,7 +42,7 @@ use Rattle.ix_formed.proofs.NumberLists.{is_itself, both_true}
 use Rattle.ix_guard.specs.Accesses.{Access}
 use Rattle.ix_guard.specs.Tests.{Site}
 use Rattle.ix_guard.specs.Trees.{statement, expression_tested, returning}
-use Rattle.ix_moved.specs.Moved.{Move, moved_span, moved_expr, moved_decl, moved_stmt}
+use Rattle.ix_guarded_text.specs.Moved.{Move, moved_span, moved_expr, moved_decl, moved_stmt}
 use Rattle.ix_guarded_text.specs.TestParts.{Parts, guard_of, IsWritten}
 use Rattle.ix_guarded_text.specs.GuardedNames.{SaysMoved, IsMeant}
 use Rattle.ix_guarded_text.specs.GuardedPlaces as q

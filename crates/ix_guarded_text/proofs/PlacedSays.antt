@@ -24,9 +24,9 @@ use Rattle.ix_meaning.specs.Resolved.{names}
 use Rattle.ix_meaning.specs.Rules.{duplicate_name}
 use Rattle.ix_meaning.specs.Source as source
 use Rattle.ix_meaning.specs.Source.{Place, place, member_named, is_taken, named_member, member_notes, method_notes, class_notes, head_notes, has_constructor, implicit_super_of, notes_from, notes}
-use Rattle.ix_moved.specs.Bare.{bare_maybe as maybe}
+use Rattle.ix_guarded_text.specs.Bare.{bare_maybe as maybe}
 use Rattle.ix_guard.specs.Tests.{Site}
-use Rattle.ix_moved.specs.Moved.{Move, moved_name, moved_type, moved_mods, moved_decl, moved_method, moved_member, moved_class, moved_source}
+use Rattle.ix_guarded_text.specs.Moved.{Move, moved_name, moved_type, moved_mods, moved_decl, moved_method, moved_member, moved_class, moved_source}
 use Rattle.ix_guarded_text.specs.TestParts.{IsWritten}
 use Rattle.ix_guarded_text.specs.GuardedNames.{SaysMoved}
 use Rattle.ix_guarded_text.specs.GuardedPlaces as q

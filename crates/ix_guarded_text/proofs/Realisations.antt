@@ -3,9 +3,9 @@ use Rattle.std.proofs.Common.{◌≡◌, zero, suc, List, [], ◌∷◌, ◌++�
 use Rattle.ix_text.specs.declared.span.Span.{Span}
 use Rattle.ix_lexer.specs.declared.token.Token.{Token}
 use Rattle.ix_lexer.specs.declared.token.TokenKind.{TokenKind}
-use Rattle.ix_moved.specs.Bare.{nowhere}
-use Rattle.ix_moved.specs.Respanned.{Places, next, respanned}
-use Rattle.ix_moved.specs.Moved.{Move, moved_token, moved_tokens}
+use Rattle.ix_guarded_text.specs.Bare.{nowhere}
+use Rattle.ix_guarded_text.specs.Respanned.{Places, next, respanned}
+use Rattle.ix_guarded_text.specs.Moved.{Move, moved_token, moved_tokens}
 use Rattle.ix_guarded_text.specs.Interleaved.{Piece, old, new, olds, news, Realised, none, kept, put}
 use Rattle.ix_guarded_text.specs.TestParts.{IsNew}
 

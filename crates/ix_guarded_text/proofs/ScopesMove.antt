@@ -13,8 +13,8 @@ use Rattle.ix_meaning.specs.declared.note.Meaning.{Meaning}
 use Rattle.ix_meaning.specs.declared.note.Meaning.TheVariants as m
 use Rattle.ix_meaning.specs.Members.{World, Callee, or_nearest, nearest, field_named, method_named, params_in, constructor_params}
 use Rattle.ix_meaning.specs.Scope.{Scope, is_pending, known_found, meant, instance_field, instance_field_in, field_of_this, found_at, annot_names}
-use Rattle.ix_moved.specs.Bare.{bare_maybe as maybe}
-use Rattle.ix_moved.specs.Moved.{Move}
+use Rattle.ix_guarded_text.specs.Bare.{bare_maybe as maybe}
+use Rattle.ix_guarded_text.specs.Moved.{Move}
 use Rattle.ix_guarded_text.specs.MovedScopes.{moved_field, moved_callee, moved_world, moved_scope}
 
 or_nearest_moved : {A : Type 0} (of : A → A) (first further : Option A) → or_nearest (maybe of first) (maybe of further) ≡ maybe of (or_nearest first further)

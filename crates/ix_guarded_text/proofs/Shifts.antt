@@ -1,7 +1,7 @@
 -- How far a place is moved: what is inserted at it, before it and behind it.
 use Rattle.std.proofs.Common.{◌≡◌, ℕ, ◌+◌, ◌≤◌, ◌<◌, nat_lt, true, false, if◌then◌else◌, List, [], ◌∷◌, length, refl, ap, arith}
-use Rattle.ix_moved.specs.Woven.{Added}
-use Rattle.ix_moved.specs.Moved.{Move}
+use Rattle.ix_guarded_text.specs.Woven.{Added}
+use Rattle.ix_guarded_text.specs.Moved.{Move}
 use Rattle.ix_guarded_text.specs.Interleaved.{added_up_to, added_before, moving}
 use Rattle.ix_guarded_text.specs.TestParts.{IsNew}
 

@@ -11,18 +11,18 @@ use Rattle.ix_grammar.specs.ClassGrammar.{IsClass, no_classes, with_class}
 use Rattle.ix_grammar.specs.SourceGrammar.{source_parts, IsSource}
 use Rattle.ix_core.specs.declared.error.Error.{Error}
 use Rattle.ix_meaning.specs.Resolved.{Names}
-use Rattle.ix_moved.specs.Respanned.{Places}
-use Rattle.ix_moved.specs.Names.{HaveNames}
-use Rattle.ix_moved.specs.Woven.{with_added}
-use Rattle.ix_moved.proofs.NamedTokens.{token_names}
+use Rattle.ix_guarded_text.specs.Respanned.{Places}
+use Rattle.ix_guarded_text.specs.Names.{HaveNames}
+use Rattle.ix_guarded_text.specs.Woven.{with_added}
+use Rattle.ix_guarded_text.proofs.NamedTokens.{token_names}
 use Rattle.ix_guard.specs.declared.insertion.Insertion.{Insertion}
 use Rattle.ix_guard.specs.Tests.{Site}
 use Rattle.ix_guard.specs.Guards.{together, in_class, insertions, with_texts, guarded}
 use Rattle.ix_guarded_text.proofs.NamedAccesses.{names_split}
 use Rattle.ix_guarded_text.specs.Inserted.{added}
 use Rattle.ix_guarded_text.proofs.Wrapped.{added_both}
-use Rattle.ix_moved.specs.Moved.{Move}
-use Rattle.ix_moved.proofs.SourcesMoved.{package_moves, imports_move}
+use Rattle.ix_guarded_text.specs.Moved.{Move}
+use Rattle.ix_guarded_text.proofs.SourcesMoved.{package_moves, imports_move}
 use Rattle.ix_guarded_text.specs.Interleaved.{Piece, olds, moving}
 use Rattle.ix_guarded_text.specs.GuardedPlaces as q
 use Rattle.ix_guarded_text.specs.GuardedPlaces.{Each, PlacedClass, PlacedSource, GuardedAt}

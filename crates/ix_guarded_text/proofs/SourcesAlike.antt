@@ -8,7 +8,7 @@ use Rattle.ix_meaning.specs.Classes.{parents}
 use Rattle.ix_meaning.specs.Declarators as declared
 use Rattle.ix_meaning.specs.Members.{World, world, methods, next_fields}
 use Rattle.ix_meaning.specs.Source.{class_notes, notes_from, notes}
-use Rattle.ix_moved.specs.Bare.{bare_member, bare_class}
+use Rattle.ix_guarded_text.specs.Bare.{bare_member, bare_class}
 use Rattle.ix_guarded_text.proofs.SourcesMove.{class_notes_of, class_moves}
 use Rattle.ix_guarded_text.specs.Alike.{AreAlike, joined, AreSame}
 use Rattle.ix_guarded_text.specs.Gathered.{gathered, bare_signature, bare_world}

@@ -15,8 +15,8 @@ use Rattle.ix_meaning.specs.Classes.{is_cyclic, parents}
 use Rattle.ix_meaning.specs.Declarators as declared
 use Rattle.ix_meaning.specs.Members.{World, world, methods, next_fields}
 use Rattle.ix_meaning.specs.Source.{Place, is_taken, is_constructor, has_constructor, default_notes_of, implicit_super_of, class_use_notes, parent_use, place, head_notes, member_named, member_notes, class_notes, notes_from, notes}
-use Rattle.ix_moved.specs.Bare.{bare_maybe as maybe}
-use Rattle.ix_moved.specs.Moved.{Move, moved_span, moved_name, moved_member, moved_class, moved_source}
+use Rattle.ix_guarded_text.specs.Bare.{bare_maybe as maybe}
+use Rattle.ix_guarded_text.specs.Moved.{Move, moved_span, moved_name, moved_member, moved_class, moved_source}
 use Rattle.ix_guarded_text.specs.MovedNotes.{AreMoved, IsInjective}
 use Rattle.ix_guarded_text.proofs.NotesMove.{none, both, used, is_wrong, if_wrong}
 use Rattle.ix_guarded_text.specs.MovedScopes.{moved_signature, moved_world, moved_place}

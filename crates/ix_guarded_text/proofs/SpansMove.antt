@@ -6,7 +6,7 @@ use Rattle.ix_text.specs.declared.span.Span.{Span}
 use Rattle.ix_core.proofs.Cases.{by_test, equal}
 use Rattle.ix_meaning.specs.Listed.{same_span}
 use Rattle.ix_formed.proofs.NumberLists.{is_itself, both_true}
-use Rattle.ix_moved.specs.Moved.{Move, moved_span}
+use Rattle.ix_guarded_text.specs.Moved.{Move, moved_span}
 use Rattle.ix_guarded_text.specs.MovedNotes.{IsInjective}
 
 same_itself : (a : Span) → same_span a a ≡ true

@@ -20,10 +20,10 @@ use Rattle.ix_grammar.specs.ClassGrammar.{no_stmts, with_stmt}
 use Rattle.ix_grammar.specs.ExprGrammar.{Whole}
 use Rattle.ix_grammar.specs.StmtGrammar as g
 use Rattle.ix_grammar.specs.StmtGrammar.{SYSTEM, OUT, PRINTLN, word_token, maybe_expr, stmt_node, local_stmt, IsLocal, IsMaybe, IsStmt, IsBlockStmt, IsStmts}
-use Rattle.ix_moved.specs.Bare.{bare_maybe as maybe}
-use Rattle.ix_moved.specs.Respanned.{Places, next, respanned}
-use Rattle.ix_moved.specs.Names.{HaveNames}
-use Rattle.ix_moved.specs.Woven.{Added, is_word_like}
+use Rattle.ix_guarded_text.specs.Bare.{bare_maybe as maybe}
+use Rattle.ix_guarded_text.specs.Respanned.{Places, next, respanned}
+use Rattle.ix_guarded_text.specs.Names.{HaveNames}
+use Rattle.ix_guarded_text.specs.Woven.{Added, is_word_like}
 use Rattle.ix_guard.specs.declared.insertion.Insertion.{Insertion}
 use Rattle.ix_guard.specs.Accesses.{Access, parts_of}
 use Rattle.ix_guard.specs.Tests.{Site, expression_tests}
@@ -35,10 +35,10 @@ use Rattle.ix_guarded_text.proofs.FirstTokens.{expr_begins, local_begins}
 use Rattle.ix_guarded_text.proofs.Tests.{bytes_of, expression_bytes, declaration_bytes, expression_named, declaration_named, tokens_of, tests_inserted}
 use Rattle.ix_guarded_text.specs.Inserted.{added}
 use Rattle.ix_guarded_text.proofs.Wrapped.{added_both}
-use Rattle.ix_moved.specs.Moved.{Move, moved_span, moved_tokens, moved_name, moved_expr, moved_decl, stmt_kind_step, stmt_step, moved_stmt}
-use Rattle.ix_moved.specs.MovedFound.{moved_found, moved_several, moved_stmts}
-use Rattle.ix_moved.proofs.ExprsMoved.{expr_moves}
-use Rattle.ix_moved.proofs.StmtsMoved.{moved_stmt_kind, stmt_moved, first_moves, maybe_moves, maybe_expr_moved, updates_move, stmt_moves, block_stmt_moves}
+use Rattle.ix_guarded_text.specs.Moved.{Move, moved_span, moved_tokens, moved_name, moved_expr, moved_decl, stmt_kind_step, stmt_step, moved_stmt}
+use Rattle.ix_guarded_text.specs.MovedFound.{moved_found, moved_several, moved_stmts}
+use Rattle.ix_guarded_text.proofs.ExprsMoved.{expr_moves}
+use Rattle.ix_guarded_text.proofs.StmtsMoved.{moved_stmt_kind, stmt_moved, first_moves, maybe_moves, maybe_expr_moved, updates_move, stmt_moves, block_stmt_moves}
 use Rattle.ix_guarded_text.specs.Interleaved.{Piece, old, olds, news, Interleaved, done, keep, before}
 use Rattle.ix_guarded_text.specs.GuardedPlaces as q
 use Rattle.ix_guarded_text.specs.GuardedPlaces.{Inner, InList}

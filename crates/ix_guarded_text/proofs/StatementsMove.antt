@@ -21,9 +21,9 @@ use Rattle.ix_meaning.specs.Scope.{Scope, Known}
 use Rattle.ix_meaning.specs.Types.{Need, boolean, of, printed}
 use Rattle.ix_meaning.specs.Values.{reading}
 use Rattle.ix_meaning.proofs.Equations as equations
-use Rattle.ix_moved.specs.Moved as moved
-use Rattle.ix_moved.specs.Bare.{bare_maybe as maybe}
-use Rattle.ix_moved.specs.Moved.{Move, moved_span, moved_name, moved_decl, moved_init, moved_expr, moved_stmt}
+use Rattle.ix_guarded_text.specs.Moved as moved
+use Rattle.ix_guarded_text.specs.Bare.{bare_maybe as maybe}
+use Rattle.ix_guarded_text.specs.Moved.{Move, moved_span, moved_name, moved_decl, moved_init, moved_expr, moved_stmt}
 use Rattle.ix_guarded_text.specs.MovedNotes.{AreMoved}
 use Rattle.ix_guarded_text.proofs.NotesMove.{none, both, is_wrong_at, if_wrong, if_wrong_at}
 use Rattle.ix_guarded_text.proofs.TypesMove.{MovedDeclaration, variable_moves}

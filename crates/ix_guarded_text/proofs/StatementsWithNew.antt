@@ -14,11 +14,11 @@ use Rattle.ix_meaning.specs.Scope.{Scope, Known}
 use Rattle.ix_meaning.specs.Types.{boolean, of}
 use Rattle.ix_meaning.specs.Values.{check}
 use Rattle.ix_meaning.proofs.Equations as equations
-use Rattle.ix_moved.specs.Bare.{bare_maybe as maybe}
+use Rattle.ix_guarded_text.specs.Bare.{bare_maybe as maybe}
 use Rattle.ix_guard.specs.Accesses.{Access}
 use Rattle.ix_guard.specs.Tests.{Site}
 use Rattle.ix_guard.specs.Trees.{statement}
-use Rattle.ix_moved.specs.Moved.{Move, moved_span, moved_expr, moved_decl, moved_stmt, stmt_kind_step, stmt_step}
+use Rattle.ix_guarded_text.specs.Moved.{Move, moved_span, moved_expr, moved_decl, moved_stmt, stmt_kind_step, stmt_step}
 use Rattle.ix_guarded_text.specs.TestParts.{guard_of, IsWritten}
 use Rattle.ix_guarded_text.specs.GuardedPlaces as q
 use Rattle.ix_guarded_text.specs.GuardedPlaces.{AreTests, Inner, Alone, InList}

@@ -15,12 +15,12 @@ use Rattle.ix_lexer.specs.Characters.{Text, backslash, starts_identifier, contin
 use Rattle.ix_lexer.specs.Elements.{signs, nothing, plain}
 use Rattle.ix_lexer.specs.Scan.{sign}
 use Rattle.ix_lexer.specs.Tokens.{Longest, words}
-use Rattle.ix_moved.specs.Woven.{kinds}
-use Rattle.ix_moved.specs.Names.{IsName, Piece}
-use Rattle.ix_moved.proofs.LongestAgain.{starts_ascii, continues_ascii, goes_on}
-use Rattle.ix_moved.proofs.SignFronts.{begins_word}
-use Rattle.ix_moved.proofs.Readings.{longest_word, longest_zero, longest_blank, longest_string, longest_sign, ReadsAs, read_none, read_gap, read_one, read_as}
-use Rattle.ix_moved.specs.Bare.{nowhere}
+use Rattle.ix_guarded_text.specs.Woven.{kinds}
+use Rattle.ix_guarded_text.specs.Names.{IsName, Piece}
+use Rattle.ix_guarded_text.proofs.LongestAgain.{starts_ascii, continues_ascii, goes_on}
+use Rattle.ix_guarded_text.proofs.SignFronts.{begins_word}
+use Rattle.ix_guarded_text.proofs.Readings.{longest_word, longest_zero, longest_blank, longest_string, longest_sign, ReadsAs, read_none, read_gap, read_one, read_as}
+use Rattle.ix_guarded_text.specs.Bare.{nowhere}
 use Rattle.ix_guard.specs.Accesses.{Access}
 use Rattle.ix_guard.specs.Tests.{test}
 use Rattle.ix_guarded_text.proofs.TestTokens.{test_tokens}

@@ -17,9 +17,9 @@ use Rattle.ix_grammar.specs.ExprGrammar as g
 use Rattle.ix_grammar.specs.ExprGrammar.{IsExpr}
 use Rattle.ix_grammar.specs.StmtGrammar as t
 use Rattle.ix_grammar.specs.StmtGrammar.{IsStmt}
-use Rattle.ix_moved.specs.Bare.{nowhere, bare_expr, bare_stmt}
-use Rattle.ix_moved.proofs.ExprsAgain as again
-use Rattle.ix_moved.proofs.StmtsAgain.{node_same, if_same, throw_same}
+use Rattle.ix_guarded_text.specs.Bare.{nowhere, bare_expr, bare_stmt}
+use Rattle.ix_guarded_text.proofs.ExprsAgain as again
+use Rattle.ix_guarded_text.proofs.StmtsAgain.{node_same, if_same, throw_same}
 use Rattle.ix_guard.specs.Accesses.{Access}
 use Rattle.ix_guard.specs.Trees.{named, is_null, is_negative, is_too_high, either, is_outside, test_tree}
 

@@ -11,11 +11,11 @@ use Rattle.ix_grammar.specs.declared.found.FoundStmt.{FoundStmt}
 use Rattle.ix_grammar.specs.ClassGrammar.{no_stmts, with_stmt}
 use Rattle.ix_grammar.specs.StmtGrammar as g
 use Rattle.ix_grammar.specs.StmtGrammar.{IsBlockStmt, IsStmts}
-use Rattle.ix_moved.specs.Bare.{bare_stmt}
-use Rattle.ix_moved.proofs.ClassesAgain.{map_both}
-use Rattle.ix_moved.specs.Woven.{IsInserted}
-use Rattle.ix_moved.specs.Names.{Piece}
-use Rattle.ix_moved.proofs.Readings.{no_piece, two_pieces, inserted_piece}
+use Rattle.ix_guarded_text.specs.Bare.{bare_stmt}
+use Rattle.ix_guarded_text.proofs.ClassesAgain.{map_both}
+use Rattle.ix_guarded_text.specs.Woven.{IsInserted}
+use Rattle.ix_guarded_text.specs.Names.{Piece}
+use Rattle.ix_guarded_text.proofs.Readings.{no_piece, two_pieces, inserted_piece}
 use Rattle.ix_guard.specs.Accesses.{Access, parts_of, all_decl_parts}
 use Rattle.ix_guard.specs.Tests.{Site, Changes, Pair, pair_of, is_tested, test, tests_behind, expression_tests, declaration_tests}
 use Rattle.ix_guard.specs.Trees.{tested_behind, expression_tested, declaration_tested, test_tree, test_trees}

@@ -21,7 +21,7 @@ use Rattle.ix_meaning.specs.Values as values
 use Rattle.ix_meaning.specs.Values.{Reading, Object, no_object, of_class, value, check, fitted, as_object}
 use Rattle.ix_formed.specs.Additions.{AllOf}
 use Rattle.ix_guard.specs.Accesses.{Access}
-use Rattle.ix_moved.specs.Moved.{Move}
+use Rattle.ix_guarded_text.specs.Moved.{Move}
 use Rattle.ix_guarded_text.specs.TestParts.{Parts, begins, IsNew, IsWritten}
 use Rattle.ix_guarded_text.proofs.NotesWithNew.{AllNew}
 use Rattle.ix_guarded_text.proofs.TestsRead.{name_reading, zero_reading, length_reading, null_test, negative_test, high_test, first_two, condition_reading}

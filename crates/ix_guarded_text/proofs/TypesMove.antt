@@ -12,7 +12,7 @@ use Rattle.ix_annot.specs.Named.{Names}
 use Rattle.ix_meaning.specs.declared.note.Meaning.TheVariants.{ClassNamed}
 use Rattle.ix_meaning.specs.declared.note.Rule.TheVariants as rule
 use Rattle.ix_meaning.specs.Annotated.{Declaration, aimed, names_nothing, is_int_tree, target_before, class_use, based, written, element_claims, declaration, variable}
-use Rattle.ix_moved.specs.Moved.{Move, moved_span, moved_annot, moved_base, moved_type}
+use Rattle.ix_guarded_text.specs.Moved.{Move, moved_span, moved_annot, moved_base, moved_type}
 use Rattle.ix_guarded_text.specs.MovedNotes.{AreMoved}
 use Rattle.ix_guarded_text.proofs.NotesMove.{none, both, used, is_wrong, MovedJudged}
 use Rattle.ix_guarded_text.proofs.AnnotsMove.{given_moves}

@@ -10,7 +10,7 @@ use Rattle.ix_meaning.specs.declared.members.Signature.{Signature}
 use Rattle.ix_meaning.specs.Classes.{class_named, parents}
 use Rattle.ix_meaning.specs.Declarators as declared
 use Rattle.ix_meaning.specs.Members.{ClassOf, next_fields, fields_in, fields_from, fields, methods, class_name, world}
-use Rattle.ix_moved.specs.Bare.{bare_member, bare_class}
+use Rattle.ix_guarded_text.specs.Bare.{bare_member, bare_class}
 use Rattle.ix_guarded_text.proofs.MembersMove.{next_fields_moved}
 use Rattle.ix_guarded_text.proofs.WorldsMove.{class_named_moved, parents_moved, methods_moved, fields_in_moved, class_name_is, world_of, world_is}
 use Rattle.ix_guarded_text.specs.Alike.{joined}

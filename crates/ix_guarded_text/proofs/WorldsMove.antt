@@ -13,8 +13,8 @@ use Rattle.ix_meaning.specs.declared.members.Signature.{Signature}
 use Rattle.ix_meaning.specs.Classes.{first_or, first_class, class_named, parent_in_table, parents_by, parents, parent, supers}
 use Rattle.ix_meaning.specs.Declarators as declared
 use Rattle.ix_meaning.specs.Members.{ClassOf, World, Callee, next_field, next_fields, fields_in, fields_from, fields, methods_in, methods_from, methods, own_field, callable_if, is_method_named, is_constructor_named, own_method, own_constructor, class_name, world}
-use Rattle.ix_moved.specs.Bare.{bare_maybe as maybe}
-use Rattle.ix_moved.specs.Moved.{Move, moved_name, moved_member, moved_class}
+use Rattle.ix_guarded_text.specs.Bare.{bare_maybe as maybe}
+use Rattle.ix_guarded_text.specs.Moved.{Move, moved_name, moved_member, moved_class}
 use Rattle.ix_guarded_text.specs.MovedNotes.{IsInjective}
 use Rattle.ix_guarded_text.specs.MovedScopes.{moved_field, moved_signature, moved_callee, moved_world}
 use Rattle.ix_guarded_text.proofs.MembersMove.{field_of_moved, signature_moved, next_fields_moved}

@@ -2,9 +2,9 @@
 use Rattle.std.proofs.Common.{◌≡◌, ℕ, Bool, true, List, [], ◌∷◌, ◌++◌, map, refl, ap, ◌∙◌}
 use Rattle.ix_lexer.specs.declared.token.Token.{Token}
 use Rattle.ix_lexer.specs.Tokens.{Tokens}
-use Rattle.ix_moved.proofs.ClassesAgain.{map_both}
-use Rattle.ix_moved.specs.Woven.{Added, with_added, Woven}
-use Rattle.ix_moved.specs.Woven as w
+use Rattle.ix_guarded_text.proofs.ClassesAgain.{map_both}
+use Rattle.ix_guarded_text.specs.Woven.{Added, with_added, Woven}
+use Rattle.ix_guarded_text.specs.Woven as w
 use Rattle.ix_guarded_text.specs.Interleaved.{Piece, old, news, token_of, moving, Interleaved, done, keep, before, behind, Realised}
 use Rattle.ix_guarded_text.proofs.PlacedTexts.{placed_tokens}
 

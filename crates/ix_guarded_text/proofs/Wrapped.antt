@@ -9,9 +9,9 @@ use Rattle.ix_grammar.specs.declared.found.FoundStmt.{FoundStmt}
 use Rattle.ix_grammar.specs.Nodes.{across}
 use Rattle.ix_grammar.specs.StmtGrammar as g
 use Rattle.ix_grammar.specs.StmtGrammar.{IsStmt, IsStmts}
-use Rattle.ix_moved.specs.Bare.{nowhere, bare_stmt}
-use Rattle.ix_moved.proofs.StmtsAgain.{node_same, block_same}
-use Rattle.ix_moved.specs.Woven.{Added, is_word_like, Woven, done, keep, before, behind}
+use Rattle.ix_guarded_text.specs.Bare.{nowhere, bare_stmt}
+use Rattle.ix_guarded_text.proofs.StmtsAgain.{node_same, block_same}
+use Rattle.ix_guarded_text.specs.Woven.{Added, is_word_like, Woven, done, keep, before, behind}
 use Rattle.ix_guard.specs.declared.insertion.Insertion.{Insertion}
 use Rattle.ix_guard.specs.Accesses.{Access}
 use Rattle.ix_guard.specs.Guards.{opening, closing}

@@ -12,8 +12,8 @@ use Rattle.ix_grammar.specs.Patterns.{sign}
 use Rattle.ix_grammar.specs.ClassGrammar.{no_stmts, with_stmt}
 use Rattle.ix_grammar.specs.StmtGrammar as g
 use Rattle.ix_grammar.specs.StmtGrammar.{IsStmt}
-use Rattle.ix_moved.specs.Respanned.{Places, next, respanned}
-use Rattle.ix_moved.specs.Woven.{Added, is_word_like}
+use Rattle.ix_guarded_text.specs.Respanned.{Places, next, respanned}
+use Rattle.ix_guarded_text.specs.Woven.{Added, is_word_like}
 use Rattle.ix_guard.specs.Accesses.{Access}
 use Rattle.ix_guard.specs.Guards.{opening, closing}
 use Rattle.ix_guard.specs.Tests.{Site}
@@ -22,7 +22,7 @@ use Rattle.ix_guarded_text.proofs.NamedAccesses.{AllNamed}
 use Rattle.ix_guarded_text.proofs.TestTexts.{open_token, close_token}
 use Rattle.ix_guarded_text.proofs.Tests.{bytes_of, tokens_of, opening_inserted, closing_inserted}
 use Rattle.ix_guarded_text.specs.Inserted.{added}
-use Rattle.ix_moved.specs.Moved.{Move}
+use Rattle.ix_guarded_text.specs.Moved.{Move}
 use Rattle.ix_guarded_text.specs.Interleaved.{Piece, old, new, olds, news, Interleaved, done, keep, before, behind}
 use Rattle.ix_guarded_text.specs.GuardedPlaces as q
 use Rattle.ix_guarded_text.specs.GuardedPlaces.{Inner, Alone}

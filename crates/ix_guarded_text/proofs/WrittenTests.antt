@@ -14,12 +14,12 @@ use Rattle.ix_grammar.specs.ExprGrammar as g
 use Rattle.ix_grammar.specs.ExprGrammar.{IsExpr, Level}
 use Rattle.ix_grammar.specs.StmtGrammar as t
 use Rattle.ix_grammar.specs.StmtGrammar.{IsStmt, IsStmts}
-use Rattle.ix_moved.specs.Respanned.{Places, behind, respanned}
+use Rattle.ix_guarded_text.specs.Respanned.{Places, behind, respanned}
 use Rattle.ix_guard.specs.Accesses.{Access}
 use Rattle.ix_guard.specs.Trees.{ident}
 use Rattle.ix_guarded_text.proofs.TestTokens.{test_tokens}
 use Rattle.ix_guarded_text.proofs.Tests.{tokens_of}
-use Rattle.ix_moved.specs.Moved.{Move}
+use Rattle.ix_guarded_text.specs.Moved.{Move}
 use Rattle.ix_guarded_text.specs.GuardedPlaces as q
 use Rattle.ix_guarded_text.specs.GuardedPlaces.{AreTests}
 use Rattle.ix_guarded_text.specs.Interleaved.{news}

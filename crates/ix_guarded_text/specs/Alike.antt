@@ -10,7 +10,7 @@ use Rattle.ix_meaning.specs.declared.note.NameError.{NameError}
 use Rattle.ix_meaning.specs.declared.note.Note.{Note}
 use Rattle.ix_meaning.specs.declared.note.Note.TheVariants.{Use, Typed, Declares, Wrong, WrongAnnot}
 use Rattle.ix_meaning.specs.Declarators.{is_further, first_behind}
-use Rattle.ix_moved.specs.Bare.{nowhere, bare_source}
+use Rattle.ix_guarded_text.specs.Bare.{nowhere, bare_source}
 
 abbrev pub bare_error : NameError → NameError
 bare_error error = record { rule = error.rule; span = nowhere }

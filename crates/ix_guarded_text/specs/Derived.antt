@@ -5,7 +5,7 @@ use Rattle.ix_lexer.specs.Tokens.{Tokens}
 use Rattle.ix_tree.specs.declared.decl.Unit.{Unit as Source}
 use Rattle.ix_grammar.specs.declared.classes.FoundUnit.{FoundUnit}
 use Rattle.ix_grammar.specs.SourceGrammar.{IsSource}
-use Rattle.ix_moved.specs.Bare.{bare_source}
+use Rattle.ix_guarded_text.specs.Bare.{bare_source}
 
 -- The bytes have tokens that are a source, with this tree up to places.
 pub record Derives (bytes : List ℕ) (unit : Source) : Type 0 where

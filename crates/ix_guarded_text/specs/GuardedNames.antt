@@ -6,7 +6,7 @@ use Rattle.ix_core.specs.Types.{int_type, is_array_type}
 use Rattle.ix_meaning.specs.declared.note.Meaning.TheVariants.{LengthOf}
 use Rattle.ix_meaning.specs.Resolved.{Names}
 use Rattle.ix_guard.specs.Accesses.{Access}
-use Rattle.ix_moved.specs.Moved.{Move, moved_span}
+use Rattle.ix_guarded_text.specs.Moved.{Move, moved_span}
 use Rattle.ix_guarded_text.specs.TestParts.{Parts, IsWritten}
 
 -- At each place moved they say what the source's say at the place.

@@ -15,12 +15,12 @@ use Rattle.ix_tree.specs.declared.stmt.Stmt.{Stmt}
 use Rattle.ix_tree.specs.declared.stmt.StmtKind.TheVariants as s
 use Rattle.ix_grammar.specs.declared.classes.FoundUnit.{FoundUnit}
 use Rattle.ix_grammar.specs.SourceGrammar.{IsSource}
-use Rattle.ix_moved.specs.Bare.{bare_maybe as maybe}
+use Rattle.ix_guarded_text.specs.Bare.{bare_maybe as maybe}
 use Rattle.ix_guard.specs.Accesses.{Access}
 use Rattle.ix_guard.specs.Tests.{Site}
 use Rattle.ix_guard.specs.Trees.{statement, expression_tested, declaration_tested, returning}
 use Rattle.ix_guarded_text.specs.TestParts.{Parts, guard_of, IsWritten}
-use Rattle.ix_moved.specs.Moved.{Move, moved_span, moved_name, moved_type, moved_mods, moved_expr, moved_decl, moved_stmt}
+use Rattle.ix_guarded_text.specs.Moved.{Move, moved_span, moved_name, moved_type, moved_mods, moved_expr, moved_decl, moved_stmt}
 
 -- The tests of these accesses, each of which is so.
 pub data AreTests (IsTest : Access → Parts → Type 0) : List Access → List Stmt → Type 0 where

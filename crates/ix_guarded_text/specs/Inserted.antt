@@ -1,6 +1,6 @@
 -- The insertions of a guarded text, as what is added to a text.
 use Rattle.std.specs.Prelude.{List, map}
-use Rattle.ix_moved.specs.Woven.{Added}
+use Rattle.ix_guarded_text.specs.Woven.{Added}
 use Rattle.ix_guard.specs.declared.insertion.Insertion.{Insertion}
 
 abbrev pub of_insertion : Insertion → Added

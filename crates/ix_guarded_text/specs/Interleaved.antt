@@ -1,8 +1,8 @@
 -- The tokens of a text in which texts are inserted, each of which is an old one, that is told by its place, or a new one.
 use Rattle.std.specs.Prelude.{◌≡◌, ℕ, ◌+◌, nat_lt, Bool, true, if◌then◌else◌, List, [], ◌∷◌, ◌++◌, map, length}
 use Rattle.ix_lexer.specs.declared.token.Token.{Token}
-use Rattle.ix_moved.specs.Woven.{Added, IsInserted, is_word_like, may_open}
-use Rattle.ix_moved.specs.Moved.{Move, moved_token}
+use Rattle.ix_guarded_text.specs.Woven.{Added, IsInserted, is_word_like, may_open}
+use Rattle.ix_guarded_text.specs.Moved.{Move, moved_token}
 use Rattle.ix_guarded_text.specs.TestParts.{IsNew}
 
 -- ---- where an old place is

@@ -18,5 +18,12 @@ pub mod Alike
 pub mod Gathered
 pub mod Same
 pub mod Joint
--- Passed on from ix_moved.
-pub use Rattle.ix_moved.specs.Moved
+-- Texts that are inserted between the tokens of a text.
+pub mod Woven
+pub mod Names
+-- Trees without their places, and tokens at other places.
+pub mod Bare
+pub mod Respanned
+-- Trees and tokens whose places are moved, and what the rules of the grammar find with its places moved.
+pub mod Moved
+pub mod MovedFound

@@ -4,8 +4,8 @@ use Rattle.ix_text.specs.declared.span.Span.{Span}
 use Rattle.ix_meaning.specs.declared.note.NameError.{NameError}
 use Rattle.ix_meaning.specs.declared.note.Note.{Note}
 use Rattle.ix_meaning.specs.declared.note.Note.TheVariants.{Use, Typed, Declares, Wrong, WrongAnnot}
-use Rattle.ix_moved.specs.Bare.{nowhere}
-use Rattle.ix_moved.specs.Moved.{Move, moved_span}
+use Rattle.ix_guarded_text.specs.Bare.{nowhere}
+use Rattle.ix_guarded_text.specs.Moved.{Move, moved_span}
 
 abbrev pub moved_error : Move → NameError → NameError
 moved_error move error = record { rule = error.rule; span = moved_span move error.span }

@@ -5,8 +5,8 @@ use Rattle.ix_meaning.specs.Members.{World, Callee}
 use Rattle.ix_meaning.specs.Scope.{Scope}
 use Rattle.ix_meaning.specs.Source.{Place}
 use Rattle.std.specs.Prelude.{map}
-use Rattle.ix_moved.specs.Bare.{bare_maybe as maybe}
-use Rattle.ix_moved.specs.Moved.{Move, moved_span}
+use Rattle.ix_guarded_text.specs.Bare.{bare_maybe as maybe}
+use Rattle.ix_guarded_text.specs.Moved.{Move, moved_span}
 
 module _ (move : Move) where
   abbrev pub moved_field : Field → Field

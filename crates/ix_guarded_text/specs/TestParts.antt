@@ -11,7 +11,7 @@ use Rattle.ix_tree.specs.declared.stmt.StmtKind.TheVariants as s
 use Rattle.ix_formed.specs.Additions.{AllOf}
 use Rattle.ix_guard.specs.Accesses.{Access}
 use Rattle.ix_guard.specs.Trees.{expression, statement, named, either}
-use Rattle.ix_moved.specs.Moved.{Move}
+use Rattle.ix_guarded_text.specs.Moved.{Move}
 
 -- ---- `if (array == null || index < 0 || index >= array.length) throw new Thrown(..);`
 

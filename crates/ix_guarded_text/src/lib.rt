@@ -10,7 +10,7 @@
 //! - `placed_says` of `PlacedSays`: at each place moved the guarded text's names say what the source's say at the place; and `placed_meant` of `PlacedMeant`: the names of a test
 //!   mean what those of its access mean. Without tests it is `moved_says` of `MovedSays`, for places that are moved as `moving_is_injective` of `MovingApart` has it: no two come to one.
 //!
-//! They stand on the texts, trees and tests of `ix_guard`, on texts with insertions and moved trees of `ix_moved` and their notes of `ix_guarded_text`, on the notes of `ix_meaning`, and
+//! They stand on the texts, trees and tests of `ix_guard`, on texts with insertions and moved trees of `ix_guarded_text` and their notes of `ix_guarded_text`, on the notes of `ix_meaning`, and
 //! on the table of an accepted source of `ix_formed`.
 //! They never look at how a text is read or written, at which accesses are proved, nor at how a source is run.
 #![tactic(auto)]

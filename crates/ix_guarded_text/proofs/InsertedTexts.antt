@@ -11,10 +11,10 @@ use Rattle.ix_lexer.specs.Characters.{Text}
 use Rattle.ix_lexer.specs.Scan.{stays_in_line}
 use Rattle.ix_lexer.specs.Tokens.{Longest, kind_of, size, token, Reads, one, Tokens}
 use Rattle.ix_lexer.proofs.OneReading.{reads_on}
-use Rattle.ix_moved.specs.Woven.{kinds, Added, with_added, IsInserted, is_word_like, may_open, Woven, done, keep, before, behind}
-use Rattle.ix_moved.proofs.LongestAgain.{is_wordy, opens, Front, ends, same, inserted, longest_again}
-use Rattle.ix_moved.proofs.Escapes.{escapes, none_escapes, escapes_none, ends_plain, behind_plain, both_plain, no_backslash}
-use Rattle.ix_moved.proofs.Gaps.{IsTokenElement, token_element, begins_in_line, token_ends_plain, Step, step, only_gaps, wordy_kind}
+use Rattle.ix_guarded_text.specs.Woven.{kinds, Added, with_added, IsInserted, is_word_like, may_open, Woven, done, keep, before, behind}
+use Rattle.ix_guarded_text.proofs.LongestAgain.{is_wordy, opens, Front, ends, same, inserted, longest_again}
+use Rattle.ix_guarded_text.proofs.Escapes.{escapes, none_escapes, escapes_none, ends_plain, behind_plain, both_plain, no_backslash}
+use Rattle.ix_guarded_text.proofs.Gaps.{IsTokenElement, token_element, begins_in_line, token_ends_plain, Step, step, only_gaps, wordy_kind}
 
 -- ---- lists
 

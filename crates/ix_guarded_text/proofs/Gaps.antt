@@ -20,10 +20,10 @@ use Rattle.ix_lexer.specs.Tokens.{Longest, kind_of, fixed_or, number_kind, numbe
 use Rattle.ix_lexer.specs.Numbers.{number_of, is_hexadecimal}
 use Rattle.ix_lexer.proofs.Scans.{not_true}
 use Rattle.ix_lexer.proofs.ReadingSteps.{size_append}
-use Rattle.ix_moved.specs.Woven.{is_word_like}
-use Rattle.ix_moved.proofs.SignFronts.{holds_in, sign_parts}
-use Rattle.ix_moved.proofs.LongestAgain.{is_closed, is_wordy, Front, same, longest_again, starts_ascii, continues_ascii, digit_starts_none, not_wordy_white, not_empty}
-use Rattle.ix_moved.proofs.Escapes.{ends_plain}
+use Rattle.ix_guarded_text.specs.Woven.{is_word_like}
+use Rattle.ix_guarded_text.proofs.SignFronts.{holds_in, sign_parts}
+use Rattle.ix_guarded_text.proofs.LongestAgain.{is_closed, is_wordy, Front, same, longest_again, starts_ascii, continues_ascii, digit_starts_none, not_wordy_white, not_empty}
+use Rattle.ix_guarded_text.proofs.Escapes.{ends_plain}
 
 -- ---- what a token's element is
 

@@ -11,11 +11,11 @@ use Rattle.ix_grammar.specs.DeclGrammar.{nothing_more}
 use Rattle.ix_grammar.specs.ClassGrammar as g
 use Rattle.ix_grammar.specs.ClassGrammar.{IsDotName, IsDotted, IsPackage, IsImported, IsImport, IsClass, no_classes, with_class}
 use Rattle.ix_grammar.specs.SourceGrammar.{source_parts, IsSource}
-use Rattle.ix_moved.proofs.ListsAgain.{map_joined}
-use Rattle.ix_moved.specs.Moved.{Move, moved_span, moved_tokens, moved_name, moved_class}
-use Rattle.ix_moved.specs.MovedFound.{moved_found_class, moved_classes, moved_unit}
-use Rattle.ix_moved.proofs.ListsMoved.{both, Moves, repeated}
-use Rattle.ix_moved.proofs.ClassesMoved.{class_moves}
+use Rattle.ix_guarded_text.proofs.ListsAgain.{map_joined}
+use Rattle.ix_guarded_text.specs.Moved.{Move, moved_span, moved_tokens, moved_name, moved_class}
+use Rattle.ix_guarded_text.specs.MovedFound.{moved_found_class, moved_classes, moved_unit}
+use Rattle.ix_guarded_text.proofs.ListsMoved.{both, Moves, repeated}
+use Rattle.ix_guarded_text.proofs.ClassesMoved.{class_moves}
 
 module _ (move : Move) where
   -- ---- package and import lines

@@ -13,7 +13,7 @@ use Rattle.ix_lexer.specs.Characters.{Text, starts_identifier, continues_identif
 use Rattle.ix_lexer.specs.Elements.{IsElement, white_space, line_comment, comment, open_comment, word, number, quoted, open_string, sign}
 use Rattle.ix_lexer.specs.Numbers.{number_of, is_hexadecimal}
 use Rattle.ix_lexer.specs.Tokens.{kind_of, fixed_or, number_kind, number_in, words, between_quotes, Reads, none, gap, one, Tokens}
-use Rattle.ix_moved.specs.Names.{IsName, IsNamed, HaveNames}
+use Rattle.ix_guarded_text.specs.Names.{IsName, IsNamed, HaveNames}
 
 scalars_both : (u v : Text) → all_scalars (u ++ v) ≡ true → (all_scalars u ≡ true) × (all_scalars v ≡ true)
 scalars_both [] v h = (refl, h)

@@ -13,7 +13,7 @@ use Rattle.ix_lexer.specs.Scan.{stays_in_line, closing_quote, comment_end}
 use Rattle.ix_lexer.specs.Tokens.{Longest}
 use Rattle.ix_lexer.proofs.LongestElement.{some_sign}
 use Rattle.ix_lexer.proofs.Scans.{not_true, quote_found, comment_found}
-use Rattle.ix_moved.proofs.SignFronts.{begins_word, sign_front, sign_parts, last_holds, front_all, not_later}
+use Rattle.ix_guarded_text.proofs.SignFronts.{begins_word, sign_front, sign_parts, last_holds, front_all, not_later}
 
 -- ---- classes of characters
 

@@ -23,13 +23,13 @@ use Rattle.ix_grammar.specs.StmtGrammar.{IsBlockStmt}
 use Rattle.ix_grammar.specs.ClassGrammar as g
 use Rattle.ix_grammar.specs.ClassGrammar.{IsBody, IsBehind, IsMember, IsClassWord, IsClassWords, IsParent, IsClass, result_tree, method_of, fields, no_stmts, with_stmt, no_members, with_members, class_of}
 use Rattle.ix_grammar.specs.SourceGrammar.{source_parts}
-use Rattle.ix_moved.specs.Bare.{nowhere, bare_maybe, bare_name, bare_type, bare_mods, bare_expr, bare_decl, bare_stmt, bare_member, bare_class}
-use Rattle.ix_moved.specs.Respanned.{next, behind}
-use Rattle.ix_moved.proofs.ListsAgain.{both, same_joined, Stays, repeated}
-use Rattle.ix_moved.proofs.AnnotsAgain.{named_at, type_stays}
-use Rattle.ix_moved.proofs.ExprsAgain.{args_stay}
-use Rattle.ix_moved.proofs.DeclsAgain.{SameMods, SameParams, Any, mods_stay, decls_stay, params_stay, throws_stay}
-use Rattle.ix_moved.proofs.StmtsAgain.{SameStmt, SameStmts, block_stmt_stays}
+use Rattle.ix_guarded_text.specs.Bare.{nowhere, bare_maybe, bare_name, bare_type, bare_mods, bare_expr, bare_decl, bare_stmt, bare_member, bare_class}
+use Rattle.ix_guarded_text.specs.Respanned.{next, behind}
+use Rattle.ix_guarded_text.proofs.ListsAgain.{both, same_joined, Stays, repeated}
+use Rattle.ix_guarded_text.proofs.AnnotsAgain.{named_at, type_stays}
+use Rattle.ix_guarded_text.proofs.ExprsAgain.{args_stay}
+use Rattle.ix_guarded_text.proofs.DeclsAgain.{SameMods, SameParams, Any, mods_stay, decls_stay, params_stay, throws_stay}
+use Rattle.ix_guarded_text.proofs.StmtsAgain.{SameStmt, SameStmts, block_stmt_stays}
 
 -- ---- bodies
 

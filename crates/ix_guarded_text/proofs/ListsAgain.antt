@@ -4,7 +4,7 @@ use Rattle.ix_lexer.specs.declared.token.Token.{Token}
 use Rattle.ix_lexer.specs.declared.fixed.TheConstants.{COMMA}
 use Rattle.ix_grammar.specs.Patterns.{sign}
 use Rattle.ix_grammar.specs.Lists.{IsSeparated, IsRepeated, first_item, next_item, no_item, one_more}
-use Rattle.ix_moved.specs.Respanned.{Places, next, behind, respanned}
+use Rattle.ix_guarded_text.specs.Respanned.{Places, next, behind, respanned}
 
 pub both : (ts us : List Token) (at : Places) → respanned at (ts ++ us) ≡ respanned at ts ++ respanned (behind ts at) us
 both [] us at = refl

@@ -23,7 +23,7 @@ use Rattle.ix_tree.specs.declared.expr.Init.TheVariants as i
 use Rattle.ix_tree.specs.declared.stmt.Stmt.{Stmt, Stmt-F, fold-Stmt}
 use Rattle.ix_tree.specs.declared.stmt.StmtKind.{StmtKind, StmtKind-F}
 use Rattle.ix_tree.specs.declared.stmt.StmtKind.TheVariants as s
-use Rattle.ix_moved.specs.Bare.{bare_maybe as maybe}
+use Rattle.ix_guarded_text.specs.Bare.{bare_maybe as maybe}
 
 -- Where what begins at a place begins then, and where what ends at a place ends.
 pub record Move : Type 0 where

@@ -9,12 +9,12 @@ use Rattle.ix_grammar.specs.DeclGrammar.{nothing_more}
 use Rattle.ix_grammar.specs.ClassGrammar as g
 use Rattle.ix_grammar.specs.ClassGrammar.{IsDotName, IsDotted, IsPackage, IsImported, IsImport, IsClass, no_classes, with_class}
 use Rattle.ix_grammar.specs.SourceGrammar.{source_parts, IsSource}
-use Rattle.ix_moved.specs.Bare.{nowhere, bare_class, bare_source}
-use Rattle.ix_moved.specs.Respanned.{Places, next, behind, respanned}
-use Rattle.ix_moved.proofs.ListsAgain.{both, same_joined, Again, Stays, repeated}
-use Rattle.ix_moved.proofs.AnnotsAgain.{named_at}
-use Rattle.ix_moved.proofs.DeclsAgain.{Any}
-use Rattle.ix_moved.proofs.ClassesAgain.{SameClass, class_stays}
+use Rattle.ix_guarded_text.specs.Bare.{nowhere, bare_class, bare_source}
+use Rattle.ix_guarded_text.specs.Respanned.{Places, next, behind, respanned}
+use Rattle.ix_guarded_text.proofs.ListsAgain.{both, same_joined, Again, Stays, repeated}
+use Rattle.ix_guarded_text.proofs.AnnotsAgain.{named_at}
+use Rattle.ix_guarded_text.proofs.DeclsAgain.{Any}
+use Rattle.ix_guarded_text.proofs.ClassesAgain.{SameClass, class_stays}
 
 -- ---- package and import lines
 

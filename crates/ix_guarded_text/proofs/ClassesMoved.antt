@@ -11,15 +11,15 @@ use Rattle.ix_grammar.specs.StmtGrammar.{IsBlockStmt}
 use Rattle.ix_grammar.specs.ClassGrammar as g
 use Rattle.ix_grammar.specs.ClassGrammar.{IsBody, IsBehind, IsMember, IsClassWord, IsClassWords, IsParent, IsClass, method_of, fields, fields_of, no_stmts, with_stmt, no_members, with_members, class_of}
 use Rattle.ix_grammar.specs.SourceGrammar.{source_parts}
-use Rattle.ix_moved.specs.Bare.{bare_maybe as maybe}
-use Rattle.ix_moved.proofs.ClassesAgain.{map_both}
-use Rattle.ix_moved.specs.Moved.{Move, moved_span, moved_name, moved_decl, moved_member}
-use Rattle.ix_moved.specs.MovedFound.{moved_found_type, moved_found_mods, moved_found_stmt, moved_stmts, moved_body, moved_behind, moved_members, moved_found_class}
-use Rattle.ix_moved.proofs.ListsMoved.{both, Moves, same_found, repeated}
-use Rattle.ix_moved.proofs.AnnotsMoved.{type_moves}
-use Rattle.ix_moved.proofs.ExprsMoved.{args_move}
-use Rattle.ix_moved.proofs.DeclsMoved.{earlier_moved, begins_moved, mods_move, decls_move, params_move, throws_move}
-use Rattle.ix_moved.proofs.StmtsMoved.{stmts_joined, block_stmt_moves}
+use Rattle.ix_guarded_text.specs.Bare.{bare_maybe as maybe}
+use Rattle.ix_guarded_text.proofs.ClassesAgain.{map_both}
+use Rattle.ix_guarded_text.specs.Moved.{Move, moved_span, moved_name, moved_decl, moved_member}
+use Rattle.ix_guarded_text.specs.MovedFound.{moved_found_type, moved_found_mods, moved_found_stmt, moved_stmts, moved_body, moved_behind, moved_members, moved_found_class}
+use Rattle.ix_guarded_text.proofs.ListsMoved.{both, Moves, same_found, repeated}
+use Rattle.ix_guarded_text.proofs.AnnotsMoved.{type_moves}
+use Rattle.ix_guarded_text.proofs.ExprsMoved.{args_move}
+use Rattle.ix_guarded_text.proofs.DeclsMoved.{earlier_moved, begins_moved, mods_move, decls_move, params_move, throws_move}
+use Rattle.ix_guarded_text.proofs.StmtsMoved.{stmts_joined, block_stmt_moves}
 
 module _ (move : Move) where
   -- ---- bodies

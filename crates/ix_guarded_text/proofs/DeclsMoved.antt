@@ -17,13 +17,13 @@ use Rattle.ix_grammar.specs.AnnotGrammar.{annot_height}
 use Rattle.ix_grammar.specs.DeclGrammar as g
 use Rattle.ix_grammar.specs.DeclGrammar.{earlier, begins, marked, noted, with_word, with_annot, IsMods, shared, local_words, IsDecl, IsDecls, one_decl, with_decl, IsParam, IsParams, one_param, with_param, nothing, nothing_more, IsName, IsThrows}
 use Rattle.ix_grammar.specs.ExprGrammar.{IsInit}
-use Rattle.ix_moved.specs.Bare.{bare_maybe as maybe}
-use Rattle.ix_moved.proofs.ListsAgain.{map_joined}
-use Rattle.ix_moved.specs.Moved.{Move, moved_span, moved_name, moved_annot, moved_mods, moved_decl}
-use Rattle.ix_moved.specs.MovedFound.{moved_found_mods, moved_shared, moved_found_decl, moved_decls, moved_params}
-use Rattle.ix_moved.proofs.ListsMoved.{both, Moves, same_found, separated}
-use Rattle.ix_moved.proofs.AnnotsMoved.{annot_height_moved, annot_moves, type_moves}
-use Rattle.ix_moved.proofs.ExprsMoved.{init_moves}
+use Rattle.ix_guarded_text.specs.Bare.{bare_maybe as maybe}
+use Rattle.ix_guarded_text.proofs.ListsAgain.{map_joined}
+use Rattle.ix_guarded_text.specs.Moved.{Move, moved_span, moved_name, moved_annot, moved_mods, moved_decl}
+use Rattle.ix_guarded_text.specs.MovedFound.{moved_found_mods, moved_shared, moved_found_decl, moved_decls, moved_params}
+use Rattle.ix_guarded_text.proofs.ListsMoved.{both, Moves, same_found, separated}
+use Rattle.ix_guarded_text.proofs.AnnotsMoved.{annot_height_moved, annot_moves, type_moves}
+use Rattle.ix_guarded_text.proofs.ExprsMoved.{init_moves}
 
 module _ (move : Move) where
   -- ---- modifiers

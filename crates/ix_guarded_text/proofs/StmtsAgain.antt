@@ -22,12 +22,12 @@ use Rattle.ix_grammar.specs.ExprNodes.{with_expr}
 use Rattle.ix_grammar.specs.ExprGrammar.{Whole, IsStatementExpr}
 use Rattle.ix_grammar.specs.StmtGrammar as g
 use Rattle.ix_grammar.specs.StmtGrammar.{maybe_expr, begins_print, run_part, one_run, with_run, one_expr, IsLocal, IsForFirst, IsMaybe, IsUpdate, IsReason, IsStmt, IsBlockStmt, IsStmts}
-use Rattle.ix_moved.specs.Bare.{nowhere, bare_maybe, bare_expr, bare_decl, stmt_kind_step, stmt_step, bare_stmt}
-use Rattle.ix_moved.specs.Respanned.{Places, next, behind, respanned}
-use Rattle.ix_moved.proofs.ListsAgain.{both, same_joined, Stays, separated}
-use Rattle.ix_moved.proofs.AnnotsAgain.{named_at, type_stays}
-use Rattle.ix_moved.proofs.ExprsAgain.{SameFound, SameItems, expr_stays, run_stays}
-use Rattle.ix_moved.proofs.DeclsAgain.{SameDecls, mods_stay, decls_stay}
+use Rattle.ix_guarded_text.specs.Bare.{nowhere, bare_maybe, bare_expr, bare_decl, stmt_kind_step, stmt_step, bare_stmt}
+use Rattle.ix_guarded_text.specs.Respanned.{Places, next, behind, respanned}
+use Rattle.ix_guarded_text.proofs.ListsAgain.{both, same_joined, Stays, separated}
+use Rattle.ix_guarded_text.proofs.AnnotsAgain.{named_at, type_stays}
+use Rattle.ix_guarded_text.proofs.ExprsAgain.{SameFound, SameItems, expr_stays, run_stays}
+use Rattle.ix_guarded_text.proofs.DeclsAgain.{SameDecls, mods_stay, decls_stay}
 
 -- ---- nodes
 

@@ -22,14 +22,14 @@ use Rattle.ix_grammar.specs.ExprNodes.{with_expr}
 use Rattle.ix_grammar.specs.ExprGrammar.{Whole, IsStatementExpr}
 use Rattle.ix_grammar.specs.StmtGrammar as g
 use Rattle.ix_grammar.specs.StmtGrammar.{stmt_node, maybe_expr, maybe_height, begins_print, run_part, one_run, with_run, one_expr, local_stmt, IsLocal, IsForFirst, IsMaybe, IsUpdate, IsReason, IsStmt, IsBlockStmt, IsStmts}
-use Rattle.ix_moved.specs.Bare.{bare_maybe as maybe}
-use Rattle.ix_moved.proofs.ListsAgain.{map_joined}
-use Rattle.ix_moved.specs.Moved.{Move, moved_span, moved_tokens, moved_name, moved_expr, moved_decl, stmt_kind_step, stmt_step, moved_stmt}
-use Rattle.ix_moved.specs.MovedFound.{moved_found_type, moved_found, moved_several, moved_found_mods, moved_decls, moved_found_stmt, moved_stmts}
-use Rattle.ix_moved.proofs.ListsMoved.{both, Moves, same_found, separated}
-use Rattle.ix_moved.proofs.AnnotsMoved.{type_moves}
-use Rattle.ix_moved.proofs.ExprsMoved.{exprs_joined, expr_moves, run_moves}
-use Rattle.ix_moved.proofs.DeclsMoved.{begins_moved, mods_move, decls_move}
+use Rattle.ix_guarded_text.specs.Bare.{bare_maybe as maybe}
+use Rattle.ix_guarded_text.proofs.ListsAgain.{map_joined}
+use Rattle.ix_guarded_text.specs.Moved.{Move, moved_span, moved_tokens, moved_name, moved_expr, moved_decl, stmt_kind_step, stmt_step, moved_stmt}
+use Rattle.ix_guarded_text.specs.MovedFound.{moved_found_type, moved_found, moved_several, moved_found_mods, moved_decls, moved_found_stmt, moved_stmts}
+use Rattle.ix_guarded_text.proofs.ListsMoved.{both, Moves, same_found, separated}
+use Rattle.ix_guarded_text.proofs.AnnotsMoved.{type_moves}
+use Rattle.ix_guarded_text.proofs.ExprsMoved.{exprs_joined, expr_moves, run_moves}
+use Rattle.ix_guarded_text.proofs.DeclsMoved.{begins_moved, mods_move, decls_move}
 
 module _ (move : Move) where
   -- ---- nodes

@@ -19,11 +19,11 @@ use Rattle.ix_grammar.specs.Patterns.{sign, name_token}
 use Rattle.ix_grammar.specs.DeclGrammar as g
 use Rattle.ix_grammar.specs.DeclGrammar.{marked, noted, IsMods, declared, shared, local_words, IsDecl, IsDecls, one_decl, with_decl, IsParam, IsParams, one_param, with_param, nothing, nothing_more, IsName, IsThrows}
 use Rattle.ix_grammar.specs.ExprGrammar.{IsInit}
-use Rattle.ix_moved.specs.Bare.{bare_maybe, bare_name, bare_annot, bare_type, bare_mods, bare_init, bare_decl}
-use Rattle.ix_moved.specs.Respanned.{next, behind}
-use Rattle.ix_moved.proofs.ListsAgain.{both, map_joined, same_joined, Stays, separated}
-use Rattle.ix_moved.proofs.AnnotsAgain.{SameAnnot, named_at, annot_stays, type_stays}
-use Rattle.ix_moved.proofs.ExprsAgain.{init_stays}
+use Rattle.ix_guarded_text.specs.Bare.{bare_maybe, bare_name, bare_annot, bare_type, bare_mods, bare_init, bare_decl}
+use Rattle.ix_guarded_text.specs.Respanned.{next, behind}
+use Rattle.ix_guarded_text.proofs.ListsAgain.{both, map_joined, same_joined, Stays, separated}
+use Rattle.ix_guarded_text.proofs.AnnotsAgain.{SameAnnot, named_at, annot_stays, type_stays}
+use Rattle.ix_guarded_text.proofs.ExprsAgain.{init_stays}
 
 -- ---- modifiers
 

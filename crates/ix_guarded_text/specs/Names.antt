@@ -8,7 +8,7 @@ use Rattle.ix_lexer.specs.declared.token.TokenKind.{TokenKind}
 use Rattle.ix_lexer.specs.declared.token.TokenKind.TheVariants as kind
 use Rattle.ix_lexer.specs.Characters.{Text, backslash, starts_identifier, continues_identifier}
 use Rattle.ix_lexer.specs.Tokens.{kind_of}
-use Rattle.ix_moved.specs.Woven.{IsReadAs}
+use Rattle.ix_guarded_text.specs.Woven.{IsReadAs}
 
 -- The bytes are those of an identifier.
 pub record IsName (bytes : List ℕ) : Type 0 where

@@ -17,10 +17,10 @@ use Rattle.ix_lexer.proofs.LongestElement.{found}
 use Rattle.ix_lexer.proofs.OneReading.{take_front, reads_on}
 use Rattle.ix_lexer.proofs.ReadingSteps.{size_append, longest_take}
 use Rattle.ix_lexer.proofs.Scans.{quote_found}
-use Rattle.ix_moved.specs.Woven.{kinds, IsReadAs, IsInserted}
-use Rattle.ix_moved.specs.Names.{Piece}
-use Rattle.ix_moved.proofs.LongestAgain.{starts_ascii}
-use Rattle.ix_moved.proofs.SignFronts.{begins_word}
+use Rattle.ix_guarded_text.specs.Woven.{kinds, IsReadAs, IsInserted}
+use Rattle.ix_guarded_text.specs.Names.{Piece}
+use Rattle.ix_guarded_text.proofs.LongestAgain.{starts_ascii}
+use Rattle.ix_guarded_text.proofs.SignFronts.{begins_word}
 
 -- ---- what is found is the longest
 

@@ -25,11 +25,11 @@ use Rattle.ix_grammar.specs.TypeGrammar.{base_height}
 use Rattle.ix_grammar.specs.ExprNodes.{node, created_type, type_start, with_expr, with_init, value_init, items_init}
 use Rattle.ix_grammar.specs.ExprGrammar as g
 use Rattle.ix_grammar.specs.ExprGrammar.{Kind, IsMorePairs, IsExpr, IsExprs, IsArgs, IsInit, IsInits, IsItems, IsStatementExpr}
-use Rattle.ix_moved.proofs.ListsAgain.{map_joined}
-use Rattle.ix_moved.specs.Moved.{Move, moved_span, moved_name, moved_annot, moved_type, kind_step, init_step, expr_step, moved_expr, moved_init}
-use Rattle.ix_moved.specs.MovedFound.{moved_at, moved_found_base, moved_notes, moved_found_type, moved_found, moved_several, moved_args, moved_found_init, moved_items}
-use Rattle.ix_moved.proofs.ListsMoved.{both, Moves, same_found}
-use Rattle.ix_moved.proofs.AnnotsMoved.{base_height_moved, notes_move, base_moves, pairs_move}
+use Rattle.ix_guarded_text.proofs.ListsAgain.{map_joined}
+use Rattle.ix_guarded_text.specs.Moved.{Move, moved_span, moved_name, moved_annot, moved_type, kind_step, init_step, expr_step, moved_expr, moved_init}
+use Rattle.ix_guarded_text.specs.MovedFound.{moved_at, moved_found_base, moved_notes, moved_found_type, moved_found, moved_several, moved_args, moved_found_init, moved_items}
+use Rattle.ix_guarded_text.proofs.ListsMoved.{both, Moves, same_found}
+use Rattle.ix_guarded_text.proofs.AnnotsMoved.{base_height_moved, notes_move, base_moves, pairs_move}
 
 module _ (move : Move) where
   -- ---- nodes

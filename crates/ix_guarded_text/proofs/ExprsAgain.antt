@@ -24,10 +24,10 @@ use Rattle.ix_grammar.specs.Patterns.{sign, name_token}
 use Rattle.ix_grammar.specs.ExprNodes.{created_type, makes_array}
 use Rattle.ix_grammar.specs.ExprGrammar as g
 use Rattle.ix_grammar.specs.ExprGrammar.{Kind, IsMorePairs, IsExpr, IsExprs, IsArgs, IsInit, IsInits, IsItems, IsStatementExpr}
-use Rattle.ix_moved.specs.Bare.{nowhere, bare_name, bare_type, kind_step, init_step, expr_step, bare_expr, bare_init}
-use Rattle.ix_moved.specs.Respanned.{next, behind}
-use Rattle.ix_moved.proofs.ListsAgain.{both, same_joined, Stays}
-use Rattle.ix_moved.proofs.AnnotsAgain.{SameValue, SameNotes, SameBase, named_at, notes_stay, base_stays, pairs_stay}
+use Rattle.ix_guarded_text.specs.Bare.{nowhere, bare_name, bare_type, kind_step, init_step, expr_step, bare_expr, bare_init}
+use Rattle.ix_guarded_text.specs.Respanned.{next, behind}
+use Rattle.ix_guarded_text.proofs.ListsAgain.{both, same_joined, Stays}
+use Rattle.ix_guarded_text.proofs.AnnotsAgain.{SameValue, SameNotes, SameBase, named_at, notes_stay, base_stays, pairs_stay}
 
 -- ---- nodes
 

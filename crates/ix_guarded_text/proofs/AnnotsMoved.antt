@@ -15,11 +15,11 @@ use Rattle.ix_grammar.specs.AnnotGrammar as g
 use Rattle.ix_grammar.specs.AnnotGrammar.{IsText, IsValue, IsNamed, IsAnnot, IsNotes, name_height, args_height, annot_height, no_notes, with_note}
 use Rattle.ix_grammar.specs.TypeGrammar as t
 use Rattle.ix_grammar.specs.TypeGrammar.{IsBase, IsPairs, IsTypeRest, IsType, base_height, plain_type, array_of}
-use Rattle.ix_moved.specs.Bare.{bare_maybe as maybe}
-use Rattle.ix_moved.proofs.ListsAgain.{map_joined}
-use Rattle.ix_moved.specs.Moved.{Move, moved_span, moved_tokens, moved_name, moved_arg, moved_annot, moved_base}
-use Rattle.ix_moved.specs.MovedFound.{moved_at, moved_found_base, moved_notes, moved_found_type}
-use Rattle.ix_moved.proofs.ListsMoved.{both, Moves, repeated, separated}
+use Rattle.ix_guarded_text.specs.Bare.{bare_maybe as maybe}
+use Rattle.ix_guarded_text.proofs.ListsAgain.{map_joined}
+use Rattle.ix_guarded_text.specs.Moved.{Move, moved_span, moved_tokens, moved_name, moved_arg, moved_annot, moved_base}
+use Rattle.ix_guarded_text.specs.MovedFound.{moved_at, moved_found_base, moved_notes, moved_found_type}
+use Rattle.ix_guarded_text.proofs.ListsMoved.{both, Moves, repeated, separated}
 
 module _ (move : Move) where
   -- ---- annotations

@@ -4,8 +4,8 @@ use Rattle.ix_lexer.specs.declared.token.Token.{Token}
 use Rattle.ix_lexer.specs.declared.fixed.TheConstants.{COMMA}
 use Rattle.ix_grammar.specs.Patterns.{sign}
 use Rattle.ix_grammar.specs.Lists.{IsSeparated, IsRepeated, first_item, next_item, no_item, one_more}
-use Rattle.ix_moved.proofs.ClassesAgain.{map_both}
-use Rattle.ix_moved.specs.Moved.{Move, moved_span, moved_token, moved_tokens}
+use Rattle.ix_guarded_text.proofs.ClassesAgain.{map_both}
+use Rattle.ix_guarded_text.specs.Moved.{Move, moved_span, moved_token, moved_tokens}
 
 pub both : (move : Move) (ts us : List Token) → moved_tokens move (ts ++ us) ≡ moved_tokens move ts ++ moved_tokens move us
 both move ts us = map_both (moved_token move) ts us

@@ -22,8 +22,8 @@ use Rattle.ix_grammar.specs.declared.found.FoundStmt.{FoundStmt}
 use Rattle.ix_grammar.specs.declared.found.FoundType.{FoundType}
 use Rattle.ix_grammar.specs.declared.found.Notes.{Notes}
 use Rattle.ix_grammar.specs.declared.found.Several.{Several}
-use Rattle.ix_moved.specs.Bare.{bare_maybe as maybe}
-use Rattle.ix_moved.specs.Moved.{Move, moved_span, moved_annot, moved_base, moved_type, moved_mods, moved_expr, moved_init, moved_decl, moved_stmt, moved_member, moved_class, moved_source}
+use Rattle.ix_guarded_text.specs.Bare.{bare_maybe as maybe}
+use Rattle.ix_guarded_text.specs.Moved.{Move, moved_span, moved_annot, moved_base, moved_type, moved_mods, moved_expr, moved_init, moved_decl, moved_stmt, moved_member, moved_class, moved_source}
 
 module _ (move : Move) where
   -- a value that has no places in it
