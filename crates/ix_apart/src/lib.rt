@@ -2,7 +2,7 @@
 //!
 //! What goes in: nothing, for these are laws.
 //! The contract: no claim on a local names another local of the same slot, as the promise of `ix_sound` asks; and all its numbers have 32 bits.
-//! It stands on `ix_formed` for the program of a source, on `ix_sound` and `ix_sound` for what is asked of it, on `ix_meaning` for how little a source declares.
+//! It stands on `ix_formed` for the program of a source, on `ix_sound` for what is asked of it, on `ix_meaning` for how little a source declares.
 //! It never looks at facts, at rules, nor at how anything is computed.
 #![tactic(auto)]
 

@@ -3,7 +3,7 @@
 //! What goes in: facts in all their orders, with those that name a path at hand. What comes out: what an int or a length is at least and at most, differences,
 //! bounds from an array's end, and whether two arrays have the same length.
 //! The contract: each is the bound of `ix_facts`, of all facts.
-//! It stands on `ix_facts` for the facts on a path, on `ix_facts` for bounds.
+//! It stands on `ix_facts` for the facts on a path and for bounds.
 //! It never looks at how facts are kept.
 #![tactic(auto)]
 

@@ -8,7 +8,7 @@ use Rattle.ix_core.specs.Safe.{Safe}
 use Rattle.ix_core.specs.declared.claim.Type_.{Type_}
 use Rattle.ix_sound.specs.Judged.{CanCheck}
 use Rattle.ix_errors.specs.MethodErrors.{HaveNone}
-use Rattle.ix_sign_errors.specs.Ranked.{Ranked}
+use Rattle.ix_sign_errors.specs.declared.ranked.Ranked.{Ranked}
 use Rattle.ix_sign_errors.specs.Exactly.{AreExactly}
 use Rattle.ix_errors.specs.Sound.{LocalsApart, HasNoErrors}
 use Rattle.ix_sign_errors.specs.ErrorList.{IsErrorList, In}

@@ -9,5 +9,5 @@ pub use Rattle.ix_errors.specs.MethodRules
 pub use Rattle.ix_labels.specs.LoopLabels
 -- Passed on from ix_sign_errors.
 pub use Rattle.ix_sign_errors.specs.ErrorList
-pub use Rattle.ix_sign_errors.specs.Ranked
+pub use Rattle.ix_sign_errors.specs.declared.ranked.Ranked
 pub use Rattle.ix_sign_errors.specs.Exactly

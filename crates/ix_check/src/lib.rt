@@ -2,7 +2,7 @@
 //!
 //! What goes in: a formed program, and a profile. What comes out: its errors or those of one method, and the least labels of a method's loops.
 //! The contract: exactly the list of the errors that the rules derive at the least labels; a program without errors is `Safe`.
-//! It stands on `ix_errors` for the errors, on `ix_errors` for methods that are judged alone, on `ix_sign_errors` for lists of errors, on `ix_labels` for labels, on `ix_sound` for the promise.
+//! It stands on `ix_errors` for the errors and for methods that are judged alone, on `ix_sign_errors` for lists of errors, on `ix_labels` for labels, on `ix_sound` for the promise.
 //! It never looks at a source: neither at its tree, nor at its text.
 #![tactic(auto)]
 

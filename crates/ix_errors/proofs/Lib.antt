@@ -8,11 +8,11 @@ mod FlowPlaces
 mod PointPlaces
 mod TextPlaces
 pub mod ErrorPlaces
--- Passed on from ix_method_errors.
-pub use Rattle.ix_method_errors.proofs.Refused
-pub use Rattle.ix_method_errors.proofs.MethodLaws
 mod SameFlows
 mod DeclaredNames
 mod SameSignature
 mod SameErrors
 mod JudgedAlone
+-- Passed on from ix_method_errors.
+pub use Rattle.ix_method_errors.proofs.Refused
+pub use Rattle.ix_method_errors.proofs.MethodLaws

@@ -4,6 +4,8 @@ pub mod NodeErrors
 pub mod MethodErrors
 -- How many visits of nodes they take at most.
 pub mod Visits
+-- What is read of a program where one of its methods is judged.
+pub mod Signatures
 -- Passed on from ix_sound.
 pub use Rattle.ix_sound.specs.Sound
 -- Passed on from ix_method_errors.
@@ -15,5 +17,3 @@ pub use Rattle.ix_method_errors.specs.Exactly
 pub use Rattle.ix_labels.specs.MethodRules
 pub use Rattle.ix_labels.specs.RuleErrors
 pub use Rattle.ix_labels.specs.SignErrors
--- What is read of a program where one of its methods is judged.
-pub mod Signatures

@@ -21,6 +21,7 @@ pub mod PathOrder
 pub mod Named
 pub mod NamedLaws
 pub mod SameFacts
+pub mod OnPaths
 -- Passed on from ix_core.
 pub use Rattle.ix_core.specs.declared.fact.Fact
 pub use Rattle.ix_core.specs.declared.fact.Path
@@ -43,4 +44,3 @@ pub use Rattle.ix_lattice.specs.FactMap
 pub use Rattle.ix_lattice.specs.Lattice
 pub use Rattle.ix_lattice.specs.FactMapLaws
 pub use Rattle.ix_lattice.specs.LookUps
-pub mod OnPaths

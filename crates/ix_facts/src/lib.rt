@@ -1,7 +1,8 @@
 //! What the checker may know of the numbers in a state, and what each operation and test lets it know next.
 //!
 //! What goes in: facts. What comes out: the bounds that they give, the facts after an operation, a test, a claim, a forget, rounding.
-//! The contract: the rules as definitions, each sound and monotone (`laws.rt`); the traits `Know` and `System` that each table of facts meets.
+//! The contract: the rules as definitions, each sound and monotone (`laws.rt`); the traits `Know` and `System` that each table of facts meets, and `Indexed`, what is known by
+//! the paths that it names: the facts on a path are all facts that name it, in all their orders, and a rule that reads no other fact gives the same of them as of all (`OnPaths.antt`).
 //! It stands on `ix_core` for the plain form, on `ix_tables` for the low table, on `ix_lattice` for orders.
 //! It never looks at a state of the machine: of a state it knows the numbers of paths alone.
 #![tactic(auto)]

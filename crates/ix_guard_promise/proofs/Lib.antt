@@ -31,8 +31,6 @@ pub mod BodiesFollow
 pub mod GuardedRuns
 mod GuardedTrees
 pub mod PromiseKept
--- Passed on from ix_guarding.
-pub use Rattle.ix_guarding.proofs.OneGuarded
 pub mod Saying
 pub mod GuardedPieces
 pub mod GuardedItems
@@ -80,9 +78,6 @@ pub mod ProgramsGuarded
 pub mod NoneInOutlines
 pub mod LawsHold
 pub mod GuardedPrograms
--- Passed on from ix_guarded_text.
-pub use Rattle.ix_guarded_text.proofs.PartsMoved
-pub use Rattle.ix_guarded_text.proofs.SourcePlaces
 pub mod Outlined
 pub mod AccessesCounted
 pub mod OneAccess
@@ -95,3 +90,8 @@ pub mod StandingStatements
 pub mod StandingSources
 pub mod GuardedSources
 pub mod OneGuarded
+-- Passed on from ix_guarding.
+pub use Rattle.ix_guarding.proofs.OneGuarded
+-- Passed on from ix_guarded_text.
+pub use Rattle.ix_guarded_text.proofs.PartsMoved
+pub use Rattle.ix_guarded_text.proofs.SourcePlaces

@@ -7,10 +7,6 @@ pub mod Follows
 pub mod Behind
 -- What is promised of a guarded text.
 pub mod Promise
--- Passed on from ix_errors.
-pub use Rattle.ix_errors.specs.MethodErrors
--- Passed on from ix_guarding.
-pub use Rattle.ix_guarding.specs.Guarding
 -- What is known along a body with guards.
 pub mod Known
 -- Bodies with guards.
@@ -31,11 +27,6 @@ pub mod TestTrees
 pub mod TestForms
 -- What is known of code behind a test, and of code that has no access at a place.
 pub mod Laws
--- Passed on from ix_guarded_text.
-pub use Rattle.ix_guarded_text.specs.TestParts
-pub use Rattle.ix_guarded_text.specs.GuardedPlaces
-pub use Rattle.ix_guarded_text.specs.GuardedNames
-pub use Rattle.ix_guarded_text.specs.Interleaved
 -- All accesses in an expression.
 pub mod AllAccesses
 -- Those in a statement, and those at a place.
@@ -47,3 +38,12 @@ pub mod SourceGuards
 pub mod SourceAccesses
 -- Where names that are indices stand.
 pub mod StandingIndices
+-- Passed on from ix_errors.
+pub use Rattle.ix_errors.specs.MethodErrors
+-- Passed on from ix_guarding.
+pub use Rattle.ix_guarding.specs.Guarding
+-- Passed on from ix_guarded_text.
+pub use Rattle.ix_guarded_text.specs.TestParts
+pub use Rattle.ix_guarded_text.specs.GuardedPlaces
+pub use Rattle.ix_guarded_text.specs.GuardedNames
+pub use Rattle.ix_guarded_text.specs.Interleaved

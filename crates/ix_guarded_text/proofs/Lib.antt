@@ -43,9 +43,6 @@ pub mod TypedScopes
 pub mod AccessesRead
 pub mod TestsMeant
 pub mod PlacedMeant
--- Passed on from ix_parser.
-pub use Rattle.ix_parser.proofs.Laws
--- Passed on from ix_guarded_text.
 pub mod NotesMove
 pub mod AnnotsMove
 pub mod TypesMove
@@ -95,3 +92,5 @@ pub mod DeclsMoved
 pub mod StmtsMoved
 pub mod ClassesMoved
 pub mod SourcesMoved
+-- Passed on from ix_parser.
+pub use Rattle.ix_parser.proofs.Laws

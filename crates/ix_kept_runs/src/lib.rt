@@ -11,8 +11,10 @@
 //!   `MethodsFound`).
 //! - A call keeps its meaning where the methods and constructors that it runs do, and so does what a constructor begins with, the parent's constructor and the field
 //!   initialisers; `callees_run`, by the depth of calls: so every method and constructor runs as the source says, where its body is sound.
+//! - What the names in a source without errors on names mean, as each place needs it where it is lowered and run: `sound_source`, that each body of an accepted source is sound
+//!   where it stands, however a run sees it; and `assigns_own`, that what a sound expression assigns are variables in scope.
 //!
 //! They stand on the meaning of the tree in `ix_source_meaning`, the plain form of `ix_plain`, what `ix_formed` knows of it, and the machine of `ix_core`.
-//! They never look at how names are found, at why a body is sound, nor at how anything is computed.
+//! They never look at how names are found, nor at how anything is computed.
 #![tactic(auto)]
 

@@ -6,7 +6,7 @@ mod Filled
 pub mod Turns
 pub mod Filling
 pub mod Bounded
+mod HeadStores
 -- Passed on from ix_method.
 pub use Rattle.ix_method.proofs.MethodLaws
 pub use Rattle.ix_method.proofs.ErrorsWeaker
-mod HeadStores

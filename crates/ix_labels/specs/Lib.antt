@@ -12,6 +12,8 @@ pub mod Labels
 pub mod Filled
 -- How many visits of nodes they take at most.
 pub mod Visits
+-- The least labels of a method's loops.
+pub mod LoopLabels
 -- Passed on from ix_method.
 pub use Rattle.ix_method.specs.MethodRules
 pub use Rattle.ix_method.specs.Naming
@@ -19,8 +21,7 @@ pub use Rattle.ix_method.specs.Store
 pub use Rattle.ix_method.specs.RuleErrors
 pub use Rattle.ix_method.specs.SignErrors
 pub use Rattle.ix_method.specs.StoredFacts
+-- Passed on from ix_facts.
 pub use Rattle.ix_facts.specs.Stores
--- The least labels of a method's loops.
-pub mod LoopLabels
 -- What is passed on of the graph, for the bound on visits.
 pub use Rattle.ix_graph.specs.Graph

@@ -1,8 +1,6 @@
 mod HeadCount
 mod Written
 mod LeastLabels
--- Passed on from ix_cert.
-pub use Rattle.ix_cert.proofs.OneText
 mod Paths
 mod Lists
 mod Operations
@@ -19,3 +17,5 @@ mod Inside
 mod Declared
 mod LabelsWithin
 mod Rows
+-- Passed on from ix_cert.
+pub use Rattle.ix_cert.proofs.OneText

@@ -1,9 +1,9 @@
+-- Stores that speak of certain paths alone.
+pub mod Within
 -- Passed on from ix_cert.
 pub use Rattle.ix_cert.specs.Labellings
 pub use Rattle.ix_cert.specs.SameLabels
 pub use Rattle.ix_cert.specs.Store
 pub use Rattle.ix_cert.specs.StoredFacts
--- Stores that speak of certain paths alone.
-pub mod Within
 -- Passed on from ix_method.
 pub use Rattle.ix_method.specs.MethodRules

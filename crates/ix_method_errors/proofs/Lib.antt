@@ -1,8 +1,8 @@
 mod Listed
+mod NamedParameters
+mod EscapeErrors
 -- Passed on from ix_sign_errors.
 pub use Rattle.ix_sign_errors.proofs.Refused
 -- Passed on from ix_method.
 pub use Rattle.ix_method.proofs.ErrorsWeaker
 pub use Rattle.ix_method.proofs.MethodLaws
-mod NamedParameters
-mod EscapeErrors

@@ -1,5 +1,9 @@
 -- The errors of an operation as lists.
 pub mod Lists
+-- Which parameters the claims of a result and the posts of a method name.
+pub mod Parameters
+-- The errors of places where `this` is used.
+pub mod Escapes
 -- Passed on from ix_sign_errors.
 pub use Rattle.ix_sign_errors.specs.Exactly
 pub use Rattle.ix_sign_errors.specs.declared.ranked.Ranked
@@ -13,7 +17,3 @@ pub use Rattle.ix_method.specs.RuleErrors
 pub use Rattle.ix_method.specs.StoreOrder
 pub use Rattle.ix_method.specs.Naming
 pub use Rattle.ix_method.specs.SignErrors
--- Which parameters the claims of a result and the posts of a method name.
-pub mod Parameters
--- The errors of places where `this` is used.
-pub mod Escapes

@@ -9,7 +9,8 @@ ghost use Rattle.ix_meaning.specs.Source as source;
 ghost use Rattle.ix_meaning.specs.Resolved as spec;
 
 use crate::classes::notes_in;
-use crate::{inheritance_limit, limit};
+use crate::counts::limit;
+use crate::inheritance::inheritance_limit;
 use ix_meaning::{NameErrors, Note};
 use ix_member_notes::world_of;
 use ix_table::{Table, errors_of, table_of};

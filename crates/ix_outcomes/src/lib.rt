@@ -2,7 +2,7 @@
 //!
 //! What goes in: what is known, with the facts on each path at hand, and an outcome, as that `p < q + k`. What comes out: new facts.
 //! The contract: `facts`, those that the rules of `ix_facts` give of the outcome, no more and no fewer; their order and repeats are open.
-//! It stands on `ix_facts` for the facts on a path, on `ix_exact` for facts whose constants are kept, on `ix_facts` for rules and for lists with the same facts.
+//! It stands on `ix_facts` for rules, for the facts on a path and for lists with the same facts, on `ix_exact` for facts whose constants are kept.
 //! It never looks at a table, nor at the program.
 #![tactic(auto, using(std::proofs::lemmas::List::append_assoc, ix_exact::specs::KeptLaws::kept_joined, ix_exact::specs::KeptLaws::same_int))]
 

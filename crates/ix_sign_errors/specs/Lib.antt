@@ -1,7 +1,5 @@
 pub mod Exactly
 pub mod Refusals
--- Passed on from ix_claim_facts.
-pub use Rattle.ix_claim_facts.specs.MachineSteps
 -- The order in which errors are listed.
 pub mod Order
 -- The list of errors.
@@ -10,3 +8,5 @@ pub mod ErrorList
 pub mod FullKey
 -- What the two sorts leave.
 pub mod Least
+-- Passed on from ix_claim_facts.
+pub use Rattle.ix_claim_facts.specs.MachineSteps

@@ -1,7 +1,8 @@
-//! The errors of signatures and objects: which claims of arguments, results, fields and overridden methods, and which posts, aren't proved.
+//! The errors of signatures and objects: which claims of arguments, results, fields and overridden methods, and which posts, aren't proved; and the list of errors, in their order, each once.
 //!
 //! What goes in: a program, a method, an operation, and the store before it. What comes out: the errors, each with the place of its claim.
-//! The contract: each list has exactly the errors that the written rule derives.
+//! Of errors in any order, also several times, comes out how they are listed.
+//! The contract: each list has exactly the errors that the written rule derives; `IsErrorList` of `specs/ErrorList.antt`, and no two such lists are one of the same errors (law).
 //! It stands on `ix_store` for stores, on `ix_claim_facts` for what claims add and refuse, on `ix_classes` for fields.
 //! It never looks at a body, nor at the stores behind operations.
 #![tactic(auto)]
@@ -20,9 +21,9 @@ mod write;
 pub use call_errors::{push_argument_errors, push_effect_error};
 pub use field_errors::push_field_errors;
 pub use leave::{push_constructor_errors, push_missing_return, push_return_errors};
+pub use list::list_errors;
 pub use overriding::push_override_errors;
 pub use posts::push_post_errors;
 pub use ranked::{Ranked, push_plain};
 pub use unproved::{Report, push_unproved, refuses};
 pub use write::Write;
-pub use list::list_errors;

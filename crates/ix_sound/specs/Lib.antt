@@ -14,9 +14,9 @@ pub mod Known
 -- The promise.
 pub mod Sound
 pub mod Stands
--- Passed on from ix_method.
-pub use Rattle.ix_method.specs.Naming
 -- What a formed program lacks.
 pub mod Few
 -- What is asked of a program that is judged.
 pub mod Judged
+-- Passed on from ix_method.
+pub use Rattle.ix_method.specs.Naming

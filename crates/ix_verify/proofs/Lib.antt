@@ -1,7 +1,6 @@
 mod Counted
 pub mod OneVerdict
 mod Judged
--- Passed on from ix_verify.
 mod Loops
 mod FlowsBelow
 mod Same

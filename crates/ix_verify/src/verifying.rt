@@ -13,7 +13,8 @@ ghost use Rattle.ix_verify.specs.Verdicts as spec;
 ghost use Rattle.ix_verify.specs.Verdicts.{CanVerify, IsVerified, IsRefused, labels_in};
 
 use crate::answer::{CertError, Verified};
-use crate::{Audit, Store, audit, read, soundness};
+use ix_audit::{Audit, Store, audit, soundness};
+use ix_cert::read;
 use ix_core::{Error, List, Method, Profile, Program};
 use std::alloc::{AllocError, Global};
 

@@ -1,7 +1,8 @@
-//! The members of all classes, by their numbers and by their names.
+//! The members of all classes, by their numbers and by their names, and what one hides or overrides.
 //!
 //! What goes in: the classes of the tree. What comes out: their fields, methods and constructors, and which of them a name means in a class.
-//! The contract: `world` of `ix_meaning`'s `Members`, member for member.
+//! Of one field or method comes out whether it breaks a rule on inherited members.
+//! The contract: `world` of `ix_meaning`'s `Members`, member for member, and its `Inheritance`.
 //! It stands on the types of `ix_types` and `ix_written`, and on maps of std for names.
 //! It never looks at a body.
 #![tactic(auto)]
