@@ -5,8 +5,8 @@ use Rattle.ix_core.specs.declared.error.Error.{Error}
 use Rattle.ix_core.specs.declared.fact.Profile.{Profile}
 use Rattle.ix_core.specs.declared.program.Program.{Program}
 use Rattle.ix_facts.specs.Stores.{Stored}
-use Rattle.ix_sign_errors.specs.ErrorList.{In, IsErrorList}
-use Rattle.ix_sign_errors.proofs.Lists.{same_list}
+use Rattle.ix_method_errors.specs.ErrorList.{In, IsErrorList}
+use Rattle.ix_method_errors.proofs.Lists.{same_list}
 use Rattle.ix_method_errors.specs.Ranked.{Ranked}
 use Rattle.ix_method_errors.specs.Exactly.{IsListed}
 use Rattle.ix_sound.specs.Sound.{HasNoErrors}

@@ -6,7 +6,7 @@ use Rattle.ix_core.specs.declared.fact.Profile.{Profile}
 use Rattle.ix_core.specs.declared.program.Program.{Program}
 use Rattle.ix_core.specs.Tables.{method_at}
 use Rattle.ix_facts.specs.Stores.{Stored}
-use Rattle.ix_sign_errors.specs.ErrorList.{In, IsErrorList}
+use Rattle.ix_method_errors.specs.ErrorList.{In, IsErrorList}
 use Rattle.ix_method_errors.specs.Naming.{HaveSmallNames}
 use Rattle.ix_method_errors.specs.Ranked.{Ranked}
 use Rattle.ix_sound.specs.Sound.{HasNoErrors}

@@ -7,9 +7,8 @@ ghost use Rattle.ix_audit.specs.Audited as spec;
 use crate::answer::Audit;
 use crate::method::audit_method;
 use ix_core::{List, Profile, Program};
-use ix_sign_errors::list_errors;
 use ix_method_errors::Store;
-use ix_method_errors::signs::Ranked;
+use ix_method_errors::signs::{Ranked, list_errors};
 use std::alloc::{AllocError, Global};
 
 /// The labels of a method.

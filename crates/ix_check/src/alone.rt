@@ -2,15 +2,15 @@
 ghost use Rattle.std.specs.Prelude.{◌≡◌, ◌<◌, length, IfOk};
 ghost use Rattle.ix_core.specs.Formed.{Formed};
 ghost use Rattle.ix_core.specs.Tables.{method_at};
-ghost use Rattle.ix_sound.specs.Judged.{CanCheck};
+ghost use Rattle.ix_errors.specs.Judged.{CanCheck};
 ghost use Rattle.ix_errors.specs.MethodErrors.{IsErrorOf};
-ghost use Rattle.ix_sign_errors.specs.ErrorList.{IsErrorList};
+ghost use Rattle.ix_errors.specs.ErrorList.{IsErrorList};
 ghost use Rattle.ix_errors.specs.Signatures.{signatures, ErrorsOf};
 
 use ix_core::{Error, Profile, Program};
-use ix_sign_errors::list_errors;
-use ix_sound::{loops_are_in_order, names_are_small, overridden_is_there};
-use ix_errors::judged_alone;
+use ix_errors::{
+    judged_alone, list_errors, loops_are_in_order, names_are_small, overridden_is_there,
+};
 use ix_solve::Steps;
 use std::alloc::{AllocError, Global};
 use std::marker::Brand;

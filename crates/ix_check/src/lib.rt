@@ -11,9 +11,10 @@ mod loops;
 mod whole;
 
 pub use alone::method_errors;
-pub use ix_sign_errors::list_errors;
+pub use ix_errors::{
+    Ranked, list_errors, loops_are_in_order, method_errors as ranked_errors, names_are_small,
+    overridden_is_there,
+};
 pub use ix_labels::Store;
-pub use ix_sound::{loops_are_in_order, names_are_small, overridden_is_there};
-pub use ix_errors::{Ranked, method_errors as ranked_errors};
 pub use loops::{labels, method_labels};
 pub use whole::{check, check_program};

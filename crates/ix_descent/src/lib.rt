@@ -10,4 +10,3 @@
 pub mod aims;
 pub mod begun;
 pub mod stop;
-

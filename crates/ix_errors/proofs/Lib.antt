@@ -16,3 +16,6 @@ mod JudgedAlone
 -- Passed on from ix_method_errors.
 pub use Rattle.ix_method_errors.proofs.Refused
 pub use Rattle.ix_method_errors.proofs.MethodLaws
+pub use Rattle.ix_method_errors.proofs.Lists
+-- Passed on from ix_sound.
+pub use Rattle.ix_sound.proofs.Ready

@@ -8,11 +8,13 @@ pub mod Visits
 pub mod Signatures
 -- Passed on from ix_sound.
 pub use Rattle.ix_sound.specs.Sound
+pub use Rattle.ix_sound.specs.Judged
 -- Passed on from ix_method_errors.
 pub use Rattle.ix_method_errors.specs.Ranked
 pub use Rattle.ix_method_errors.specs.Names
 pub use Rattle.ix_method_errors.specs.Signs
 pub use Rattle.ix_method_errors.specs.Exactly
+pub use Rattle.ix_method_errors.specs.ErrorList
 -- Passed on from ix_labels.
 pub use Rattle.ix_labels.specs.MethodRules
 pub use Rattle.ix_labels.specs.RuleErrors

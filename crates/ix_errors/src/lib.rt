@@ -12,7 +12,7 @@ mod method;
 mod nodes;
 mod program;
 
-pub use ix_method_errors::signs::Ranked;
-pub use ix_sound::soundness;
-pub use program::{method_errors, program_errors};
+pub use ix_method_errors::signs::{Ranked, list_errors};
+pub use ix_sound::{loops_are_in_order, names_are_small, overridden_is_there, soundness};
 pub use laws::judged_alone;
+pub use program::{method_errors, program_errors};

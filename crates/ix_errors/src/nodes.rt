@@ -10,11 +10,11 @@ ghost use Rattle.ix_errors.specs.NodeErrors.{LabelGives, TextGives, NodeGives, A
 use ix_core::{Method, Program};
 use ix_graph::NodeKind;
 use ix_labels::{RunLabels, Store};
-use ix_method_errors::{push_assigned_parameter, push_escapes_in, push_escapes_of, push_op_errors};
 use ix_method_errors::signs::{
     Ranked, push_constructor_errors, push_effect_error, push_missing_return, push_post_errors,
     push_return_errors,
 };
+use ix_method_errors::{push_assigned_parameter, push_escapes_in, push_escapes_of, push_op_errors};
 use std::alloc::{AllocError, Global};
 
 /// Those that a node's label gives.

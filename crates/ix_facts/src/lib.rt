@@ -19,15 +19,20 @@ mod system;
 mod types;
 
 pub use conditions::{Blocks, condition_laws};
-pub use ix_core::{Base, Claim, Fact, List, Literal, OpKind, Path, PathClaim, PathOff, Profile, Type_, UnaryNum};
+pub use indexed::Indexed;
+pub use ix_core::{
+    Base, Claim, Fact, List, Literal, OpKind, Path, PathClaim, PathOff, Profile, Type_, UnaryNum,
+};
 pub use ix_lattice::Lattice;
 pub use ix_tables::{Arith, Interval, Low, Rel, low_table};
 pub use kind::{Kind, is_of_kind, kind_of_fact};
 pub use know::Know;
 pub use landmarks::Landmarks;
-pub use laws::{bounds_laws, claim_laws, closing_laws, forget_laws, form_laws, operation_laws, system_laws, test_laws};
+pub use laws::{
+    bounds_laws, claim_laws, closing_laws, forget_laws, form_laws, operation_laws, system_laws,
+    test_laws,
+};
 pub use same::{greater, is_same_offset, is_same_path, lesser};
 pub use stores::{field_laws, rule_laws, store_laws};
 pub use system::System;
 pub use types::{holds_arrays, holds_ints, is_array, is_int};
-pub use indexed::Indexed;

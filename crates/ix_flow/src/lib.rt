@@ -8,4 +8,3 @@
 //! It stands on `ix_core` for code, operations and tests, and for what was done last, by which a `return` says which answer it writes out.
 //! It never looks at what a store says, at a rule of the checker, or at how labels are found.
 #![tactic(auto)]
-

@@ -8,4 +8,3 @@
 //! of `ix_code_places`.
 //! They never look at how anything is computed, nor at how a text or its tokens are read.
 #![tactic(auto)]
-

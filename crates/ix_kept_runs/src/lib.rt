@@ -17,4 +17,3 @@
 //! They stand on the meaning of the tree in `ix_source_meaning`, the plain form of `ix_plain`, what `ix_formed` knows of it, and the machine of `ix_core`.
 //! They never look at how names are found, nor at how anything is computed.
 #![tactic(auto)]
-

@@ -9,9 +9,9 @@ ghost use Rattle.ix_labels.specs.LoopLabels as spec;
 ghost use Rattle.ix_labels.specs.Naming.{HasSmallNames, HaveSmallNames};
 ghost use Rattle.ix_labels.specs.Visits.{VisitsWithin};
 
+use crate::{Store, label_nodes};
 use ix_core::{Method, Profile, Program};
 use ix_graph::{Node, NodeKind};
-use crate::{Store, label_nodes};
 use ix_solve::Steps;
 use std::alloc::{AllocError, Global};
 use std::sync::ledger::Ledger;

@@ -13,10 +13,10 @@ ghost use Rattle.ix_member_notes.specs.Declarations as parts;
 use crate::places::member_scopes;
 use ix_bodies::{InAnnotation, Scopes, initialiser, note_declared, wrong_if};
 use ix_core::{Claim, Name, Type_};
-use ix_world::{World, field_of, hides};
 use ix_meaning::{Field, Meaning, Note, Rule};
 use ix_text::List;
 use ix_tree::{ClassDecl, Init, LocalDecl};
+use ix_world::{World, field_of, hides};
 use ix_written::{Annotations, Declaration, of_variable, static_field, variable};
 use std::alloc::{AllocError, Global};
 

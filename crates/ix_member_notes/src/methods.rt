@@ -16,11 +16,11 @@ use crate::params::params;
 use crate::parents::note_super;
 use indexmap::IndexMap;
 use ix_bodies::{Scopes, statements, wrong_if};
-use ix_world::{World, clashes, differs, method_of};
 use ix_meaning::{Note, Rule, Signature};
 use ix_text::List;
 use ix_tree::{ClassDecl, MethodDecl};
 use ix_types::{Need, need_like};
+use ix_world::{World, clashes, differs, method_of};
 use std::alloc::{AllocError, Global};
 
 fn note_constructor(

@@ -7,6 +7,7 @@ pub mod Escapes
 -- Passed on from ix_sign_errors.
 pub use Rattle.ix_sign_errors.specs.Exactly
 pub use Rattle.ix_sign_errors.specs.declared.ranked.Ranked
+pub use Rattle.ix_sign_errors.specs.ErrorList
 -- Passed on from ix_method.
 pub use Rattle.ix_method.specs.Names
 pub use Rattle.ix_method.specs.Signs

@@ -11,7 +11,10 @@ use crate::lengths::{push_length, push_new_array};
 use crate::loaded::push_loaded;
 use crate::operation::{push_num, push_unary};
 use ix_exact::{push_fact, push_if};
-use ix_facts::{Arith, Fact, Indexed, Know, List, Literal, OpKind, Path, Profile, Type_, UnaryNum, holds_arrays, is_array};
+use ix_facts::{
+    Arith, Fact, Indexed, Know, List, Literal, OpKind, Path, Profile, Type_, UnaryNum,
+    holds_arrays, is_array,
+};
 use std::alloc::AllocError;
 
 /// A literal.

@@ -4,9 +4,9 @@ ghost use Rattle.std.specs.Prelude.{◌≡◌, IfOk, OnOk, map};
 ghost use Rattle.ix_sign_errors.specs.ErrorList.{IsErrorList, In};
 ghost use Rattle.ix_sign_errors.specs.Least.{AreLeast, AreOnce, AreOrdered};
 
+use crate::Ranked;
 use crate::key::key_of;
 use ix_core::Error;
-use crate::Ranked;
 use std::alloc::{AllocError, Global};
 
 /// Leaves each error once, at its least rank: sorted by the error and then the rank, the first of each run.

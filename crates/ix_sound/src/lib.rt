@@ -10,5 +10,5 @@
 mod judged;
 mod laws;
 
-pub use laws::soundness;
 pub use judged::{loops_are_in_order, names_are_small, overridden_is_there};
+pub use laws::soundness;

@@ -16,9 +16,9 @@ use Rattle.ix_outside.proofs.PrefixesTaken.{TookPrefix-none}
 use Rattle.ix_words.specs.declared.values.Sums.{Sums}
 use Rattle.ix_words.specs.Commands.{Command, Check, Run, Bench, Verify, Guard}
 use Rattle.ix_answering.specs.Answers.{Answers, IsVerdict}
-use Rattle.ix_command_inputs.specs.Sources.{AsksCert, NeedsCert, file_in, cert_in, file_of, cert_of, source_name, source_bytes, judged_bytes}
+use Rattle.ix_read_inputs.specs.Sources.{AsksCert, NeedsCert, file_in, cert_in, file_of, cert_of, source_name, source_bytes, judged_bytes}
 use Rattle.ix_replies.specs.Said.{read_failed}
-use Rattle.ix_command_inputs.specs.Opened.{WasUnread, bytes_of, cert_bytes_of, last_of}
+use Rattle.ix_read_inputs.specs.Opened.{WasUnread, bytes_of, cert_bytes_of, last_of}
 use Rattle.ix_tool.specs.Ends.{EndsUnread, TookUnread}
 use Rattle.ix_answering.specs.Promises.{SafeBytes, SafeOnMachine, SafeBy, Promises}
 use Rattle.ix_tool.specs.Inputs.{Obeys}

@@ -5,9 +5,9 @@ use Rattle.ix_answer.specs.Answer.{Answer, err_answer}
 use Rattle.ix_answer.specs.Delivery.{IsOnly}
 use Rattle.ix_answer.specs.declared.status.Status.TheVariants.{ReadFault}
 use Rattle.ix_answering.specs.Answers.{IsVerdict}
-use Rattle.ix_command_inputs.specs.Sources.{source_bytes}
+use Rattle.ix_read_inputs.specs.Sources.{source_bytes}
 use Rattle.ix_replies.specs.Said.{read_failed}
-use Rattle.ix_command_inputs.specs.Opened.{WasUnread, last_of}
+use Rattle.ix_read_inputs.specs.Opened.{WasUnread, last_of}
 use Rattle.ix_answering.specs.Promises.{Promises}
 
 -- The only right answer on what was handed out, with what is promised of it, or that on a file that was not read.

@@ -12,5 +12,5 @@ mod laws;
 mod verifying;
 
 pub use answer::{CertError, Verified};
-pub use verifying::verify;
 pub use laws::{labels_are_judged_alike, what_is_written_is_accepted};
+pub use verifying::verify;

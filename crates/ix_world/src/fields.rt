@@ -5,8 +5,8 @@ ghost use Rattle.ix_meaning.specs.Inheritance as spec;
 ghost use Rattle.ix_meaning.specs.Members.{nearest};
 ghost use Rattle.ix_world.specs.World.{shown};
 
-use ix_meaning::Field;
 use crate::World;
+use ix_meaning::Field;
 
 fn some_declares(world: &World, classes: &[u32], name: &str) -> bool
     ensures { result ≡ is_some (nearest (λ class. (shown world.now).field class name.now) classes.now) }

@@ -14,8 +14,11 @@ mod methods;
 mod named;
 mod world;
 
-pub use ix_written::{Annotations, Begun, Declaration, begin_with, created, further_annotations, of_variable, own_annotations, variable};
-pub use lists::{field_of, fields, method_of, methods, param_type};
-pub use world::{Called, ClassWorld, World, world_of};
 pub use fields::hides;
+pub use ix_written::{
+    Annotations, Begun, Declaration, begin_with, created, further_annotations, of_variable,
+    own_annotations, variable,
+};
+pub use lists::{field_of, fields, method_of, methods, param_type};
 pub use methods::{clashes, differs};
+pub use world::{Called, ClassWorld, World, world_of};

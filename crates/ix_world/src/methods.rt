@@ -6,10 +6,10 @@ ghost use Rattle.ix_meaning.specs.Members as members;
 ghost use Rattle.ix_world.specs.World.{shown, callee};
 ghost use Rattle.ix_world.specs.Overriding as parts;
 
+use crate::{Called, World};
 use ix_core::Type_;
 use ix_meaning::Signature;
 use ix_types::{is_among, same_type};
-use crate::{Called, World};
 
 fn clashes_with(m: &Signature, other: &Signature) -> bool
     ensures { result ≡ spec.clashes_with m.now other.now }
