@@ -6,7 +6,7 @@ use Rattle.ix_core.specs.declared.error.Error.{Error}
 use Rattle.ix_core.specs.declared.error.Detail.TheVariants.{Plain}
 use Rattle.ix_core.specs.declared.fact.Profile.{Profile}
 use Rattle.ix_core.specs.declared.program.Program.{Program}
-use Rattle.ix_code_places.specs.CodePlaces.{PlacesWithin}
+use Rattle.ix_core.specs.CodePlaces.{PlacesWithin}
 use Rattle.ix_errors.specs.MethodErrors.{IsErrorOf, IsError}
 use Rattle.ix_errors.proofs.ErrorPlaces.{error_starts}
 use Rattle.ix_errors.specs.ErrorList.{IsErrorList}

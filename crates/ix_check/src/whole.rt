@@ -1,7 +1,7 @@
 //! The check of a whole program.
 ghost use Rattle.std.specs.Prelude.{◌≡◌, ◌+◌, ◌≤◌, ℕ, [], length, IfOk};
 ghost use Rattle.std.specs.List.{All};
-ghost use Rattle.ix_code_places.specs.CodePlaces.{PlacesWithin};
+ghost use Rattle.ix_core.specs.CodePlaces.{PlacesWithin};
 ghost use Rattle.ix_core.specs.Formed.{Formed};
 ghost use Rattle.ix_core.specs.Safe.{Safe};
 ghost use Rattle.ix_errors.specs.Judged.{CanCheck};

@@ -41,3 +41,5 @@ pub mod BrokenRows
 mod InputRows
 -- Programs with posts.
 pub mod PostRows
+pub mod TaskPlaces
+pub mod RunPlaces

@@ -29,3 +29,6 @@ pub use Rattle.ix_num.specs.declared.interval.Interval
 pub use Rattle.ix_num.specs.declared.rel.Rel
 -- Passed on from ix_text.
 pub use Rattle.ix_text.specs.declared.span.Span
+-- What holds of the places in a program, and of the place where a run stops.
+pub mod CodePlaces
+pub mod EndingPlaces

@@ -12,7 +12,7 @@ use Rattle.ix_flow.specs.Flow.{Rules, Avoids, IsDerived}
 use Rattle.ix_labels.specs.MethodRules.{method_rules}
 use Rattle.ix_method_errors.specs.Ranked.{Ranked}
 use Rattle.ix_errors.specs.MethodErrors.{Derives, IsErrorOf}
-use Rattle.ix_code_places.specs.CodePlaces.{MethodPlaces, IsIn, PlacesWithin}
+use Rattle.ix_core.specs.CodePlaces.{MethodPlaces, IsIn, PlacesWithin}
 use Rattle.ix_errors.proofs.FlowPlaces.{is_flow_more}
 use Rattle.ix_errors.proofs.PointPlaces.{point_place}
 use Rattle.ix_errors.proofs.TextPlaces.{text_place}

@@ -5,7 +5,7 @@ use Rattle.ix_core.specs.declared.op.Op.{Op}
 use Rattle.ix_core.specs.Code.{Code, End, Do, If, Break, Continue, Return, Throw, Loop, Condition, Known, Compare, Truth, Both, Either, Opposite}
 use Rattle.ix_core.specs.Posts.{written_answer}
 use Rattle.ix_flow.specs.Flow.{Point, Doing, Returning, Ending, Rules, Flows, Asks, IsFlow}
-use Rattle.ix_code_places.specs.CodePlaces.{OpPlaces, CodePlaces, AskedPlaces}
+use Rattle.ix_core.specs.CodePlaces.{OpPlaces, CodePlaces, AskedPlaces}
 
 -- the places of a point
 abbrev pub PointPlaces : (Span → Type 0) → Point → Type 0

@@ -16,7 +16,7 @@ use Rattle.ix_facts.specs.Stores.{Stored}
 use Rattle.ix_flow.specs.Flow.{Point, Doing, Returning, Ending}
 use Rattle.ix_labels.specs.RuleErrors.{AssignClaim, KindErrors, PointErrors}
 use Rattle.ix_labels.specs.SignErrors.{Unproved, plain, part, value_place, ArgumentClaim, PostClaim}
-use Rattle.ix_code_places.specs.CodePlaces.{ArgPlaces, CallPlaces, OpPlaces, KindPlaces}
+use Rattle.ix_core.specs.CodePlaces.{ArgPlaces, CallPlaces, OpPlaces, KindPlaces}
 use Rattle.ix_errors.proofs.FlowPlaces.{PointPlaces}
 
 pub all_got : {A : Type 0} (P : A → Type 0) (xs : List A) (k : ℕ) (x : A) → AllByRecursion P xs → slice_get xs k ≡ Some x → P x

@@ -1,7 +1,7 @@
 -- What a finding of the code says, and where it stands.
 use Rattle.std.specs.Prelude.{ℕ, ◌≤◌}
 use Rattle.ix_core.specs.Formed.{Formed}
-use Rattle.ix_code_places.specs.CodePlaces.{PlacesWithin}
+use Rattle.ix_core.specs.CodePlaces.{PlacesWithin}
 use Rattle.ix_apart.specs.Judged.{CanCheck}
 use Rattle.ix_name_report.specs.Texts.{StartWithin}
 use Rattle.ix_finding.specs.declared.finding.Finding.{Finding as Seen}

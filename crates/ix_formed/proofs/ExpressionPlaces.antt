@@ -40,7 +40,7 @@ use Rattle.ix_formed.specs.Additions.{Makes}
 use Rattle.ix_formed.proofs.PlainItems.{makes_then}
 use Rattle.ix_formed.specs.EachNode.{EachNode, ExprNodes, InitNodes}
 use Rattle.ix_formed.proofs.LaidNodes.{nodes_first, nodes_rows, nodes_piece, nodes_alone}
-use Rattle.ix_code_places.specs.CodePlaces.{KindPlaces, ArgPlaces}
+use Rattle.ix_core.specs.CodePlaces.{KindPlaces, ArgPlaces}
 use Rattle.ix_formed.proofs.ItemPlaces.{all_both, ItemPlaces, ItemsPlaces, CondPlaces, done_places, if_places, compare_places, truth_places, both_places, either_places, opposite_places}
 
 module _ (P : Span → Type 0) where

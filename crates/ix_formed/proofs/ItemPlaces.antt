@@ -13,7 +13,7 @@ use Rattle.ix_core.specs.declared.op.Test.{Test}
 use Rattle.ix_core.specs.Code.{Code, End, item_code, cond_code, items_code}
 use Rattle.ix_core.proofs.Translated.{item_code-If, item_code-Loop, cond_code-Compare, cond_code-Truth, cond_code-Both, cond_code-Either, cond_code-Opposite}
 use Rattle.ix_plain.specs.Parts.{done}
-use Rattle.ix_code_places.specs.CodePlaces.{CodePlaces, AskedPlaces, KindPlaces, TestPlaces}
+use Rattle.ix_core.specs.CodePlaces.{CodePlaces, AskedPlaces, KindPlaces, TestPlaces}
 
 pub all_both : {A : Type 0} (P : A → Type 0) (xs ys : List A) → AllByRecursion P xs → AllByRecursion P ys → AllByRecursion P (xs ++ ys)
 all_both P [] ys a b = b

@@ -9,7 +9,7 @@ use Rattle.ix_plain.specs.Program.{program}
 use Rattle.ix_formed.specs.EachNode.{InText, SourceNodes}
 use Rattle.ix_formed.proofs.LaidNodes.{laid_nodes, nodes_more}
 use Rattle.ix_formed.proofs.PlacedNodes.{source_nodes}
-use Rattle.ix_code_places.specs.CodePlaces.{IsIn, PlacesWithin}
+use Rattle.ix_core.specs.CodePlaces.{IsIn, PlacesWithin}
 use Rattle.ix_formed.proofs.ProgramPlaces.{Tells, program_places}
 
 abbrev StartsBy : ℕ → ℕ → Type 0

@@ -31,7 +31,7 @@ use Rattle.ix_plain.specs.Program.{Tables, Home, start, args_or_none, most_opera
 use Rattle.ix_formed.specs.Additions.{Makes}
 use Rattle.ix_formed.proofs.PlainItems.{makes_then}
 use Rattle.ix_formed.specs.EachNode.{IfSome, InitNodes, ArgsNodes, DeclNodes, MethodNodes, MemberNodes, ClassNodes}
-use Rattle.ix_code_places.specs.CodePlaces.{MethodPlaces, ProgramPlaces}
+use Rattle.ix_core.specs.CodePlaces.{MethodPlaces, ProgramPlaces}
 use Rattle.ix_formed.proofs.ItemPlaces.{all_both, code_of_items, done_places}
 use Rattle.ix_formed.proofs.ExpressionPlaces.{ValuePlaces, Places, ArgumentsPlaces, arguments_made, calling_made, expression_places, initialiser_places}
 use Rattle.ix_formed.proofs.StatementPlaces.{BodyPlaces, init_made, used_made, each_made, statements_places}

@@ -5,6 +5,6 @@
 //! `formed_source` of `FormedSources`: the program of such a tree is formed. And each place that an error on names, a limit or the program of a source names is the place of a node of
 //! its tree, which stands in the text: `placed_nodes` of `PlacedNodes`, the laws of `RefusalsStand`, `placed_program` and `placed_limit` of `PlacedPrograms`.
 //! They stand on the grammar of `ix_grammar`, the tokens of `ix_lexer`, the layouts of `ix_tree`, the meanings of `ix_meaning`, the plain form of `ix_plain`, `Formed` of `ix_core` and the places
-//! of `ix_code_places`.
+//! of `ix_core`.
 //! They never look at how anything is computed, nor at how a text or its tokens are read.
 #![tactic(auto)]

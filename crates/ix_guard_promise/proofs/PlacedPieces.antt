@@ -5,7 +5,7 @@ use Rattle.ix_text.specs.declared.span.Span.{Span}
 use Rattle.ix_core.specs.declared.op.Op.{Op}
 use Rattle.ix_core.specs.Code.{Code, End, Do, If, Break, Continue, Return, Throw, Loop, Condition, Known as Certain, Compare, Truth, Both, Either, Opposite}
 use Rattle.ix_core.specs.Formed.{is_straight, is_straight_condition}
-use Rattle.ix_code_places.specs.CodePlaces.{OpPlaces, CodePlaces, AskedPlaces}
+use Rattle.ix_core.specs.CodePlaces.{OpPlaces, CodePlaces, AskedPlaces}
 use Rattle.ix_guard_promise.specs.Pieces.{EachOp, EachAsked, HasNoLoop, AsksNoLoop, IsElsewhere}
 
 module _ (place : Span) where

@@ -4,7 +4,7 @@ ghost use Rattle.ix_machine.specs.declared.start.StartError.TheVariants as start
 ghost use Rattle.ix_machine.specs.State.{state_of, limits_of};
 ghost use Rattle.ix_core.specs.Machine.{with_limits};
 ghost use Rattle.ix_answer.specs.Delivery.{Delivers, sinks};
-ghost use Rattle.ix_code_places.specs.CodePlaces.{PlacesWithin};
+ghost use Rattle.ix_core.specs.CodePlaces.{PlacesWithin};
 ghost use Rattle.ix_run.specs.Ends.{RunWithin, TraceWithin};
 ghost use Rattle.ix_playing.specs.Runs as spec;
 ghost use Rattle.ix_answer.specs.Answer.{err_answer};

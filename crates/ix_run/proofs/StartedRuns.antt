@@ -1,9 +1,9 @@
 -- A run that begins stops, and asks for cells, in a text in which the places of its program stand.
 use Rattle.std.proofs.Common.{◌≤◌, ℕ, zero, suc, List, [], ◌∷◌, ◌++◌, Option, Some, None, sym, subst}
 use Rattle.std.specs.List.{AllByRecursion}
-use Rattle.ix_code_places.specs.CodePlaces.{IsIn, PlacesWithin}
-use Rattle.ix_code_places.proofs.TaskPlaces.{TaskPlaces, then_places}
-use Rattle.ix_code_places.proofs.RunPlaces.{StatePlaces, body_places, run_places, run_stops_at}
+use Rattle.ix_core.specs.CodePlaces.{IsIn, PlacesWithin}
+use Rattle.ix_core.proofs.TaskPlaces.{TaskPlaces, then_places}
+use Rattle.ix_core.proofs.RunPlaces.{StatePlaces, body_places, run_places, run_stops_at}
 use Rattle.ix_core.specs.declared.op.OpKind.{OpKind}
 use Rattle.ix_core.specs.declared.op.OpKind.TheVariants as op
 use Rattle.ix_core.specs.declared.program.Program.{Program}

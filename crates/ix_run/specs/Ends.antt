@@ -1,7 +1,7 @@
 -- How a run of a stated number of steps ends.
 use Rattle.std.specs.Prelude.{ℕ, ◌≤◌, Option, None, Some}
 use Rattle.std.specs.List.{AllByRecursion}
-use Rattle.ix_code_places.specs.EndingPlaces.{EndPlace}
+use Rattle.ix_core.specs.EndingPlaces.{EndPlace}
 use Rattle.ix_core.specs.declared.program.Program.{Program}
 use Rattle.ix_core.specs.Machine as machine
 use Rattle.ix_core.specs.Tables.{tables_of}

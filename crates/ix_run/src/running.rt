@@ -2,7 +2,7 @@
 //! Steps are inlined in the loop of a run.
 ghost use Rattle.std.specs.Prelude.{◌≡◌, ◌<◌, ◌≤◌, length, None, IfOk, OnOk, IsErrOf, string_bytes};
 ghost use Rattle.std.specs.List.{AllByRecursion};
-ghost use Rattle.ix_code_places.specs.EndingPlaces.{EndPlace};
+ghost use Rattle.ix_core.specs.EndingPlaces.{EndPlace};
 ghost use Rattle.ix_core.specs.Machine as model;
 ghost use Rattle.ix_core.specs.Tables.{tables_of};
 ghost use Rattle.ix_machine.specs.State.{state_of, limits_of};

@@ -8,17 +8,17 @@
 #![tactic(auto)]
 
 mod constant;
-mod fields;
+mod hiding;
 mod lists;
-mod methods;
 mod named;
+mod overriding;
 mod world;
 
-pub use fields::hides;
+pub use hiding::hides;
 pub use ix_written::{
     Annotations, Begun, Declaration, begin_with, created, further_annotations, of_variable,
     own_annotations, variable,
 };
 pub use lists::{field_of, fields, method_of, methods, param_type};
-pub use methods::{clashes, differs};
+pub use overriding::{clashes, differs};
 pub use world::{Called, ClassWorld, World, world_of};

@@ -2,7 +2,7 @@
 use Rattle.ix_text.specs.declared.span.Span.{Span}
 use Rattle.ix_core.specs.Code.{Code, End, Do, If, Break, Continue, Return, Throw, Loop}
 use Rattle.ix_core.specs.Tasks.{Tasks, Empty, Run, Ask, Decide, DecideTruth, Head, Again, Out, code_then, followed_by, behind_loop, next_turn}
-use Rattle.ix_code_places.specs.CodePlaces.{CodePlaces, AskedPlaces}
+use Rattle.ix_core.specs.CodePlaces.{CodePlaces, AskedPlaces}
 
 module _ (P : Span → Type 0) where
   abbrev pub TaskPlaces : Tasks → Type 0

@@ -18,9 +18,9 @@ use Rattle.ix_core.specs.Machine.{Ending, Limits, State, Waiting, Effect, Move, 
 use Rattle.ix_core.specs.Safe.{Input, start, state_after}
 use Rattle.ix_core.specs.Tables.{Tables, tables_of, method_at, no_method, body_of}
 use Rattle.ix_core.specs.Tasks.{Tasks, Empty, Run, Ask, Decide, DecideTruth, Head, Again, Out, code_then}
-use Rattle.ix_code_places.specs.CodePlaces.{CodePlaces, AskedPlaces, MethodPlaces, ProgramPlaces}
-use Rattle.ix_code_places.specs.EndingPlaces.{EndingPlace, EndPlace}
-use Rattle.ix_code_places.proofs.TaskPlaces.{TaskPlaces, then_places, followed_places, behind_places, turn_places}
+use Rattle.ix_core.specs.CodePlaces.{CodePlaces, AskedPlaces, MethodPlaces, ProgramPlaces}
+use Rattle.ix_core.specs.EndingPlaces.{EndingPlace, EndPlace}
+use Rattle.ix_core.proofs.TaskPlaces.{TaskPlaces, then_places, followed_places, behind_places, turn_places}
 
 -- What holds of a place also holds of where it starts.
 module _ (P : Span → Type 0) (Q : ℕ → Type 0) (starts : (span : Span) → P span → Q span.from) where

@@ -1,2 +1,0 @@
-pub mod TaskPlaces
-pub mod RunPlaces
