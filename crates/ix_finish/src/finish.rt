@@ -139,11 +139,12 @@ pub fn push_finished<K: Indexed>(
     match kind {
         OpKind::Const(t, value) => push_finished_const(out, know, new, value, &Path::Slot(*t)),
         OpKind::Copy(t, _, ty) => push_finished_by(out, know, new, ty, &Path::Slot(*t)),
-        OpKind::Num(t, _, _, _) => push_finish_int(out, know, new, &Path::Slot(*t)),
-        OpKind::Unary(t, _, _) => push_finish_int(out, know, new, &Path::Slot(*t)),
-        OpKind::Length(t, _) => push_finish_int(out, know, new, &Path::Slot(*t)),
-        OpKind::NewArray(t, _, _) => push_finish_array(out, know, new, &Path::Slot(*t)),
-        OpKind::Fill(t, _, _) => push_finish_array(out, know, new, &Path::Slot(*t)),
+        OpKind::Num(t, _, _, _) | OpKind::Unary(t, _, _) | OpKind::Length(t, _) => {
+            push_finish_int(out, know, new, &Path::Slot(*t))
+        }
+        OpKind::NewArray(t, _, _) | OpKind::Fill(t, _, _) => {
+            push_finish_array(out, know, new, &Path::Slot(*t))
+        }
         OpKind::Load(t, _, _, ty) => push_finished_load(out, know, new, ty, &Path::Slot(*t)),
         _ => Ok(()),
     }
