@@ -83,11 +83,9 @@ fn changes_slot(changed: &Changed, slot: u32) -> bool
         Changed::Nothing => false,
         Changed::Target(kind) => is_of_target(kind, &Path::Slot(slot)),
         Changed::At(path) => is_of_path(&path, &Path::Slot(slot)),
-        Changed::Called(_, target, _, _) => slot == target,
-        Changed::Parent(_, target, _, _) => slot == target,
+        Changed::Called(_, target, _, _) | Changed::Parent(_, target, _, _) => slot == target,
         Changed::From(first) => slot >= first,
-        Changed::Field(_, _) => false,
-        Changed::Call(_, _) => false,
+        Changed::Field(_, _) | Changed::Call(_, _) => false,
     }
 }
 
@@ -115,16 +113,14 @@ fn names_changed(changed: &Changed, fact: &Fact) -> bool
     ensures { result ≡ names (is_changed changed.now) fact.now }
 {
     match *fact {
-        Fact::Rng(p, _, _) => changes(changed, &p),
-        Fact::LenRng(a, _, _) => changes(changed, &a),
-        Fact::Low(p, _) => changes(changed, &p),
-        Fact::Same(a, b) => changes(changed, &a) || changes(changed, &b),
-        Fact::IsLen(p, a) => changes(changed, &p) || changes(changed, &a),
-        Fact::Less(p, q, _) => changes(changed, &p) || changes(changed, &q),
+        Fact::Rng(p, _, _) | Fact::LenRng(p, _, _) | Fact::Low(p, _) => changes(changed, &p),
+        Fact::Same(p, q)
+        | Fact::IsLen(p, q)
+        | Fact::Less(p, q, _)
+        | Fact::Search(p, q)
+        | Fact::Neg(p, q) => changes(changed, &p) || changes(changed, &q),
         Fact::Sum(t, y, z) => changes(changed, &t)
             || (changes(changed, &y) || changes(changed, &z)),
-        Fact::Search(p, a) => changes(changed, &p) || changes(changed, &a),
-        Fact::Neg(p, a) => changes(changed, &p) || changes(changed, &a),
         Fact::Upper(p, a, offset, _) => {
             changes(changed, &p) || (changes(changed, &a) || changes_offset(changed, &offset))
         }

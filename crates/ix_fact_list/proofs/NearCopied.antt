@@ -1,9 +1,9 @@
 -- Numbers of near paths that are copied: those that stand ready, and those at the places of near paths.
-use Rattle.std.specs.Prelude.{◌≡◌, ◌⊎◌, ◌<◌, ℕ, zero, suc, ◌+◌, ◌*◌, ℤ, true, nat_eq, nat_lt, get_or, take, replicate, List, [], ◌∷◌, refl}
-use Rattle.std.proofs.Common.{arith, inl, inr, ap, sym, subst, ◌∙◌, ⊎_elim}
+use Rattle.std.specs.Prelude.{◌≡◌, ◌⊎◌, ◌<◌, ◌≤◌, ℕ, zero, suc, ◌+◌, ◌*◌, ℤ, true, nat_eq, nat_lt, get_or, length, take, replicate, List, [], ◌∷◌, ◌++◌, refl}
+use Rattle.std.proofs.Common.{arith, inl, inr, ap, ap₂, sym, subst, ◌∙◌, ⊎_elim}
 use Rattle.std.proofs.lemmas.Bool.{cases_lt, and_parts}
 use Rattle.std.proofs.lemmas.Bool.Decides.{nat_tests}
-use Rattle.std.proofs.lemmas.List.{get_or-take, get_or_past, length-take}
+use Rattle.std.proofs.lemmas.List.{get_or-take, get_or_past, length-take, take_all}
 use Rattle.ix_core.specs.Ints.{least_int, greatest_int}
 use Rattle.ix_core.specs.declared.fact.Path.{Path}
 use Rattle.ix_core.specs.declared.fact.Path.TheVariants.{Slot, FieldOf}
@@ -26,6 +26,16 @@ front_none zero numbers d none at = refl
 front_none (suc n) [] d none at = refl
 front_none (suc n) (x ∷ numbers) d none zero = none 0
 front_none (suc n) (x ∷ numbers) d none (suc at) = front_none n numbers d (λ k. none (suc k)) at
+
+-- ---- numbers behind the others, each the one that stands for those that are missing
+
+none_more : (numbers : List ℤ) (count : ℕ) (d : ℤ) (at : ℕ) → get_or (numbers ++ replicate count d) at d ≡ get_or numbers at d
+none_more [] count d at = ready_none count d at
+none_more (x ∷ numbers) count d zero = refl
+none_more (x ∷ numbers) count d (suc at) = none_more numbers count d at
+
+pub longer : (old new : List ℤ) (n count : ℕ) (given d : ℤ) → length old ≤ n → given ≡ d → new ≡ take n old ++ replicate count given → (at : ℕ) → get_or new at d ≡ get_or old at d
+longer old new n count given d short is made at = ap (λ l. get_or l at d) (made ∙ ap₂ (λ l x. l ++ replicate count x) (take_all n old short) is) ∙ none_more old count d at
 
 -- ---- each place is that of a near path
 

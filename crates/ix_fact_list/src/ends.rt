@@ -11,10 +11,7 @@ fn is_end(fact: &Fact) -> bool
     ensures { result ≡ is_end fact.now }
 {
     match *fact {
-        Fact::Rng(_, _, _) => true,
-        Fact::LenRng(_, _, _) => true,
-        Fact::Low(_, _) => true,
-        Fact::IsLen(_, _) => true,
+        Fact::Rng(_, _, _) | Fact::LenRng(_, _, _) | Fact::Low(_, _) | Fact::IsLen(_, _) => true,
         _ => false,
     }
 }
@@ -23,8 +20,7 @@ fn is_link(fact: &Fact) -> bool
     ensures { result ≡ is_link fact.now }
 {
     match *fact {
-        Fact::IsLen(_, _) => true,
-        Fact::Less(_, _, _) => true,
+        Fact::IsLen(_, _) | Fact::Less(_, _, _) => true,
         _ => false,
     }
 }

@@ -477,9 +477,10 @@ fn put_apart(
     ensures small_lows { OnOk result (AreLimits lows.old.items least_int → AreLimits lows.new.items least_int) }
     ensures small_highs { OnOk result (AreLimits highs.old.items greatest_int → AreLimits highs.new.items greatest_int) }
 {
-    let low = past(number_in(&ends.lows, LEAST, small), c as i64);
+    let c = c as i64;
+    let low = past(number_in(&ends.lows, LEAST, small), c);
     raise_at(lows, LEAST, great, low)?;
-    let high = short_of(number_in(&ends.highs, GREATEST, great), c as i64);
+    let high = short_of(number_in(&ends.highs, GREATEST, great), c);
     lower_at(highs, GREATEST, small, high)
 }
 

@@ -1,11 +1,12 @@
 -- Keys that rise are apart, and sorted keys that are apart rise.
-use Rattle.std.specs.Prelude.{◌≡◌, suc, ◌+◌, true, false, List, [], ◌∷◌, slice_index_or, refl}
+use Rattle.std.specs.Prelude.{◌≡◌, ◌<◌, ℕ, suc, ◌+◌, Bool, true, false, ◌&&◌, List, [], ◌∷◌, length, drop, get_or, slice_index_or, refl}
 use Rattle.std.specs.List.{IsDistinct, AllByRecursion}
 use Rattle.std.specs.List.Sorted.{IsSorted, IsStrictlySortedBy}
 use Rattle.std.specs.Ordering.{is_lt, is_eq, eq_by_cmp, ordering_reverse}
 use Rattle.std.specs.declared.cmp.Ordering.{Ordering}
 use Rattle.std.specs.declared.cmp.Ordering.TheVariants.{Less as Before, Equal, Greater}
-use Rattle.std.proofs.Common.{arith, ap, sym, ◌∙◌, subst}
+use Rattle.std.proofs.Common.{arith, add-one, ap, sym, ◌∙◌, subst}
+use Rattle.std.proofs.Math.Seq.{drop-cons}
 use Rattle.std.proofs.lemmas.Bool.{and_parts, false≢true}
 use Rattle.ix_core.specs.declared.fact.Fact.{Fact}
 use Rattle.ix_fact_table.specs.Apart.{rise_from, all_rise}
@@ -28,6 +29,13 @@ strictly last (key ∷ keys) h =
     let less = less_is (fact_cmp last key) parts.0 in
     let rest = strictly key keys parts.1 in
     ((less, through last key keys less rest.0), (rest.0, rest.1))
+
+-- whether each key is less than the next one, told by the next key and those behind it
+pub next_rises : (last : Fact) (more : List Fact) (place : ℕ) (default : Fact) (less whole : Bool) → place < length more → less ≡ is_lt (fact_cmp last (get_or more place default)) → rise_from last (drop place more) ≡ whole
+    → whole ≡ (less && rise_from (get_or more place default) (drop (place + 1) more))
+next_rises last more place default less whole within is so_far =
+    let cut : drop place more ≡ get_or more place default ∷ drop (place + 1) more = rw add-one (drop-cons more place default within) in
+    sym so_far ∙ (ap (rise_from last) cut ∙ ap (λ b. b && rise_from (get_or more place default) (drop (place + 1) more)) (sym is))
 
 pub rising_strict : (keys : List Fact) → all_rise keys ≡ true → IsStrictlySortedBy fact_cmp keys
 unfolding IsStrictlySortedBy

@@ -11,3 +11,4 @@ mod PiledFacts
 pub mod KeysApart
 pub mod LessFacts
 mod WentWell
+mod NumbersMet

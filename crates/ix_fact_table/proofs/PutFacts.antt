@@ -67,9 +67,9 @@ module _ (facts : List Fact) (e : Fact) (rise : rises facts ≡ true) where
       let is : ((front ++ e ∷ []) ++ g ∷ back) ++ [] ≡ front ++ e ∷ g ∷ back = simp (append-nil, append_assoc) in
       subst Whole is (merging_ends facts (e ∷ []) (g ∷ back) [] (front ++ e ∷ []) (inr refl) past)
 
-  pub put_at_gap : (at : ℕ) → IsBinarySearchResult (λ f. fact_cmp f e) facts (Err at) → Whole (insert facts at e)
-  put_at_gap at parted =
-      let point = parted (comparisons_rise facts e rise) in
+  pub put_at_gap : (found : List Fact) (at : ℕ) → found ≡ facts → IsBinarySearchResult (λ f. fact_cmp f e) found (Err at) → Whole (insert facts at e)
+  put_at_gap found at same parted =
+      let point = subst (λ l. IsBinarySearchResult (λ f. fact_cmp f e) l (Err at)) same parted (comparisons_rise facts e rise) in
       put_new (take at facts) (drop at facts) (take-append-drop at facts)
       (take_each (λ f. fact_cmp f e ≡ Before) facts at (λ k d a b. point.0 k d (omega arith) a))
       (drop_each (λ f. fact_cmp f e ≡ Greater) facts at (λ k d a b. point.1 k d a b))

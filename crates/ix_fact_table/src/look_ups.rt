@@ -29,8 +29,7 @@ fn is_range(fact: &Fact) -> bool
     ensures { result ≡ comes_before 1 fact.now }
 {
     match *fact {
-        Fact::Rng(_, _, _) => true,
-        Fact::LenRng(_, _, _) => true,
+        Fact::Rng(_, _, _) | Fact::LenRng(_, _, _) => true,
         _ => false,
     }
 }
@@ -40,11 +39,11 @@ fn is_before_differences(fact: &Fact) -> bool
     ensures { result ≡ comes_before 3 fact.now }
 {
     match *fact {
-        Fact::Rng(_, _, _) => true,
-        Fact::LenRng(_, _, _) => true,
-        Fact::Low(_, _) => true,
-        Fact::Same(_, _) => true,
-        Fact::IsLen(_, _) => true,
+        Fact::Rng(_, _, _)
+        | Fact::LenRng(_, _, _)
+        | Fact::Low(_, _)
+        | Fact::Same(_, _)
+        | Fact::IsLen(_, _) => true,
         _ => false,
     }
 }
@@ -54,9 +53,7 @@ fn is_before_searches(fact: &Fact) -> bool
     ensures { result ≡ comes_before 4 fact.now }
 {
     match *fact {
-        Fact::Search(_, _) => false,
-        Fact::Neg(_, _) => false,
-        Fact::Upper(_, _, _, _) => false,
+        Fact::Search(_, _) | Fact::Neg(_, _) | Fact::Upper(_, _, _, _) => false,
         _ => true,
     }
 }

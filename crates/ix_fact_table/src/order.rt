@@ -17,16 +17,16 @@ fn first_path(fact: &Fact) -> &Path
     ensures { result.now ≡ spec.first_path fact.now }
 {
     match fact {
-        Fact::Rng(p, _, _) => p,
-        Fact::LenRng(a, _, _) => a,
-        Fact::Low(p, _) => p,
-        Fact::Same(a, _) => a,
-        Fact::IsLen(p, _) => p,
-        Fact::Less(p, _, _) => p,
-        Fact::Sum(t, _, _) => t,
-        Fact::Search(p, _) => p,
-        Fact::Neg(p, _) => p,
-        Fact::Upper(p, _, _, _) => p,
+        Fact::Rng(p, _, _)
+        | Fact::LenRng(p, _, _)
+        | Fact::Low(p, _)
+        | Fact::Same(p, _)
+        | Fact::IsLen(p, _)
+        | Fact::Less(p, _, _)
+        | Fact::Sum(p, _, _)
+        | Fact::Search(p, _)
+        | Fact::Neg(p, _)
+        | Fact::Upper(p, _, _, _) => p,
     }
 }
 
@@ -35,15 +35,11 @@ fn kind_place(fact: &Fact) -> u8
     ensures { result ≡ spec.kind_place fact.now }
 {
     match *fact {
-        Fact::Rng(_, _, _) => 0,
-        Fact::LenRng(_, _, _) => 0,
+        Fact::Rng(_, _, _) | Fact::LenRng(_, _, _) => 0,
         Fact::Low(_, _) => 1,
-        Fact::Same(_, _) => 2,
-        Fact::IsLen(_, _) => 2,
-        Fact::Less(_, _, _) => 3,
-        Fact::Sum(_, _, _) => 3,
-        Fact::Search(_, _) => 4,
-        Fact::Neg(_, _) => 4,
+        Fact::Same(_, _) | Fact::IsLen(_, _) => 2,
+        Fact::Less(_, _, _) | Fact::Sum(_, _, _) => 3,
+        Fact::Search(_, _) | Fact::Neg(_, _) => 4,
         Fact::Upper(_, _, _, _) => 5,
     }
 }
@@ -74,13 +70,13 @@ fn second_path(fact: &Fact) -> &Path
     ensures { result.now ≡ spec.second_path fact.now }
 {
     match fact {
-        Fact::Same(_, b) => b,
-        Fact::IsLen(_, a) => a,
-        Fact::Less(_, q, _) => q,
-        Fact::Sum(_, y, _) => y,
-        Fact::Search(_, a) => a,
-        Fact::Neg(_, a) => a,
-        Fact::Upper(_, a, _, _) => a,
+        Fact::Same(_, q)
+        | Fact::IsLen(_, q)
+        | Fact::Less(_, q, _)
+        | Fact::Sum(_, q, _)
+        | Fact::Search(_, q)
+        | Fact::Neg(_, q)
+        | Fact::Upper(_, q, _, _) => q,
         _ => &Path::Slot(0),
     }
 }

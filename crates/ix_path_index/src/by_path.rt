@@ -23,24 +23,23 @@ pub(crate) fn in_order(entries: Vec<(Path, Fact)>) -> Result<Vec<(Path, Fact)>, 
     Ok(sorted)
 }
 
-pub(crate) fn paths_of(alloc: Global, entries: &[(Path, Fact)]) -> Result<Vec<Path>, AllocError>
-    ensures { IfOk result (λ paths. paths.items ≡ paths_in entries.now) }
+/// The paths of the entries, and the facts.
+pub(crate) fn paths_and_facts(
+    alloc: Global,
+    entries: &[(Path, Fact)],
+) -> Result<(Vec<Path>, Vec<Fact>), AllocError>
+    ensures { record {
+      paths : IfOk result (λ both. both.0.items ≡ paths_in entries.now);
+      facts : IfOk result (λ both. both.1.items ≡ facts_in entries.now);
+    } }
 {
     let mut paths = Vec::with_capacity(alloc, entries.len())?;
-    for entry in entries {
-        paths.push_reserved(entry.0);
-    }
-    Ok(paths)
-}
-
-pub(crate) fn facts_of(alloc: Global, entries: &[(Path, Fact)]) -> Result<Vec<Fact>, AllocError>
-    ensures { IfOk result (λ facts. facts.items ≡ facts_in entries.now) }
-{
     let mut facts = Vec::with_capacity(alloc, entries.len())?;
     for entry in entries {
+        paths.push_reserved(entry.0);
         facts.push_reserved(entry.1);
     }
-    Ok(facts)
+    Ok((paths, facts))
 }
 
 /// Whether the first path comes before the second in the order of paths.

@@ -120,10 +120,10 @@ impl Places {
         ensures { OnOk result (Adds self.old self.new (at_two p.now q.now fact.now)) }
     {
         self.put(alloc, p, fact)?;
-        if !is_same_path(q, p) {
-            self.put(alloc, q, fact)?;
+        if is_same_path(q, p) {
+            return Ok(());
         }
-        Ok(())
+        self.put(alloc, q, fact)
     }
 
     fn put_three(
@@ -137,10 +137,10 @@ impl Places {
         ensures { OnOk result (Adds self.old self.new (at_three p.now q.now r.now fact.now)) }
     {
         self.put_two(alloc, p, q, fact)?;
-        if !(is_same_path(r, p) || is_same_path(r, q)) {
-            self.put(alloc, r, fact)?;
+        if is_same_path(r, p) || is_same_path(r, q) {
+            return Ok(());
         }
-        Ok(())
+        self.put(alloc, r, fact)
     }
 
     fn put_bound(
@@ -165,15 +165,15 @@ impl Places {
         ensures { OnOk result (Adds self.old self.new (at_paths fact.now)) }
     {
         match fact {
-            Fact::Rng(p, _, _) => self.put(alloc, p, fact),
-            Fact::LenRng(p, _, _) => self.put(alloc, p, fact),
-            Fact::Low(p, _) => self.put(alloc, p, fact),
-            Fact::Same(a, b) => self.put_two(alloc, a, b, fact),
-            Fact::IsLen(p, a) => self.put_two(alloc, p, a, fact),
-            Fact::Less(p, q, _) => self.put_two(alloc, p, q, fact),
+            Fact::Rng(p, _, _) | Fact::LenRng(p, _, _) | Fact::Low(p, _) => {
+                self.put(alloc, p, fact)
+            }
+            Fact::Same(p, q)
+            | Fact::IsLen(p, q)
+            | Fact::Less(p, q, _)
+            | Fact::Search(p, q)
+            | Fact::Neg(p, q) => self.put_two(alloc, p, q, fact),
             Fact::Sum(t, y, z) => self.put_three(alloc, t, y, z, fact),
-            Fact::Search(p, a) => self.put_two(alloc, p, a, fact),
-            Fact::Neg(p, a) => self.put_two(alloc, p, a, fact),
             Fact::Upper(p, a, offset, _) => self.put_bound(alloc, p, a, offset, fact),
         }
     }

@@ -62,15 +62,14 @@ fn put_named(ints: &mut PathSet, arrays: &mut PathSet, fact: &Fact) -> Result<()
     } }
 {
     match fact {
-        Fact::Rng(p, _, _) => ints.put_copy(p),
+        Fact::Rng(p, _, _) | Fact::Low(p, _) => ints.put_copy(p),
         Fact::LenRng(a, _, _) => arrays.put_copy(a),
-        Fact::Low(p, _) => ints.put_copy(p),
         Fact::Same(a, b) => put_two(arrays, a, b),
-        Fact::IsLen(p, a) => put_int_and_array(ints, arrays, p, a),
+        Fact::IsLen(p, a) | Fact::Search(p, a) | Fact::Neg(p, a) => {
+            put_int_and_array(ints, arrays, p, a)
+        }
         Fact::Less(p, q, _) => put_two(ints, p, q),
         Fact::Sum(t, y, z) => put_three(ints, t, y, z),
-        Fact::Search(p, a) => put_int_and_array(ints, arrays, p, a),
-        Fact::Neg(p, a) => put_int_and_array(ints, arrays, p, a),
         Fact::Upper(p, a, offset, _) => {
             put_int_and_array(ints, arrays, p, a).and(put_offset(ints, offset))
         }
@@ -142,16 +141,13 @@ fn put_arrays(arrays: &mut PathSet, fact: &Fact) -> Result<(), AllocError>
     ensures { OnOk result (arrays.new ≡ put_all arrays.old (arrays_of fact.now)) }
 {
     match fact {
-        Fact::LenRng(a, _, _) => arrays.put_copy(a),
+        Fact::LenRng(a, _, _)
+        | Fact::IsLen(_, a)
+        | Fact::Search(_, a)
+        | Fact::Neg(_, a)
+        | Fact::Upper(_, a, _, _) => arrays.put_copy(a),
         Fact::Same(a, b) => put_two(arrays, a, b),
-        Fact::IsLen(_, a) => arrays.put_copy(a),
-        Fact::Search(_, a) => arrays.put_copy(a),
-        Fact::Neg(_, a) => arrays.put_copy(a),
-        Fact::Upper(_, a, _, _) => arrays.put_copy(a),
-        Fact::Rng(_, _, _) => Ok(()),
-        Fact::Low(_, _) => Ok(()),
-        Fact::Less(_, _, _) => Ok(()),
-        Fact::Sum(_, _, _) => Ok(()),
+        Fact::Rng(_, _, _) | Fact::Low(_, _) | Fact::Less(_, _, _) | Fact::Sum(_, _, _) => Ok(()),
     }
 }
 
@@ -212,8 +208,9 @@ fn ints_among(
 {
     let mut ints = PathSet::with_room(alloc, count)?;
     let mut arrays = PathSet::new(alloc);
-    put_facts(&mut ints, &mut arrays, first).and(put_facts(&mut ints, &mut arrays, last))?;
-    put_until(alloc, &mut ints, between, count)?;
+    put_facts(&mut ints, &mut arrays, first)
+        .and(put_facts(&mut ints, &mut arrays, last))
+        .and(put_until(alloc, &mut ints, between, count))?;
     Ok(ints.into_paths())
 }
 

@@ -40,9 +40,7 @@ fn has_one_order(fact: &Fact) -> bool
     } }
 {
     match *fact {
-        Fact::Same(_, _) => false,
-        Fact::Sum(_, _, _) => false,
-        Fact::Upper(_, _, PathOff::Plus(_), _) => false,
+        Fact::Same(_, _) | Fact::Sum(_, _, _) | Fact::Upper(_, _, PathOff::Plus(_), _) => false,
         _ => !is_said_of_all(fact),
     }
 }

@@ -5,7 +5,7 @@ ghost use Rattle.ix_core.specs.declared.fact.Path.{Path};
 ghost use Rattle.ix_core.specs.declared.fact.Fact.{Fact};
 ghost use Rattle.ix_path_index.specs.ByPath.{IsSorted, on_index, on_it};
 
-use crate::by_path::{facts_beside, facts_of, in_order, paths_of};
+use crate::by_path::{facts_beside, in_order, paths_and_facts};
 use crate::by_slot::{Places, near_place};
 use crate::path_facts::PathFacts;
 use ix_core::{Fact, Path};
@@ -48,8 +48,7 @@ impl PathIndex {
     {
         let places = Places::of(alloc, facts)?;
         let others = in_order(places.others)?;
-        let paths = paths_of(alloc, &others)?;
-        let facts = facts_of(alloc, &others)?;
+        let (paths, facts) = paths_and_facts(alloc, &others)?;
         Ok(PathIndex {
             near: places.near,
             paths,

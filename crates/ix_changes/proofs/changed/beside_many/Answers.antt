@@ -7,7 +7,7 @@ use Rattle.ix_core.specs.declared.fact.Path.TheVariants.{Slot}
 use Rattle.ix_core.specs.declared.fact.Fact.TheVariants.{Rng}
 use Rattle.ix_facts.specs.Forget.{names, without}
 use Rattle.ix_changes.specs.ChangedPaths.{is_changed}
-use Rattle.ix_changes.proofs.KeptFirst.{fact_first}
+use Rattle.ix_changes.proofs.KeptFirst.{kept_first}
 use Rattle.ix_changes.proofs.changed.beside_many.Goals as goal
 use Rattle.ix_changes.proofs.changed.beside_many.Goals.{then-not-names_changed, else-not-names_changed}
 
@@ -35,7 +35,7 @@ loop-fact-preserved c =
       | else-not-names_changed w ↦ omega (arith, ap (λ v. vec_capacity v) w.kept-is, all.room)
     ] in
     record {
-      facts = next_or (λ _. without is) c.args.facts.now k (Rng (Slot 0) (pos 0) (pos 0)) _ _ _ _ c.loop-fact-test.true (fact_first is fact) added all.facts;
+      facts = next_or (λ _. without is) c.args.facts.now k (Rng (Slot 0) (pos 0) (pos 0)) _ _ _ _ c.loop-fact-test.true (λ rest. kept_first (names is fact) fact (without is rest)) added all.facts;
       short = short;
       room = room;
     }

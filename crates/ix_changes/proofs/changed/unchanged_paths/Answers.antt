@@ -4,7 +4,7 @@ use Rattle.std.proofs.lemmas.List.{append-nil}
 use Rattle.ix_text.proofs.Walked.{next_or, none_left}
 use Rattle.ix_core.specs.declared.fact.Path.TheVariants.{Slot}
 use Rattle.ix_changes.specs.ChangedPaths.{is_changed, paths_beside}
-use Rattle.ix_changes.proofs.KeptFirst.{path_first}
+use Rattle.ix_changes.proofs.KeptFirst.{kept_first}
 use Rattle.ix_changes.proofs.changed.unchanged_paths.Goals as goal
 use Rattle.ix_changes.proofs.changed.unchanged_paths.Goals.{then-not-changes, else-not-changes}
 
@@ -32,7 +32,7 @@ loop-p-preserved c =
       | else-not-changes w ↦ omega (arith, ap (λ v. vec_capacity v) w.kept-is, all.room)
     ] in
     record {
-      paths = next_or (λ _. paths_beside is) c.args.paths.now k (Slot 0) _ _ _ _ c.loop-p-test.true (path_first is p) added all.paths;
+      paths = next_or (λ _. paths_beside is) c.args.paths.now k (Slot 0) _ _ _ _ c.loop-p-test.true (λ rest. kept_first (is p) p (paths_beside is rest)) added all.paths;
       short = short;
       room = room;
     }

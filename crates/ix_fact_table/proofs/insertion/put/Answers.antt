@@ -1,11 +1,8 @@
-use Rattle.std.proofs.Common.{◌≡◌, ◌<◌, true, [], ◌∷◌, Err, length, get_or, rules, subst, sym}
+use Rattle.std.proofs.Common.{◌≡◌, ◌<◌, length, get_or, rules, subst}
 use Rattle.std.specs.declared.cmp.Ordering.TheVariants.{Equal}
-use Rattle.std.specs.List.Sorted.{IsBinarySearchResult}
 use Rattle.std.proofs.lemmas.Fn.{always_returns_same}
 use Rattle.ix_core.specs.declared.fact.Fact.{Fact}
 use Rattle.ix_fact_table.specs.FactOrder.{fact_cmp}
-use Rattle.ix_fact_table.specs.Rising.{rises}
-use Rattle.ix_fact_table.specs.Walks.{HasBoth}
 use Rattle.ix_fact_table.proofs.PutFacts.{put_at_key, put_at_gap}
 use Rattle.ix_fact_table.proofs.insertion.put.Goals as goal
 
@@ -24,7 +21,5 @@ returns-in_ok-insert-in-Err c =
     let fact = c.args.fact.now in
     let place = c.in-Err.place in
     let parted = c.in-Err.ensures.position (λ other. fact_cmp other fact) (always_returns_same _ _ _ (λ a r next called. search rules)) in
-    let all = put_at_gap c.args.facts.now.items fact c.requires.rises place
-    (subst (λ l. IsBinarySearchResult (λ other. fact_cmp other fact) l (Err place)) c.deref.ensures.value parted) in
-    let is = sym c.in_ok-insert-in-Err.ensures.items in
-    record { both = subst (HasBoth c.args.facts.now.items (fact ∷ [])) is all.0; rises = subst (λ l. rises l ≡ true) is all.1 }
+    let all = put_at_gap c.args.facts.now.items fact c.requires.rises _ place c.deref.ensures.value parted in
+    rw c.in_ok-insert-in-Err.ensures.items (record { both = all.0; rises = all.1 })
