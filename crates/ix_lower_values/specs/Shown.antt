@@ -3,6 +3,8 @@ use Rattle.std.specs.Prelude.{ℕ, Bool, true, false, List, [], ◌∷◌, map, 
 use Rattle.ix_core.specs.declared.claim.Type_.{Type_}
 use Rattle.ix_core.specs.declared.op.OpKind.{OpKind}
 use Rattle.ix_core.specs.declared.op.OpKind.TheVariants as op
+use Rattle.ix_core.specs.declared.op.UnaryNum.{UnaryNum}
+use Rattle.ix_core.specs.declared.op.UnaryNum.TheVariants as number
 use Rattle.ix_tree.specs.declared.expr.BinaryOp.{BinaryOp}
 use Rattle.ix_tree.specs.declared.expr.BinaryOp.TheVariants as binary
 use Rattle.ix_tree.specs.declared.expr.UnaryOp.{UnaryOp}
@@ -111,3 +113,9 @@ member_read target object _ = op.Length target object
 abbrev pub part_spans : Spot → Span → Span → List Span
 part_spans (spot.Cell array index ty at) target from = from ∷ []
 part_spans _ target from = target ∷ from ∷ []
+
+-- ---- operators with one operand on ints
+
+abbrev pub unary_num : UnaryOp → UnaryNum
+unary_num unary.Minus = number.Neg
+unary_num _ = number.Flip

@@ -15,7 +15,7 @@ ghost use Rattle.ix_plain.specs.Scope.{type_at};
 ghost use Rattle.ix_plain.specs.Values as spec;
 ghost use Rattle.ix_plain.specs.Values.{int_value};
 ghost use Rattle.ix_lower_values.specs.declared.expression.Form.TheVariants as form;
-ghost use Rattle.ix_lower_values.specs.Shown.{shown_scope, valued, asked, targeted, left_unused, all_given, initial, all_initial, form_of, is_class_name, member_read};
+ghost use Rattle.ix_lower_values.specs.Shown.{shown_scope, valued, asked, targeted, left_unused, all_given, initial, all_initial, form_of, is_class_name, member_read, unary_num};
 
 use crate::made::{cell_type, compute, constant, empty, push, read, take, truth, write};
 use crate::scope::{
@@ -53,18 +53,17 @@ fn form_of(kind: &ExprKind) -> Form
 {
     match kind {
         ExprKind::Unary(UnaryOp::Not, _) => Form::Asks,
-        ExprKind::Unary(_, _) => Form::Operates,
-        ExprKind::Binary(BinaryOp::Num(_), _, _) => Form::Operates,
+        ExprKind::Unary(_, _) | ExprKind::Binary(BinaryOp::Num(_), _, _) => Form::Operates,
         ExprKind::Binary(_, _, _) => Form::Asks,
-        ExprKind::Select(_, _) => Form::Selects,
-        ExprKind::Index(_, _) => Form::Selects,
+        ExprKind::Select(_, _) | ExprKind::Index(_, _) => Form::Selects,
         ExprKind::Call(_, _, _) => Form::Calls,
-        ExprKind::New(_, _) => Form::Creates,
-        ExprKind::NewArray(_, _) => Form::Creates,
-        ExprKind::NewItems(_, _) => Form::Creates,
-        ExprKind::Assign(_, _, _) => Form::Assigns,
-        ExprKind::Step { .. } => Form::Assigns,
-        _ => Form::Computes,
+        ExprKind::New(_, _) | ExprKind::NewArray(_, _) | ExprKind::NewItems(_, _) => Form::Creates,
+        ExprKind::Assign(_, _, _) | ExprKind::Step { .. } => Form::Assigns,
+        ExprKind::Int(_)
+        | ExprKind::Bool(_)
+        | ExprKind::Null
+        | ExprKind::This
+        | ExprKind::Name(_) => Form::Computes,
     }
 }
 
@@ -160,6 +159,15 @@ fn null(alloc: Global, scope: &Scope<'_>, span: Span, made: &mut Made) -> Result
     let ty = type_at(alloc, scope, span)?;
     let kind = OpKind::Const(made.free, Literal::NullOf(ty));
     compute(alloc, made, kind, span)
+}
+
+fn unary_num(op: UnaryOp) -> UnaryNum
+    ensures { result ≡ unary_num op }
+{
+    match op {
+        UnaryOp::Minus => UnaryNum::Neg,
+        _ => UnaryNum::Flip,
+    }
 }
 
 fn step_operator(up: bool) -> Arith
@@ -334,18 +342,19 @@ fn written(
         .and(Ok(value))
 }
 
-/// Computes with two ints, and writes the result into a spot; the places are those of the assignment and of its target.
+/// Computes with two ints, and writes the result into a spot; answers the first of them or the result. The places are those of the assignment and of its target.
 fn computed_into(
     alloc: Global,
     spot: Spot,
     arith: Arith,
     slots: (u32, u32),
+    first: bool,
     spans: (Span, Span),
     made: &mut Made,
 ) -> Result<u32, Stop>
     ensures { record {
-      limit : (which : Which) → IsErrOf result (stop.Limit which) → (parts.◌>>=◌ (computed made.old (op.Num made.old.free arith slots.0 slots.1) spans.0) (λ t. in_place (with_item t.made (write spot t.slot int_type spans.0 spans.1 spans.0)) t.slot)) ≡ Err which;
-      made : IfOk result (λ at. (parts.◌>>=◌ (computed made.old (op.Num made.old.free arith slots.0 slots.1) spans.0) (λ t. in_place (with_item t.made (write spot t.slot int_type spans.0 spans.1 spans.0)) t.slot)) ≡ in_place made.new at);
+      limit : (which : Which) → IsErrOf result (stop.Limit which) → (parts.◌>>=◌ (computed made.old (op.Num made.old.free arith slots.0 slots.1) spans.0) (λ t. in_place (with_item t.made (write spot t.slot int_type spans.0 spans.1 spans.0)) (if first then slots.0 else t.slot))) ≡ Err which;
+      made : IfOk result (λ at. (parts.◌>>=◌ (computed made.old (op.Num made.old.free arith slots.0 slots.1) spans.0) (λ t. in_place (with_item t.made (write spot t.slot int_type spans.0 spans.1 spans.0)) (if first then slots.0 else t.slot))) ≡ in_place made.new at);
     } }
 {
     let (y, z) = slots;
@@ -354,7 +363,7 @@ fn computed_into(
     let t = compute(alloc, made, kind, whole)?;
     assign(alloc, spot, t, INT, (whole, target, whole), made)
         .map_err(Stop::from)
-        .and(Ok(t))
+        .and(Ok(step_value(first, y, t)))
 }
 
 /// Adds 1 to a spot, or subtracts it; answers what is read or what is written.
@@ -373,8 +382,7 @@ fn stepped(
 {
     let y = read(alloc, &spot, spans.1, made)?;
     let one = constant(alloc, made, 1, spans.0)?;
-    let t = computed_into(alloc, spot, step_operator(up), (y, one), spans, made)?;
-    Ok(step_value(after, y, t))
+    computed_into(alloc, spot, step_operator(up), (y, one), after, spans, made)
 }
 
 /// A call of a static method.
@@ -610,14 +618,9 @@ fn operated(alloc: Global, scope: &Scope<'_>, expr: &Expr, made: &mut Made) -> R
 {
     match &expr.kind {
         ExprKind::Unary(UnaryOp::Plus, operand) => value(alloc, scope, operand.get(), made),
-        ExprKind::Unary(UnaryOp::Minus, operand) => {
+        ExprKind::Unary(op @ (UnaryOp::Minus | UnaryOp::Flip), operand) => {
             let y = value(alloc, scope, operand.get(), made)?;
-            let kind = OpKind::Unary(made.free, UnaryNum::Neg, y);
-            compute(alloc, made, kind, expr.span)
-        }
-        ExprKind::Unary(UnaryOp::Flip, operand) => {
-            let y = value(alloc, scope, operand.get(), made)?;
-            let kind = OpKind::Unary(made.free, UnaryNum::Flip, y);
+            let kind = OpKind::Unary(made.free, unary_num(*op), y);
             compute(alloc, made, kind, expr.span)
         }
         ExprKind::Binary(BinaryOp::Num(arith), left, right) => {
@@ -650,7 +653,7 @@ fn assigned(alloc: Global, scope: &Scope<'_>, expr: &Expr, made: &mut Made) -> R
             let y = read(alloc, &spot, place.get().span, made)?;
             let z = value(alloc, scope, from.get(), made)?;
             let spans = (expr.span, place.get().span);
-            computed_into(alloc, spot, *arith, (y, z), spans, made)
+            computed_into(alloc, spot, *arith, (y, z), false, spans, made)
         }
         ExprKind::Step {
             up,
