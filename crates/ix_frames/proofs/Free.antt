@@ -19,6 +19,9 @@ use Rattle.ix_frames.specs.Fits.{above, values, IsFree}
 pub one_more : (places more : List Place) (place : Place) → more ≡ places ++ place ∷ [] → length more ≡ length places + 1
 one_more places more place is = omega (arith, ap length is, length-append places (place ∷ []))
 
+pub two_more : (places more : List Place) (place inner : Place) → more ≡ (places ++ place ∷ []) ++ inner ∷ [] → length more ≡ length places + 2
+two_more places more place inner is = omega (arith, one_more (places ++ place ∷ []) more inner is, length-append places (place ∷ []))
+
 -- in its place
 pub free_same : {below : ℕ} {room new : Room} {place inner : Place} → IsFree below room place → new ≡ room → above inner ≤ above place → values inner ≤ values place → IsFree below new inner
 free_same {below} {room} {new} {place} {inner} free is high many = record {

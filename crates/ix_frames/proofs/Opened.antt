@@ -174,34 +174,34 @@ asked : (cond : Cond) (condition : Condition) (places : List Place) → cond_cod
     → step_condition condition (branches_of places).when_true (branches_of places).when_false (branches_of places).after ≡ after_condition cond places
 asked cond condition places is = sym (ap (λ q. step_condition q (branches_of places).when_true (branches_of places).when_false (branches_of places).after) is)
 
-pub asked_compare : (places mid after : List Place) (cond : Cond) (block : Block) (test : Bor Test) (items : Bor (List Item)) → cond ≡ variant.Compare block test.now → items.now ≡ block.items
-    → mid ≡ places ++ kind.Decide test ∷ [] → after ≡ mid ++ kind.Rest items ∷ [] → tasks_open after ≡ after_condition cond (reverse places)
-asked_compare places mid after cond block test items is same one two =
-    opened_two places mid after (kind.Decide test) (kind.Rest items) one two
+pub asked_compare : (places after : List Place) (cond : Cond) (block : Block) (test : Bor Test) (items : Bor (List Item)) → cond ≡ variant.Compare block test.now → items.now ≡ block.items
+    → after ≡ (places ++ kind.Decide test ∷ []) ++ kind.Rest items ∷ [] → tasks_open after ≡ after_condition cond (reverse places)
+asked_compare places after cond block test items is same opened =
+    opened_two places (places ++ kind.Decide test ∷ []) after (kind.Decide test) (kind.Rest items) refl opened
     ∙ (ap (λ xs. code_then (items_code xs) (tasks_of (kind.Decide test ∷ reverse places))) same
     ∙ asked cond (Compare (block_code block) test.now) (reverse places) (ap cond_code is ∙ cond_code-Compare block test.now))
 
-pub asked_truth : (places mid after : List Place) (cond : Cond) (block : Block) (slot : ℕ) (items : Bor (List Item)) → cond ≡ variant.Truth block slot → items.now ≡ block.items
-    → mid ≡ places ++ kind.DecideTruth slot ∷ [] → after ≡ mid ++ kind.Rest items ∷ [] → tasks_open after ≡ after_condition cond (reverse places)
-asked_truth places mid after cond block slot items is same one two =
-    opened_two places mid after (kind.DecideTruth slot) (kind.Rest items) one two
+pub asked_truth : (places after : List Place) (cond : Cond) (block : Block) (slot : ℕ) (items : Bor (List Item)) → cond ≡ variant.Truth block slot → items.now ≡ block.items
+    → tasks_open after ≡ tasks_of (kind.Rest items ∷ kind.DecideTruth slot ∷ reverse places) → tasks_open after ≡ after_condition cond (reverse places)
+asked_truth places after cond block slot items is same opened =
+    opened
     ∙ (ap (λ xs. code_then (items_code xs) (tasks_of (kind.DecideTruth slot ∷ reverse places))) same
     ∙ asked cond (Truth (block_code block) slot) (reverse places) (ap cond_code is ∙ cond_code-Truth block slot))
 
-pub asked_both : (places mid after : List Place) (cond first second : Cond) (one two : Bor Cond) → cond ≡ variant.Both first second → one.now ≡ first → two.now ≡ second
-    → mid ≡ places ++ kind.BothLeft two ∷ [] → after ≡ mid ++ kind.Ask one ∷ [] → tasks_open after ≡ after_condition cond (reverse places)
-asked_both places mid after cond first second one two is here there outer inner =
+pub asked_both : (places after : List Place) (cond first second : Cond) (one two : Bor Cond) → cond ≡ variant.Both first second → one.now ≡ first → two.now ≡ second
+    → tasks_open after ≡ tasks_of (kind.Ask one ∷ kind.BothLeft two ∷ reverse places) → tasks_open after ≡ after_condition cond (reverse places)
+asked_both places after cond first second one two is here there opened =
     let is_both : cond_code cond ≡ Both (cond_code one.now) (cond_code two.now) = ap cond_code is ∙ (cond_code-Both first second ∙ (ap (λ c. Both (cond_code c) (cond_code second)) (sym here) ∙ ap (λ c. Both (cond_code one.now) (cond_code c)) (sym there))) in
-    opened_two places mid after (kind.BothLeft two) (kind.Ask one) outer inner ∙ asked cond (Both (cond_code one.now) (cond_code two.now)) (reverse places) is_both
+    opened ∙ asked cond (Both (cond_code one.now) (cond_code two.now)) (reverse places) is_both
 
-pub asked_either : (places mid after : List Place) (cond first second : Cond) (one two : Bor Cond) → cond ≡ variant.Either first second → one.now ≡ first → two.now ≡ second
-    → mid ≡ places ++ kind.EitherLeft two ∷ [] → after ≡ mid ++ kind.Ask one ∷ [] → tasks_open after ≡ after_condition cond (reverse places)
-asked_either places mid after cond first second one two is here there outer inner =
+pub asked_either : (places after : List Place) (cond first second : Cond) (one two : Bor Cond) → cond ≡ variant.Either first second → one.now ≡ first → two.now ≡ second
+    → tasks_open after ≡ tasks_of (kind.Ask one ∷ kind.EitherLeft two ∷ reverse places) → tasks_open after ≡ after_condition cond (reverse places)
+asked_either places after cond first second one two is here there opened =
     let is_either : cond_code cond ≡ Either (cond_code one.now) (cond_code two.now) = ap cond_code is ∙ (cond_code-Either first second ∙ (ap (λ c. Either (cond_code c) (cond_code second)) (sym here) ∙ ap (λ c. Either (cond_code one.now) (cond_code c)) (sym there))) in
-    opened_two places mid after (kind.EitherLeft two) (kind.Ask one) outer inner ∙ asked cond (Either (cond_code one.now) (cond_code two.now)) (reverse places) is_either
+    opened ∙ asked cond (Either (cond_code one.now) (cond_code two.now)) (reverse places) is_either
 
-pub asked_opposite : (places mid after : List Place) (cond inside : Cond) (one : Bor Cond) → cond ≡ variant.Opposite inside → one.now ≡ inside
-    → mid ≡ places ++ kind.Not ∷ [] → after ≡ mid ++ kind.Ask one ∷ [] → tasks_open after ≡ after_condition cond (reverse places)
-asked_opposite places mid after cond inside one is here outer inner =
+pub asked_opposite : (places after : List Place) (cond inside : Cond) (one : Bor Cond) → cond ≡ variant.Opposite inside → one.now ≡ inside
+    → tasks_open after ≡ tasks_of (kind.Ask one ∷ kind.Not ∷ reverse places) → tasks_open after ≡ after_condition cond (reverse places)
+asked_opposite places after cond inside one is here opened =
     let is_not : cond_code cond ≡ Opposite (cond_code one.now) = ap cond_code is ∙ (cond_code-Opposite inside ∙ ap (λ c. Opposite (cond_code c)) (sym here)) in
-    opened_two places mid after kind.Not (kind.Ask one) outer inner ∙ asked cond (Opposite (cond_code one.now)) (reverse places) is_not
+    opened ∙ asked cond (Opposite (cond_code one.now)) (reverse places) is_not

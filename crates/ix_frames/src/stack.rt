@@ -47,6 +47,23 @@ impl<'p> Stack<'p> {
         self.places.push_reserved(place);
     }
 
+    /// Opens a place inside the others, and one inside that.
+    #[inline(always)]
+    fn put_two(&mut self, place: Place<'p>, inner: Place<'p>)
+        requires { record {
+          outer : IsFree (length self.old.places.items) self.old.room place;
+          inner : IsFree (length self.old.places.items + 1) self.old.room inner;
+        } }
+        ensures { record {
+          tasks : tasks_open self.new.places.items ≡ tasks_of (inner.entry ∷ place.entry ∷ reverse self.old.places.items);
+          items : self.new.places.items ≡ (self.old.places.items ++ place.entry ∷ []) ++ inner.entry ∷ [];
+          room : self.new.room ≡ self.old.room;
+        } }
+    {
+        self.put(place);
+        self.put(inner);
+    }
+
     /// Takes the innermost place away.
     #[inline(always)]
     fn pop(&mut self) -> Option<Place<'p>>
@@ -194,8 +211,7 @@ impl<'p> Stack<'p> {
         ensures room { self.new.room ≡ self.old.room }
     {
         self.put(Place::Rest(rest));
-        self.put(Place::Branch(first, second));
-        self.put(Place::Ask(cond));
+        self.put_two(Place::Branch(first, second), Place::Ask(cond));
     }
 
     /// Begins a loop, at its condition or at its body, and the rest of the block follows (JLS 14.12, 14.13, 14.14.1).
@@ -205,14 +221,12 @@ impl<'p> Stack<'p> {
             ≡ loop_tasks test_first (cond_code turn.entry.cond.now) (items_code turn.entry.body.now) (items_code turn.entry.next.now) (code_then (items_code rest.now) (tasks_open self.old.places.items)) }
         ensures room { self.new.room ≡ self.old.room }
     {
-        self.put(Place::Rest(rest));
-        self.put(Place::Out);
+        self.put_two(Place::Rest(rest), Place::Out);
         if test_first {
             self.put(Place::Head(turn));
             return;
         }
-        self.put(Place::Again(turn));
-        self.put(Place::Rest(turn.body));
+        self.put_two(Place::Again(turn), Place::Rest(turn.body));
     }
 
     /// Asks a loop's condition; where it is true the body follows, and the way back.
@@ -222,8 +236,7 @@ impl<'p> Stack<'p> {
             ≡ Ask (cond_code turn.entry.cond.now) (code_then (items_code turn.entry.body.now) (again_of turn.entry Empty)) Empty (tasks_open self.old.places.items) }
         ensures room { self.new.room ≡ self.old.room }
     {
-        self.put(Place::Enter(turn));
-        self.put(Place::Ask(turn.cond));
+        self.put_two(Place::Enter(turn), Place::Ask(turn.cond));
     }
 
     /// Goes the way back to a loop's head, by the part before the next turn.
@@ -234,8 +247,7 @@ impl<'p> Stack<'p> {
           room : self.new.room ≡ self.old.room;
         } }
     {
-        self.put(Place::Head(turn));
-        self.put(Place::Rest(turn.next));
+        self.put_two(Place::Head(turn), Place::Rest(turn.next));
     }
 
     /// Goes on behind the innermost loop (JLS 14.15).
@@ -297,8 +309,7 @@ impl<'p> Stack<'p> {
                 }
                 Place::Enter(turn) => {
                     if now {
-                        self.put(Place::Again(turn));
-                        self.put(Place::Rest(turn.body));
+                        self.put_two(Place::Again(turn), Place::Rest(turn.body));
                     }
                     return;
                 }
@@ -320,24 +331,22 @@ impl<'p> Stack<'p> {
         match cond {
             Cond::Known(answer) => self.decided(*answer),
             Cond::Compare(block, test) => {
-                self.put(Place::Decide(test));
-                self.put(Place::Rest(block.items.as_slice()));
+                self.put_two(Place::Decide(test), Place::Rest(block.items.as_slice()));
             }
             Cond::Truth(block, slot) => {
-                self.put(Place::DecideTruth(*slot));
-                self.put(Place::Rest(block.items.as_slice()));
+                self.put_two(
+                    Place::DecideTruth(*slot),
+                    Place::Rest(block.items.as_slice()),
+                );
             }
             Cond::Both(first, second) => {
-                self.put(Place::BothLeft(second.get()));
-                self.put(Place::Ask(first.get()));
+                self.put_two(Place::BothLeft(second.get()), Place::Ask(first.get()));
             }
             Cond::Either(first, second) => {
-                self.put(Place::EitherLeft(second.get()));
-                self.put(Place::Ask(first.get()));
+                self.put_two(Place::EitherLeft(second.get()), Place::Ask(first.get()));
             }
             Cond::Opposite(asked) => {
-                self.put(Place::Not);
-                self.put(Place::Ask(asked.get()));
+                self.put_two(Place::Not, Place::Ask(asked.get()));
             }
         }
     }

@@ -85,21 +85,20 @@ pub(crate) fn add_parts<'a>(expr: &'a Expr, found: &mut Parts<'a>) -> Result<(),
     ensures assigned { OnOk result (found.new.assigned.items ≡ found.old.assigned.items ++ (spec.parts_of expr.now).assigned) }
 {
     match &expr.kind {
-        ExprKind::Select(object, _) => add_parts(object.get(), found),
+        ExprKind::Select(part, _) | ExprKind::NewArray(_, part) | ExprKind::Unary(_, part) => {
+            add_parts(part.get(), found)
+        }
         ExprKind::Index(array, index) => {
             if let Some(access) = own_access(array.get(), index.get()) {
                 return found.accesses.push(access).map_err(AllocError::from);
             }
             add_parts(array.get(), found).and(add_parts(index.get(), found))
         }
-        ExprKind::Call(None, _, args) => add_args(args.as_slice(), found),
+        ExprKind::Call(None, _, args) | ExprKind::New(_, args) => add_args(args.as_slice(), found),
         ExprKind::Call(Some(object), _, args) => {
             add_parts(object.get(), found).and(add_args(args.as_slice(), found))
         }
-        ExprKind::New(_, args) => add_args(args.as_slice(), found),
-        ExprKind::NewArray(_, size) => add_parts(size.get(), found),
         ExprKind::NewItems(_, items) => add_items(items.as_slice(), found),
-        ExprKind::Unary(_, operand) => add_parts(operand.get(), found),
         ExprKind::Binary(operator, left, right) => {
             add_parts(left.get(), found).and(add_right(*operator, right.get(), found))
         }
@@ -107,11 +106,11 @@ pub(crate) fn add_parts<'a>(expr: &'a Expr, found: &mut Parts<'a>) -> Result<(),
             add_as_target(target.get(), found).and(add_parts(value.get(), found))
         }
         ExprKind::Step { target, .. } => add_as_target(target.get(), found),
-        ExprKind::Int(_) => Ok(()),
-        ExprKind::Bool(_) => Ok(()),
-        ExprKind::Null => Ok(()),
-        ExprKind::This => Ok(()),
-        ExprKind::Name(_) => Ok(()),
+        ExprKind::Int(_)
+        | ExprKind::Bool(_)
+        | ExprKind::Null
+        | ExprKind::This
+        | ExprKind::Name(_) => Ok(()),
     }
 }
 

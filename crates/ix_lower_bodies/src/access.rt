@@ -11,34 +11,29 @@ fn in_expr(expr: &Expr, count: u32) -> u32
     ensures { result ≡ spec.expr_accesses expr.now count }
 {
     match &expr.kind {
-        ExprKind::Select(object, _) => in_expr(object.get(), count),
+        ExprKind::Select(part, _)
+        | ExprKind::NewArray(_, part)
+        | ExprKind::Unary(_, part)
+        | ExprKind::Step { target: part, .. } => in_expr(part.get(), count),
         ExprKind::Index(array, index) => {
             let count = in_expr(array.get(), one_more(count));
             in_expr(index.get(), count)
         }
-        ExprKind::Call(None, _, args) => in_exprs(args.as_slice(), count),
+        ExprKind::Call(None, _, args) | ExprKind::New(_, args) => in_exprs(args.as_slice(), count),
         ExprKind::Call(Some(object), _, args) => {
             let count = in_expr(object.get(), count);
             in_exprs(args.as_slice(), count)
         }
-        ExprKind::New(_, args) => in_exprs(args.as_slice(), count),
-        ExprKind::NewArray(_, size) => in_expr(size.get(), count),
         ExprKind::NewItems(_, items) => in_inits(items.as_slice(), count),
-        ExprKind::Unary(_, operand) => in_expr(operand.get(), count),
-        ExprKind::Binary(_, left, right) => {
-            let count = in_expr(left.get(), count);
-            in_expr(right.get(), count)
+        ExprKind::Binary(_, first, second) | ExprKind::Assign(_, first, second) => {
+            let count = in_expr(first.get(), count);
+            in_expr(second.get(), count)
         }
-        ExprKind::Assign(_, target, value) => {
-            let count = in_expr(target.get(), count);
-            in_expr(value.get(), count)
-        }
-        ExprKind::Step { target, .. } => in_expr(target.get(), count),
-        ExprKind::Int(_) => count,
-        ExprKind::Bool(_) => count,
-        ExprKind::Null => count,
-        ExprKind::This => count,
-        ExprKind::Name(_) => count,
+        ExprKind::Int(_)
+        | ExprKind::Bool(_)
+        | ExprKind::Null
+        | ExprKind::This
+        | ExprKind::Name(_) => count,
     }
 }
 
@@ -124,12 +119,8 @@ fn in_stmt(stmt: &Stmt, count: u32) -> u32
             in_stmt(turn.get(), count)
         }
         StmtKind::Return(value) => in_maybe(value, count),
-        StmtKind::Print(value) => in_expr(value, count),
-        StmtKind::Run(expr) => in_expr(expr, count),
-        StmtKind::Empty => count,
-        StmtKind::Break => count,
-        StmtKind::Continue => count,
-        StmtKind::Throw(_) => count,
+        StmtKind::Print(expr) | StmtKind::Run(expr) => in_expr(expr, count),
+        StmtKind::Empty | StmtKind::Break | StmtKind::Continue | StmtKind::Throw(_) => count,
     }
 }
 

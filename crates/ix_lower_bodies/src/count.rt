@@ -24,20 +24,19 @@ fn loops_in(stmt: &Stmt, count: u32) -> u32
             let count = loops_in(first.get(), count);
             loops_in(second.get(), count)
         }
-        StmtKind::While(_, turn) => loops_in(turn.get(), one_more(count)),
-        StmtKind::Do(turn, _) => loops_in(turn.get(), one_more(count)),
+        StmtKind::While(_, turn) | StmtKind::Do(turn, _) => loops_in(turn.get(), one_more(count)),
         StmtKind::For(first, _, _, turn) => {
             let count = loops(first.as_slice(), count);
             loops_in(turn.get(), one_more(count))
         }
-        StmtKind::Empty => count,
-        StmtKind::Local(_) => count,
-        StmtKind::Break => count,
-        StmtKind::Continue => count,
-        StmtKind::Return(_) => count,
-        StmtKind::Throw(_) => count,
-        StmtKind::Print(_) => count,
-        StmtKind::Run(_) => count,
+        StmtKind::Empty
+        | StmtKind::Local(_)
+        | StmtKind::Break
+        | StmtKind::Continue
+        | StmtKind::Return(_)
+        | StmtKind::Throw(_)
+        | StmtKind::Print(_)
+        | StmtKind::Run(_) => count,
     }
 }
 
@@ -88,10 +87,7 @@ fn count_item(item: &Item, count: u32) -> u32
             let count = count_operations(body, count);
             count_operations(next, count)
         }
-        Item::Break => count,
-        Item::Continue => count,
-        Item::Return(_, _) => count,
-        Item::Throw(_, _) => count,
+        Item::Break | Item::Continue | Item::Return(_, _) | Item::Throw(_, _) => count,
     }
 }
 
@@ -101,13 +97,8 @@ fn count_cond(cond: &Cond, count: u32) -> u32
 {
     match cond {
         Cond::Known(_) => count,
-        Cond::Compare(block, _) => count_operations(block, count),
-        Cond::Truth(block, _) => count_operations(block, count),
-        Cond::Both(first, second) => {
-            let count = count_cond(first.get(), count);
-            count_cond(second.get(), count)
-        }
-        Cond::Either(first, second) => {
+        Cond::Compare(block, _) | Cond::Truth(block, _) => count_operations(block, count),
+        Cond::Both(first, second) | Cond::Either(first, second) => {
             let count = count_cond(first.get(), count);
             count_cond(second.get(), count)
         }

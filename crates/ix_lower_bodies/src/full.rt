@@ -25,8 +25,9 @@ fn assigned_by(alloc: Global, site: &Site<'_>, expr: &Expr, body: &Body) -> Resu
         locals: body.locals.as_slice(),
         assigned: &[],
     };
-    add_assigned(&scope, expr, &mut assigned)?;
-    Ok(assigned)
+    add_assigned(&scope, expr, &mut assigned)
+        .map_err(Stop::from)
+        .and(Ok(assigned))
 }
 
 /// The slots that the initialiser assigns.
@@ -44,8 +45,9 @@ fn assigned_by_init(
         locals: body.locals.as_slice(),
         assigned: &[],
     };
-    add_init(&scope, init, &mut assigned)?;
-    Ok(assigned)
+    add_init(&scope, init, &mut assigned)
+        .map_err(Stop::from)
+        .and(Ok(assigned))
 }
 
 /// Evaluates a full expression, and answers the slot of its value.
@@ -101,8 +103,7 @@ pub fn run(alloc: Global, site: &Site<'_>, expr: &Expr, body: &mut Body) -> Resu
       body : OnOk result (spec.ran (shown_site site.now) expr.now body.old ≡ Ok body.new);
     } }
 {
-    evaluate(alloc, site, expr, body)?;
-    Ok(())
+    evaluate(alloc, site, expr, body).and(Ok(()))
 }
 
 pub fn run_all(alloc: Global, site: &Site<'_>, exprs: &[Expr], body: &mut Body) -> Result<(), Stop>

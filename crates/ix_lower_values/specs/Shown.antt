@@ -1,8 +1,10 @@
 -- What a scope of the code is as a scope of the definition.
-use Rattle.std.specs.Prelude.{ℕ, Bool, true, false, List, [], ◌∷◌, map, Option, Some}
+use Rattle.std.specs.Prelude.{ℕ, Bool, true, false, List, [], ◌∷◌, map, Option, Some, None, if◌then◌else◌}
 use Rattle.ix_core.specs.declared.claim.Type_.{Type_}
 use Rattle.ix_core.specs.declared.op.OpKind.{OpKind}
 use Rattle.ix_core.specs.declared.op.OpKind.TheVariants as op
+use Rattle.ix_core.specs.declared.op.UnaryNum.{UnaryNum}
+use Rattle.ix_core.specs.declared.op.UnaryNum.TheVariants as number
 use Rattle.ix_tree.specs.declared.expr.BinaryOp.{BinaryOp}
 use Rattle.ix_tree.specs.declared.expr.BinaryOp.TheVariants as binary
 use Rattle.ix_tree.specs.declared.expr.UnaryOp.{UnaryOp}
@@ -14,12 +16,13 @@ use Rattle.ix_table.specs.Numbered.{shown}
 use Rattle.ix_meaning.specs.declared.note.Meaning.{Meaning}
 use Rattle.ix_meaning.specs.declared.note.Meaning.TheVariants as meaning
 use Rattle.ix_text.specs.declared.span.Span.{Span}
+use Rattle.ix_plain.specs.declared.body.Head.{Head}
 use Rattle.ix_plain.specs.declared.made.Made.{Made}
 use Rattle.ix_plain.specs.declared.made.Spot.{Spot}
 use Rattle.ix_plain.specs.declared.made.Spot.TheVariants as spot
 use Rattle.ix_plain.specs.Scope as spec
-use Rattle.ix_plain.specs.Parts.{Within, Value, Asked, Target}
-use Rattle.ix_plain.specs.Values.{Arguments, Entries, lowering, filling, arguments_from, entries_from}
+use Rattle.ix_plain.specs.Parts.{Within, Value, Asked, Target, in_place, ◌>>=◌}
+use Rattle.ix_plain.specs.Values.{Lowering, Arguments, Entries, lowering, filling, arguments_from, entries_from, unused_object, object_value, calling}
 use Rattle.ix_lower_values.specs.declared.expression.Form.{Form}
 use Rattle.ix_lower_values.specs.declared.expression.Form.TheVariants as form
 use Rattle.ix_lower_values.specs.declared.scope.Site.{Site}
@@ -111,3 +114,25 @@ member_read target object _ = op.Length target object
 abbrev pub part_spans : Spot → Span → Span → List Span
 part_spans (spot.Cell array index ty at) target from = from ∷ []
 part_spans _ target from = target ∷ from ∷ []
+
+-- ---- calls
+
+-- What stands before the dot: evaluated only, where the method is static, and else the object that it is called on, which is `this` without a dot.
+abbrev pub received : Bool → Option Lowering → spec.Scope → Made → Within Value
+received true object scope made = unused_object object scope made >>= (λ before. in_place before 0)
+received false object scope made = object_value object scope made
+
+abbrev pub class_of_object : spec.Scope → Option Expr → ℕ
+class_of_object scope None = scope.site.class
+class_of_object scope (Some object) = spec.class_of (spec.type_at scope object.span)
+
+-- a call of a static method, or of another on an object of a class
+abbrev pub call_on : Head → ℕ → ℕ → ℕ → Span → Arguments → Within Value
+call_on head method object class span given =
+    if head.is_static then calling op.StaticCall method None head.class span given else calling op.InstanceCall method (Some object) class span given
+
+-- ---- operators with one operand on ints
+
+abbrev pub unary_num : UnaryOp → UnaryNum
+unary_num unary.Minus = number.Neg
+unary_num _ = number.Flip

@@ -42,21 +42,19 @@ pub fn add_assigned(scope: &Scope<'_>, expr: &Expr, known: &mut List<u32>) -> Re
     ensures { OnOk result (known.new ≡ (spec.assigns expr.now).inside (shown_scope scope.now) known.old) }
 {
     match &expr.kind {
-        ExprKind::Select(object, _) => add_assigned(scope, object.get(), known),
-        ExprKind::Index(array, index) => {
-            add_assigned(scope, array.get(), known).and(add_assigned(scope, index.get(), known))
+        ExprKind::Select(part, _) | ExprKind::NewArray(_, part) | ExprKind::Unary(_, part) => {
+            add_assigned(scope, part.get(), known)
         }
-        ExprKind::Call(None, _, args) => add_all(scope, args.as_slice(), known),
+        ExprKind::Index(first, second) | ExprKind::Binary(_, first, second) => {
+            add_assigned(scope, first.get(), known).and(add_assigned(scope, second.get(), known))
+        }
+        ExprKind::Call(None, _, args) | ExprKind::New(_, args) => {
+            add_all(scope, args.as_slice(), known)
+        }
         ExprKind::Call(Some(object), _, args) => {
             add_assigned(scope, object.get(), known).and(add_all(scope, args.as_slice(), known))
         }
-        ExprKind::New(_, args) => add_all(scope, args.as_slice(), known),
-        ExprKind::NewArray(_, size) => add_assigned(scope, size.get(), known),
         ExprKind::NewItems(_, items) => add_inits(scope, items.as_slice(), known),
-        ExprKind::Unary(_, operand) => add_assigned(scope, operand.get(), known),
-        ExprKind::Binary(_, left, right) => {
-            add_assigned(scope, left.get(), known).and(add_assigned(scope, right.get(), known))
-        }
         ExprKind::Assign(_, target, value) => add_own(scope, target.get(), known)
             .and(add_assigned(scope, target.get(), known))
             .and(add_assigned(scope, value.get(), known)),

@@ -1,5 +1,5 @@
 //! Expressions.
-ghost use Rattle.std.specs.Prelude.{◌≡◌, ◌≢◌, ◌++◌, ◌∷◌, [], Bool, true, false, if◌then◌else◌, map, Some, None, Ok, Err, List as Elements, IfOk, OnOk, IsErrOf, MatchResult, pos};
+ghost use Rattle.std.specs.Prelude.{◌≡◌, ◌≢◌, ◌++◌, ◌∷◌, [], Bool, true, false, if◌then◌else◌, map, Some, None, Ok, Err, List as Elements, IfOk, OnOk, IsErrOf, MatchResult, pos, option_map};
 ghost use Rattle.ix_num.specs.declared.arith.Arith.TheVariants as arith;
 ghost use Rattle.ix_core.specs.Types.{int_type};
 ghost use Rattle.ix_core.specs.declared.code.Cond.TheVariants as cond;
@@ -15,7 +15,7 @@ ghost use Rattle.ix_plain.specs.Scope.{type_at};
 ghost use Rattle.ix_plain.specs.Values as spec;
 ghost use Rattle.ix_plain.specs.Values.{int_value};
 ghost use Rattle.ix_lower_values.specs.declared.expression.Form.TheVariants as form;
-ghost use Rattle.ix_lower_values.specs.Shown.{shown_scope, valued, asked, targeted, left_unused, all_given, initial, all_initial, form_of, is_class_name, member_read};
+ghost use Rattle.ix_lower_values.specs.Shown.{shown_scope, valued, asked, targeted, left_unused, all_given, initial, all_initial, form_of, is_class_name, member_read, unary_num, received, call_on, class_of_object};
 
 use crate::made::{cell_type, compute, constant, empty, push, read, take, truth, write};
 use crate::scope::{
@@ -24,7 +24,7 @@ use crate::scope::{
 use ix_core::{Arg, Block, CallOp, Cond, Item, Literal, Op, OpKind, Test, Type_, UnaryNum};
 use ix_meaning::Meaning;
 use ix_num::{Arith, Rel};
-use ix_plain::{Made, Spot, Stop};
+use ix_plain::{Head, Made, Spot, Stop};
 use ix_text::{Boxed, List, Span};
 use ix_tree::{BinaryOp, Expr, ExprKind, Init, UnaryOp};
 use ix_types::{INT, copied};
@@ -53,17 +53,12 @@ fn form_of(kind: &ExprKind) -> Form
 {
     match kind {
         ExprKind::Unary(UnaryOp::Not, _) => Form::Asks,
-        ExprKind::Unary(_, _) => Form::Operates,
-        ExprKind::Binary(BinaryOp::Num(_), _, _) => Form::Operates,
+        ExprKind::Unary(_, _) | ExprKind::Binary(BinaryOp::Num(_), _, _) => Form::Operates,
         ExprKind::Binary(_, _, _) => Form::Asks,
-        ExprKind::Select(_, _) => Form::Selects,
-        ExprKind::Index(_, _) => Form::Selects,
+        ExprKind::Select(_, _) | ExprKind::Index(_, _) => Form::Selects,
         ExprKind::Call(_, _, _) => Form::Calls,
-        ExprKind::New(_, _) => Form::Creates,
-        ExprKind::NewArray(_, _) => Form::Creates,
-        ExprKind::NewItems(_, _) => Form::Creates,
-        ExprKind::Assign(_, _, _) => Form::Assigns,
-        ExprKind::Step { .. } => Form::Assigns,
+        ExprKind::New(_, _) | ExprKind::NewArray(_, _) | ExprKind::NewItems(_, _) => Form::Creates,
+        ExprKind::Assign(_, _, _) | ExprKind::Step { .. } => Form::Assigns,
         _ => Form::Computes,
     }
 }
@@ -160,6 +155,15 @@ fn null(alloc: Global, scope: &Scope<'_>, span: Span, made: &mut Made) -> Result
     let ty = type_at(alloc, scope, span)?;
     let kind = OpKind::Const(made.free, Literal::NullOf(ty));
     compute(alloc, made, kind, span)
+}
+
+fn unary_num(op: UnaryOp) -> UnaryNum
+    ensures { result ≡ unary_num op }
+{
+    match op {
+        UnaryOp::Minus => UnaryNum::Neg,
+        _ => UnaryNum::Flip,
+    }
 }
 
 fn step_operator(up: bool) -> Arith
@@ -334,18 +338,19 @@ fn written(
         .and(Ok(value))
 }
 
-/// Computes with two ints, and writes the result into a spot; the places are those of the assignment and of its target.
+/// Computes with two ints, and writes the result into a spot; answers the first of them or the result. The places are those of the assignment and of its target.
 fn computed_into(
     alloc: Global,
     spot: Spot,
     arith: Arith,
     slots: (u32, u32),
+    first: bool,
     spans: (Span, Span),
     made: &mut Made,
 ) -> Result<u32, Stop>
     ensures { record {
-      limit : (which : Which) → IsErrOf result (stop.Limit which) → (parts.◌>>=◌ (computed made.old (op.Num made.old.free arith slots.0 slots.1) spans.0) (λ t. in_place (with_item t.made (write spot t.slot int_type spans.0 spans.1 spans.0)) t.slot)) ≡ Err which;
-      made : IfOk result (λ at. (parts.◌>>=◌ (computed made.old (op.Num made.old.free arith slots.0 slots.1) spans.0) (λ t. in_place (with_item t.made (write spot t.slot int_type spans.0 spans.1 spans.0)) t.slot)) ≡ in_place made.new at);
+      limit : (which : Which) → IsErrOf result (stop.Limit which) → (parts.◌>>=◌ (computed made.old (op.Num made.old.free arith slots.0 slots.1) spans.0) (λ t. in_place (with_item t.made (write spot t.slot int_type spans.0 spans.1 spans.0)) (if first then slots.0 else t.slot))) ≡ Err which;
+      made : IfOk result (λ at. (parts.◌>>=◌ (computed made.old (op.Num made.old.free arith slots.0 slots.1) spans.0) (λ t. in_place (with_item t.made (write spot t.slot int_type spans.0 spans.1 spans.0)) (if first then slots.0 else t.slot))) ≡ in_place made.new at);
     } }
 {
     let (y, z) = slots;
@@ -354,7 +359,7 @@ fn computed_into(
     let t = compute(alloc, made, kind, whole)?;
     assign(alloc, spot, t, INT, (whole, target, whole), made)
         .map_err(Stop::from)
-        .and(Ok(t))
+        .and(Ok(step_value(first, y, t)))
 }
 
 /// Adds 1 to a spot, or subtracts it; answers what is read or what is written.
@@ -373,45 +378,42 @@ fn stepped(
 {
     let y = read(alloc, &spot, spans.1, made)?;
     let one = constant(alloc, made, 1, spans.0)?;
-    let t = computed_into(alloc, spot, step_operator(up), (y, one), spans, made)?;
-    Ok(step_value(after, y, t))
+    computed_into(alloc, spot, step_operator(up), (y, one), after, spans, made)
 }
 
-/// A call of a static method.
-fn static_call(
+/// The class of the object that a method is called on.
+fn object_class(scope: &Scope<'_>, object: &Option<Boxed<Expr>>) -> u32
+    ensures { result ≡ class_of_object (shown_scope scope.now) object.now }
+{
+    match object {
+        None => scope.site.class,
+        Some(object) => class_at(scope, object.get().span),
+    }
+}
+
+/// A call of a static method, or of another on an object of a class.
+fn call_on(
     alloc: Global,
+    head: Head,
     method: u32,
+    object: (u32, u32),
     args: List<Arg>,
-    class: u32,
     span: Span,
     made: &mut Made,
 ) -> Result<u32, Stop>
     ensures { record {
-      limit : (which : Which) → IsErrOf result (stop.Limit which) → spec.calling op.StaticCall method None class span (record { made = made.old; args = args }) ≡ Err which;
-      made : IfOk result (λ at. spec.calling op.StaticCall method None class span (record { made = made.old; args = args }) ≡ in_place made.new at);
+      limit : (which : Which) → IsErrOf result (stop.Limit which) → call_on head method object.0 object.1 span (record { made = made.old; args = args }) ≡ Err which;
+      made : IfOk result (λ at. call_on head method object.0 object.1 span (record { made = made.old; args = args }) ≡ in_place made.new at);
     } }
 {
-    let call = call_op(made.free, method, None, args, class, span);
-    compute(alloc, made, OpKind::StaticCall(call), span)
-}
-
-/// A call of a method on an object.
-fn instance_call(
-    alloc: Global,
-    method: u32,
-    object: u32,
-    args: List<Arg>,
-    class: u32,
-    span: Span,
-    made: &mut Made,
-) -> Result<u32, Stop>
-    ensures { record {
-      limit : (which : Which) → IsErrOf result (stop.Limit which) → spec.calling op.InstanceCall method (Some object) class span (record { made = made.old; args = args }) ≡ Err which;
-      made : IfOk result (λ at. spec.calling op.InstanceCall method (Some object) class span (record { made = made.old; args = args }) ≡ in_place made.new at);
-    } }
-{
-    let call = call_op(made.free, method, Some(object), args, class, span);
-    compute(alloc, made, OpKind::InstanceCall(call), span)
+    let (object, class) = object;
+    if head.is_static {
+        let call = call_op(made.free, method, None, args, head.class, span);
+        compute(alloc, made, OpKind::StaticCall(call), span)
+    } else {
+        let call = call_op(made.free, method, Some(object), args, class, span);
+        compute(alloc, made, OpKind::InstanceCall(call), span)
+    }
 }
 
 /// A new object, made by that constructor.
@@ -610,14 +612,9 @@ fn operated(alloc: Global, scope: &Scope<'_>, expr: &Expr, made: &mut Made) -> R
 {
     match &expr.kind {
         ExprKind::Unary(UnaryOp::Plus, operand) => value(alloc, scope, operand.get(), made),
-        ExprKind::Unary(UnaryOp::Minus, operand) => {
+        ExprKind::Unary(op @ (UnaryOp::Minus | UnaryOp::Flip), operand) => {
             let y = value(alloc, scope, operand.get(), made)?;
-            let kind = OpKind::Unary(made.free, UnaryNum::Neg, y);
-            compute(alloc, made, kind, expr.span)
-        }
-        ExprKind::Unary(UnaryOp::Flip, operand) => {
-            let y = value(alloc, scope, operand.get(), made)?;
-            let kind = OpKind::Unary(made.free, UnaryNum::Flip, y);
+            let kind = OpKind::Unary(made.free, unary_num(*op), y);
             compute(alloc, made, kind, expr.span)
         }
         ExprKind::Binary(BinaryOp::Num(arith), left, right) => {
@@ -650,7 +647,7 @@ fn assigned(alloc: Global, scope: &Scope<'_>, expr: &Expr, made: &mut Made) -> R
             let y = read(alloc, &spot, place.get().span, made)?;
             let z = value(alloc, scope, from.get(), made)?;
             let spans = (expr.span, place.get().span);
-            computed_into(alloc, spot, *arith, (y, z), spans, made)
+            computed_into(alloc, spot, *arith, (y, z), false, spans, made)
         }
         ExprKind::Step {
             up,
@@ -674,32 +671,41 @@ fn called(alloc: Global, scope: &Scope<'_>, expr: &Expr, made: &mut Made) -> Res
     } }
 {
     match &expr.kind {
-        ExprKind::Call(None, name, args) => {
+        ExprKind::Call(object, name, args) => {
             let method = method_number(meaning_at(scope, name.span));
             let head = head_at(&scope.site, method);
+            let o = receiver(alloc, scope, object, head.is_static, made)?;
             let args = arguments(alloc, scope, args.as_slice(), made)?;
-            if head.is_static {
-                static_call(alloc, method, args, head.class, name.span, made)
-            } else {
-                let class = scope.site.class;
-                instance_call(alloc, method, 0, args, class, name.span, made)
-            }
-        }
-        ExprKind::Call(Some(object), name, args) => {
-            let method = method_number(meaning_at(scope, name.span));
-            let head = head_at(&scope.site, method);
-            if head.is_static {
-                unused(alloc, scope, object.get(), made)?;
-                let args = arguments(alloc, scope, args.as_slice(), made)?;
-                static_call(alloc, method, args, head.class, name.span, made)
-            } else {
-                let o = value(alloc, scope, object.get(), made)?;
-                let args = arguments(alloc, scope, args.as_slice(), made)?;
-                let class = class_at(scope, object.get().span);
-                instance_call(alloc, method, o, args, class, name.span, made)
-            }
+            let class = object_class(scope, object);
+            call_on(alloc, head, method, (o, class), args, name.span, made)
         }
         _ => unreachable!(),
+    }
+}
+
+/// What stands before the dot of a call: evaluated only, where the method is static, and else the object that it is called on, which is `this` without a dot.
+#[cycle(lowering)]
+fn receiver(
+    alloc: Global,
+    scope: &Scope<'_>,
+    object: &Option<Boxed<Expr>>,
+    is_static: bool,
+    made: &mut Made,
+) -> Result<u32, Stop>
+    ensures { record {
+      limit : (which : Which) → IsErrOf result (stop.Limit which) → received is_static (option_map spec.lowering object.now) (shown_scope scope.now) made.old ≡ Err which;
+      made : IfOk result (λ at. received is_static (option_map spec.lowering object.now) (shown_scope scope.now) made.old ≡ in_place made.new at);
+    } }
+{
+    match object {
+        None => Ok(0),
+        Some(object) => {
+            if is_static {
+                unused(alloc, scope, object.get(), made).and(Ok(0))
+            } else {
+                value(alloc, scope, object.get(), made)
+            }
+        }
     }
 }
 

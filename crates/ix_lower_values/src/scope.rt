@@ -1,16 +1,17 @@
 //! What a full expression stands in.
-ghost use Rattle.std.specs.Prelude.{◌≡◌, IfOk, Some, None};
+ghost use Rattle.std.specs.Prelude.{◌≡◌, MatchResult, Some, None};
 ghost use Rattle.ix_meaning.specs.declared.note.Meaning.TheVariants as meaning;
+ghost use Rattle.ix_plain.specs.declared.made.Stop.TheVariants as stop;
 ghost use Rattle.ix_plain.specs.Scope as spec;
 ghost use Rattle.ix_lower_values.specs.Shown.{shown_site, shown_scope};
 
 use ix_core::{Base, Local, Type_};
 use ix_meaning::Meaning;
-use ix_plain::Head;
+use ix_plain::{Head, Stop};
 use ix_table::Table;
 use ix_text::Span;
 use ix_types::copied;
-use std::alloc::{AllocError, Global};
+use std::alloc::Global;
 
 /// What stays the same in a body.
 #[derive(Clone, Copy)]
@@ -87,11 +88,11 @@ pub fn meaning_at(scope: &Scope<'_>, span: Span) -> Option<Meaning>
 }
 
 /// The type of the expression at that place.
-pub fn type_at(alloc: Global, scope: &Scope<'_>, span: Span) -> Result<Type_, AllocError>
-    ensures { IfOk result (λ ty. ty ≡ spec.type_at (shown_scope scope.now) span) }
+pub fn type_at(alloc: Global, scope: &Scope<'_>, span: Span) -> Result<Type_, Stop>
+    ensures { MatchResult result (λ ty. ty ≡ spec.type_at (shown_scope scope.now) span) (λ cause. cause ≡ stop.Memory) }
 {
     match scope.site.table.type_of(span) {
-        Some(ty) => copied(alloc, ty),
+        Some(ty) => copied(alloc, ty).map_err(Stop::from),
         None => Ok(Type_::Void),
     }
 }

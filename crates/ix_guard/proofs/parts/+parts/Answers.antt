@@ -36,10 +36,10 @@ pub add_parts-returns-in-Binary-clause-assigned : goal.add_parts-returns-in-Bina
 add_parts-returns-in-Binary-clause-assigned t c = both_ok c.add_parts-in-Binary.result c.add_right.result c.and-in-Binary.result _ _ _ c.and-in-Binary.ensures c.add_parts-in-Binary.ensures.assigned c.add_right.ensures.assigned (λ one two. joined _ _ _ _ _ _ one two (binary_assigned c.args.expr.now c.in-Binary.left c.in-Binary.right _ _ c.in-Binary.operator c.in-Binary.is c.get-in-Binary.ensures c.get-in-Binary-2.ensures))
 
 pub add_parts-returns-in_default-clause-assigned : goal.add_parts-returns-in_default-clause-assigned
-add_parts-returns-in_default-clause-assigned t c = both_ok c.add_parts-in-Index.result c.add_parts-in-Index-2.result c.and.result _ _ _ c.and.ensures c.add_parts-in-Index.ensures.assigned c.add_parts-in-Index-2.ensures.assigned (λ one two. joined _ _ _ _ _ _ one two (index_assigned c.args.expr.now c.in-Index.array c.in-Index.index _ _ c.in-Index.is c.get-in-Index-3.ensures c.get-in-Index-4.ensures))
+add_parts-returns-in_default-clause-assigned t c = both_ok c.add_parts.result c.add_parts-in-Index.result c.and.result _ _ _ c.and.ensures c.add_parts.ensures.assigned c.add_parts-in-Index.ensures.assigned (λ one two. joined _ _ _ _ _ _ one two (index_assigned c.args.expr.now c.in-Index.array c.in-Index.index _ _ c.in-Index.is c.get-in-Index-2.ensures c.get-in-Index-3.ensures))
 
 pub add_parts-returns-in_default-clause-accesses : goal.add_parts-returns-in_default-clause-accesses
-add_parts-returns-in_default-clause-accesses t c = both_ok c.add_parts-in-Index.result c.add_parts-in-Index-2.result c.and.result _ _ _ c.and.ensures c.add_parts-in-Index.ensures.accesses c.add_parts-in-Index-2.ensures.accesses (λ one two. joined _ _ _ _ _ _ one two (index_accesses c.args.expr.now c.in-Index.array c.in-Index.index _ _ _ _ c.in-Index.is c.get-in-Index.ensures c.get-in-Index-2.ensures c.in_default.ensures c.get-in-Index-3.ensures c.get-in-Index-4.ensures))
+add_parts-returns-in_default-clause-accesses t c = both_ok c.add_parts.result c.add_parts-in-Index.result c.and.result _ _ _ c.and.ensures c.add_parts.ensures.accesses c.add_parts-in-Index.ensures.accesses (λ one two. joined _ _ _ _ _ _ one two (index_accesses c.args.expr.now c.in-Index.array c.in-Index.index _ _ _ _ c.in-Index.is c.get.ensures c.get-in-Index.ensures c.in_default.ensures c.get-in-Index-2.ensures c.get-in-Index-3.ensures))
 
 pub add_parts-returns-in-Assign-clause-accesses : goal.add_parts-returns-in-Assign-clause-accesses
 add_parts-returns-in-Assign-clause-accesses t c = both_ok c.add_as_target.result c.add_parts-in-Assign.result c.and-in-Assign.result _ _ _ c.and-in-Assign.ensures c.add_as_target.ensures.accesses c.add_parts-in-Assign.ensures.accesses (λ one two. joined _ _ _ _ _ _ one two (ap (λ (p : Parts). p.accesses) (assign_parts c.args.expr.now c.in-Assign.target c.in-Assign.value _ _ _ c.in-Assign.is c.get-in-Assign.ensures c.get-in-Assign-2.ensures)))
@@ -52,4 +52,4 @@ add_parts-returns-in-Some-clause-accesses t c =
     let items : List Access = c.args.found.now.accesses.items in
     let access : Access = c.in-Some.access in
     on_mapped c.push.result c.map_err.result _ c.map_err.ensures.variant (λ well. ap (map seen) (c.push.ensures.items ∙ ap (λ (b : Bool). if b then items ++ access ∷ [] else items) well)
-    ∙ (map-append seen items (access ∷ []) ∙ ap (λ l. map seen items ++ l) (sym (index_own c.args.expr.now c.in-Index.array c.in-Index.index _ _ (seen access) c.in-Index.is c.get-in-Index.ensures c.get-in-Index-2.ensures c.in-Some.ensures))))
+    ∙ (map-append seen items (access ∷ []) ∙ ap (λ l. map seen items ++ l) (sym (index_own c.args.expr.now c.in-Index.array c.in-Index.index _ _ (seen access) c.in-Index.is c.get.ensures c.get-in-Index.ensures c.in-Some.ensures))))

@@ -9,14 +9,14 @@ put-requires c = record {
   values = omega (arith, c.requires.values);
 }
 
-pub put-requires-2 : goal.put-requires-2
-put-requires-2 c = record {
-  above = omega (arith, c.requires.above, one_more _ _ _ c.put.ensures.items, ap (λ (r : Room). r.places) c.put.ensures.room);
-  values = omega (arith, c.requires.values, ap (λ (r : Room). r.values) c.put.ensures.room);
-}
-
-pub put-requires-3 : goal.put-requires-3
-put-requires-3 c = record {
-  above = omega (arith, c.requires.above, one_more _ _ _ c.put.ensures.items, one_more _ _ _ c.put-2.ensures.items, ap (λ (r : Room). r.places) c.put.ensures.room, ap (λ (r : Room). r.places) c.put-2.ensures.room);
-  values = omega (arith, c.requires.values, ap (λ (r : Room). r.values) c.put.ensures.room, ap (λ (r : Room). r.values) c.put-2.ensures.room);
+pub put_two-requires : goal.put_two-requires
+put_two-requires c = record {
+  outer = record {
+    above = omega (arith, c.requires.above, one_more _ _ _ c.put.ensures.items, ap (λ (r : Room). r.places) c.put.ensures.room);
+    values = omega (arith, c.requires.values, ap (λ (r : Room). r.values) c.put.ensures.room);
+  };
+  inner = record {
+    above = omega (arith, c.requires.above, one_more _ _ _ c.put.ensures.items, ap (λ (r : Room). r.places) c.put.ensures.room);
+    values = omega (arith, c.requires.values, ap (λ (r : Room). r.values) c.put.ensures.room);
+  };
 }

@@ -1,6 +1,6 @@
-use Rattle.std.proofs.Common.{◌∙◌, arith}
+use Rattle.std.proofs.Common.{refl, ◌∙◌, arith}
 use Rattle.ix_frames.proofs.Reach.{shorter}
-use Rattle.ix_frames.proofs.Free.{one_more, free_above}
+use Rattle.ix_frames.proofs.Free.{free_same, free_above}
 use Rattle.ix_frames.proofs.Opened.{after_answer-branch, after_answer-enter, after_answer-not, after_answer-both, after_answer-either, after_answer-both-asked, after_answer-either-asked, after_answer-out}
 use Rattle.ix_frames.proofs.stack.Stack.decided.Goals as goal
 use Rattle.ix_frames.proofs.stack.Stack.decided.Goals.{then-now-2, else-now-2}
@@ -14,12 +14,14 @@ returns-in-Branch-clause-tasks c =
 
 pub returns-then-now-3-clause-tasks : goal.returns-then-now-3-clause-tasks
 returns-then-now-3-clause-tasks c =
-    after_answer-enter c.loop-place.now c.loop-place.self.places.items c.pop.new.self.places.items c.put-then-now-3.new.self.places.items _ c.in-Enter.turn c.if-now-3.true
-    (rw c.in-Enter.is at c.in-Some.ensures.items) c.put-then-now-3.ensures.items c.put-then-now-3-2.ensures.items
+    after_answer-enter c.loop-place.now c.loop-place.self.places.items c.pop.new.self.places.items _ _ c.in-Enter.turn c.if-now-3.true
+    (rw c.in-Enter.is at c.in-Some.ensures.items) refl c.put_two.ensures.items
     ∙ c.loop-place.invariant.tasks
 
-pub put-requires-then-now-3-2 : goal.put-requires-then-now-3-2
-put-requires-then-now-3-2 c = free_above (rw c.in-Enter.is at c.in-Some.ensures.free) c.put-then-now-3.ensures.room (one_more _ _ _ c.put-then-now-3.ensures.items) (omega arith) (omega arith)
+pub put_two-requires : goal.put_two-requires
+put_two-requires c =
+    let free = rw c.in-Enter.is at c.in-Some.ensures.free in
+    record { outer = free_same free refl (omega arith) (omega arith); inner = free_above free refl refl (omega arith) (omega arith) }
 
 pub loop-place-smaller : goal.loop-place-smaller
 loop-place-smaller c = shorter _ _ _ c.in-Some.ensures.items
