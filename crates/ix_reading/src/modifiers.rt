@@ -107,24 +107,16 @@ pub fn no_mods(alloc: Global) -> FoundMods
 }
 
 /// Modifiers with what a word marks.
-fn marked(mods: Mods, word: Word) -> Mods
+fn marked(mut mods: Mods, word: Word) -> Mods
     ensures { result ≡ nodes.marked mods word }
 {
     match word {
-        Word::Open => mods,
-        Word::Private => Mods {
-            is_private: true,
-            ..mods
-        },
-        Word::Static => Mods {
-            is_static: true,
-            ..mods
-        },
-        Word::Final => Mods {
-            is_final: true,
-            ..mods
-        },
+        Word::Open => {}
+        Word::Private => mods.is_private = true,
+        Word::Static => mods.is_static = true,
+        Word::Final => mods.is_final = true,
     }
+    mods
 }
 
 /// Modifiers with one more word.

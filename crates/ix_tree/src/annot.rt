@@ -3,10 +3,18 @@
 use ix_text::{List, Span, Text};
 
 /// An identifier (JLS 3.8) and its place.
-#[derive(Drop)]
 pub struct Ident {
     pub text: Text,
     pub span: Span,
+}
+
+// By hand, here and below, so that a value is let go of by a call and not written out at each exit of the crates above.
+impl Drop for Ident {
+    fn drop(self) {
+        match self {
+            Ident { text, span: _ } => drop(text),
+        }
+    }
 }
 
 /// The value of an argument of an annotation.
@@ -30,19 +38,47 @@ impl Drop for AnnotValue {
 }
 
 /// An argument of an annotation (JLS 9.7): `value`, or `name = value`.
-#[derive(Drop)]
 pub struct AnnotArg {
     pub name: Option<Ident>,
     pub value: AnnotValue,
     pub span: Span,
 }
 
+impl Drop for AnnotArg {
+    fn drop(self) {
+        match self {
+            AnnotArg {
+                name,
+                value,
+                span: _,
+            } => {
+                drop(name);
+                drop(value)
+            }
+        }
+    }
+}
+
 /// An annotation (JLS 9.7), from its `@` to its end.
-#[derive(Drop)]
 pub struct Annot {
     pub name: Ident,
     pub args: List<AnnotArg>,
     pub span: Span,
+}
+
+impl Drop for Annot {
+    fn drop(self) {
+        match self {
+            Annot {
+                name,
+                args,
+                span: _,
+            } => {
+                drop(name);
+                drop(args)
+            }
+        }
+    }
 }
 
 /// What a type stands on.
@@ -63,7 +99,6 @@ impl Drop for BaseTree {
 }
 
 /// A type as it is written (JLS 4): a base, and an array of it where `depth` isn't 0.
-#[derive(Drop)]
 pub struct TypeTree {
     pub base: BaseTree,
     /// The annotations between the base and the first pair of brackets, which are on the array.
@@ -73,11 +108,39 @@ pub struct TypeTree {
     pub span: Span,
 }
 
+impl Drop for TypeTree {
+    fn drop(self) {
+        match self {
+            TypeTree {
+                base,
+                annots,
+                depth: _,
+                span: _,
+            } => {
+                drop(base);
+                drop(annots)
+            }
+        }
+    }
+}
+
 /// The modifiers of a declaration (JLS 8.1.1, 8.3.1, 8.4.3). `public` and `protected` have no effect and leave nothing.
-#[derive(Drop)]
 pub struct Mods {
     pub is_static: bool,
     pub is_final: bool,
     pub is_private: bool,
     pub annots: List<Annot>,
+}
+
+impl Drop for Mods {
+    fn drop(self) {
+        match self {
+            Mods {
+                is_static: _,
+                is_final: _,
+                is_private: _,
+                annots,
+            } => drop(annots),
+        }
+    }
 }

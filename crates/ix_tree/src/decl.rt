@@ -6,7 +6,6 @@ use crate::stmt::Stmt;
 use ix_text::{Joint, List, Span};
 
 /// The declaration of one field, parameter or local. The declarators of one declaration hold its modifiers and its type jointly.
-#[derive(Drop)]
 pub struct LocalDecl {
     /// The modifiers. An annotation here is on an int or on the elements of an array.
     pub mods: Joint<Mods>,
@@ -15,8 +14,25 @@ pub struct LocalDecl {
     pub init: Option<Init>,
 }
 
+impl Drop for LocalDecl {
+    fn drop(self) {
+        match self {
+            LocalDecl {
+                mods,
+                ty,
+                name,
+                init,
+            } => {
+                drop(mods);
+                drop(ty);
+                drop(name);
+                drop(init)
+            }
+        }
+    }
+}
+
 /// The declaration of a method or a constructor.
-#[derive(Drop)]
 pub struct MethodDecl {
     pub mods: Mods,
     /// The type of the result; none for `void` and for a constructor.
@@ -28,6 +44,30 @@ pub struct MethodDecl {
     pub parent_args: Option<List<Expr>>,
     pub body: List<Stmt>,
     pub span: Span,
+}
+
+impl Drop for MethodDecl {
+    fn drop(self) {
+        match self {
+            MethodDecl {
+                mods,
+                result,
+                constructor: _,
+                name,
+                params,
+                parent_args,
+                body,
+                span: _,
+            } => {
+                drop(mods);
+                drop(result);
+                drop(name);
+                drop(params);
+                drop(parent_args);
+                drop(body)
+            }
+        }
+    }
 }
 
 /// A member of a class; a field's declaration gives one for each declarator.
@@ -46,13 +86,29 @@ impl Drop for Member {
 }
 
 /// The declaration of a class.
-#[derive(Drop)]
 pub struct ClassDecl {
     pub name: Ident,
     /// The class that it extends.
     pub parent: Option<Ident>,
     pub members: List<Member>,
     pub span: Span,
+}
+
+impl Drop for ClassDecl {
+    fn drop(self) {
+        match self {
+            ClassDecl {
+                name,
+                parent,
+                members,
+                span: _,
+            } => {
+                drop(name);
+                drop(parent);
+                drop(members)
+            }
+        }
+    }
 }
 
 /// A whole source. Package and import lines leave no node.

@@ -47,10 +47,18 @@ impl Drop for Init {
 
 /// An expression, whose span has no parentheses that stand around it.
 #[cycle(tree)]
-#[derive(Drop)]
 pub struct Expr {
     pub kind: ExprKind,
     pub span: Span,
+}
+
+impl Drop for Expr {
+    #[cycle(tree)]
+    fn drop(self) {
+        match self {
+            Expr { kind, span: _ } => drop(kind),
+        }
+    }
 }
 
 /// The forms of expression. Parentheses leave no node.

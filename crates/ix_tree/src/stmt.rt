@@ -7,10 +7,18 @@ use ix_text::{Boxed, List, Span};
 
 /// A statement of a block.
 #[cycle(stmt)]
-#[derive(Drop)]
 pub struct Stmt {
     pub kind: StmtKind,
     pub span: Span,
+}
+
+impl Drop for Stmt {
+    #[cycle(stmt)]
+    fn drop(self) {
+        match self {
+            Stmt { kind, span: _ } => drop(kind),
+        }
+    }
 }
 
 /// The forms of statement.
