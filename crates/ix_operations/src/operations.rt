@@ -85,12 +85,14 @@ fn num<'p>(
     left: u32,
     right: u32,
 ) -> Done<'p>
-    ensures done { (limits : Limits) (tables : Tables) (heap : cells.Heap)
-        → assign_result limits tables place (slots_of frame.old) heap target (exact_of arith (int_at (slots_of frame.old) left) (int_at (slots_of frame.old) right)) ≡ effect_of result (slots_of frame.new) heap }
-    ensures printed { IsPrinted result → ⊥ }
-    ensures stopped { IsStopped result → slots_of frame.new ≡ slots_of frame.old }
-    ensures method { frame.new.method ≡ frame.old.method }
-    ensures stack { frame.new.stack ≡ frame.old.stack }
+    ensures { record {
+      done : (limits : Limits) (tables : Tables) (heap : cells.Heap)
+          → assign_result limits tables place (slots_of frame.old) heap target (exact_of arith (int_at (slots_of frame.old) left) (int_at (slots_of frame.old) right)) ≡ effect_of result (slots_of frame.new) heap;
+      printed : IsPrinted result → ⊥;
+      stopped : IsStopped result → slots_of frame.new ≡ slots_of frame.old;
+      method : frame.new.method ≡ frame.old.method;
+      stack : frame.new.stack ≡ frame.old.stack;
+    } }
 {
     let x = int_in(frame, left);
     let y = int_in(frame, right);
@@ -117,12 +119,14 @@ fn exact_unary<'p>(frame: &Frame<'p>, unary: UnaryNum, operand: u32) -> i128
 
 /// Arithmetic on one int (JLS 15.15.4, 15.15.5).
 fn unary<'p>(frame: &mut Frame<'p>, target: u32, unary: UnaryNum, operand: u32) -> Done<'p>
-    ensures done { (limits : Limits) (tables : Tables) (place : ℕ) (heap : cells.Heap)
-        → assign_int limits tables place (slots_of frame.old) heap target (unary_of unary (int_at (slots_of frame.old) operand)) ≡ effect_of result (slots_of frame.new) heap }
-    ensures printed { IsPrinted result → ⊥ }
-    ensures stopped { IsStopped result → slots_of frame.new ≡ slots_of frame.old }
-    ensures method { frame.new.method ≡ frame.old.method }
-    ensures stack { frame.new.stack ≡ frame.old.stack }
+    ensures { record {
+      done : (limits : Limits) (tables : Tables) (place : ℕ) (heap : cells.Heap)
+          → assign_int limits tables place (slots_of frame.old) heap target (unary_of unary (int_at (slots_of frame.old) operand)) ≡ effect_of result (slots_of frame.new) heap;
+      printed : IsPrinted result → ⊥;
+      stopped : IsStopped result → slots_of frame.new ≡ slots_of frame.old;
+      method : frame.new.method ≡ frame.old.method;
+      stack : frame.new.stack ≡ frame.old.stack;
+    } }
 {
     let exact = exact_unary(frame, unary, operand);
     keep(frame, target, &exact)
@@ -162,13 +166,15 @@ fn load<'p>(
     array: u32,
     index: u32,
 ) -> Done<'p>
-    ensures done { (limits : Limits) (tables : Tables) → at_array limits tables place (slots_of frame.old) (heap_of heap.now) array
-        (λ number items. at_index limits tables place (slots_of frame.old) (heap_of heap.now) (int_at (slots_of frame.old) index) items
-        (λ cell. assign limits tables place (slots_of frame.old) (heap_of heap.now) target (value_at items cell))) ≡ effect_of result (slots_of frame.new) (heap_of heap.now) }
-    ensures printed { IsPrinted result → ⊥ }
-    ensures stopped { IsStopped result → slots_of frame.new ≡ slots_of frame.old }
-    ensures method { frame.new.method ≡ frame.old.method }
-    ensures stack { frame.new.stack ≡ frame.old.stack }
+    ensures { record {
+      done : (limits : Limits) (tables : Tables) → at_array limits tables place (slots_of frame.old) (heap_of heap.now) array
+          (λ number items. at_index limits tables place (slots_of frame.old) (heap_of heap.now) (int_at (slots_of frame.old) index) items
+          (λ cell. assign limits tables place (slots_of frame.old) (heap_of heap.now) target (value_at items cell))) ≡ effect_of result (slots_of frame.new) (heap_of heap.now);
+      printed : IsPrinted result → ⊥;
+      stopped : IsStopped result → slots_of frame.new ≡ slots_of frame.old;
+      method : frame.new.method ≡ frame.old.method;
+      stack : frame.new.stack ≡ frame.old.stack;
+    } }
 {
     let index = int_in(frame, index);
     match frame.value(array) {
@@ -192,12 +198,14 @@ fn store<'p>(
     index: u32,
     value: u32,
 ) -> Done<'p>
-    ensures done { (limits : Limits) (tables : Tables) → at_array limits tables place (slots_of frame.now) (heap_of heap.old) array
-        (λ number items. at_index limits tables place (slots_of frame.now) (heap_of heap.old) (int_at (slots_of frame.now) index) items
-        (λ cell. model.Done (slots_of frame.now) (write_at (heap_of heap.old) number cell (value_at (slots_of frame.now) value)))) ≡ effect_of result (slots_of frame.now) (heap_of heap.new) }
-    ensures printed { IsPrinted result → ⊥ }
-    ensures stopped { IsStopped result → heap_of heap.new ≡ heap_of heap.old }
-    ensures most { heap.new.most ≡ heap.old.most }
+    ensures { record {
+      done : (limits : Limits) (tables : Tables) → at_array limits tables place (slots_of frame.now) (heap_of heap.old) array
+          (λ number items. at_index limits tables place (slots_of frame.now) (heap_of heap.old) (int_at (slots_of frame.now) index) items
+          (λ cell. model.Done (slots_of frame.now) (write_at (heap_of heap.old) number cell (value_at (slots_of frame.now) value)))) ≡ effect_of result (slots_of frame.now) (heap_of heap.new);
+      printed : IsPrinted result → ⊥;
+      stopped : IsStopped result → heap_of heap.new ≡ heap_of heap.old;
+      most : heap.new.most ≡ heap.old.most;
+    } }
 {
     let index = int_in(frame, index);
     match frame.value(array) {
@@ -244,12 +252,14 @@ fn read_field<'p>(
     object: u32,
     field: u32,
 ) -> Done<'p>
-    ensures done { (limits : Limits) → at_field limits (tables_of rows.now.program.now) place (slots_of frame.old) (heap_of heap.now) object field
-        (λ number cell. assign limits (tables_of rows.now.program.now) place (slots_of frame.old) (heap_of heap.now) target (value_at (object_at (heap_of heap.now) number).cells cell)) ≡ effect_of result (slots_of frame.new) (heap_of heap.now) }
-    ensures printed { IsPrinted result → ⊥ }
-    ensures stopped { IsStopped result → slots_of frame.new ≡ slots_of frame.old }
-    ensures method { frame.new.method ≡ frame.old.method }
-    ensures stack { frame.new.stack ≡ frame.old.stack }
+    ensures { record {
+      done : (limits : Limits) → at_field limits (tables_of rows.now.program.now) place (slots_of frame.old) (heap_of heap.now) object field
+          (λ number cell. assign limits (tables_of rows.now.program.now) place (slots_of frame.old) (heap_of heap.now) target (value_at (object_at (heap_of heap.now) number).cells cell)) ≡ effect_of result (slots_of frame.new) (heap_of heap.now);
+      printed : IsPrinted result → ⊥;
+      stopped : IsStopped result → slots_of frame.new ≡ slots_of frame.old;
+      method : frame.new.method ≡ frame.old.method;
+      stack : frame.new.stack ≡ frame.old.stack;
+    } }
 {
     match field_at(rows, frame, heap, object, field) {
         Some((number, cell)) => {
@@ -270,11 +280,13 @@ fn write_field<'p>(
     field: u32,
     value: u32,
 ) -> Done<'p>
-    ensures done { (limits : Limits) → at_field limits (tables_of rows.now.program.now) place (slots_of frame.now) (heap_of heap.old) object field
-        (λ number cell. model.Done (slots_of frame.now) (write_at (heap_of heap.old) number cell (value_at (slots_of frame.now) value))) ≡ effect_of result (slots_of frame.now) (heap_of heap.new) }
-    ensures printed { IsPrinted result → ⊥ }
-    ensures stopped { IsStopped result → heap_of heap.new ≡ heap_of heap.old }
-    ensures most { heap.new.most ≡ heap.old.most }
+    ensures { record {
+      done : (limits : Limits) → at_field limits (tables_of rows.now.program.now) place (slots_of frame.now) (heap_of heap.old) object field
+          (λ number cell. model.Done (slots_of frame.now) (write_at (heap_of heap.old) number cell (value_at (slots_of frame.now) value))) ≡ effect_of result (slots_of frame.now) (heap_of heap.new);
+      printed : IsPrinted result → ⊥;
+      stopped : IsStopped result → heap_of heap.new ≡ heap_of heap.old;
+      most : heap.new.most ≡ heap.old.most;
+    } }
 {
     match field_at(rows, frame, heap, object, field) {
         Some((number, cell)) => {
@@ -295,14 +307,16 @@ fn new_array<'p>(
     ty: &'p Type_,
     size: u32,
 ) -> Done<'p>
-    ensures done { (frames : ℕ) (tables : Tables) → new_array (with_limits heap.old.most frames) tables place (slots_of frame.old) (heap_of heap.old) target ty.now (int_at (slots_of frame.old) size)
-        ≡ effect_of result (slots_of frame.new) (heap_of heap.new) }
-    ensures printed { IsPrinted result → ⊥ }
-    ensures stopped { IsStopped result → slots_of frame.new ≡ slots_of frame.old }
-    ensures method { frame.new.method ≡ frame.old.method }
-    ensures stack { frame.new.stack ≡ frame.old.stack }
-    ensures unmade { IsStopped result → heap_of heap.new ≡ heap_of heap.old }
-    ensures most { heap.new.most ≡ heap.old.most }
+    ensures { record {
+      done : (frames : ℕ) (tables : Tables) → new_array (with_limits heap.old.most frames) tables place (slots_of frame.old) (heap_of heap.old) target ty.now (int_at (slots_of frame.old) size)
+          ≡ effect_of result (slots_of frame.new) (heap_of heap.new);
+      printed : IsPrinted result → ⊥;
+      stopped : IsStopped result → slots_of frame.new ≡ slots_of frame.old;
+      method : frame.new.method ≡ frame.old.method;
+      stack : frame.new.stack ≡ frame.old.stack;
+      unmade : IsStopped result → heap_of heap.new ≡ heap_of heap.old;
+      most : heap.new.most ≡ heap.old.most;
+    } }
 {
     let size = int_in(frame, size);
     if size < 0 {
@@ -327,14 +341,16 @@ fn fill<'p>(
     ty: &'p Type_,
     entries: &[u32],
 ) -> Done<'p>
-    ensures done { (frames : ℕ) (tables : Tables) → allocate (with_limits heap.old.most frames) tables place (slots_of frame.old) (heap_of heap.old) target ty.now (length entries.now) (map (value_at (slots_of frame.old)) entries.now)
-        ≡ effect_of result (slots_of frame.new) (heap_of heap.new) }
-    ensures printed { IsPrinted result → ⊥ }
-    ensures stopped { IsStopped result → slots_of frame.new ≡ slots_of frame.old }
-    ensures method { frame.new.method ≡ frame.old.method }
-    ensures stack { frame.new.stack ≡ frame.old.stack }
-    ensures unmade { IsStopped result → heap_of heap.new ≡ heap_of heap.old }
-    ensures most { heap.new.most ≡ heap.old.most }
+    ensures { record {
+      done : (frames : ℕ) (tables : Tables) → allocate (with_limits heap.old.most frames) tables place (slots_of frame.old) (heap_of heap.old) target ty.now (length entries.now) (map (value_at (slots_of frame.old)) entries.now)
+          ≡ effect_of result (slots_of frame.new) (heap_of heap.new);
+      printed : IsPrinted result → ⊥;
+      stopped : IsStopped result → slots_of frame.new ≡ slots_of frame.old;
+      method : frame.new.method ≡ frame.old.method;
+      stack : frame.new.stack ≡ frame.old.stack;
+      unmade : IsStopped result → heap_of heap.new ≡ heap_of heap.old;
+      most : heap.new.most ≡ heap.old.most;
+    } }
 {
     if heap.lacks(entries.len()) {
         return Done::Stopped(Outcome::HeapFull(place));
