@@ -90,8 +90,6 @@ pub mod StandingStatements
 pub mod StandingSources
 pub mod GuardedSources
 pub mod OneGuarded
--- Passed on from ix_guarding.
-pub use Rattle.ix_guarding.proofs.OneGuarded
 -- Passed on from ix_guarded_text.
 pub use Rattle.ix_guarded_text.proofs.PartsMoved
 pub use Rattle.ix_guarded_text.proofs.SourcePlaces
