@@ -6,7 +6,7 @@ use Rattle.std.specs.declared.alloc.Global.{Global}
 use Rattle.std.specs.Map.{lookup}
 use Rattle.ix_annot.specs.Named.{or_else}
 use Rattle.ix_meaning.specs.Scope.{Known, meant}
-use Rattle.ix_values.specs.Local.{Local}
+use Rattle.ix_values.specs.declared.scope.Local.{Local}
 use Rattle.ix_values.specs.Here.{local_known, local_known_as}
 use Rattle.ix_values.proofs.MeantNames.{meant_append, meant_local}
 

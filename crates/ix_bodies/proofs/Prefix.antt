@@ -2,7 +2,7 @@
 use Rattle.std.proofs.Common.{◌≡◌, ◌++◌, [], length, take, sym, ◌∙◌, ap, append_assoc}
 use Rattle.std.proofs.lemmas.List.{append-nil}
 use Rattle.std.proofs.Math.Seq.{take-append_seam}
-use Rattle.ix_values.specs.Scopes.{Scopes}
+use Rattle.ix_values.specs.declared.scope.Scopes.{Scopes}
 use Rattle.ix_values.specs.Here.{Extends}
 
 pub extends_same : (s t : Scopes) → t.params ≡ s.params → t.locals.entries ≡ s.locals.entries → Extends s t

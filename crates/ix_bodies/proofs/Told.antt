@@ -3,7 +3,7 @@ use Rattle.std.proofs.Common.{◌≡◌, ◌++◌, ◌+◌, ℕ, List, length, t
 use Rattle.ix_meaning.specs.declared.note.Note.{Note}
 use Rattle.ix_meaning.specs.Scope.{Scope}
 use Rattle.ix_meaning.specs.Bodies.{Telling, after, then_told, noted_then, closed}
-use Rattle.ix_values.specs.Scopes.{Scopes}
+use Rattle.ix_values.specs.declared.scope.Scopes.{Scopes}
 use Rattle.ix_values.specs.Here.{names, local_known, param_known, Extends}
 use Rattle.ix_bodies.proofs.Prefix.{extends_same, extends_trans, take_extended}
 

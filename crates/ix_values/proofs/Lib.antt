@@ -1,2 +1,1 @@
--- Passed on from ix_scopes.
-pub use Rattle.ix_scopes.proofs.MeantNames
+pub mod MeantNames

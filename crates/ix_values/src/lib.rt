@@ -7,12 +7,21 @@
 #![tactic(auto)]
 
 mod names;
+mod naming;
+mod rules;
+mod scope;
 mod selections;
 mod values;
 
-pub use ix_scopes::{
-    Annotations, Begun, Declaration, InAnnotation, Local, Param, Scopes, World, begin_with,
-    further_annotations, note_declared, of_variable, own_annotations, variable, wrong, wrong_if,
-};
 pub use ix_types::{BOOLEAN, Need};
+pub use ix_world::{
+    Annotations, Begun, Called, Declaration, World, begin_with, created, further_annotations,
+    of_variable, own_annotations, variable,
+};
+pub use naming::InAnnotation;
+pub use rules::{
+    cannot_compare, final_assigned, list_mismatch, not_static, note_declared, note_type, note_use,
+    null_mismatch, type_mismatch, wrong, wrong_if,
+};
+pub use scope::{Known, Local, Param, Scopes};
 pub use values::{arguments, check, fill, given_to, value};

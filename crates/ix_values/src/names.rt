@@ -3,15 +3,15 @@
 ghost use Rattle.std.specs.Prelude.{◌≡◌, ◌++◌, ◌∷◌, IfOk, OnOk};
 ghost use Rattle.ix_meaning.specs.Members as members;
 ghost use Rattle.ix_meaning.specs.Values as spec;
-ghost use Rattle.ix_scopes.specs.Here.{here, known_as};
+ghost use Rattle.ix_values.specs.Here.{here, known_as};
 ghost use Rattle.ix_values.specs.Objects as objects;
-ghost use Rattle.ix_scopes.specs.World as tables;
+ghost use Rattle.ix_world.specs.World as tables;
 
 use ix_core::Type_;
 use ix_meaning::{Field, Meaning, Note, Rule};
-use ix_scopes::{
-    Known, Scopes, World, final_assigned, not_static, note_type, note_use, wrong, wrong_if,
-};
+use crate::scope::{Known, Scopes};
+use ix_world::World;
+use crate::rules::{final_assigned, not_static, note_type, note_use, wrong, wrong_if};
 use ix_text::{List, Span};
 use ix_tree::Ident;
 use ix_types::{copied_option, is_reference};

@@ -7,10 +7,10 @@ ghost use Rattle.ix_meaning.specs.Types as types;
 ghost use Rattle.ix_meaning.specs.Values as spec;
 ghost use Rattle.ix_text.specs.declared.span.Span.{Span};
 ghost use Rattle.ix_values.specs.Operators.{equates};
-ghost use Rattle.ix_scopes.specs.Here.{here};
+ghost use Rattle.ix_values.specs.Here.{here};
 ghost use Rattle.ix_types.specs.Needs as needs;
 ghost use Rattle.ix_values.specs.Objects as objects;
-ghost use Rattle.ix_scopes.specs.World as tables;
+ghost use Rattle.ix_world.specs.World as tables;
 
 use crate::names::{Object, name_before_dot, object_of, variable};
 use crate::selections::{
@@ -18,10 +18,9 @@ use crate::selections::{
 };
 use ix_core::{Base, Type_};
 use ix_meaning::{Meaning, Note, Rule};
-use ix_scopes::{
-    Called, Scopes, World, created, list_mismatch, not_static, note_type, note_use, null_mismatch,
-    type_mismatch, wrong, wrong_if,
-};
+use ix_world::{Called, World, created};
+use crate::scope::Scopes;
+use crate::rules::{list_mismatch, not_static, note_type, note_use, null_mismatch, type_mismatch, wrong, wrong_if};
 use ix_text::{List, Span};
 use ix_tree::{BinaryOp, Expr, ExprKind, Ident, Init, TypeTree, UnaryOp};
 use ix_types::{BOOLEAN, INT, Need, copied_option, need_like};

@@ -1,5 +1,5 @@
 use Rattle.std.proofs.Common.{◌≡◌, ◌++◌, map, drop}
-use Rattle.ix_scopes.specs.Here.{here}
+use Rattle.ix_values.specs.Here.{here}
 use Rattle.ix_meaning.specs.Values as spec
 use Rattle.ix_values.proofs.values.+values.Given as goal
 

@@ -3,10 +3,10 @@ use Rattle.std.specs.Prelude.{◌≡◌, ℕ, Option, Some, None, List, ◌++◌
 use Rattle.std.specs.declared.alloc.Global.{Global}
 use Rattle.std.specs.Borrow.{Bor}
 use Rattle.ix_meaning.specs.declared.note.Meaning.TheVariants as meaning
-use Rattle.ix_scopes.specs.declared.scope.Param.{Param}
-use Rattle.ix_scopes.specs.declared.scope.Local.{Local}
-use Rattle.ix_scopes.specs.declared.scope.Known.{Known as KnownHere}
-use Rattle.ix_scopes.specs.declared.scope.Scopes.{Scopes}
+use Rattle.ix_values.specs.declared.scope.Param.{Param}
+use Rattle.ix_values.specs.declared.scope.Local.{Local}
+use Rattle.ix_values.specs.declared.scope.Known.{Known as KnownHere}
+use Rattle.ix_values.specs.declared.scope.Scopes.{Scopes}
 use Rattle.ix_world.specs.declared.world.World.{World as Tables}
 use Rattle.ix_types.specs.declared.types.Need.{Need as NeedHere}
 use Rattle.ix_types.specs.Needs as needs

@@ -3,7 +3,7 @@
 ghost use Rattle.std.specs.Prelude.{◌≡◌, map};
 ghost use Rattle.ix_meaning.specs.Members.{nearest};
 ghost use Rattle.ix_meaning.specs.Scope as scope;
-ghost use Rattle.ix_scopes.specs.Here as spec;
+ghost use Rattle.ix_values.specs.Here as spec;
 ghost use Rattle.ix_world.specs.World.{shown};
 
 use crate::scope::{Known, Param, Scopes};
@@ -139,7 +139,7 @@ fn numbered(scopes: &Scopes<'_>, number: u32) -> Option<Found>
 
 impl Names for InAnnotation<'_, '_> {
     ghost use Rattle.ix_meaning.specs.Scope.{annot_names};
-    ghost use Rattle.ix_scopes.specs.Here as spec;
+    ghost use Rattle.ix_values.specs.Here as spec;
 
     ghost names = { λ place. annot_names (spec.here place.world.now place.scopes.now) place.own (spec.text_in place.own_local) };
 

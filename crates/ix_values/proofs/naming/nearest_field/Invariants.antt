@@ -2,7 +2,7 @@ use Rattle.std.proofs.Common.{◌≡◌, drop}
 use Rattle.ix_meaning.specs.Members.{nearest}
 use Rattle.ix_meaning.specs.Scope as scope
 use Rattle.ix_world.specs.World.{shown}
-use Rattle.ix_scopes.proofs.naming.nearest_field.Given as goal
+use Rattle.ix_values.proofs.naming.nearest_field.Given as goal
 
 abbrev pub invariant-loop-declaring : goal.invariant-loop-declaring
 invariant-loop-declaring l =

@@ -1,8 +1,8 @@
 use Rattle.std.proofs.Common.{rules, ◌≡◌, ◌∙◌, ap, sym, Some, None, option_map}
 use Rattle.indexmap.specs.IndexMap.{get_by_text}
-use Rattle.ix_scopes.specs.Here as spec
-use Rattle.ix_scopes.proofs.MeantNames.{meant_local}
-use Rattle.ix_scopes.proofs.scope.local_named.Goals as goal
+use Rattle.ix_values.specs.Here as spec
+use Rattle.ix_values.proofs.MeantNames.{meant_local}
+use Rattle.ix_values.proofs.scope.local_named.Goals as goal
 
 pub returns-in-None : goal.returns-in-None
 returns-in-None c =

@@ -2,7 +2,7 @@
 
 ghost use Rattle.std.specs.Prelude.{◌≡◌, ◌++◌, ◌∷◌, [], None, option_copied, option_map, map, take};
 ghost use Rattle.ix_meaning.specs.Scope as scope;
-ghost use Rattle.ix_scopes.specs.Here as spec;
+ghost use Rattle.ix_values.specs.Here as spec;
 
 use indexmap::IndexMap;
 use ix_core::Type_;

@@ -1,9 +1,9 @@
 use Rattle.std.proofs.Common.{rules, ◌≡◌, ◌∙◌, ap, sym, Some, List, ℕ, map}
 use Rattle.ix_meaning.specs.Scope as scope
 use Rattle.ix_meaning.specs.declared.note.Meaning.TheVariants as meaning
-use Rattle.ix_scopes.specs.Here as spec
-use Rattle.ix_scopes.proofs.MeantNames.{meant_name}
-use Rattle.ix_scopes.proofs.scope.param_named.Goals as goal
+use Rattle.ix_values.specs.Here as spec
+use Rattle.ix_values.proofs.MeantNames.{meant_name}
+use Rattle.ix_values.proofs.scope.param_named.Goals as goal
 
 pub returns-in-Some : goal.returns-in-Some
 returns-in-Some c =

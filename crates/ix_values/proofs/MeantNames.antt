@@ -7,8 +7,8 @@ use Rattle.std.specs.Map.{lookup}
 use Rattle.std.proofs.lemmas.Slice.Eq.{bytes_eq-Decides}
 use Rattle.ix_annot.specs.Named.{or_else}
 use Rattle.ix_meaning.specs.Scope.{Known, meant, is_param, param_numbered}
-use Rattle.ix_scopes.specs.declared.scope.Local.{Local}
-use Rattle.ix_scopes.specs.Here.{local_known, local_known_as}
+use Rattle.ix_values.specs.declared.scope.Local.{Local}
+use Rattle.ix_values.specs.Here.{local_known, local_known_as}
 
 append_by : (b : Bool) (name : List ℕ) (k : Known) (ks more : List Known) → meant name (ks ++ more) ≡ or_else (meant name ks) (meant name more)
     → cond b (Some k) (meant name (ks ++ more)) ≡ or_else (cond b (Some k) (meant name ks)) (meant name more)
