@@ -1,1 +1,4 @@
 mod MethodNotes
+pub mod NewLocals
+pub mod Prefix
+pub mod Told

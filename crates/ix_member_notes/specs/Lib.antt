@@ -4,3 +4,6 @@ pub mod Parents
 pub mod Heads
 -- Passed on from ix_world.
 pub use Rattle.ix_world.specs.World
+pub mod Added
+-- Passed on from ix_values.
+pub use Rattle.ix_values.specs.Here

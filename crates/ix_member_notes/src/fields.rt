@@ -4,14 +4,15 @@ ghost use Rattle.std.specs.Prelude.{◌≡◌, ◌++◌, true, if◌then◌else�
 ghost use Rattle.ix_meaning.specs.Bodies.{init_notes};
 ghost use Rattle.ix_meaning.specs.Members as members;
 ghost use Rattle.ix_meaning.specs.Source as spec;
-ghost use Rattle.ix_bodies.specs.Here.{here};
+ghost use Rattle.ix_values.specs.Here.{here};
 ghost use Rattle.ix_world.specs.World.{shown};
 ghost use Rattle.ix_written.specs.Begun.{annotated};
 ghost use Rattle.ix_member_notes.specs.Places.{at};
 ghost use Rattle.ix_member_notes.specs.Declarations as parts;
 
 use crate::places::member_scopes;
-use ix_bodies::{InAnnotation, Scopes, initialiser, note_declared, wrong_if};
+use ix_values::{InAnnotation, Scopes, note_declared, wrong_if};
+use crate::locals::initialiser;
 use ix_core::{Claim, Name, Type_};
 use ix_meaning::{Field, Meaning, Note, Rule};
 use ix_text::List;

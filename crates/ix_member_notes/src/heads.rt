@@ -4,12 +4,12 @@ ghost use Rattle.std.specs.Prelude.{◌≡◌, ◌++◌, ◌<◌, ◌^◌, lengt
 ghost use Rattle.ix_meaning.specs.Annotated as annotated;
 ghost use Rattle.ix_meaning.specs.Source as source;
 ghost use Rattle.ix_meaning.specs.Types as types;
-ghost use Rattle.ix_bodies.specs.Here.{here};
+ghost use Rattle.ix_values.specs.Here.{here};
 ghost use Rattle.ix_member_notes.specs.Heads as parts;
 
 use crate::params::note_params;
 use ix_annot::{Claims, Found, Names, Naming, Target};
-use ix_bodies::{InAnnotation, Scopes, note_declared};
+use ix_values::{InAnnotation, Scopes, note_declared};
 use ix_core::{Base, Claim, Name, Type_};
 use ix_meaning::{Note, Signature};
 use ix_text::List;

@@ -6,15 +6,21 @@
 //! It never looks at another member's text.
 #![tactic(auto)]
 
+mod body;
 mod fields;
 mod heads;
+mod locals;
 mod methods;
 mod params;
 mod parents;
 mod places;
 
-pub use fields::field;
-pub use ix_bodies::{wrong, wrong_if};
+pub use ix_values::{
+    InAnnotation, Param, Scopes, arguments, given_to, note_declared, wrong, wrong_if,
+};
 pub use ix_world::{World, world_of};
+pub use body::statements;
+pub use fields::field;
+pub use locals::initialiser;
 pub use methods::method;
 pub use parents::implicit_super;

@@ -2,11 +2,11 @@
 
 ghost use Rattle.std.specs.Prelude.{◌≡◌, ◌++◌, ◌<◌, ◌^◌, [], length, map, IfOk, OnOk};
 ghost use Rattle.ix_meaning.specs.Source as spec;
-ghost use Rattle.ix_bodies.specs.Here.{here, param_known};
+ghost use Rattle.ix_values.specs.Here.{here, param_known};
 ghost use Rattle.ix_world.specs.World.{shown};
 ghost use Rattle.ix_member_notes.specs.Declarations as parts;
 
-use ix_bodies::{InAnnotation, Param, Scopes, note_declared, wrong_if};
+use ix_values::{InAnnotation, Param, Scopes, note_declared, wrong_if};
 use ix_core::Name;
 use ix_meaning::{Note, Rule};
 use ix_text::List;

@@ -2,11 +2,11 @@
 
 ghost use Rattle.std.specs.Prelude.{◌≡◌, ◌++◌, OnOk};
 ghost use Rattle.ix_meaning.specs.Source as spec;
-ghost use Rattle.ix_bodies.specs.Here.{here};
+ghost use Rattle.ix_values.specs.Here.{here};
 ghost use Rattle.ix_world.specs.World.{shown};
 ghost use Rattle.ix_member_notes.specs.Parents as parts;
 
-use ix_bodies::{Scopes, arguments, given_to, wrong_if};
+use ix_values::{Scopes, arguments, given_to, wrong_if};
 use ix_meaning::{Note, Rule};
 use ix_text::{List, Span};
 use ix_tree::{Expr, MethodDecl};

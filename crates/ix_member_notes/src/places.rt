@@ -2,12 +2,12 @@
 
 ghost use Rattle.std.specs.Prelude.{◌≡◌};
 ghost use Rattle.ix_world.specs.declared.world.World.{World as Tables};
-ghost use Rattle.ix_bodies.specs.Here.{here};
+ghost use Rattle.ix_values.specs.Here.{here};
 ghost use Rattle.ix_world.specs.World.{shown};
 ghost use Rattle.ix_member_notes.specs.Declarations.{member_scope};
 
 use indexmap::IndexMap;
-use ix_bodies::Scopes;
+use ix_values::Scopes;
 use ix_text::List;
 use std::alloc::Global;
 

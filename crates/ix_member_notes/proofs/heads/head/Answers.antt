@@ -6,7 +6,7 @@ use Rattle.ix_tree.specs.declared.decl.LocalDecl.{LocalDecl}
 use Rattle.ix_meaning.specs.declared.note.Note.{Note}
 use Rattle.ix_meaning.specs.Annotated.{marked}
 use Rattle.ix_meaning.specs.Bodies.{declares_note}
-use Rattle.ix_bodies.specs.Here.{here}
+use Rattle.ix_values.specs.Here.{here}
 use Rattle.ix_member_notes.specs.Declarations.{params_notes}
 use Rattle.ix_member_notes.specs.Heads as parts
 use Rattle.ix_member_notes.proofs.heads.head.Goals as goal

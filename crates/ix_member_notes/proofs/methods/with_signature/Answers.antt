@@ -2,7 +2,7 @@ use Rattle.std.proofs.Common.{rules, ◌≡◌, ◌++◌, OnOk, is_some, Bool, L
 use Rattle.ix_meaning.specs.declared.note.Note.{Note}
 use Rattle.ix_meaning.specs.Scope.{Scope}
 use Rattle.ix_meaning.specs.Source as spec
-use Rattle.ix_bodies.specs.Here.{here}
+use Rattle.ix_values.specs.Here.{here}
 use Rattle.ix_world.specs.World.{shown}
 use Rattle.ix_member_notes.specs.Heads as parts
 use Rattle.ix_member_notes.specs.Places.{at}

@@ -1,5 +1,5 @@
 use Rattle.std.proofs.Common.{◌≡◌, ◌++◌, [], drop, take}
-use Rattle.ix_bodies.specs.Here.{here}
+use Rattle.ix_values.specs.Here.{here}
 use Rattle.ix_member_notes.specs.Declarations as parts
 use Rattle.ix_member_notes.proofs.params.note_params.Given as goal
 

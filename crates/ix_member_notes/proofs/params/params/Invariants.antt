@@ -1,5 +1,5 @@
 use Rattle.std.proofs.Common.{◌≡◌, ◌++◌, drop, map}
-use Rattle.ix_bodies.specs.Here.{param_known}
+use Rattle.ix_values.specs.Here.{param_known}
 use Rattle.ix_world.specs.World.{shown}
 use Rattle.ix_member_notes.specs.Declarations as parts
 use Rattle.ix_member_notes.proofs.params.params.Given as goal

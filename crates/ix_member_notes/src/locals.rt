@@ -4,7 +4,7 @@ ghost use Rattle.std.specs.Prelude.{◌≡◌, ◌++◌, ◌∷◌, [], None, �
 ghost use Rattle.ix_meaning.specs.Bodies as spec;
 ghost use Rattle.ix_meaning.specs.Scope.{meant};
 ghost use Rattle.indexmap.specs.IndexMap.{get_by_text};
-ghost use Rattle.ix_bodies.specs.Added.{AddsLast};
+ghost use Rattle.ix_member_notes.specs.Added.{AddsLast};
 ghost use Rattle.ix_values.specs.Begun.{annotated};
 ghost use Rattle.ix_values.specs.Here.{here, names, local_known_as, Extends};
 

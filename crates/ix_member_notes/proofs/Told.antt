@@ -5,7 +5,7 @@ use Rattle.ix_meaning.specs.Scope.{Scope}
 use Rattle.ix_meaning.specs.Bodies.{Telling, after, then_told, noted_then, closed}
 use Rattle.ix_values.specs.declared.scope.Scopes.{Scopes}
 use Rattle.ix_values.specs.Here.{names, local_known, param_known, Extends}
-use Rattle.ix_bodies.proofs.Prefix.{extends_same, extends_trans, take_extended}
+use Rattle.ix_member_notes.proofs.Prefix.{extends_same, extends_trans, take_extended}
 
 -- The notes and the scope behind, of what leads from one scope to another; `here` is what the names in scope mean.
 pub record Told (here : Scopes → Scope) (t : Telling) (s u : Scopes) (n m : List Note) : Type 0 where

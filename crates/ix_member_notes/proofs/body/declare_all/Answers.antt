@@ -1,6 +1,6 @@
 use Rattle.std.proofs.lemmas.Result.{on_ok_weaker}
-use Rattle.ix_bodies.proofs.Prefix.{extends_trans}
-use Rattle.ix_bodies.proofs.body.declare_all.Goals as goal
+use Rattle.ix_member_notes.proofs.Prefix.{extends_trans}
+use Rattle.ix_member_notes.proofs.body.declare_all.Goals as goal
 
 pub returns-in_ok-declare_first-in-len1-up-clause-keeps : goal.returns-in_ok-declare_first-in-len1-up-clause-keeps
 returns-in_ok-declare_first-in-len1-up-clause-keeps c =

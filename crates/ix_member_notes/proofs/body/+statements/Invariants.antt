@@ -1,7 +1,7 @@
 use Rattle.std.proofs.Common.{◌≡◌, ◌++◌, ◌+◌, map, drop}
 use Rattle.ix_values.specs.Here.{here, Extends}
 use Rattle.ix_meaning.specs.Bodies as spec
-use Rattle.ix_bodies.proofs.body.+statements.Given as goal
+use Rattle.ix_member_notes.proofs.body.+statements.Given as goal
 
 abbrev pub invariant-statements-loop-s : goal.invariant-statements-loop-s
 invariant-statements-loop-s l = record {

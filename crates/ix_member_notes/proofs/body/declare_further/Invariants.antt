@@ -2,7 +2,7 @@ use Rattle.std.proofs.Common.{◌≡◌, ◌++◌, ◌+◌, drop, map}
 use Rattle.ix_values.specs.Here.{here, Extends}
 use Rattle.ix_meaning.specs.Bodies as spec
 use Rattle.ix_meaning.specs.Declarators as declared
-use Rattle.ix_bodies.proofs.body.declare_further.Given as goal
+use Rattle.ix_member_notes.proofs.body.declare_further.Given as goal
 
 abbrev pub invariant-loop-decl : goal.invariant-loop-decl
 invariant-loop-decl l = record {

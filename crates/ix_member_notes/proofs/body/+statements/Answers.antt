@@ -8,9 +8,9 @@ use Rattle.ix_meaning.specs.Bodies as spec
 use Rattle.ix_meaning.specs.Scope.{Scope}
 use Rattle.ix_meaning.proofs.Equations.{block_stmt, if_stmt, if_else_stmt, while_stmt, do_stmt, for_stmt}
 use Rattle.ix_values.specs.Here.{here, names}
-use Rattle.ix_bodies.proofs.Told.{Told, joined, then_notes, then_scope, told_then, told_before, told_closed, same_names}
-use Rattle.ix_bodies.proofs.Prefix.{extends_same, extends_trans, take_extended}
-use Rattle.ix_bodies.proofs.body.+statements.Goals as goal
+use Rattle.ix_member_notes.proofs.Told.{Told, joined, then_notes, then_scope, told_then, told_before, told_closed, same_names}
+use Rattle.ix_member_notes.proofs.Prefix.{extends_same, extends_trans, take_extended}
+use Rattle.ix_member_notes.proofs.body.+statements.Goals as goal
 
 pub statement_kind-returns-in_ok-looped-in-For-clause-notes : goal.statement_kind-returns-in_ok-looped-in-For-clause-notes
 statement_kind-returns-in_ok-looped-in-For-clause-notes t c =

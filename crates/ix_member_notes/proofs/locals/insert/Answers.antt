@@ -3,7 +3,7 @@ use Rattle.std.specs.Map.{lookup}
 use Rattle.std.specs.String.{string_eq}
 use Rattle.indexmap.specs.IndexMap.{insert_entry}
 use Rattle.indexmap.proofs.CallerLemmas.{insert_entry-new}
-use Rattle.ix_bodies.proofs.locals.insert.Goals as goal
+use Rattle.ix_member_notes.proofs.locals.insert.Goals as goal
 
 pub returns : goal.returns
 returns c =

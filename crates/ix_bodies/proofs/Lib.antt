@@ -1,3 +1,0 @@
-pub mod NewLocals
-pub mod Prefix
-pub mod Told
