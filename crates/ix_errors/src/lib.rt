@@ -3,7 +3,7 @@
 //! What goes in: a program in which names are small, a method's number, a profile. What comes out: the errors that the rules derive, and those of the text.
 //! The contract: exactly the errors that no flow of the method avoids, and those of its text, each with the place of its claim in its declaration. They hang on the method's own text and on
 //! the signatures of the program alone (`judged_alone`): programs with the same signatures have the same errors in a method that they share.
-//! It stands on `ix_labels` for the least labels, on `ix_method` and `ix_sign` for the errors at a place, on `ix_method_errors` for those of the text.
+//! It stands on `ix_labels` for the least labels, on `ix_sign` and `ix_sign` for the errors at a place, on `ix_method_errors` for those of the text.
 //! It never looks at how labels are found or how a store is kept.
 #![tactic(auto)]
 

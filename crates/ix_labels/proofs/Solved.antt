@@ -15,8 +15,8 @@ use Rattle.ix_graph.specs.GraphSolutions.{Carries, Settles, NodeAsks, label_at}
 use Rattle.ix_graph.specs.Brought.{pass_of, kind_at, AllBring, Gathers}
 use Rattle.ix_graph.specs.Built.{kinds_of, edges_of, edges_to}
 use Rattle.ix_graph.proofs.NodesAsk.{asks, asked}
-use Rattle.ix_method.specs.MethodRules.{method_rules}
-use Rattle.ix_method.proofs.MethodLaws.{method_laws}
+use Rattle.ix_sign.specs.MethodRules.{method_rules}
+use Rattle.ix_sign.proofs.MethodLaws.{method_laws}
 use Rattle.ix_solve.specs.Solutions.{IsSolution, IsLeast}
 use Rattle.ix_labels.specs.Problem.{rules_with}
 use Rattle.ix_labels.proofs.SameLandmarks.{one_landmarks}

@@ -14,13 +14,13 @@ pub mod Filled
 pub mod Visits
 -- The least labels of a method's loops.
 pub mod LoopLabels
--- Passed on from ix_method.
-pub use Rattle.ix_method.specs.MethodRules
-pub use Rattle.ix_method.specs.Naming
-pub use Rattle.ix_method.specs.Store
-pub use Rattle.ix_method.specs.RuleErrors
-pub use Rattle.ix_method.specs.SignErrors
-pub use Rattle.ix_method.specs.StoredFacts
+-- Passed on from ix_sign.
+pub use Rattle.ix_sign.specs.MethodRules
+pub use Rattle.ix_sign.specs.Naming
+pub use Rattle.ix_sign.specs.Store
+pub use Rattle.ix_sign.specs.RuleErrors
+pub use Rattle.ix_sign.specs.SignErrors
+pub use Rattle.ix_sign.specs.StoredFacts
 -- Passed on from ix_facts.
 pub use Rattle.ix_facts.specs.Stores
 -- What is passed on of the graph, for the bound on visits.

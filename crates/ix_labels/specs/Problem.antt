@@ -12,7 +12,7 @@ use Rattle.ix_graph.specs.declared.node.Node.{Node}
 use Rattle.ix_graph.specs.Graph.{Kind, Joins, Part, method_parts}
 use Rattle.ix_graph.specs.Built.{edges_of, edges_to}
 use Rattle.ix_graph.specs.Linked.{kinds_in}
-use Rattle.ix_method.specs.MethodRules.{method_rules}
+use Rattle.ix_sign.specs.MethodRules.{method_rules}
 use Rattle.ix_labels.specs.declared.problem.Problem.{Problem}
 use Rattle.ix_labels.specs.Runs.{readers_through}
 use Rattle.ix_labels.specs.RunAsks.{RunAsks}

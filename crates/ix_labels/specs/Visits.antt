@@ -9,11 +9,11 @@ use Rattle.ix_graph.specs.declared.node.Edge.{Edge}
 use Rattle.ix_graph.specs.Graph.{behind_code, method_parts}
 use Rattle.ix_graph.specs.GraphSolutions.{NodeAsks}
 use Rattle.ix_graph.specs.Built.{edges_of, targets_from}
-use Rattle.ix_method.specs.MethodRules.{method_rules}
-use Rattle.ix_method.specs.Store.{Store}
+use Rattle.ix_sign.specs.MethodRules.{method_rules}
+use Rattle.ix_sign.specs.Store.{Store}
 use Rattle.ix_facts.specs.Stores.{IsBelow}
-use Rattle.ix_method.specs.StoredFacts.{stored}
-use Rattle.ix_method.specs.StoreOrder.{store_rank, top_rank}
+use Rattle.ix_sign.specs.StoredFacts.{stored}
+use Rattle.ix_sign.specs.StoreOrder.{store_rank, top_rank}
 use Rattle.ix_solve.specs.Readers.{readings}
 use Rattle.ix_solve.specs.Solutions.{IsSolution, IsLeast}
 

@@ -5,7 +5,7 @@
 //! Of a method and a profile comes out the store at the head of each loop, by the loops' numbers.
 //! The contract: the stores are the least solution of the graph by the rules of the method, so they are the least labels of its flow; and how many visits of
 //! nodes it takes. Those of the loops are the labels of a flow of the method by its rules, and below those of every flow.
-//! It stands on `ix_graph` for the graph, on `ix_solve` for the worklist, on `ix_method` for the rules.
+//! It stands on `ix_graph` for the graph, on `ix_solve` for the worklist, on `ix_sign` for the rules.
 //! It never looks at how a store is kept, or at errors.
 #![tactic(auto)]
 
@@ -17,7 +17,7 @@ mod run_labels;
 mod runs;
 mod visit;
 
-pub use ix_method::Store;
+pub use ix_sign::Store;
 pub use kept::RunLabels;
 pub use labels::{Labels, label_nodes};
 pub use loops::loop_labels;

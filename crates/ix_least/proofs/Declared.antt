@@ -29,7 +29,7 @@ use Rattle.ix_facts.specs.AfterOperation.{is_int, is_array}
 use Rattle.ix_steps.specs.MachineSteps.{own_path}
 use Rattle.ix_claim_facts.specs.Names.{call_path, object_path, names_field, param_in, local_in, or_else}
 use Rattle.ix_claim_facts.specs.Signs.{claims_facts, posts_facts, params_facts, received, received_params, zero_facts, zero_fields, fields_facts, dependent_facts}
-use Rattle.ix_method.specs.MethodRules.{variable_claims, copied_claims}
+use Rattle.ix_sign.specs.MethodRules.{variable_claims, copied_claims}
 use Rattle.ix_least.proofs.Claims.{AllNamed, claims_in, posts_in, filtered_in, others_named}
 use Rattle.ix_least.proofs.Inside.{method, local_types, In, field_is, field_within, slot_of_param, names_inside, local_names_inside, field_names_inside}
 use Rattle.ix_least.proofs.Lists.{Each, none, one, both, if_within}

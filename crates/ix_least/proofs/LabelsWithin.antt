@@ -35,7 +35,7 @@ use Rattle.ix_facts.proofs.SaidLaws.{default_weaker}
 use Rattle.ix_flow.specs.Flow.{IsLeastFlow}
 use Rattle.ix_claim_facts.specs.Names.{is_built}
 use Rattle.ix_claim_facts.specs.Signs.{Adds, Forgets, Copies, entry_facts, read_facts, write_facts, result_facts, answer_facts, told_by, told_by_call, told_facts, own_fields, inherited_fields, fields_above, zero_fields, fields_facts, has_no_parent}
-use Rattle.ix_method.specs.MethodRules.{method_rules, KindGives, AfterGives}
+use Rattle.ix_sign.specs.MethodRules.{method_rules, KindGives, AfterGives}
 use Rattle.ix_least.specs.Within.{StoreWithin, is_inside}
 use Rattle.ix_least.proofs.Paths.{OperationWithin}
 use Rattle.ix_least.proofs.Cut.{cut}

@@ -5,5 +5,5 @@ pub use Rattle.ix_cert.specs.Labellings
 pub use Rattle.ix_cert.specs.SameLabels
 pub use Rattle.ix_cert.specs.Store
 pub use Rattle.ix_cert.specs.StoredFacts
--- Passed on from ix_method.
-pub use Rattle.ix_method.specs.MethodRules
+-- Passed on from ix_sign.
+pub use Rattle.ix_sign.specs.MethodRules

@@ -7,7 +7,7 @@ ghost use Rattle.ix_core.specs.Formed.{Formed};
 ghost use Rattle.ix_core.specs.Tables.{method_at, body_of};
 ghost use Rattle.ix_facts.specs.Stores.{Stored};
 ghost use Rattle.ix_flow.specs.Flow.{IsLeastFlow};
-ghost use Rattle.ix_method.specs.MethodRules.{method_rules};
+ghost use Rattle.ix_sign.specs.MethodRules.{method_rules};
 ghost use Rattle.ix_least.specs.Within.{StoreWithin, is_inside};
 
 /// The least labels of a method of a formed program speak of its own slots alone, and of the program's fields of the objects in these; and they compare no int with itself.

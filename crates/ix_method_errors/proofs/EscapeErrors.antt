@@ -8,9 +8,9 @@ use Rattle.ix_core.specs.declared.op.Test.{Test}
 use Rattle.ix_core.specs.declared.program.Method.{Method}
 use Rattle.ix_sign_errors.specs.declared.ranked.Ranked.{Ranked}
 use Rattle.ix_sign_errors.specs.Exactly.{AreExactly}
-use Rattle.ix_method.specs.SignErrors.{plain}
+use Rattle.ix_sign.specs.SignErrors.{plain}
 use Rattle.ix_sign_errors.proofs.Refused.{exactly_none, exactly_both, exactly_same}
-use Rattle.ix_method.specs.RuleErrors.{EscapesAt, OpEscapes, TestEscapes, escapes_by, escapes_in}
+use Rattle.ix_sign.specs.RuleErrors.{EscapesAt, OpEscapes, TestEscapes, escapes_by, escapes_in}
 use Rattle.ix_method_errors.specs.Escapes.{errors_at}
 
 abbrev OneAt : Span → Error → ℕ → Type 0

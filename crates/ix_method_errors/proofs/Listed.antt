@@ -18,10 +18,10 @@ use Rattle.ix_facts.specs.Stores.{Stored}
 use Rattle.ix_sign_errors.specs.MachineSteps.{on_paths, own_path}
 use Rattle.ix_sign_errors.specs.Exactly.{AreExactly}
 use Rattle.ix_sign_errors.specs.Refusals.{refusals, not_proved}
-use Rattle.ix_method.specs.SignErrors.{Refuses, part}
+use Rattle.ix_sign.specs.SignErrors.{Refuses, part}
 use Rattle.ix_sign_errors.proofs.Refused.{fails_refused, exactly_none, exactly_both, exactly_same, refusals_exact}
 use Rattle.ix_method_errors.specs.Lists.{fails, element_refusals, entry_refusals, zero_fails, fresh_refusals}
-use Rattle.ix_method.specs.RuleErrors.{zero_meets, no_path, subject_of, AssignClaim, ElementClaim, EntryClaim, FreshElement}
+use Rattle.ix_sign.specs.RuleErrors.{zero_meets, no_path, subject_of, AssignClaim, ElementClaim, EntryClaim, FreshElement}
 
 -- ---- elements
 

@@ -8,13 +8,13 @@ pub mod Escapes
 pub use Rattle.ix_sign_errors.specs.Exactly
 pub use Rattle.ix_sign_errors.specs.declared.ranked.Ranked
 pub use Rattle.ix_sign_errors.specs.ErrorList
--- Passed on from ix_method.
-pub use Rattle.ix_method.specs.Names
-pub use Rattle.ix_method.specs.Signs
-pub use Rattle.ix_method.specs.Store
-pub use Rattle.ix_method.specs.StoredFacts
-pub use Rattle.ix_method.specs.MethodRules
-pub use Rattle.ix_method.specs.RuleErrors
-pub use Rattle.ix_method.specs.StoreOrder
-pub use Rattle.ix_method.specs.Naming
-pub use Rattle.ix_method.specs.SignErrors
+-- Passed on from ix_sign.
+pub use Rattle.ix_sign.specs.Names
+pub use Rattle.ix_sign.specs.Signs
+pub use Rattle.ix_sign.specs.Store
+pub use Rattle.ix_sign.specs.StoredFacts
+pub use Rattle.ix_sign.specs.MethodRules
+pub use Rattle.ix_sign.specs.RuleErrors
+pub use Rattle.ix_sign.specs.StoreOrder
+pub use Rattle.ix_sign.specs.Naming
+pub use Rattle.ix_sign.specs.SignErrors

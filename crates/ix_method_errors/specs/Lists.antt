@@ -16,8 +16,8 @@ use Rattle.ix_facts.specs.AfterOperation.{loaded_claims}
 use Rattle.ix_facts.specs.Stores.{Stored}
 use Rattle.ix_sign_errors.specs.declared.ranked.Ranked.{Ranked}
 use Rattle.ix_sign_errors.specs.Refusals.{is_proved, refusals, not_proved}
-use Rattle.ix_method.specs.SignErrors.{plain, part}
-use Rattle.ix_method.specs.RuleErrors.{zero_meets, no_path}
+use Rattle.ix_sign.specs.SignErrors.{plain, part}
+use Rattle.ix_sign.specs.RuleErrors.{zero_meets, no_path}
 
 -- the store doesn't prove the claim of the path
 abbrev pub fails : Stored → PathClaim → Path → Bool

@@ -2,7 +2,7 @@
 
 ghost use Rattle.std.specs.Prelude.{◌≡◌, ◌++◌, OnOk};
 ghost use Rattle.ix_sign_errors.specs.Exactly.{AddsExactly};
-ghost use Rattle.ix_method.specs.RuleErrors.{TestEscapes, escapes_in};
+ghost use Rattle.ix_sign.specs.RuleErrors.{TestEscapes, escapes_in};
 ghost use Rattle.ix_method_errors.specs.Escapes.{errors_at};
 
 use crate::this::push_if_this;

@@ -2,8 +2,8 @@
 //! escape.
 //!
 //! What goes in: a program, one of its methods, an operation, and the store before it. What comes out: the errors of the operation.
-//! The contract: each list has exactly the errors that the rules of `ix_method` derive; by the text those of `AssignsNamed`, `OpEscapes` and `TestEscapes`.
-//! It stands on `ix_sign_errors` for the claims that aren't proved, on `ix_method` for rules and variables.
+//! The contract: each list has exactly the errors that the rules of `ix_sign` derive; by the text those of `AssignsNamed`, `OpEscapes` and `TestEscapes`.
+//! It stands on `ix_sign_errors` for the claims that aren't proved, on `ix_sign` for rules and variables.
 //! It never looks at how a body is put together, nor at the stores behind operations.
 #![tactic(auto)]
 
@@ -17,8 +17,8 @@ mod parts;
 mod this;
 
 pub use comparisons::push_escapes_in;
-pub use ix_method::signs::{enter, tell};
-pub use ix_method::{Store, after};
+pub use ix_sign::{enter, tell};
+pub use ix_sign::{Store, after};
 pub use ix_sign_errors as signs;
 pub use op_errors::push_op_errors;
 pub use operations::push_escapes_of;

@@ -1,19 +1,19 @@
 //! The errors of an operation, by the store before it.
 
 ghost use Rattle.std.specs.Prelude.{◌≡◌, ◌⊎◌, OnOk};
-ghost use Rattle.ix_method.specs.StoredFacts.{stored};
+ghost use Rattle.ix_sign.specs.StoredFacts.{stored};
 ghost use Rattle.ix_sign_errors.specs.Exactly.{AddsExactly};
-ghost use Rattle.ix_method.specs.Names as names;
-ghost use Rattle.ix_method.specs.Naming.{HasSmallNames, HaveSmallNames};
-ghost use Rattle.ix_method.specs.SignErrors as signs;
-ghost use Rattle.ix_method.specs.RuleErrors as rules;
+ghost use Rattle.ix_sign.specs.Names as names;
+ghost use Rattle.ix_sign.specs.Naming.{HasSmallNames, HaveSmallNames};
+ghost use Rattle.ix_sign.specs.SignErrors as signs;
+ghost use Rattle.ix_sign.specs.RuleErrors as rules;
 
 use crate::accesses::{
     part, push_access_errors, push_element_errors, push_entry_errors, push_high_error,
     push_low_error, push_new_array_errors,
 };
 use ix_core::{Method, Name, Op, OpKind, Path, Program, Subject, Type_};
-use ix_method::{Naming, Store, variable_at};
+use ix_sign::{Naming, Store, variable_at};
 use ix_sign_errors::{
     Ranked, Report, Write, push_argument_errors, push_field_errors, push_unproved,
 };

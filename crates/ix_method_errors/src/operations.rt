@@ -2,7 +2,7 @@
 
 ghost use Rattle.std.specs.Prelude.{◌≡◌, ◌++◌, OnOk};
 ghost use Rattle.ix_sign_errors.specs.Exactly.{AddsExactly};
-ghost use Rattle.ix_method.specs.RuleErrors.{OpEscapes, escapes_by, is_this, this_args};
+ghost use Rattle.ix_sign.specs.RuleErrors.{OpEscapes, escapes_by, is_this, this_args};
 ghost use Rattle.ix_method_errors.specs.Escapes.{errors_at, place_if};
 
 use crate::parts::part;

@@ -3,7 +3,7 @@
 ghost use Rattle.std.specs.Prelude.{◌≡◌, OnOk};
 ghost use Rattle.ix_core.specs.Objects.{offset_names};
 ghost use Rattle.ix_sign_errors.specs.Exactly.{AddsExactly};
-ghost use Rattle.ix_method.specs.RuleErrors.{AssignsNamed};
+ghost use Rattle.ix_sign.specs.RuleErrors.{AssignsNamed};
 ghost use Rattle.ix_method_errors.specs.Parameters as spec;
 
 use crate::parts::part;

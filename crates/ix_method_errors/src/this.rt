@@ -1,7 +1,7 @@
 //! Errors of places where `this` is used.
 
 ghost use Rattle.std.specs.Prelude.{◌≡◌, ◌++◌, ◌==◌, [], OnOk};
-ghost use Rattle.ix_method.specs.RuleErrors.{this_args, this_entries};
+ghost use Rattle.ix_sign.specs.RuleErrors.{this_args, this_entries};
 ghost use Rattle.ix_method_errors.specs.Escapes.{errors_at, place_if};
 
 use crate::parts::part;

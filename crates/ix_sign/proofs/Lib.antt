@@ -1,3 +1,6 @@
+pub mod MethodLaws
+pub mod ErrorsWeaker
+mod AfterRules
 mod Alike
 mod Rules
 -- Passed on from ix_claim_facts.

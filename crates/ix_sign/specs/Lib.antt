@@ -1,3 +1,8 @@
+-- The rules of a method as rules of flow.
+pub mod MethodRules
+-- The errors that the rules derive.
+pub mod RuleErrors
+pub mod Shown
 -- What is passed on of the store that the rules answer.
 pub use Rattle.ix_store.specs.StoredFacts
 pub use Rattle.ix_store.specs.StoreOrder

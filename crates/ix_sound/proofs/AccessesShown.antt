@@ -32,8 +32,8 @@ use Rattle.ix_facts.specs.AfterOperation.{loaded_claims}
 use Rattle.ix_facts.specs.Assume.{ClaimHolds}
 use Rattle.ix_facts.specs.Stores.{Stored, Meets}
 use Rattle.ix_steps.specs.MachineSteps.{on_paths}
-use Rattle.ix_method.specs.SignErrors.{Refuses, plain}
-use Rattle.ix_method.specs.RuleErrors.{AccessLow, AccessHigh, LengthNegative, ElementClaim, FreshElement, zero_meets, no_path}
+use Rattle.ix_sign.specs.SignErrors.{Refuses, plain}
+use Rattle.ix_sign.specs.RuleErrors.{AccessLow, AccessHigh, LengthNegative, ElementClaim, FreshElement, zero_meets, no_path}
 use Rattle.ix_sound.proofs.ClaimTruths.{EachHolds, none_fails}
 use Rattle.ix_sound.proofs.Stable.{unrefused}
 

@@ -25,8 +25,8 @@ use Rattle.ix_core.proofs.Entered.{reading_later}
 use Rattle.ix_core.proofs.Waiting.{later_refl, later_push}
 use Rattle.ix_facts.specs.Stores.{Stored, Meets}
 use Rattle.ix_steps.specs.MachineSteps.{on_paths, reading_at}
-use Rattle.ix_method.specs.Names.{arg_slot, call_path}
-use Rattle.ix_method.specs.SignErrors.{Refuses, ArgumentClaim}
+use Rattle.ix_sign.specs.Names.{arg_slot, call_path}
+use Rattle.ix_sign.specs.SignErrors.{Refuses, ArgumentClaim}
 use Rattle.ix_steps.proofs.MachineTests.{through_is}
 use Rattle.ix_sound.specs.Direct.{direct}
 use Rattle.ix_sound.specs.Known.{KindFits, call_of}

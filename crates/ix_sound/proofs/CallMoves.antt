@@ -30,7 +30,7 @@ use Rattle.ix_core.proofs.TypedCalls.{not_static}
 use Rattle.ix_core.proofs.TypedStarts.{OperationFits}
 use Rattle.ix_steps.proofs.MachineTests.{field_is}
 use Rattle.ix_facts.specs.Stores.{Stored}
-use Rattle.ix_method.specs.MethodRules.{method_rules, KindGives}
+use Rattle.ix_sign.specs.MethodRules.{method_rules, KindGives}
 use Rattle.ix_sound.specs.Chain.{Flowing}
 use Rattle.ix_sound.specs.Clean.{IsClean}
 use Rattle.ix_sound.specs.Direct.{direct}
@@ -40,7 +40,7 @@ use Rattle.ix_sound.specs.Making.{Stage, Plain, Making, with_types, MakingFits, 
 use Rattle.ix_sound.proofs.ArgumentsMet.{params_met}
 use Rattle.ix_sound.proofs.FormedCalls.{CallHas, call_has, static_fits_call, instance_fits_call, new_fits_call, super_fits_call, receiver_has, instance_named}
 use Rattle.ix_sound.proofs.StageMoves.{operation_stays, super_made}
-use Rattle.ix_method.specs.SignErrors.{ArgumentClaim}
+use Rattle.ix_sign.specs.SignErrors.{ArgumentClaim}
 
 module _ (program : Program) (locals : List (List Type_)) (formed : is_formed program locals ≡ true) (profile : Profile) (entries : (number : ℕ) → nat_lt number (length program.methods) ≡ true → Stored)
     (building : ℕ → Type 0) (number : ℕ) (lt : number < length program.methods) (slots : List Held) (heap : Heap) (keeps : HeapKeeps (direct program) building heap)

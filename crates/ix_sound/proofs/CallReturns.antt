@@ -35,9 +35,9 @@ use Rattle.ix_facts.proofs.FactLists.{all_hold_app}
 use Rattle.ix_steps.specs.CallEffects.{spared_in}
 use Rattle.ix_steps.specs.MachineSteps.{own_slot, reading_at}
 use Rattle.ix_steps.proofs.ReturnedCalls.{called_step}
-use Rattle.ix_method.specs.Names.{call_path}
-use Rattle.ix_method.specs.Signs.{CallGives, of_callee, received, claims_facts, posts_facts, answer_facts}
-use Rattle.ix_method.proofs.SignTruth.{signs_hold}
+use Rattle.ix_sign.specs.Names.{call_path}
+use Rattle.ix_sign.specs.Signs.{CallGives, of_callee, received, claims_facts, posts_facts, answer_facts}
+use Rattle.ix_sign.proofs.SignTruth.{signs_hold}
 use Rattle.ix_steps.proofs.MachineTests.{through_is}
 use Rattle.ix_sound.specs.Direct.{direct}
 use Rattle.ix_sound.specs.Known.{KindFits, call_of}

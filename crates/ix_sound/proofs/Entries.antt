@@ -35,7 +35,7 @@ use Rattle.ix_facts.proofs.FactLists.{all_hold_app}
 use Rattle.ix_steps.specs.MachineSteps.{reading_at}
 use Rattle.ix_steps.proofs.MachineTests.{field_is}
 use Rattle.ix_facts.specs.Stores.{Stored}
-use Rattle.ix_method.specs.Signs.{EntryGives, entry_facts, received_params, params_facts, zero_fields, own_fields, has_no_parent}
+use Rattle.ix_sign.specs.Signs.{EntryGives, entry_facts, received_params, params_facts, zero_fields, own_fields, has_no_parent}
 use Rattle.ix_sound.specs.Direct.{direct}
 use Rattle.ix_sound.specs.Known.{stage_if, entry_stage, known_at, HoldsFor}
 use Rattle.ix_sound.specs.Making.{Making, Tracks, StageFits, StageHolds}

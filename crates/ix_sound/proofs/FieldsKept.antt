@@ -29,9 +29,9 @@ use Rattle.ix_facts.specs.Stores.{Stored, Meets}
 use Rattle.ix_steps.specs.MachineSteps.{on_paths, reading_at}
 use Rattle.ix_steps.proofs.MachineTests.{claim_true, field_is}
 use Rattle.ix_steps.proofs.KeptNumbers.{same_true}
-use Rattle.ix_method.specs.Names.{written_path, is_built, names_field}
-use Rattle.ix_method.specs.Signs.{Adds, write_facts}
-use Rattle.ix_method.specs.SignErrors.{AllRefuse, FieldClaim, FieldDependent}
+use Rattle.ix_sign.specs.Names.{written_path, is_built, names_field}
+use Rattle.ix_sign.specs.Signs.{Adds, write_facts}
+use Rattle.ix_sign.specs.SignErrors.{AllRefuse, FieldClaim, FieldDependent}
 use Rattle.ix_sound.specs.Direct.{direct}
 use Rattle.ix_sound.proofs.ClaimTruths.{true_named, none_fails}
 use Rattle.ix_sound.proofs.FieldsShown.{adds_hold, each_are, are_each, named_field, built_of, write_holds}

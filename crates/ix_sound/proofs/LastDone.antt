@@ -12,7 +12,7 @@ use Rattle.ix_core.specs.Numbers.{Numbers}
 use Rattle.ix_core.specs.Posts.{answer_of, written_answer}
 use Rattle.ix_core.proofs.Cases.{by_test, equal}
 use Rattle.ix_facts.specs.Facts.{AllHold}
-use Rattle.ix_method.specs.Signs.{told_by, told_facts}
+use Rattle.ix_sign.specs.Signs.{told_by, told_facts}
 use Rattle.ix_sound.specs.Known.{LastHolds}
 use Rattle.ix_sound.proofs.OperationsKeep.{IsNoCall}
 

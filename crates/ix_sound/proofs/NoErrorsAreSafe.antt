@@ -27,7 +27,7 @@ use Rattle.ix_core.proofs.TypedRuns.{step_typed}
 use Rattle.ix_core.proofs.TypedStarts.{start_typed}
 use Rattle.ix_facts.specs.Stores.{Stored}
 use Rattle.ix_core.specs.Posts.{last_done}
-use Rattle.ix_method.specs.MethodRules.{method_rules}
+use Rattle.ix_sign.specs.MethodRules.{method_rules}
 use Rattle.ix_sound.specs.Chain.{Finishing}
 use Rattle.ix_sound.specs.Clean.{IsClean}
 use Rattle.ix_sound.specs.Direct.{direct}

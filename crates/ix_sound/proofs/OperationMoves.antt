@@ -30,7 +30,7 @@ use Rattle.ix_core.proofs.LawsAreSafe.{types_in}
 use Rattle.ix_core.proofs.TypedStarts.{OperationFits}
 use Rattle.ix_core.proofs.Waiting.{later_refl}
 use Rattle.ix_facts.specs.Stores.{Stored}
-use Rattle.ix_method.specs.MethodRules.{method_rules, KindGives}
+use Rattle.ix_sign.specs.MethodRules.{method_rules, KindGives}
 use Rattle.ix_sound.specs.Chain.{Flowing}
 use Rattle.ix_sound.specs.Clean.{IsClean, Hides}
 use Rattle.ix_sound.specs.Direct.{direct}

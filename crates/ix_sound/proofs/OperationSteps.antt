@@ -26,9 +26,9 @@ use Rattle.ix_facts.specs.After.{Step}
 use Rattle.ix_facts.specs.Stores.{Stored, Meets, Gives, operated}
 use Rattle.ix_steps.proofs.FieldReads.{of_place}
 use Rattle.ix_steps.proofs.MachineSteps.{of_through}
-use Rattle.ix_method.proofs.SignTruth.{signs_hold}
-use Rattle.ix_method.specs.SignErrors.{part}
-use Rattle.ix_method.specs.MethodRules.{KindGives, copied_claims}
+use Rattle.ix_sign.proofs.SignTruth.{signs_hold}
+use Rattle.ix_sign.specs.SignErrors.{part}
+use Rattle.ix_sign.specs.MethodRules.{KindGives, copied_claims}
 use Rattle.ix_sound.specs.Direct.{direct}
 use Rattle.ix_sound.specs.Errors.{NoKindErrors}
 use Rattle.ix_sound.specs.Shown.{Takes}

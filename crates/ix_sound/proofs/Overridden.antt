@@ -12,7 +12,7 @@ use Rattle.ix_core.proofs.Ancestors.{among_parts}
 use Rattle.ix_core.proofs.Cases.{equal}
 use Rattle.ix_core.proofs.FormedParts.{method_listed, flat_parts, first_is}
 use Rattle.ix_core.proofs.TypedCalls.{method_has}
-use Rattle.ix_method.specs.RuleErrors.{TextErrors, OverridesBy}
+use Rattle.ix_sign.specs.RuleErrors.{TextErrors, OverridesBy}
 use Rattle.ix_sound.specs.Direct.{direct}
 use Rattle.ix_sound.specs.Known.{Overrides, Itself, Over}
 use Rattle.ix_sound.specs.Stands.{StandsFor}

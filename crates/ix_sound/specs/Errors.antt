@@ -6,8 +6,8 @@ use Rattle.ix_core.specs.declared.op.OpKind.{OpKind}
 use Rattle.ix_core.specs.declared.program.Method.{Method}
 use Rattle.ix_core.specs.declared.program.Program.{Program}
 use Rattle.ix_facts.specs.Stores.{Stored}
-use Rattle.ix_method.specs.RuleErrors.{KindErrors}
-pub use Rattle.ix_method.specs.RuleErrors.{NoErrors}
+use Rattle.ix_sign.specs.RuleErrors.{KindErrors}
+pub use Rattle.ix_sign.specs.RuleErrors.{NoErrors}
 
 abbrev pub NoKindErrors : Program → Method → ℕ → Op → OpKind → Stored → Type 0
 NoKindErrors program method number done kind store = (error : Error) (rank : ℕ) → KindErrors program method number done kind store error rank → ⊥

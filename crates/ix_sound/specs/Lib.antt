@@ -18,5 +18,5 @@ pub mod Stands
 pub mod Few
 -- What is asked of a program that is judged.
 pub mod Judged
--- Passed on from ix_method.
-pub use Rattle.ix_method.specs.Naming
+-- Passed on from ix_sign.
+pub use Rattle.ix_sign.specs.Naming

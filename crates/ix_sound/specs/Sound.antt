@@ -11,8 +11,8 @@ use Rattle.ix_core.specs.Tables.{method_at, body_of}
 use Rattle.ix_flow.specs.Flow.{IsFlow}
 use Rattle.ix_facts.specs.Stores.{Stored}
 use Rattle.ix_steps.specs.MachineSteps.{local_slot}
-use Rattle.ix_method.specs.MethodRules.{method_rules}
-use Rattle.ix_method.specs.RuleErrors.{TextErrors}
+use Rattle.ix_sign.specs.MethodRules.{method_rules}
+use Rattle.ix_sign.specs.RuleErrors.{TextErrors}
 use Rattle.ix_sound.specs.Errors.{NoErrors}
 
 -- The method has a flow with no error at any point, and none by its text.

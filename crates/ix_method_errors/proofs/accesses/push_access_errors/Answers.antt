@@ -1,5 +1,5 @@
-use Rattle.ix_method.specs.StoredFacts.{stored}
-use Rattle.ix_method.specs.RuleErrors.{AccessLow, AccessHigh}
+use Rattle.ix_sign.specs.StoredFacts.{stored}
+use Rattle.ix_sign.specs.RuleErrors.{AccessLow, AccessHigh}
 use Rattle.ix_sign_errors.proofs.Refused.{adds_both}
 use Rattle.ix_text.proofs.Chained.{both_ok}
 use Rattle.ix_method_errors.proofs.accesses.push_access_errors.Goals as goal

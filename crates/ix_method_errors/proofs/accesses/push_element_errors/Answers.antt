@@ -1,7 +1,7 @@
-use Rattle.ix_method.specs.StoredFacts.{stored}
+use Rattle.ix_sign.specs.StoredFacts.{stored}
 use Rattle.ix_sign_errors.proofs.Refused.{ok_adds}
 use Rattle.ix_method_errors.specs.Lists.{element_refusals}
-use Rattle.ix_method.specs.RuleErrors.{ElementClaim}
+use Rattle.ix_sign.specs.RuleErrors.{ElementClaim}
 use Rattle.ix_method_errors.proofs.Listed.{elements_are}
 use Rattle.ix_method_errors.proofs.accesses.push_element_errors.Goals as goal
 

@@ -1,7 +1,7 @@
-use Rattle.ix_method.specs.StoredFacts.{stored}
+use Rattle.ix_sign.specs.StoredFacts.{stored}
 use Rattle.ix_sign_errors.proofs.Refused.{ok_adds}
 use Rattle.ix_method_errors.specs.Lists.{entry_refusals}
-use Rattle.ix_method.specs.RuleErrors.{EntryClaim}
+use Rattle.ix_sign.specs.RuleErrors.{EntryClaim}
 use Rattle.ix_method_errors.proofs.Listed.{entries_are}
 use Rattle.ix_method_errors.proofs.accesses.push_entry_errors.Goals as goal
 

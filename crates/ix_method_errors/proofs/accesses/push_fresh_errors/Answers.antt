@@ -1,11 +1,11 @@
 use Rattle.std.specs.Prelude.{◌≡◌, ◌++◌, OnOk}
 use Rattle.std.proofs.Common.{subst}
 use Rattle.ix_core.specs.declared.error.Subject.TheVariants.{Element}
-use Rattle.ix_method.specs.StoredFacts.{stored}
+use Rattle.ix_sign.specs.StoredFacts.{stored}
 use Rattle.ix_sign_errors.specs.Refusals.{refusals}
 use Rattle.ix_sign_errors.proofs.Refused.{ok_adds}
 use Rattle.ix_method_errors.specs.Lists.{fresh_refusals, zero_fails}
-use Rattle.ix_method.specs.RuleErrors.{FreshElement}
+use Rattle.ix_sign.specs.RuleErrors.{FreshElement}
 use Rattle.ix_method_errors.proofs.Listed.{zeros_are}
 use Rattle.ix_method_errors.proofs.accesses.push_fresh_errors.Goals as goal
 

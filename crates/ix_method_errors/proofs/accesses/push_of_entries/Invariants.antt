@@ -1,5 +1,5 @@
 use Rattle.std.proofs.Common.{◌≡◌, ◌++◌, drop}
-use Rattle.ix_method.specs.StoredFacts.{stored}
+use Rattle.ix_sign.specs.StoredFacts.{stored}
 use Rattle.ix_method_errors.specs.Lists.{entry_refusals}
 use Rattle.ix_method_errors.proofs.accesses.push_of_entries.Given as goal
 

@@ -1,9 +1,9 @@
 use Rattle.std.proofs.Common.{◌≡◌, ◌++◌, drop}
 use Rattle.ix_core.specs.declared.error.Subject.TheVariants.{Element}
 use Rattle.ix_core.specs.declared.fact.Path.TheVariants.{Slot}
-use Rattle.ix_method.specs.StoredFacts.{stored}
+use Rattle.ix_sign.specs.StoredFacts.{stored}
 use Rattle.ix_sign_errors.specs.Refusals.{refusals, not_proved}
-use Rattle.ix_method.specs.RuleErrors.{no_path}
+use Rattle.ix_sign.specs.RuleErrors.{no_path}
 use Rattle.ix_method_errors.proofs.accesses.push_refused_elements.Given as goal
 
 abbrev pub invariant-loop-rank : goal.invariant-loop-rank

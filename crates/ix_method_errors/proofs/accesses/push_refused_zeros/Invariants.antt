@@ -1,6 +1,6 @@
 use Rattle.std.proofs.Common.{◌≡◌, ◌++◌, drop}
 use Rattle.ix_core.specs.declared.error.Subject.TheVariants.{Element}
-use Rattle.ix_method.specs.StoredFacts.{stored}
+use Rattle.ix_sign.specs.StoredFacts.{stored}
 use Rattle.ix_sign_errors.specs.Refusals.{refusals}
 use Rattle.ix_method_errors.specs.Lists.{zero_fails}
 use Rattle.ix_method_errors.proofs.accesses.push_refused_zeros.Given as goal

@@ -1,5 +1,5 @@
 use Rattle.ix_sign_errors.proofs.Refused.{ok_adds}
-use Rattle.ix_method.specs.RuleErrors.{TestEscapes, escapes_in}
+use Rattle.ix_sign.specs.RuleErrors.{TestEscapes, escapes_in}
 use Rattle.ix_method_errors.specs.Escapes.{errors_at}
 use Rattle.ix_method_errors.proofs.EscapeErrors.{test_escapes}
 use Rattle.ix_method_errors.proofs.comparisons.push_escapes_in.Goals as goal

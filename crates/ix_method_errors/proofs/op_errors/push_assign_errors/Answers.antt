@@ -2,14 +2,14 @@ use Rattle.std.specs.Prelude.{◌≡◌, ◌++◌, OnOk, Some, option_map}
 use Rattle.std.proofs.Common.{ap, sym, ◌∙◌, subst}
 use Rattle.ix_core.specs.declared.fact.Path.TheVariants.{Slot}
 use Rattle.ix_sign_errors.specs.MachineSteps.{own_path}
-use Rattle.ix_method.specs.StoredFacts.{stored}
+use Rattle.ix_sign.specs.StoredFacts.{stored}
 use Rattle.ix_sign_errors.specs.Exactly.{AddsExactly}
-use Rattle.ix_method.specs.Names.{variable_at}
+use Rattle.ix_sign.specs.Names.{variable_at}
 use Rattle.ix_sign_errors.specs.Refusals.{refusals, not_proved}
-use Rattle.ix_method.specs.SignErrors.{part}
+use Rattle.ix_sign.specs.SignErrors.{part}
 use Rattle.ix_sign_errors.proofs.Refused.{ok_adds}
-use Rattle.ix_method.specs.RuleErrors.{subject_of, AssignClaim}
-use Rattle.ix_method.specs.Shown.{shown}
+use Rattle.ix_sign.specs.RuleErrors.{subject_of, AssignClaim}
+use Rattle.ix_sign.specs.Shown.{shown}
 use Rattle.ix_method_errors.proofs.Listed.{assigns_are}
 use Rattle.ix_method_errors.proofs.op_errors.push_assign_errors.Goals as goal
 

@@ -1,9 +1,9 @@
 use Rattle.std.specs.Prelude.{◌⊎◌, OnOk}
 use Rattle.std.proofs.Common.{sym, subst}
-use Rattle.ix_method.specs.StoredFacts.{stored}
+use Rattle.ix_sign.specs.StoredFacts.{stored}
 use Rattle.ix_sign_errors.specs.Exactly.{AddsExactly}
-use Rattle.ix_method.specs.SignErrors.{part, FieldClaim, FieldDependent}
-use Rattle.ix_method.specs.RuleErrors.{EntryClaim, KindErrors}
+use Rattle.ix_sign.specs.SignErrors.{part, FieldClaim, FieldDependent}
+use Rattle.ix_sign.specs.RuleErrors.{EntryClaim, KindErrors}
 use Rattle.ix_method_errors.proofs.op_errors.push_op_errors.Goals as goal
 
 pub returns-in-Load : goal.returns-in-Load

@@ -1,11 +1,11 @@
 use Rattle.std.specs.Prelude.{◌⊎◌, OnOk}
 use Rattle.std.proofs.Common.{subst}
-use Rattle.ix_method.specs.StoredFacts.{stored}
+use Rattle.ix_sign.specs.StoredFacts.{stored}
 use Rattle.ix_sign_errors.specs.Exactly.{AddsExactly}
-use Rattle.ix_method.specs.SignErrors.{part}
+use Rattle.ix_sign.specs.SignErrors.{part}
 use Rattle.ix_sign_errors.proofs.Refused.{adds_both}
 use Rattle.ix_text.proofs.Chained.{both_ok}
-use Rattle.ix_method.specs.RuleErrors.{AccessLow, AccessHigh, ElementClaim}
+use Rattle.ix_sign.specs.RuleErrors.{AccessLow, AccessHigh, ElementClaim}
 use Rattle.ix_method_errors.proofs.op_errors.push_store_errors.Goals as goal
 
 pub returns : goal.returns

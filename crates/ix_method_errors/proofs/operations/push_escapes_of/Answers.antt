@@ -1,5 +1,5 @@
 use Rattle.ix_sign_errors.proofs.Refused.{ok_adds}
-use Rattle.ix_method.specs.RuleErrors.{OpEscapes, escapes_by}
+use Rattle.ix_sign.specs.RuleErrors.{OpEscapes, escapes_by}
 use Rattle.ix_method_errors.specs.Escapes.{errors_at}
 use Rattle.ix_method_errors.proofs.EscapeErrors.{op_escapes}
 use Rattle.ix_method_errors.proofs.operations.push_escapes_of.Goals as goal

@@ -1,8 +1,8 @@
 use Rattle.std.specs.Prelude.{◌≡◌, ◌++◌, ◌∷◌, [], OnOk}
 use Rattle.std.proofs.Common.{sym, ◌∙◌, subst, append-nil}
-use Rattle.ix_method.specs.SignErrors.{plain, part}
+use Rattle.ix_sign.specs.SignErrors.{plain, part}
 use Rattle.ix_sign_errors.proofs.Refused.{ok_adds}
-use Rattle.ix_method.specs.RuleErrors.{AssignsNamed}
+use Rattle.ix_sign.specs.RuleErrors.{AssignsNamed}
 use Rattle.ix_method_errors.proofs.NamedParameters.{named_error, not_named}
 use Rattle.ix_method_errors.proofs.parameters.push_assigned_parameter.Goals as goal
 

@@ -1,5 +1,5 @@
 use Rattle.std.proofs.Common.{◌≡◌, ◌++◌, drop}
-use Rattle.ix_method.specs.RuleErrors.{this_args}
+use Rattle.ix_sign.specs.RuleErrors.{this_args}
 use Rattle.ix_method_errors.specs.Escapes.{errors_at}
 use Rattle.ix_method_errors.proofs.this.push_this_args.Given as goal
 

@@ -1,13 +1,13 @@
 use Rattle.std.proofs.Common.{sym, subst, ◌∙◌, inl, inr}
 use Rattle.std.specs.Prelude.{IfOk}
 use Rattle.std.proofs.lemmas.Result.{IfOk-weaker}
-use Rattle.ix_sign.specs.Stores.{IsAdded}
-use Rattle.ix_sign.specs.Systems.{HaveClasses}
-use Rattle.ix_sign.specs.StoredFacts.{stored}
-use Rattle.ix_sign.specs.Signs.{IsLeastOf}
-use Rattle.ix_method.specs.MethodRules.{copied_claims, KindGives}
-use Rattle.ix_method.proofs.AfterRules.{copied_have, copy_least, plain_gives, plain_least}
-use Rattle.ix_method.proofs.operations.after.Goals as goal
+use Rattle.ix_facts.specs.Stores.{IsAdded}
+use Rattle.ix_facts.specs.Systems.{HaveClasses}
+use Rattle.ix_store.specs.StoredFacts.{stored}
+use Rattle.ix_claim_facts.specs.Signs.{IsLeastOf}
+use Rattle.ix_sign.specs.MethodRules.{copied_claims, KindGives}
+use Rattle.ix_sign.proofs.AfterRules.{copied_have, copy_least, plain_gives, plain_least}
+use Rattle.ix_sign.proofs.operations.after.Goals as goal
 
 pub add-requires : goal.add-requires
 add-requires c = record { classes = subst HaveClasses (sym (c.deref.ensures.value ∙ c.in_ok-facts-in-Copy.ensures)) (copied_have c.args.within.now c.in-Copy.target c.args.done.now.span.from) }

@@ -24,12 +24,12 @@ use Rattle.ix_core.specs.declared.program.Program.{Program}
 use Rattle.ix_core.specs.Code.{Code, End, Do, If, Break, Continue, Return, Throw, Loop, Condition, Known, Compare, Truth, Both, Either, Opposite}
 use Rattle.ix_core.specs.Objects.{Names, PostsName}
 use Rattle.ix_core.specs.Tables.{body_of, param_slot}
-use Rattle.ix_sign.specs.AfterOperation.{loaded_claims}
-use Rattle.ix_sign.specs.Stores.{Stored}
+use Rattle.ix_facts.specs.AfterOperation.{loaded_claims}
+use Rattle.ix_facts.specs.Stores.{Stored}
 use Rattle.ix_flow.specs.Flow.{Point, Doing, Returning, Ending}
-use Rattle.ix_sign.specs.MachineSteps.{on_paths, own_path}
-use Rattle.ix_sign.specs.Names.{variable_at}
-use Rattle.ix_sign.specs.SignErrors.{Refuses, Unproved, plain, part, ArgumentClaim, ReturnClaim, PostClaim, FieldClaim, FieldDependent, ConstructorClaim, MissingReturn, OverrideErrors, EffectWrite}
+use Rattle.ix_claim_facts.specs.MachineSteps.{on_paths, own_path}
+use Rattle.ix_claim_facts.specs.Names.{variable_at}
+use Rattle.ix_claim_facts.specs.SignErrors.{Refuses, Unproved, plain, part, ArgumentClaim, ReturnClaim, PostClaim, FieldClaim, FieldDependent, ConstructorClaim, MissingReturn, OverrideErrors, EffectWrite}
 
 -- ---- accesses
 

@@ -2,7 +2,7 @@
 use Rattle.std.specs.Prelude.{List}
 use Rattle.ix_core.specs.declared.claim.Claim.{Claim}
 use Rattle.ix_core.specs.declared.claim.Name.{Name}
-use Rattle.ix_method.specs.declared.variable.Variable.{Variable}
+use Rattle.ix_sign.specs.declared.variable.Variable.{Variable}
 
 abbrev pub shown : Variable → Name × List Claim
 shown variable = (variable.name, variable.claims.now)

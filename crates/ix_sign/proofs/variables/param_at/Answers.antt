@@ -1,6 +1,6 @@
 use Rattle.std.proofs.Common.{sym, ◌∙◌}
-use Rattle.ix_method.proofs.AfterRules.{param_next}
-use Rattle.ix_method.proofs.variables.param_at.Goals as goal
+use Rattle.ix_sign.proofs.AfterRules.{param_next}
+use Rattle.ix_sign.proofs.variables.param_at.Goals as goal
 
 pub loop-number-preserved : goal.loop-number-preserved
 loop-number-preserved c =

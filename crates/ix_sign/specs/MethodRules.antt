@@ -10,13 +10,13 @@ use Rattle.ix_core.specs.declared.op.OpKind.{OpKind}
 use Rattle.ix_core.specs.declared.op.OpKind.TheVariants as op
 use Rattle.ix_core.specs.declared.program.Method.{Method}
 use Rattle.ix_core.specs.declared.program.Program.{Program}
-use Rattle.ix_sign.specs.MethodLandmarks.{AreLandmarksOf}
-use Rattle.ix_sign.specs.Round.{rounded}
-use Rattle.ix_sign.specs.Stores.{Stored, Unreachable, IsBelow, Gives, Then, OutcomesGive, operated, outcomes_of}
+use Rattle.ix_facts.specs.MethodLandmarks.{AreLandmarksOf}
+use Rattle.ix_facts.specs.Round.{rounded}
+use Rattle.ix_facts.specs.Stores.{Stored, Unreachable, IsBelow, Gives, Then, OutcomesGive, operated, outcomes_of}
 use Rattle.ix_flow.specs.Flow.{Rules}
-use Rattle.ix_sign.specs.MachineSteps.{own_path}
-use Rattle.ix_sign.specs.Names.{variable_at}
-use Rattle.ix_sign.specs.Signs.{Adds, claims_facts, EntryGives, ReadGives, WriteGives, CallGives, SuperGives, told_facts}
+use Rattle.ix_claim_facts.specs.MachineSteps.{own_path}
+use Rattle.ix_claim_facts.specs.Names.{variable_at}
+use Rattle.ix_claim_facts.specs.Signs.{Adds, claims_facts, EntryGives, ReadGives, WriteGives, CallGives, SuperGives, told_facts}
 
 -- the claims of the variable that a copy goes into
 abbrev pub variable_claims : Option (Name × List Claim) → List Claim

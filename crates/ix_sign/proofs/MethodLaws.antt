@@ -5,15 +5,15 @@ use Rattle.ix_core.specs.declared.op.OpKind.{OpKind}
 use Rattle.ix_core.specs.declared.op.OpKind.TheVariants as op
 use Rattle.ix_core.specs.declared.program.Method.{Method}
 use Rattle.ix_core.specs.declared.program.Program.{Program}
-use Rattle.ix_sign.specs.Round.{rounded}
-use Rattle.ix_sign.specs.Stores.{IsStep, Gives, operated, outcomes_of}
-use Rattle.ix_sign.specs.SaidRules.{operated_mono, rounded_mono}
-use Rattle.ix_sign.specs.StepLaws.{gives_step, then_step, outcomes_step}
-use Rattle.ix_sign.specs.StoreLaws.{below_itself, below_below}
+use Rattle.ix_facts.specs.Round.{rounded}
+use Rattle.ix_facts.specs.Stores.{IsStep, Gives, operated, outcomes_of}
+use Rattle.ix_facts.proofs.SaidRules.{operated_mono, rounded_mono}
+use Rattle.ix_facts.proofs.StepLaws.{gives_step, then_step, outcomes_step}
+use Rattle.ix_facts.proofs.StoreLaws.{below_itself, below_below}
 use Rattle.ix_flow.specs.Flow.{RulesLaws}
-use Rattle.ix_sign.specs.Signs.{Adds}
-use Rattle.ix_sign.specs.SignSteps.{adds_step, signs_monotone}
-use Rattle.ix_method.specs.MethodRules.{copied_claims, KindGives, method_rules}
+use Rattle.ix_claim_facts.specs.Signs.{Adds}
+use Rattle.ix_claim_facts.proofs.SignSteps.{adds_step, signs_monotone}
+use Rattle.ix_sign.specs.MethodRules.{copied_claims, KindGives, method_rules}
 
 module _ (program : Program) (method : Method) (profile : Profile) where
   pub operated_step : (kind : OpKind) → IsStep (Gives (operated profile kind))

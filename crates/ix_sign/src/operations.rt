@@ -2,15 +2,18 @@
 
 ghost use Rattle.std.specs.Prelude.{◌≡◌, IfOk};
 ghost use Rattle.ix_core.specs.declared.op.OpKind.TheVariants as op;
-ghost use Rattle.ix_sign.specs.Stores.{Gives, Then, operated};
-ghost use Rattle.ix_sign.specs.StoredFacts.{stored};
-ghost use Rattle.ix_sign.specs.Naming.{HasSmallNames, HaveSmallNames};
-ghost use Rattle.ix_sign.specs.Signs.{Adds, IsLeastOf};
-ghost use Rattle.ix_method.specs.MethodRules.{copied_claims, AfterGives};
+ghost use Rattle.ix_facts.specs.Stores.{Gives, Then, operated};
+ghost use Rattle.ix_store.specs.StoredFacts.{stored};
+ghost use Rattle.ix_claim_facts.specs.Naming.{HasSmallNames, HaveSmallNames};
+ghost use Rattle.ix_claim_facts.specs.Signs.{Adds, IsLeastOf};
+ghost use Rattle.ix_sign.specs.MethodRules.{copied_claims, AfterGives};
 
 use crate::variables::variable_at;
 use ix_core::{Fact, Method, Op, OpKind, Path, Profile, Program};
-use ix_sign::{Naming, Store, after_call, after_read, after_super, after_write, push_claims};
+use ix_claim_facts::{Naming, push_claims};
+use ix_store::Store;
+use crate::calls::{after_call, after_super};
+use crate::fields::{after_read, after_write};
 use std::alloc::{AllocError, Global};
 
 /// What the claims of the variable that a copy goes into add.
