@@ -9,13 +9,13 @@ use Rattle.ix_core.specs.declared.program.Program.{Program}
 use Rattle.ix_core.specs.Formed.{Formed, is_formed}
 use Rattle.ix_core.specs.Safe.{Safe}
 use Rattle.ix_facts.specs.Stores.{Stored}
-use Rattle.ix_accepted.specs.Labellings.{IsLabelling}
-use Rattle.ix_accepted.specs.Sound.{HasNoErrors, LocalsApart}
-use Rattle.ix_accepted.specs.Audit.{Audit}
-use Rattle.ix_accepted.specs.Audit.TheVariants as audit
-use Rattle.ix_accepted.specs.Audited.{IsAudit}
-use Rattle.ix_accepted.specs.Flawless.{AreFlawless}
-use Rattle.ix_accepted.proofs.Accepted.{flawless_accepted}
+use Rattle.ix_cert.specs.Labellings.{IsLabelling}
+use Rattle.ix_audit.specs.Sound.{HasNoErrors, LocalsApart}
+use Rattle.ix_audit.specs.declared.answer.Audit.{Audit}
+use Rattle.ix_audit.specs.declared.answer.Audit.TheVariants as audit
+use Rattle.ix_audit.specs.Audited.{IsAudit}
+use Rattle.ix_verify.specs.Flawless.{AreFlawless}
+use Rattle.ix_verify.proofs.Accepted.{flawless_accepted}
 use Rattle.ix_verify.specs.declared.answer.CertError.{CertError}
 use Rattle.ix_verify.specs.declared.answer.CertError.TheVariants.{Loop, Rule, Memory}
 use Rattle.ix_verify.specs.declared.answer.Verified.{Verified}

@@ -1,5 +1,11 @@
 mod Counted
 pub mod OneVerdict
 mod Judged
--- Passed on from ix_accepted.
-pub use Rattle.ix_accepted.proofs.Accepted
+mod Loops
+mod FlowsBelow
+mod Same
+pub mod Accepted
+pub mod Alike
+-- Passed on from ix_cert.
+pub use Rattle.ix_cert.proofs.OneMeaning
+pub use Rattle.ix_cert.proofs.SmallPaths

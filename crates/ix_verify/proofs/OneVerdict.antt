@@ -6,16 +6,16 @@ use Rattle.ix_core.specs.declared.fact.Profile.{Profile}
 use Rattle.ix_core.specs.declared.program.Program.{Program}
 use Rattle.ix_core.specs.Formed.{Formed}
 use Rattle.ix_facts.specs.Stores.{Stored}
-use Rattle.ix_accepted.specs.Labellings.{IsLabelling}
-use Rattle.ix_accepted.specs.SameLabels.{HasSmallPaths, SameLabels}
-use Rattle.ix_accepted.proofs.OneMeaning.{one_meaning}
-use Rattle.ix_accepted.proofs.SmallPaths.{formed_small}
-use Rattle.ix_accepted.specs.Audit.{Audit}
-use Rattle.ix_accepted.specs.Audit.TheVariants as audit
-use Rattle.ix_accepted.specs.Audited.{IsAudit}
-use Rattle.ix_accepted.specs.Alike.{AreSame}
-use Rattle.ix_accepted.specs.Flawless.{AreAccepted}
-use Rattle.ix_accepted.proofs.Alike.{judged_alike}
+use Rattle.ix_cert.specs.Labellings.{IsLabelling}
+use Rattle.ix_cert.specs.SameLabels.{HasSmallPaths, SameLabels}
+use Rattle.ix_cert.proofs.OneMeaning.{one_meaning}
+use Rattle.ix_cert.proofs.SmallPaths.{formed_small}
+use Rattle.ix_audit.specs.declared.answer.Audit.{Audit}
+use Rattle.ix_audit.specs.declared.answer.Audit.TheVariants as audit
+use Rattle.ix_audit.specs.Audited.{IsAudit}
+use Rattle.ix_verify.specs.Alike.{AreSame}
+use Rattle.ix_verify.specs.Flawless.{AreAccepted}
+use Rattle.ix_verify.proofs.Alike.{judged_alike}
 use Rattle.ix_verify.specs.declared.answer.CertError.{CertError}
 use Rattle.ix_verify.specs.declared.answer.CertError.TheVariants.{Form, Loop, Rule, Memory}
 use Rattle.ix_verify.specs.declared.answer.Verified.{Verified}

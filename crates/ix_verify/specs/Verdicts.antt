@@ -6,10 +6,10 @@ use Rattle.ix_core.specs.declared.fact.Profile.{Profile}
 use Rattle.ix_core.specs.declared.program.Method.{Method}
 use Rattle.ix_core.specs.declared.program.Program.{Program}
 use Rattle.ix_facts.specs.Stores.{Stored}
-use Rattle.ix_accepted.specs.Labellings.{IsLabelling, loops_of}
-use Rattle.ix_accepted.specs.Sound.{LocalsApart}
-use Rattle.ix_accepted.specs.Audit.TheVariants as audit
-use Rattle.ix_accepted.specs.Audited.{CanAudit, IsAudit}
+use Rattle.ix_cert.specs.Labellings.{IsLabelling, loops_of}
+use Rattle.ix_audit.specs.Sound.{LocalsApart}
+use Rattle.ix_audit.specs.declared.answer.Audit.TheVariants as audit
+use Rattle.ix_audit.specs.Audited.{CanAudit, IsAudit}
 use Rattle.ix_verify.specs.declared.answer.CertError.{CertError}
 use Rattle.ix_verify.specs.declared.answer.CertError.TheVariants.{Form, Loop, Rule, Memory}
 use Rattle.ix_verify.specs.declared.answer.Verified.{Verified}

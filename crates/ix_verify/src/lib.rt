@@ -7,7 +7,11 @@
 #![tactic(auto)]
 
 mod answer;
+mod laws;
 mod verifying;
 
+pub use ix_audit::{Audit, Store, audit, soundness};
+pub use ix_cert::read;
 pub use answer::{CertError, Verified};
+pub use laws::{labels_are_judged_alike, what_is_written_is_accepted};
 pub use verifying::verify;

@@ -5,15 +5,16 @@ ghost use Rattle.ix_core.specs.declared.fact.Profile.{Profile as Found};
 ghost use Rattle.ix_core.specs.Formed.{Formed};
 ghost use Rattle.ix_core.specs.Safe.{Safe};
 ghost use Rattle.ix_facts.specs.Stores.{Stored};
-ghost use Rattle.ix_accepted.specs.StoredFacts.{stored};
-ghost use Rattle.ix_accepted.specs.Labellings.{IsLabelling, loops_of};
-ghost use Rattle.ix_accepted.specs.Flawless.{AreFlawless};
+ghost use Rattle.ix_cert.specs.StoredFacts.{stored};
+ghost use Rattle.ix_cert.specs.Labellings.{IsLabelling, loops_of};
+ghost use Rattle.ix_verify.specs.Flawless.{AreFlawless};
 ghost use Rattle.ix_verify.specs.declared.answer.CertError.TheVariants.{Memory};
 ghost use Rattle.ix_verify.specs.Verdicts as spec;
 ghost use Rattle.ix_verify.specs.Verdicts.{CanVerify, IsVerified, IsRefused, labels_in};
 
 use crate::answer::{CertError, Verified};
-use ix_accepted::{Audit, Store, audit, read, soundness};
+use ix_audit::{Audit, Store, audit, soundness};
+use ix_cert::read;
 use ix_core::{Error, List, Method, Profile, Program};
 use std::alloc::{AllocError, Global};
 

@@ -23,10 +23,10 @@ use Rattle.ix_cert.specs.SameLabels.{SameForMethod, SameLabels}
 use Rattle.ix_cert.proofs.FormedLoops.{HasFormedLoops, formed_loops}
 use Rattle.ix_audit.specs.AtLabels.{Derives, label_of, FailsAt, IsErrorAt}
 use Rattle.ix_audit.specs.Audited.{labels_of}
-use Rattle.ix_accepted.specs.Flawless.{AreFlawless, AreLeastFlawless, AreAccepted}
-use Rattle.ix_accepted.proofs.FlowsBelow.{Matches, lawful, flow_below}
-use Rattle.ix_accepted.proofs.Loops.{each_loop}
-use Rattle.ix_accepted.proofs.Same.{store_at, same_loop, same_method}
+use Rattle.ix_verify.specs.Flawless.{AreFlawless, AreLeastFlawless, AreAccepted}
+use Rattle.ix_verify.proofs.FlowsBelow.{Matches, lawful, flow_below}
+use Rattle.ix_verify.proofs.Loops.{each_loop}
+use Rattle.ix_verify.proofs.Same.{store_at, same_loop, same_method}
 
 -- ---- one method
 

@@ -1,5 +1,5 @@
-use Rattle.ix_accepted.proofs.Alike.{judged_alike}
-use Rattle.ix_accepted.proofs.laws.labels_are_judged_alike.Goals as goal
+use Rattle.ix_verify.proofs.Alike.{judged_alike}
+use Rattle.ix_verify.proofs.laws.labels_are_judged_alike.Goals as goal
 
 -- src/laws.rt
 pub returns : goal.returns

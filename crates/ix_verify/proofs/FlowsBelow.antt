@@ -5,7 +5,7 @@ use Rattle.ix_core.specs.Code.{Code, End, Do, If, Break, Continue, Return, Throw
 use Rattle.ix_core.specs.Posts.{written_answer}
 use Rattle.ix_flow.specs.Flow.{Point, Doing, Returning, Ending, Rules, RulesLaws, Flows, Asks, IsFlow}
 use Rattle.ix_flow.specs.Given.{judging, numbered}
-use Rattle.ix_accepted.proofs.Loops.{EachLoop, EachLoopOf}
+use Rattle.ix_verify.proofs.Loops.{EachLoop, EachLoopOf}
 
 -- What these rules, with these labels and others, have to have: those of lawful rules have it, and so have those of lawful rules that judge some labels.
 pub record Suits (R : Rules) (Judged : ℕ → Type 0) (labels others : ℕ → R.Store) : Type 0 where

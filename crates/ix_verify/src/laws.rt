@@ -8,8 +8,8 @@ ghost use Rattle.ix_facts.specs.Stores.{Stored};
 ghost use Rattle.ix_cert.specs.SameLabels.{SameLabels};
 ghost use Rattle.ix_audit.specs.declared.answer.Audit.{Audit};
 ghost use Rattle.ix_audit.specs.Audited.{IsAudit};
-ghost use Rattle.ix_accepted.specs.Alike.{AreSame};
-ghost use Rattle.ix_accepted.specs.Flawless.{AreAccepted, AreFlawless, AreLeastFlawless};
+ghost use Rattle.ix_verify.specs.Alike.{AreSame};
+ghost use Rattle.ix_verify.specs.Flawless.{AreAccepted, AreFlawless, AreLeastFlawless};
 
 /// Of a formed program: labels that say the same as its least ones, where the rules derive no error, are accepted; and so
 /// are labels that say the same as those of a flow of each method without errors.

@@ -1,5 +1,5 @@
-use Rattle.ix_accepted.proofs.Accepted.{flawless_accepted, least_accepted}
-use Rattle.ix_accepted.proofs.laws.what_is_written_is_accepted.Goals as goal
+use Rattle.ix_verify.proofs.Accepted.{flawless_accepted, least_accepted}
+use Rattle.ix_verify.proofs.laws.what_is_written_is_accepted.Goals as goal
 
 -- src/laws.rt
 pub returns : goal.returns

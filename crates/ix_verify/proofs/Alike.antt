@@ -26,10 +26,10 @@ use Rattle.ix_audit.specs.declared.answer.Audit.{Audit}
 use Rattle.ix_audit.specs.declared.answer.Audit.TheVariants as audit
 use Rattle.ix_audit.specs.AtLabels.{Derives, label_of, FailsAt, IsErrorAt}
 use Rattle.ix_audit.specs.Audited.{labels_of, FailsIn, IsErrorBelow, IsAudit}
-use Rattle.ix_accepted.specs.Alike.{AreSame}
-use Rattle.ix_accepted.proofs.FlowsBelow.{Matches, judging_suits, flow_below}
-use Rattle.ix_accepted.proofs.Loops.{each_loop}
-use Rattle.ix_accepted.proofs.Same.{same_loop, same_method}
+use Rattle.ix_verify.specs.Alike.{AreSame}
+use Rattle.ix_verify.proofs.FlowsBelow.{Matches, judging_suits, flow_below}
+use Rattle.ix_verify.proofs.Loops.{each_loop}
+use Rattle.ix_verify.proofs.Same.{same_loop, same_method}
 
 -- ---- one method
 
