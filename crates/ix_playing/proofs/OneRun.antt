@@ -5,7 +5,7 @@ use Rattle.ix_core.specs.Machine.{State, Ending}
 use Rattle.ix_core.specs.Machine as ending
 use Rattle.ix_machine.specs.declared.start.StartError.{StartError}
 use Rattle.ix_machine.proofs.OneStart.{starts_one}
-use Rattle.ix_run.specs.Ends.{end_of}
+use Rattle.ix_playing.specs.Ends.{end_of}
 use Rattle.ix_words.specs.declared.values.Limits.{Limits}
 use Rattle.ix_words.specs.Words.{Text}
 use Rattle.ix_answer.specs.Answer.{Answer}

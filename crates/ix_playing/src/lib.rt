@@ -6,6 +6,10 @@
 //! It never looks at how a source is read, nor at its errors.
 #![tactic(auto)]
 
+mod lines;
 mod playing;
+mod running;
+mod tracing;
 
 pub use playing::{Manner, play};
+pub use running::{RunEnd, run};

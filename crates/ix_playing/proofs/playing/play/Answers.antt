@@ -1,6 +1,6 @@
 use Rattle.std.proofs.Common.{length}
 use Rattle.ix_machine.specs.State.{state_of, limits_of}
-use Rattle.ix_run.proofs.StartedRuns.{started_within, started_shows}
+use Rattle.ix_playing.proofs.StartedRuns.{started_within, started_shows}
 use Rattle.ix_playing.proofs.playing.play.Goals as goal
 
 pub play_machine-requires-clause-within : goal.play_machine-requires-clause-within

@@ -15,7 +15,7 @@ use Rattle.ix_core.specs.Tables.{tables_of, method_at, body_of}
 use Rattle.ix_core.specs.Tasks.{Tasks, Empty, Run, Ask, Decide, DecideTruth, Head, Again, Out}
 use Rattle.ix_core.specs.Traces.{Observation, access_on, accessed, op_seen, task_seen, seen_from, step_seen, trace}
 use Rattle.ix_machine.specs.Starts.{IsStart}
-use Rattle.ix_run.specs.Ends.{RunWithin, IsSeenIn, TraceWithin}
+use Rattle.ix_playing.specs.Ends.{RunWithin, IsSeenIn, TraceWithin}
 
 pub started_within : (end : ℕ) (program : Program) (state : State) (limits : Limits) (steps : ℕ) → PlacesWithin end program → IsStart program state → RunWithin end program limits steps state
 started_within end program state limits steps places start =

@@ -1,7 +1,7 @@
 use Rattle.std.proofs.Common.{rules}
 use Rattle.ix_machine.specs.State.{state_of, limits_of}
-use Rattle.ix_run.proofs.RunPrefixes.{lines_prefix, last_prefix}
-use Rattle.ix_run.proofs.running.run.Goals as goal
+use Rattle.ix_playing.proofs.RunPrefixes.{lines_prefix, last_prefix}
+use Rattle.ix_playing.proofs.running.run.Goals as goal
 
 pub returns-in_err-write_seen-clause-prefix : goal.returns-in_err-write_seen-clause-prefix
 returns-in_err-write_seen-clause-prefix g c =

@@ -4,10 +4,10 @@ use Rattle.ix_core.specs.Tables.{tables_of}
 use Rattle.ix_heap.specs.Rows.{held_of}
 use Rattle.ix_machine.specs.Events.{event_of}
 use Rattle.ix_machine.specs.State.{state_of, limits_of}
-use Rattle.ix_run.specs.Texts.{value_line, printed_lines}
-use Rattle.ix_run.proofs.Parts.{prefix_whole}
-use Rattle.ix_run.proofs.Told.{tells_nothing, tells_value, taken_value, taken_prefix}
-use Rattle.ix_run.proofs.running.go_on.Goals as goal
+use Rattle.ix_playing.specs.Texts.{value_line, printed_lines}
+use Rattle.ix_playing.proofs.Parts.{prefix_whole}
+use Rattle.ix_playing.proofs.Told.{tells_nothing, tells_value, taken_value, taken_prefix}
+use Rattle.ix_playing.proofs.running.go_on.Goals as goal
 
 pub returns-in_ok-write_value-in-Printed-clause-taken : goal.returns-in_ok-write_value-in-Printed-clause-taken
 returns-in_ok-write_value-in-Printed-clause-taken g c =

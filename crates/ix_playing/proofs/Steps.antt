@@ -4,7 +4,7 @@ use Rattle.ix_core.specs.Heap.{Held}
 use Rattle.ix_core.specs.Machine.{Limits, State, Ending, run, printed}
 use Rattle.ix_core.specs.Tables.{Tables}
 use Rattle.ix_machine.proofs.ManySteps.{final_is_quiet, run_more, printed_more}
-use Rattle.ix_run.specs.Texts.{value_line, value_lines, printed_lines}
+use Rattle.ix_playing.specs.Texts.{value_line, value_lines, printed_lines}
 
 -- a final state prints nothing
 pub final_prints : (limits : Limits) (tables : Tables) (steps : ℕ) (state : State) (how : Ending) → state.ended ≡ Some how → printed_lines limits tables steps state ≡ []

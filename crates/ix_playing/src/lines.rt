@@ -2,7 +2,7 @@
 ghost use Rattle.std.specs.Prelude.{◌≡◌, ◌≤◌, IfOk, OnOk, IsErrOf, string_bytes};
 ghost use Rattle.ix_heap.specs.Rows.{held_of};
 ghost use Rattle.ix_outside.specs.Outside.{Rose, Took, TookPrefix};
-ghost use Rattle.ix_run.specs.Texts.{value_line};
+ghost use Rattle.ix_playing.specs.Texts.{value_line};
 
 use ix_heap::Held;
 use ix_outside::{Sink, WriteError, write_all};

@@ -18,8 +18,8 @@ use Rattle.ix_machine.specs.declared.access.Access.{Access}
 use Rattle.ix_machine.specs.Accesses.{access_of, HasSize}
 use Rattle.ix_machine.proofs.ManySteps.{final_stays}
 use Rattle.ix_report.specs.Runs.{access}
-use Rattle.ix_run.specs.Ends.{IsSeenIn}
-use Rattle.ix_run.specs.Texts.{value_line, seen_line, seen_lines, trace_lines}
+use Rattle.ix_playing.specs.Ends.{IsSeenIn}
+use Rattle.ix_playing.specs.Texts.{value_line, seen_line, seen_lines, trace_lines}
 
 -- ---- a step shows the access that it makes, and then what it prints
 

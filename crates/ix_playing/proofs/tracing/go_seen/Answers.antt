@@ -6,10 +6,10 @@ use Rattle.ix_heap.specs.Rows.{held_of}
 use Rattle.ix_machine.specs.Events.{event_of}
 use Rattle.ix_machine.specs.State.{state_of, limits_of}
 use Rattle.ix_outside.specs.Outside.{TookPrefix}
-use Rattle.ix_run.specs.Texts.{seen_lines}
-use Rattle.ix_run.proofs.Parts.{prefix_of_more, prefix_behind}
-use Rattle.ix_run.proofs.Seen.{printed_seen, step_lines, value_seen}
-use Rattle.ix_run.proofs.tracing.go_seen.Goals as goal
+use Rattle.ix_playing.specs.Texts.{seen_lines}
+use Rattle.ix_playing.proofs.Parts.{prefix_of_more, prefix_behind}
+use Rattle.ix_playing.proofs.Seen.{printed_seen, step_lines, value_seen}
+use Rattle.ix_playing.proofs.tracing.go_seen.Goals as goal
 
 pub returns-in_err-write_access-clause-prefix : goal.returns-in_err-write_access-clause-prefix
 returns-in_err-write_access-clause-prefix g c =

@@ -9,8 +9,8 @@ ghost use Rattle.ix_machine.specs.State.{state_of, limits_of};
 ghost use Rattle.ix_outside.specs.Outside.{Rose, Took, TookPrefix};
 ghost use Rattle.ix_report.specs.Outcomes.{last_line};
 ghost use Rattle.ix_core.specs.Traces.{trace as model_trace};
-ghost use Rattle.ix_run.specs.Ends.{end_of, IsSeenIn, RunWithin, TraceWithin};
-ghost use Rattle.ix_run.specs.Texts.{lines_of, printed_lines, run_text};
+ghost use Rattle.ix_playing.specs.Ends.{end_of, IsSeenIn, RunWithin, TraceWithin};
+ghost use Rattle.ix_playing.specs.Texts.{lines_of, printed_lines, run_text};
 
 use crate::lines::write_value;
 use crate::tracing::write_trace;

@@ -5,8 +5,8 @@ use Rattle.ix_core.specs.Machine.{Limits, State, run}
 use Rattle.ix_core.specs.Tables.{tables_of}
 use Rattle.ix_outside.specs.Outside.{Took, TookPrefix}
 use Rattle.ix_report.specs.Outcomes.{last_line}
-use Rattle.ix_run.specs.Texts.{lines_of, run_text}
-use Rattle.ix_run.proofs.Parts.{prefix_of_more, prefix_behind}
+use Rattle.ix_playing.specs.Texts.{lines_of, run_text}
+use Rattle.ix_playing.proofs.Parts.{prefix_of_more, prefix_behind}
 
 -- no more than the lines before the last
 pub lines_prefix : (traced : Bool) (program ran : Program) (text : List ℕ) (limits : Limits) (steps : ℕ) (state : State) (before after : List ℕ) → ran ≡ program

@@ -3,10 +3,10 @@ use Rattle.ix_core.specs.Machine.{run}
 use Rattle.ix_core.specs.Tables.{tables_of}
 use Rattle.ix_machine.specs.State.{state_of, limits_of}
 use Rattle.ix_machine.proofs.ManySteps.{final_stays}
-use Rattle.ix_run.specs.Texts.{printed_lines}
-use Rattle.ix_run.proofs.Parts.{written_more, written_all, written_prefix, written_so_far}
-use Rattle.ix_run.proofs.Steps.{final_prints, printed_next, run_next, told_final}
-use Rattle.ix_run.proofs.running.write_printed.Goals as goal
+use Rattle.ix_playing.specs.Texts.{printed_lines}
+use Rattle.ix_playing.proofs.Parts.{written_more, written_all, written_prefix, written_so_far}
+use Rattle.ix_playing.proofs.Steps.{final_prints, printed_next, run_next, told_final}
+use Rattle.ix_playing.proofs.running.write_printed.Goals as goal
 
 pub loop-left-preserved : goal.loop-left-preserved
 loop-left-preserved g c =

@@ -6,8 +6,8 @@ use Rattle.ix_core.specs.declared.program.Program.{Program}
 use Rattle.ix_core.specs.Machine as machine
 use Rattle.ix_core.specs.Tables.{tables_of}
 use Rattle.ix_core.specs.Traces.{Observation, Printed, Accessed, trace}
-use Rattle.ix_run.specs.declared.running.RunEnd.{RunEnd}
-use Rattle.ix_run.specs.declared.running.RunEnd.TheVariants.{Ended, Stopped, StepsSpent}
+use Rattle.ix_playing.specs.declared.running.RunEnd.{RunEnd}
+use Rattle.ix_playing.specs.declared.running.RunEnd.TheVariants.{Ended, Stopped, StepsSpent}
 
 abbrev pub end_of : Option machine.Ending → RunEnd
 end_of None = StepsSpent

@@ -4,10 +4,10 @@ use Rattle.ix_core.specs.Machine.{run}
 use Rattle.ix_core.specs.Tables.{tables_of}
 use Rattle.ix_core.specs.Traces.{trace}
 use Rattle.ix_machine.specs.State.{state_of, limits_of}
-use Rattle.ix_run.specs.Ends.{IsSeenIn}
-use Rattle.ix_run.specs.Texts.{trace_lines}
-use Rattle.ix_run.proofs.Parts.{Written}
-use Rattle.ix_run.proofs.tracing.write_trace.Given as goal
+use Rattle.ix_playing.specs.Ends.{IsSeenIn}
+use Rattle.ix_playing.specs.Texts.{trace_lines}
+use Rattle.ix_playing.proofs.Parts.{Written}
+use Rattle.ix_playing.proofs.tracing.write_trace.Given as goal
 
 abbrev pub invariant-loop-left : goal.invariant-loop-left
 invariant-loop-left g l =

@@ -6,8 +6,8 @@ ghost use Rattle.ix_core.specs.Tables.{tables_of};
 ghost use Rattle.ix_core.specs.Traces.{accessed, next_access, step_seen, trace};
 ghost use Rattle.ix_machine.specs.State.{state_of, limits_of};
 ghost use Rattle.ix_outside.specs.Outside.{Rose, Took, TookPrefix};
-ghost use Rattle.ix_run.specs.Ends.{IsSeenIn};
-ghost use Rattle.ix_run.specs.Texts.{seen_lines, trace_lines};
+ghost use Rattle.ix_playing.specs.Ends.{IsSeenIn};
+ghost use Rattle.ix_playing.specs.Texts.{seen_lines, trace_lines};
 
 use crate::lines::write_value;
 use ix_machine::{Event, Machine};

@@ -2,9 +2,9 @@ use Rattle.std.proofs.Common.{◌≡◌}
 use Rattle.ix_core.specs.Machine.{run}
 use Rattle.ix_core.specs.Tables.{tables_of}
 use Rattle.ix_machine.specs.State.{state_of, limits_of}
-use Rattle.ix_run.specs.Texts.{printed_lines}
-use Rattle.ix_run.proofs.Parts.{Written}
-use Rattle.ix_run.proofs.running.write_printed.Given as goal
+use Rattle.ix_playing.specs.Texts.{printed_lines}
+use Rattle.ix_playing.proofs.Parts.{Written}
+use Rattle.ix_playing.proofs.running.write_printed.Given as goal
 
 abbrev pub invariant-loop-left : goal.invariant-loop-left
 invariant-loop-left g l =

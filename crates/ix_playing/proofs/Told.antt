@@ -4,9 +4,9 @@ use Rattle.ix_core.specs.Heap.{Held}
 use Rattle.ix_core.specs.Machine.{Limits, State, run, printed}
 use Rattle.ix_core.specs.Tables.{Tables}
 use Rattle.ix_outside.specs.Outside.{Took, TookPrefix}
-use Rattle.ix_run.specs.Texts.{value_line, value_lines, printed_lines}
-use Rattle.ix_run.proofs.Parts.{prefix_of_more}
-use Rattle.ix_run.proofs.Steps.{line_alone, printed_next}
+use Rattle.ix_playing.specs.Texts.{value_line, value_lines, printed_lines}
+use Rattle.ix_playing.proofs.Parts.{prefix_of_more}
+use Rattle.ix_playing.proofs.Steps.{line_alone, printed_next}
 
 module _ (limits : Limits) (tables : Tables) (made : ℕ) (state : State) where
   pub tells_nothing : [] ≡ printed limits tables made state → (before : List ℕ) → Took (printed_lines limits tables made state) before before

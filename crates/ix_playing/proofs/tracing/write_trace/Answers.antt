@@ -3,10 +3,10 @@ use Rattle.ix_core.specs.Machine.{step}
 use Rattle.ix_core.specs.Tables.{tables_of}
 use Rattle.ix_machine.specs.State.{state_of, limits_of}
 use Rattle.ix_machine.proofs.ManySteps.{final_stays}
-use Rattle.ix_run.proofs.Parts.{written_more, written_all, written_prefix, written_so_far}
-use Rattle.ix_run.proofs.Seen.{final_lines, lines_next, step_next, within_next}
-use Rattle.ix_run.proofs.Steps.{told_final}
-use Rattle.ix_run.proofs.tracing.write_trace.Goals as goal
+use Rattle.ix_playing.proofs.Parts.{written_more, written_all, written_prefix, written_so_far}
+use Rattle.ix_playing.proofs.Seen.{final_lines, lines_next, step_next, within_next}
+use Rattle.ix_playing.proofs.Steps.{told_final}
+use Rattle.ix_playing.proofs.tracing.write_trace.Goals as goal
 
 pub loop-left-preserved : goal.loop-left-preserved
 loop-left-preserved g c =

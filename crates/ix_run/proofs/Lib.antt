@@ -1,6 +1,0 @@
-mod Parts
-mod RunPrefixes
-mod Seen
-mod Steps
-pub mod StartedRuns
-mod Told
