@@ -1,6 +1,23 @@
 mod Listed
 mod ListedErrors
--- Passed on from ix_errors.
-pub use Rattle.ix_errors.proofs.Lists
-pub use Rattle.ix_errors.proofs.Ready
-pub use Rattle.ix_errors.proofs.Refused
+mod Listing
+mod Texts
+mod Labels
+mod Whole
+mod Added
+mod Methods
+mod FlowPlaces
+mod PointPlaces
+mod TextPlaces
+pub mod ErrorPlaces
+mod SameFlows
+mod DeclaredNames
+mod SameSignature
+mod SameErrors
+mod JudgedAlone
+-- Passed on from ix_method_errors.
+pub use Rattle.ix_method_errors.proofs.Refused
+pub use Rattle.ix_method_errors.proofs.MethodLaws
+pub use Rattle.ix_method_errors.proofs.Lists
+-- Passed on from ix_sound.
+pub use Rattle.ix_sound.proofs.Ready

@@ -2,15 +2,15 @@
 ghost use Rattle.std.specs.Prelude.{◌≡◌, ◌<◌, length, IfOk};
 ghost use Rattle.ix_core.specs.Formed.{Formed};
 ghost use Rattle.ix_core.specs.Tables.{method_at};
-ghost use Rattle.ix_errors.specs.Judged.{CanCheck};
-ghost use Rattle.ix_errors.specs.MethodErrors.{IsErrorOf};
-ghost use Rattle.ix_errors.specs.ErrorList.{IsErrorList};
-ghost use Rattle.ix_errors.specs.Signatures.{signatures, ErrorsOf};
+ghost use Rattle.ix_sound.specs.Judged.{CanCheck};
+ghost use Rattle.ix_check.specs.MethodErrors.{IsErrorOf};
+ghost use Rattle.ix_method_errors.specs.ErrorList.{IsErrorList};
+ghost use Rattle.ix_check.specs.Signatures.{signatures, ErrorsOf};
 
 use ix_core::{Error, Profile, Program};
-use ix_errors::{
-    judged_alone, list_errors, loops_are_in_order, names_are_small, overridden_is_there,
-};
+use crate::laws::judged_alone;
+use ix_method_errors::signs::list_errors;
+use ix_sound::{loops_are_in_order, names_are_small, overridden_is_there};
 use ix_solve::Steps;
 use std::alloc::{AllocError, Global};
 use std::marker::Brand;
@@ -38,7 +38,7 @@ fn errors_with<L: Ledger>(
     overridden_is_there();
     loops_are_in_order();
     let mut steps = Steps::<L>::new(blank);
-    let found = ix_errors::method_errors(alloc, program, method, profile, &mut steps)?;
+    let found = ix_check::method_errors(alloc, program, method, profile, &mut steps)?;
     list_errors(alloc, found)
 }
 

@@ -7,14 +7,18 @@
 #![tactic(auto)]
 
 mod alone;
+mod laws;
 mod loops;
+mod method;
+mod nodes;
+mod program;
 mod whole;
 
-pub use alone::method_errors;
-pub use ix_errors::{
-    Ranked, list_errors, loops_are_in_order, method_errors as ranked_errors, names_are_small,
-    overridden_is_there,
-};
 pub use ix_labels::Store;
+pub use ix_method_errors::signs::{Ranked, list_errors};
+pub use ix_sound::{loops_are_in_order, names_are_small, overridden_is_there, soundness};
+pub use alone::method_errors;
+pub use laws::judged_alone;
 pub use loops::{labels, method_labels};
+pub use program::program_errors;
 pub use whole::{check, check_program};

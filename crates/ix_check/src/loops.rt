@@ -3,13 +3,13 @@ ghost use Rattle.std.specs.Prelude.{◌≡◌, ◌+◌, ◌≤◌, ◌<◌, leng
 ghost use Rattle.ix_core.specs.Code.{block_code};
 ghost use Rattle.ix_core.specs.Formed.{Formed};
 ghost use Rattle.ix_core.specs.Tables.{method_at};
-ghost use Rattle.ix_errors.specs.Judged.{CanCheck};
+ghost use Rattle.ix_sound.specs.Judged.{CanCheck};
 ghost use Rattle.ix_labels.specs.Graph.{behind_code};
 ghost use Rattle.ix_labels.specs.LoopLabels.{AreLoopLabels};
 ghost use Rattle.ix_labels.specs.Visits.{VisitsWithin};
 
 use ix_core::{Method, Profile, Program};
-use ix_errors::{loops_are_in_order, names_are_small};
+use ix_sound::{loops_are_in_order, names_are_small};
 use ix_labels::{Store, loop_labels};
 use ix_solve::Steps;
 use std::alloc::{AllocError, Global};

@@ -4,16 +4,15 @@ ghost use Rattle.std.specs.List.{All};
 ghost use Rattle.ix_core.specs.CodePlaces.{PlacesWithin};
 ghost use Rattle.ix_core.specs.Formed.{Formed};
 ghost use Rattle.ix_core.specs.Safe.{Safe};
-ghost use Rattle.ix_errors.specs.Judged.{CanCheck};
-ghost use Rattle.ix_errors.specs.MethodErrors.{IsError, nodes_below};
-ghost use Rattle.ix_errors.specs.Visits.{AllVisitsWithin};
-ghost use Rattle.ix_errors.specs.ErrorList.{IsErrorList};
+ghost use Rattle.ix_sound.specs.Judged.{CanCheck};
+ghost use Rattle.ix_check.specs.MethodErrors.{IsError, nodes_below};
+ghost use Rattle.ix_check.specs.Visits.{AllVisitsWithin};
+ghost use Rattle.ix_method_errors.specs.ErrorList.{IsErrorList};
 
 use ix_core::{Error, Profile, Program};
-use ix_errors::{
-    list_errors, loops_are_in_order, names_are_small, overridden_is_there, program_errors,
-    soundness,
-};
+use ix_method_errors::signs::list_errors;
+use ix_sound::{loops_are_in_order, names_are_small, overridden_is_there, soundness};
+use crate::program::program_errors;
 use ix_solve::Steps;
 use std::alloc::{AllocError, Global};
 use std::marker::Brand;

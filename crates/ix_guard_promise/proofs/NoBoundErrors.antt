@@ -4,7 +4,7 @@ use Rattle.ix_core.specs.declared.error.Error.{Error}
 use Rattle.ix_core.specs.declared.fact.Profile.{Profile}
 use Rattle.ix_core.specs.declared.program.Program.{Program}
 use Rattle.ix_core.specs.Tables.{method_at, body_of}
-use Rattle.ix_errors.specs.MethodErrors.{IsErrorOf, IsError}
+use Rattle.ix_check.specs.MethodErrors.{IsErrorOf, IsError}
 use Rattle.ix_guard_promise.specs.Guards.{Guards}
 use Rattle.ix_guard_promise.specs.Pieces.{EachOp, IsElsewhere}
 use Rattle.ix_guard_promise.specs.BoundErrors.{IsOfBounds}

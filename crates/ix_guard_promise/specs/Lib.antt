@@ -38,8 +38,8 @@ pub mod SourceGuards
 pub mod SourceAccesses
 -- Where names that are indices stand.
 pub mod StandingIndices
--- Passed on from ix_errors.
-pub use Rattle.ix_errors.specs.MethodErrors
+-- Passed on from ix_check.
+pub use Rattle.ix_check.specs.MethodErrors
 -- Passed on from ix_guarding.
 pub use Rattle.ix_guarding.specs.Guarding
 -- Passed on from ix_guarded_text.

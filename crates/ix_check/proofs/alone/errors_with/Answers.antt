@@ -1,5 +1,5 @@
 use Rattle.std.proofs.lemmas.Result.{IfOk-weaker}
-use Rattle.ix_errors.specs.MethodErrors.{IsErrorOf}
+use Rattle.ix_check.specs.MethodErrors.{IsErrorOf}
 use Rattle.ix_check.proofs.Listed.{derived_list}
 use Rattle.ix_check.proofs.alone.errors_with.Goals as goal
 

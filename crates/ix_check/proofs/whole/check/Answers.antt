@@ -1,5 +1,5 @@
 use Rattle.std.proofs.lemmas.Result.{IfOk-weaker}
-use Rattle.ix_errors.specs.MethodErrors.{IsError}
+use Rattle.ix_check.specs.MethodErrors.{IsError}
 use Rattle.ix_check.proofs.Listed.{derived_list, none_safe}
 use Rattle.ix_check.proofs.whole.check.Goals as goal
 
