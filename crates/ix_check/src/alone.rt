@@ -7,6 +7,7 @@ ghost use Rattle.ix_check.specs.MethodErrors.{IsErrorOf};
 ghost use Rattle.ix_method_errors.specs.ErrorList.{IsErrorList};
 ghost use Rattle.ix_check.specs.Signatures.{signatures, ErrorsOf};
 
+use crate::program::ranked_errors;
 use ix_core::{Error, Profile, Program};
 use crate::laws::judged_alone;
 use ix_method_errors::signs::list_errors;
@@ -38,7 +39,7 @@ fn errors_with<L: Ledger>(
     overridden_is_there();
     loops_are_in_order();
     let mut steps = Steps::<L>::new(blank);
-    let found = ix_check::method_errors(alloc, program, method, profile, &mut steps)?;
+    let found = ranked_errors(alloc, program, method, profile, &mut steps)?;
     list_errors(alloc, found)
 }
 

@@ -20,5 +20,5 @@ pub use ix_sound::{loops_are_in_order, names_are_small, overridden_is_there, sou
 pub use alone::method_errors;
 pub use laws::judged_alone;
 pub use loops::{labels, method_labels};
-pub use program::program_errors;
+pub use program::{program_errors, ranked_errors};
 pub use whole::{check, check_program};

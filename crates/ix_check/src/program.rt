@@ -36,7 +36,7 @@ pub fn program_errors<L: Ledger>(
 }
 
 /// The errors of the method of this number in a profile, each with the place of its claim in its declaration, in any order. The one error is want of memory.
-pub fn method_errors<L: Ledger>(
+pub fn ranked_errors<L: Ledger>(
     alloc: Global,
     program: &Program,
     number: u32,
