@@ -1,6 +1,10 @@
--- Passed on from ix_finding.
-pub use Rattle.ix_finding.proofs.BytesFound
-pub use Rattle.ix_finding.proofs.OneFinding
-pub use Rattle.ix_finding.proofs.FoundPrograms
-pub use Rattle.ix_finding.proofs.SafeSources
-pub use Rattle.ix_finding.proofs.SomeFinding
+pub mod BytesFound
+mod NamesFound
+mod OneReading
+mod EachText
+-- What crates above cite of what is found.
+pub mod OneFinding
+pub mod SomeFinding
+pub mod FoundPrograms
+-- Passed on from ix_source.
+pub use Rattle.ix_source.proofs.SafeSources

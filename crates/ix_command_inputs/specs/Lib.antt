@@ -2,9 +2,9 @@
 pub mod Sources
 -- Which files are opened.
 pub mod Opened
--- Passed on from ix_finding.
-pub use Rattle.ix_finding.specs.Found
-pub use Rattle.ix_finding.specs.Findings
-pub use Rattle.ix_finding.specs.Judged
-pub use Rattle.ix_finding.specs.Promise
-pub use Rattle.ix_finding.specs.CodePlaces
+pub mod Found
+pub mod Promise
+pub mod Findings
+-- What is passed on of what is asked of a program that is found.
+pub use Rattle.ix_core.specs.CodePlaces
+pub use Rattle.ix_apart.specs.Judged

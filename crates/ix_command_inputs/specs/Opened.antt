@@ -2,7 +2,7 @@
 use Rattle.std.specs.Prelude.{◌≡◌, ◌≤◌, ◌+◌, ℕ, List, [], ◌∷◌, ◌++◌, Option, Some, None, option_map}
 use Rattle.ix_words.specs.Words.{Text}
 use Rattle.ix_words.specs.Commands.{Command}
-use Rattle.ix_finding.specs.Found.{Finding, TooLong, Broken, Past, Misnamed, Whole}
+use Rattle.ix_command_inputs.specs.Found.{Finding, TooLong, Broken, Past, Misnamed, Whole}
 use Rattle.ix_outside.specs.Outside.{Files, bytes_under, Rose}
 use Rattle.ix_command_inputs.specs.Sources.{file_of, cert_of, cert_in}
 

@@ -5,7 +5,7 @@ use Rattle.ix_gen.specs.Workload.{workload}
 use Rattle.ix_library.specs.Library.{joined}
 use Rattle.ix_words.specs.Words.{Text}
 use Rattle.ix_words.specs.Commands.{Command, Check, Run, Bench, Verify, Guard}
-use Rattle.ix_finding.specs.Found.{Whole, Found}
+use Rattle.ix_command_inputs.specs.Found.{Whole, Found}
 
 -- the file that a command names as its source
 abbrev pub file_in : Command → Option Text

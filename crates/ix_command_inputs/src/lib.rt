@@ -6,7 +6,8 @@
 //! It never reads a file, and never looks at what a command is answered.
 #![tactic(auto)]
 
+mod finding;
 mod source;
 
-pub use ix_finding::{Finding, of_bytes};
+pub use finding::{Finding, of_bytes};
 pub use source::{Inputs, source_name};

@@ -3,7 +3,7 @@ ghost use Rattle.std.specs.Prelude.{◌≡◌, IfOk, string_bytes};
 ghost use Rattle.ix_command_inputs.specs.Sources as spec;
 ghost use Rattle.ix_words.specs.Shown.{shown};
 
-use ix_finding::Finding;
+use crate::finding::Finding;
 use ix_words::Command;
 use std::alloc::{AllocError, Global};
 

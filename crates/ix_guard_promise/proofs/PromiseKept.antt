@@ -28,7 +28,7 @@ all_of_each : {A : Type 0} (P : A → Type 0) (xs : List A) → ((x : A) → IsA
 all_of_each P [] each = tt
 all_of_each P (x ∷ xs) each = (each x (inl refl), all_of_each P xs (λ y among. each y (inr among)))
 
--- What is parsed has what a parsed tree has: `tree_parsed` of `ix_finding`.
+-- What is parsed has what a parsed tree has: `tree_parsed` of `ix_command_inputs`.
 module _ (parsing : TreesParsed) (profile : Profile) (bytes : List ℕ) where
   avoided : (errors : List Error) (text : List ℕ) (is : IsGuarded bytes errors text) (program : Program) → HaveProgram text program → (access : Access)
       → IsAmong access (guarded_accesses is.named.tree.source (names is.named.tree.source) errors) → AvoidsAt profile is.named.tree.source errors program access

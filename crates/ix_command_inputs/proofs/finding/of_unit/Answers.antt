@@ -1,5 +1,5 @@
-use Rattle.ix_finding.proofs.NamesFound.{refused_found, refused_only, refused_placed, refused_formed}
-use Rattle.ix_finding.proofs.finding.of_unit.Goals as goal
+use Rattle.ix_command_inputs.proofs.NamesFound.{refused_found, refused_only, refused_placed, refused_formed}
+use Rattle.ix_command_inputs.proofs.finding.of_unit.Goals as goal
 
 pub returns-in-Some-clause-right : goal.returns-in-Some-clause-right
 returns-in-Some-clause-right c = refused_found _ _ _ c.in-Err.ensures.refused c.in-Some.ensures

@@ -8,8 +8,8 @@ ghost use Rattle.ix_grammar.specs.Refusals.{IsWithin as TokenWithin};
 ghost use Rattle.ix_tree.specs.Placed.{Placed};
 ghost use Rattle.ix_formed.specs.Parsed.{IsParsed};
 ghost use Rattle.ix_formed.specs.IntTokens.{HaveInts};
-ghost use Rattle.ix_finding.specs.Found as spec;
-ghost use Rattle.ix_finding.specs.Findings.{seen, IsPlaced, HasFormed};
+ghost use Rattle.ix_command_inputs.specs.Found as spec;
+ghost use Rattle.ix_command_inputs.specs.Findings.{seen, IsPlaced, HasFormed};
 
 use ix_apart::{lowered_is_few, lowered_locals_are_apart};
 use ix_core::Program;

@@ -24,9 +24,9 @@ use Rattle.ix_formed.proofs.FormedSources.{formed_source}
 use Rattle.ix_meaning.proofs.FewDeclarations.{few_members}
 use Rattle.ix_apart.proofs.LoweredPrograms.{lowered_methods_few, lowered_few, lowered_apart}
 use Rattle.ix_plain.specs.Program.{program as program_of}
-use Rattle.ix_finding.specs.Found.{Finding, Found, too_long, no_tokens, lexed, no_tree as untreed, tree, FoundIn, passes_limit, misnames, inherits, too_big, named}
-use Rattle.ix_finding.specs.Findings.{HasFormed}
-use Rattle.ix_finding.proofs.BytesFound.{refusal_formed, lex_formed}
+use Rattle.ix_command_inputs.specs.Found.{Finding, Found, too_long, no_tokens, lexed, no_tree as untreed, tree, FoundIn, passes_limit, misnames, inherits, too_big, named}
+use Rattle.ix_command_inputs.specs.Findings.{HasFormed}
+use Rattle.ix_command_inputs.proofs.BytesFound.{refusal_formed, lex_formed}
 
 -- each tree of the tokens of a text has what the promise rests on
 read_parsed : (tokens : List Token) (end : ℕ) (unit : Source) → HasTree tokens unit → InOrder 0 end tokens → length tokens ≤ most_tokens → HaveInts tokens

@@ -1,9 +1,9 @@
 use Rattle.std.proofs.Common.{rules, sym}
 use Rattle.std.proofs.lemmas.Result.{IfOk-weaker}
 use Rattle.ix_formed.proofs.LexedInts.{tokens_have_ints}
-use Rattle.ix_finding.specs.Found as spec
-use Rattle.ix_finding.proofs.BytesFound.{of_lexed, cause_of, cause_only, lex_formed}
-use Rattle.ix_finding.proofs.finding.of_bytes.Goals as goal
+use Rattle.ix_command_inputs.specs.Found as spec
+use Rattle.ix_command_inputs.proofs.BytesFound.{of_lexed, cause_of, cause_only, lex_formed}
+use Rattle.ix_command_inputs.proofs.finding.of_bytes.Goals as goal
 
 pub returns-then-bytes-gt-MOST_BYTES-clause-right : goal.returns-then-bytes-gt-MOST_BYTES-clause-right
 returns-then-bytes-gt-MOST_BYTES-clause-right c = spec.too_long (search rules)

@@ -8,8 +8,8 @@ use Rattle.ix_grammar.specs.Refusals.{HasTree, Refused, IsWithin}
 use Rattle.ix_lexer.specs.Spans.{InOrder, IsWithin as LexWithin}
 use Rattle.ix_lexer.specs.Tokens.{Tokens, Fails, most_tokens}
 use Rattle.ix_grammar.specs.declared.error.ParseError.TheVariants as syntax
-use Rattle.ix_finding.specs.Found.{Finding, TooLong, Broken, Past, Found, too_long, no_tokens, lexed, FoundOf, no_tree, tree, FoundIn, of_lex_error, of_parse_error, start_of}
-use Rattle.ix_finding.specs.Findings.{IsPlaced, HasFormed}
+use Rattle.ix_command_inputs.specs.Found.{Finding, TooLong, Broken, Past, Found, too_long, no_tokens, lexed, FoundOf, no_tree, tree, FoundIn, of_lex_error, of_parse_error, start_of}
+use Rattle.ix_command_inputs.specs.Findings.{IsPlaced, HasFormed}
 use Rattle.ix_outside.specs.Reading.{most_bytes}
 use Rattle.ix_tree.specs.declared.decl.Unit.{Unit as Source}
 

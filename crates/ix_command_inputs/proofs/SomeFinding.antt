@@ -17,8 +17,8 @@ use Rattle.ix_core.specs.declared.program.Program.{Program}
 use Rattle.ix_outside.specs.Reading.{most_bytes}
 use Rattle.ix_parser.proofs.Laws.{decided}
 use Rattle.ix_plain.specs.Program.{program}
-use Rattle.ix_finding.specs.Found.{Finding, TooLong, Misnamed, Whole, Found, too_long, no_tokens, lexed, FoundOf, no_tree, tree, FoundIn, passes_limit, misnames, inherits, too_big, named, of_limit}
-use Rattle.ix_finding.proofs.EachText.{each_bytes}
+use Rattle.ix_command_inputs.specs.Found.{Finding, TooLong, Misnamed, Whole, Found, too_long, no_tokens, lexed, FoundOf, no_tree, tree, FoundIn, passes_limit, misnames, inherits, too_big, named, of_limit}
+use Rattle.ix_command_inputs.proofs.EachText.{each_bytes}
 use Rattle.ix_table.proofs.SomeList.{some_list}
 
 -- ---- of a tree

@@ -15,9 +15,9 @@ use Rattle.ix_formed.proofs.PlacedPrograms.{placed_limit}
 use Rattle.ix_name_report.specs.Texts.{limit_name}
 use Rattle.ix_formed.proofs.RefusalsStand.{refusal_within}
 use Rattle.ix_name_report.proofs.OneList.{one_list, none_listed}
-use Rattle.ix_finding.specs.Findings.{IsPlaced, HasFormed}
+use Rattle.ix_command_inputs.specs.Findings.{IsPlaced, HasFormed}
 use Rattle.ix_meaning.specs.declared.note.NameErrors.{NameErrors}
-use Rattle.ix_finding.specs.Found.{Finding, Past, Misnamed, Whole, FoundIn, passes_limit, misnames, inherits, too_big, named, of_limit, of_name_errors, of_lower_error}
+use Rattle.ix_command_inputs.specs.Found.{Finding, Past, Misnamed, Whole, FoundIn, passes_limit, misnames, inherits, too_big, named, of_limit, of_name_errors, of_lower_error}
 
 not_none : (o : Option Passed) (p : Passed) → o ≡ None → o ≡ Some p → ⊥
 not_none o p none some = cc

@@ -2,9 +2,9 @@ use Rattle.std.proofs.Common.{sym, ◌≡◌, ◌∙◌, ap, Ok, Err}
 use Rattle.ix_plain.specs.Program.{program}
 use Rattle.ix_formed.proofs.PlacedPrograms.{placed_program}
 use Rattle.ix_meaning.specs.Resolved.{names}
-use Rattle.ix_finding.specs.Found as spec
-use Rattle.ix_finding.proofs.NamesFound.{accepted_only, unlowered_found, unlowered_only, unlowered_placed, unlowered_formed}
-use Rattle.ix_finding.proofs.finding.of_lowered.Goals as goal
+use Rattle.ix_command_inputs.specs.Found as spec
+use Rattle.ix_command_inputs.proofs.NamesFound.{accepted_only, unlowered_found, unlowered_only, unlowered_placed, unlowered_formed}
+use Rattle.ix_command_inputs.proofs.finding.of_lowered.Goals as goal
 
 pub returns-in-Ok-clause-right : goal.returns-in-Ok-clause-right
 returns-in-Ok-clause-right c =

@@ -1,8 +1,8 @@
 use Rattle.std.proofs.lemmas.Result.{IfOk-weaker}
 use Rattle.ix_formed.proofs.ParsedTrees.{parsed}
-use Rattle.ix_finding.specs.Found as spec
-use Rattle.ix_finding.proofs.BytesFound.{tree_found, refusal_only, refusal_of, refusal_placed, refusal_formed}
-use Rattle.ix_finding.proofs.finding.of_tokens.Goals as goal
+use Rattle.ix_command_inputs.specs.Found as spec
+use Rattle.ix_command_inputs.proofs.BytesFound.{tree_found, refusal_only, refusal_of, refusal_placed, refusal_formed}
+use Rattle.ix_command_inputs.proofs.finding.of_tokens.Goals as goal
 
 pub returns-in-Ok-clause-right : goal.returns-in-Ok-clause-right
 returns-in-Ok-clause-right c = IfOk-weaker c.of_unit.result _ _ (λ finding is. spec.tree _ c.in-Ok.ensures.found is) c.of_unit.ensures.right

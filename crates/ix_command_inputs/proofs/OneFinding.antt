@@ -3,10 +3,10 @@ use Rattle.std.proofs.Common.{◌≡◌, ℕ, List, length, sym, ap, subst, ◌�
 use Rattle.ix_lexer.specs.declared.token.Token.{Token}
 use Rattle.ix_tree.specs.declared.decl.Unit.{Unit as Source}
 use Rattle.ix_parser.proofs.Laws as parsed
-use Rattle.ix_finding.specs.Found.{Finding, Found, too_long, no_tokens, lexed, FoundOf, no_tree, tree, FoundIn, passes_limit, misnames, inherits, too_big, named, of_lex_error, of_parse_error}
-use Rattle.ix_finding.proofs.BytesFound.{some_is, past-only}
-use Rattle.ix_finding.proofs.NamesFound.{accepted_only, big_only, errors_only, passed_only, inherited_only}
-use Rattle.ix_finding.proofs.OneReading.{one_failure, one_lexing, never_both}
+use Rattle.ix_command_inputs.specs.Found.{Finding, Found, too_long, no_tokens, lexed, FoundOf, no_tree, tree, FoundIn, passes_limit, misnames, inherits, too_big, named, of_lex_error, of_parse_error}
+use Rattle.ix_command_inputs.proofs.BytesFound.{some_is, past-only}
+use Rattle.ix_command_inputs.proofs.NamesFound.{accepted_only, big_only, errors_only, passed_only, inherited_only}
+use Rattle.ix_command_inputs.proofs.OneReading.{one_failure, one_lexing, never_both}
 
 one_in : (source : Source) (a b : Finding) → FoundIn source a → FoundIn source b → a ≡ b
 one_in source _ b (passes_limit p is) found = passed_only source p b is found
