@@ -1,3 +1,3 @@
 pub mod ChangedPaths
--- Passed on from ix_fact_paths.
-pub use Rattle.ix_fact_paths.specs.Spared
+-- Passed on from ix_path_index.
+pub use Rattle.ix_path_index.specs.Spared

@@ -7,7 +7,7 @@ ghost use Rattle.ix_facts.specs.Forget.{offset_names, names, without, of_path, o
 ghost use Rattle.ix_changes.specs.ChangedPaths.{is_spared, is_final, is_changed, some_path, paths_beside};
 
 use ix_core::{Fact, OpKind, Path, PathOff, Program};
-use ix_fact_paths::{assigned_path, facts_without_path, is_of_path, is_of_target};
+use ix_path_index::{assigned_path, facts_without_path, is_of_path, is_of_target};
 use std::alloc::{AllocError, Global};
 
 /// The paths that a step may change.

@@ -10,5 +10,5 @@ pub mod Piles
 pub mod FactTables
 pub mod Apart
 pub mod TableLaws
--- Passed on from ix_fact_paths.
-pub use Rattle.ix_fact_paths.specs.Spared
+-- Passed on from ix_path_index.
+pub use Rattle.ix_path_index.specs.Spared

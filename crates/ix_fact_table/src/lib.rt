@@ -22,7 +22,7 @@ mod walks;
 
 pub use apart::{are_apart, are_proper};
 pub use fact_table::FactTable;
-pub use ix_fact_paths::{
+pub use ix_path_index::{
     assigned_path, is_of_path, is_of_target, names_path, rounded_facts, some_name_path,
 };
 pub use order::compare_facts;

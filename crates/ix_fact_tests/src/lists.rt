@@ -2,7 +2,7 @@
 
 use crate::after::list;
 use ix_core::{Fact, Path, PathOff};
-use ix_fact_paths::{compare_offsets, compare_paths};
+use ix_path_index::{compare_offsets, compare_paths};
 use ix_facts::Know;
 use ix_path_numbers::{path_number, path_of};
 use std::cmp::Ordering;

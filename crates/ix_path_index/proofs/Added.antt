@@ -5,9 +5,9 @@ use Rattle.std.proofs.lemmas.Bool.{false≢true}
 use Rattle.std.proofs.lemmas.List.{append_assoc, append-nil}
 use Rattle.ix_core.specs.declared.fact.Path.{Path}
 use Rattle.ix_core.specs.declared.fact.Fact.{Fact}
-use Rattle.ix_fact_paths.specs.Bounds.{is_path}
-use Rattle.ix_fact_paths.specs.PathOrder.{path_same}
-use Rattle.ix_fact_paths.specs.Forget.{names}
+use Rattle.ix_facts.specs.Bounds.{is_path}
+use Rattle.ix_facts.specs.PathOrder.{path_same}
+use Rattle.ix_facts.specs.Forget.{names}
 use Rattle.ix_core.proofs.Cases.{by_test}
 use Rattle.ix_path_index.specs.ByPath.{Entries, Places, is_near, near_place, at_paths, paths_in, facts_at, facts_in, about, beside, on_index, on_it, Adds}
 use Rattle.ix_path_index.proofs.EntriesAre.{about_app, one_at, if_named, fact_at, beside_is}

@@ -9,9 +9,9 @@ use Rattle.ix_core.specs.declared.fact.PathOff.{PathOff}
 use Rattle.ix_core.specs.declared.fact.PathOff.TheVariants.{Nothing, Plus, Minus}
 use Rattle.ix_core.specs.declared.fact.Fact.{Fact}
 use Rattle.ix_core.specs.declared.fact.Fact.TheVariants.{Rng, LenRng, Low, Same, IsLen, Less, Sum, Search, Neg, Upper}
-use Rattle.ix_fact_paths.specs.Bounds.{is_path}
-use Rattle.ix_fact_paths.specs.Forget.{names, offset_names}
-use Rattle.ix_fact_paths.specs.PathOrder.{path_cmp, path_same}
+use Rattle.ix_facts.specs.Bounds.{is_path}
+use Rattle.ix_facts.specs.Forget.{names, offset_names}
+use Rattle.ix_facts.specs.PathOrder.{path_cmp, path_same}
 use Rattle.ix_core.proofs.Cases.{by_test}
 use Rattle.ix_path_index.specs.ByPath.{Entries, at_two, at_three, at_bound, at_paths, entries_of, paths_in, facts_in, about, beside, on_it, IsSorted}
 

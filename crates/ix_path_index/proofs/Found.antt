@@ -10,9 +10,9 @@ use Rattle.std.proofs.lemmas.List.{get_or-drop, length-drop}
 use Rattle.std.proofs.lemmas.List.Sorted.{searchable_from_sorted}
 use Rattle.ix_core.specs.declared.fact.Path.{Path}
 use Rattle.ix_core.specs.declared.fact.Fact.{Fact}
-use Rattle.ix_fact_paths.specs.Bounds.{is_path}
-use Rattle.ix_fact_paths.specs.PathOrder.{path_cmp, path_total, path_same, path_itself}
-use Rattle.ix_fact_paths.proofs.PathOrders.{path_equal}
+use Rattle.ix_facts.specs.Bounds.{is_path}
+use Rattle.ix_facts.specs.PathOrder.{path_cmp, path_total, path_same, path_itself}
+use Rattle.ix_facts.proofs.PathOrders.{path_equal}
 use Rattle.ix_path_index.specs.ByPath.{beside, IsSorted}
 
 turned : (p q : Path) → is_path p q ≡ true → is_path q p ≡ true

@@ -8,3 +8,8 @@ mod Unmarked
 pub mod NearPlaces
 mod OneOrder
 mod PartsNamed
+mod Filtered
+mod OnePath
+mod RisingMarks
+-- Passed on from ix_facts.
+pub use Rattle.ix_facts.proofs.PathOrders

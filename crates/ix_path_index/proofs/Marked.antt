@@ -3,8 +3,8 @@ use Rattle.std.specs.Prelude.{◌≡◌, ◌⊎◌, List}
 use Rattle.std.proofs.Common.{sym, subst, ⊎_elim}
 use Rattle.std.specs.BTreeSet.{insert_key}
 use Rattle.ix_core.specs.declared.fact.Path.{Path}
-use Rattle.ix_fact_paths.specs.Named.{IsAmongPaths}
-use Rattle.ix_fact_paths.specs.PathOrder.{path_cmp}
+use Rattle.ix_facts.specs.Named.{IsAmongPaths}
+use Rattle.ix_facts.specs.PathOrder.{path_cmp}
 use Rattle.ix_path_index.specs.declared.marks.Marks.{Marks}
 use Rattle.ix_path_index.specs.Marks.{IsMarked, AreMarked}
 use Rattle.ix_path_index.specs.PutLaws.{IsRising, put_here, put_stays, put_rises, put_again}

@@ -6,8 +6,8 @@ use Rattle.std.proofs.lemmas.Bool.Decides.{nat_tests}
 use Rattle.ix_core.specs.declared.fact.Path.{Path}
 use Rattle.ix_core.specs.declared.fact.Path.TheVariants.{Slot, FieldOf}
 use Rattle.ix_core.proofs.Cases.{by_test}
-use Rattle.ix_fact_paths.specs.Bounds.{is_path}
-use Rattle.ix_fact_paths.specs.PathOrder.{path_same, path_itself}
+use Rattle.ix_facts.specs.Bounds.{is_path}
+use Rattle.ix_facts.specs.PathOrder.{path_same, path_itself}
 use Rattle.ix_path_index.specs.ByPath.{is_near, near_place}
 use Rattle.ix_path_index.specs.Marks.{has_place}
 

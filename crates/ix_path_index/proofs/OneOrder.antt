@@ -7,7 +7,7 @@ use Rattle.ix_core.specs.declared.fact.PathOff.TheVariants.{Nothing, Plus, Minus
 use Rattle.ix_core.specs.declared.fact.Fact.{Fact}
 use Rattle.ix_core.specs.declared.fact.Fact.TheVariants.{Rng, LenRng, Low, Same, IsLen, Less, Sum, Search, Neg, Upper}
 use Rattle.ix_core.proofs.Cases.{by_test}
-use Rattle.ix_fact_paths.specs.Facts.{orders, is_default, in_orders}
+use Rattle.ix_facts.specs.Facts.{orders, is_default, in_orders}
 
 pub orders_first : (f : Fact) (rest : List Fact) → in_orders (f ∷ rest) ≡ cond (is_default f) [] (orders f) ++ in_orders rest
 orders_first f rest = by_test (is_default f) (λ t. rw t refl) (λ t. rw t refl)

@@ -5,11 +5,11 @@ use Rattle.std.proofs.Math.Seq.{drop-cons}
 use Rattle.std.proofs.lemmas.Bool.Decides.{nat_tests}
 use Rattle.ix_core.specs.declared.fact.Path.{Path}
 use Rattle.ix_core.specs.declared.fact.Fact.{Fact}
-use Rattle.ix_fact_paths.specs.PathOrder.{path_cmp}
+use Rattle.ix_facts.specs.PathOrder.{path_cmp}
 use Rattle.std.specs.BTreeSet.{insert_key}
-use Rattle.ix_fact_paths.specs.Exact.{ints_of, paths_of, named_ints}
-use Rattle.ix_fact_paths.specs.Facts.{IsIn}
-use Rattle.ix_fact_paths.specs.Named.{IsAmongPaths}
+use Rattle.ix_facts.specs.Exact.{ints_of, paths_of, named_ints}
+use Rattle.ix_facts.specs.Facts.{IsIn}
+use Rattle.ix_facts.specs.Named.{IsAmongPaths}
 use Rattle.ix_path_index.specs.ByPath.{put_all}
 use Rattle.ix_path_index.specs.PutLaws.{IsRising, all_rise, all_only, all_stay, all_there}
 use Rattle.ix_path_index.specs.PutUntil.{IsPutUntil}

@@ -9,8 +9,8 @@ use Rattle.std.proofs.Common.{sym, ap, ◌∙◌, pos}
 use Rattle.ix_core.specs.declared.fact.Path.{Path}
 use Rattle.ix_core.specs.declared.fact.Fact.{Fact}
 use Rattle.ix_core.specs.declared.fact.Fact.TheVariants.{Low}
-use Rattle.ix_fact_paths.specs.PathOrder.{path_cmp}
-use Rattle.ix_fact_paths.specs.Bounds.{is_path}
+use Rattle.ix_facts.specs.PathOrder.{path_cmp}
+use Rattle.ix_facts.specs.Bounds.{is_path}
 use Rattle.ix_path_index.specs.ByPath.{Entries, at_path, about}
 
 neither : (o : Ordering) → (not (is_lt o) && not (is_lt (ordering_reverse o))) ≡ is_eq o

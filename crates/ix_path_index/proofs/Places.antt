@@ -10,8 +10,8 @@ use Rattle.std.proofs.Common.{arith, inl, inr, ap, sym, ◌∙◌, subst}
 use Rattle.std.proofs.lemmas.Bool.{false≢true}
 use Rattle.std.proofs.lemmas.List.Sorted.{searchable_from_sorted}
 use Rattle.ix_core.specs.declared.fact.Path.{Path}
-use Rattle.ix_fact_paths.specs.Named.{IsAmongPaths}
-use Rattle.ix_fact_paths.specs.PathOrder.{path_cmp, path_total}
+use Rattle.ix_facts.specs.Named.{IsAmongPaths}
+use Rattle.ix_facts.specs.PathOrder.{path_cmp, path_total}
 use Rattle.ix_path_index.specs.PutLaws.{IsRising, equal_paths}
 
 among : (paths : List Path) (k : ℕ) (d : Path) → k < length paths → IsAmongPaths (get_or paths k d) paths

@@ -8,9 +8,9 @@ use Rattle.ix_core.specs.declared.fact.PathOff.{PathOff}
 use Rattle.ix_core.specs.declared.fact.PathOff.TheVariants.{Nothing, Plus, Minus}
 use Rattle.ix_core.specs.declared.fact.Fact.{Fact}
 use Rattle.ix_core.specs.declared.fact.Fact.TheVariants.{Rng, LenRng, Low, Same, IsLen, Less, Sum, Search, Neg, Upper}
-use Rattle.ix_fact_paths.specs.Bounds.{is_path}
-use Rattle.ix_fact_paths.specs.Forget.{names}
-use Rattle.ix_fact_paths.specs.PathOrder.{path_cmp}
+use Rattle.ix_facts.specs.Bounds.{is_path}
+use Rattle.ix_facts.specs.Forget.{names}
+use Rattle.ix_facts.specs.PathOrder.{path_cmp}
 
 -- paths, each with a fact that names it
 abbrev pub Entries : Type 0

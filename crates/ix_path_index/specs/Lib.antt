@@ -6,5 +6,11 @@ pub mod OnListLaws
 pub mod PutLaws
 pub mod PutUntil
 pub mod NamedLaws
--- Passed on from ix_fact_paths.
-pub use Rattle.ix_fact_paths.specs.Spared
+pub mod Spared
+-- Passed on from ix_facts.
+pub use Rattle.ix_facts.specs.Bounds
+pub use Rattle.ix_facts.specs.PathOrder
+pub use Rattle.ix_facts.specs.Forget
+pub use Rattle.ix_facts.specs.Named
+pub use Rattle.ix_facts.specs.Exact
+pub use Rattle.ix_facts.specs.Facts

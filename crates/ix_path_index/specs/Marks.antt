@@ -3,7 +3,7 @@ use Rattle.std.specs.Prelude.{◌≡◌, ◌⊎◌, ℕ, Bool, true, false, nat_
 use Rattle.std.specs.Int.{bit_at}
 use Rattle.ix_core.specs.declared.fact.Path.{Path}
 use Rattle.ix_core.specs.declared.fact.Path.TheVariants.{Slot, FieldOf}
-use Rattle.ix_fact_paths.specs.Named.{IsAmongPaths}
+use Rattle.ix_facts.specs.Named.{IsAmongPaths}
 use Rattle.ix_path_index.specs.declared.marks.Marks.{Marks}
 use Rattle.ix_path_index.specs.ByPath.{near_place}
 

@@ -4,10 +4,10 @@ use Rattle.std.proofs.Common.{arith, inl, inr, ap, sym, ◌∙◌, subst, ⊎_el
 use Rattle.std.specs.declared.cmp.Ordering.TheVariants.{Less}
 use Rattle.ix_core.specs.declared.fact.Path.{Path}
 use Rattle.ix_core.specs.declared.fact.Fact.{Fact}
-use Rattle.ix_fact_paths.specs.Exact.{paths_of}
-use Rattle.ix_fact_paths.specs.Facts.{IsIn}
-use Rattle.ix_fact_paths.specs.Named.{IsAmongPaths}
-use Rattle.ix_fact_paths.specs.PathOrder.{path_cmp, path_total}
+use Rattle.ix_facts.specs.Exact.{paths_of}
+use Rattle.ix_facts.specs.Facts.{IsIn}
+use Rattle.ix_facts.specs.Named.{IsAmongPaths}
+use Rattle.ix_facts.specs.PathOrder.{path_cmp, path_total}
 use Rattle.ix_path_index.specs.PutLaws.{IsRising, less_apart}
 
 -- the paths of the first list are among those of the second

@@ -3,9 +3,9 @@ use Rattle.std.specs.Prelude.{◌≡◌, Bool, List, [], ◌∷◌, filter, refl
 use Rattle.std.proofs.Common.{inl, inr, ap, ⊎_elim}
 use Rattle.ix_core.specs.declared.fact.Path.{Path}
 use Rattle.ix_core.specs.declared.fact.Fact.{Fact}
-use Rattle.ix_fact_paths.specs.Bounds.{is_path}
-use Rattle.ix_fact_paths.specs.Facts.{IsIn}
-use Rattle.ix_fact_paths.specs.Forget.{names}
+use Rattle.ix_facts.specs.Bounds.{is_path}
+use Rattle.ix_facts.specs.Facts.{IsIn}
+use Rattle.ix_facts.specs.Forget.{names}
 use Rattle.ix_core.proofs.Cases.{by_test}
 use Rattle.ix_path_index.specs.ByPath.{on_it}
 

@@ -9,8 +9,8 @@ use Rattle.std.proofs.lemmas.Bool.Decides.{nat_tests}
 use Rattle.std.specs.BTreeSet.{insert_key}
 use Rattle.ix_core.specs.declared.fact.Path.{Path}
 use Rattle.ix_core.specs.declared.fact.Path.TheVariants.{Slot, FieldOf}
-use Rattle.ix_fact_paths.specs.Named.{IsAmongPaths, AreDistinct, IsEachOnce}
-use Rattle.ix_fact_paths.specs.PathOrder.{path_cmp, path_total}
+use Rattle.ix_facts.specs.Named.{IsAmongPaths, AreDistinct, IsEachOnce}
+use Rattle.ix_facts.specs.PathOrder.{path_cmp, path_total}
 use Rattle.ix_path_index.specs.ByPath.{put_all}
 
 by_order : {G : Type 0} (o : Ordering) → (o ≡ Less → G) → (o ≡ Equal → G) → (o ≡ Greater → G) → G

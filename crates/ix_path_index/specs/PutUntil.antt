@@ -2,7 +2,7 @@
 use Rattle.std.specs.Prelude.{◌≡◌, ◌⊎◌, ◌≤◌, ℕ, List, [], length}
 use Rattle.ix_core.specs.declared.fact.Path.{Path}
 use Rattle.ix_core.specs.declared.fact.Fact.{Fact}
-use Rattle.ix_fact_paths.specs.Exact.{named_ints}
+use Rattle.ix_facts.specs.Exact.{named_ints}
 use Rattle.ix_path_index.specs.ByPath.{put_all}
 
 -- some are left to be put: none, or there are so many paths already

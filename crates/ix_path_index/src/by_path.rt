@@ -4,11 +4,12 @@ ghost use Rattle.std.specs.Prelude.{◌≡◌, length, IfOk};
 ghost use Rattle.std.specs.List.Sorted.{IsSortedByKey};
 ghost use Rattle.std.specs.Ordering.{is_lt};
 ghost use Rattle.ix_core.specs.declared.fact.Path.{Path};
-ghost use Rattle.ix_fact_paths.specs.PathOrder.{path_cmp};
+ghost use Rattle.ix_facts.specs.PathOrder.{path_cmp};
 ghost use Rattle.ix_path_index.specs.ByPath.{about, paths_in, facts_in, beside, IsSorted};
 
 use ix_core::{Fact, Path};
-use ix_fact_paths::{compare_paths, is_same_path, path_order_laws};
+use crate::path_order::{compare_paths, path_order_laws};
+use ix_facts::is_same_path;
 use std::alloc::{AllocError, Global};
 use std::cmp::Ordering;
 

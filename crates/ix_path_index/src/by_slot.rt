@@ -8,7 +8,7 @@ ghost use Rattle.ix_path_index.specs.ByPath.{is_near, near_place, at_two, at_thr
 
 use crate::path_facts::PathFacts;
 use ix_core::{Fact, Path, PathOff};
-use ix_fact_paths::is_same_path;
+use ix_facts::is_same_path;
 use std::alloc::{AllocError, Global};
 use std::marker::Model;
 

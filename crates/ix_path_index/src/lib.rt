@@ -9,20 +9,29 @@
 
 mod by_path;
 mod by_slot;
+mod filters;
+mod forget;
 mod grouped;
+mod landmarks;
 mod marks;
 mod named;
 mod orders;
 mod path_facts;
 mod path_index;
+mod path_order;
 mod path_set;
+mod room;
+mod spared;
 
+pub use ix_facts::is_same_path;
 pub use by_slot::{PLACES, near_place};
+pub use filters::{facts_without_path, facts_without_target, rounded_facts};
+pub use forget::{is_of_path, is_of_target, names_path, names_target};
 pub use grouped::Grouped;
-pub use ix_fact_paths::{
-    assigned_path, names_path, names_target, path_order_laws, some_name_path, some_name_target,
-};
 pub use named::{ints_and_arrays, ints_and_arrays_among, with_ints};
 pub use orders::{have_one_order, in_all_orders};
 pub use path_index::PathIndex;
+pub use path_order::{compare_offsets, compare_paths, offset_order_laws, path_order_laws};
 pub use path_set::PathSet;
+pub use room::room_for;
+pub use spared::{assigned_path, some_name_path, some_name_target};

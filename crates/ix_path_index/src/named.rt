@@ -2,8 +2,8 @@
 
 ghost use Rattle.std.specs.Prelude.{◌≡◌, ◌⊎◌, ◌∷◌, ◌++◌, [], IsTrue, IfOk, OnOk};
 ghost use Rattle.ix_core.specs.declared.fact.Path.{Path};
-ghost use Rattle.ix_fact_paths.specs.Exact.{offset_paths, ints_of, arrays_of, named_ints, named_arrays};
-ghost use Rattle.ix_fact_paths.specs.Named.{IsAmongPaths};
+ghost use Rattle.ix_facts.specs.Exact.{offset_paths, ints_of, arrays_of, named_ints, named_arrays};
+ghost use Rattle.ix_facts.specs.Named.{IsAmongPaths};
 ghost use Rattle.ix_path_index.specs.ByPath.{put_all};
 ghost use Rattle.ix_path_index.specs.NamedLaws.{AreAmong};
 ghost use Rattle.ix_path_index.specs.PutLaws.{IsRising};
@@ -11,7 +11,7 @@ ghost use Rattle.ix_path_index.specs.PutUntil.{IsPutUntil};
 
 use crate::path_set::PathSet;
 use ix_core::{Fact, Path, PathOff};
-use ix_fact_paths::compare_paths;
+use crate::path_order::compare_paths;
 use std::alloc::{AllocError, Global};
 use std::cmp::Ordering;
 

@@ -2,10 +2,10 @@
 
 ghost use Rattle.std.specs.Prelude.{◌≡◌, ◌≤◌, ◌+◌, ◌∷◌, ◌++◌, [], cond, false, length, IsTrue, IsFalse, IfOk, option_to_list};
 ghost use Rattle.std.specs.Vec.{vec_len, vec_capacity};
-ghost use Rattle.ix_fact_paths.specs.Facts.{orders, is_default, in_orders};
+ghost use Rattle.ix_facts.specs.Facts.{orders, is_default, in_orders};
 
 use ix_core::{Fact, PathOff};
-use ix_fact_paths::room_for;
+use crate::room::room_for;
 use std::alloc::{AllocError, Global};
 
 /// The fact in its other order, if it has one.

@@ -3,14 +3,14 @@
 ghost use Rattle.std.specs.Prelude.{◌≡◌, length, [], ◌∷◌, ◌++◌, List, IsTrue, IfOk, OnOk, OnErr};
 ghost use Rattle.std.specs.BTreeSet.{insert_key};
 ghost use Rattle.ix_core.specs.declared.fact.Path.{Path};
-ghost use Rattle.ix_fact_paths.specs.PathOrder.{path_cmp};
+ghost use Rattle.ix_facts.specs.PathOrder.{path_cmp};
 ghost use Rattle.ix_path_index.specs.Marks.{AreMarked};
 ghost use Rattle.ix_path_index.specs.PutLaws.{IsRising};
 
 use crate::by_path::is_before;
 use crate::marks::Marks;
 use ix_core::Path;
-use ix_fact_paths::compare_paths;
+use crate::path_order::compare_paths;
 use std::alloc::{AllocError, Global};
 use std::marker::Model;
 

@@ -1,7 +1,7 @@
 use Rattle.std.proofs.Common.{rules, ap, ◌∙◌}
 use Rattle.std.specs.Prelude.{take}
 use Rattle.std.proofs.lemmas.Fn.{always_returns_same}
-use Rattle.ix_fact_paths.specs.Bounds.{is_path}
+use Rattle.ix_facts.specs.Bounds.{is_path}
 use Rattle.ix_path_index.proofs.Found.{before, found_is}
 use Rattle.ix_path_index.proofs.by_path.facts_beside.Goals as goal
 

@@ -3,7 +3,7 @@ use Rattle.std.specs.List.Sorted.{IsStableByKey, IsSortedByKey}
 use Rattle.std.proofs.lemmas.List.Sorted.{answers_always}
 use Rattle.ix_core.specs.declared.fact.Path.{Path}
 use Rattle.ix_core.specs.declared.fact.Fact.{Fact}
-use Rattle.ix_fact_paths.specs.PathOrder.{path_cmp}
+use Rattle.ix_facts.specs.PathOrder.{path_cmp}
 use Rattle.ix_path_index.proofs.PathTies.{stable_about}
 use Rattle.ix_path_index.proofs.by_path.in_order.Goals as goal
 

@@ -1,5 +1,5 @@
 use Rattle.std.proofs.Common.{inl, inr, sym, ◌∙◌, ⊎_elim}
-use Rattle.ix_fact_paths.specs.Exact.{ints_of}
+use Rattle.ix_facts.specs.Exact.{ints_of}
 use Rattle.ix_path_index.specs.NamedLaws.{names_it}
 use Rattle.ix_path_index.proofs.PartsNamed.{in_place, none_left}
 use Rattle.ix_path_index.proofs.named.have_ranges.Goals as goal

@@ -3,7 +3,7 @@ use Rattle.std.proofs.Common.{◌≡◌, ◌∙◌, ap, sym, subst}
 use Rattle.std.specs.Result.{OnOk}
 use Rattle.std.proofs.lemmas.Result.{IfOk-at_ok}
 use Rattle.ix_text.proofs.Chained.{both_ok}
-use Rattle.ix_fact_paths.specs.Exact.{named_ints}
+use Rattle.ix_facts.specs.Exact.{named_ints}
 use Rattle.ix_path_index.specs.ByPath.{put_all}
 use Rattle.ix_path_index.specs.PutUntil.{IsPutUntil}
 use Rattle.ix_path_index.proofs.named.ints_among.Goals as goal

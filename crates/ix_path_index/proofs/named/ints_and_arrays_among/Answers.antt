@@ -1,5 +1,5 @@
 use Rattle.std.proofs.Common.{◌∙◌, refl}
-use Rattle.ix_fact_paths.specs.Exact.{arrays_of}
+use Rattle.ix_facts.specs.Exact.{arrays_of}
 use Rattle.ix_path_index.proofs.PartsNamed.{among_named, ranges_named, parts_without}
 use Rattle.ix_path_index.proofs.named.ints_and_arrays_among.Goals as goal
 

@@ -1,5 +1,5 @@
 use Rattle.std.proofs.Common.{◌≡◌, drop}
-use Rattle.ix_fact_paths.specs.Exact.{named_ints, named_arrays}
+use Rattle.ix_facts.specs.Exact.{named_ints, named_arrays}
 use Rattle.ix_path_index.specs.ByPath.{put_all}
 use Rattle.ix_path_index.proofs.named.put_facts.Given as goal
 

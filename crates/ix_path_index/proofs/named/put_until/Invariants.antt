@@ -1,6 +1,6 @@
 use Rattle.std.proofs.Common.{◌≡◌, List, drop}
 use Rattle.ix_core.specs.declared.fact.Path.{Path}
-use Rattle.ix_fact_paths.specs.Exact.{named_ints}
+use Rattle.ix_facts.specs.Exact.{named_ints}
 use Rattle.ix_path_index.specs.ByPath.{put_all}
 use Rattle.ix_path_index.proofs.named.put_until.Given as goal
 

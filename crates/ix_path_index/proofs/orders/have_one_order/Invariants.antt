@@ -1,5 +1,5 @@
 use Rattle.std.proofs.Common.{◌≡◌, drop}
-use Rattle.ix_fact_paths.specs.Facts.{in_orders}
+use Rattle.ix_facts.specs.Facts.{in_orders}
 use Rattle.ix_path_index.proofs.orders.have_one_order.Given as goal
 
 abbrev pub invariant-loop-fact : goal.invariant-loop-fact

@@ -3,7 +3,7 @@ use Rattle.std.proofs.Common.{get_or, refl, arith}
 use Rattle.ix_text.proofs.Walked.{next_or, none_left}
 use Rattle.ix_core.specs.declared.fact.Path.TheVariants.{Slot}
 use Rattle.ix_core.specs.declared.fact.Fact.TheVariants.{Rng}
-use Rattle.ix_fact_paths.specs.Facts.{in_orders}
+use Rattle.ix_facts.specs.Facts.{in_orders}
 use Rattle.ix_path_index.proofs.OneOrder.{orders_first}
 use Rattle.ix_path_index.proofs.orders.in_all_orders.Goals as goal
 

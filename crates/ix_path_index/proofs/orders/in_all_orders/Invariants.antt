@@ -1,6 +1,6 @@
 use Rattle.std.proofs.Common.{◌≡◌, ◌++◌, ◌≤◌, ◌*◌, drop, length}
 use Rattle.std.specs.Vec.{vec_len, vec_capacity}
-use Rattle.ix_fact_paths.specs.Facts.{in_orders}
+use Rattle.ix_facts.specs.Facts.{in_orders}
 use Rattle.ix_path_index.proofs.orders.in_all_orders.Given as goal
 
 abbrev pub invariant-loop-fact : goal.invariant-loop-fact

@@ -4,7 +4,7 @@ use Rattle.std.specs.List.Sorted.{IsBinarySearchResult}
 use Rattle.std.specs.BTreeSet.{insert_key}
 use Rattle.std.proofs.lemmas.Fn.{always_returns_same}
 use Rattle.ix_core.specs.declared.fact.Path.{Path}
-use Rattle.ix_fact_paths.specs.PathOrder.{path_cmp}
+use Rattle.ix_facts.specs.PathOrder.{path_cmp}
 use Rattle.ix_path_index.specs.PutLaws.{IsRising}
 use Rattle.ix_path_index.proofs.Places.{found, placed}
 use Rattle.ix_path_index.proofs.path_set.put_path.Goals as goal

@@ -1,6 +1,6 @@
 use Rattle.std.proofs.Common.{◌≡◌, subst}
 use Rattle.std.specs.BTreeSet.{insert_key}
-use Rattle.ix_fact_paths.specs.PathOrder.{path_cmp}
+use Rattle.ix_facts.specs.PathOrder.{path_cmp}
 use Rattle.ix_path_index.proofs.Marked.{marked_again}
 use Rattle.ix_path_index.proofs.path_set.PathSet.is_marked.Goals as goal
 

@@ -1,8 +1,0 @@
-pub mod Spared
--- Passed on from ix_facts.
-pub use Rattle.ix_facts.specs.Bounds
-pub use Rattle.ix_facts.specs.PathOrder
-pub use Rattle.ix_facts.specs.Forget
-pub use Rattle.ix_facts.specs.Named
-pub use Rattle.ix_facts.specs.Exact
-pub use Rattle.ix_facts.specs.Facts
