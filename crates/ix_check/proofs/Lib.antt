@@ -2,8 +2,8 @@ mod Listed
 mod ListedErrors
 mod Listing
 mod Texts
-mod Labels
-mod Whole
+mod NodesByLabels
+mod WholeMethods
 mod Added
 mod Methods
 mod FlowPlaces

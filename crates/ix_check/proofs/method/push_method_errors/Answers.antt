@@ -8,7 +8,7 @@ use Rattle.ix_labels.specs.Filled.{nodes_of}
 use Rattle.ix_labels.proofs.Bounded.{visits_within}
 use Rattle.ix_labels.proofs.Filling.{are_labels, all_visits}
 use Rattle.ix_check.proofs.Added.{method_is}
-use Rattle.ix_check.proofs.Whole.{found_all}
+use Rattle.ix_check.proofs.WholeMethods.{found_all}
 use Rattle.ix_check.proofs.method.push_method_errors.Goals as goal
 
 pub returns-clause-errors : goal.returns-clause-errors

@@ -34,7 +34,7 @@ use Rattle.ix_sound.specs.Errors.{NoErrors}
 use Rattle.ix_sound.specs.Sound.{HasNoErrors}
 use Rattle.ix_check.specs.NodeErrors.{LabelGives, TextGives, NodeGives, AtNode}
 use Rattle.ix_check.specs.MethodErrors.{Derives, IsErrorOf}
-use Rattle.ix_check.proofs.Labels.{AvoidAll, kind_there, node_there, store_there, avoid, refused, text_at, at_text, together}
+use Rattle.ix_check.proofs.NodesByLabels.{AvoidAll, kind_there, node_there, store_there, avoid, refused, text_at, at_text, together}
 use Rattle.ix_check.proofs.Listing.{listed_or_not}
 use Rattle.ix_check.proofs.Texts.{somewhere_node, node_somewhere}
 
