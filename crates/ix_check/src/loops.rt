@@ -9,9 +9,9 @@ ghost use Rattle.ix_labels.specs.LoopLabels.{AreLoopLabels};
 ghost use Rattle.ix_labels.specs.Visits.{VisitsWithin};
 
 use ix_core::{Method, Profile, Program};
-use ix_sound::{loops_are_in_order, names_are_small};
 use ix_labels::{Store, loop_labels};
 use ix_solve::Steps;
+use ix_sound::{loops_are_in_order, names_are_small};
 use std::alloc::{AllocError, Global};
 use std::marker::Brand;
 use std::sync::ledger::{Blank, Ledger};

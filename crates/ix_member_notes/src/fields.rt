@@ -10,13 +10,13 @@ ghost use Rattle.ix_written.specs.Begun.{annotated};
 ghost use Rattle.ix_member_notes.specs.Places.{at};
 ghost use Rattle.ix_member_notes.specs.Declarations as parts;
 
-use crate::places::member_scopes;
-use ix_values::{InAnnotation, Scopes, note_declared, wrong_if};
 use crate::locals::initialiser;
+use crate::places::member_scopes;
 use ix_core::{Claim, Name, Type_};
 use ix_meaning::{Field, Meaning, Note, Rule};
 use ix_text::List;
 use ix_tree::{ClassDecl, Init, LocalDecl};
+use ix_values::{InAnnotation, Scopes, note_declared, wrong_if};
 use ix_world::{World, field_of, hides};
 use ix_written::{Annotations, Declaration, of_variable, static_field, variable};
 use std::alloc::{AllocError, Global};

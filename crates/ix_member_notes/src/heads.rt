@@ -9,11 +9,11 @@ ghost use Rattle.ix_member_notes.specs.Heads as parts;
 
 use crate::params::note_params;
 use ix_annot::{Claims, Found, Names, Naming, Target};
-use ix_values::{InAnnotation, Scopes, note_declared};
 use ix_core::{Base, Claim, Name, Type_};
 use ix_meaning::{Note, Signature};
 use ix_text::List;
 use ix_tree::{Annot, MethodDecl, TypeTree};
+use ix_values::{InAnnotation, Scopes, note_declared};
 use ix_world::World;
 use ix_written::{Declaration, Marks, Part, distinct_posts, gathered, given, variable};
 use std::alloc::{AllocError, Global};

@@ -1,8 +1,8 @@
-//! What the members of a class say.
+//! What the members of a class say, and the statements of their bodies (JLS 6.3, 8, 14).
 //!
 //! What goes in: a field, or a method or constructor, and the members of all classes. What comes out: the notes of all that it says.
-//! The contract: `field_notes` and `method_notes` of `ix_meaning`'s `Source`.
-//! It stands on the statements of `ix_bodies` and the rules of `ix_world`.
+//! The contract: `field_notes` and `method_notes` of `ix_meaning`'s `Source`; of the statements of a body `telling` of its `Bodies`, with the names in scope behind them.
+//! It stands on the expressions of `ix_values` and the rules of `ix_world`.
 //! It never looks at another member's text.
 #![tactic(auto)]
 
@@ -15,12 +15,8 @@ mod params;
 mod parents;
 mod places;
 
-pub use ix_values::{
-    InAnnotation, Param, Scopes, arguments, given_to, note_declared, wrong, wrong_if,
-};
-pub use ix_world::{World, world_of};
-pub use body::statements;
 pub use fields::field;
-pub use locals::initialiser;
+pub use ix_values::{wrong, wrong_if};
+pub use ix_world::{World, world_of};
 pub use methods::method;
 pub use parents::implicit_super;

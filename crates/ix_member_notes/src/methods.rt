@@ -11,16 +11,16 @@ ghost use Rattle.ix_world.specs.World.{shown};
 ghost use Rattle.ix_member_notes.specs.Heads as parts;
 ghost use Rattle.ix_member_notes.specs.Places.{at};
 
+use crate::body::statements;
 use crate::heads::head;
 use crate::params::params;
 use crate::parents::note_super;
 use indexmap::IndexMap;
-use ix_values::{Scopes, wrong_if};
-use crate::body::statements;
 use ix_meaning::{Note, Rule, Signature};
 use ix_text::List;
 use ix_tree::{ClassDecl, MethodDecl};
 use ix_types::{Need, need_like};
+use ix_values::{Scopes, wrong_if};
 use ix_world::{World, clashes, differs, method_of};
 use std::alloc::{AllocError, Global};
 

@@ -6,11 +6,11 @@ ghost use Rattle.ix_values.specs.Here.{here, param_known};
 ghost use Rattle.ix_world.specs.World.{shown};
 ghost use Rattle.ix_member_notes.specs.Declarations as parts;
 
-use ix_values::{InAnnotation, Param, Scopes, note_declared, wrong_if};
 use ix_core::Name;
 use ix_meaning::{Note, Rule};
 use ix_text::List;
 use ix_tree::LocalDecl;
+use ix_values::{InAnnotation, Param, Scopes, note_declared, wrong_if};
 use ix_world::{World, param_type};
 use ix_written::{Declaration, of_variable, own_annotations, variable};
 use std::alloc::{AllocError, Global};

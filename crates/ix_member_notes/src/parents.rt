@@ -6,10 +6,10 @@ ghost use Rattle.ix_values.specs.Here.{here};
 ghost use Rattle.ix_world.specs.World.{shown};
 ghost use Rattle.ix_member_notes.specs.Parents as parts;
 
-use ix_values::{Scopes, arguments, given_to, wrong_if};
 use ix_meaning::{Note, Rule};
 use ix_text::{List, Span};
 use ix_tree::{Expr, MethodDecl};
+use ix_values::{Scopes, arguments, given_to, wrong_if};
 use ix_world::World;
 use std::alloc::{AllocError, Global};
 

@@ -7,8 +7,8 @@ ghost use Rattle.ix_world.specs.World.{shown};
 ghost use Rattle.ix_member_notes.specs.Declarations.{member_scope};
 
 use indexmap::IndexMap;
-use ix_values::Scopes;
 use ix_text::List;
+use ix_values::Scopes;
 use std::alloc::Global;
 
 /// The scope of a member of that class that declares no parameters.

@@ -17,8 +17,7 @@ mod parts;
 mod this;
 
 pub use comparisons::push_escapes_in;
-pub use ix_sign::{enter, tell};
-pub use ix_sign::{Store, after};
+pub use ix_sign::{Store, after, enter, tell};
 pub use ix_sign_errors as signs;
 pub use op_errors::push_op_errors;
 pub use operations::push_escapes_of;

@@ -7,8 +7,8 @@ ghost use Rattle.ix_core.specs.declared.fact.Path.{Path};
 ghost use Rattle.ix_facts.specs.PathOrder.{path_cmp};
 ghost use Rattle.ix_path_index.specs.ByPath.{about, paths_in, facts_in, beside, IsSorted};
 
-use ix_core::{Fact, Path};
 use crate::path_order::{compare_paths, path_order_laws};
+use ix_core::{Fact, Path};
 use ix_facts::is_same_path;
 use std::alloc::{AllocError, Global};
 use std::cmp::Ordering;

@@ -1,10 +1,10 @@
-//! Facts by the paths that they name.
+//! Facts by the paths that they name, the order of paths, and the facts that stay in a step.
 //!
-//! What goes in: facts. What comes out: those on a path, of few facts all, of many those of a near path by its place and those of any other by binary search;
-//! the ints and the arrays that they name, each once.
-//! The contract: `Grouped` has the facts that name a path; `PathSet` is a set of paths in order.
-//! It stands on `ix_fact_paths` for the order of paths, on `ix_core` for facts.
-//! It never looks at what facts say of their paths.
+//! What goes in: facts, a path, an operation, landmarks. What comes out: the facts on a path, of few facts all, of many those of a near path by its place and those of any other by binary
+//! search; the ints and the arrays that facts name, each once; whether a fact names a path that is changed, and the facts that are kept.
+//! The contract: `Grouped` has the facts that name a path; `PathSet` is a set of paths in order; the definitions of `ix_facts` on names, orders of paths and rounding, exactly.
+//! It stands on `ix_facts` for facts.
+//! It never looks at what facts say of their paths, nor at what follows from them.
 #![tactic(auto)]
 
 mod by_path;
@@ -23,11 +23,11 @@ mod path_set;
 mod room;
 mod spared;
 
-pub use ix_facts::is_same_path;
 pub use by_slot::{PLACES, near_place};
 pub use filters::{facts_without_path, facts_without_target, rounded_facts};
 pub use forget::{is_of_path, is_of_target, names_path, names_target};
 pub use grouped::Grouped;
+pub use ix_facts::is_same_path;
 pub use named::{ints_and_arrays, ints_and_arrays_among, with_ints};
 pub use orders::{have_one_order, in_all_orders};
 pub use path_index::PathIndex;

@@ -9,9 +9,9 @@ ghost use Rattle.ix_path_index.specs.NamedLaws.{AreAmong};
 ghost use Rattle.ix_path_index.specs.PutLaws.{IsRising};
 ghost use Rattle.ix_path_index.specs.PutUntil.{IsPutUntil};
 
+use crate::path_order::compare_paths;
 use crate::path_set::PathSet;
 use ix_core::{Fact, Path, PathOff};
-use crate::path_order::compare_paths;
 use std::alloc::{AllocError, Global};
 use std::cmp::Ordering;
 

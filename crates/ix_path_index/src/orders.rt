@@ -4,8 +4,8 @@ ghost use Rattle.std.specs.Prelude.{◌≡◌, ◌≤◌, ◌+◌, ◌∷◌, �
 ghost use Rattle.std.specs.Vec.{vec_len, vec_capacity};
 ghost use Rattle.ix_facts.specs.Facts.{orders, is_default, in_orders};
 
-use ix_core::{Fact, PathOff};
 use crate::room::room_for;
+use ix_core::{Fact, PathOff};
 use std::alloc::{AllocError, Global};
 
 /// The fact in its other order, if it has one.

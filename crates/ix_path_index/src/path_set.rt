@@ -9,8 +9,8 @@ ghost use Rattle.ix_path_index.specs.PutLaws.{IsRising};
 
 use crate::by_path::is_before;
 use crate::marks::Marks;
-use ix_core::Path;
 use crate::path_order::compare_paths;
+use ix_core::Path;
 use std::alloc::{AllocError, Global};
 use std::marker::Model;
 

@@ -10,12 +10,12 @@ ghost use Rattle.ix_playing.specs.Runs as spec;
 ghost use Rattle.ix_answer.specs.Answer.{err_answer};
 ghost use Rattle.ix_answer.specs.Replies.{shown};
 
+use crate::running::{RunEnd, run};
 use ix_answer::{Reply, Status, on_err, say, wanting};
 use ix_core::Program;
 use ix_machine::{Limits as MachineLimits, Machine, StartError};
 use ix_outside::{Sink, WriteError};
 use ix_report::{no_entry, too_large, unmet, wrong_count, wrong_kind};
-use crate::running::{RunEnd, run};
 use ix_text::LineMap;
 use ix_words::Limits;
 use std::alloc::{AllocError, Global};

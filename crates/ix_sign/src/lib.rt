@@ -1,8 +1,9 @@
-//! The rules of one method: what each operation gives, and which errors it has.
+//! The rules of one method: what each operation gives, calls and accesses to fields among them, and which errors it has.
 //!
-//! What goes in: a program, one of its methods, a profile, an operation, and the store before it. What comes out: the store behind it.
+//! What goes in: a program, one of its methods, a profile, an operation, and the store before it. What comes out: the store behind it; also the one at the method's entry, and the one
+//! where the answer of a call is known.
 //! The contract: the rules of the method as rules of flow, with their laws; each store is the least that they give.
-//! It stands on `ix_sign` for calls and fields, on `ix_store` for all other operations, on `ix_flow` for what a rule of flow is.
+//! It stands on `ix_store` for stores, on `ix_claim_facts` for what claims add, on `ix_flow` for what a rule of flow is.
 //! It never looks at how a body is put together, nor makes a list of errors.
 #![tactic(auto)]
 
@@ -14,11 +15,9 @@ mod told;
 mod variable;
 mod variables;
 
-pub use ix_claim_facts::{Naming, param_slot, push_claims};
-pub use ix_store::Store;
-pub use calls::{after_call, after_super};
 pub use entry::enter;
-pub use fields::{after_read, after_write};
+pub use ix_claim_facts::Naming;
+pub use ix_store::Store;
 pub use operations::after;
 pub use told::tell;
 pub use variable::Variable;

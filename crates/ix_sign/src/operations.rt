@@ -8,12 +8,12 @@ ghost use Rattle.ix_claim_facts.specs.Naming.{HasSmallNames, HaveSmallNames};
 ghost use Rattle.ix_claim_facts.specs.Signs.{Adds, IsLeastOf};
 ghost use Rattle.ix_sign.specs.MethodRules.{copied_claims, AfterGives};
 
-use crate::variables::variable_at;
-use ix_core::{Fact, Method, Op, OpKind, Path, Profile, Program};
-use ix_claim_facts::{Naming, push_claims};
-use ix_store::Store;
 use crate::calls::{after_call, after_super};
 use crate::fields::{after_read, after_write};
+use crate::variables::variable_at;
+use ix_claim_facts::{Naming, push_claims};
+use ix_core::{Fact, Method, Op, OpKind, Path, Profile, Program};
+use ix_store::Store;
 use std::alloc::{AllocError, Global};
 
 /// What the claims of the variable that a copy goes into add.

@@ -7,8 +7,8 @@ ghost use Rattle.ix_claim_facts.specs.Naming.{AreSmallClaims, HasSmallNames};
 ghost use Rattle.ix_sign.specs.Shown.{shown};
 
 use crate::variable::Variable;
-use ix_core::{Local, Method, Name};
 use ix_claim_facts::param_slot;
+use ix_core::{Local, Method, Name};
 use ix_text::Span;
 
 /// Whether the parameter has the slot.

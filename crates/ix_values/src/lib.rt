@@ -1,8 +1,9 @@
-//! What expressions mean, and their types (JLS 15).
+//! What names mean at a place, the rules on names and types, and what expressions mean, with their types (JLS 6.5, 15).
 //!
-//! What goes in: an expression of the tree, and what names mean at its place. What comes out: its type, and the notes of all that it says.
-//! The contract: `reading` of `ix_meaning`'s `Values`.
-//! It stands on the names and rules of `ix_scopes`.
+//! What goes in: a name or an expression of the tree, the members of all classes, and the parameters and locals in scope. What comes out: what the name means there, also in an
+//! annotation; the type of the expression; and the notes of all that it says, with an error for each rule that is broken.
+//! The contract: `reading` of `ix_meaning`'s `Values`, and its `Scope` and `Rules`.
+//! It stands on `ix_world`, and on `indexmap` for the names of locals.
 //! It never looks at a statement.
 #![tactic(auto)]
 
@@ -15,13 +16,10 @@ mod values;
 
 pub use ix_types::{BOOLEAN, Need};
 pub use ix_world::{
-    Annotations, Begun, Called, Declaration, World, begin_with, created, further_annotations,
-    of_variable, own_annotations, variable,
+    Annotations, Begun, Declaration, World, begin_with, further_annotations, of_variable,
+    own_annotations, variable,
 };
 pub use naming::InAnnotation;
-pub use rules::{
-    cannot_compare, final_assigned, list_mismatch, not_static, note_declared, note_type, note_use,
-    null_mismatch, type_mismatch, wrong, wrong_if,
-};
+pub use rules::{note_declared, wrong, wrong_if};
 pub use scope::{Known, Local, Param, Scopes};
 pub use values::{arguments, check, fill, given_to, value};

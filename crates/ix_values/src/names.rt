@@ -7,14 +7,14 @@ ghost use Rattle.ix_values.specs.Here.{here, known_as};
 ghost use Rattle.ix_values.specs.Objects as objects;
 ghost use Rattle.ix_world.specs.World as tables;
 
+use crate::rules::{final_assigned, not_static, note_type, note_use, wrong, wrong_if};
+use crate::scope::{Known, Scopes};
 use ix_core::Type_;
 use ix_meaning::{Field, Meaning, Note, Rule};
-use crate::scope::{Known, Scopes};
-use ix_world::World;
-use crate::rules::{final_assigned, not_static, note_type, note_use, wrong, wrong_if};
 use ix_text::{List, Span};
 use ix_tree::Ident;
 use ix_types::{copied_option, is_reference};
+use ix_world::World;
 use std::alloc::{AllocError, Global};
 
 /// What stands before a dot.

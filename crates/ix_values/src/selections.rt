@@ -12,15 +12,15 @@ ghost use Rattle.ix_values.specs.Objects as objects;
 ghost use Rattle.ix_world.specs.World as tables;
 
 use crate::names::{Object, field_use};
+use crate::rules::{cannot_compare, note_use, null_mismatch, wrong, wrong_if};
+use crate::scope::Scopes;
 use ix_core::{Base, Type_};
 use ix_meaning::{Meaning, Note, Rule};
 use ix_num::Rel;
-use crate::scope::Scopes;
-use ix_world::World;
-use crate::rules::{cannot_compare, note_use, null_mismatch, wrong, wrong_if};
 use ix_text::{List, Span};
 use ix_tree::{BinaryOp, Expr, ExprKind, Ident};
 use ix_types::{INT, copied_option, element, need_like};
+use ix_world::World;
 use std::alloc::{AllocError, Global};
 
 pub fn is_null(e: &Expr) -> bool

@@ -13,17 +13,19 @@ ghost use Rattle.ix_values.specs.Objects as objects;
 ghost use Rattle.ix_world.specs.World as tables;
 
 use crate::names::{Object, name_before_dot, object_of, variable};
+use crate::rules::{
+    list_mismatch, not_static, note_type, note_use, null_mismatch, type_mismatch, wrong, wrong_if,
+};
+use crate::scope::Scopes;
 use crate::selections::{
     compared, element_if, element_in, is_equality, is_null, is_this, selected,
 };
 use ix_core::{Base, Type_};
 use ix_meaning::{Meaning, Note, Rule};
-use ix_world::{Called, World, created};
-use crate::scope::Scopes;
-use crate::rules::{list_mismatch, not_static, note_type, note_use, null_mismatch, type_mismatch, wrong, wrong_if};
 use ix_text::{List, Span};
 use ix_tree::{BinaryOp, Expr, ExprKind, Ident, Init, TypeTree, UnaryOp};
 use ix_types::{BOOLEAN, INT, Need, copied_option, need_like};
+use ix_world::{Called, World, created};
 use std::alloc::{AllocError, Global};
 
 /// The type of the expression at that place, which is noted.
