@@ -7,4 +7,4 @@ use Rattle.ix_store.proofs.known.Known.by_path.Goals as goal
 pub of_lists-requires-clause-small : goal.of_lists-requires-clause-small
 of_lists-requires-clause-small c =
     let is : c.in_ok-facts.facts.items ≡ facts_in c.args.self.now = search rules in
-    subst (λ l. All HasSmallNumbers l) (sym is) (all_small c.args.self.now.table c.args.self.now.full)
+    subst (λ l. All HasSmallNumbers l) (sym is) (all_small c.args.self.now.table c.args.self.now.holds.full)
