@@ -78,3 +78,10 @@ no_word line no_Rng no_LenRng no_Low no_Same no_IsLen no_Less no_Sum no_Search n
 -- a sum of paths that were read
 pub some_Sum : (t u y v z w : Path) → u ≡ t → v ≡ y → w ≡ z → Some (Sum u v w) ≡ Some (Sum t y z)
 some_Sum t u y v z w is one two = ap Some (ap (λ x. Sum x v w) is ∙ (ap (λ x. Sum t x w) one ∙ ap (Sum t y) two))
+
+-- so of a difference, and of what an int is at least
+pub some_Less : (p u q v : Path) (c d : ℤ) → u ≡ p → v ≡ q → d ≡ c → Some (Less u v d) ≡ Some (Less p q c)
+some_Less p u q v c d one two is = ap Some (ap (λ x. Less x v d) one ∙ (ap (λ x. Less p x d) two ∙ ap (Less p q) is))
+
+pub some_Low : (p u : Path) (c d : ℤ) → u ≡ p → d ≡ c → Some (Low u d) ≡ Some (Low p c)
+some_Low p u c d one is = ap Some (ap (λ x. Low x d) one ∙ ap (Low p) is)
