@@ -1,8 +1,7 @@
-use Rattle.std.proofs.Common.{sym, ap, ◌∙◌, arith, to_z, of_z, w64}
-use Rattle.std.proofs.lemmas.Int.{to_z-of_z}
+use Rattle.std.proofs.Common.{sym, ◌∙◌, arith}
 use Rattle.std.specs.Fmt.{signed_decimal}
 use Rattle.ix_cert.proofs.Bytes.{lacks_no, cut_once, signed_lacks, none_some, some_same}
-use Rattle.ix_cert.proofs.Numbers.{fits_w64}
+use Rattle.ix_cert.proofs.Numbers.{read_w64}
 use Rattle.ix_cert.proofs.words.ends.Goals as goal
 
 pub returns-in_err-first : goal.returns-in_err-first
@@ -24,6 +23,6 @@ pub returns : goal.returns
 returns c = λ l k x y e.
     let cut = c.in_ok-first.ensures.found in
     let same = cut_once 32 _ _ (signed_decimal l) (signed_decimal k) cut.0 (signed_lacks 32 l (omega arith) (λ k. omega arith) x) (sym cut.1 ∙ e) in (
-      ap (λ n. to_z w64 (of_z w64 n)) (some_same c.in_ok-end.field-0 l (c.in_ok-end.ensures l x same.0)) ∙ to_z-of_z w64 l (fits_w64 l x),
-      ap (λ n. to_z w64 (of_z w64 n)) (some_same c.in_ok-end-2.field-0 k (c.in_ok-end-2.ensures k y same.1)) ∙ to_z-of_z w64 k (fits_w64 k y),
+      read_w64 _ l x (some_same c.in_ok-end.field-0 l (c.in_ok-end.ensures l x same.0)),
+      read_w64 _ k y (some_same c.in_ok-end-2.field-0 k (c.in_ok-end-2.ensures k y same.1)),
     )

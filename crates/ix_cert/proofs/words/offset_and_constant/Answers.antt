@@ -1,10 +1,9 @@
-use Rattle.std.proofs.Common.{sym, ap, ◌∙◌, arith, to_z, of_z, w32}
-use Rattle.std.proofs.lemmas.Int.{to_z-of_z}
+use Rattle.std.proofs.Common.{sym, ◌∙◌, arith}
 use Rattle.std.specs.Fmt.{signed_decimal}
 use Rattle.ix_cert.specs.Reading.{offset_text}
 use Rattle.ix_cert.proofs.Bytes.{lacks_no, cut_once, none_some, some_same}
 use Rattle.ix_cert.proofs.Orders.{offset_lacks}
-use Rattle.ix_cert.proofs.Numbers.{fits_w32}
+use Rattle.ix_cert.proofs.Numbers.{read_w32}
 use Rattle.ix_cert.proofs.words.offset_and_constant.Goals as goal
 
 pub returns-in_err-first : goal.returns-in_err-first
@@ -26,4 +25,4 @@ pub returns : goal.returns
 returns c = λ o k x y e.
     let cut = c.in_ok-first.ensures.found in
     let same = cut_once 32 _ _ (offset_text o) (signed_decimal k) cut.0 (offset_lacks 32 o (omega arith) (omega arith) x) (sym cut.1 ∙ e) in
-    (some_same c.in_ok-offset.field-0 o (c.in_ok-offset.ensures o x same.0), ap (λ n. to_z w32 (of_z w32 n)) (some_same c.in_ok-constant.field-0 k (c.in_ok-constant.ensures k y same.1)) ∙ to_z-of_z w32 k (fits_w32 k y))
+    (some_same c.in_ok-offset.field-0 o (c.in_ok-offset.ensures o x same.0), read_w32 _ k y (some_same c.in_ok-constant.field-0 k (c.in_ok-constant.ensures k y same.1)))
