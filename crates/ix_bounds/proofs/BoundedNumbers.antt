@@ -18,6 +18,9 @@ end_kept n p = to_z-of_z w64 n (omega (arith, ints, p.above, p.below))
 pub limit_kept : (n : ℤ) → IsLimit n → kept n ≡ n
 limit_kept n p = to_z-of_z w64 n (omega (arith, ints, p.above, p.below))
 
+pub end_limit : (n : ℤ) → IsEnd n → IsLimit n
+end_limit n p = record { above = omega (arith, ints, p.above); below = omega (arith, ints, p.below) }
+
 pub bound_kept : (n : ℤ) → IsBound n → kept n ≡ n
 bound_kept n p = to_z-of_z w64 n (omega (arith, ints, p.above, p.below))
 

@@ -10,8 +10,8 @@ use ix_facts::{Fact, Path, is_same_path};
 fn says_same(a: &Path, b: &Path, fact: &Fact) -> bool
     ensures { result ≡ spec.says_same a.now b.now fact.now }
 {
-    match *fact {
-        Fact::Same(c, d) => is_same_path(&c, a) && is_same_path(&d, b),
+    match fact {
+        Fact::Same(c, d) => is_same_path(c, a) && is_same_path(d, b),
         _ => false,
     }
 }
@@ -44,8 +44,8 @@ pub(crate) fn are_same<G: Groups>(facts: &G, a: &Path, b: &Path) -> bool
 fn says_length(p: &Path, a: &Path, fact: &Fact) -> bool
     ensures { result ≡ is_length p.now a.now fact.now }
 {
-    match *fact {
-        Fact::IsLen(q, b) => is_same_path(&q, p) && is_same_path(&b, a),
+    match fact {
+        Fact::IsLen(q, b) => is_same_path(q, p) && is_same_path(b, a),
         _ => false,
     }
 }
@@ -53,8 +53,8 @@ fn says_length(p: &Path, a: &Path, fact: &Fact) -> bool
 fn says_search(p: &Path, a: &Path, fact: &Fact) -> bool
     ensures { result ≡ is_search p.now a.now fact.now }
 {
-    match *fact {
-        Fact::Search(q, b) => is_same_path(&q, p) && is_same_path(&b, a),
+    match fact {
+        Fact::Search(q, b) => is_same_path(q, p) && is_same_path(b, a),
         _ => false,
     }
 }
@@ -62,8 +62,8 @@ fn says_search(p: &Path, a: &Path, fact: &Fact) -> bool
 fn says_negative(p: &Path, a: &Path, fact: &Fact) -> bool
     ensures { result ≡ is_negative p.now a.now fact.now }
 {
-    match *fact {
-        Fact::Neg(q, b) => is_same_path(&q, p) && is_same_path(&b, a),
+    match fact {
+        Fact::Neg(q, b) => is_same_path(q, p) && is_same_path(b, a),
         _ => false,
     }
 }

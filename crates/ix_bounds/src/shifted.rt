@@ -23,9 +23,9 @@ fn offset_moved<G: Groups>(facts: &G, c: i64, from: &PathOff, to: &PathOff) -> O
       small : IfSome result IsLimit;
     } }
 {
-    match (*from, *to) {
-        (PathOff::Plus(q), PathOff::Plus(r)) => through(c, stored_less(facts, &r, &q)),
-        (PathOff::Minus(q), PathOff::Minus(r)) => through(c, stored_less(facts, &q, &r)),
+    match (from, to) {
+        (PathOff::Plus(q), PathOff::Plus(r)) => through(c, stored_less(facts, r, q)),
+        (PathOff::Minus(q), PathOff::Minus(r)) => through(c, stored_less(facts, q, r)),
         _ => None,
     }
 }

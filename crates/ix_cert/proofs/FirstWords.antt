@@ -78,3 +78,20 @@ no_word line no_Rng no_LenRng no_Low no_Same no_IsLen no_Less no_Sum no_Search n
 -- a sum of paths that were read
 pub some_Sum : (t u y v z w : Path) → u ≡ t → v ≡ y → w ≡ z → Some (Sum u v w) ≡ Some (Sum t y z)
 some_Sum t u y v z w is one two = ap Some (ap (λ x. Sum x v w) is ∙ (ap (λ x. Sum t x w) one ∙ ap (Sum t y) two))
+
+-- so of a difference, and of what an int is at least
+pub some_Less : (p u q v : Path) (c d : ℤ) → u ≡ p → v ≡ q → d ≡ c → Some (Less u v d) ≡ Some (Less p q c)
+some_Less p u q v c d one two is = ap Some (ap (λ x. Less x v d) one ∙ (ap (λ x. Less p x d) two ∙ ap (Less p q) is))
+
+pub some_Low : (p u : Path) (c d : ℤ) → u ≡ p → d ≡ c → Some (Low u d) ≡ Some (Low p c)
+some_Low p u c d one is = ap Some (ap (λ x. Low x d) one ∙ ap (Low p) is)
+
+-- of ranges, and of a bound from an array's end
+pub some_Rng : (p u : Path) (l m h n : ℤ) → u ≡ p → m ≡ l → n ≡ h → Some (Rng u m n) ≡ Some (Rng p l h)
+some_Rng p u l m h n one low high = ap Some (ap (λ x. Rng x m n) one ∙ (ap (λ x. Rng p x n) low ∙ ap (Rng p l) high))
+
+pub some_LenRng : (a u : Path) (l m h n : ℤ) → u ≡ a → m ≡ l → n ≡ h → Some (LenRng u m n) ≡ Some (LenRng a l h)
+some_LenRng a u l m h n one low high = ap Some (ap (λ x. LenRng x m n) one ∙ (ap (λ x. LenRng a x n) low ∙ ap (LenRng a l) high))
+
+pub some_Upper : (p u a v : Path) (o w : PathOff) (c d : ℤ) → u ≡ p → v ≡ a → w ≡ o → d ≡ c → Some (Upper u v w d) ≡ Some (Upper p a o c)
+some_Upper p u a v o w c d one two at is = ap Some (ap (λ x. Upper x v w d) one ∙ (ap (λ x. Upper p x w d) two ∙ (ap (λ x. Upper p a x d) at ∙ ap (Upper p a o) is)))

@@ -1,7 +1,7 @@
 -- Ints fit the types that they are read into.
-use Rattle.std.specs.Prelude.{◌<◌, ◌^◌, ℤ, pos, negsuc}
-use Rattle.std.proofs.Common.{arith, FitsSigned, w32, w64}
-use Rattle.std.proofs.lemmas.Int.{ints}
+use Rattle.std.specs.Prelude.{◌≡◌, ◌<◌, ◌^◌, ℤ, pos, negsuc}
+use Rattle.std.proofs.Common.{arith, ap, ◌∙◌, FitsSigned, w32, w64, to_z, of_z}
+use Rattle.std.proofs.lemmas.Int.{ints, to_z-of_z}
 use Rattle.ix_core.specs.Ints.{IsInt}
 use lib.Signed.{mag}
 
@@ -18,3 +18,10 @@ fits_w32 n int = record { sfits = int_mag n int }
 
 pub fits_w64 : (n : ℤ) → IsInt n → FitsSigned w64 n
 fits_w64 n int = record { sfits = int_small n int }
+
+-- an int that was read, as its type has it
+pub read_w32 : (m n : ℤ) → IsInt n → m ≡ n → to_z w32 (of_z w32 m) ≡ n
+read_w32 m n int is = ap (λ k. to_z w32 (of_z w32 k)) is ∙ to_z-of_z w32 n (fits_w32 n int)
+
+pub read_w64 : (m n : ℤ) → IsInt n → m ≡ n → to_z w64 (of_z w64 m) ≡ n
+read_w64 m n int is = ap (λ k. to_z w64 (of_z w64 k)) is ∙ to_z-of_z w64 n (fits_w64 n int)

@@ -34,8 +34,7 @@ fn add_label(
 ) -> Result<(), AllocError>
     ensures { OnOk result (AddsLabel number (stored store.now) (string_bytes text.old) (string_bytes text.new)) }
 {
-    write!(text, "label {number}\n")?;
-    add_store(alloc, text, store)
+    write!(text, "label {number}\n").and(add_store(alloc, text, store))
 }
 
 /// Adds the labels of a method.
@@ -58,8 +57,7 @@ fn add_method(
     ensures { OnOk result (Adds (IsMethodText number method.now (map stored stores.now)) (string_bytes text.old) (string_bytes text.new)) }
 {
     if !stores.is_empty() {
-        write!(text, "method {number}\n")?;
-        return add_labels(alloc, text, stores);
+        return write!(text, "method {number}\n").and(add_labels(alloc, text, stores));
     }
     Ok(())
 }

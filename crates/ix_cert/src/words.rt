@@ -82,34 +82,28 @@ fn offset(text: &[u8]) -> Option<PathOff>
     Some(PathOff::Nothing)
 }
 
-/// The end before the first space.
-fn first_end(text: &[u8]) -> Option<i64>
-    ensures { (l h : ℤ) → IsInt l → IsInt h → text.now ≡ signed_decimal l ++ 32 ∷ signed_decimal h → result ≡ Some l }
+/// The ends before and behind the first space.
+fn ends(text: &[u8]) -> Option<(i64, i64)>
+    ensures { (l h : ℤ) → IsInt l → IsInt h → text.now ≡ signed_decimal l ++ 32 ∷ signed_decimal h → IsSomeAnd result (λ ends. (ends.0 ≡ l) × (ends.1 ≡ h)) }
 {
-    let (first, _) = cut(text, b' ')?;
-    end(first)
-}
-
-/// The end behind the first space.
-fn last_end(text: &[u8]) -> Option<i64>
-    ensures { (l h : ℤ) → IsInt l → IsInt h → text.now ≡ signed_decimal l ++ 32 ∷ signed_decimal h → result ≡ Some h }
-{
-    let (_, last) = cut(text, b' ')?;
-    end(last)
+    let (first, last) = cut(text, b' ')?;
+    Some((end(first)?, end(last)?))
 }
 
 fn range(text: &[u8]) -> Option<Fact>
     ensures { (p : Path) (l h : ℤ) → IsSmallFact (Fact.Rng p l h) → text.now ≡ args_text (Fact.Rng p l h) → result ≡ Some (Fact.Rng p l h) }
 {
     let (p, rest) = first_path(text)?;
-    Some(Fact::Rng(p, first_end(rest)?, last_end(rest)?))
+    let (low, high) = ends(rest)?;
+    Some(Fact::Rng(p, low, high))
 }
 
 fn length_range(text: &[u8]) -> Option<Fact>
     ensures { (a : Path) (l h : ℤ) → IsSmallFact (Fact.LenRng a l h) → text.now ≡ args_text (Fact.LenRng a l h) → result ≡ Some (Fact.LenRng a l h) }
 {
     let (a, rest) = first_path(text)?;
-    Some(Fact::LenRng(a, first_end(rest)?, last_end(rest)?))
+    let (low, high) = ends(rest)?;
+    Some(Fact::LenRng(a, low, high))
 }
 
 fn low(text: &[u8]) -> Option<Fact>
@@ -163,20 +157,12 @@ fn negative(text: &[u8]) -> Option<Fact>
     Some(Fact::Neg(p, a))
 }
 
-/// The offset before the first space.
-fn first_offset(text: &[u8]) -> Option<PathOff>
-    ensures { (o : PathOff) (c : ℤ) → IsSmallOffset o → IsInt c → text.now ≡ offset_text o ++ 32 ∷ signed_decimal c → result ≡ Some o }
+/// The offset before the first space, and the constant behind it.
+fn offset_and_constant(text: &[u8]) -> Option<(PathOff, i32)>
+    ensures { (o : PathOff) (c : ℤ) → IsSmallOffset o → IsInt c → text.now ≡ offset_text o ++ 32 ∷ signed_decimal c → IsSomeAnd result (λ parts. (parts.0 ≡ o) × (parts.1 ≡ c)) }
 {
-    let (first, _) = cut(text, b' ')?;
-    offset(first)
-}
-
-/// The constant behind the first space.
-fn last_constant(text: &[u8]) -> Option<i32>
-    ensures { (o : PathOff) (c : ℤ) → IsSmallOffset o → IsInt c → text.now ≡ offset_text o ++ 32 ∷ signed_decimal c → result ≡ Some c }
-{
-    let (_, last) = cut(text, b' ')?;
-    constant(last)
+    let (first, last) = cut(text, b' ')?;
+    Some((offset(first)?, constant(last)?))
 }
 
 fn upper(text: &[u8]) -> Option<Fact>
@@ -184,7 +170,8 @@ fn upper(text: &[u8]) -> Option<Fact>
 {
     let (p, rest) = first_path(text)?;
     let (a, rest) = first_path(rest)?;
-    Some(Fact::Upper(p, a, first_offset(rest)?, last_constant(rest)?))
+    let (offset, constant) = offset_and_constant(rest)?;
+    Some(Fact::Upper(p, a, offset, constant))
 }
 
 /// The fact of a line without its end.

@@ -1,5 +1,6 @@
 -- What is made of a statement or a condition, by what is made of its parts.
-use Rattle.std.proofs.Common.{◌≡◌, ℕ, suc, ◌+◌, Bool, true, false, List, [], ◌∷◌, length, length-append, drop, get_or, ◌<◌, arith, refl, ap, sym, ◌∙◌, subst}
+use Rattle.std.proofs.Common.{◌≡◌, ℕ, suc, ◌+◌, Bool, true, false, List, [], ◌∷◌, Result, Ok, Err, length, length-append, drop, get_or, ◌<◌, arith, refl, ap, sym, ◌∙◌, subst}
+use Rattle.std.specs.Result.{IfOk, result_and}
 use Rattle.std.proofs.Math.Seq.{drop-cons}
 use Rattle.std.proofs.Common.{add-one}
 use Rattle.ix_core.specs.declared.code.Item.{Item}
@@ -51,6 +52,43 @@ ask_at : {asked : Condition} {source source' : Source} {holds holds' fails fails
 ask_at {asked} {source} {source'} {holds} {holds'} {fails} {fails'} {leave} {again} {old} {new} starts so not makes =
     subst (λ o. MakesCondition asked o holds' fails' leave again old new) starts
     (subst (λ h. MakesCondition asked source h fails' leave again old new) so (subst (λ f. MakesCondition asked source holds f leave again old new) not makes))
+
+-- a node to which the source leads, and behind which control comes from `last`
+pub node_makes : (item : Code → Code) (kind : Kind) (source : Source) (last : ℕ → Source) (leave again number : ℕ) (old new : Made)
+    → ((at : ℕ) (rest : Code) → behind_code (item rest) at ≡ behind_code rest (suc at))
+    → ((at : ℕ) (rest : Code) (end : ℕ) (more : List Part) → code_parts (item rest) at source end leave again more ≡ NodePart at kind ∷ leads source at (code_parts rest (suc at) (last at) end leave again more))
+    → number ≡ size old → new ≡ led (with_node old kind) source (size old) → MakesItem item source (last number) leave again old new
+node_makes item kind source last leave again number old new numbers parts here made =
+    let grown : size new ≡ suc (size old) = ap size made ∙ (led_size (with_node old kind) source (size old) ∙ node_size old (with_node old kind) kind refl) in
+    record {
+      numbers = λ at rest is. numbers at rest ∙ ap (behind_code rest) (ap suc is ∙ sym grown);
+      parts = λ at rest end more is.
+          let after = code_parts rest (suc at) (last at) end leave again more in
+          ap (with_parts old) (parts at rest end more)
+          ∙ (led_as (with_node old kind) new source at after (made ∙ ap (led (with_node old kind) source) (sym is))
+          ∙ (ap (λ n. with_parts new (code_parts rest n (last at) end leave again more)) (ap suc is ∙ sym grown)
+          ∙ ap (λ n. with_parts new (code_parts rest (size new) (last n) end leave again more)) (is ∙ sym here)));
+    }
+
+-- The source leads to the target, and from nowhere control comes to what follows.
+pub left_makes : (item : Code → Code) (source : Source) (target leave again : ℕ) (old new : Made)
+    → ((at : ℕ) (rest : Code) → behind_code (item rest) at ≡ behind_code rest at)
+    → ((at : ℕ) (rest : Code) (end : ℕ) (more : List Part) → code_parts (item rest) at source end leave again more ≡ leads source target (code_parts rest at Unreached end leave again more))
+    → new ≡ led old source target → MakesItem item source Unreached leave again old new
+left_makes item source target leave again old new numbers parts made =
+    let same : size new ≡ size old = ap size made ∙ led_size old source target in
+    record {
+      numbers = λ at rest is. numbers at rest ∙ ap (behind_code rest) (is ∙ sym same);
+      parts = λ at rest end more is.
+          ap (with_parts old) (parts at rest end more)
+          ∙ (led_as old new source target (code_parts rest at Unreached end leave again more) made
+          ∙ ap (λ n. with_parts new (code_parts rest n Unreached end leave again more)) (is ∙ sym same));
+    }
+
+-- what a call did, where an answer is given behind it
+pub done_then : {A B E : Type 0} (done : Result A E) (answer : B) (whole : Result B E) (P : A → Type 0) (Q : B → Type 0) → whole ≡ result_and done (Ok answer) → IfOk done P → ((one : A) → P one → Q answer) → IfOk whole Q
+done_then (Ok one) answer whole P Q is holds so = subst (λ r. IfOk r Q) (sym is) (so one holds)
+done_then (Err e) answer whole P Q is holds so = subst (λ r. IfOk r Q) (sym is) tt
 
 pub if_makes : (asked : Condition) (first second : Code) (source : Source) (leave again holds fails behind : ℕ) (old m1 m2 m3 m4 m5 new : Made)
     → holds ≡ size old → m1 ≡ with_node old Joins → fails ≡ size m1 → m2 ≡ with_node m1 Joins → behind ≡ size m2 → m3 ≡ with_node m2 Joins
@@ -171,6 +209,22 @@ loop_makes false asked body next source leave0 again0 number scope head turn out
     }
 
 -- ---- conditions
+
+-- the nodes of a loop, added one behind another
+pub turns_added : (kind : Kind) (source : Source) (test_first : Bool) (head turn out again : ℕ) (asked_and_begun : ℕ × ℕ) (old m1 m4 new : Made)
+    → head ≡ size old → m1 ≡ with_node old kind → turn ≡ size m1 → out ≡ suc (size m1) → again ≡ suc (suc (size m1)) → m4 ≡ with_node (with_node (with_node m1 Joins) Joins) Joins
+    → asked_and_begun ≡ ordered test_first head turn → new ≡ led m4 source head
+    → AddsTurns old new kind source test_first (record { tested = asked_and_begun.0; begun = asked_and_begun.1; out = out; again = again })
+turns_added kind source test_first head turn out again both old m1 m4 new h e1 t o g e4 is_both e5 =
+    let s1 = node_size old m1 kind e1 in
+    let same : both ≡ ordered test_first (size old) (suc (size old)) = is_both ∙ (ap (λ n. ordered test_first n turn) h ∙ ap (ordered test_first (size old)) (t ∙ s1)) in
+    record {
+      made = e5 ∙ (ap (led m4 source) h ∙ ap (λ m. led m source (size old)) (e4 ∙ ap (λ m. with_node (with_node (with_node m Joins) Joins) Joins) e1));
+      tested = ap (λ (b : ℕ × ℕ). b.0) same;
+      begun = ap (λ (b : ℕ × ℕ). b.1) same;
+      out = o ∙ ap suc s1;
+      again = g ∙ ap (λ n. suc (suc n)) s1;
+    }
 
 -- the same, of the nodes that were added for the loop
 pub turns_makes : (test_first : Bool) (asked : Condition) (body next : Code) (source : Source) (leave again number scope : ℕ) (turns : Turns) (around within : Jumps) (ways : Ways) (old m5 m6 m7 new : Made)

@@ -1,8 +1,9 @@
 //! The nodes and the edges of a graph, made item by item.
 
-ghost use Rattle.std.specs.Prelude.{◌≡◌, [], IfOk};
+ghost use Rattle.std.specs.Prelude.{◌≡◌, suc, [], IfOk};
 ghost use Rattle.ix_core.specs.Code.{block_code, item_code, cond_code};
-ghost use Rattle.ix_graph.specs.Built.{made_of, source_of, with_node, led, size, kind_of, branched, ordered, AddsTurns, MakesCode, MakesItem, MakesCondition};
+ghost use Rattle.ix_graph.specs.Graph.{Joins};
+ghost use Rattle.ix_graph.specs.Built.{made_of, source_of, with_node, with_edge, led, size, kind_of, branched, ordered, AddsTurns, MakesCode, MakesItem, MakesCondition};
 
 use crate::node::{Edge, NodeKind};
 use crate::source::Source;
@@ -106,17 +107,63 @@ impl<'a> Builder<'a> {
         Ok(number)
     }
 
+    /// Adds three nodes where ways meet, and answers their numbers.
+    fn add_joins(&mut self) -> Result<(usize, usize, usize), AllocError>
+        ensures { record {
+          first : IfOk result (λ joins. joins.0 ≡ size (made_of self.old));
+          second : IfOk result (λ joins. joins.1 ≡ suc (size (made_of self.old)));
+          third : IfOk result (λ joins. joins.2 ≡ suc (suc (size (made_of self.old))));
+          added : IfOk result (λ _. made_of self.new ≡ with_node (with_node (with_node (made_of self.old) Joins) Joins) Joins);
+        } }
+    {
+        let first = self.add(NodeKind::Join)?;
+        let second = self.add(NodeKind::Join)?;
+        let third = self.add(NodeKind::Join)?;
+        Ok((first, second, third))
+    }
+
+    /// Adds a node to which the source leads, and answers its number.
+    fn add_behind(&mut self, source: Source<'a>, kind: NodeKind<'a>) -> Result<usize, AllocError>
+        ensures { record {
+          number : IfOk result (λ number. number ≡ size (made_of self.old));
+          led : IfOk result (λ _. made_of self.new ≡ led (with_node (made_of self.old) (kind_of kind.entry)) (source_of source.entry) (size (made_of self.old)));
+        } }
+    {
+        let number = self.add(kind)?;
+        self.lead(source, number).and(Ok(number))
+    }
+
+    /// Adds a node with a test, which leads to where it is true and to where it is false, and answers its number.
+    fn add_test(&mut self, kind: NodeKind<'a>, ways: Ways) -> Result<usize, AllocError>
+        ensures { record {
+          number : IfOk result (λ number. number ≡ size (made_of self.old));
+          led : IfOk result (λ number. made_of self.new ≡ branched (with_node (made_of self.old) (kind_of kind.entry)) number ways.holds ways.fails);
+        } }
+    {
+        let number = self.add(kind)?;
+        self.add_edge(number, Edge::WhenTrue, ways.holds)
+            .and(self.add_edge(number, Edge::WhenFalse, ways.fails))
+            .and(Ok(number))
+    }
+
+    fn add_edge(&mut self, node: usize, edge: Edge, target: usize) -> Result<(), AllocError>
+        ensures { IfOk result (λ _. made_of self.new ≡ with_edge (made_of self.old) node edge target) }
+    {
+        self.edges
+            .push((node, edge, target))
+            .map_err(AllocError::from)
+    }
+
     /// Leads what comes from the source to a node.
     fn lead(&mut self, source: Source<'a>, target: usize) -> Result<(), AllocError>
         ensures led { IfOk result (λ _. made_of self.new ≡ led (made_of self.old) (source_of source.entry) target) }
     {
         match source {
-            Source::Unreached => {}
+            Source::Unreached => Ok(()),
             Source::Onward(node) | Source::Through(node, _) => {
-                self.edges.push((node, Edge::Next, target))?;
+                self.add_edge(node, Edge::Next, target)
             }
         }
-        Ok(())
     }
 
     /// Adds the nodes of a loop, of which the source leads to the head.
@@ -129,17 +176,15 @@ impl<'a> Builder<'a> {
         ensures made { IfOk result (λ turns. AddsTurns (made_of self.old) (made_of self.new) (kind_of head_kind.entry) (source_of source.entry) test_first turns) }
     {
         let head = self.add(head_kind)?;
-        let turn = self.add(NodeKind::Join)?;
-        let out = self.add(NodeKind::Join)?;
-        let again = self.add(NodeKind::Join)?;
-        self.lead(source, head)?;
+        let (turn, out, again) = self.add_joins()?;
         let (tested, begun) = order(test_first, head, turn);
-        Ok(Turns {
+        let turns = Turns {
             tested,
             begun,
             out,
             again,
-        })
+        };
+        self.lead(source, head).and(Ok(turns))
     }
 
     /// Adds a block, from the source to the node `end`.
@@ -172,37 +217,26 @@ impl<'a> Builder<'a> {
     {
         match item {
             Item::Do(op) => {
-                let at = self.add(NodeKind::Do(op))?;
-                self.lead(source, at)?;
+                let at = self.add_behind(source, NodeKind::Do(op))?;
                 Ok(Source::Through(at, op))
             }
             Item::If(cond, first, second) => {
-                let holds = self.add(NodeKind::Join)?;
-                let fails = self.add(NodeKind::Join)?;
-                let behind = self.add(NodeKind::Join)?;
+                let (holds, fails, behind) = self.add_joins()?;
                 self.cond(cond, source, Ways { holds, fails }, jumps)?;
                 self.block(first, Source::Onward(holds), behind, jumps)?;
-                self.block(second, Source::Onward(fails), behind, jumps)?;
-                Ok(Source::Onward(behind))
+                self.block(second, Source::Onward(fails), behind, jumps)
+                    .and(Ok(Source::Onward(behind)))
             }
-            Item::Break => {
-                self.lead(source, jumps.leave)?;
-                Ok(Source::Unreached)
-            }
-            Item::Continue => {
-                self.lead(source, jumps.again)?;
-                Ok(Source::Unreached)
-            }
+            Item::Break => self.lead(source, jumps.leave).and(Ok(Source::Unreached)),
+            Item::Continue => self.lead(source, jumps.again).and(Ok(Source::Unreached)),
             Item::Return(value, span) => {
                 let known = source.written_answer(*value);
-                let at = self.add(NodeKind::Return(*value, known, *span))?;
-                self.lead(source, at)?;
-                Ok(Source::Unreached)
+                self.add_behind(source, NodeKind::Return(*value, known, *span))
+                    .and(Ok(Source::Unreached))
             }
             Item::Throw(_, _) => {
-                let at = self.add(NodeKind::Join)?;
-                self.lead(source, at)?;
-                Ok(Source::Unreached)
+                self.add_behind(source, NodeKind::Join)
+                    .and(Ok(Source::Unreached))
             }
             Item::Loop {
                 test_first,
@@ -217,8 +251,8 @@ impl<'a> Builder<'a> {
                 let within = around.going_on(turns.again);
                 self.cond(cond, Source::Onward(turns.tested), turns.ways(), around)?;
                 self.block(body, Source::Onward(turns.begun), turns.again, within)?;
-                self.block(next, Source::Onward(turns.again), turns.tested, around)?;
-                Ok(Source::Onward(turns.out))
+                self.block(next, Source::Onward(turns.again), turns.tested, around)
+                    .and(Ok(Source::Onward(turns.out)))
             }
         }
     }
@@ -238,13 +272,11 @@ impl<'a> Builder<'a> {
             Cond::Known(true) => self.lead(source, ways.holds),
             Cond::Known(false) => self.lead(source, ways.fails),
             Cond::Compare(block, test) => {
-                let at = self.add(NodeKind::Compare(test))?;
-                self.branch(at, ways.holds, ways.fails)?;
+                let at = self.add_test(NodeKind::Compare(test), ways)?;
                 self.block(block, source, at, jumps)
             }
             Cond::Truth(block, slot) => {
-                let at = self.add(NodeKind::Truth(block, *slot))?;
-                self.branch(at, ways.holds, ways.fails)?;
+                let at = self.add_test(NodeKind::Truth(block, *slot), ways)?;
                 self.block(block, source, at, jumps)
             }
             Cond::Both(first, second) => {
@@ -267,14 +299,5 @@ impl<'a> Builder<'a> {
                 self.cond(asked.get(), source, ways, jumps)
             }
         }
-    }
-
-    /// Leads from a node with a test to where it is true and to where it is false.
-    fn branch(&mut self, node: usize, holds: usize, fails: usize) -> Result<(), AllocError>
-        ensures led { IfOk result (λ _. made_of self.new ≡ branched (made_of self.old) node holds fails) }
-    {
-        self.edges.push((node, Edge::WhenTrue, holds))?;
-        self.edges.push((node, Edge::WhenFalse, fails))?;
-        Ok(())
     }
 }

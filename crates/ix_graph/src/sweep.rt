@@ -43,6 +43,12 @@ fn next<'a>(graph: &Graph<'a>, from: usize, to: usize) -> usize {
 }
 
 impl Order {
+    /// Ends the part to which nodes are added.
+    fn end_part(&mut self, alloc: Global) -> Result<(), AllocError> {
+        let part = mem::replace(&mut self.part, Vec::new(alloc));
+        self.parts.push(part).map_err(AllocError::from)
+    }
+
     /// Counts the ways from a node.
     fn count<'a>(&mut self, graph: &Graph<'a>, node: usize, readers: &[usize]) {
         for reader in readers {
@@ -61,12 +67,10 @@ impl Order {
     ) -> Result<(), AllocError> {
         let begins = self.behind.is_none() && is_head(graph, node);
         if begins || self.behind == Some(node) {
-            let part = mem::replace(&mut self.part, Vec::new(alloc));
-            self.parts.push(part)?;
+            self.end_part(alloc)?;
             self.behind = if begins { Some(behind(node)) } else { None };
         }
-        self.part.push(node)?;
-        Ok(())
+        self.part.push(node).map_err(AllocError::from)
     }
 
     /// The ways from a node are no longer awaited.
@@ -87,6 +91,27 @@ impl Order {
         }
         Ok(())
     }
+
+    /// Gives each node its place, as soon as no way to it is awaited.
+    fn fill<'a>(&mut self, alloc: Global, graph: &Graph<'a>) -> Result<(), AllocError> {
+        for node in 0..graph.nodes.len() {
+            self.count(graph, node, graph.nodes[node].readers.as_slice());
+        }
+        for node in 0..graph.nodes.len() {
+            if self.awaited.get(node) == Some(&0) {
+                self.ready.push(node)?;
+            }
+        }
+        for _ in 0..graph.nodes.len() {
+            if let Some(node) = self.ready.pop() {
+                self.place(alloc, graph, node)?;
+                if let Some(found) = graph.nodes.get(node) {
+                    self.pass(graph, node, found.readers.as_slice())?;
+                }
+            }
+        }
+        self.end_part(alloc)
+    }
 }
 
 /// The nodes of a graph in the order in which their labels can be found: each behind those that lead to it, but for the ways back of loops, and what
@@ -99,27 +124,7 @@ pub fn sweep_parts<'a>(alloc: Global, graph: &Graph<'a>) -> Result<Vec<Vec<usize
         part: Vec::new(alloc),
         behind: None,
     };
-    for node in 0..graph.nodes.len() {
-        order.count(graph, node, graph.nodes[node].readers.as_slice());
-    }
-    for node in 0..graph.nodes.len() {
-        if order.awaited.get(node) == Some(&0) {
-            order.ready.push(node)?;
-        }
-    }
-    for _ in 0..graph.nodes.len() {
-        if let Some(node) = order.ready.pop() {
-            order.place(alloc, graph, node)?;
-            if let Some(found) = graph.nodes.get(node) {
-                order.pass(graph, node, found.readers.as_slice())?;
-            }
-        }
-    }
-    let Order {
-        mut parts,
-        part,
-        ..
-    } = order;
-    parts.push(part)?;
+    order.fill(alloc, graph)?;
+    let Order { parts, .. } = order;
     Ok(parts)
 }

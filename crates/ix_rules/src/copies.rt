@@ -100,9 +100,9 @@ fn push_negative(
 fn push_array_copy(out: &mut Vec<Fact>, t: &Path, s: &Path, fact: &Fact) -> Result<(), AllocError>
     ensures { OnOk result (out.new.items ≡ out.old.items ++ kept (after.array_copied_by t.now s.now fact.now)) }
 {
-    match *fact {
+    match fact {
         Fact::Upper(p, a, offset, c) => {
-            push_upper_if(out, is_same_path(&a, s), &p, t, &offset, c as i64)
+            push_upper_if(out, is_same_path(a, s), p, t, offset, *c as i64)
         }
         _ => Ok(()),
     }
@@ -179,15 +179,15 @@ fn push_sum_copies(
 fn push_copy(out: &mut Vec<Fact>, t: &Path, s: &Path, fact: &Fact) -> Result<(), AllocError>
     ensures { OnOk result (out.new.items ≡ out.old.items ++ kept (after.copied_by t.now s.now fact.now)) }
 {
-    match *fact {
-        Fact::Rng(p, l, h) => push_if(out, is_same_path(&p, s), Fact::Rng(*t, l, h)),
-        Fact::LenRng(a, l, h) => push_if(out, is_same_path(&a, s), Fact::LenRng(*t, l, h)),
-        Fact::Low(p, c) => push_if(out, is_same_path(&p, s), Fact::Low(*t, c)),
-        Fact::Same(a, b) => push_same(out, t, s, &a, &b),
-        Fact::IsLen(p, a) => push_is_len(out, t, s, &p, &a),
-        Fact::Search(p, a) => push_search(out, t, s, &p, &a),
-        Fact::Neg(p, a) => push_negative(out, t, s, &p, &a),
-        Fact::Sum(u, y, z) => push_sum_copies(out, t, s, &u, &y, &z),
+    match fact {
+        Fact::Rng(p, l, h) => push_if(out, is_same_path(p, s), Fact::Rng(*t, *l, *h)),
+        Fact::LenRng(a, l, h) => push_if(out, is_same_path(a, s), Fact::LenRng(*t, *l, *h)),
+        Fact::Low(p, c) => push_if(out, is_same_path(p, s), Fact::Low(*t, *c)),
+        Fact::Same(a, b) => push_same(out, t, s, a, b),
+        Fact::IsLen(p, a) => push_is_len(out, t, s, p, a),
+        Fact::Search(p, a) => push_search(out, t, s, p, a),
+        Fact::Neg(p, a) => push_negative(out, t, s, p, a),
+        Fact::Sum(u, y, z) => push_sum_copies(out, t, s, u, y, z),
         _ => Ok(()),
     }
 }

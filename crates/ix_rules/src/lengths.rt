@@ -24,11 +24,11 @@ fn push_equal(out: &mut Vec<Fact>, test: bool, q: &Path, t: &Path) -> Result<(),
 fn push_length_by(out: &mut Vec<Fact>, t: &Path, a: &Path, fact: &Fact) -> Result<(), AllocError>
     ensures { OnOk result (out.new.items ≡ out.old.items ++ kept (after.length_by [] t.now a.now fact.now)) }
 {
-    match *fact {
+    match fact {
         Fact::Upper(p, b, PathOff::Nothing, c) => {
-            push_less_if(out, is_same_path(&b, a), &p, t, -(c as i64))
+            push_less_if(out, is_same_path(b, a), p, t, -(*c as i64))
         }
-        Fact::IsLen(q, b) => push_equal(out, is_same_path(&b, a), &q, t),
+        Fact::IsLen(q, b) => push_equal(out, is_same_path(b, a), q, t),
         _ => Ok(()),
     }
 }
@@ -67,16 +67,16 @@ pub(crate) fn push_length<K: Know>(
 fn push_new_array_by(out: &mut Vec<Fact>, t: &Path, n: &Path, fact: &Fact) -> Result<(), AllocError>
     ensures { OnOk result (out.new.items ≡ out.old.items ++ kept (after.new_array_by [] t.now n.now fact.now)) }
 {
-    match *fact {
+    match fact {
         Fact::Less(p, q, c) => push_upper_if(
             out,
-            is_same_path(&q, n),
-            &p,
+            is_same_path(q, n),
+            p,
             t,
             &PathOff::Nothing,
-            -(c as i64),
+            -(*c as i64),
         ),
-        Fact::Sum(x, y, z) => push_upper_if(out, is_same_path(&x, n), &y, t, &PathOff::Plus(z), -1),
+        Fact::Sum(x, y, z) => push_upper_if(out, is_same_path(x, n), y, t, &PathOff::Plus(*z), -1),
         _ => Ok(()),
     }
 }
@@ -153,9 +153,9 @@ fn push_flip_arrays<K: Know>(
 fn push_flip_by(out: &mut Vec<Fact>, t: &Path, y: &Path, fact: &Fact) -> Result<(), AllocError>
     ensures { OnOk result (out.new.items ≡ out.old.items ++ kept (after.flip_by [] t.now y.now fact.now)) }
 {
-    match *fact {
+    match fact {
         Fact::Search(p, a) => {
-            push_upper_if(out, is_same_path(&p, y), t, &a, &PathOff::Nothing, -1)
+            push_upper_if(out, is_same_path(p, y), t, a, &PathOff::Nothing, -1)
         }
         _ => Ok(()),
     }

@@ -1,6 +1,6 @@
 -- The facts that code puts together behind a rule are those of the rule.
-use Rattle.std.specs.Prelude.{◌≡◌, Bool, List, ◌++◌, Option, Some, None, IfSome, IfNone}
-use Rattle.std.proofs.Common.{ap, sym, ◌∙◌, subst}
+use Rattle.std.specs.Prelude.{◌≡◌, List, ◌++◌}
+use Rattle.std.proofs.Common.{sym, subst}
 use Rattle.ix_core.specs.declared.claim.Type_.{Type_}
 use Rattle.ix_core.specs.declared.fact.Path.{Path}
 use Rattle.ix_core.specs.declared.fact.Profile.{Profile}
@@ -17,21 +17,13 @@ use Rattle.ix_facts.proofs.ClassesStay.{after_classes, copy_classes}
 use Rattle.ix_facts.proofs.Frame.{in_without}
 use Rattle.ix_facts.specs.SameFacts.{AreSame}
 use Rattle.ix_facts.proofs.Members.{same_itself, same_equal, same_trans, same_app}
-use Rattle.ix_store.specs.declared.known.Known.{Known}
-use Rattle.ix_store.specs.NewFacts.{rest_of, after_new, copy_new}
-use Rattle.ix_store.specs.StoredFacts.{facts_in}
+use Rattle.ix_store.specs.NewFacts.{after_new, copy_new}
 use Rattle.ix_store.proofs.SameStores.{same_store, same_classes}
 use Rattle.ix_store.proofs.ClassesAfter.{told_classes}
 
 -- The store behind a rule is the closed store of any list that has the facts that the rule gives.
 pub given_by : (rule : List Fact → List Fact) (before after : Stored) (known all : List Fact) → before ≡ Reached known → AreSame all (rule known) → IsStoreOf all after → IsGiven rule before after
 given_by rule before after known all is same made = subst (λ s. IsGiven rule s after) (sym is) (same_store all (rule known) after same made)
-
--- what is left where some facts go, or none
-pub rest_left : (is : Path → Bool) (known got : Known) (fewer : Option Known) → got ≡ known → IfNone fewer (without is (facts_in got) ≡ facts_in got) → IfSome fewer (λ rest. facts_in rest ≡ without is (facts_in got))
-    → facts_in (rest_of known fewer) ≡ without is (facts_in known)
-rest_left is known got None e same left = sym (subst (λ k. without is (facts_in k) ≡ facts_in k) e same)
-rest_left is known got (Some rest) e same left = left ∙ ap (λ k. without is (facts_in k)) e
 
 -- ---- an operation
 

@@ -29,14 +29,14 @@ use Rattle.ix_store.proofs.StoresOf.{closed_reached}
 
 itself_closed : (known : Known) → IsClosedOf (facts_in known) (facts_in known)
 itself_closed known = record {
-  says = closed_of_test (facts_in known) known.closed;
+  says = closed_of_test (facts_in known) known.holds.closed;
   only = λ f i. given f i;
   tells = λ f i. (all_may known.table f i).tells;
 }
 
 -- of facts from which its own follow and no others
 pub known_closed : (known : Known) (facts : List Fact) → IsClosedOf facts (facts_in known) → IsStoreOf facts (Reached (facts_in known))
-known_closed known facts closed = closed_reached facts (facts_in known) closed known.full
+known_closed known facts closed = closed_reached facts (facts_in known) closed known.holds.full
 
 pub known_store : (known : Known) → IsStoreOf (facts_in known) (Reached (facts_in known))
 known_store known = known_closed known (facts_in known) (itself_closed known)
@@ -46,7 +46,7 @@ pub known_with_none : (known : Known) (new : List Fact) → new ≡ [] → IsSto
 known_with_none known new none = subst (λ l. IsStoreOf l (Reached (facts_in known))) (sym (ap (λ l. facts_in known ++ l) none ∙ append-nil (facts_in known))) (known_store known)
 
 pub small_orders : (known : Known) → All HasSmallNumbers (in_orders (facts_in known))
-small_orders known = in_orders_small (facts_in known) (all_small known.table known.full)
+small_orders known = in_orders_small (facts_in known) (all_small known.table known.holds.full)
 
 first_small : (n : ℕ) (facts : List Fact) → All HasSmallNumbers facts → All HasSmallNumbers (take n facts)
 first_small zero facts s = All-nil HasSmallNumbers
@@ -70,13 +70,13 @@ fact_at (g ∷ facts) zero f e = let i : f ≡ g = cc in inl i
 fact_at (g ∷ facts) (suc k) f e = inr (fact_at facts k f e)
 
 pub small_at : (known : Known) (k : ℕ) (f : Fact) → slice_get (facts_in known) k ≡ Some f → HasSmallNumbers f
-small_at known k f e = small known.table known.full f (fact_at (facts_in known) k f e)
+small_at known k f e = small known.table known.holds.full f (fact_at (facts_in known) k f e)
 
 pub is_closed_known : (known : Known) → Closed (facts_in known)
-is_closed_known known = closed_of_test (facts_in known) known.closed
+is_closed_known known = closed_of_test (facts_in known) known.holds.closed
 
 -- where they say new facts already
 pub known_says : (known : Known) (new : List Fact) → IsTable (facts_in known ++ of_kind (table_kind known.table) new) (facts_in known) → IsClosedOf (facts_in known ++ new) (facts_in known)
 known_says known new made =
-    let all = any_table (table_kind known.table) (facts_in known) new (facts_in known) known.kind made in
+    let all = any_table (table_kind known.table) (facts_in known) new (facts_in known) known.holds.kind made in
     said_closed (facts_in known) new (is_closed_known known) (λ f i. (all_may known.table f i).tells) (λ f i. all.says f (tables.given f (in_right f (facts_in known) new i)))

@@ -86,16 +86,16 @@ known_named : (of : Fact → List Path) (known : Known) (f : Fact) → IsIn f (f
 known_named of known f i p j = names_it of p (in_orders (facts_in known)) f (in_in_orders f f (facts_in known) i (first_order f) (all_may known.table f i).tells) j
 
 pub fact_ints : (known : Known) (f : Fact) → IsIn f (facts_in known) → AreAmong (ints_of f) known.ints.items
-fact_ints known f i p j = subst (IsAmongPaths p) (sym known.each_int) (all_there (named_ints (in_orders (facts_in known))) [] p (known_named ints_of known f i p j))
+fact_ints known f i p j = subst (IsAmongPaths p) (sym known.holds.each_int) (all_there (named_ints (in_orders (facts_in known))) [] p (known_named ints_of known f i p j))
 
 pub fact_arrays : (known : Known) (f : Fact) → IsIn f (facts_in known) → AreAmong (arrays_of f) known.arrays.items
-fact_arrays known f i p j = subst (IsAmongPaths p) (sym known.each_array) (all_there (named_arrays (in_orders (facts_in known))) [] p (known_named arrays_of known f i p j))
+fact_arrays known f i p j = subst (IsAmongPaths p) (sym known.holds.each_array) (all_there (named_arrays (in_orders (facts_in known))) [] p (known_named arrays_of known f i p j))
 
 pub known_ints : (known : Known) → AreAmong (named_ints (facts_in known)) known.ints.items
 known_ints known p i = let f = named_by ints_of p (facts_in known) i in fact_ints known f.0 f.1 p f.2
 
 pub known_rising : (known : Known) → IsRising known.ints.items
-known_rising known = subst IsRising (sym known.each_int) (all_rise (named_ints (in_orders (facts_in known))) [] tt)
+known_rising known = subst IsRising (sym known.holds.each_int) (all_rise (named_ints (in_orders (facts_in known))) [] tt)
 
 -- the table with new facts
 pub grown_among : (known : Known) (added table : List Fact) (own : Kind) → own ≡ kind.Any → IsTable (facts_in known ++ of_kind own added) table
@@ -116,7 +116,7 @@ common_among known second common is p i =
     let f = named_by ints_of p common i in
     ⊎_elim
     (λ d. absurd (false≢true (sym (is.tells f.0 f.1) ∙ default_is f.0 d)))
-    (λ g. subst (IsAmongPaths p) (sym known.each_int) (all_there (named_ints (in_orders (facts_in known))) [] p (names_it ints_of p (in_orders (facts_in known)) g.0 g.1 (subst (IsAmongPaths p) (sym (covers_ints g.0 f.0 g.2)) f.2))))
+    (λ g. subst (IsAmongPaths p) (sym known.holds.each_int) (all_there (named_ints (in_orders (facts_in known))) [] p (names_it ints_of p (in_orders (facts_in known)) g.0 g.1 (subst (IsAmongPaths p) (sym (covers_ints g.0 f.0 g.2)) f.2))))
     (is.left f.0 f.1)
 
 -- ---- what a step leaves

@@ -101,7 +101,7 @@ known_whole : (known : Known) → list_all compares_two (facts_in known) ≡ tru
 known_whole known two = record {
   proper = entries_proper (facts_in known) (entries_in known.table) two;
   apart = table_apart known.table;
-  closed = (closed_of_test (facts_in known) known.closed, agree (facts_in known) (facts_in known) (known_store known));
+  closed = (closed_of_test (facts_in known) known.holds.closed, agree (facts_in known) (facts_in known) (known_store known));
 }
 
 held_whole : (known : Option Known) (facts : List Fact) → stored_in known ≡ Reached facts → list_all compares_two facts ≡ true → AreAStore facts

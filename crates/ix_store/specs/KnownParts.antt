@@ -14,10 +14,10 @@ use Rattle.ix_store.specs.declared.known.Known.{Known}
 use Rattle.ix_store.specs.StoredFacts.{facts_in}
 
 pub ends_named : (known : Known) (p : Path) → filter (names (is_path p)) (ends_in (take known.ends (in_orders (facts_in known)))) ≡ filter (names (is_path p)) (ends_in (in_orders (facts_in known)))
-ends_named known p = ap (filter (names (is_path p))) known.all_ends
+ends_named known p = ap (filter (names (is_path p))) known.holds.all_ends
 
 pub links_named : (known : Known) (p : Path) → filter (names (is_path p)) (links_in (drop known.from_links (in_orders (facts_in known)))) ≡ filter (names (is_path p)) (links_in (in_orders (facts_in known)))
-links_named known p = ap (filter (names (is_path p))) known.all_links
+links_named known p = ap (filter (names (is_path p))) known.holds.all_links
 
 fewer_behind : (is : Fact → Bool) (k : ℕ) (facts : List Fact) → length (filter is (drop k facts)) ≤ length (filter is facts)
 fewer_behind is zero facts = omega arith
@@ -43,8 +43,8 @@ pub lengths_named : (known : Known) (p : Path) → filter (names (is_path p)) (l
 lengths_named known p =
     let all = in_orders (facts_in known) in
     ap (filter (names (is_path p))) (in_both is_len known.from_links known.ends all
-    (sym (lengths_of_ends (take known.ends all)) ∙ (ap lengths_in known.all_ends ∙ lengths_of_ends all))
-    (sym (lengths_of_links (drop known.from_links all)) ∙ (ap lengths_in known.all_links ∙ lengths_of_links all)))
+    (sym (lengths_of_ends (take known.ends all)) ∙ (ap lengths_in known.holds.all_ends ∙ lengths_of_ends all))
+    (sym (lengths_of_links (drop known.from_links all)) ∙ (ap lengths_in known.holds.all_links ∙ lengths_of_links all)))
 
 pub drop_past : (n : ℕ) (facts : List Fact) → length facts < n → drop n facts ≡ []
 drop_past zero facts h = absurd (omega (arith, h))

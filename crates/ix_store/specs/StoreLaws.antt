@@ -93,8 +93,8 @@ each_full (g ∷ facts) f full i =
 
 small_rank : (known : Known) → table_rank known.table < top_rank
 small_rank known =
-    let within = table_within known.table (λ f i. each_full (facts_in known) f known.full i) in
-    let few = known.few in
+    let within = table_within known.table (λ f i. each_full (facts_in known) f known.holds.full i) in
+    let few = known.holds.few in
     omega (arith, within, few)
 
 falls_by : (a b : Option Known) → IsBelow (stored_in a) (stored_in b) → known_rank b ≤ known_rank a

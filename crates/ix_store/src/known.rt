@@ -30,15 +30,17 @@ pub(crate) struct Known {
     /// The ints and arrays that they name, each once.
     pub(crate) ints: Vec<Path>,
     pub(crate) arrays: Vec<Path>,
-    ghost kind: { table_kind table ≡ kind.Any },
-    ghost orders: { ordered_by (facts_of table) turned ≡ in_orders (facts_of table) },
-    ghost in_ends: { ends ≤ length (in_orders (facts_of table)) },
-    ghost all_ends: { ends_in (take ends (in_orders (facts_of table))) ≡ ends_in (in_orders (facts_of table)) },
-    ghost in_links: { from_links ≤ length (in_orders (facts_of table)) },
-    ghost all_links: { links_in (drop from_links (in_orders (facts_of table))) ≡ links_in (in_orders (facts_of table)) },
-    ghost each_int: { ints.items ≡ put_all [] (named_ints (in_orders (facts_of table))) },
-    ghost each_array: { arrays.items ≡ put_all [] (named_arrays (in_orders (facts_of table))) },
-    ghost full: { some_empty (facts_of table) ≡ false },
-    ghost closed: { AreClosed (facts_of table) },
-    ghost few: { length (facts_of table) < 2 ^ 64 },
+    ghost holds: { record {
+      kind : table_kind table ≡ kind.Any;
+      orders : ordered_by (facts_of table) turned ≡ in_orders (facts_of table);
+      in_ends : ends ≤ length (in_orders (facts_of table));
+      all_ends : ends_in (take ends (in_orders (facts_of table))) ≡ ends_in (in_orders (facts_of table));
+      in_links : from_links ≤ length (in_orders (facts_of table));
+      all_links : links_in (drop from_links (in_orders (facts_of table))) ≡ links_in (in_orders (facts_of table));
+      each_int : ints.items ≡ put_all [] (named_ints (in_orders (facts_of table)));
+      each_array : arrays.items ≡ put_all [] (named_arrays (in_orders (facts_of table)));
+      full : some_empty (facts_of table) ≡ false;
+      closed : AreClosed (facts_of table);
+      few : length (facts_of table) < 2 ^ 64;
+    } },
 }

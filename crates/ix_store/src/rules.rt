@@ -5,10 +5,9 @@ ghost use Rattle.ix_core.specs.declared.fact.Fact.{Fact};
 ghost use Rattle.ix_facts.specs.Closure.{Closed, IsClosedOf};
 ghost use Rattle.ix_facts.specs.Stores.{Unreachable, Reached, IsStoreOf, IsAfter, IsCopied, IsTold, IsAssumed, IsAdded, IsForgotten, IsRounded, IsProved};
 ghost use Rattle.ix_facts.specs.Systems.{HaveClasses};
-ghost use Rattle.ix_facts.specs.Forget.{of_path, of_field, of_call};
+ghost use Rattle.ix_facts.specs.Forget.{without, of_path, of_field, of_call};
 ghost use Rattle.ix_changes.specs.ChangedPaths.{is_spared, is_final, of_called, of_parent, is_changed};
 ghost use Rattle.ix_closure.specs.FactTables.{facts_of};
-ghost use Rattle.ix_store.specs.NewFacts.{rest_of};
 ghost use Rattle.ix_store.specs.StoredFacts.{facts_in, stored};
 ghost use Rattle.ix_store.specs.StoreOrder.{nowhere};
 ghost use Rattle.ix_outcomes.specs.OverGroups.{outcome_of};
@@ -43,27 +42,29 @@ fn of_table(alloc: Global, over: TableOver) -> Result<Store, AllocError>
     }
 }
 
-/// The facts that are left, or all.
-fn rest<'a>(known: &'a Joint<Known>, fewer: &'a Option<Known>) -> &'a Known
-    ensures { result.now ≡ rest_of known.now fewer.now }
+/// The store of known facts, held jointly.
+fn held(known: &Joint<Known>) -> Result<Store, AllocError>
+    ensures { IfOk result (λ store. stored store ≡ Reached (facts_in known.now)) }
 {
-    match fewer {
-        Some(fewer) => fewer,
-        None => known.get(),
+    let known = known.join()?;
+    Ok(Store { known: Some(known) })
+}
+
+/// The facts that name no changed path; held jointly where all facts are such.
+fn left(alloc: Global, known: &Joint<Known>, changed: &Changed) -> Result<Joint<Known>, AllocError>
+    ensures { IfOk result (λ left. facts_in left ≡ without (is_changed changed.now) (facts_in known.now)) }
+{
+    match known.get().beside(alloc, changed)? {
+        None => known.join(),
+        Some(fewer) => Joint::new(alloc, fewer),
     }
 }
 
-/// The store of the facts that are left; held jointly where these are all.
-fn held(alloc: Global, known: &Joint<Known>, fewer: Option<Known>) -> Result<Store, AllocError>
-    ensures { IfOk result (λ store. stored store ≡ Reached (facts_in (rest_of known.now fewer))) }
+/// No facts.
+fn nothing(alloc: Global) -> Result<Joint<Known>, AllocError>
+    ensures { IfOk result (λ none. facts_in none ≡ []) }
 {
-    match fewer {
-        Some(fewer) => reached(alloc, fewer),
-        None => {
-            let known = known.join()?;
-            Ok(Store { known: Some(known) })
-        }
-    }
+    Joint::new(alloc, Known::none(alloc)?)
 }
 
 fn is_none(facts: &[Fact]) -> bool
@@ -72,32 +73,19 @@ fn is_none(facts: &[Fact]) -> bool
     facts.is_empty()
 }
 
-/// The closed store of new facts and of those that are left; held jointly where nothing is new and nothing goes.
-fn behind(
-    alloc: Global,
-    known: &Joint<Known>,
-    fewer: Option<Known>,
-    new: Vec<Fact>,
-) -> Result<Store, AllocError>
-    requires classes { HaveClasses new.items }
-    ensures store { IfOk result (λ store. IsStoreOf (facts_in (rest_of known.now fewer) ++ new.items) (stored store)) }
-{
-    if is_none(&new) {
-        drop(new);
-        return held(alloc, known, fewer);
-    }
-    match rest(known, &fewer).grown(alloc, new)? {
-        None => held(alloc, known, fewer),
-        Some(over) => of_table(alloc, over),
-    }
-}
-
-/// The closed store with new facts; held jointly where they say nothing new.
+/// The closed store of known facts and new ones; held jointly where these say nothing new.
 fn with_new(alloc: Global, known: &Joint<Known>, new: Vec<Fact>) -> Result<Store, AllocError>
     requires classes { HaveClasses new.items }
     ensures store { IfOk result (λ store. IsStoreOf (facts_in known.now ++ new.items) (stored store)) }
 {
-    behind(alloc, known, None, new)
+    if is_none(&new) {
+        drop(new);
+        return held(known);
+    }
+    match known.get().grown(alloc, new)? {
+        None => held(known),
+        Some(over) => of_table(alloc, over),
+    }
 }
 
 impl Store {
@@ -121,12 +109,9 @@ impl Store {
         requires classes { HaveClasses facts.now }
         ensures store { IfOk result (λ store. IsStoreOf facts.now (stored store)) }
     {
-        let none = Known::none(alloc)?;
+        let none = nothing(alloc)?;
         let told = Vec::from_slice(alloc, facts)?;
-        match none.grown(alloc, told)? {
-            None => reached(alloc, none),
-            Some(over) => of_table(alloc, over),
-        }
+        with_new(alloc, &none, told)
     }
 
     /// The store behind an operation that is no call and touches no field. The only error is want of memory.
@@ -136,10 +121,9 @@ impl Store {
         let Some(known) = &self.known else {
             return Ok(Store::unreachable());
         };
-        let changed = Changed::Target(kind);
-        let fewer = known.get().beside(alloc, &changed)?;
-        let new = rest(known, &fewer).after(alloc, profile, kind)?;
-        behind(alloc, known, fewer, new)
+        let left = left(alloc, known, &Changed::Target(kind))?;
+        let new = left.get().after(alloc, profile, kind)?;
+        with_new(alloc, &left, new)
     }
 
     /// The store behind a copy of the value of one path to another. The only error is want of memory.
@@ -155,10 +139,9 @@ impl Store {
         let Some(known) = &self.known else {
             return Ok(Store::unreachable());
         };
-        let changed = Changed::At(*target);
-        let fewer = known.get().beside(alloc, &changed)?;
-        let new = rest(known, &fewer).copy(alloc, ty, target, source)?;
-        behind(alloc, known, fewer, new)
+        let left = left(alloc, known, &Changed::At(*target))?;
+        let new = left.get().copy(alloc, ty, target, source)?;
+        with_new(alloc, &left, new)
     }
 
     /// The store where an outcome is told. The only error is want of memory.
@@ -248,8 +231,8 @@ impl Store {
         let Some(known) = &self.known else {
             return Ok(Store::unreachable());
         };
-        let fewer = known.get().beside(alloc, changed)?;
-        held(alloc, known, fewer)
+        let left = left(alloc, known, changed)?;
+        Ok(Store { known: Some(left) })
     }
 
     /// The store of a loop's label: without the facts that name a slot from `scope` on, the constants of the others moved to landmarks. The only error is want of memory.

@@ -25,14 +25,14 @@ over_with-requires c =
     let more = c.in_ok-more.more.items in
     let first = c.args.first in
     let whole = c.in_ok-whole.whole in
-    let told : IsTable (facts ++ new) (facts_of first) = any_table own facts new (facts_of first) known.kind c.requires.table in
+    let told : IsTable (facts ++ new) (facts_of first) = any_table own facts new (facts_of first) known.holds.kind c.requires.table in
     let both : IsTable (facts_of first ++ more) (facts_of whole) =
-    any_table (table_kind first) (facts_of first) more (facts_of whole) (c.requires.kind ∙ known.kind) (subst (λ l. IsTable (facts_of first ++ of_kind (table_kind first) l) (facts_of whole)) c.deref-2.ensures.value c.in_ok-whole.ensures.table) in
+    any_table (table_kind first) (facts_of first) more (facts_of whole) (c.requires.kind ∙ known.holds.kind) (subst (λ l. IsTable (facts_of first ++ of_kind (table_kind first) l) (facts_of whole)) c.deref-2.ensures.value c.in_ok-whole.ensures.table) in
     let all : IsTable (facts ++ (new ++ more)) (facts_of whole) = table_in_turn facts new more (facts_of first) (facts_of whole) told both in
     let added : c.deref-4.result.now ≡ new ++ more = c.deref-4.ensures.value ∙ (c.in_ok-extend_from_slice.ensures.items ∙ ap (λ l. new ++ l) c.deref-3.ensures.value) in
     record {
       kind = c.in_ok-whole.ensures.kind ∙ c.requires.kind;
-      table = table_any own facts c.deref-4.result.now (facts_of whole) known.kind (subst (λ l. IsTable (facts ++ l) (facts_of whole)) (sym added) all);
+      table = table_any own facts c.deref-4.result.now (facts_of whole) known.holds.kind (subst (λ l. IsTable (facts ++ l) (facts_of whole)) (sym added) all);
     }
 
 pub returns : goal.returns
@@ -44,9 +44,9 @@ returns c =
     let more = c.in_ok-more.more.items in
     let first = c.args.first in
     let whole = c.in_ok-whole.whole in
-    let told : IsTable (facts ++ new) (facts_of first) = any_table own facts new (facts_of first) known.kind c.requires.table in
+    let told : IsTable (facts ++ new) (facts_of first) = any_table own facts new (facts_of first) known.holds.kind c.requires.table in
     let both : IsTable (facts_of first ++ more) (facts_of whole) =
-    any_table (table_kind first) (facts_of first) more (facts_of whole) (c.requires.kind ∙ known.kind) (subst (λ l. IsTable (facts_of first ++ of_kind (table_kind first) l) (facts_of whole)) c.deref-2.ensures.value c.in_ok-whole.ensures.table) in
+    any_table (table_kind first) (facts_of first) more (facts_of whole) (c.requires.kind ∙ known.holds.kind) (subst (λ l. IsTable (facts_of first ++ of_kind (table_kind first) l) (facts_of whole)) c.deref-2.ensures.value c.in_ok-whole.ensures.table) in
     let all : IsTable (facts ++ (new ++ more)) (facts_of whole) = table_in_turn facts new more (facts_of first) (facts_of whole) told both in
     let ranges = c.ranges-2.result.now in
     let searches = c.searches.result.now in

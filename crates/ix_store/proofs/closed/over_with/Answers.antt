@@ -11,8 +11,8 @@ invariant_of-over c =
     let table = c.args.table in
     let own = table_kind known.table in
     record {
-      kind = c.requires.kind ∙ known.kind;
+      kind = c.requires.kind ∙ known.holds.kind;
       rising = c.in_ok-ints.ensures.rising;
-      among = λ t p i. subst (IsAmongPaths p) (sym (c.in_ok-ints.ensures.told t)) (grown_among known added (facts_of table) own known.kind c.requires.table p i);
-      one_order = λ t. grown_plain known added (facts_of table) own known.kind c.requires.table (c.is_plain_with.ensures.known t) (c.is_plain_with.ensures.new t);
+      among = λ t p i. subst (IsAmongPaths p) (sym (c.in_ok-ints.ensures.told t)) (grown_among known added (facts_of table) own known.holds.kind c.requires.table p i);
+      one_order = λ t. grown_plain known added (facts_of table) own known.holds.kind c.requires.table (c.is_plain_with.ensures.known t) (c.is_plain_with.ensures.new t);
     }

@@ -11,7 +11,7 @@ invariant_of-over c =
     let other = facts_in c.args.other.now in
     let common = facts_of c.in_ok-table.table in
     record {
-      kind = c.in_ok-table.ensures.kind ∙ known.kind;
+      kind = c.in_ok-table.ensures.kind ∙ known.holds.kind;
       rising = c.in_ok-ints.ensures.rising;
       among = λ t p i. subst (IsAmongPaths p) (sym (c.in_ok-ints.ensures.told t)) (common_among known other common c.in_ok-table.ensures.common p i);
       one_order = λ t. common_plain known other common c.in_ok-table.ensures.common (c.is_plain.ensures.plain t);

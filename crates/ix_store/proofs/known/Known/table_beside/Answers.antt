@@ -15,7 +15,7 @@ invariant_of-over c =
     let is = is_changed c.args.changed.now in
     let facts : facts_of c.of_part-table.result ≡ without is (facts_in known) = c.of_part-table.ensures.facts ∙ (c.in_ok-fewer.ensures ∙ ap (without is) c.as_slice.ensures.facts) in
     record {
-      kind = c.of_part-table.ensures.kind ∙ known.kind;
+      kind = c.of_part-table.ensures.kind ∙ known.holds.kind;
       rising = c.in_ok-ints.ensures.rising;
       among = λ t p i. subst (IsAmongPaths p) (sym (c.in_ok-ints.ensures.told t)) (left_among is known p (subst (λ l. IsAmongPaths p (named_ints l)) facts i));
       one_order = λ t. subst (λ l. in_orders l ≡ l) (sym facts) (without_plain is known (c.is_plain.ensures.plain t));

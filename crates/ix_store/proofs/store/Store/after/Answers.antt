@@ -5,22 +5,22 @@ use Rattle.ix_facts.specs.Facts.{in_orders}
 use Rattle.ix_facts.specs.Forget.{without}
 use Rattle.ix_facts.specs.Stores.{Reached, operated}
 use Rattle.ix_facts.specs.SameFacts.{AreSame}
-use Rattle.ix_store.specs.NewFacts.{rest_of, after_new}
+use Rattle.ix_store.specs.NewFacts.{after_new}
 use Rattle.ix_store.specs.StoredFacts.{facts_in, stored}
-use Rattle.ix_store.proofs.BehindRules.{given_by, rest_left, after_is, after_have}
+use Rattle.ix_store.proofs.BehindRules.{given_by, after_is, after_have}
 use Rattle.ix_store.proofs.ClassesAfter.{right_have}
 use Rattle.ix_store.proofs.SmallNumbers.{all_classes}
 use Rattle.ix_store.proofs.store.Store.after.Goals as goal
 
-pub behind-requires : goal.behind-requires
-behind-requires c =
+pub with_new-requires : goal.with_new-requires
+with_new-requires c =
     let kind = c.args.kind.now in
     let profile = c.args.profile in
     let known = c.in-Some.known in
-    let rest = rest_of known c.in_ok-fewer.fewer in
+    let rest = c.in_ok-left.left in
     let new = c.in_ok-new.new.items in
-    let left : facts_in rest ≡ without (of_target kind) (facts_in known) = rest_left (of_target kind) known c.get.result.now c.in_ok-fewer.fewer c.get.ensures c.in_ok-fewer.ensures.same c.in_ok-fewer.ensures.fewer in
-    let made : AreSame new (after_new (in_orders (facts_in rest)) profile kind) = subst (λ k. AreSame new (after_new (in_orders (facts_in k)) profile kind)) c.rest.ensures c.in_ok-new.ensures.facts in
+    let left : facts_in rest ≡ without (of_target kind) (facts_in known) = c.in_ok-left.ensures in
+    let made : AreSame new (after_new (in_orders (facts_in rest)) profile kind) = subst (λ k. AreSame new (after_new (in_orders (facts_in k)) profile kind)) c.get.ensures c.in_ok-new.ensures.facts in
     record { classes = right_have (facts_in rest) new (after_have (facts_in known) (facts_in rest ++ new) profile kind (after_is (facts_in known) (facts_in rest) new (facts_in rest ++ new) profile kind left made refl) (all_classes known.table)) }
 
 pub returns : goal.returns
@@ -29,10 +29,10 @@ returns c =
     let kind = c.args.kind.now in
     let profile = c.args.profile in
     let known = c.in-Some.known in
-    let rest = rest_of known c.in_ok-fewer.fewer in
+    let rest = c.in_ok-left.left in
     let new = c.in_ok-new.new.items in
     let is : stored c.args.self.now ≡ Reached (facts_in known) = cc in
-    let left : facts_in rest ≡ without (of_target kind) (facts_in known) = rest_left (of_target kind) known c.get.result.now c.in_ok-fewer.fewer c.get.ensures c.in_ok-fewer.ensures.same c.in_ok-fewer.ensures.fewer in
-    let made : AreSame new (after_new (in_orders (facts_in rest)) profile kind) = subst (λ k. AreSame new (after_new (in_orders (facts_in k)) profile kind)) c.rest.ensures c.in_ok-new.ensures.facts in
+    let left : facts_in rest ≡ without (of_target kind) (facts_in known) = c.in_ok-left.ensures in
+    let made : AreSame new (after_new (in_orders (facts_in rest)) profile kind) = subst (λ k. AreSame new (after_new (in_orders (facts_in k)) profile kind)) c.get.ensures c.in_ok-new.ensures.facts in
     let same : AreSame (facts_in rest ++ new) (operated profile kind (facts_in known)) = after_is (facts_in known) (facts_in rest) new (facts_in rest ++ new) profile kind left made refl in
-    record { after = IfOk-weaker c.behind.result _ _ (λ store made. given_by (operated profile kind) (stored c.args.self.now) (stored store) (facts_in known) (facts_in rest ++ new) is same made) c.behind.ensures.store }
+    record { after = IfOk-weaker c.with_new.result _ _ (λ store made. given_by (operated profile kind) (stored c.args.self.now) (stored store) (facts_in known) (facts_in rest ++ new) is same made) c.with_new.ensures.store }
