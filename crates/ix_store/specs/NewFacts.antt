@@ -1,5 +1,5 @@
--- What a step leaves of facts, and the new facts of a rule.
-use Rattle.std.specs.Prelude.{List, ◌++◌, Option, Some, None}
+-- The new facts of a rule.
+use Rattle.std.specs.Prelude.{List, ◌++◌}
 use Rattle.ix_core.specs.declared.claim.Type_.{Type_}
 use Rattle.ix_core.specs.declared.fact.Path.{Path}
 use Rattle.ix_core.specs.declared.fact.Profile.{Profile}
@@ -9,12 +9,6 @@ use Rattle.ix_facts.specs.AfterOperation.{copied}
 use Rattle.ix_facts.specs.After.{kept_new, finished, finished_by}
 use Rattle.ix_facts.specs.Closure.{kept}
 use Rattle.ix_facts.specs.Facts.{in_orders}
-use Rattle.ix_store.specs.declared.known.Known.{Known}
-
--- the facts that are left, where some go, and else all
-abbrev pub rest_of : Known → Option Known → Known
-rest_of known None = known
-rest_of known (Some fewer) = fewer
 
 -- of an operation, by what is known beside its target
 abbrev pub after_new : List Fact → Profile → OpKind → List Fact
