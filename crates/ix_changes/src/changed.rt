@@ -101,10 +101,10 @@ fn changes(changed: &Changed, p: &Path) -> bool
 fn changes_offset(changed: &Changed, offset: &PathOff) -> bool
     ensures { result ≡ offset_names (is_changed changed.now) offset.now }
 {
-    match *offset {
+    match offset {
         PathOff::Nothing => false,
-        PathOff::Plus(q) => changes(changed, &q),
-        PathOff::Minus(q) => changes(changed, &q),
+        PathOff::Plus(q) => changes(changed, q),
+        PathOff::Minus(q) => changes(changed, q),
     }
 }
 
@@ -112,17 +112,16 @@ fn changes_offset(changed: &Changed, offset: &PathOff) -> bool
 fn names_changed(changed: &Changed, fact: &Fact) -> bool
     ensures { result ≡ names (is_changed changed.now) fact.now }
 {
-    match *fact {
-        Fact::Rng(p, _, _) | Fact::LenRng(p, _, _) | Fact::Low(p, _) => changes(changed, &p),
+    match fact {
+        Fact::Rng(p, _, _) | Fact::LenRng(p, _, _) | Fact::Low(p, _) => changes(changed, p),
         Fact::Same(p, q)
         | Fact::IsLen(p, q)
         | Fact::Less(p, q, _)
         | Fact::Search(p, q)
-        | Fact::Neg(p, q) => changes(changed, &p) || changes(changed, &q),
-        Fact::Sum(t, y, z) => changes(changed, &t)
-            || (changes(changed, &y) || changes(changed, &z)),
+        | Fact::Neg(p, q) => changes(changed, p) || changes(changed, q),
+        Fact::Sum(t, y, z) => changes(changed, t) || (changes(changed, y) || changes(changed, z)),
         Fact::Upper(p, a, offset, _) => {
-            changes(changed, &p) || (changes(changed, &a) || changes_offset(changed, &offset))
+            changes(changed, p) || (changes(changed, a) || changes_offset(changed, offset))
         }
     }
 }

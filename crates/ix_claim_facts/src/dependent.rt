@@ -28,10 +28,10 @@ fn is_field(field: u32, name: &Name) -> bool
 fn offset_names_field(field: u32, offset: &Off) -> bool
     ensures { result ≡ some_field field (offset_names offset.now) }
 {
-    match *offset {
+    match offset {
         Off::Nothing => false,
-        Off::Plus(name) => is_field(field, &name),
-        Off::Minus(name) => is_field(field, &name),
+        Off::Plus(name) => is_field(field, name),
+        Off::Minus(name) => is_field(field, name),
     }
 }
 
@@ -39,17 +39,17 @@ fn offset_names_field(field: u32, offset: &Off) -> bool
 pub fn names_field(field: u32, claim: &Claim) -> bool
     ensures { result ≡ names.names_field field claim.now }
 {
-    match *claim {
+    match claim {
         Claim::Range(_, _) => false,
         Claim::Low(_) => false,
         Claim::Length(_) => false,
-        Claim::Same(other) => is_field(field, &other),
-        Claim::Less(name, _) => is_field(field, &name),
+        Claim::Same(other) => is_field(field, other),
+        Claim::Less(name, _) => is_field(field, name),
         Claim::Upper(array, offset, _) => {
-            is_field(field, &array) || offset_names_field(field, &offset)
+            is_field(field, array) || offset_names_field(field, offset)
         }
-        Claim::Search(array) => is_field(field, &array),
-        Claim::Negative(array) => is_field(field, &array),
+        Claim::Search(array) => is_field(field, array),
+        Claim::Negative(array) => is_field(field, array),
     }
 }
 

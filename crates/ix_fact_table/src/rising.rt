@@ -16,10 +16,10 @@ use std::cmp::Ordering;
 fn is_first(fact: &Fact) -> bool
     ensures { result ≡ spec.is_first fact.now }
 {
-    match *fact {
-        Fact::Same(a, b) => !is_after(&a, &b),
-        Fact::Sum(_, y, z) => !is_after(&y, &z),
-        Fact::Upper(p, _, PathOff::Plus(q), _) => !is_after(&p, &q),
+    match fact {
+        Fact::Same(a, b) => !is_after(a, b),
+        Fact::Sum(_, y, z) => !is_after(y, z),
+        Fact::Upper(p, _, PathOff::Plus(q), _) => !is_after(p, q),
         _ => true,
     }
 }

@@ -56,20 +56,20 @@ fn push_bound_above(
 ) -> Result<(), AllocError>
     ensures { OnOk result (out.new.items ≡ out.old.items ++ kept (rule.bound_above t.now q.now c.now fact.now)) }
 {
-    match *fact {
+    match fact {
         Fact::Upper(x, a, offset, d) => push_upper_if(
             out,
-            is_same_path(&x, q),
+            is_same_path(x, q),
             t,
-            &a,
-            &offset,
-            past(d, *c),
+            a,
+            offset,
+            past(*d, *c),
         ),
         Fact::IsLen(x, a) => push_upper_if(
             out,
-            is_same_path(&x, q),
+            is_same_path(x, q),
             t,
-            &a,
+            a,
             &PathOff::Nothing,
             -(*c as i64),
         ),

@@ -23,10 +23,10 @@ fn is_param(number: u32, name: &Name) -> bool
 fn offset_names_param(number: u32, offset: &Off) -> bool
     ensures { result ≡ spec.some_param number (offset_names offset.now) }
 {
-    match *offset {
+    match offset {
         Off::Nothing => false,
-        Off::Plus(name) => is_param(number, &name),
-        Off::Minus(name) => is_param(number, &name),
+        Off::Plus(name) => is_param(number, name),
+        Off::Minus(name) => is_param(number, name),
     }
 }
 
@@ -34,12 +34,12 @@ fn offset_names_param(number: u32, offset: &Off) -> bool
 fn names_param(number: u32, claim: &Claim) -> bool
     ensures { result ≡ spec.names_param number claim.now }
 {
-    match *claim {
+    match claim {
         Claim::Range(_, _) | Claim::Low(_) | Claim::Length(_) => false,
         Claim::Same(name) | Claim::Less(name, _) | Claim::Search(name) | Claim::Negative(name) =>
-            is_param(number, &name),
+            is_param(number, name),
         Claim::Upper(array, offset, _) => {
-            is_param(number, &array) || offset_names_param(number, &offset)
+            is_param(number, array) || offset_names_param(number, offset)
         }
     }
 }

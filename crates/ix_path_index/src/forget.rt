@@ -39,9 +39,9 @@ pub fn is_of_target(kind: &OpKind, p: &Path) -> bool
 fn offset_names_path(path: &Path, offset: &PathOff) -> bool
     ensures { result ≡ offset_names (of_path path.now) offset.now }
 {
-    match *offset {
+    match offset {
         PathOff::Nothing => false,
-        PathOff::Plus(q) | PathOff::Minus(q) => is_of_path(path, &q),
+        PathOff::Plus(q) | PathOff::Minus(q) => is_of_path(path, q),
     }
 }
 
@@ -49,18 +49,18 @@ fn offset_names_path(path: &Path, offset: &PathOff) -> bool
 pub fn names_path(path: &Path, fact: &Fact) -> bool
     ensures { result ≡ names (of_path path.now) fact.now }
 {
-    match *fact {
-        Fact::Rng(p, _, _) | Fact::LenRng(p, _, _) | Fact::Low(p, _) => is_of_path(path, &p),
+    match fact {
+        Fact::Rng(p, _, _) | Fact::LenRng(p, _, _) | Fact::Low(p, _) => is_of_path(path, p),
         Fact::Same(p, q)
         | Fact::IsLen(p, q)
         | Fact::Less(p, q, _)
         | Fact::Search(p, q)
-        | Fact::Neg(p, q) => is_of_path(path, &p) || is_of_path(path, &q),
+        | Fact::Neg(p, q) => is_of_path(path, p) || is_of_path(path, q),
         Fact::Sum(t, y, z) => {
-            is_of_path(path, &t) || (is_of_path(path, &y) || is_of_path(path, &z))
+            is_of_path(path, t) || (is_of_path(path, y) || is_of_path(path, z))
         }
         Fact::Upper(p, a, offset, _) => {
-            is_of_path(path, &p) || (is_of_path(path, &a) || offset_names_path(path, &offset))
+            is_of_path(path, p) || (is_of_path(path, a) || offset_names_path(path, offset))
         }
     }
 }
@@ -68,9 +68,9 @@ pub fn names_path(path: &Path, fact: &Fact) -> bool
 fn offset_names_target(kind: &OpKind, offset: &PathOff) -> bool
     ensures { result ≡ offset_names (of_target kind.now) offset.now }
 {
-    match *offset {
+    match offset {
         PathOff::Nothing => false,
-        PathOff::Plus(q) | PathOff::Minus(q) => is_of_target(kind, &q),
+        PathOff::Plus(q) | PathOff::Minus(q) => is_of_target(kind, q),
     }
 }
 
@@ -78,18 +78,18 @@ fn offset_names_target(kind: &OpKind, offset: &PathOff) -> bool
 pub fn names_target(kind: &OpKind, fact: &Fact) -> bool
     ensures { result ≡ names (of_target kind.now) fact.now }
 {
-    match *fact {
-        Fact::Rng(p, _, _) | Fact::LenRng(p, _, _) | Fact::Low(p, _) => is_of_target(kind, &p),
+    match fact {
+        Fact::Rng(p, _, _) | Fact::LenRng(p, _, _) | Fact::Low(p, _) => is_of_target(kind, p),
         Fact::Same(p, q)
         | Fact::IsLen(p, q)
         | Fact::Less(p, q, _)
         | Fact::Search(p, q)
-        | Fact::Neg(p, q) => is_of_target(kind, &p) || is_of_target(kind, &q),
+        | Fact::Neg(p, q) => is_of_target(kind, p) || is_of_target(kind, q),
         Fact::Sum(t, y, z) => {
-            is_of_target(kind, &t) || (is_of_target(kind, &y) || is_of_target(kind, &z))
+            is_of_target(kind, t) || (is_of_target(kind, y) || is_of_target(kind, z))
         }
         Fact::Upper(p, a, offset, _) => {
-            is_of_target(kind, &p) || (is_of_target(kind, &a) || offset_names_target(kind, &offset))
+            is_of_target(kind, p) || (is_of_target(kind, a) || offset_names_target(kind, offset))
         }
     }
 }
