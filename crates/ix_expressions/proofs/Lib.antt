@@ -1,3 +1,4 @@
 pub mod LowerParts
 pub mod NothingBelow
-pub mod FirstEntry
+pub mod Entries
+pub mod Turns
