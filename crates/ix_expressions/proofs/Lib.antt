@@ -1,4 +1,6 @@
 pub mod LowerParts
 pub mod NothingBelow
 pub mod Entries
-pub mod Turns
+pub mod ExprTurns
+pub use Rattle.ix_reading.proofs.Takes
+pub use Rattle.ix_reading.proofs.Turns

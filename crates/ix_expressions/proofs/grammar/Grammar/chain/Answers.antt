@@ -1,9 +1,9 @@
-use Rattle.std.proofs.Common.{rules, ◌≡◌, ◌≢◌, ◌∙◌, Err, arith}
+use Rattle.std.proofs.Common.{rules, ◌≡◌, ◌≢◌, sym, ◌∙◌, Err, arith}
 use Rattle.ix_descent.specs.declared.stop.Stop.TheVariants.{Memory}
 use Rattle.ix_descent.specs.ExprRules as spec
 use Rattle.ix_descent.specs.Rule.{run, loop}
 use Rattle.ix_descent.proofs.Runs.{loop_on, loop_done, loop_stops}
-use Rattle.ix_expressions.proofs.Turns.{at_dot, behind_array, at_bracket, at_end}
+use Rattle.ix_expressions.proofs.ExprTurns.{at_dot, behind_array, at_bracket, at_end}
 use Rattle.ix_expressions.proofs.grammar.Grammar.chain.Goals as goal
 
 pub reading-preserved-in-Some : goal.reading-preserved-in-Some
@@ -48,4 +48,30 @@ returns-in_err-found-2-clause-reads g c =
     = λ other. c.reading.invariant.leads
       ∙ loop_stops (spec.further (spec.below c.args.self.now.left) c.args.aim c.args.self.now.left) c.reading.found c.reading.cursor c.index.new.cursor c.in_err-found-2.field-0.0
           (at_bracket _ _ _ _ _ _ c.in_default.ensures.found (search rules) (c.in_err-found-2.ensures.reads other)) in
+    search rules
+
+pub index-requires : goal.index-requires
+index-requires g c = record {
+  parts = c.requires.parts;
+  few = omega (arith, c.requires.few, c.reading.invariant.no_longer);
+  next = sym c.in-Some-sign.ensures.found;
+  there = c.in-Some-sign.ensures.there;
+  some = c.reading.invariant.some;
+  room = c.reading.invariant.fits;
+}
+
+pub behind_dot-requires : goal.behind_dot-requires
+behind_dot-requires g c = record {
+  parts = c.requires.parts;
+  few = omega (arith, c.requires.few, c.reading.invariant.no_longer, c.advance.ensures.one_less);
+  some = c.reading.invariant.some;
+  room = search rules;
+}
+
+pub returns-in_err-found-clause-reads : goal.returns-in_err-found-clause-reads
+returns-in_err-found-clause-reads g c =
+    let reads : c.in_err-found.field-0.0 ≢ Memory → run (loop (spec.further (spec.below c.args.self.now.left) c.args.aim c.args.self.now.left) c.args.first) c.args.cursor.now ≡ Err (c.in_err-found.field-0.0, c.behind_dot.new.cursor)
+    = λ other. c.reading.invariant.leads
+      ∙ loop_stops (spec.further (spec.below c.args.self.now.left) c.args.aim c.args.self.now.left) c.reading.found c.reading.cursor c.behind_dot.new.cursor c.in_err-found.field-0.0
+          (at_dot _ _ _ _ _ _ c.advance.new.self _ c.in-Some.ensures.found (search rules) c.advance.ensures.rest (c.in_err-found.ensures.reads other)) in
     search rules

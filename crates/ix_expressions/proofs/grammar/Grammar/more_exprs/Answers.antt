@@ -1,7 +1,7 @@
 use Rattle.std.proofs.Common.{rules, ◌∙◌, arith}
 use Rattle.ix_descent.specs.ExprRules as spec
 use Rattle.ix_descent.proofs.Runs.{loop_on}
-use Rattle.ix_expressions.proofs.Turns.{one_expr_more}
+use Rattle.ix_expressions.proofs.ExprTurns.{one_expr_more}
 use Rattle.ix_expressions.proofs.grammar.Grammar.more_exprs.Goals as goal
 
 pub reading-preserved : goal.reading-preserved

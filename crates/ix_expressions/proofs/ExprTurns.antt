@@ -13,7 +13,6 @@ use Rattle.ix_grammar.specs.Patterns.{a_sign, a_name, an_operator}
 use Rattle.ix_descent.specs.declared.aims.Aim.{Aim}
 use Rattle.ix_descent.specs.declared.stop.Stop.{Stop}
 use Rattle.ix_descent.specs.ExprRules.{Below, further, index_unless, index, field_or_call, operand, more_exprs}
-use Rattle.ix_descent.specs.ListRules.{next_of}
 use Rattle.ix_descent.specs.Rule.{Rule, Outcome, Turn, On, Done, take, stop, look, rest, run}
 
 -- ---- behind the first part of a primary
@@ -48,12 +47,7 @@ module _ (b : Below) (left level : ℕ) (f : Found) (ts : List Token) (op : At B
   unfolding run operand
   no_operand e is low goes reads = rw (sym is, lt-ltb f.height left low, sym goes, reads) refl
 
--- ---- what stands behind commas
-
-pub one_more : {A S : Type 0} (item : Rule A) (add : S → A → S) (s more : S) (x : A) (comma : Span) (ts later us : List Token)
-    → Some comma ≡ look (a_sign COMMA) ts → later ≡ rest ts → run item later ≡ Ok (x, us) → more ≡ add s x → run (next_of item add s) ts ≡ Ok (On more, us)
-unfolding run next_of
-one_more item add s more x comma ts later us is goes reads made = rw (sym is, sym goes, reads, made) refl
+-- ---- an argument behind a comma
 
 pub one_expr_more : (expr : Rule Found) (s more : Several) (f : Found) (comma : Span) (ts later us : List Token)
     → Some comma ≡ look (a_sign COMMA) ts → later ≡ rest ts → run expr later ≡ Ok (f, us) → more ≡ with_expr s f → run (more_exprs expr s) ts ≡ Ok (On more, us)
