@@ -1,4 +1,4 @@
-use Rattle.std.proofs.Common.{rules, ◌∙◌, arith}
+use Rattle.std.proofs.Common.{◌∙◌, arith}
 use Rattle.ix_grammar.specs.ClassGrammar.{with_members}
 use Rattle.ix_descent.specs.ClassRules as spec
 use Rattle.ix_descent.specs.ListRules.{next_inside, braces_of}
