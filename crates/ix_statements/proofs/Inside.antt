@@ -1,6 +1,5 @@
 -- A turn of a repetition in braces that the closing brace doesn't end.
-use Rattle.std.proofs.Common.{◌≡◌, List, Option, None, Ok, refl, sym}
-use Rattle.ix_text.specs.declared.span.Span.{Span}
+use Rattle.std.proofs.Common.{◌≡◌, List, None, Ok, refl, sym}
 use Rattle.ix_lexer.specs.declared.fixed.TheConstants.{CLOSE_BRACE}
 use Rattle.ix_lexer.specs.declared.token.Token.{Token}
 use Rattle.ix_grammar.specs.declared.found.At.{At}
