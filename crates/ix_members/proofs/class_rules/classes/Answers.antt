@@ -12,8 +12,8 @@ reading-preserved c = elim c.match-sign.branch [
     leads =
         c.reading.invariant.leads
         ∙ loop_on (spec.next_class parts c.args.left) c.reading.found c.in_ok-found.found c.reading.cursor c.match-sign.cursor
-            (rw (c.in_ok-found.ensures) (at_public _ _ _ w.advance.new.self _ c.match-sign.class _ w.in-Some.ensures.found (omega (arith, c.requires.room)) w.advance.ensures.rest (rw (w.class-is, w.cursor-is) w.in_ok-class.ensures.reads)))
-            (omega (arith, w.in-Some.ensures.there, w.advance.ensures.one_less, w.in_ok-class.ensures.no_longer, ap length w.cursor-is));
+        (rw (c.in_ok-found.ensures) (at_public _ _ _ w.advance.new.self _ c.match-sign.class _ w.in-Some.ensures.found (omega (arith, c.requires.room)) w.advance.ensures.rest (rw (w.class-is, w.cursor-is) w.in_ok-class.ensures.reads)))
+        (omega (arith, w.in-Some.ensures.there, w.advance.ensures.one_less, w.in_ok-class.ensures.no_longer, ap length w.cursor-is));
     no_longer = omega (arith, c.reading.invariant.no_longer, w.advance.ensures.one_less, w.in_ok-class.ensures.no_longer, ap length w.cursor-is);
     fits = search rules;
   }
@@ -21,8 +21,8 @@ reading-preserved c = elim c.match-sign.branch [
     leads =
         c.reading.invariant.leads
         ∙ loop_on (spec.next_class parts c.args.left) c.reading.found c.in_ok-found.found c.reading.cursor c.match-sign.cursor
-            (rw (c.in_ok-found.ensures) (at_final _ _ _ w.advance-in-Some-sign.new.self _ c.match-sign.class _ w.in_default.ensures.found w.in-Some-sign.ensures.found (omega (arith, c.requires.room)) w.advance-in-Some-sign.ensures.rest (rw (w.class-is, w.cursor-is) w.in_ok-class-2.ensures.reads)))
-            (omega (arith, w.in-Some-sign.ensures.there, w.advance-in-Some-sign.ensures.one_less, w.in_ok-class-2.ensures.no_longer, ap length w.cursor-is));
+        (rw (c.in_ok-found.ensures) (at_final _ _ _ w.advance-in-Some-sign.new.self _ c.match-sign.class _ w.in_default.ensures.found w.in-Some-sign.ensures.found (omega (arith, c.requires.room)) w.advance-in-Some-sign.ensures.rest (rw (w.class-is, w.cursor-is) w.in_ok-class-2.ensures.reads)))
+        (omega (arith, w.in-Some-sign.ensures.there, w.advance-in-Some-sign.ensures.one_less, w.in_ok-class-2.ensures.no_longer, ap length w.cursor-is));
     no_longer = omega (arith, c.reading.invariant.no_longer, w.advance-in-Some-sign.ensures.one_less, w.in_ok-class-2.ensures.no_longer, ap length w.cursor-is);
     fits = search rules;
   }
@@ -30,8 +30,8 @@ reading-preserved c = elim c.match-sign.branch [
     leads =
         c.reading.invariant.leads
         ∙ loop_on (spec.next_class parts c.args.left) c.reading.found c.in_ok-found.found c.reading.cursor c.match-sign.cursor
-            (rw (c.in_ok-found.ensures) (at_class _ _ _ w.advance-in-Some-sign-2.new.self _ c.match-sign.class _ w.in_default.ensures.found w.in_default-sign.ensures.found w.in-Some-sign-2.ensures.found (omega (arith, c.requires.room)) w.advance-in-Some-sign-2.ensures.rest (rw (w.class-is, w.cursor-is) w.in_ok-class-3.ensures.reads)))
-            (omega (arith, w.in-Some-sign-2.ensures.there, w.advance-in-Some-sign-2.ensures.one_less, w.in_ok-class-3.ensures.no_longer, ap length w.cursor-is));
+        (rw (c.in_ok-found.ensures) (at_class _ _ _ w.advance-in-Some-sign-2.new.self _ c.match-sign.class _ w.in_default.ensures.found w.in_default-sign.ensures.found w.in-Some-sign-2.ensures.found (omega (arith, c.requires.room)) w.advance-in-Some-sign-2.ensures.rest (rw (w.class-is, w.cursor-is) w.in_ok-class-3.ensures.reads)))
+        (omega (arith, w.in-Some-sign-2.ensures.there, w.advance-in-Some-sign-2.ensures.one_less, w.in_ok-class-3.ensures.no_longer, ap length w.cursor-is));
     no_longer = omega (arith, c.reading.invariant.no_longer, w.advance-in-Some-sign-2.ensures.one_less, w.in_ok-class-3.ensures.no_longer, ap length w.cursor-is);
     fits = search rules;
   }

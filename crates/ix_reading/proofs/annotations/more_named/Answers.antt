@@ -16,10 +16,10 @@ reading-preserved c = record {
   leads =
       c.reading.invariant.leads
       ∙ loop_on (next_of spec.named joined) c.reading.args c.push-in-Some.new.self c.reading.cursor c.named_value.new.cursor
-          (one_more spec.named joined _ _ _ _ _ c.advance.new.self _ c.in-Some.ensures.found c.advance.ensures.rest
-              (taken_here _ _ _ _ _ c.in_ok-name.name c.take_name.new.self (sym c.in_ok-name.ensures.found) refl c.in_ok-name.ensures.behind ∙ c.in_ok-named_value.ensures.reads)
-              c.in_ok-push-2.ensures.added)
-          (omega (arith, c.in-Some.ensures.there, c.advance.ensures.one_less, c.in_ok-name.ensures.shorter, c.in_ok-named_value.ensures.no_longer));
+      (one_more spec.named joined _ _ _ _ _ c.advance.new.self _ c.in-Some.ensures.found c.advance.ensures.rest
+      (taken_here _ _ _ _ _ c.in_ok-name.name c.take_name.new.self (sym c.in_ok-name.ensures.found) refl c.in_ok-name.ensures.behind ∙ c.in_ok-named_value.ensures.reads)
+      c.in_ok-push-2.ensures.added)
+      (omega (arith, c.in-Some.ensures.there, c.advance.ensures.one_less, c.in_ok-name.ensures.shorter, c.in_ok-named_value.ensures.no_longer));
   no_longer = omega (arith, c.reading.invariant.no_longer, c.advance.ensures.one_less, c.in_ok-name.ensures.shorter, c.in_ok-named_value.ensures.no_longer);
 }
 

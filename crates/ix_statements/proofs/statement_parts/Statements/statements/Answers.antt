@@ -12,8 +12,8 @@ reading-preserved g c = record {
   leads =
       c.reading.invariant.leads
       ∙ loop_on (next_inside (spec.stmts_below c.args.self.now.left).block one_more) c.reading.found c.in_ok-found.found c.reading.cursor c.block_part.new.cursor
-          (one_inside (spec.stmts_below c.args.self.now.left).block one_more _ _ _ _ _ c.in_default.ensures.found c.in_ok-block_part.ensures.reads c.in_ok-found.ensures)
-          c.in_ok-block_part.ensures.shorter;
+      (one_inside (spec.stmts_below c.args.self.now.left).block one_more _ _ _ _ _ c.in_default.ensures.found c.in_ok-block_part.ensures.reads c.in_ok-found.ensures)
+      c.in_ok-block_part.ensures.shorter;
   no_longer = omega (arith, c.reading.invariant.no_longer, c.in_ok-block_part.ensures.shorter);
   fits = search rules;
 }
