@@ -63,10 +63,7 @@ impl<F: Fn(Global, &mut Cursor<'_>, u32, Part) -> Result<Found, Stop>> Grammar<F
         }
         let first = self.expr(cursor, height)?;
         let several = self.more_exprs(cursor, height, first)?;
-        let Some(right) = cursor.sign(CLOSE_PAREN) else {
-            return Err(Stop::Syntax);
-        };
-        cursor.advance();
+        let right = cursor.take_sign(CLOSE_PAREN)?;
         Ok(all_args(several, right))
     }
 

@@ -52,10 +52,7 @@ impl<F: Fn(Global, &mut Cursor<'_>, u32, Part) -> Result<Found, Stop>> Grammar<F
         } }
     {
         let brackets = pairs(cursor, right)?;
-        let Some(left) = cursor.sign(OPEN_BRACE) else {
-            return Err(Stop::Syntax);
-        };
-        cursor.advance();
+        let left = cursor.take_sign(OPEN_BRACE)?;
         let entries = self.items(cursor, extra(aim, Form::Array), left)?;
         let ty = created_type(base, notes, brackets);
         new_items(self.alloc, self.left, start, ty, entries)
@@ -86,10 +83,7 @@ impl<F: Fn(Global, &mut Cursor<'_>, u32, Part) -> Result<Found, Stop>> Grammar<F
         } }
     {
         let length = self.inner(cursor, extra(aim, Form::Array))?;
-        let Some(right) = cursor.sign(CLOSE_BRACKET) else {
-            return Err(Stop::Syntax);
-        };
-        cursor.advance();
+        let right = cursor.take_sign(CLOSE_BRACKET)?;
         let brackets = pairs(cursor, right)?;
         let end = brackets.span;
         let ty = created_type(base, notes, brackets);
@@ -151,10 +145,7 @@ impl<F: Fn(Global, &mut Cursor<'_>, u32, Part) -> Result<Found, Stop>> Grammar<F
           some : IfOk result (λ f. 0 < f.height);
         } }
     {
-        let Some(_opening) = cursor.sign(OPEN_BRACKET) else {
-            return Err(Stop::Syntax);
-        };
-        cursor.advance();
+        cursor.take_sign(OPEN_BRACKET)?;
         self.array_rest(cursor, aim, start, base, notes)
     }
 
@@ -232,10 +223,7 @@ impl<F: Fn(Global, &mut Cursor<'_>, u32, Part) -> Result<Found, Stop>> Grammar<F
             let value = BaseTree::Boolean;
             return self.array(cursor, aim, start, At { value, span }, notes);
         }
-        let Some(name) = cursor.name(self.alloc)? else {
-            return Err(Stop::Syntax);
-        };
-        cursor.advance();
+        let name = cursor.take_name(self.alloc)?;
         let span = name.span;
         let value = BaseTree::Named(name);
         self.array(cursor, aim, start, At { value, span }, notes)

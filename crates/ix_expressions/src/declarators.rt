@@ -197,10 +197,7 @@ fn more_decls(
     let mut found = one_decl(alloc, first)?;
     'reading: while let Some(_comma) = cursor.sign(COMMA) {
         cursor.advance();
-        let Some(name) = cursor.name(alloc)? else {
-            return Err(Stop::Syntax);
-        };
-        cursor.advance();
+        let name = cursor.take_name(alloc)?;
         let decl = decl_behind(alloc, cursor, left, all, name)?;
         found = with_decl(found, decl)?;
     }

@@ -78,26 +78,20 @@ impl<F: Fn(Global, &mut Cursor<'_>, u32, Part) -> Result<Found, Stop>> Grammar<F
           fits : IfOk result (λ s. s.height ≤ height);
         } }
     {
-        if let Some(right) = cursor.sign(CLOSE_BRACE) {
-            cursor.advance();
-            return Ok(no_inits(self.alloc, right));
-        }
-        let first = self.init(cursor, height)?;
-        let mut entries = with_init(no_inits(self.alloc, left), first)?;
-        'reading: while let Some(_comma) = cursor.sign(COMMA) {
-            cursor.advance();
+        let mut entries = no_inits(self.alloc, left);
+        'reading: loop {
             if let Some(right) = cursor.sign(CLOSE_BRACE) {
                 cursor.advance();
                 return Ok(closed_by(entries, right));
             }
-            let more = self.init(cursor, height)?;
-            entries = with_init(entries, more)?;
+            let next = self.init(cursor, height)?;
+            entries = with_init(entries, next)?;
+            let Some(_comma) = cursor.sign(COMMA) else {
+                let right = cursor.take_sign(CLOSE_BRACE)?;
+                return Ok(closed_by(entries, right));
+            };
+            cursor.advance();
         }
-        let Some(right) = cursor.sign(CLOSE_BRACE) else {
-            return Err(Stop::Syntax);
-        };
-        cursor.advance();
-        Ok(closed_by(entries, right))
     }
 
     /// `[Init {"," Init} [","]] "}"`, behind the opening brace, within a primary that must be wrapped so often

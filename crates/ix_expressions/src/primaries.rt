@@ -95,10 +95,7 @@ impl<F: Fn(Global, &mut Cursor<'_>, u32, Part) -> Result<Found, Stop>> Grammar<F
         } }
     {
         let inside = self.inner(cursor, extra(aim, Form::Value))?;
-        let Some(right) = cursor.sign(CLOSE_PAREN) else {
-            return Err(Stop::Syntax);
-        };
-        cursor.advance();
+        let right = cursor.take_sign(CLOSE_PAREN)?;
         Ok(within(self.left, left, right, inside))
     }
 
@@ -217,10 +214,7 @@ impl<F: Fn(Global, &mut Cursor<'_>, u32, Part) -> Result<Found, Stop>> Grammar<F
           some : IfOk result (λ f. 0 < f.height);
         } }
     {
-        let Some(name) = cursor.name(self.alloc)? else {
-            return Err(Stop::Syntax);
-        };
-        cursor.advance();
+        let name = cursor.take_name(self.alloc)?;
         self.field_or_call(cursor, aim, object, name)
     }
 
@@ -254,10 +248,7 @@ impl<F: Fn(Global, &mut Cursor<'_>, u32, Part) -> Result<Found, Stop>> Grammar<F
         }
         cursor.advance();
         let index = self.inner(cursor, extra)?;
-        let Some(right) = cursor.sign(CLOSE_BRACKET) else {
-            return Err(Stop::Syntax);
-        };
-        cursor.advance();
+        let right = cursor.take_sign(CLOSE_BRACKET)?;
         element(self.alloc, self.left, array, index, right)
     }
 

@@ -1,1 +1,2 @@
 pub mod OntoFields
+pub mod NextClass

@@ -90,10 +90,7 @@ fn super_args(alloc: Global, cursor: &mut Cursor<'_>, left: u32) -> Result<Args,
       fits : IfOk result (λ found. found.height ≤ left);
     } }
 {
-    let Some(_opening) = cursor.sign(OPEN_PAREN) else {
-        return Err(Stop::Syntax);
-    };
-    cursor.advance();
+    cursor.take_sign(OPEN_PAREN)?;
     args(alloc, cursor, left)
 }
 
@@ -108,10 +105,7 @@ fn super_behind(alloc: Global, cursor: &mut Cursor<'_>, left: u32) -> Result<Bod
     } }
 {
     let found = super_args(alloc, cursor, left)?;
-    let Some(_end) = cursor.sign(SEMICOLON) else {
-        return Err(Stop::Syntax);
-    };
-    cursor.advance();
+    cursor.take_sign(SEMICOLON)?;
     let stmts = statements(alloc, cursor, left)?;
     Ok(body_with(found, stmts.value, stmts.span))
 }

@@ -52,20 +52,11 @@ fn parent(alloc: Global, cursor: &mut Cursor<'_>) -> Result<Option<Ident>, Stop>
 {
     if let Some(_extends) = cursor.sign(EXTENDS) {
         cursor.advance();
-        let Some(name) = cursor.name(alloc)? else {
-            return Err(Stop::Syntax);
-        };
-        cursor.advance();
-        let Some(_opening) = cursor.sign(OPEN_BRACE) else {
-            return Err(Stop::Syntax);
-        };
-        cursor.advance();
+        let name = cursor.take_name(alloc)?;
+        cursor.take_sign(OPEN_BRACE)?;
         return Ok(Some(name));
     }
-    let Some(_opening) = cursor.sign(OPEN_BRACE) else {
-        return Err(Stop::Syntax);
-    };
-    cursor.advance();
+    cursor.take_sign(OPEN_BRACE)?;
     Ok(None)
 }
 
@@ -153,10 +144,7 @@ fn class_behind(
       fits : IfOk result (λ found. found.height ≤ left);
     } }
 {
-    let Some(name) = cursor.name(alloc)? else {
-        return Err(Stop::Syntax);
-    };
-    cursor.advance();
+    let name = cursor.take_name(alloc)?;
     let parent = parent(alloc, cursor)?;
     let found = members(alloc, cursor, left - 1)?;
     Ok(class_of(left, start, name, parent, found.value, found.span))
@@ -181,10 +169,7 @@ fn worded_class(
     } }
 {
     let start = class_words(cursor, Some(first))?;
-    let Some(span) = cursor.sign(CLASS) else {
-        return Err(Stop::Syntax);
-    };
-    cursor.advance();
+    let span = cursor.take_sign(CLASS)?;
     class_behind(alloc, cursor, left, begins(start, span))
 }
 

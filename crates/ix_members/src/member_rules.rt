@@ -136,10 +136,7 @@ fn behind(
 {
     let params = params(alloc, cursor, left - 1)?;
     throws(alloc, cursor)?;
-    let Some(_opening) = cursor.sign(OPEN_BRACE) else {
-        return Err(Stop::Syntax);
-    };
-    cursor.advance();
+    cursor.take_sign(OPEN_BRACE)?;
     let body = body(alloc, cursor, left - 1, constructor)?;
     Ok(Behind { params, body })
 }
@@ -205,10 +202,7 @@ fn more_fields(
     let mut found = before;
     'reading: while let Some(_comma) = cursor.sign(COMMA) {
         cursor.advance();
-        let Some(name) = cursor.name(alloc)? else {
-            return Err(Stop::Syntax);
-        };
-        cursor.advance();
+        let name = cursor.take_name(alloc)?;
         let next = decl_behind(alloc, cursor, left, all, name)?;
         found = with_field(found, next)?;
     }
@@ -265,10 +259,7 @@ fn each_field(
     } }
 {
     let found = some_fields(alloc, cursor, left, all, name, before)?;
-    let Some(_end) = cursor.sign(SEMICOLON) else {
-        return Err(Stop::Syntax);
-    };
-    cursor.advance();
+    cursor.take_sign(SEMICOLON)?;
     Ok(found)
 }
 
@@ -349,10 +340,7 @@ fn typed_member(
       fits : IfOk result (λ found. found.height ≤ left);
     } }
 {
-    let Some(name) = cursor.name(alloc)? else {
-        return Err(Stop::Syntax);
-    };
-    cursor.advance();
+    let name = cursor.take_name(alloc)?;
     let Some(_opening) = cursor.sign(OPEN_PAREN) else {
         return field_member(alloc, cursor, left, &found, &ty, name, before);
     };
@@ -428,14 +416,8 @@ fn void_member(
       fits : IfOk result (λ found. found.height ≤ left);
     } }
 {
-    let Some(name) = cursor.name(alloc)? else {
-        return Err(Stop::Syntax);
-    };
-    cursor.advance();
-    let Some(_opening) = cursor.sign(OPEN_PAREN) else {
-        return Err(Stop::Syntax);
-    };
-    cursor.advance();
+    let name = cursor.take_name(alloc)?;
+    cursor.take_sign(OPEN_PAREN)?;
     let head = Head {
         start: begins(found.first, void),
         mods: found,

@@ -53,10 +53,7 @@ fn param(alloc: Global, cursor: &mut Cursor<'_>, left: u32) -> Result<FoundDecl,
 {
     let found = mods(alloc, cursor, Words::Local, left - 1)?;
     let ty = type_tree(alloc, cursor, left - 1)?;
-    let Some(name) = cursor.name(alloc)? else {
-        return Err(Stop::Syntax);
-    };
-    cursor.advance();
+    let name = cursor.take_name(alloc)?;
     one_decl(alloc, &found, &ty, name)
 }
 
@@ -160,10 +157,7 @@ pub fn params(alloc: Global, cursor: &mut Cursor<'_>, left: u32) -> Result<Param
         return Ok(no_params(alloc));
     }
     let found = some_params(alloc, cursor, left)?;
-    let Some(_right) = cursor.sign(CLOSE_PAREN) else {
-        return Err(Stop::Syntax);
-    };
-    cursor.advance();
+    cursor.take_sign(CLOSE_PAREN)?;
     Ok(found)
 }
 
@@ -177,10 +171,7 @@ fn more_thrown(alloc: Global, cursor: &mut Cursor<'_>) -> Result<(), Stop>
 {
     'reading: while let Some(_comma) = cursor.sign(COMMA) {
         cursor.advance();
-        let Some(_name) = cursor.name(alloc)? else {
-            return Err(Stop::Syntax);
-        };
-        cursor.advance();
+        cursor.take_name(alloc)?;
     }
     Ok(())
 }
@@ -197,9 +188,6 @@ pub fn throws(alloc: Global, cursor: &mut Cursor<'_>) -> Result<(), Stop>
         return Ok(());
     };
     cursor.advance();
-    let Some(_first) = cursor.name(alloc)? else {
-        return Err(Stop::Syntax);
-    };
-    cursor.advance();
+    cursor.take_name(alloc)?;
     more_thrown(alloc, cursor)
 }

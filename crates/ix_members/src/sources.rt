@@ -26,10 +26,7 @@ fn more_dotted(alloc: Global, cursor: &mut Cursor<'_>) -> Result<(), Stop>
 {
     'reading: while let Some(_dot) = cursor.sign(DOT) {
         cursor.advance();
-        let Some(_name) = cursor.name(alloc)? else {
-            return Err(Stop::Syntax);
-        };
-        cursor.advance();
+        cursor.take_name(alloc)?;
     }
     Ok(())
 }
@@ -42,10 +39,7 @@ fn dotted(alloc: Global, cursor: &mut Cursor<'_>) -> Result<(), Stop>
       no_longer : OnOk result (length cursor.new ≤ length cursor.old);
     } }
 {
-    let Some(_name) = cursor.name(alloc)? else {
-        return Err(Stop::Syntax);
-    };
-    cursor.advance();
+    cursor.take_name(alloc)?;
     more_dotted(alloc, cursor)
 }
 
@@ -62,10 +56,7 @@ fn package_line(alloc: Global, cursor: &mut Cursor<'_>) -> Result<(), Stop>
     };
     cursor.advance();
     dotted(alloc, cursor)?;
-    let Some(_end) = cursor.sign(SEMICOLON) else {
-        return Err(Stop::Syntax);
-    };
-    cursor.advance();
+    cursor.take_sign(SEMICOLON)?;
     Ok(())
 }
 
@@ -83,10 +74,7 @@ fn imported_behind(alloc: Global, cursor: &mut Cursor<'_>) -> Result<(), Stop>
             cursor.advance();
             return line_end(cursor);
         }
-        let Some(_name) = cursor.name(alloc)? else {
-            return Err(Stop::Syntax);
-        };
-        cursor.advance();
+        cursor.take_name(alloc)?;
     }
     line_end(cursor)
 }
@@ -99,10 +87,7 @@ fn line_end(cursor: &mut Cursor<'_>) -> Result<(), Stop>
       no_longer : OnOk result (length cursor.new ≤ length cursor.old);
     } }
 {
-    let Some(_end) = cursor.sign(SEMICOLON) else {
-        return Err(Stop::Syntax);
-    };
-    cursor.advance();
+    cursor.take_sign(SEMICOLON)?;
     Ok(())
 }
 
@@ -114,10 +99,7 @@ fn imported(alloc: Global, cursor: &mut Cursor<'_>) -> Result<(), Stop>
       no_longer : OnOk result (length cursor.new ≤ length cursor.old);
     } }
 {
-    let Some(_name) = cursor.name(alloc)? else {
-        return Err(Stop::Syntax);
-    };
-    cursor.advance();
+    cursor.take_name(alloc)?;
     imported_behind(alloc, cursor)
 }
 

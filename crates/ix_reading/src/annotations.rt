@@ -86,10 +86,7 @@ fn braced(alloc: Global, cursor: &mut Cursor<'_>, left: Span) -> Result<At<Annot
     };
     cursor.advance();
     let texts = more_texts(alloc, cursor, first.value)?;
-    let Some(right) = cursor.sign(CLOSE_BRACE) else {
-        return Err(Stop::Syntax);
-    };
-    cursor.advance();
+    let right = cursor.take_sign(CLOSE_BRACE)?;
     Ok(At {
         value: AnnotValue::Texts(texts),
         span: across(left, right),
@@ -150,10 +147,7 @@ fn annot_value(alloc: Global, cursor: &mut Cursor<'_>) -> Result<At<AnnotValue>,
         cursor.advance();
         return Ok(truth(false, span));
     }
-    let Some(left) = cursor.sign(OPEN_BRACE) else {
-        return Err(Stop::Syntax);
-    };
-    cursor.advance();
+    let left = cursor.take_sign(OPEN_BRACE)?;
     braced(alloc, cursor, left)
 }
 
@@ -165,10 +159,7 @@ fn named_value(alloc: Global, cursor: &mut Cursor<'_>, name: Ident) -> Result<An
       no_longer : OnOk result (length cursor.new ≤ length cursor.old);
     } }
 {
-    let Some(_assign) = cursor.sign(ASSIGN) else {
-        return Err(Stop::Syntax);
-    };
-    cursor.advance();
+    cursor.take_sign(ASSIGN)?;
     let found = annot_value(alloc, cursor)?;
     let span = across(name.span, found.span);
     Ok(AnnotArg {
@@ -194,10 +185,7 @@ fn more_named(
     args.push(first)?;
     'reading: while let Some(_comma) = cursor.sign(COMMA) {
         cursor.advance();
-        let Some(name) = cursor.name(alloc)? else {
-            return Err(Stop::Syntax);
-        };
-        cursor.advance();
+        let name = cursor.take_name(alloc)?;
         args.push(named_value(alloc, cursor, name)?)?;
     }
     Ok(args)
@@ -218,10 +206,7 @@ fn named_args(
 {
     let arg = named_value(alloc, cursor, first)?;
     let args = more_named(alloc, cursor, arg)?;
-    let Some(right) = cursor.sign(CLOSE_PAREN) else {
-        return Err(Stop::Syntax);
-    };
-    cursor.advance();
+    let right = cursor.take_sign(CLOSE_PAREN)?;
     Ok(Annot {
         name,
         args,
@@ -273,10 +258,7 @@ fn plain_arg(alloc: Global, cursor: &mut Cursor<'_>, at: Span, name: Ident) -> R
     } }
 {
     let found = annot_value(alloc, cursor)?;
-    let Some(right) = cursor.sign(CLOSE_PAREN) else {
-        return Err(Stop::Syntax);
-    };
-    cursor.advance();
+    let right = cursor.take_sign(CLOSE_PAREN)?;
     let args = one_arg(alloc, found)?;
     Ok(Annot {
         name,
@@ -313,10 +295,7 @@ pub fn annot_behind(
       fits : IfOk result (λ annot. nodes.annot_height annot ≤ max 2 left);
     } }
 {
-    let Some(name) = cursor.name(alloc)? else {
-        return Err(Stop::Syntax);
-    };
-    cursor.advance();
+    let name = cursor.take_name(alloc)?;
     if let Some(_opening) = cursor.sign(OPEN_PAREN) {
         cursor.advance();
         return annot_args(alloc, cursor, left, at, name);

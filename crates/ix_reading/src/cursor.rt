@@ -1,6 +1,6 @@
 //! The tokens that are still to be read, and the rules for single tokens.
-ghost use Rattle.std.specs.Prelude.{◌≡◌, ◌<◌, ◌-◌, length, option_map, IfOk, IfSome, MatchResult};
-ghost use Rattle.ix_descent.specs.declared.stop.Stop.TheVariants.{Memory};
+ghost use Rattle.std.specs.Prelude.{◌≡◌, ◌≢◌, ◌<◌, ◌-◌, length, option_map, Some, None, OnOk, IfErr, IfOk, IfSome, MatchResult};
+ghost use Rattle.ix_descent.specs.declared.stop.Stop.TheVariants.{Memory, Syntax};
 ghost use Rattle.ix_grammar.specs.Nodes as nodes;
 ghost use Rattle.ix_descent.specs.Rule.{look, rest};
 ghost use Rattle.ix_descent.specs.Errors.{first};
@@ -161,5 +161,40 @@ impl<'a> Cursor<'a> {
         if let [_, later @ ..] = self.rest {
             self.rest = later;
         }
+    }
+}
+
+/// The next token taken, where it is what a rule wants there.
+impl<'a> Cursor<'a> {
+    /// Takes a keyword or a sign and answers its place.
+    pub fn take_sign(&mut self, number: u8) -> Result<Span, Stop>
+        ensures { record {
+          found : MatchResult result (λ span. look (a_sign number) self.old ≡ Some span) (λ stop. look (a_sign number) self.old ≡ None);
+          cause : IfErr result (λ stop. stop ≡ Syntax);
+          behind : MatchResult result (λ _. self.new ≡ rest self.old) (λ _. self.new ≡ self.old);
+          shorter : OnOk result (length self.new < length self.old);
+        } }
+    {
+        let Some(span) = self.sign(number) else {
+            return Err(Stop::Syntax);
+        };
+        self.advance();
+        Ok(span)
+    }
+
+    /// Takes an identifier.
+    pub fn take_name(&mut self, alloc: Global) -> Result<Ident, Stop>
+        ensures { record {
+          found : MatchResult result (λ name. look a_name self.old ≡ Some name) (λ stop. stop ≢ Memory → look a_name self.old ≡ None);
+          cause : IfErr result (λ stop. stop ≢ Memory → stop ≡ Syntax);
+          behind : MatchResult result (λ _. self.new ≡ rest self.old) (λ _. self.new ≡ self.old);
+          shorter : OnOk result (length self.new < length self.old);
+        } }
+    {
+        let Some(name) = self.name(alloc)? else {
+            return Err(Stop::Syntax);
+        };
+        self.advance();
+        Ok(name)
     }
 }

@@ -64,10 +64,7 @@ pub fn pairs(cursor: &mut Cursor<'_>, last: Span) -> Result<At<u32>, Stop>
     };
     'reading: while let Some(_left) = cursor.sign(OPEN_BRACKET) {
         cursor.advance();
-        let Some(right) = cursor.sign(CLOSE_BRACKET) else {
-            return Err(Stop::Syntax);
-        };
-        cursor.advance();
+        let right = cursor.take_sign(CLOSE_BRACKET)?;
         found = At {
             value: found.value + 1,
             span: right,
@@ -98,10 +95,7 @@ fn brackets(
       fits : IfOk result (λ found. found.height ≤ left);
     } }
 {
-    let Some(right) = cursor.sign(CLOSE_BRACKET) else {
-        return Err(Stop::Syntax);
-    };
-    cursor.advance();
+    let right = cursor.take_sign(CLOSE_BRACKET)?;
     let found = pairs(cursor, right)?;
     Ok(array_of(base, notes, found))
 }
@@ -128,10 +122,7 @@ pub fn noted_array(
     } }
 {
     let notes = annots_behind(alloc, cursor, left - 1, at)?;
-    let Some(_opening) = cursor.sign(OPEN_BRACKET) else {
-        return Err(Stop::Syntax);
-    };
-    cursor.advance();
+    cursor.take_sign(OPEN_BRACKET)?;
     brackets(cursor, left, base, notes)
 }
 

@@ -119,10 +119,7 @@ fn indexed(alloc: Global, cursor: &mut Cursor<'_>, left: u32, name: Ident) -> Re
     } }
 {
     let index = index(alloc, cursor, left)?;
-    let Some(right) = cursor.sign(CLOSE_BRACKET) else {
-        return Err(Stop::Syntax);
-    };
-    cursor.advance();
+    let right = cursor.take_sign(CLOSE_BRACKET)?;
     let first = element(alloc, left, named(alloc, name)?, index, right)?;
     chain(alloc, cursor, left, first)
 }

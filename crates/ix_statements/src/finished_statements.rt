@@ -35,10 +35,7 @@ fn local_end(
       fits : IfOk result (λ made. made.height ≤ found.height + 1);
     } }
 {
-    let Some(end) = cursor.sign(SEMICOLON) else {
-        return Err(Stop::Syntax);
-    };
-    cursor.advance();
+    let end = cursor.take_sign(SEMICOLON)?;
     local_stmt(alloc, mods, ty, found, end)
 }
 
@@ -52,10 +49,7 @@ fn run_end(alloc: Global, cursor: &mut Cursor<'_>, found: Found) -> Result<Found
       fits : IfOk result (λ made. made.height ≤ found.height + 1);
     } }
 {
-    let Some(end) = cursor.sign(SEMICOLON) else {
-        return Err(Stop::Syntax);
-    };
-    cursor.advance();
+    let end = cursor.take_sign(SEMICOLON)?;
     run_stmt(alloc, found, end)
 }
 
@@ -78,14 +72,8 @@ fn print_end(
     } }
 {
     let found = expr(alloc, cursor, left - 1)?;
-    let Some(_closing) = cursor.sign(CLOSE_PAREN) else {
-        return Err(Stop::Syntax);
-    };
-    cursor.advance();
-    let Some(end) = cursor.sign(SEMICOLON) else {
-        return Err(Stop::Syntax);
-    };
-    cursor.advance();
+    cursor.take_sign(CLOSE_PAREN)?;
+    let end = cursor.take_sign(SEMICOLON)?;
     print_stmt(alloc, system, found, end)
 }
 

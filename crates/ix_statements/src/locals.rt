@@ -76,10 +76,7 @@ pub fn named_type(
       fits : IfOk result (λ begun. begun_fits left begun);
     } }
 {
-    let Some(name) = cursor.name(alloc)? else {
-        return Err(Stop::Syntax);
-    };
-    cursor.advance();
+    let name = cursor.take_name(alloc)?;
     declared(alloc, cursor, left, mods, ty, name)
 }
 

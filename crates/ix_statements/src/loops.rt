@@ -170,10 +170,7 @@ impl<F: Fn(Global, &mut Cursor<'_>, u32, bool) -> Result<FoundStmt, Stop>> State
         }
         let found = statement_expr(self.alloc, cursor, self.left - 1)?;
         let update = updates(self.alloc, cursor, self.left - 1, found)?;
-        let Some(_closing) = cursor.sign(CLOSE_PAREN) else {
-            return Err(Stop::Syntax);
-        };
-        cursor.advance();
+        cursor.take_sign(CLOSE_PAREN)?;
         self.for_body(cursor, start, first, condition, update)
     }
 
@@ -202,10 +199,7 @@ impl<F: Fn(Global, &mut Cursor<'_>, u32, bool) -> Result<FoundStmt, Stop>> State
             return self.for_update(cursor, start, first, None);
         }
         let found = expr(self.alloc, cursor, self.left - 1)?;
-        let Some(_end) = cursor.sign(SEMICOLON) else {
-            return Err(Stop::Syntax);
-        };
-        cursor.advance();
+        cursor.take_sign(SEMICOLON)?;
         self.for_update(cursor, start, first, Some(found))
     }
 
@@ -224,20 +218,14 @@ impl<F: Fn(Global, &mut Cursor<'_>, u32, bool) -> Result<FoundStmt, Stop>> State
           fits : IfOk result (λ found. found.height ≤ self.now.left);
         } }
     {
-        let Some(_opening) = cursor.sign(OPEN_PAREN) else {
-            return Err(Stop::Syntax);
-        };
-        cursor.advance();
+        cursor.take_sign(OPEN_PAREN)?;
         if let Some(_end) = cursor.sign(SEMICOLON) {
             cursor.advance();
             return self.for_condition(cursor, start, no_stmts(self.alloc));
         }
         let begun = begun(self.alloc, cursor, self.left - 1, false, true)?;
         let first = for_part(self.alloc, cursor, self.left, begun)?;
-        let Some(_end) = cursor.sign(SEMICOLON) else {
-            return Err(Stop::Syntax);
-        };
-        cursor.advance();
+        cursor.take_sign(SEMICOLON)?;
         self.for_condition(cursor, start, first)
     }
 }

@@ -40,15 +40,9 @@ fn condition(alloc: Global, cursor: &mut Cursor<'_>, left: u32) -> Result<Found,
       fits : IfOk result (λ f. f.height + 1 ≤ left);
     } }
 {
-    let Some(_opening) = cursor.sign(OPEN_PAREN) else {
-        return Err(Stop::Syntax);
-    };
-    cursor.advance();
+    cursor.take_sign(OPEN_PAREN)?;
     let found = expr(alloc, cursor, left - 1)?;
-    let Some(_closing) = cursor.sign(CLOSE_PAREN) else {
-        return Err(Stop::Syntax);
-    };
-    cursor.advance();
+    cursor.take_sign(CLOSE_PAREN)?;
     Ok(found)
 }
 
@@ -61,10 +55,7 @@ pub fn break_rule(alloc: Global, cursor: &mut Cursor<'_>, start: Span) -> Result
       fits : IfOk result (λ found. found.height ≤ 1);
     } }
 {
-    let Some(end) = cursor.sign(SEMICOLON) else {
-        return Err(Stop::Syntax);
-    };
-    cursor.advance();
+    let end = cursor.take_sign(SEMICOLON)?;
     stmt_node(alloc, StmtKind::Break, 0, across(start, end))
 }
 
@@ -77,10 +68,7 @@ pub fn continue_rule(alloc: Global, cursor: &mut Cursor<'_>, start: Span) -> Res
       fits : IfOk result (λ found. found.height ≤ 1);
     } }
 {
-    let Some(end) = cursor.sign(SEMICOLON) else {
-        return Err(Stop::Syntax);
-    };
-    cursor.advance();
+    let end = cursor.take_sign(SEMICOLON)?;
     stmt_node(alloc, StmtKind::Continue, 0, across(start, end))
 }
 
@@ -107,10 +95,7 @@ pub fn return_rule(
         return return_stmt(alloc, start, None, end);
     }
     let found = expr(alloc, cursor, left - 1)?;
-    let Some(end) = cursor.sign(SEMICOLON) else {
-        return Err(Stop::Syntax);
-    };
-    cursor.advance();
+    let end = cursor.take_sign(SEMICOLON)?;
     return_stmt(alloc, start, Some(found), end)
 }
 
@@ -128,14 +113,8 @@ fn throw_end(
       fits : IfOk result (λ found. found.height ≤ 2);
     } }
 {
-    let Some(_closing) = cursor.sign(CLOSE_PAREN) else {
-        return Err(Stop::Syntax);
-    };
-    cursor.advance();
-    let Some(end) = cursor.sign(SEMICOLON) else {
-        return Err(Stop::Syntax);
-    };
-    cursor.advance();
+    cursor.take_sign(CLOSE_PAREN)?;
+    let end = cursor.take_sign(SEMICOLON)?;
     throw_stmt(alloc, start, name, end)
 }
 
@@ -148,18 +127,9 @@ pub fn throw_rule(alloc: Global, cursor: &mut Cursor<'_>, start: Span) -> Result
       fits : IfOk result (λ found. found.height ≤ 2);
     } }
 {
-    let Some(_new) = cursor.sign(NEW) else {
-        return Err(Stop::Syntax);
-    };
-    cursor.advance();
-    let Some(name) = cursor.name(alloc)? else {
-        return Err(Stop::Syntax);
-    };
-    cursor.advance();
-    let Some(_opening) = cursor.sign(OPEN_PAREN) else {
-        return Err(Stop::Syntax);
-    };
-    cursor.advance();
+    cursor.take_sign(NEW)?;
+    let name = cursor.take_name(alloc)?;
+    cursor.take_sign(OPEN_PAREN)?;
     if let Some(_reason) = cursor.text(alloc)? {
         cursor.advance();
     }
@@ -296,15 +266,9 @@ impl<F: Fn(Global, &mut Cursor<'_>, u32, bool) -> Result<FoundStmt, Stop>> State
         } }
     {
         let found = self.plain_part(cursor)?;
-        let Some(_while) = cursor.sign(WHILE) else {
-            return Err(Stop::Syntax);
-        };
-        cursor.advance();
+        cursor.take_sign(WHILE)?;
         let condition = condition(self.alloc, cursor, self.left)?;
-        let Some(end) = cursor.sign(SEMICOLON) else {
-            return Err(Stop::Syntax);
-        };
-        cursor.advance();
+        let end = cursor.take_sign(SEMICOLON)?;
         do_stmt(self.alloc, start, found, condition, end)
     }
 }

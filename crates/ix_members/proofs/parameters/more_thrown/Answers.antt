@@ -9,6 +9,6 @@ use Rattle.ix_members.proofs.parameters.more_thrown.Goals as goal
 pub reading-preserved : goal.reading-preserved
 unfolding run next_of more_of spec.a_thrown
 reading-preserved c = record {
-  leads = c.reading.invariant.leads ∙ loop_on (next_of spec.a_thrown nothing_more) tt tt c.reading.cursor c.advance-in-Some.new.self (search rules) (search rules);
+  leads = c.reading.invariant.leads ∙ loop_on (next_of spec.a_thrown nothing_more) tt tt c.reading.cursor c.take_name.new.self (search rules) (search rules);
   no_longer = search rules;
 }

@@ -7,6 +7,6 @@ use Rattle.ix_members.proofs.sources.more_dotted.Goals as goal
 pub reading-preserved : goal.reading-preserved
 unfolding run spec.next_dot
 reading-preserved c = record {
-  leads = c.reading.invariant.leads ∙ loop_on spec.next_dot tt tt c.reading.cursor c.advance-in-Some.new.self (search rules) (search rules);
+  leads = c.reading.invariant.leads ∙ loop_on spec.next_dot tt tt c.reading.cursor c.take_name.new.self (search rules) (search rules);
   no_longer = search rules;
 }

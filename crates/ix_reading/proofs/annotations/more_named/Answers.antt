@@ -1,4 +1,4 @@
-use Rattle.std.proofs.Common.{◌≡◌, ◌≢◌, List, [], ◌∷◌, ◌++◌, Err, rules, sym, ap, ◌∙◌}
+use Rattle.std.proofs.Common.{◌≡◌, ◌≢◌, List, [], ◌∷◌, ◌++◌, Err, rules, refl, sym, ap, ◌∙◌, arith}
 use Rattle.ix_tree.specs.declared.annot.AnnotArg.{AnnotArg}
 use Rattle.ix_grammar.specs.Lists.{alone, joined}
 use Rattle.ix_descent.specs.ListRules.{next_of, more_of}
@@ -6,13 +6,21 @@ use Rattle.ix_descent.specs.Rule.{run}
 use Rattle.ix_descent.specs.AnnotRules as spec
 use Rattle.ix_descent.specs.declared.stop.Stop.TheVariants.{Memory}
 use Rattle.ix_descent.proofs.Runs.{loop_on, loop_stops}
+use Rattle.ix_reading.proofs.Takes.{taken_here}
+use Rattle.ix_reading.proofs.Turns.{one_more}
 use Rattle.ix_reading.proofs.annotations.more_named.Goals as goal
 
 pub reading-preserved : goal.reading-preserved
-unfolding run next_of more_of spec.named
+unfolding more_of spec.named
 reading-preserved c = record {
-  leads = c.reading.invariant.leads ∙ loop_on (next_of spec.named joined) c.reading.args c.push-in-Some.new.self c.reading.cursor c.named_value.new.cursor (search rules) (search rules);
-  no_longer = search rules;
+  leads =
+      c.reading.invariant.leads
+      ∙ loop_on (next_of spec.named joined) c.reading.args c.push-in-Some.new.self c.reading.cursor c.named_value.new.cursor
+      (one_more spec.named joined _ _ _ _ _ c.advance.new.self _ c.in-Some.ensures.found c.advance.ensures.rest
+      (taken_here _ _ _ _ _ c.in_ok-name.name c.take_name.new.self (sym c.in_ok-name.ensures.found) refl c.in_ok-name.ensures.behind ∙ c.in_ok-named_value.ensures.reads)
+      c.in_ok-push-2.ensures.added)
+      (omega (arith, c.in-Some.ensures.there, c.advance.ensures.one_less, c.in_ok-name.ensures.shorter, c.in_ok-named_value.ensures.no_longer));
+  no_longer = omega (arith, c.reading.invariant.no_longer, c.advance.ensures.one_less, c.in_ok-name.ensures.shorter, c.in_ok-named_value.ensures.no_longer);
 }
 
 pub returns-in_err-named_value : goal.returns-in_err-named_value

@@ -7,7 +7,7 @@ use Rattle.ix_reading.proofs.type_trees.pairs.Goals as goal
 pub reading-preserved : goal.reading-preserved
 unfolding run spec.next_pair spec.pairs
 reading-preserved c = record {
-  leads = c.reading.invariant.leads ∙ loop_on spec.next_pair c.reading.found _ c.reading.cursor c.advance-in-Some.new.self (search rules) (search rules);
+  leads = c.reading.invariant.leads ∙ loop_on spec.next_pair c.reading.found _ c.reading.cursor c.take_sign.new.self (search rules) (search rules);
   no_longer = search rules;
   few = search rules;
 }

@@ -1,6 +1,7 @@
 use Rattle.std.proofs.Common.{◌≡◌, ◌≤◌, ◌+◌, length}
 use Rattle.ix_descent.specs.ExprRules as spec
-use Rattle.ix_descent.specs.Rule.{loop, run}
+use Rattle.ix_descent.specs.Rule.{run}
+use Rattle.ix_expressions.proofs.Entries.{inside}
 use Rattle.ix_expressions.proofs.grammar.Grammar.+initialisers.Given as goal
 
 -- Entries are read behind their initialiser's brace, and each is an initialiser of the same height.
@@ -12,7 +13,7 @@ decreases-items_within g l = l.height + l.height + 1
 
 abbrev pub invariant-items_within-reading : goal.invariant-items_within-reading
 invariant-items_within-reading g l = record {
-  leads : run (spec.items (spec.init l.height) l.fn.left) l.fn.cursor ≡ run (loop (spec.more_inits (spec.init l.height)) l.entries) l.cursor;
+  leads : run (spec.items (spec.init l.height) l.fn.left) l.fn.cursor ≡ run (inside (spec.init l.height) l.entries) l.cursor;
   no_longer : length l.cursor ≤ length l.fn.cursor;
   fits : l.entries.height ≤ l.height;
 }
