@@ -3,26 +3,26 @@ use Rattle.ix_core.specs.declared.code.Block.{Block}
 use Rattle.ix_core.specs.declared.code.Item.{Loop}
 use Rattle.ix_plain.specs.Statements.{each, statement, with_last, with_free}
 use Rattle.ix_lower_values.specs.Shown.{shown_site}
-use Rattle.ix_lower_bodies.proofs.LoopParts.{no_limit, pushed, while_not_begun, while_not_tested, while_not_turned, while_made, do_not_begun, do_not_turned, do_not_tested, do_made, for_not_opened, for_not_begun, for_not_tested, for_not_turned, for_not_updated, for_made}
+use Rattle.ix_lower_bodies.proofs.LoopParts.{no_limit, same_limit, not_made, pushed, while_not_begun, while_not_tested, while_not_turned, while_made, do_not_begun, do_not_turned, do_not_tested, do_made, for_not_opened, for_not_begun, for_not_tested, for_not_turned, for_not_updated, for_made}
 use Rattle.ix_lower_bodies.proofs.OneByOne.{refused}
 use Rattle.ix_lower_bodies.proofs.statement.+statements.Goals as goal
 
 pub while_loop-returns-in_err-enter_loop-in-While : goal.while_loop-returns-in_err-enter_loop-in-While
 while_loop-returns-in_err-enter_loop-in-While t c = record {
-  limit = λ which is. while_not_begun c.args.stmt.now (shown_site c.args.site.now) c.args.end c.args.body.now c.in-While.condition c.in-While.turn c.enter_loop.new.body which c.in-While.is (c.in_err-enter_loop-in-While.ensures.limit which (search rules));
-  body = search rules;
+  limit = λ which is. while_not_begun c.args.stmt.now (shown_site c.args.site.now) c.args.end c.args.body.now c.in-While.condition c.in-While.turn c.enter_loop.new.body which c.in-While.is (c.in_err-enter_loop-in-While.ensures.limit which (same_limit c.from_residual.result c.in_err-enter_loop-in-While.field-0.0 which c.from_residual.ensures.1 is));
+  body = not_made c.from_residual.result (λ _. (statement c.args.stmt.now).run (shown_site c.args.site.now) c.args.end c.args.body.now ≡ Ok c.enter_loop.new.body) c.from_residual.ensures.0;
 }
 
 pub while_loop-returns-in_err-cond-in-While : goal.while_loop-returns-in_err-cond-in-While
 while_loop-returns-in_err-cond-in-While t c = record {
-  limit = λ which is. while_not_tested c.args.stmt.now (shown_site c.args.site.now) c.args.end c.args.body.now c.in-While.condition c.in-While.turn c.enter_loop.new.body which c.in-While.is c.in_ok-enter_loop-in-While.ensures.body (c.in_err-cond-in-While.ensures.limit which (search rules));
-  body = search rules;
+  limit = λ which is. while_not_tested c.args.stmt.now (shown_site c.args.site.now) c.args.end c.args.body.now c.in-While.condition c.in-While.turn c.enter_loop.new.body which c.in-While.is c.in_ok-enter_loop-in-While.ensures.body (c.in_err-cond-in-While.ensures.limit which (same_limit c.from_residual-in_err-cond-in-While.result c.in_err-cond-in-While.field-0.0 which c.from_residual-in_err-cond-in-While.ensures.1 is));
+  body = not_made c.from_residual-in_err-cond-in-While.result (λ _. (statement c.args.stmt.now).run (shown_site c.args.site.now) c.args.end c.args.body.now ≡ Ok c.test.new.body) c.from_residual-in_err-cond-in-While.ensures.0;
 }
 
 pub while_loop-returns-in_err-turn-in-While : goal.while_loop-returns-in_err-turn-in-While
 while_loop-returns-in_err-turn-in-While t c = record {
-  limit = λ which is. while_not_turned c.args.stmt.now (shown_site c.args.site.now) c.args.end c.args.body.now c.in-While.condition c.in-While.turn c.enter_loop.new.body which c.in_ok-cond-in-While.cond c.test.new.body c.get.result.now c.in-While.is c.in_ok-enter_loop-in-While.ensures.body c.in_ok-cond-in-While.ensures.body c.get.ensures (c.in_err-turn-in-While.ensures.limit which (search rules));
-  body = search rules;
+  limit = λ which is. while_not_turned c.args.stmt.now (shown_site c.args.site.now) c.args.end c.args.body.now c.in-While.condition c.in-While.turn c.enter_loop.new.body which c.in_ok-cond-in-While.cond c.test.new.body c.get.result.now c.in-While.is c.in_ok-enter_loop-in-While.ensures.body c.in_ok-cond-in-While.ensures.body c.get.ensures (c.in_err-turn-in-While.ensures.limit which (same_limit c.from_residual-in_err-turn-in-While.result c.in_err-turn-in-While.field-0.0 which c.from_residual-in_err-turn-in-While.ensures.1 is));
+  body = not_made c.from_residual-in_err-turn-in-While.result (λ _. (statement c.args.stmt.now).run (shown_site c.args.site.now) c.args.end c.args.body.now ≡ Ok c.branch-alloc.new.body) c.from_residual-in_err-turn-in-While.ensures.0;
 }
 
 pub while_loop-returns : goal.while_loop-returns
@@ -35,20 +35,20 @@ while_loop-returns t c =
 
 pub do_loop-returns-in_err-enter_loop-in-Do : goal.do_loop-returns-in_err-enter_loop-in-Do
 do_loop-returns-in_err-enter_loop-in-Do t c = record {
-  limit = λ which is. do_not_begun c.args.stmt.now (shown_site c.args.site.now) c.args.end c.args.body.now c.in-Do.condition c.in-Do.turn c.enter_loop.new.body which c.in-Do.is (c.in_err-enter_loop-in-Do.ensures.limit which (search rules));
-  body = search rules;
+  limit = λ which is. do_not_begun c.args.stmt.now (shown_site c.args.site.now) c.args.end c.args.body.now c.in-Do.condition c.in-Do.turn c.enter_loop.new.body which c.in-Do.is (c.in_err-enter_loop-in-Do.ensures.limit which (same_limit c.from_residual.result c.in_err-enter_loop-in-Do.field-0.0 which c.from_residual.ensures.1 is));
+  body = not_made c.from_residual.result (λ _. (statement c.args.stmt.now).run (shown_site c.args.site.now) c.args.end c.args.body.now ≡ Ok c.enter_loop.new.body) c.from_residual.ensures.0;
 }
 
 pub do_loop-returns-in_err-turn-in-Do : goal.do_loop-returns-in_err-turn-in-Do
 do_loop-returns-in_err-turn-in-Do t c = record {
-  limit = λ which is. do_not_turned c.args.stmt.now (shown_site c.args.site.now) c.args.end c.args.body.now c.in-Do.condition c.in-Do.turn c.enter_loop.new.body which c.get.result.now c.in-Do.is c.in_ok-enter_loop-in-Do.ensures.body c.get.ensures (c.in_err-turn-in-Do.ensures.limit which (search rules));
-  body = search rules;
+  limit = λ which is. do_not_turned c.args.stmt.now (shown_site c.args.site.now) c.args.end c.args.body.now c.in-Do.condition c.in-Do.turn c.enter_loop.new.body which c.get.result.now c.in-Do.is c.in_ok-enter_loop-in-Do.ensures.body c.get.ensures (c.in_err-turn-in-Do.ensures.limit which (same_limit c.from_residual-in_err-turn-in-Do.result c.in_err-turn-in-Do.field-0.0 which c.from_residual-in_err-turn-in-Do.ensures.1 is));
+  body = not_made c.from_residual-in_err-turn-in-Do.result (λ _. (statement c.args.stmt.now).run (shown_site c.args.site.now) c.args.end c.args.body.now ≡ Ok c.branch-alloc.new.body) c.from_residual-in_err-turn-in-Do.ensures.0;
 }
 
 pub do_loop-returns-in_err-cond-in-Do : goal.do_loop-returns-in_err-cond-in-Do
 do_loop-returns-in_err-cond-in-Do t c = record {
-  limit = λ which is. do_not_tested c.args.stmt.now (shown_site c.args.site.now) c.args.end c.args.body.now c.in-Do.condition c.in-Do.turn c.enter_loop.new.body which c.in_ok-turn-in-Do.turn c.branch-alloc.new.body c.get.result.now c.in-Do.is c.in_ok-enter_loop-in-Do.ensures.body c.get.ensures c.in_ok-turn-in-Do.ensures.body (c.in_err-cond-in-Do.ensures.limit which (search rules));
-  body = search rules;
+  limit = λ which is. do_not_tested c.args.stmt.now (shown_site c.args.site.now) c.args.end c.args.body.now c.in-Do.condition c.in-Do.turn c.enter_loop.new.body which c.in_ok-turn-in-Do.turn c.branch-alloc.new.body c.get.result.now c.in-Do.is c.in_ok-enter_loop-in-Do.ensures.body c.get.ensures c.in_ok-turn-in-Do.ensures.body (c.in_err-cond-in-Do.ensures.limit which (same_limit c.from_residual-in_err-cond-in-Do.result c.in_err-cond-in-Do.field-0.0 which c.from_residual-in_err-cond-in-Do.ensures.1 is));
+  body = not_made c.from_residual-in_err-cond-in-Do.result (λ _. (statement c.args.stmt.now).run (shown_site c.args.site.now) c.args.end c.args.body.now ≡ Ok c.test.new.body) c.from_residual-in_err-cond-in-Do.ensures.0;
 }
 
 pub do_loop-returns : goal.do_loop-returns
@@ -61,32 +61,32 @@ do_loop-returns t c =
 
 pub for_loop-returns-in_err-each-in-For : goal.for_loop-returns-in_err-each-in-For
 for_loop-returns-in_err-each-in-For t c = record {
-  limit = λ which is. for_not_opened c.args.stmt.now (shown_site c.args.site.now) c.args.end c.args.body.now c.in-For.first c.in-For.condition c.in-For.update c.in-For.turn c.as_slice.result.now c.in-For.is c.as_slice.ensures which (c.in_err-each-in-For.ensures.limit which (search rules));
-  body = search rules;
+  limit = λ which is. for_not_opened c.args.stmt.now (shown_site c.args.site.now) c.args.end c.args.body.now c.in-For.first c.in-For.condition c.in-For.update c.in-For.turn c.as_slice.result.now c.in-For.is c.as_slice.ensures which (c.in_err-each-in-For.ensures.limit which (same_limit c.from_residual.result c.in_err-each-in-For.field-0.0 which c.from_residual.ensures.1 is));
+  body = not_made c.from_residual.result (λ _. (statement c.args.stmt.now).run (shown_site c.args.site.now) c.args.end c.args.body.now ≡ Ok c.each.new.body) c.from_residual.ensures.0;
 }
 
 pub for_loop-returns-in_err-enter_loop-in-For : goal.for_loop-returns-in_err-enter_loop-in-For
 for_loop-returns-in_err-enter_loop-in-For t c = record {
-  limit = λ which is. for_not_begun c.args.stmt.now (shown_site c.args.site.now) c.args.end c.args.body.now c.in-For.first c.in-For.condition c.in-For.update c.in-For.turn c.as_slice.result.now c.in-For.is c.as_slice.ensures c.each.new.body c.in_ok-each-in-For.ensures.body which (c.in_err-enter_loop-in-For.ensures.limit which (search rules));
-  body = search rules;
+  limit = λ which is. for_not_begun c.args.stmt.now (shown_site c.args.site.now) c.args.end c.args.body.now c.in-For.first c.in-For.condition c.in-For.update c.in-For.turn c.as_slice.result.now c.in-For.is c.as_slice.ensures c.each.new.body c.in_ok-each-in-For.ensures.body which (c.in_err-enter_loop-in-For.ensures.limit which (same_limit c.from_residual-in_err-enter_loop-in-For.result c.in_err-enter_loop-in-For.field-0.0 which c.from_residual-in_err-enter_loop-in-For.ensures.1 is));
+  body = not_made c.from_residual-in_err-enter_loop-in-For.result (λ _. (statement c.args.stmt.now).run (shown_site c.args.site.now) c.args.end c.args.body.now ≡ Ok c.enter_loop.new.body) c.from_residual-in_err-enter_loop-in-For.ensures.0;
 }
 
 pub for_loop-returns-in_err-cond-in-For : goal.for_loop-returns-in_err-cond-in-For
 for_loop-returns-in_err-cond-in-For t c = record {
-  limit = λ which is. for_not_tested c.args.stmt.now (shown_site c.args.site.now) c.args.end c.args.body.now c.in-For.first c.in-For.condition c.in-For.update c.in-For.turn c.as_slice.result.now c.in-For.is c.as_slice.ensures c.each.new.body c.in_ok-each-in-For.ensures.body c.enter_loop.new.body c.in_ok-enter_loop-in-For.ensures.body which (c.in_err-cond-in-For.ensures.limit which (search rules));
-  body = search rules;
+  limit = λ which is. for_not_tested c.args.stmt.now (shown_site c.args.site.now) c.args.end c.args.body.now c.in-For.first c.in-For.condition c.in-For.update c.in-For.turn c.as_slice.result.now c.in-For.is c.as_slice.ensures c.each.new.body c.in_ok-each-in-For.ensures.body c.enter_loop.new.body c.in_ok-enter_loop-in-For.ensures.body which (c.in_err-cond-in-For.ensures.limit which (same_limit c.from_residual-in_err-cond-in-For.result c.in_err-cond-in-For.field-0.0 which c.from_residual-in_err-cond-in-For.ensures.1 is));
+  body = not_made c.from_residual-in_err-cond-in-For.result (λ _. (statement c.args.stmt.now).run (shown_site c.args.site.now) c.args.end c.args.body.now ≡ Ok c.test_if.new.body) c.from_residual-in_err-cond-in-For.ensures.0;
 }
 
 pub for_loop-returns-in_err-turn-in-For : goal.for_loop-returns-in_err-turn-in-For
 for_loop-returns-in_err-turn-in-For t c = record {
-  limit = λ which is. for_not_turned c.args.stmt.now (shown_site c.args.site.now) c.args.end c.args.body.now c.in-For.first c.in-For.condition c.in-For.update c.in-For.turn c.as_slice.result.now c.in-For.is c.as_slice.ensures c.each.new.body c.in_ok-each-in-For.ensures.body c.enter_loop.new.body c.in_ok-enter_loop-in-For.ensures.body c.in_ok-cond-in-For.cond c.test_if.new.body c.get.result.now c.in_ok-cond-in-For.ensures.body c.get.ensures which (c.in_err-turn-in-For.ensures.limit which (search rules));
-  body = search rules;
+  limit = λ which is. for_not_turned c.args.stmt.now (shown_site c.args.site.now) c.args.end c.args.body.now c.in-For.first c.in-For.condition c.in-For.update c.in-For.turn c.as_slice.result.now c.in-For.is c.as_slice.ensures c.each.new.body c.in_ok-each-in-For.ensures.body c.enter_loop.new.body c.in_ok-enter_loop-in-For.ensures.body c.in_ok-cond-in-For.cond c.test_if.new.body c.get.result.now c.in_ok-cond-in-For.ensures.body c.get.ensures which (c.in_err-turn-in-For.ensures.limit which (same_limit c.from_residual-in_err-turn-in-For.result c.in_err-turn-in-For.field-0.0 which c.from_residual-in_err-turn-in-For.ensures.1 is));
+  body = not_made c.from_residual-in_err-turn-in-For.result (λ _. (statement c.args.stmt.now).run (shown_site c.args.site.now) c.args.end c.args.body.now ≡ Ok c.branch-alloc.new.body) c.from_residual-in_err-turn-in-For.ensures.0;
 }
 
 pub for_loop-returns-in_err-next-in-For : goal.for_loop-returns-in_err-next-in-For
 for_loop-returns-in_err-next-in-For t c = record {
-  limit = λ which is. for_not_updated c.args.stmt.now (shown_site c.args.site.now) c.args.end c.args.body.now c.in-For.first c.in-For.condition c.in-For.update c.in-For.turn c.as_slice.result.now c.in-For.is c.as_slice.ensures c.each.new.body c.in_ok-each-in-For.ensures.body c.enter_loop.new.body c.in_ok-enter_loop-in-For.ensures.body c.in_ok-cond-in-For.cond c.test_if.new.body c.get.result.now c.in_ok-cond-in-For.ensures.body c.get.ensures c.in_ok-turn-in-For.turn c.branch-alloc.new.body c.as_slice-in-For.result.now c.in_ok-turn-in-For.ensures.body c.as_slice-in-For.ensures which (c.in_err-next-in-For.ensures.limit which (search rules));
-  body = search rules;
+  limit = λ which is. for_not_updated c.args.stmt.now (shown_site c.args.site.now) c.args.end c.args.body.now c.in-For.first c.in-For.condition c.in-For.update c.in-For.turn c.as_slice.result.now c.in-For.is c.as_slice.ensures c.each.new.body c.in_ok-each-in-For.ensures.body c.enter_loop.new.body c.in_ok-enter_loop-in-For.ensures.body c.in_ok-cond-in-For.cond c.test_if.new.body c.get.result.now c.in_ok-cond-in-For.ensures.body c.get.ensures c.in_ok-turn-in-For.turn c.branch-alloc.new.body c.as_slice-in-For.result.now c.in_ok-turn-in-For.ensures.body c.as_slice-in-For.ensures which (c.in_err-next-in-For.ensures.limit which (same_limit c.from_residual-in_err-next-in-For.result c.in_err-next-in-For.field-0.0 which c.from_residual-in_err-next-in-For.ensures.1 is));
+  body = not_made c.from_residual-in_err-next-in-For.result (λ _. (statement c.args.stmt.now).run (shown_site c.args.site.now) c.args.end c.args.body.now ≡ Ok c.update_block.new.body) c.from_residual-in_err-next-in-For.ensures.0;
 }
 
 pub for_loop-returns : goal.for_loop-returns
@@ -102,6 +102,6 @@ each-returns-in_err-statement t c = record {
   limit = λ which is.
       refused (λ stmt. (statement stmt).run (shown_site c.args.site.now) c.args.end) (λ stmts. each (map statement stmts) (shown_site c.args.site.now) c.args.end) (λ made. refl) (λ stmt rest made. refl) c.args.statements.now c.loop-stmt.stmt-index
       (each (map statement c.args.statements.now) (shown_site c.args.site.now) c.args.end c.args.body.now) c.stmt-item.result c.loop-stmt.body which c.loop-stmt-test.true c.stmt-item.is c.loop-stmt.invariant
-      (c.in_err-statement.ensures.limit which (search rules));
-  body = search rules;
+      (c.in_err-statement.ensures.limit which (same_limit c.from_residual.result c.in_err-statement.field-0.0 which c.from_residual.ensures.1 is));
+  body = not_made c.from_residual.result (λ _. each (map statement c.args.statements.now) (shown_site c.args.site.now) c.args.end c.args.body.now ≡ Ok c.statement.new.body) c.from_residual.ensures.0;
 }
