@@ -643,18 +643,21 @@ fn assigned(alloc: Global, scope: &Scope<'_>, expr: &Expr, made: &mut Made) -> R
     } }
 {
     match &expr.kind {
-        ExprKind::Assign(None, place, from) => {
+        ExprKind::Assign(operator, place, from) => {
             let spot = target(alloc, scope, place.get(), made)?;
-            let v = value(alloc, scope, from.get(), made)?;
-            let spans = (expr.span, place.get().span, from.get().span);
-            written(alloc, scope, spot, v, spans, made)
-        }
-        ExprKind::Assign(Some(arith), place, from) => {
-            let spot = target(alloc, scope, place.get(), made)?;
-            let y = read(alloc, &spot, place.get().span, made)?;
-            let z = value(alloc, scope, from.get(), made)?;
-            let spans = (expr.span, place.get().span);
-            computed_into(alloc, spot, *arith, (y, z), false, spans, made)
+            match operator {
+                None => {
+                    let v = value(alloc, scope, from.get(), made)?;
+                    let spans = (expr.span, place.get().span, from.get().span);
+                    written(alloc, scope, spot, v, spans, made)
+                }
+                Some(arith) => {
+                    let y = read(alloc, &spot, place.get().span, made)?;
+                    let z = value(alloc, scope, from.get(), made)?;
+                    let spans = (expr.span, place.get().span);
+                    computed_into(alloc, spot, *arith, (y, z), false, spans, made)
+                }
+            }
         }
         ExprKind::Step {
             up,

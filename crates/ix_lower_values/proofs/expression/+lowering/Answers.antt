@@ -1,6 +1,7 @@
 use Rattle.std.proofs.Common.{◌∙◌, [], ap, map, option_map, refl, rules, sym}
 use Rattle.ix_plain.specs.Values.{lowering, object_class, arguments_from}
 use Rattle.ix_lower_values.specs.Shown.{shown_scope, all_given, all_initial}
+use Rattle.ix_lower_values.proofs.Assignments.{target_refused, value_refused, value_written, read_refused, operand_refused, operands_made, stepped_refused, step_behind_target}
 use Rattle.ix_lower_values.proofs.Calls.{before_refused, arguments_refused, call_made, class_is, call_is}
 use Rattle.ix_lower_values.proofs.InTurn.{next_argument, argument_refused, all_arguments, next_entry, entry_refused, all_entries}
 use Rattle.ix_lower_values.proofs.expression.+lowering.Goals as goal
@@ -72,5 +73,19 @@ called-returns t c =
     (ap (λ exprs. arguments_from [] (map lowering exprs) (shown_scope c.args.scope.now) c.receiver.new.made) (sym c.as_slice.ensures) ∙ c.in_ok-args-in-Call.ensures.made) in
     record {
       limit = λ which is. whole ∙ c.call_on.ensures.limit which is;
+      made = search rules;
+    }
+
+pub assigned-returns-in_err-spot-in-Step : goal.assigned-returns-in_err-spot-in-Step
+assigned-returns-in_err-spot-in-Step t c = record {
+  limit = λ which is. stepped_refused c.args.expr.now (shown_scope c.args.scope.now) c.args.made.now c.in-Step.up c.in-Step.after c.in-Step.place c.get-in-Step.result.now which c.in-Step.is c.get-in-Step.ensures (c.in_err-spot-in-Step.ensures.limit which (search rules));
+  made = search rules;
+}
+
+pub assigned-returns-in_ok-spot-in-Step : goal.assigned-returns-in_ok-spot-in-Step
+assigned-returns-in_ok-spot-in-Step t c =
+    let whole = step_behind_target c.args.expr.now (shown_scope c.args.scope.now) c.args.made.now c.in-Step.up c.in-Step.after c.in-Step.place c.get-in-Step.result.now c.get-in-Step-2.result.now c.in_ok-spot-in-Step.spot c.target-in-Step.new.made c.in-Step.is c.get-in-Step.ensures c.get-in-Step-2.ensures c.in_ok-spot-in-Step.ensures.made in
+    record {
+      limit = λ which is. whole ∙ c.stepped.ensures.limit which is;
       made = search rules;
     }
