@@ -1,5 +1,5 @@
--- What loops become, part by part: the loop's number, the condition, the turn and the update. The answers of the functions that make them cite these.
-use Rattle.std.proofs.Common.{◌≡◌, ℕ, Bool, true, false, List, Option, map, is_err, IfOk, IsErrAnd, OnOk, MatchResult, Result, Ok, Err, sym, ap, ◌∙◌}
+-- What loops, choices and blocks become, part by part: the loop's number, the condition, the turn and the update. The answers of the functions that make them cite these.
+use Rattle.std.proofs.Common.{◌≡◌, ℕ, Bool, true, false, List, Option, Some, None, option_map, map, is_err, IfOk, IsErrAnd, OnOk, MatchResult, Result, Ok, Err, sym, ap, ◌∙◌}
 use Rattle.ix_core.specs.declared.code.Block.{Block}
 use Rattle.ix_core.specs.declared.code.Cond.{Cond}
 use Rattle.ix_core.specs.declared.code.Item.{Item, Loop}
@@ -9,13 +9,13 @@ use Rattle.ix_tree.specs.declared.expr.Expr.{Expr}
 use Rattle.ix_tree.specs.declared.stmt.Stmt.{Stmt, fold-roll-Stmt}
 use Rattle.ix_tree.specs.declared.stmt.StmtKind.{StmtKind, StmtKind-F, fold-StmtKind, fold-roll-StmtKind}
 use Rattle.ix_tree.specs.declared.stmt.StmtKind.TheVariants as kind
-use Rattle.ix_tree.specs.declared.stmt.StmtKind.TheVariants.{rolls-While, rolls-Do, rolls-For}
+use Rattle.ix_tree.specs.declared.stmt.StmtKind.TheVariants.{rolls-Block, rolls-If, rolls-While, rolls-Do, rolls-For}
 use Rattle.ix_plain.specs.declared.body.Body.{Body}
 use Rattle.ix_plain.specs.declared.made.Stop.{Stop}
 use Rattle.ix_plain.specs.declared.made.Stop.TheVariants as stop
 use Rattle.ix_plain.specs.Parts.{Within, ◌>>=◌}
 use Rattle.ix_plain.specs.Scope.{Site}
-use Rattle.ix_plain.specs.Statements.{Run, Running, Inside, kind_step, stmt_step, statement, while, do_while, counted, in_loop, tested, tested_if, branch, inside, each, all_ran, no_block, with_last, with_free}
+use Rattle.ix_plain.specs.Statements.{Run, Running, Inside, kind_step, stmt_step, statement, while, do_while, counted, chosen, in_loop, tested, tested_if, branch, inside, each, all_ran, no_block, with_last, with_free}
 
 abbrev kind_run : StmtKind → Span → Run
 kind_run = fold-StmtKind (Span → Run) Running kind_step stmt_step
@@ -135,3 +135,41 @@ module _ (stmt : Stmt) (site : Site) (end : ℕ) (body : Body) where
                 → (statement stmt).run site end body ≡ Ok (with_last (with_free body.made.free after) (Loop true cond block next opened.loops opened.made.free))
             for_made next after done =
                 for_is ∙ rw (at_first (Ok opened) opens, begins, tests, turn_is (Ok (record { block = block; body = turned })) turns, update_is (Ok (record { block = next; body = after })) done)
+
+  module _ (condition : Expr) (first : Stmt) (second : Option Stmt) (is : stmt.kind ≡ kind.If condition first second) where
+    chosen_by : (other : Option Stmt) → stmt.kind ≡ kind.If condition first other → (statement stmt).run site end body ≡ chosen condition (statement first) (option_map statement other) site body
+    chosen_by None is =
+        by_kind (kind.If condition first None) is
+        ∙ (ap (λ (k : StmtKind). kind_run k stmt.span site end body) (sym (rolls-If condition first None))
+        ∙ ap (λ (r : Span → Run). r stmt.span site end body) (fold-roll-StmtKind (Span → Run) Running kind_step stmt_step (StmtKind-F.If condition first None)))
+    chosen_by (Some other) is =
+        by_kind (kind.If condition first (Some other)) is
+        ∙ (ap (λ (k : StmtKind). kind_run k stmt.span site end body) (sym (rolls-If condition first (Some other)))
+        ∙ ap (λ (r : Span → Run). r stmt.span site end body) (fold-roll-StmtKind (Span → Run) Running kind_step stmt_step (StmtKind-F.If condition first (Some other))))
+
+    pub choice_not_asked : (which : Which) → tested site condition body ≡ Err which → (statement stmt).run site end body ≡ Err which
+    choice_not_asked which refused = chosen_by second is ∙ rw refused
+
+    module _ (cond : Cond) (asked : Body) (got : Stmt) (tests : tested site condition body ≡ Ok (record { cond = cond; body = asked })) (same : got ≡ first) where
+      first_is : (answer : Within Inside) → branch (statement got) site asked ≡ answer → branch (statement first) site asked ≡ answer
+      first_is answer is = ap (λ s. branch (statement s) site asked) (sym same) ∙ is
+
+      pub choice_not_held : (which : Which) → branch (statement got) site asked ≡ Err which → (statement stmt).run site end body ≡ Err which
+      choice_not_held which refused = chosen_by second is ∙ rw (tests, first_is (Err which) refused)
+
+      pub choice_not_failed : (which : Which) (block : Block) (held : Body) (other also : Stmt) → branch (statement got) site asked ≡ Ok (record { block = block; body = held })
+          → second ≡ Some other → also ≡ other → branch (statement also) site held ≡ Err which → (statement stmt).run site end body ≡ Err which
+      choice_not_failed which block held other also holds there alike refused =
+          chosen_by (Some other) (is ∙ ap (λ o. kind.If condition first o) there)
+          ∙ rw (tests, first_is (Ok (record { block = block; body = held })) holds, ap (λ s. branch (statement s) site held) (sym alike) ∙ refused)
+
+  module _ (inner slice : List Stmt) (is : stmt.kind ≡ kind.Block inner) (sliced : slice ≡ inner) where
+    block_is : (statement stmt).run site end body ≡ each (map statement inner) site stmt.span.to body >>= (λ done. Ok (with_free body.made.free done))
+    block_is =
+        by_kind (kind.Block inner) is
+        ∙ (ap (λ (k : StmtKind). kind_run k stmt.span site end body) (sym (rolls-Block inner))
+        ∙ ap (λ (r : Span → Run). r stmt.span site end body) (fold-roll-StmtKind (Span → Run) Running kind_step stmt_step (StmtKind-F.Block inner)))
+
+    pub block_done : (answer : Within Body) → each (map statement slice) site stmt.span.to body ≡ answer → (statement stmt).run site end body ≡ answer >>= (λ done. Ok (with_free body.made.free done))
+    block_done answer done =
+        block_is ∙ ap (λ (r : Within Body). r >>= (λ done. Ok (with_free body.made.free done))) (ap (λ all. each (map statement all) site stmt.span.to body) (sym sliced) ∙ done)

@@ -3,7 +3,7 @@ use Rattle.ix_core.specs.declared.code.Block.{Block}
 use Rattle.ix_core.specs.declared.code.Item.{Loop}
 use Rattle.ix_plain.specs.Statements.{each, statement, with_last, with_free}
 use Rattle.ix_lower_values.specs.Shown.{shown_site}
-use Rattle.ix_lower_bodies.proofs.LoopParts.{no_limit, same_limit, not_made, pushed, while_not_begun, while_not_tested, while_not_turned, while_made, do_not_begun, do_not_turned, do_not_tested, do_made, for_not_opened, for_not_begun, for_not_tested, for_not_turned, for_not_updated, for_made}
+use Rattle.ix_lower_bodies.proofs.LoopParts.{no_limit, same_limit, not_made, pushed, while_not_begun, while_not_tested, while_not_turned, while_made, do_not_begun, do_not_turned, do_not_tested, do_made, for_not_opened, for_not_begun, for_not_tested, for_not_turned, for_not_updated, for_made, choice_not_asked, choice_not_held, choice_not_failed, block_done}
 use Rattle.ix_lower_bodies.proofs.OneByOne.{refused}
 use Rattle.ix_lower_bodies.proofs.statement.+statements.Goals as goal
 
@@ -104,4 +104,34 @@ each-returns-in_err-statement t c = record {
       (each (map statement c.args.statements.now) (shown_site c.args.site.now) c.args.end c.args.body.now) c.stmt-item.result c.loop-stmt.body which c.loop-stmt-test.true c.stmt-item.is c.loop-stmt.invariant
       (c.in_err-statement.ensures.limit which (same_limit c.from_residual.result c.in_err-statement.field-0.0 which c.from_residual.ensures.1 is));
   body = not_made c.from_residual.result (λ _. each (map statement c.args.statements.now) (shown_site c.args.site.now) c.args.end c.args.body.now ≡ Ok c.statement.new.body) c.from_residual.ensures.0;
+}
+
+pub plain-returns-in_err-asked-in-If : goal.plain-returns-in_err-asked-in-If
+plain-returns-in_err-asked-in-If t c = record {
+  limit = λ which is. choice_not_asked c.args.stmt.now (shown_site c.args.site.now) c.args.end c.args.body.now c.in-If.condition c.in-If.first c.in-If.second c.in-If.is which (c.in_err-asked-in-If.ensures.limit which (same_limit c.from_residual-in_err-asked-in-If.result c.in_err-asked-in-If.field-0.0 which c.from_residual-in_err-asked-in-If.ensures.1 is));
+  body = not_made c.from_residual-in_err-asked-in-If.result (λ _. (statement c.args.stmt.now).run (shown_site c.args.site.now) c.args.end c.args.body.now ≡ Ok c.test.new.body) c.from_residual-in_err-asked-in-If.ensures.0;
+}
+
+pub plain-returns-in_err-holds-in-If : goal.plain-returns-in_err-holds-in-If
+plain-returns-in_err-holds-in-If t c = record {
+  limit = λ which is. choice_not_held c.args.stmt.now (shown_site c.args.site.now) c.args.end c.args.body.now c.in-If.condition c.in-If.first c.in-If.second c.in-If.is c.in_ok-asked-in-If.asked c.test.new.body c.get.result.now c.in_ok-asked-in-If.ensures.body c.get.ensures which (c.in_err-holds-in-If.ensures.limit which (same_limit c.from_residual-in_err-holds-in-If.result c.in_err-holds-in-If.field-0.0 which c.from_residual-in_err-holds-in-If.ensures.1 is));
+  body = not_made c.from_residual-in_err-holds-in-If.result (λ _. (statement c.args.stmt.now).run (shown_site c.args.site.now) c.args.end c.args.body.now ≡ Ok c.branch-alloc.new.body) c.from_residual-in_err-holds-in-If.ensures.0;
+}
+
+pub plain-returns-in_err-fails-in-Some : goal.plain-returns-in_err-fails-in-Some
+plain-returns-in_err-fails-in-Some t c = record {
+  limit = λ which is. choice_not_failed c.args.stmt.now (shown_site c.args.site.now) c.args.end c.args.body.now c.in-If.condition c.in-If.first c.in-If.second c.in-If.is c.in_ok-asked-in-If.asked c.test.new.body c.get.result.now c.in_ok-asked-in-If.ensures.body c.get.ensures which c.in_ok-holds-in-If.holds c.branch-alloc.new.body c.in-Some.second c.get-in-Some.result.now c.in_ok-holds-in-If.ensures.body c.in-Some.is c.get-in-Some.ensures (c.in_err-fails-in-Some.ensures.limit which (same_limit c.from_residual-in_err-fails-in-Some.result c.in_err-fails-in-Some.field-0.0 which c.from_residual-in_err-fails-in-Some.ensures.1 is));
+  body = not_made c.from_residual-in_err-fails-in-Some.result (λ _. (statement c.args.stmt.now).run (shown_site c.args.site.now) c.args.end c.args.body.now ≡ Ok c.branch-alloc-in-Some.new.body) c.from_residual-in_err-fails-in-Some.ensures.0;
+}
+
+pub plain-returns-in_err-each-in-Block : goal.plain-returns-in_err-each-in-Block
+plain-returns-in_err-each-in-Block t c = record {
+  limit = λ which is. block_done c.args.stmt.now (shown_site c.args.site.now) c.args.end c.args.body.now c.in-Block.statements c.as_slice.result.now c.in-Block.is c.as_slice.ensures (Err which) (c.in_err-each-in-Block.ensures.limit which (same_limit c.from_residual.result c.in_err-each-in-Block.field-0.0 which c.from_residual.ensures.1 is));
+  body = not_made c.from_residual.result (λ _. (statement c.args.stmt.now).run (shown_site c.args.site.now) c.args.end c.args.body.now ≡ Ok c.each.new.body) c.from_residual.ensures.0;
+}
+
+pub plain-returns-in_ok-each-in-Block : goal.plain-returns-in_ok-each-in-Block
+plain-returns-in_ok-each-in-Block t c = record {
+  limit = search rules;
+  body = block_done c.args.stmt.now (shown_site c.args.site.now) c.args.end c.args.body.now c.in-Block.statements c.as_slice.result.now c.in-Block.is c.as_slice.ensures (Ok c.each.new.body) c.in_ok-each-in-Block.ensures.body;
 }
