@@ -1,3 +1,4 @@
 pub mod InTurn
 pub mod Calls
 pub mod Assignments
+pub mod Elements

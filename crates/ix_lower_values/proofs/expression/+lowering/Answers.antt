@@ -1,8 +1,10 @@
-use Rattle.std.proofs.Common.{◌∙◌, [], ap, map, option_map, refl, rules, sym}
+use Rattle.std.proofs.Common.{◌≡◌, ◌∙◌, Ok, [], ap, map, option_map, refl, rules, sym}
+use Rattle.ix_plain.specs.Parts.{in_place}
 use Rattle.ix_plain.specs.Values.{lowering, object_class, arguments_from}
 use Rattle.ix_lower_values.specs.Shown.{shown_scope, all_given, all_initial}
 use Rattle.ix_lower_values.proofs.Assignments.{target_refused, value_refused, value_written, read_refused, operand_refused, operands_made, stepped_refused, step_behind_target}
 use Rattle.ix_lower_values.proofs.Calls.{before_refused, arguments_refused, call_made, class_is, call_is}
+use Rattle.ix_lower_values.proofs.Elements.{same_limit, not_made, carried, array_refused, cell_array_refused, index_refused, cell_index_refused, element_made}
 use Rattle.ix_lower_values.proofs.InTurn.{next_argument, argument_refused, all_arguments, next_entry, entry_refused, all_entries}
 use Rattle.ix_lower_values.proofs.expression.+lowering.Goals as goal
 
@@ -78,8 +80,8 @@ called-returns t c =
 
 pub assigned-returns-in_err-spot-in-Step : goal.assigned-returns-in_err-spot-in-Step
 assigned-returns-in_err-spot-in-Step t c = record {
-  limit = λ which is. stepped_refused c.args.expr.now (shown_scope c.args.scope.now) c.args.made.now c.in-Step.up c.in-Step.after c.in-Step.place c.get-in-Step.result.now which c.in-Step.is c.get-in-Step.ensures (c.in_err-spot-in-Step.ensures.limit which (search rules));
-  made = search rules;
+  limit = λ which is. stepped_refused c.args.expr.now (shown_scope c.args.scope.now) c.args.made.now c.in-Step.up c.in-Step.after c.in-Step.place c.get-in-Step.result.now which c.in-Step.is c.get-in-Step.ensures (c.in_err-spot-in-Step.ensures.limit which (same_limit c.from_residual-in_err-spot-in-Step.result c.in_err-spot-in-Step.field-0.0 which c.from_residual-in_err-spot-in-Step.ensures.1 is));
+  made = not_made c.from_residual-in_err-spot-in-Step.result (λ at. (lowering c.args.expr.now).value (shown_scope c.args.scope.now) c.args.made.now ≡ in_place c.target-in-Step.new.made at) c.from_residual-in_err-spot-in-Step.ensures.0;
 }
 
 pub assigned-returns-in_ok-spot-in-Step : goal.assigned-returns-in_ok-spot-in-Step
@@ -87,5 +89,77 @@ assigned-returns-in_ok-spot-in-Step t c =
     let whole = step_behind_target c.args.expr.now (shown_scope c.args.scope.now) c.args.made.now c.in-Step.up c.in-Step.after c.in-Step.place c.get-in-Step.result.now c.get-in-Step-2.result.now c.in_ok-spot-in-Step.spot c.target-in-Step.new.made c.in-Step.is c.get-in-Step.ensures c.get-in-Step-2.ensures c.in_ok-spot-in-Step.ensures.made in
     record {
       limit = λ which is. whole ∙ c.stepped.ensures.limit which is;
-      made = search rules;
+      made = carried (λ at. in_place c.stepped.new.made at) c.stepped.result whole c.stepped.ensures.made;
     }
+
+pub assigned-returns-in_err-spot-in-Assign : goal.assigned-returns-in_err-spot-in-Assign
+assigned-returns-in_err-spot-in-Assign t c = record {
+  limit = λ which is. target_refused c.args.expr.now (shown_scope c.args.scope.now) c.args.made.now c.in-Assign.operator c.in-Assign.place c.in-Assign.from c.get.result.now which c.in-Assign.is c.get.ensures (c.in_err-spot-in-Assign.ensures.limit which (same_limit c.from_residual.result c.in_err-spot-in-Assign.field-0.0 which c.from_residual.ensures.1 is));
+  made = not_made c.from_residual.result (λ at. (lowering c.args.expr.now).value (shown_scope c.args.scope.now) c.args.made.now ≡ in_place c.target.new.made at) c.from_residual.ensures.0;
+}
+
+pub assigned-returns-in_err-v-in-None : goal.assigned-returns-in_err-v-in-None
+assigned-returns-in_err-v-in-None t c = record {
+  limit = λ which is. value_refused c.args.expr.now (shown_scope c.args.scope.now) c.args.made.now c.in-Assign.operator c.in-Assign.place c.in-Assign.from c.get.result.now c.in_ok-spot-in-Assign.spot c.target.new.made c.in-Assign.is c.get.ensures c.in_ok-spot-in-Assign.ensures.made c.get-in-None.result.now which c.in-None.is c.get-in-None.ensures (c.in_err-v-in-None.ensures.limit which (same_limit c.from_residual-in_err-v-in-None.result c.in_err-v-in-None.field-0.0 which c.from_residual-in_err-v-in-None.ensures.1 is));
+  made = not_made c.from_residual-in_err-v-in-None.result (λ at. (lowering c.args.expr.now).value (shown_scope c.args.scope.now) c.args.made.now ≡ in_place c.value.new.made at) c.from_residual-in_err-v-in-None.ensures.0;
+}
+
+pub assigned-returns-in_ok-v-in-None : goal.assigned-returns-in_ok-v-in-None
+assigned-returns-in_ok-v-in-None t c =
+    let whole = value_written c.args.expr.now (shown_scope c.args.scope.now) c.args.made.now c.in-Assign.operator c.in-Assign.place c.in-Assign.from c.get.result.now c.in_ok-spot-in-Assign.spot c.target.new.made c.in-Assign.is c.get.ensures c.in_ok-spot-in-Assign.ensures.made c.get-in-None.result.now c.get-in-None-2.result.now c.get-in-None-3.result.now c.value.new.made c.in_ok-v-in-None.v c.in-None.is c.get-in-None.ensures c.get-in-None-2.ensures c.get-in-None-3.ensures c.in_ok-v-in-None.ensures.made in
+    record {
+      limit = λ which is. whole ∙ c.written.ensures.limit which is;
+      made = carried (λ at. in_place c.written.new.made at) c.written.result whole c.written.ensures.made;
+    }
+
+pub assigned-returns-in_err-y-in-Some : goal.assigned-returns-in_err-y-in-Some
+assigned-returns-in_err-y-in-Some t c = record {
+  limit = λ which is. read_refused c.args.expr.now (shown_scope c.args.scope.now) c.args.made.now c.in-Assign.operator c.in-Assign.place c.in-Assign.from c.get.result.now c.in_ok-spot-in-Assign.spot c.target.new.made c.in-Assign.is c.get.ensures c.in_ok-spot-in-Assign.ensures.made c.in-Some.arith c.get-in-Some.result.now which c.in-Some.is c.get-in-Some.ensures (c.in_err-y-in-Some.ensures.limit which (same_limit c.from_residual-in_err-y-in-Some.result c.in_err-y-in-Some.field-0.0 which c.from_residual-in_err-y-in-Some.ensures.1 is));
+  made = not_made c.from_residual-in_err-y-in-Some.result (λ at. (lowering c.args.expr.now).value (shown_scope c.args.scope.now) c.args.made.now ≡ in_place c.read.new.made at) c.from_residual-in_err-y-in-Some.ensures.0;
+}
+
+pub assigned-returns-in_err-z-in-Some : goal.assigned-returns-in_err-z-in-Some
+assigned-returns-in_err-z-in-Some t c = record {
+  limit = λ which is. operand_refused c.args.expr.now (shown_scope c.args.scope.now) c.args.made.now c.in-Assign.operator c.in-Assign.place c.in-Assign.from c.get.result.now c.in_ok-spot-in-Assign.spot c.target.new.made c.in-Assign.is c.get.ensures c.in_ok-spot-in-Assign.ensures.made c.in-Some.arith c.get-in-Some.result.now c.get-in-Some-2.result.now c.read.new.made c.in_ok-y-in-Some.y which c.in-Some.is c.get-in-Some.ensures c.get-in-Some-2.ensures c.in_ok-y-in-Some.ensures.made (c.in_err-z-in-Some.ensures.limit which (same_limit c.from_residual-in_err-z-in-Some.result c.in_err-z-in-Some.field-0.0 which c.from_residual-in_err-z-in-Some.ensures.1 is));
+  made = not_made c.from_residual-in_err-z-in-Some.result (λ at. (lowering c.args.expr.now).value (shown_scope c.args.scope.now) c.args.made.now ≡ in_place c.value-in-Some.new.made at) c.from_residual-in_err-z-in-Some.ensures.0;
+}
+
+pub assigned-returns-in_ok-z-in-Some : goal.assigned-returns-in_ok-z-in-Some
+assigned-returns-in_ok-z-in-Some t c =
+    let whole = operands_made c.args.expr.now (shown_scope c.args.scope.now) c.args.made.now c.in-Assign.operator c.in-Assign.place c.in-Assign.from c.get.result.now c.in_ok-spot-in-Assign.spot c.target.new.made c.in-Assign.is c.get.ensures c.in_ok-spot-in-Assign.ensures.made c.in-Some.arith c.get-in-Some.result.now c.get-in-Some-2.result.now c.get-in-Some-3.result.now c.read.new.made c.value-in-Some.new.made c.in_ok-y-in-Some.y c.in_ok-z-in-Some.z c.in-Some.is c.get-in-Some.ensures c.get-in-Some-2.ensures c.get-in-Some-3.ensures c.in_ok-y-in-Some.ensures.made c.in_ok-z-in-Some.ensures.made in
+    record {
+      limit = λ which is. whole ∙ c.computed_into.ensures.limit which is;
+      made = carried (λ at. in_place c.computed_into.new.made at) c.computed_into.result whole c.computed_into.ensures.made;
+    }
+
+pub selected-returns-in_err-a-in-Index : goal.selected-returns-in_err-a-in-Index
+selected-returns-in_err-a-in-Index t c = record {
+  limit = λ which is. array_refused c.args.expr.now (shown_scope c.args.scope.now) c.args.made.now c.in-Index.array c.in-Index.index c.get-in-Index.result.now c.in-Index.is c.get-in-Index.ensures which (c.in_err-a-in-Index.ensures.limit which (same_limit c.from_residual-in_err-a-in-Index.result c.in_err-a-in-Index.field-0.0 which c.from_residual-in_err-a-in-Index.ensures.1 is));
+  made = not_made c.from_residual-in_err-a-in-Index.result (λ at. (lowering c.args.expr.now).value (shown_scope c.args.scope.now) c.args.made.now ≡ in_place c.value-in-Index.new.made at) c.from_residual-in_err-a-in-Index.ensures.0;
+}
+
+pub selected-returns-in_err-i-in-Index : goal.selected-returns-in_err-i-in-Index
+selected-returns-in_err-i-in-Index t c = record {
+  limit = λ which is. index_refused c.args.expr.now (shown_scope c.args.scope.now) c.args.made.now c.in-Index.array c.in-Index.index c.get-in-Index.result.now c.in-Index.is c.get-in-Index.ensures c.value-in-Index.new.made c.in_ok-a-in-Index.a c.get-in-Index-2.result.now c.in_ok-a-in-Index.ensures.made c.get-in-Index-2.ensures which (c.in_err-i-in-Index.ensures.limit which (same_limit c.from_residual-in_err-i-in-Index.result c.in_err-i-in-Index.field-0.0 which c.from_residual-in_err-i-in-Index.ensures.1 is));
+  made = not_made c.from_residual-in_err-i-in-Index.result (λ at. (lowering c.args.expr.now).value (shown_scope c.args.scope.now) c.args.made.now ≡ in_place c.value-in-Index-2.new.made at) c.from_residual-in_err-i-in-Index.ensures.0;
+}
+
+pub selected-returns-in_ok-i-in-Index : goal.selected-returns-in_ok-i-in-Index
+selected-returns-in_ok-i-in-Index t c =
+    let whole = element_made c.args.expr.now (shown_scope c.args.scope.now) c.args.made.now c.in-Index.array c.in-Index.index c.get-in-Index.result.now c.in-Index.is c.get-in-Index.ensures c.value-in-Index.new.made c.in_ok-a-in-Index.a c.get-in-Index-2.result.now c.in_ok-a-in-Index.ensures.made c.get-in-Index-2.ensures c.value-in-Index-2.new.made c.in_ok-i-in-Index.i c.get-in-Index-3.result.now c.get-in-Index-4.result.now c.in_ok-i-in-Index.ensures.made c.get-in-Index-3.ensures c.get-in-Index-4.ensures in
+    record {
+      limit = λ which is. whole ∙ c.loaded.ensures.limit which is;
+      made = carried (λ at. in_place c.loaded.new.made at) c.loaded.result whole c.loaded.ensures.made;
+    }
+
+pub selected_target-returns-in_err-a-in-Index : goal.selected_target-returns-in_err-a-in-Index
+selected_target-returns-in_err-a-in-Index t c = record {
+  limit = λ which is. cell_array_refused c.args.expr.now (shown_scope c.args.scope.now) c.args.made.now c.in-Index.array c.in-Index.index c.get-in-Index.result.now c.in-Index.is c.get-in-Index.ensures which (c.in_err-a-in-Index.ensures.limit which (same_limit c.from_residual-in_err-a-in-Index.result c.in_err-a-in-Index.field-0.0 which c.from_residual-in_err-a-in-Index.ensures.1 is));
+  made = not_made c.from_residual-in_err-a-in-Index.result (λ spot. (lowering c.args.expr.now).target (shown_scope c.args.scope.now) c.args.made.now ≡ Ok (record { made = c.value-in-Index.new.made; spot = spot })) c.from_residual-in_err-a-in-Index.ensures.0;
+}
+
+pub selected_target-returns-in_err-i-in-Index : goal.selected_target-returns-in_err-i-in-Index
+selected_target-returns-in_err-i-in-Index t c = record {
+  limit = λ which is. cell_index_refused c.args.expr.now (shown_scope c.args.scope.now) c.args.made.now c.in-Index.array c.in-Index.index c.get-in-Index.result.now c.in-Index.is c.get-in-Index.ensures c.value-in-Index.new.made c.in_ok-a-in-Index.a c.get-in-Index-2.result.now c.in_ok-a-in-Index.ensures.made c.get-in-Index-2.ensures which (c.in_err-i-in-Index.ensures.limit which (same_limit c.from_residual-in_err-i-in-Index.result c.in_err-i-in-Index.field-0.0 which c.from_residual-in_err-i-in-Index.ensures.1 is));
+  made = not_made c.from_residual-in_err-i-in-Index.result (λ spot. (lowering c.args.expr.now).target (shown_scope c.args.scope.now) c.args.made.now ≡ Ok (record { made = c.value-in-Index-2.new.made; spot = spot })) c.from_residual-in_err-i-in-Index.ensures.0;
+}
