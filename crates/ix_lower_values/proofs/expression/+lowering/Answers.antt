@@ -36,15 +36,15 @@ entries-returns t c = record {
 pub arguments-returns-in_err-slot : goal.arguments-returns-in_err-slot
 arguments-returns-in_err-slot t c = record {
   limit = λ which is. argument_refused c.args.exprs.now c.loop-expr.expr-index (shown_scope c.args.scope.now) c.expr-item.result c.loop-expr.args c.loop-expr.made which
-      (all_given c.args.scope.now c.args.exprs.now c.args.made.now) c.loop-expr-test.true c.expr-item.is c.loop-expr.invariant (c.in_err-slot.ensures.limit which (search rules));
-  made = search rules;
+      (all_given c.args.scope.now c.args.exprs.now c.args.made.now) c.loop-expr-test.true c.expr-item.is c.loop-expr.invariant (c.in_err-slot.ensures.limit which (same_limit c.from_residual.result c.in_err-slot.field-0.0 which c.from_residual.ensures.1 is));
+  made = not_made c.from_residual.result (λ args. all_given c.args.scope.now c.args.exprs.now c.args.made.now ≡ Ok (record { made = c.value.new.made; args = args })) c.from_residual.ensures.0;
 }
 
 pub entries-returns-in_err-slot : goal.entries-returns-in_err-slot
 entries-returns-in_err-slot t c = record {
   limit = λ which is. entry_refused c.args.inits.now c.loop-init.init-index (shown_scope c.args.scope.now) c.args.cell.now c.init-item.result c.loop-init.slots c.loop-init.made which
-      (all_initial c.args.scope.now c.args.inits.now c.args.cell.now c.args.made.now) c.loop-init-test.true c.init-item.is c.loop-init.invariant (c.in_err-slot.ensures.limit which (search rules));
-  made = search rules;
+      (all_initial c.args.scope.now c.args.inits.now c.args.cell.now c.args.made.now) c.loop-init-test.true c.init-item.is c.loop-init.invariant (c.in_err-slot.ensures.limit which (same_limit c.from_residual.result c.in_err-slot.field-0.0 which c.from_residual.ensures.1 is));
+  made = not_made c.from_residual.result (λ slots. all_initial c.args.scope.now c.args.inits.now c.args.cell.now c.args.made.now ≡ Ok (record { made = c.filling.new.made; slots = slots })) c.from_residual.ensures.0;
 }
 
 pub called-returns-in_err-o-in-Call : goal.called-returns-in_err-o-in-Call
@@ -52,8 +52,8 @@ called-returns-in_err-o-in-Call t c =
     let unrolled = call_is c.args.expr.now c.in-Call.object c.in-Call.name c.in-Call.args (shown_scope c.args.scope.now) c.args.made.now c.meaning_at.result c.method_number-method.result
     c.head_at-head.result c.in-Call.is c.meaning_at.ensures c.method_number-method.ensures c.head_at-head.ensures in
     record {
-      limit = λ which is. unrolled ∙ before_refused c.head_at-head.result (option_map lowering c.in-Call.object) c.method_number-method.result (object_class (option_map lowering c.in-Call.object) (shown_scope c.args.scope.now)) (map lowering c.in-Call.args) c.in-Call.name.span (shown_scope c.args.scope.now) c.args.made.now refl which (c.in_err-o-in-Call.ensures.limit which (search rules));
-      made = search rules;
+      limit = λ which is. unrolled ∙ before_refused c.head_at-head.result (option_map lowering c.in-Call.object) c.method_number-method.result (object_class (option_map lowering c.in-Call.object) (shown_scope c.args.scope.now)) (map lowering c.in-Call.args) c.in-Call.name.span (shown_scope c.args.scope.now) c.args.made.now refl which (c.in_err-o-in-Call.ensures.limit which (same_limit c.from_residual.result c.in_err-o-in-Call.field-0.0 which c.from_residual.ensures.1 is));
+      made = not_made c.from_residual.result (λ at. (lowering c.args.expr.now).value (shown_scope c.args.scope.now) c.args.made.now ≡ in_place c.receiver.new.made at) c.from_residual.ensures.0;
     }
 
 pub called-returns-in_err-args-in-Call : goal.called-returns-in_err-args-in-Call
@@ -62,8 +62,8 @@ called-returns-in_err-args-in-Call t c =
     c.head_at-head.result c.in-Call.is c.meaning_at.ensures c.method_number-method.ensures c.head_at-head.ensures in
     record {
       limit = λ which is. unrolled ∙ arguments_refused c.head_at-head.result (option_map lowering c.in-Call.object) c.method_number-method.result (object_class (option_map lowering c.in-Call.object) (shown_scope c.args.scope.now)) (map lowering c.in-Call.args) c.in-Call.name.span (shown_scope c.args.scope.now) c.args.made.now refl c.receiver.new.made c.in_ok-o-in-Call.o which c.in_ok-o-in-Call.ensures.made
-          (ap (λ exprs. arguments_from [] (map lowering exprs) (shown_scope c.args.scope.now) c.receiver.new.made) (sym c.as_slice.ensures) ∙ c.in_err-args-in-Call.ensures.limit which (search rules));
-      made = search rules;
+          (ap (λ exprs. arguments_from [] (map lowering exprs) (shown_scope c.args.scope.now) c.receiver.new.made) (sym c.as_slice.ensures) ∙ c.in_err-args-in-Call.ensures.limit which (same_limit c.from_residual-in_err-args-in-Call.result c.in_err-args-in-Call.field-0.0 which c.from_residual-in_err-args-in-Call.ensures.1 is));
+      made = not_made c.from_residual-in_err-args-in-Call.result (λ at. (lowering c.args.expr.now).value (shown_scope c.args.scope.now) c.args.made.now ≡ in_place c.arguments.new.made at) c.from_residual-in_err-args-in-Call.ensures.0;
     }
 
 pub called-returns : goal.called-returns
@@ -75,7 +75,7 @@ called-returns t c =
     (ap (λ exprs. arguments_from [] (map lowering exprs) (shown_scope c.args.scope.now) c.receiver.new.made) (sym c.as_slice.ensures) ∙ c.in_ok-args-in-Call.ensures.made) in
     record {
       limit = λ which is. whole ∙ c.call_on.ensures.limit which is;
-      made = search rules;
+      made = carried (λ at. in_place c.call_on.new.made at) c.call_on.result whole c.call_on.ensures.made;
     }
 
 pub assigned-returns-in_err-spot-in-Step : goal.assigned-returns-in_err-spot-in-Step
