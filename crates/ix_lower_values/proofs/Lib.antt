@@ -2,3 +2,4 @@ pub mod InTurn
 pub mod Calls
 pub mod Assignments
 pub mod Elements
+pub mod Creations

@@ -4,6 +4,7 @@ use Rattle.ix_plain.specs.Values.{lowering, object_class, arguments_from}
 use Rattle.ix_lower_values.specs.Shown.{shown_scope, all_given, all_initial}
 use Rattle.ix_lower_values.proofs.Assignments.{target_refused, value_refused, value_written, read_refused, operand_refused, operands_made, stepped_refused, step_behind_target}
 use Rattle.ix_lower_values.proofs.Calls.{before_refused, arguments_refused, call_made, class_is, call_is}
+use Rattle.ix_lower_values.proofs.Creations.{size_refused, array_made, given_refused, object_refused}
 use Rattle.ix_lower_values.proofs.Elements.{same_limit, not_made, carried, array_refused, cell_array_refused, index_refused, cell_index_refused, element_made}
 use Rattle.ix_lower_values.proofs.InTurn.{next_argument, argument_refused, all_arguments, next_entry, entry_refused, all_entries}
 use Rattle.ix_lower_values.proofs.expression.+lowering.Goals as goal
@@ -163,3 +164,30 @@ selected_target-returns-in_err-i-in-Index t c = record {
   limit = λ which is. cell_index_refused c.args.expr.now (shown_scope c.args.scope.now) c.args.made.now c.in-Index.array c.in-Index.index c.get-in-Index.result.now c.in-Index.is c.get-in-Index.ensures c.value-in-Index.new.made c.in_ok-a-in-Index.a c.get-in-Index-2.result.now c.in_ok-a-in-Index.ensures.made c.get-in-Index-2.ensures which (c.in_err-i-in-Index.ensures.limit which (same_limit c.from_residual-in_err-i-in-Index.result c.in_err-i-in-Index.field-0.0 which c.from_residual-in_err-i-in-Index.ensures.1 is));
   made = not_made c.from_residual-in_err-i-in-Index.result (λ spot. (lowering c.args.expr.now).target (shown_scope c.args.scope.now) c.args.made.now ≡ Ok (record { made = c.value-in-Index-2.new.made; spot = spot })) c.from_residual-in_err-i-in-Index.ensures.0;
 }
+
+pub selected_target-returns-in_err-o-in-Select : goal.selected_target-returns-in_err-o-in-Select
+selected_target-returns-in_err-o-in-Select t c = record {
+  limit = λ which is. object_refused c.args.expr.now (shown_scope c.args.scope.now) c.args.made.now c.in-Select.object c.get.result.now c.in-Select.name which c.in-Select.is c.get.ensures (c.in_err-o-in-Select.ensures.limit which (same_limit c.from_residual.result c.in_err-o-in-Select.field-0.0 which c.from_residual.ensures.1 is));
+  made = not_made c.from_residual.result (λ spot. (lowering c.args.expr.now).target (shown_scope c.args.scope.now) c.args.made.now ≡ Ok (record { made = c.value.new.made; spot = spot })) c.from_residual.ensures.0;
+}
+
+pub created-returns-in_err-args-in-New : goal.created-returns-in_err-args-in-New
+created-returns-in_err-args-in-New t c = record {
+  limit = λ which is. given_refused c.args.expr.now (shown_scope c.args.scope.now) c.args.made.now c.in-New.name c.in-New.args c.as_slice.result.now which c.in-New.is c.as_slice.ensures (c.in_err-args-in-New.ensures.limit which (same_limit c.from_residual.result c.in_err-args-in-New.field-0.0 which c.from_residual.ensures.1 is));
+  made = not_made c.from_residual.result (λ at. (lowering c.args.expr.now).value (shown_scope c.args.scope.now) c.args.made.now ≡ in_place c.arguments.new.made at) c.from_residual.ensures.0;
+}
+
+pub created-returns-in_err-n-in-NewArray : goal.created-returns-in_err-n-in-NewArray
+created-returns-in_err-n-in-NewArray t c = record {
+  limit = λ which is. size_refused c.args.expr.now (shown_scope c.args.scope.now) c.args.made.now c.in-NewArray.field-0 c.in-NewArray.size c.get.result.now which c.in-NewArray.is c.get.ensures (c.in_err-n-in-NewArray.ensures.limit which (same_limit c.from_residual-in_err-n-in-NewArray.result c.in_err-n-in-NewArray.field-0.0 which c.from_residual-in_err-n-in-NewArray.ensures.1 is));
+  made = not_made c.from_residual-in_err-n-in-NewArray.result (λ at. (lowering c.args.expr.now).value (shown_scope c.args.scope.now) c.args.made.now ≡ in_place c.value.new.made at) c.from_residual-in_err-n-in-NewArray.ensures.0;
+}
+
+pub created-returns-in_ok-n-in-NewArray : goal.created-returns-in_ok-n-in-NewArray
+created-returns-in_ok-n-in-NewArray t c =
+    let whole = array_made c.args.expr.now (shown_scope c.args.scope.now) c.args.made.now c.in-NewArray.field-0 c.in-NewArray.size c.get.result.now c.get-in-NewArray.result.now c.value.new.made c.in_ok-n-in-NewArray.n c.in-NewArray.is c.get.ensures c.get-in-NewArray.ensures
+    c.in_ok-n-in-NewArray.ensures.made in
+    record {
+      limit = λ which is. whole ∙ c.new_array.ensures.limit which is;
+      made = carried (λ at. in_place c.new_array.new.made at) c.new_array.result whole c.new_array.ensures.made;
+    }
