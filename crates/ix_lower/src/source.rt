@@ -1,5 +1,5 @@
 //! Whole sources.
-ghost use Rattle.std.specs.Prelude.{◌≡◌, ◌++◌, ◌∷◌, ◌+◌, ◌<◌, ◌^◌, [], ℕ, Ok, Err, length, IfOk, OnOk, IsErrOf};
+ghost use Rattle.std.specs.Prelude.{◌≡◌, ◌++◌, ◌∷◌, ◌+◌, ◌<◌, ◌^◌, [], ℕ, Ok, Err, length, IfOk, OnOk, IsErrOf, MatchResult};
 ghost use Rattle.ix_core.specs.Formed.{Formed};
 ghost use Rattle.ix_meaning.specs.declared.note.Which.{Which};
 ghost use Rattle.ix_meaning.specs.Resolved.{Accepts, names};
@@ -84,10 +84,13 @@ fn placed_default<'t>(
     }
 }
 
-fn push_method(methods: &mut List<Method>, method: Method) -> Result<(), AllocError>
-    ensures { OnOk result (methods.new ≡ methods.old ++ method ∷ []) }
+fn push_method(methods: &mut List<Method>, method: Method) -> Result<(), LowerError>
+    ensures { MatchResult result (λ _. methods.new ≡ methods.old ++ method ∷ []) (λ cause. cause ≡ error.Memory) }
 {
-    methods.push(method).map_err(AllocError::from)
+    methods
+        .push(method)
+        .map_err(AllocError::from)
+        .map_err(LowerError::from)
 }
 
 /// Adds the written methods of a class.
@@ -128,7 +131,7 @@ fn add_default<'t>(
         return Ok(());
     }
     let method = placed_default(alloc, tables, home, span)?;
-    push_method(methods, method).map_err(LowerError::from)
+    push_method(methods, method)
 }
 
 /// The class that a method stands in.

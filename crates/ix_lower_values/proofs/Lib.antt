@@ -1,2 +1,5 @@
 pub mod InTurn
 pub mod Calls
+pub mod Assignments
+pub mod Elements
+pub mod Creations

@@ -17,7 +17,7 @@ ghost use Rattle.ix_plain.specs.Values.{int_value};
 ghost use Rattle.ix_lower_values.specs.declared.expression.Form.TheVariants as form;
 ghost use Rattle.ix_lower_values.specs.Shown.{shown_scope, valued, asked, targeted, left_unused, all_given, initial, all_initial, form_of, is_class_name, member_read, unary_num, received, call_on, class_of_object};
 
-use crate::made::{cell_type, compute, constant, empty, push, read, take, truth, write};
+use crate::made::{cell_type, compute, constant, empty, part_spans, push, read, take, truth};
 use crate::scope::{
     Scope, class_at, constructor_at, head_at, is_assigned, meaning_at, slot_of, type_at,
 };
@@ -190,8 +190,15 @@ pub fn assign(
     ensures { OnOk result (made.new ≡ with_item made.old (write spot value ty spans.0 spans.1 spans.2)) }
 {
     let (whole, target, from) = spans;
-    let item = write(alloc, spot, value, ty, whole, target, from)?;
-    push(made, item)
+    let parts = part_spans(alloc, &spot, target, from)?;
+    let (kind, span) = match spot {
+        Spot::Variable(slot) => (OpKind::Copy(slot, value, ty), whole),
+        Spot::FieldOf(object, field) => (OpKind::WriteField(object, field, value), whole),
+        Spot::Cell(array, index, array_type, at) => {
+            (OpKind::Store(array, index, value, array_type), at)
+        }
+    };
+    push(made, Item::Do(Op { kind, span, parts }))
 }
 
 /// A call into that target.
@@ -636,18 +643,21 @@ fn assigned(alloc: Global, scope: &Scope<'_>, expr: &Expr, made: &mut Made) -> R
     } }
 {
     match &expr.kind {
-        ExprKind::Assign(None, place, from) => {
+        ExprKind::Assign(operator, place, from) => {
             let spot = target(alloc, scope, place.get(), made)?;
-            let v = value(alloc, scope, from.get(), made)?;
-            let spans = (expr.span, place.get().span, from.get().span);
-            written(alloc, scope, spot, v, spans, made)
-        }
-        ExprKind::Assign(Some(arith), place, from) => {
-            let spot = target(alloc, scope, place.get(), made)?;
-            let y = read(alloc, &spot, place.get().span, made)?;
-            let z = value(alloc, scope, from.get(), made)?;
-            let spans = (expr.span, place.get().span);
-            computed_into(alloc, spot, *arith, (y, z), false, spans, made)
+            match operator {
+                None => {
+                    let v = value(alloc, scope, from.get(), made)?;
+                    let spans = (expr.span, place.get().span, from.get().span);
+                    written(alloc, scope, spot, v, spans, made)
+                }
+                Some(arith) => {
+                    let y = read(alloc, &spot, place.get().span, made)?;
+                    let z = value(alloc, scope, from.get(), made)?;
+                    let spans = (expr.span, place.get().span);
+                    computed_into(alloc, spot, *arith, (y, z), false, spans, made)
+                }
+            }
         }
         ExprKind::Step {
             up,

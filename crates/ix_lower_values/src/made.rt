@@ -130,19 +130,8 @@ pub fn read(alloc: Global, spot: &Spot, target: Span, made: &mut Made) -> Result
     }
 }
 
-/// A list of one or two places.
-pub fn span_list(alloc: Global, spans: &[Span]) -> Result<List<Span>, AllocError>
-    ensures { IfOk result (λ list. list ≡ spans.now) }
-{
-    let mut list = List::new(alloc);
-    for span in spans {
-        list.push(*span)?;
-    }
-    Ok(list)
-}
-
 /// The places of the parts of a write, of which the target is one where it isn't a cell.
-fn part_spans(
+pub fn part_spans(
     alloc: Global,
     spot: &Spot,
     target: Span,
@@ -150,33 +139,15 @@ fn part_spans(
 ) -> Result<List<Span>, AllocError>
     ensures { IfOk result (λ spans. spans ≡ part_spans spot.now target from) }
 {
+    let mut spans = List::new(alloc);
     match spot {
-        Spot::Cell(_, _, _, _) => span_list(alloc, &[from]),
-        _ => span_list(alloc, &[target, from]),
+        Spot::Cell(_, _, _, _) => spans.push(from).map_err(AllocError::from).and(Ok(spans)),
+        _ => spans
+            .push(target)
+            .and(spans.push(from))
+            .map_err(AllocError::from)
+            .and(Ok(spans)),
     }
-}
-
-/// The write of a value: the places are those of the assignment, of its target and of its value.
-pub fn write(
-    alloc: Global,
-    spot: Spot,
-    value: u32,
-    ty: Type_,
-    whole: Span,
-    target: Span,
-    from: Span,
-) -> Result<Item, AllocError>
-    ensures { IfOk result (λ item. item ≡ spec.write spot value ty whole target from) }
-{
-    let parts = part_spans(alloc, &spot, target, from)?;
-    let (kind, span) = match spot {
-        Spot::Variable(slot) => (OpKind::Copy(slot, value, ty), whole),
-        Spot::FieldOf(object, field) => (OpKind::WriteField(object, field, value), whole),
-        Spot::Cell(array, index, array_type, at) => {
-            (OpKind::Store(array, index, value, array_type), at)
-        }
-    };
-    Ok(Item::Do(Op { kind, span, parts }))
 }
 
 /// The type of a cell.

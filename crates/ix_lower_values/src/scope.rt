@@ -39,31 +39,19 @@ pub struct Scope<'t> {
     pub assigned: &'t [u32],
 }
 
-fn local_slot(scope: &Scope<'_>, number: u32) -> u32
-    ensures { result ≡ spec.slot_of (shown_scope scope.now) (Some (meaning.Local number)) }
-{
-    match scope.locals.get(number as usize) {
-        Some((local, _)) => local.slot,
-        None => 0,
-    }
-}
-
-fn param_slot(scope: &Scope<'_>, number: u32) -> u32
-    ensures { result ≡ spec.slot_of (shown_scope scope.now) (Some (meaning.Param number)) }
-{
-    match scope.site.params.get(number as usize) {
-        Some(param) => param.slot,
-        None => 0,
-    }
-}
-
 /// The slot of a local or a parameter.
 pub fn slot_of(scope: &Scope<'_>, meaning: Option<Meaning>) -> u32
     ensures { result ≡ spec.slot_of (shown_scope scope.now) meaning }
 {
     match meaning {
-        Some(Meaning::Local(number)) => local_slot(scope, number),
-        Some(Meaning::Param(number)) => param_slot(scope, number),
+        Some(Meaning::Local(number)) => match scope.locals.get(number as usize) {
+            Some((local, _)) => local.slot,
+            None => 0,
+        },
+        Some(Meaning::Param(number)) => match scope.site.params.get(number as usize) {
+            Some(param) => param.slot,
+            None => 0,
+        },
         _ => 0,
     }
 }
@@ -111,21 +99,15 @@ pub fn class_at(scope: &Scope<'_>, span: Span) -> u32
 pub fn head_at(site: &Site<'_>, method: u32) -> Head
     ensures { result ≡ spec.head_at (shown_site site.now) method }
 {
-    match site.heads.get(method as usize) {
-        Some(head) => *head,
-        None => Head {
-            class: 0,
-            is_static: false,
-        },
-    }
+    site.heads.get(method as usize).copied().unwrap_or(Head {
+        class: 0,
+        is_static: false,
+    })
 }
 
 /// The number of a class's constructor.
 pub fn constructor_at(site: &Site<'_>, class: u32) -> u32
     ensures { result ≡ spec.constructor_at (shown_site site.now) class }
 {
-    match site.constructors.get(class as usize) {
-        Some(method) => *method,
-        None => 0,
-    }
+    site.constructors.get(class as usize).copied().unwrap_or(0)
 }
