@@ -5,8 +5,8 @@ use ix_after::{facts_after, push_claim};
 use ix_claims::is_proved;
 use ix_core::{Fact, OpKind, Path, PathClaim, Profile};
 use ix_fact_list::FactList;
-use ix_path_index::facts_without_target;
 use ix_fact_steps::{Does, operation, says_all};
+use ix_path_index::facts_without_target;
 use std::alloc::Global;
 use std::process::Abort;
 

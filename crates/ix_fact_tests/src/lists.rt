@@ -2,8 +2,8 @@
 
 use crate::after::list;
 use ix_core::{Fact, Path, PathOff};
-use ix_path_index::{compare_offsets, compare_paths};
 use ix_facts::Know;
+use ix_path_index::{compare_offsets, compare_paths};
 use ix_path_numbers::{path_number, path_of};
 use std::cmp::Ordering;
 
