@@ -4,9 +4,16 @@ use std::alloc::{AllocError, Global};
 use std::marker::Model;
 
 /// One value with a place of its own, through which a type may contain itself. A clause sees the value alone, and not where it lies.
-#[derive(Drop)]
 pub struct Boxed<T> {
     inner: Box<T>,
+}
+
+impl<T: Drop> Drop for Boxed<T> {
+    fn drop(self) {
+        match self {
+            Boxed { inner } => drop(inner),
+        }
+    }
 }
 
 impl<T> Model for Boxed<T> {

@@ -5,9 +5,16 @@ use std::marker::Model;
 use std::rc::Rc;
 
 /// One value that several owners hold jointly: a further owner takes no copy of it. A clause sees the value alone, and not where it lies.
-#[derive(Drop)]
 pub struct Joint<T: Drop> {
     inner: Rc<T>,
+}
+
+impl<T: Drop> Drop for Joint<T> {
+    fn drop(self) {
+        match self {
+            Joint { inner } => drop(inner),
+        }
+    }
 }
 
 impl<T: Drop> Model for Joint<T> {
