@@ -5,7 +5,7 @@ use Rattle.ix_core.specs.declared.program.Program.{Program}
 use Rattle.ix_core.specs.declared.fact.Profile.{Profile}
 use Rattle.ix_core.specs.declared.fact.Profile.TheVariants.{Int32}
 use Rattle.ix_replies.specs.Counts.{counts_of}
-use Rattle.ix_name_report.specs.Texts.{misnamed}
+use Rattle.ix_report.specs.Names.{misnamed}
 use Rattle.ix_report.specs.Texts.{accepted, broken, past_limit, past_bytes}
 use Rattle.ix_report.specs.Certificates as certificate_text
 use Rattle.ix_words.specs.Commands.{Command, Check, Run, Bench, Verify, Guard}

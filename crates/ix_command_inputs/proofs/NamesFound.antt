@@ -12,9 +12,9 @@ use Rattle.ix_source.specs.LowerError.{LowerError}
 use Rattle.ix_source.specs.LowerError.TheVariants as lowering
 use Rattle.ix_plain.specs.Program.{program}
 use Rattle.ix_formed.proofs.PlacedPrograms.{placed_limit}
-use Rattle.ix_name_report.specs.Texts.{limit_name}
+use Rattle.ix_report.specs.Names.{limit_name}
 use Rattle.ix_formed.proofs.RefusalsStand.{refusal_within}
-use Rattle.ix_name_report.proofs.OneList.{one_list, none_listed}
+use Rattle.ix_report.proofs.OneList.{one_list, none_listed}
 use Rattle.ix_command_inputs.specs.Findings.{IsPlaced, HasFormed}
 use Rattle.ix_meaning.specs.declared.note.NameErrors.{NameErrors}
 use Rattle.ix_command_inputs.specs.Found.{Finding, Past, Misnamed, Whole, FoundIn, passes_limit, misnames, inherits, too_big, named, of_limit, of_name_errors, of_lower_error}

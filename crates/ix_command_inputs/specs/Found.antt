@@ -13,7 +13,7 @@ use Rattle.ix_meaning.specs.declared.note.NameErrors.{NameErrors}
 use Rattle.ix_meaning.specs.declared.note.NameErrors.TheVariants as refusal
 use Rattle.ix_meaning.specs.Limits.{Passed, limit, inheritance_limit}
 use Rattle.ix_meaning.specs.Resolved.{name_errors, Accepts, IsRefused, names}
-use Rattle.ix_name_report.specs.Texts.{limit_name}
+use Rattle.ix_report.specs.Names.{limit_name}
 use Rattle.ix_core.specs.declared.program.Program.{Program}
 use Rattle.ix_source.specs.LowerError.{LowerError}
 use Rattle.ix_source.specs.LowerError.TheVariants as lowering

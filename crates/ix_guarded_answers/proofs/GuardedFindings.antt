@@ -12,7 +12,7 @@ use Rattle.ix_grammar.specs.declared.error.ParseError.TheVariants as syntax
 use Rattle.ix_grammar.specs.Refusals.{HasTree}
 use Rattle.ix_guarding.proofs.Laws as parsing
 use Rattle.ix_meaning.specs.Resolved.{Accepts, names, name_errors}
-use Rattle.ix_name_report.proofs.OneList.{none_listed}
+use Rattle.ix_report.proofs.OneList.{none_listed}
 use Rattle.ix_command_inputs.specs.Found.{Finding, Found, too_long, no_tokens, lexed, no_tree, tree, FoundIn, passes_limit, misnames, inherits, too_big, named, of_lex_error, of_parse_error, Past}
 use Rattle.ix_command_inputs.proofs.BytesFound.{some_is}
 use Rattle.ix_command_inputs.proofs.FoundPrograms.{tree_parsed}

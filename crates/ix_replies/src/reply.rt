@@ -5,15 +5,15 @@ ghost use Rattle.ix_answer.specs.Answer.{out_answer, err_answer};
 ghost use Rattle.ix_answer.specs.Replies.{shown};
 ghost use Rattle.ix_replies.specs.Said.{verdict, bench_verdict, usage, read_failed};
 ghost use Rattle.ix_report.specs.Texts as text;
-ghost use Rattle.ix_name_report.specs.Texts as names_text;
+ghost use Rattle.ix_report.specs.Names as names_text;
 
 use crate::counts::count_program;
 use ix_answer::{Reply, Status, on_err, on_out};
 use ix_core::{Error, Program};
 use ix_meaning::NameError;
-use ix_name_report::misnamed;
 use ix_report::{
-    accepted, bench_accepted, bench_rejected, broken, past_bytes, past_limit, report, told,
+    accepted, bench_accepted, bench_rejected, broken, misnamed, past_bytes, past_limit, report,
+    told,
 };
 use ix_text::LineMap;
 use std::alloc::{AllocError, Global};

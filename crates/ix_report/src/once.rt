@@ -59,16 +59,16 @@ fn is_among(
 
 /// How many of what was told start before `last`, the greatest start of all of it.
 #[derive(Clone, Copy)]
-struct Starts {
-    earlier: usize,
-    last: u32,
+pub(crate) struct Starts {
+    pub(crate) earlier: usize,
+    pub(crate) last: u32,
 }
 
 /// What start comes last once an error was met that starts there.
 fn moved(told: &[Error], was: Starts, from: u32) -> Starts
-    requires { Earlier told.now was.earlier was.last }
+    requires { Earlier spec.start told.now was.earlier was.last }
     ensures { record {
-      earlier : Earlier told.now result.earlier result.last;
+      earlier : Earlier spec.start told.now result.earlier result.last;
       within : from ≤ result.last;
     } }
 {
@@ -90,7 +90,7 @@ fn was_told(
     starts: Starts,
     error: &Error,
 ) -> Result<bool, AllocError>
-    requires { Earlier told.now starts.earlier starts.last }
+    requires { Earlier spec.start told.now starts.earlier starts.last }
     ensures { IfOk result (λ is. is ≡ list_any (spec.have_one_line program.now error.now) told.now) }
 {
     if error.span.from < starts.last {

@@ -2,8 +2,9 @@ use Rattle.std.proofs.Common.{◌≡◌, ◌-◌, ◌∙◌, ap, length, take, d
 use Rattle.std.specs.List.{list_any}
 use Rattle.std.proofs.lemmas.List.{take_all, length-drop}
 use Rattle.std.proofs.lemmas.Result.{IfOk-weaker}
-use Rattle.ix_report.specs.Reports.{have_one_line}
+use Rattle.ix_report.specs.Reports.{start, have_one_line}
 use Rattle.ix_report.proofs.EarlierStarts.{rest_suffices}
+use Rattle.ix_report.proofs.OtherLines.{lines_apart}
 use Rattle.ix_report.proofs.once.was_told.Goals as goal
 
 pub returns : goal.returns
@@ -12,4 +13,4 @@ returns c =
     let rest : take (length told - c.args.starts.earlier) (drop c.args.starts.earlier told) ≡ drop c.args.starts.earlier told =
     take_all (length told - c.args.starts.earlier) (drop c.args.starts.earlier told) (omega (arith, length-drop c.args.starts.earlier told)) in
     IfOk-weaker c.is_among-2.result _ _ (λ is same. same ∙ ap (list_any (have_one_line c.args.program.now c.args.error.now)) rest
-    ∙ rest_suffices c.args.program.now c.args.error.now told c.args.starts.earlier c.args.starts.last c.requires.before c.if-error-starts.false) c.is_among-2.ensures
+    ∙ rest_suffices start (have_one_line c.args.program.now) (lines_apart c.args.program.now) c.args.error.now told c.args.starts.earlier c.args.starts.last c.requires.before c.if-error-starts.false) c.is_among-2.ensures

@@ -1,9 +1,11 @@
-//! The lines of errors, and the names of limits.
+//! The lines of errors on names, types and annotations, and the names of limits.
+
+mod once;
 
 ghost use Rattle.std.specs.Prelude.{◌≡◌, ◌≤◌, length, IfOk, string_bytes};
-ghost use Rattle.ix_name_report.specs.Texts as spec;
+ghost use Rattle.ix_report.specs.Names as spec;
 
-use crate::once::told;
+use crate::names::once::told;
 use ix_meaning::{NameError, Rule, Which};
 use ix_text::LineMap;
 use std::alloc::{AllocError, Global};
@@ -63,7 +65,7 @@ fn error_line(
 
 /// The lines of a source with errors on names: one for each of them, in their order, each line once, and one with the number of
 /// these lines. `lines` are those of the source, in which each error starts.
-#[tactic(auto, using(crate::proofs::ToldErrors::told_start))]
+#[tactic(auto, using(crate::proofs::ToldErrors::told_names_start))]
 pub fn misnamed(
     alloc: Global,
     lines: &LineMap,

@@ -1,7 +1,7 @@
--- The lines of one error more.
+-- The lines of one error on names more.
 use Rattle.std.proofs.Common.{◌≡◌, ℕ, ◌+◌, List, [], ◌∷◌, ◌++◌, take, refl, sym, ap, ◌∙◌, append_assoc, append-nil}
 use Rattle.ix_meaning.specs.declared.note.NameError.{NameError}
-use Rattle.ix_name_report.specs.Texts.{error_line, error_lines}
+use Rattle.ix_report.specs.Names.{error_line, error_lines}
 
 lines-append : (file text : List ℕ) (some others : List NameError) → error_lines file text (some ++ others) ≡ error_lines file text some ++ error_lines file text others
 lines-append file text [] others = refl

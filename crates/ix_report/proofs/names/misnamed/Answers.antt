@@ -1,7 +1,7 @@
 use Rattle.std.proofs.Common.{rules}
 use Rattle.std.proofs.lemmas.List.{take_more}
-use Rattle.ix_name_report.proofs.ErrorLines.{lines_more}
-use Rattle.ix_name_report.proofs.texts.misnamed.Goals as goal
+use Rattle.ix_report.proofs.NameLines.{lines_more}
+use Rattle.ix_report.proofs.names.misnamed.Goals as goal
 
 pub loop-error-preserved : goal.loop-error-preserved
 loop-error-preserved c =

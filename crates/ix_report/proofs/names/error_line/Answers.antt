@@ -1,6 +1,6 @@
 use Rattle.std.proofs.Common.{◌∙◌, append_assoc}
 use Rattle.std.proofs.lemmas.Result.{IfOk-weaker}
-use Rattle.ix_name_report.proofs.texts.error_line.Goals as goal
+use Rattle.ix_report.proofs.names.error_line.Goals as goal
 
 pub returns : goal.returns
 returns c =

@@ -1,10 +1,11 @@
 //! Each line once.
 ghost use Rattle.std.specs.Prelude.{◌≡◌, ◌≤◌, IfOk};
 ghost use Rattle.std.specs.List.{list_any};
-ghost use Rattle.ix_name_report.specs.EarlierStarts.{Earlier};
-ghost use Rattle.ix_name_report.specs.Texts as spec;
+ghost use Rattle.ix_report.specs.EarlierStarts.{Earlier};
+ghost use Rattle.ix_report.specs.Names as spec;
 
-use crate::texts::key;
+use crate::names::key;
+use crate::once::Starts;
 use ix_meaning::NameError;
 use std::alloc::{AllocError, Global};
 
@@ -27,18 +28,11 @@ fn is_among(told: &[NameError], error: &NameError) -> bool
     false
 }
 
-/// How many of what was told start before `last`, the greatest start of all of it.
-#[derive(Clone, Copy)]
-struct Starts {
-    earlier: usize,
-    last: u32,
-}
-
 /// What start comes last once an error was met that starts there.
 fn moved(told: &[NameError], was: Starts, from: u32) -> Starts
-    requires { Earlier told.now was.earlier was.last }
+    requires { Earlier spec.start told.now was.earlier was.last }
     ensures { record {
-      earlier : Earlier told.now result.earlier result.last;
+      earlier : Earlier spec.start told.now result.earlier result.last;
       within : from ≤ result.last;
     } }
 {
@@ -54,7 +48,7 @@ fn moved(told: &[NameError], was: Starts, from: u32) -> Starts
 /// Whether the line of an error was told. An error that starts where the last of what was told do is compared with these alone, so that
 /// errors in the order of their starts take no more time than there are.
 fn was_told(told: &[NameError], starts: Starts, error: &NameError) -> bool
-    requires { Earlier told.now starts.earlier starts.last }
+    requires { Earlier spec.start told.now starts.earlier starts.last }
     ensures { result ≡ list_any (spec.have_one_line error.now) told.now }
 {
     if error.span.from < starts.last {

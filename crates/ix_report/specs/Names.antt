@@ -1,6 +1,6 @@
 -- The texts of errors on names, as bytes. A line ends with LF, which is 10.
-use Rattle.std.specs.Prelude.{ℕ, ◌≤◌, Bool, ◌&&◌, ◌==◌, if◌then◌else◌, List, [], ◌∷◌, ◌++◌, length, codes, decimal}
-use Rattle.std.specs.List.{All, list_any}
+use Rattle.std.specs.Prelude.{ℕ, ◌≤◌, Bool, ◌&&◌, ◌==◌, List, [], ◌∷◌, ◌++◌, length, codes, decimal}
+use Rattle.std.specs.List.{All}
 use Rattle.std.specs.Str.{bytes_eq}
 use Rattle.ix_text.specs.Lines.{place}
 use Rattle.ix_meaning.specs.declared.note.NameError.{NameError}
@@ -8,6 +8,7 @@ use Rattle.ix_meaning.specs.declared.note.Rule.{Rule}
 use Rattle.ix_meaning.specs.declared.note.Rule.TheVariants as rule
 use Rattle.ix_meaning.specs.declared.note.Which.{Which}
 use Rattle.ix_meaning.specs.declared.note.Which.TheVariants as which
+use Rattle.ix_report.specs.Once.{told as told_of}
 
 -- what users know a rule by
 abbrev pub key : Rule → List ℕ
@@ -52,21 +53,16 @@ error_lines file text (error ∷ errors) = error_line file text error ++ error_l
 
 -- ---- each line once
 
+abbrev pub start : NameError → ℕ
+start error = error.span.from
+
 -- Two errors have one line: they start at one place, and users know their rules by one key.
 abbrev pub have_one_line : NameError → NameError → Bool
 have_one_line one other = one.span.from == other.span.from && bytes_eq (key one.rule) (key other.rule)
 
--- one error more behind those that were told, unless its line was told
-abbrev pub tell : List NameError → NameError → List NameError
-tell before error = if list_any (have_one_line error) before then before else before ++ error ∷ []
-
-abbrev pub told_behind : List NameError → List NameError → List NameError
-told_behind before [] = before
-told_behind before (error ∷ errors) = told_behind (tell before error) errors
-
 -- the errors without those whose line was told before
 abbrev pub told : List NameError → List NameError
-told errors = told_behind [] errors
+told errors = told_of have_one_line errors
 
 -- a line for each error, in their order, each line once, and one with the number of these lines
 abbrev pub misnamed : List ℕ → List ℕ → List NameError → List ℕ

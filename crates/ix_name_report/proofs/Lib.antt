@@ -1,4 +1,0 @@
-pub mod ErrorLines
-pub mod OneList
-pub mod ToldErrors
-pub mod EarlierStarts

@@ -1,6 +1,0 @@
-use Rattle.std.proofs.Common.{drop}
-use Rattle.ix_name_report.proofs.EarlierStarts.{IsTelling}
-use Rattle.ix_name_report.proofs.once.told.Given as goal
-
-abbrev pub invariant-loop-error : goal.invariant-loop-error
-invariant-loop-error l = IsTelling l.errors l.told.items l.starts.earlier l.starts.last (drop l.error-index l.errors)
