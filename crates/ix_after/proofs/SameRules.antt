@@ -24,7 +24,7 @@ use Rattle.ix_facts.specs.UnaryNum.TheVariants.{Neg as Negated, Flip}
 use Rattle.ix_facts.specs.Bounds
 use Rattle.ix_facts.specs.Bounds.{best, least}
 use Rattle.ix_facts.specs.Exact as exact
-use Rattle.ix_facts.specs.Exact.{if_so, each, each_path, met_with, named_arrays, exact_unary, fits, range_facts, low_facts, table_class}
+use Rattle.ix_facts.specs.Exact.{if_so, each, met_with, named_arrays, exact_unary, fits, range_facts, low_facts, table_class}
 use Rattle.ix_facts.specs.AfterOperation as after
 use Rattle.ix_facts.specs.AfterOperation.{is_int, is_array, is_from}
 use Rattle.ix_facts.specs.Named.{IsEachOnce}

@@ -15,7 +15,6 @@ use Rattle.ix_annot.specs.declared.table.Says.TheVariants.{Nothing, EffectFree, 
 use Rattle.ix_annot.specs.declared.arguments.Written.{Written}
 use Rattle.ix_annot.specs.declared.arguments.Written.TheVariants.{OfArray, Upper, Less}
 use Rattle.ix_annot.specs.declared.arguments.Plan.{Plan}
-use Rattle.ix_annot.specs.declared.arguments.Promise.{Promise}
 use Rattle.ix_annot.specs.Texts.{array_text, bound_text, offset_text}
 use Rattle.ix_annot.specs.Table.{arg_name, argument}
 

@@ -1,13 +1,13 @@
 -- What is delivered is right also in a weaker sense, and what want of memory leaves.
-use Rattle.std.proofs.Common.{◌≡◌, ◌≢◌, ◌≤◌, ◌⊎◌, inl, inr, ℕ, List, Result, Ok, Err, refl, sym, ap, subst, ◌∙◌, arith, IfOk}
+use Rattle.std.proofs.Common.{◌≡◌, ◌≤◌, inl, inr, Result, Ok, Err, sym, subst, ◌∙◌, IfOk}
 use Rattle.std.specs.declared.alloc.AllocError.{AllocError}
 use Rattle.ix_outside.specs.Outside.{Took, TookPrefix}
 use Rattle.ix_answer.specs.declared.reply.Reply.{Reply}
 use Rattle.ix_answer.specs.declared.status.Status.{Status}
-use Rattle.ix_answer.specs.declared.status.Status.TheVariants.{WriteFault, Memory}
+use Rattle.ix_answer.specs.declared.status.Status.TheVariants.{Memory}
 use Rattle.ix_answer.specs.Answer.{Answer, out_of_memory}
-use Rattle.ix_answer.specs.Delivery.{Sinks, Delivers, AreCalm}
-use Rattle.ix_answer.specs.Ends.{Texts, EndsWell, TookPart, TookWanted, TookNothing}
+use Rattle.ix_answer.specs.Delivery.{Sinks, Delivers}
+use Rattle.ix_answer.specs.Ends.{Texts, EndsWell, TookPart, TookWanted}
 use Rattle.ix_answer.specs.Replies.{Says, shown}
 
 ends_weaker : (P Q : Answer → Type 0) (result : Status) (old new : Texts) → ((a : Answer) → P a → Q a) → EndsWell P result old new → EndsWell Q result old new

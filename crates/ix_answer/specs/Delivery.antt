@@ -1,6 +1,6 @@
 -- How an answer reaches the two sinks.
 use Rattle.std.specs.Prelude.{◌≡◌, ◌≢◌, ◌≤◌, ◌⊎◌, ℕ, List}
-use Rattle.ix_outside.specs.Outside.{Rose, Took, TookPrefix}
+use Rattle.ix_outside.specs.Outside.{Rose, Took}
 use Rattle.ix_answer.specs.Answer.{Answer, out_of_memory}
 use Rattle.ix_answer.specs.Ends.{Texts, texts, EndsWell, TookPart, TookWanted, TookNothing}
 use Rattle.ix_answer.specs.declared.status.Status.{Status}

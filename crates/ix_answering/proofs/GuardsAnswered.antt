@@ -1,7 +1,6 @@
 -- What is right of the answers of `guard`.
 use Rattle.std.proofs.Common.{◌≡◌, ◌≢◌, ◌≤◌, ℕ, List, [], ◌∷◌, length, true, sym, ap, subst, ◌∙◌, refl}
 use Rattle.ix_core.specs.declared.error.Error.{Error}
-use Rattle.ix_core.specs.declared.program.Program.{Program}
 use Rattle.ix_core.specs.declared.fact.Profile.{Profile}
 use Rattle.ix_answer.specs.Answer.{Answer, out_answer}
 use Rattle.ix_answer.specs.Statuses.{is_answer}
@@ -10,7 +9,6 @@ use Rattle.ix_certify.specs.MethodErrors.{IsError}
 use Rattle.ix_command_inputs.proofs.OneFinding.{one_finding}
 use Rattle.ix_certify.proofs.Lists.{one_list}
 use Rattle.ix_outside.specs.Reading.{most_bytes}
-use Rattle.ix_guarding.specs.Guarding.{IsGuarded}
 use Rattle.ix_guarding.proofs.OneGuarded.{one_guarded}
 use Rattle.ix_answering.specs.Answers.{AnswersFound, AnswersGuarded, Guards, guard_status}
 

@@ -6,7 +6,6 @@ use Rattle.ix_lexer.specs.declared.token.LexError.TheVariants as lexical
 use Rattle.ix_lexer.specs.declared.token.Token.{Token}
 use Rattle.ix_grammar.specs.declared.error.ParseError.{ParseError}
 use Rattle.ix_grammar.specs.declared.error.ParseError.TheVariants as syntax
-use Rattle.ix_grammar.specs.Refusals.{HasTree}
 use Rattle.ix_tree.specs.declared.decl.Unit.{Unit as Source}
 use Rattle.ix_meaning.specs.Resolved.{Accepts}
 use Rattle.ix_command_inputs.specs.Found.{Finding, Whole, Found, too_long, no_tokens, lexed, no_tree, tree, of_lex_error, of_parse_error, FoundIn, passes_limit, misnames, inherits, too_big, named}

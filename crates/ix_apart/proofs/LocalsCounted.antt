@@ -29,7 +29,7 @@ use Rattle.ix_plain.specs.Program.{Home, start, args_or_none}
 use Rattle.ix_plain.specs.Scope.{Site, declared_type, declared_claims, constructor_at}
 use Rattle.ix_meaning.proofs.DeclaratorNumbers.{declarators_number}
 use Rattle.ix_plain.specs.Statements as statements
-use Rattle.ix_plain.specs.Statements.{Running, Run, Inside, Evaluated, Tested, behind, with_last, behind_value, evaluated, init_evaluated, ran, all_ran, tested, tested_if, with_free, inside, in_loop, most_loops, scope_for, with_local, no_block}
+use Rattle.ix_plain.specs.Statements.{Running, Run, Inside, Evaluated, Tested, behind, with_last, behind_value, evaluated, init_evaluated, ran, all_ran, tested, tested_if, inside, in_loop, most_loops, scope_for, with_local}
 use Rattle.ix_plain.specs.Values.{lowering, filling, arguments_from, calling}
 use Rattle.ix_formed.specs.Additions.{Makes}
 use Rattle.ix_formed.proofs.PlainItems.{makes_more, makes_then}

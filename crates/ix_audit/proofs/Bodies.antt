@@ -1,11 +1,11 @@
 -- The walk over a whole body.
-use Rattle.std.proofs.Common.{◌≡◌, ◌⊎◌, inl, inr, ⊎_elim, ◌↔◌, ℕ, ◌≤◌, List, [], ◌∷◌, ◌++◌, Option, None, Some, arith, refl, sym, ap, subst, ◌∙◌, ◌<◌, if◌then◌else◌, nat_lt, length, take, get_or, true, false, Bool}
+use Rattle.std.proofs.Common.{◌≡◌, inl, inr, ℕ, List, [], ◌∷◌, ◌++◌, Option, None, Some, arith, refl, subst, if◌then◌else◌, nat_lt, true, false, Bool}
 use Rattle.std.proofs.lemmas.Bool.{cases_lt}
 use Rattle.ix_core.specs.declared.op.Op.{Op}
 use Rattle.ix_core.specs.Code.{Code}
 use Rattle.ix_facts.specs.Stores.{Stored, Unreachable, IsBelow}
 use Rattle.ix_facts.proofs.StoreLaws.{below_below}
-use Rattle.ix_flow.specs.Walk.{Notes, IsIn, IsLeast, Joins}
+use Rattle.ix_flow.specs.Walk.{Notes, IsLeast, Joins}
 use Rattle.ix_method_errors.specs.Ranked.{Ranked}
 use Rattle.ix_audit.specs.declared.walk.Walk.{Walk}
 use Rattle.ix_audit.specs.Walking.{rules, WalksCode, IsLeastIn, lesser}

@@ -1,12 +1,12 @@
 -- The walk over an item or a condition, by the walks over its parts.
-use Rattle.std.proofs.Common.{◌≡◌, ℕ, suc, Bool, true, false, List, [], ◌∷◌, length, drop, get_or, ◌<◌, ◌+◌, arith, refl, sym, ap, subst, ◌∙◌, Option, None, Some}
+use Rattle.std.proofs.Common.{◌≡◌, ℕ, suc, true, false, List, ◌∷◌, length, drop, get_or, ◌<◌, ◌+◌, refl, sym, ap, subst, ◌∙◌, Option, None, Some}
 use Rattle.std.proofs.Common.{add-one}
 use Rattle.std.proofs.Math.Seq.{drop-cons}
 use Rattle.ix_text.specs.declared.span.Span.{Span}
 use Rattle.ix_core.specs.declared.code.Item.{Item}
 use Rattle.ix_core.specs.declared.op.Op.{Op}
 use Rattle.ix_core.specs.declared.op.Test.{Test}
-use Rattle.ix_core.specs.Code.{Code, End, Do, If, Break, Continue, Return, Throw, Loop, Condition, Known, Compare, Truth, Both, Either, Opposite, item_code, items_code}
+use Rattle.ix_core.specs.Code.{Code, End, Do, If, Break, Continue, Return, Throw, Loop, Condition, Compare, Truth, Both, Either, Opposite, item_code, items_code}
 use Rattle.ix_core.specs.Posts.{last_done, written_answer}
 use Rattle.ix_facts.specs.Stores.{Stored, Unreachable}
 use Rattle.ix_flow.specs.Flow.{Doing, Returning}

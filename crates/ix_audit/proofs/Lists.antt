@@ -1,8 +1,8 @@
 -- Errors that are added to a list.
-use Rattle.std.proofs.Common.{◌≡◌, ◌⊎◌, inl, inr, ⊎_elim, ◌↔◌, ℕ, List, ◌++◌, sym, subst}
+use Rattle.std.proofs.Common.{◌⊎◌, inl, inr, ⊎_elim, ◌↔◌, ℕ, List, ◌++◌, sym, subst}
 use Rattle.ix_core.specs.declared.error.Error.{Error}
 use Rattle.ix_method_errors.specs.Ranked.{Ranked}
-use Rattle.ix_method_errors.specs.Exactly.{IsListed, AreExactly, AddsExactly}
+use Rattle.ix_method_errors.specs.Exactly.{IsListed, AddsExactly}
 use Rattle.ix_method_errors.proofs.Refused.{listed_left, listed_right, listed_either}
 use Rattle.ix_audit.specs.Walking.{AddsTo}
 

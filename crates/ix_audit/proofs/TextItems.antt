@@ -1,5 +1,5 @@
 -- The errors of the text of an item or a condition, by those of its parts.
-use Rattle.std.proofs.Common.{◌≡◌, ◌⊎◌, inl, inr, ⊎_elim, ◌↔◌, ℕ, suc, Bool, List, [], ◌∷◌, length, drop, get_or, ◌<◌, ◌+◌, Option, refl, sym, ap, subst, ◌∙◌}
+use Rattle.std.proofs.Common.{◌≡◌, ◌⊎◌, inl, inr, ⊎_elim, ◌↔◌, ℕ, suc, Bool, List, ◌∷◌, length, drop, get_or, ◌<◌, ◌+◌, Option, refl, sym, ap, subst, ◌∙◌}
 use Rattle.std.proofs.Common.{add-one}
 use Rattle.std.proofs.Math.Seq.{drop-cons}
 use Rattle.ix_text.specs.declared.span.Span.{Span}

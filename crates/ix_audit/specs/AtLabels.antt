@@ -1,5 +1,5 @@
 -- What is wrong with a method at given labels of its loops: loops whose labels fail, and errors.
-use Rattle.std.specs.Prelude.{◌⊎◌, ◌≡◌, ℕ, ◌<◌, List, slice_get, unwrap_or, Option, None, Some}
+use Rattle.std.specs.Prelude.{◌⊎◌, ℕ, ◌<◌, List, slice_get, unwrap_or, Option, None, Some}
 use Rattle.ix_core.specs.declared.error.Error.{Error}
 use Rattle.ix_core.specs.declared.fact.Profile.{Profile}
 use Rattle.ix_core.specs.declared.program.Method.{Method}

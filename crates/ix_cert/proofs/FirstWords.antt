@@ -7,7 +7,7 @@ use Rattle.ix_core.specs.declared.fact.Path.{Path}
 use Rattle.ix_core.specs.declared.fact.PathOff.{PathOff}
 use Rattle.ix_core.proofs.Cases.{differ}
 use Rattle.ix_cert.specs.Reading.{IsSmallFact, args_text, given_text}
-use Rattle.ix_cert.proofs.Bytes.{cancel, some_same}
+use Rattle.ix_cert.proofs.Bytes.{cancel}
 use Rattle.ix_cert.proofs.OneFact.{first_three, word_code, word_starts}
 
 module _ (line rest : List ℕ) (result : Option Fact) where

@@ -11,12 +11,12 @@ use Rattle.ix_core.specs.declared.fact.Fact.TheVariants.{Rng, LenRng, Low, Same,
 use Rattle.ix_facts.specs.declared.kind.Kind.TheVariants as kind
 use Rattle.ix_facts.specs.Bounds.{range_high}
 use Rattle.ix_facts.specs.Facts.{IsIn, Covers, rng, len_rng, low, same, is_len, less, sum, search, neg, upper, orders, in_orders}
-use Rattle.ix_facts.specs.Closure.{Follows, Default, Said}
+use Rattle.ix_facts.specs.Closure.{Follows, Said}
 use Rattle.ix_facts.specs.Closure as closure
 use Rattle.ix_facts.specs.Exact.{each}
 use Rattle.ix_facts.specs.Kinds.{is_of, of_kind}
 use Rattle.ix_facts.specs.PathOrder.{path_itself}
-use Rattle.ix_facts.specs.Systems.{HaveClasses, HasClass, Merges}
+use Rattle.ix_facts.specs.Systems.{HaveClasses, Merges}
 use Rattle.ix_facts.specs.Systems as merges
 use Rattle.ix_facts.proofs.ClosureLaws.{said_follows}
 use Rattle.ix_facts.proofs.FactLists.{in_left, in_right, in_either, from_in_orders}

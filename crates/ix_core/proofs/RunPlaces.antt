@@ -14,7 +14,7 @@ use Rattle.ix_core.specs.Code.{Code, Condition, Known, Compare, Truth, Both, Eit
 use Rattle.ix_core.specs.Code as code
 use Rattle.ix_core.specs.Heap.{Held, Num, Boolean, Null, At, Heap, ArrayOf, value_at, array_at, write_at, cells_used, object_at, place_in, is_within}
 use Rattle.ix_core.specs.Machine as machine
-use Rattle.ix_core.specs.Machine.{Ending, Limits, State, Waiting, Effect, Move, CallKind, Go, Wrap, Tell, Enter, Leave, Stop, Done, Wrapped, Printed, Called, Stopped, step_condition, effect_then, operate, step_code, step_tasks, called, resumed, moved, step, step_from, run, is_past, is_int, callee_of, lacks_cells, result_of, test_of, is_true}
+use Rattle.ix_core.specs.Machine.{Ending, Limits, State, Waiting, Effect, Move, CallKind, Go, Wrap, Tell, Enter, Leave, Stop, Done, Wrapped, Printed, Called, Stopped, step_condition, effect_then, operate, step_code, step_tasks, called, resumed, moved, step, step_from, run, is_past, is_int, test_of, is_true}
 use Rattle.ix_core.specs.Safe.{Input, start, state_after}
 use Rattle.ix_core.specs.Tables.{Tables, tables_of, method_at, no_method, body_of}
 use Rattle.ix_core.specs.Tasks.{Tasks, Empty, Run, Ask, Decide, DecideTruth, Head, Again, Out, code_then}

@@ -26,7 +26,7 @@ use Rattle.ix_core.specs.Posts.{PostsHold}
 use Rattle.ix_core.specs.Objects.{PostsName, Promised, IsOn, IsIntHeld, KeepsInts, Later, IsKept, IsSame, HasField, MeetsField, IsFree, HeapKeeps, FrameKeeps, IsOwn, IsInput, This, Named, Names, StepKeeps, claim_names, offset_names}
 use Rattle.ix_core.specs.Safe.{Counts, IsBad}
 use Rattle.ix_core.specs.Tasks.{Tasks, Empty, code_then}
-use Rattle.ix_core.specs.Waits.{Knowledge, AreNotOwn, FitsKind, FitsCall, MeetParams, param_readings, reading_through, Since, Stays, Reason, NoEffect, Final, Hidden, Constructs, Makes, is_super, AreFresh, Running, Uncounted, Runs, Ends}
+use Rattle.ix_core.specs.Waits.{Knowledge, AreNotOwn, FitsKind, FitsCall, MeetParams, param_readings, reading_through, Reason, NoEffect, Final, Hidden, Constructs, Makes, is_super, AreFresh, Running, Uncounted, Runs, Ends}
 use Rattle.ix_core.specs.Waits as waits
 use Rattle.ix_core.specs.Analysis.{Stands, Laws, Shows, Calls, Leaves, Behind, Results, IsFreeIf, IsIntIf, FillsTarget}
 use Rattle.ix_core.specs.Tables.{param_slot, param_slots, default_result, routine_of, body_of}

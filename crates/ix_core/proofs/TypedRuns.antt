@@ -10,7 +10,7 @@ use Rattle.ix_core.specs.declared.op.Arg.{Arg}
 use Rattle.ix_core.specs.declared.op.CallOp.{CallOp}
 use Rattle.ix_core.specs.declared.program.Method.{Method}
 use Rattle.ix_core.specs.declared.program.Program.{Program}
-use Rattle.ix_core.specs.Formed.{is_formed, reads, args_fit, call_fits, static_fits, instance_fits, new_fits, super_fits, receiver_fits, is_target, is_argument, is_slot, at_most, is_there, is_some_of, is_this, is_parent, assigned, with_result, param_type_from, params_fit}
+use Rattle.ix_core.specs.Formed.{is_formed, reads, args_fit, call_fits, static_fits, instance_fits, new_fits, super_fits, receiver_fits, is_target, is_argument, is_there, is_some_of, is_this, is_parent, with_result, param_type_from}
 use Rattle.ix_core.specs.Heap.{Held, Num, Boolean, Null, At, Heap, Object, ObjectOf, value_at, object_at, default_of}
 use Rattle.ix_core.specs.Machine.{Limits, Ending, Frame, Waiting, State, is_past, CallKind, Static, Instance, New, Super, Move, Go, Wrap, Tell, Enter, Leave, Stop, frame, stopped, receiver_slot, call_values, call_heap, lacks_cells, target_of, found_at, found_for, callee_of, entered, called, result_of, set_target, resumed, moved, next_move, step_from, step, run}
 use Rattle.ix_core.specs.Objects.{Later}

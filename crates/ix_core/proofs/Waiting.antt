@@ -9,7 +9,7 @@ use Rattle.ix_core.specs.Machine.{CallKind, Static, Instance, New, Super, Frame,
 use Rattle.ix_core.specs.Objects.{IsOn}
 use Rattle.ix_core.specs.Analysis.{IsWorld}
 use Rattle.ix_core.specs.Objects.{This, Later, IsSame, HasField, IsFree, FrameKeeps, IsOwn, Wrote, StepKeeps}
-use Rattle.ix_core.specs.Waits.{Knowledge, FitsKind, Stays, Reason, NoEffect, Final, Hidden, Constructs, Makes, Since, is_super}
+use Rattle.ix_core.specs.Waits.{Knowledge, FitsKind, Stays, Reason, NoEffect, Final, Hidden, Constructs, Makes, is_super}
 use Rattle.ix_core.specs.Waits as waits
 use Rattle.ix_core.specs.World.{World, tables_in}
 use Rattle.ix_core.proofs.Heaps.{grown_old}

@@ -16,7 +16,7 @@ use Rattle.ix_grammar.specs.Nodes.{across}
 use Rattle.ix_grammar.specs.Patterns.{sign}
 use Rattle.ix_grammar.specs.Lists.{alone, joined}
 use Rattle.ix_grammar.specs.AnnotGrammar as grammar
-use Rattle.ix_grammar.specs.AnnotGrammar.{IsValue, IsNamed, IsAnnot, IsNotes, annot_to, plain_arg, named_arg, no_notes, with_note}
+use Rattle.ix_grammar.specs.AnnotGrammar.{IsValue, IsNamed, IsAnnot, IsNotes, annot_to, plain_arg, no_notes, with_note}
 use Rattle.ix_lexer.proofs.SplitInOrder.{order_both}
 use Rattle.ix_descent.proofs.ListsLaid.{repeated_laid, separated_laid}
 

@@ -14,7 +14,7 @@ use Rattle.ix_grammar.specs.Patterns.{sign, name_token}
 use Rattle.ix_grammar.specs.Lists.{IsSeparated, first_item, no_item, one_more, alone, joined}
 use Rattle.ix_descent.specs.ListRules.{more_of}
 use Rattle.ix_grammar.specs.AnnotGrammar as grammar
-use Rattle.ix_grammar.specs.AnnotGrammar.{IsText, IsValue, IsNamed, IsAnnot, IsNotes, no_notes, with_note, annot_height, args_height, arg_height, name_height}
+use Rattle.ix_grammar.specs.AnnotGrammar.{IsText, IsValue, IsNamed, IsAnnot, IsNotes, no_notes, with_note, annot_height, args_height, name_height}
 use Rattle.ix_descent.specs.AnnotRules.{text, braced, negative, annot_value, named_value, named, named_args, plain_value, annot_args, annot_behind, annot, next_annot, annots_from, annots}
 use Rattle.ix_descent.proofs.SoundRules.{Sound, pure_sound, stop_sound, bind_sound, sign_sound, name_sound, number_sound, least_sound, text_sound, loop_sound, After}
 use Rattle.ix_descent.proofs.ListsSound.{sign_fits, name_fits, more_sound}

@@ -15,7 +15,7 @@ use Rattle.ix_grammar.specs.Patterns.{sign, name_token, string_token, least_toke
 use Rattle.ix_grammar.specs.Lists.{IsSeparated, first_item, no_item, one_more, alone, joined}
 use Rattle.ix_descent.specs.ListRules.{more_of}
 use Rattle.ix_grammar.specs.AnnotGrammar as grammar
-use Rattle.ix_grammar.specs.AnnotGrammar.{IsText, IsValue, IsNamed, IsAnnot, IsNotes, valued, plain_arg, named_arg, annot_to, no_notes, with_note}
+use Rattle.ix_grammar.specs.AnnotGrammar.{IsText, IsValue, IsNamed, valued, plain_arg, named_arg, annot_to, no_notes, with_note}
 use Rattle.ix_descent.specs.AnnotRules.{text, braced, negative, annot_value, named_value, named, named_args, plain_value, annot_args, annot_behind, next_annot, annots_from, annots}
 use Rattle.ix_descent.proofs.SoundRules.{After}
 use Rattle.ix_descent.proofs.ListsSound.{more_sound}

@@ -26,12 +26,12 @@ use Rattle.ix_grammar.specs.Patterns.{sign, name_token, a_sign, a_name}
 use Rattle.ix_grammar.specs.Lists.{IsRepeated, no_item, one_more}
 use Rattle.ix_descent.specs.ListRules.{braces_of, placed}
 use Rattle.ix_grammar.specs.TypeGrammar as types
-use Rattle.ix_grammar.specs.TypeGrammar.{IsType, IsTypeRest, based}
+use Rattle.ix_grammar.specs.TypeGrammar.{IsType, based}
 use Rattle.ix_descent.specs.TypeRules.{type_rest, type_tree}
 use Rattle.ix_grammar.specs.DeclGrammar.{earlier, begins, IsMods, IsDecls, member_words, shared, nothing_more}
 use Rattle.ix_descent.specs.DeclRules.{mods, decls, params, throws}
 use Rattle.ix_grammar.specs.ClassGrammar as grammar
-use Rattle.ix_grammar.specs.ClassGrammar.{Parts, IsStmts, IsBody, IsBehind, IsMember, IsClassWord, IsClassWords, IsParent, IsClass, IsDotName, IsDotted, IsPackage, IsImported, IsImport, IsProgram, no_stmts, with_stmt, body_of, body_with, method_of, fields_of, no_members, with_members, class_of, no_classes, with_class, unit_of, result_height}
+use Rattle.ix_grammar.specs.ClassGrammar.{Parts, IsStmts, IsBody, IsBehind, IsMember, IsClassWord, IsClassWords, IsParent, IsClass, IsDotName, IsDotted, IsPackage, IsImported, IsImport, IsProgram, no_stmts, with_stmt, body_of, body_with, method_of, fields_of, no_members, with_members, class_of, no_classes, with_class, unit_of}
 use Rattle.ix_descent.specs.ClassRules.{PartRules, statements, block, super_behind, body, behind, method, typed_member, named_member, member_behind, member, next_class_word, class_words, parent, class_behind, worded_class, next_class, next_dot, dotted, package_line, next_imported, imported, next_import, imports, program}
 use Rattle.ix_descent.proofs.Runs.{loop_done}
 use Rattle.ix_descent.proofs.ListsComplete.{repeated_reads, some_reads, braces_read, repeated_starts}

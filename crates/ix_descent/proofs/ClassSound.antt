@@ -23,7 +23,7 @@ use Rattle.ix_grammar.specs.TypeGrammar as types
 use Rattle.ix_grammar.specs.TypeGrammar.{IsType, based}
 use Rattle.ix_grammar.specs.DeclGrammar.{begins, IsMods, member_words, shared, nothing_more}
 use Rattle.ix_grammar.specs.ClassGrammar as grammar
-use Rattle.ix_grammar.specs.ClassGrammar.{Parts, IsStmts, IsBody, IsBehind, IsMember, IsClassWord, IsClassWords, IsParent, IsClass, IsDotName, IsDotted, IsPackage, IsImported, IsImport, IsProgram, no_stmts, with_stmt, body_of, body_with, method_of, fields_of, no_members, with_members, class_of, no_classes, with_class, unit_of, result_height}
+use Rattle.ix_grammar.specs.ClassGrammar.{Parts, IsBody, IsBehind, IsMember, IsClassWord, IsClassWords, IsParent, IsClass, IsDotted, IsPackage, IsImported, IsImport, IsProgram, no_stmts, with_stmt, body_of, body_with, method_of, no_members, with_members, class_of, no_classes, with_class, unit_of, result_height}
 use Rattle.ix_descent.specs.ClassRules.{PartRules, statements, block, super_behind, body, behind, method, typed_member, named_member, member_behind, member, next_class_word, class_words, parent, class_behind, worded_class, next_class, next_dot, dotted, package_line, next_imported, imported, next_import, imports, program}
 use Rattle.ix_descent.proofs.SoundRules.{Sound, weaken, pure_sound, stop_sound, bind_sound, sign_sound, name_sound, loop_sound, After}
 use Rattle.ix_descent.proofs.ListsSound.{sign_fits, name_fits, braces_fits, Braces}

@@ -22,10 +22,10 @@ use Rattle.ix_descent.specs.ListRules.{braces_of}
 use Rattle.ix_grammar.specs.TypeGrammar as types
 use Rattle.ix_grammar.specs.TypeGrammar.{IsType, based}
 use Rattle.ix_grammar.specs.DeclGrammar as decl
-use Rattle.ix_grammar.specs.DeclGrammar.{earlier, begins, IsMods, IsParams, IsThrows, member_words, shared, plain_decl, one_decl, no_params, nothing_more}
+use Rattle.ix_grammar.specs.DeclGrammar.{begins, IsMods, IsParams, IsThrows, member_words, shared, plain_decl, one_decl, no_params}
 use Rattle.ix_descent.specs.DeclRules.{decls}
 use Rattle.ix_grammar.specs.ClassGrammar as grammar
-use Rattle.ix_grammar.specs.ClassGrammar.{Parts, IsBody, IsBehind, IsMember, IsClassWord, IsClassWords, IsParent, IsClass, IsDotted, IsPackage, IsImported, IsImport, IsProgram, no_stmts, with_stmt, body_of, body_with, method_of, fields_of, no_members, with_members, class_of, no_classes, with_class, unit_of, result_height}
+use Rattle.ix_grammar.specs.ClassGrammar.{Parts, IsBody, IsBehind, IsMember, IsClassWord, IsClassWords, IsParent, IsClass, IsPackage, IsImport, IsProgram, no_stmts, with_stmt, body_of, body_with, method_of, fields_of, no_members, with_members, class_of, no_classes, with_class, unit_of, result_height}
 use Rattle.ix_descent.specs.ClassRules.{PartRules, statements, block, super_behind, body, behind, method, typed_member, named_member, member_behind, member, next_class_word, class_words, parent, class_behind, worded_class, next_class, next_dot, dotted, package_line, next_imported, imported, next_import, imports, program}
 use Rattle.ix_descent.proofs.SoundRules.{Sound, weaken, sign_sound, loop_sound, After}
 use Rattle.ix_descent.proofs.ListsSound.{braces_fits}

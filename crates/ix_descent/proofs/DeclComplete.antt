@@ -24,7 +24,7 @@ use Rattle.ix_grammar.specs.TypeGrammar as types
 use Rattle.ix_grammar.specs.TypeGrammar.{IsType}
 use Rattle.ix_descent.specs.TypeRules.{type_tree}
 use Rattle.ix_grammar.specs.DeclGrammar as grammar
-use Rattle.ix_grammar.specs.DeclGrammar.{IsMods, IsDecl, IsDecls, IsParam, IsParams, IsName, IsThrows, shared, no_mods, with_word, with_annot, local_words, plain_decl, init_decl, one_decl, with_decl, no_params, one_param, with_param, nothing, nothing_more}
+use Rattle.ix_grammar.specs.DeclGrammar.{IsMods, IsDecl, IsDecls, IsParam, IsParams, IsName, IsThrows, shared, with_word, with_annot, local_words, plain_decl, one_decl, with_decl, no_params, one_param, with_param, nothing, nothing_more}
 use Rattle.ix_descent.specs.DeclRules.{next_mod, mods, decl_behind, decl, decls, param, some_params, params, a_thrown, throws}
 use Rattle.ix_descent.proofs.Runs.{loop_on, loop_done}
 use Rattle.ix_descent.proofs.ListsComplete.{separated_reads, more_done}

@@ -22,7 +22,7 @@ use Rattle.ix_grammar.specs.Lists.{IsSeparated, first_item, next_item}
 use Rattle.ix_grammar.specs.TypeGrammar.{IsType}
 use Rattle.ix_grammar.specs.ExprGrammar.{IsInit}
 use Rattle.ix_grammar.specs.DeclGrammar as g
-use Rattle.ix_grammar.specs.DeclGrammar.{IsMods, IsDecl, IsDecls, IsParam, IsParams, marked, earlier, begins, shared, one_decl, with_decl, one_param, with_param}
+use Rattle.ix_grammar.specs.DeclGrammar.{IsMods, IsDecl, IsDecls, IsParam, IsParams, marked, earlier, begins, shared, one_param, with_param}
 use Rattle.ix_lexer.proofs.SplitInOrder.{order_both}
 use Rattle.ix_descent.proofs.DeclPlaces.{FirstLies, mods_stand}
 use Rattle.ix_descent.proofs.ExprPlaces.{init_stands}

@@ -21,7 +21,7 @@ use Rattle.ix_grammar.specs.Lists.{IsSeparated, IsRepeated, first_item, next_ite
 use Rattle.ix_grammar.specs.TypeGrammar.{IsType}
 use Rattle.ix_grammar.specs.ExprGrammar.{IsInit}
 use Rattle.ix_grammar.specs.DeclGrammar as g
-use Rattle.ix_grammar.specs.DeclGrammar.{IsMods, IsDecl, IsDecls, IsParam, IsParams, marked, earlier, begins, shared, one_decl, with_decl, one_param, with_param}
+use Rattle.ix_grammar.specs.DeclGrammar.{IsMods, IsDecl, IsDecls, IsParam, IsParams, marked, earlier, shared, one_param, with_param}
 use Rattle.ix_lexer.proofs.SplitInOrder.{order_within, order_both}
 use Rattle.ix_tree.proofs.PartPlaces.{stand_two, stand_joined, stand_alone, stand_no_entries}
 use Rattle.ix_tree.proofs.Layouts.{Lies}

@@ -15,7 +15,7 @@ use Rattle.ix_grammar.specs.Patterns.{sign, name_token}
 use Rattle.ix_grammar.specs.Lists.{first_item}
 use Rattle.ix_grammar.specs.TypeGrammar as types
 use Rattle.ix_grammar.specs.DeclGrammar as grammar
-use Rattle.ix_grammar.specs.DeclGrammar.{IsMods, IsDecl, IsDecls, IsParam, IsParams, IsName, IsThrows, shared, no_mods, with_word, with_annot, local_words, plain_decl, init_decl, one_decl, with_decl, no_params, one_param, with_param, nothing, nothing_more}
+use Rattle.ix_grammar.specs.DeclGrammar.{IsDecl, IsDecls, IsParam, IsParams, IsName, IsThrows, no_mods, with_annot, local_words, plain_decl, init_decl, one_decl, with_decl, one_param, with_param, nothing, nothing_more}
 use Rattle.ix_descent.specs.DeclRules.{next_mod, mods, decl_behind, decl, decls, param, some_params, params, a_thrown, throws}
 use Rattle.ix_descent.proofs.SoundRules.{Sound, After}
 use Rattle.ix_descent.proofs.AnnotSound.{annot_behind_sound}

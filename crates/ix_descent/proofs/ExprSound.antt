@@ -26,7 +26,7 @@ use Rattle.ix_grammar.specs.declared.found.Notes.{Notes}
 use Rattle.ix_grammar.specs.Lists.{no_item, one_more}
 use Rattle.ix_grammar.specs.AnnotGrammar.{IsNotes, no_notes, with_note}
 use Rattle.ix_grammar.specs.TypeGrammar as types
-use Rattle.ix_grammar.specs.TypeGrammar.{based, counted, IsBase, IsPairs}
+use Rattle.ix_grammar.specs.TypeGrammar.{based, counted, IsBase}
 use Rattle.ix_descent.specs.TypeRules.{next_pair, pairs}
 use Rattle.ix_descent.proofs.ListsSound.{sign_fits}
 use Rattle.ix_descent.proofs.AnnotSound.{annot_behind_sound, annots_from_sound}

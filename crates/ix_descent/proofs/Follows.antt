@@ -13,7 +13,7 @@ use Rattle.ix_grammar.specs.declared.found.Form.TheVariants as form
 use Rattle.ix_descent.specs.Rule.{look}
 use Rattle.ix_grammar.specs.Patterns.{sign, a_sign, a_least, row, one_of, an_operator, binary_signs, unary_signs, step_signs, assign_signs}
 use Rattle.ix_grammar.specs.ExprGrammar as g
-use Rattle.ix_grammar.specs.ExprGrammar.{Kind, Primary, Whole, Level, IsExpr, IsExprs, IsArgs, IsInit, IsInits}
+use Rattle.ix_grammar.specs.ExprGrammar.{Kind, Primary, Whole, Level, IsExpr, IsExprs, IsInit, IsInits}
 use Rattle.ix_descent.proofs.Tables.{other_sign, other_table, no_operator, other_level}
 
 -- this sign doesn't come next

@@ -28,12 +28,12 @@ use Rattle.ix_grammar.specs.Nodes.{across}
 use Rattle.ix_grammar.specs.Lists.{IsSeparated, IsRepeated, first_item, next_item, no_item, one_more}
 use Rattle.ix_grammar.specs.AnnotGrammar.{IsAnnot, IsNotes, annot_height, args_height, name_height, no_notes, with_note}
 use Rattle.ix_grammar.specs.TypeGrammar as types
-use Rattle.ix_grammar.specs.TypeGrammar.{IsTypeRest, IsType}
+use Rattle.ix_grammar.specs.TypeGrammar.{IsType}
 use Rattle.ix_grammar.specs.ExprNodes.{created_type}
 use Rattle.ix_grammar.specs.ExprGrammar as g
 use Rattle.ix_grammar.specs.ExprGrammar.{Kind, IsExpr, IsExprs, IsArgs, IsInit, IsInits, IsItems}
 use Rattle.ix_grammar.specs.DeclGrammar as d
-use Rattle.ix_grammar.specs.DeclGrammar.{IsMods, IsDecl, IsDecls, IsParam, IsParams, shared, one_decl, with_decl, no_params, one_param, with_param}
+use Rattle.ix_grammar.specs.DeclGrammar.{IsMods, IsDecl, IsDecls, IsParam, IsParams, shared, one_decl, with_decl, one_param, with_param}
 use Rattle.ix_descent.proofs.DeclLaid.{marked_annots}
 
 -- ---- repetitions, whose items are at most so high

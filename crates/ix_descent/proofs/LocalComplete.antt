@@ -22,7 +22,7 @@ use Rattle.ix_grammar.specs.Patterns.{sign, name_token, a_sign}
 use Rattle.ix_grammar.specs.AnnotGrammar.{no_notes}
 use Rattle.ix_descent.specs.AnnotRules.{annot_behind}
 use Rattle.ix_grammar.specs.TypeGrammar as types
-use Rattle.ix_grammar.specs.TypeGrammar.{based, base_height, array_of, plain_type, IsType, IsTypeRest}
+use Rattle.ix_grammar.specs.TypeGrammar.{based, array_of, plain_type, IsType}
 use Rattle.ix_descent.specs.TypeRules.{pairs, brackets, noted_array, type_rest, type_tree}
 use Rattle.ix_grammar.specs.DeclGrammar.{no_mods, with_word, with_annot, local_words, shared, IsDecls}
 use Rattle.ix_descent.specs.DeclRules.{next_mod, mods, decls}

@@ -29,7 +29,7 @@ use Rattle.ix_grammar.specs.ExprGrammar.{Whole, IsStatementExpr}
 use Rattle.ix_grammar.specs.StmtGrammar as g
 use Rattle.ix_grammar.specs.StmtGrammar.{maybe_expr, maybe_height, run_part, one_run, with_run, one_expr, local_stmt, IsLocal, IsForFirst, IsMaybe, IsUpdate, IsStmt, IsBlockStmt, IsStmts}
 use Rattle.ix_grammar.specs.ClassGrammar as c
-use Rattle.ix_grammar.specs.ClassGrammar.{IsBody, IsBehind, IsMember, IsParent, IsClass, result_tree, result_height, method_of, fields, no_stmts, with_stmt, no_members, with_members, no_classes, with_class}
+use Rattle.ix_grammar.specs.ClassGrammar.{IsBody, IsBehind, IsMember, IsClass, result_tree, result_height, method_of, fields, no_stmts, with_stmt, no_members, with_members, no_classes, with_class}
 use Rattle.ix_grammar.specs.SourceGrammar.{source_parts, IsSource}
 use Rattle.ix_descent.proofs.HeightLaws.{repeated_low, separated_low, mods_low, type_low, expr_low, args_low, shared_low, decls_low, params_low}
 

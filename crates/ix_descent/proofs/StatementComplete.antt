@@ -13,7 +13,7 @@ use Rattle.ix_grammar.specs.ExprNodes.{stepped_before, stepped_after, assigned}
 use Rattle.ix_descent.specs.ExprRules.{extra, Below, primary_of, prefixed, assignment, to_statement, statement_of, below, statement_expr}
 use Rattle.ix_grammar.specs.ExprNodes.{makes_array}
 use Rattle.ix_grammar.specs.ExprGrammar as g
-use Rattle.ix_grammar.specs.ExprGrammar.{Kind, Primary, Whole, Level, IsExpr, IsStatementExpr}
+use Rattle.ix_grammar.specs.ExprGrammar.{Primary, Whole, Level, IsExpr}
 use Rattle.ix_descent.proofs.Tables.{other_table}
 use Rattle.ix_descent.proofs.Follows.{AfterPrimary, AfterWhole, before_step, before_assign, starts_primary, variable_tall}
 use Rattle.ix_descent.proofs.ExprComplete.{Complete, complete, chain_end, lower_reads, lower_variable}

@@ -32,9 +32,9 @@ use Rattle.ix_grammar.specs.TypeGrammar.{IsType}
 use Rattle.ix_grammar.specs.ExprNodes.{no_exprs, with_expr}
 use Rattle.ix_descent.specs.ExprRules.{expr, statement_expr}
 use Rattle.ix_grammar.specs.ExprGrammar as e
-use Rattle.ix_grammar.specs.ExprGrammar.{Kind, Primary, Whole, Level, IsExpr, IsInit, IsStatementExpr}
+use Rattle.ix_grammar.specs.ExprGrammar.{Kind, Whole, IsExpr, IsInit, IsStatementExpr}
 use Rattle.ix_grammar.specs.StmtGrammar as g
-use Rattle.ix_grammar.specs.StmtGrammar.{IsStmt, IsBlockStmt, IsStmts, IsForFirst, IsMaybe, IsUpdate, IsReason, IsLocal, begins_print, stmt_node, block_stmt, if_stmt, if_else_stmt, while_stmt, do_stmt, for_stmt, return_stmt, throw_stmt, print_stmt, run_stmt, one_run, with_run, one_expr, local_stmt}
+use Rattle.ix_grammar.specs.StmtGrammar.{IsStmt, IsBlockStmt, IsStmts, IsForFirst, IsMaybe, IsUpdate, IsLocal, begins_print, stmt_node, block_stmt, if_stmt, if_else_stmt, while_stmt, do_stmt, for_stmt, return_stmt, throw_stmt, print_stmt, run_stmt, one_run, with_run, one_expr, local_stmt}
 use Rattle.ix_descent.specs.StmtRules.{begun, finished, condition, else_part, if_rule, while_rule, do_rule, for_body, for_update, for_condition, for_part, for_rule, return_rule, throw_end, throw_rule, block_rule, stmt_of, stmts_below, stmt, block_statement}
 use Rattle.ix_descent.proofs.Runs.{loop_on, loop_done, same_ok}
 use Rattle.ix_descent.proofs.CompleteRules.{bind_reads, then_assoc}

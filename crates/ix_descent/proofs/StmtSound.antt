@@ -26,10 +26,10 @@ use Rattle.ix_grammar.specs.Patterns.{sign, name_token, a_sign}
 use Rattle.ix_grammar.specs.Lists.{no_item}
 use Rattle.ix_grammar.specs.AnnotGrammar.{no_notes}
 use Rattle.ix_grammar.specs.TypeGrammar as types
-use Rattle.ix_grammar.specs.TypeGrammar.{based, array_of, plain_type, IsType, IsPairs}
+use Rattle.ix_grammar.specs.TypeGrammar.{based, array_of, plain_type, IsType}
 use Rattle.ix_descent.specs.TypeRules.{type_rest}
 use Rattle.ix_grammar.specs.DeclGrammar as decl
-use Rattle.ix_grammar.specs.DeclGrammar.{no_mods, with_word, with_annot, local_words, shared, IsMods, IsDecls}
+use Rattle.ix_grammar.specs.DeclGrammar.{no_mods, with_word, with_annot, local_words, shared, IsMods}
 use Rattle.ix_descent.specs.DeclRules.{next_mod}
 use Rattle.ix_grammar.specs.ExprNodes.{named, selected, element}
 use Rattle.ix_descent.specs.ExprRules.{below, further, init}

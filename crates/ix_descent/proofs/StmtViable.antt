@@ -23,12 +23,12 @@ use Rattle.ix_grammar.specs.TypeGrammar as types
 use Rattle.ix_grammar.specs.TypeGrammar.{based, counted, array_of, plain_type, IsType}
 use Rattle.ix_descent.specs.TypeRules.{noted_array, type_rest}
 use Rattle.ix_grammar.specs.DeclGrammar as decl
-use Rattle.ix_grammar.specs.DeclGrammar.{no_mods, with_word, with_annot, local_words, shared, plain_decl, one_decl, IsMods, IsDecls}
+use Rattle.ix_grammar.specs.DeclGrammar.{no_mods, with_word, with_annot, local_words, shared, plain_decl, one_decl, IsMods}
 use Rattle.ix_descent.specs.DeclRules.{next_mod}
 use Rattle.ix_grammar.specs.ExprNodes.{named, selected, called, called_on, no_exprs, all_args}
 use Rattle.ix_descent.specs.ExprRules.{init}
 use Rattle.ix_grammar.specs.ExprGrammar as e
-use Rattle.ix_grammar.specs.ExprGrammar.{Primary, Whole, IsExpr, IsInit, IsStatementExpr}
+use Rattle.ix_grammar.specs.ExprGrammar.{Primary, IsExpr, IsInit, IsStatementExpr}
 use Rattle.ix_grammar.specs.StmtGrammar as g
 use Rattle.ix_grammar.specs.StmtGrammar.{SYSTEM, OUT, PRINTLN, word_token, IsLocal}
 use Rattle.ix_descent.specs.StmtRules.{a_word, declared, named_type, typed, modified, local_or, named_first, println_part, out_part, system_part, print_or, begun}

@@ -17,7 +17,7 @@ use Rattle.ix_grammar.specs.Lists.{no_item, one_more}
 use Rattle.ix_grammar.specs.AnnotGrammar.{IsAnnot, IsNotes, no_notes, with_note, annot_height}
 use Rattle.ix_descent.specs.AnnotRules.{next_annot, annots_from}
 use Rattle.ix_grammar.specs.TypeGrammar as grammar
-use Rattle.ix_grammar.specs.TypeGrammar.{IsBase, IsPairs, IsTypeRest, IsType, based, base_height, counted, array_of, plain_type}
+use Rattle.ix_grammar.specs.TypeGrammar.{IsPairs, IsTypeRest, IsType, based, base_height, counted, array_of, plain_type}
 use Rattle.ix_descent.specs.TypeRules.{next_pair, pairs, brackets, noted_array, type_rest, type_tree}
 use Rattle.ix_descent.proofs.Runs.{loop_on, loop_done}
 use Rattle.ix_descent.proofs.ListsComplete.{some_reads}

@@ -14,7 +14,7 @@ use Rattle.ix_grammar.specs.Lists.{no_item, one_more}
 use Rattle.ix_grammar.specs.AnnotGrammar.{IsNotes, no_notes, with_note}
 use Rattle.ix_descent.specs.AnnotRules.{annot_behind, annots_from}
 use Rattle.ix_grammar.specs.TypeGrammar as grammar
-use Rattle.ix_grammar.specs.TypeGrammar.{IsBase, IsPairs, IsTypeRest, IsType, based, base_height, counted, array_of, plain_type}
+use Rattle.ix_grammar.specs.TypeGrammar.{IsBase, IsPairs, based, base_height, counted, array_of, plain_type}
 use Rattle.ix_descent.specs.TypeRules.{next_pair, pairs, brackets, noted_array, type_rest, type_tree}
 use Rattle.ix_descent.proofs.SoundRules.{After}
 use Rattle.ix_descent.proofs.AnnotSound.{NotedAll, annot_behind_sound}

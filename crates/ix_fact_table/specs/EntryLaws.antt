@@ -14,7 +14,7 @@ use Rattle.ix_core.specs.declared.fact.Fact.{Fact}
 use Rattle.ix_core.specs.declared.fact.Fact.TheVariants.{Rng, LenRng, Low, Same, IsLen, Less, Sum, Search, Neg, Upper}
 use Rattle.ix_facts.specs.declared.kind.Kind.{Kind}
 use Rattle.ix_facts.specs.PathOrder.{path_cmp, path_total}
-use Rattle.ix_facts.specs.Facts.{IsIn, Covers, orders, is_default, in_orders}
+use Rattle.ix_facts.specs.Facts.{IsIn, Covers, orders, is_default}
 use Rattle.ix_facts.specs.Facts as covers
 use Rattle.ix_facts.specs.Closure.{Said}
 use Rattle.ix_facts.specs.Kinds.{is_of}

@@ -24,7 +24,7 @@ use Rattle.ix_facts.proofs.FactLists.{covers_covers, from_in_orders}
 use Rattle.ix_facts.proofs.SaidLaws.{default_is, is_a_default, default_weaker, said_itself, said_weaker, said_turned}
 use Rattle.ix_core.proofs.Cases.{by_test}
 use Rattle.ix_fact_table.specs.FactOrder as keys
-use Rattle.ix_fact_table.specs.FactOrder.{AtKey, fact_cmp, fact_total, at_key, key_equal, key_back, key_on, alike_back}
+use Rattle.ix_fact_table.specs.FactOrder.{AtKey, fact_cmp, fact_total, at_key, key_equal, key_back, key_on}
 use Rattle.ix_fact_table.specs.Meets as meets
 use Rattle.ix_fact_table.specs.Entries.{entry_of, within, has_ends, is_entry}
 use Rattle.ix_fact_table.specs.Rising.{rises, is_table_of}

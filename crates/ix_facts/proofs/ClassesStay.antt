@@ -34,7 +34,7 @@ use Rattle.ix_facts.specs.Forget.{without}
 use Rattle.ix_facts.specs.Closure.{kept_fact, kept}
 use Rattle.ix_facts.specs.Exact.{if_so, each, each_path, if_some, named_ints, named_arrays, range_facts, class_facts, low_facts, exact_range, exact_unary, table_class}
 use Rattle.ix_facts.specs.AfterOperation as after
-use Rattle.ix_facts.specs.AfterOperation.{is_int, is_array, copied_by, claimed_by, loaded_facts}
+use Rattle.ix_facts.specs.AfterOperation.{is_int, is_array, copied_by, loaded_facts}
 use Rattle.ix_facts.specs.Finish as finish
 use Rattle.ix_facts.specs.After.{of_target, finished_by, finished, beside_target, kept_new, after_facts, copy_facts}
 use Rattle.ix_facts.specs.Assume.{claim_facts}

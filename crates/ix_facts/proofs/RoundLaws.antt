@@ -11,7 +11,7 @@ use Rattle.ix_facts.specs.Exact.{each, if_some}
 use Rattle.ix_facts.specs.Forget.{without}
 use Rattle.ix_facts.specs.Round.{mark_below, mark_above, if_both, rounded_fact, is_beyond, rounded}
 use Rattle.ix_facts.proofs.Gives.{Gives, max_chooses, min_chooses, gives_when, gives_best}
-use Rattle.ix_facts.proofs.FactLists.{in_either, covers_covers, stronger_one, stronger_none, stronger_itself, stronger_stronger, stronger_app}
+use Rattle.ix_facts.proofs.FactLists.{stronger_one, stronger_none, stronger_itself, stronger_stronger, stronger_app}
 use Rattle.ix_facts.proofs.Frame.{in_without, without_stronger}
 use Rattle.ix_facts.proofs.RuleForms.{stronger_some, stronger_each}
 use Rattle.ix_facts.proofs.RulesMonotone.{still_at_most, still_at_least}

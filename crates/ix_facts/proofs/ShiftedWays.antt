@@ -12,7 +12,7 @@ use Rattle.ix_core.specs.declared.fact.Fact.{Fact}
 use Rattle.ix_core.specs.declared.fact.Fact.TheVariants.{Rng, LenRng, Low, Same, IsLen, Less, Sum, Search, Neg, Upper}
 use Rattle.ix_facts.specs.Facts.{IsIn}
 use Rattle.ix_facts.specs.Bounds
-use Rattle.ix_facts.specs.Bounds.{is_path, is_offset, when, best, best_of, greatest}
+use Rattle.ix_facts.specs.Bounds.{is_path, is_offset, when, best, greatest}
 use Rattle.ix_facts.specs.Laws.{Way, itself, greater, plus, minus}
 use Rattle.ix_facts.proofs.Tests.{path_true}
 use Rattle.ix_facts.proofs.Worse.{Up, up_laws, Worse, worse_left, worse_right, worse_in}

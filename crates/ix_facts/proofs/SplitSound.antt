@@ -3,7 +3,7 @@ use Rattle.std.specs.Prelude.{◌≡◌, Bool, true, false, not, refl}
 use Rattle.std.proofs.Common.{subst}
 use Rattle.ix_core.specs.Code.{Code, Condition}
 use Rattle.ix_core.specs.Numbers.{Numbers}
-use Rattle.ix_facts.specs.Stores.{Stored, Unreachable, Reached, Meets, IsJoined, left, right, both, Splits}
+use Rattle.ix_facts.specs.Stores.{Stored, Meets, IsJoined, left, right, both, Splits}
 use Rattle.ix_facts.specs.Stores as split
 use Rattle.ix_facts.specs.Decisions.{Decides}
 use Rattle.ix_facts.specs.Decisions as decision

@@ -4,7 +4,7 @@ use Rattle.std.proofs.Common.{inl, inr, sym, subst, ⊎_elim}
 use Rattle.ix_core.specs.declared.fact.Fact.{Fact}
 use Rattle.ix_core.specs.declared.fact.Fact.TheVariants.{Rng, LenRng}
 use Rattle.ix_core.specs.Numbers.{Numbers}
-use Rattle.ix_facts.specs.Facts.{AllHold, IsIn}
+use Rattle.ix_facts.specs.Facts.{AllHold}
 use Rattle.ix_facts.specs.Closure.{Follows, Said, SaysAll, Closed, Contradicts, IsClosedOf, IsCommon}
 use Rattle.ix_facts.specs.Stores.{Stored, Unreachable, Reached, Meets, IsBelow, IsClosedStore, IsStoreOf, unreachable, reached, IsAbove, IsJoined, left, right, both, IsGiven, IsMonotone}
 use Rattle.ix_facts.proofs.ClosureLaws.{follows_hold, follows_from, said_follows, is_closed, closed_holds, common_closed, hold_apart}

@@ -10,7 +10,7 @@ use Rattle.ix_core.specs.declared.fact.Profile.TheVariants.{Ideal}
 use Rattle.ix_core.specs.declared.op.Literal.TheVariants as literal
 use Rattle.ix_core.specs.declared.op.OpKind.TheVariants as op
 use Rattle.ix_facts.specs.Facts.{IsIn}
-use Rattle.ix_facts.specs.Closure.{Default, Said, Follows, IsClosedOf}
+use Rattle.ix_facts.specs.Closure.{Default, Follows}
 use Rattle.ix_facts.specs.Closure as closure
 use Rattle.ix_facts.specs.After.{after_facts}
 use Rattle.ix_facts.proofs.SaidLaws.{default_weaker}

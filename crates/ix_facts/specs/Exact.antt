@@ -22,7 +22,7 @@ use Rattle.ix_core.specs.declared.fact.Profile.TheVariants.{Ideal, Int32}
 use Rattle.ix_core.specs.declared.op.UnaryNum.{UnaryNum}
 use Rattle.ix_core.specs.declared.op.UnaryNum.TheVariants.{Neg as Negated, Flip}
 use Rattle.ix_facts.specs.Bounds
-use Rattle.ix_facts.specs.Bounds.{is_path, when, best, best_of, least, at_least, at_most}
+use Rattle.ix_facts.specs.Bounds.{is_path, when, best, least, at_least, at_most}
 
 -- ---- forms of rules
 

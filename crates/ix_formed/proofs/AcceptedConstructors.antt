@@ -21,7 +21,7 @@ use Rattle.ix_meaning.specs.declared.note.Rule.TheVariants as rule
 use Rattle.ix_meaning.specs.Classes.{parents, class_named}
 use Rattle.ix_meaning.specs.Limits.{methods_of, all_methods}
 use Rattle.ix_meaning.specs.Members as members
-use Rattle.ix_meaning.specs.Members.{ClassOf, World, Callee, world, signature, callable_if, is_constructor_named, own_constructor, constructor_params, params_in, class_name}
+use Rattle.ix_meaning.specs.Members.{ClassOf, Callee, world, signature, callable_if, is_constructor_named, own_constructor, constructor_params, params_in, class_name}
 use Rattle.ix_meaning.specs.Resolved.{names}
 use Rattle.ix_meaning.specs.Source.{Place, place, has_constructor, member_named}
 use Rattle.ix_meaning.specs.Types.{wrong_if}

@@ -9,7 +9,7 @@ use Rattle.ix_core.specs.declared.claim.Type_.{Type_}
 use Rattle.ix_core.specs.declared.claim.Type_.TheVariants as type
 use Rattle.ix_core.specs.declared.program.Field.{Field as ProgramField}
 use Rattle.ix_core.specs.declared.program.Program.{Program}
-use Rattle.ix_core.specs.Formed.{fields_fit, result_fits}
+use Rattle.ix_core.specs.Formed.{fields_fit}
 use Rattle.ix_core.specs.Tables.{no_field, most_on_way}
 use Rattle.ix_core.specs.Types.{int_type, is_type, is_class, is_below, is_of}
 use Rattle.ix_tree.specs.declared.annot.BaseTree.{BaseTree}
@@ -24,15 +24,14 @@ use Rattle.ix_tree.specs.Parts.{unit_parts}
 use Rattle.ix_meaning.specs.declared.members.Field.{Field}
 use Rattle.ix_meaning.specs.declared.note.Meaning.{Meaning}
 use Rattle.ix_meaning.specs.declared.note.Meaning.TheVariants as meaning
-use Rattle.ix_meaning.specs.Annotated.{written, based, class_use}
+use Rattle.ix_meaning.specs.Annotated.{written, based}
 use Rattle.ix_meaning.specs.Classes as classes
 use Rattle.ix_meaning.specs.Classes.{parents, supers}
 use Rattle.ix_meaning.specs.Members as members
 use Rattle.ix_meaning.specs.Declarators as declarators
-use Rattle.ix_meaning.specs.Members.{ClassOf, world, own_field, field_named, field_type, field_meaning, constant, is_int_type, literal, nearest}
+use Rattle.ix_meaning.specs.Members.{ClassOf, world, own_field, field_named, field_type, constant, is_int_type, literal, nearest}
 use Rattle.ix_meaning.specs.Resolved.{names}
 use Rattle.ix_meaning.specs.Types as kinds
-use Rattle.ix_meaning.specs.Types.{shaped}
 use Rattle.ix_plain.specs.Scope.{Site}
 use Rattle.ix_formed.specs.Additions.{AllOf}
 use Rattle.ix_formed.specs.Typed.{FieldIs}

@@ -30,7 +30,7 @@ use Rattle.ix_meaning.specs.Annotated.{based, class_use, given, names_nothing, i
 use Rattle.ix_meaning.specs.Classes as classes
 use Rattle.ix_meaning.specs.Classes.{parents, supers, class_named}
 use Rattle.ix_meaning.specs.Members as members
-use Rattle.ix_meaning.specs.Members.{ClassOf, World, Callee, world, signature, param_type, result_type, callable_if, is_method_named, method_named}
+use Rattle.ix_meaning.specs.Members.{ClassOf, Callee, world, signature, param_type, result_type, callable_if, is_method_named, method_named}
 use Rattle.ix_meaning.specs.Types.{shaped}
 use Rattle.ix_meaning.specs.Values as values
 use Rattle.ix_plain.specs.declared.body.Head.{Head}

@@ -12,7 +12,7 @@ use Rattle.ix_meaning.specs.declared.note.Meaning.{Meaning}
 use Rattle.ix_meaning.specs.declared.note.Meaning.TheVariants as meaning
 use Rattle.ix_plain.specs.Scope.{Site, Scope, meaning_at, is_among}
 use Rattle.ix_plain.specs.Assigned as assigned
-use Rattle.ix_plain.specs.Assigned.{Adding, Assigns, none, both, all, maybe, each, with_slot, through, assigns, init_assigns}
+use Rattle.ix_plain.specs.Assigned.{Adding, Assigns, none, both, all, each, with_slot, through, assigns, init_assigns}
 
 -- ---- slots in a list
 

@@ -24,17 +24,17 @@ use Rattle.ix_meaning.specs.Classes.{parents, class_named}
 use Rattle.ix_meaning.specs.Inheritance as inheritance
 use Rattle.ix_meaning.specs.Limits.{methods_of, all_methods}
 use Rattle.ix_meaning.specs.Members as members
-use Rattle.ix_meaning.specs.Members.{World, Callee, world, signature}
+use Rattle.ix_meaning.specs.Members.{Callee, world, signature}
 use Rattle.ix_meaning.specs.Resolved.{names}
 use Rattle.ix_meaning.specs.Source as source
-use Rattle.ix_meaning.specs.Source.{Place, place, has_constructor, is_constructor}
+use Rattle.ix_meaning.specs.Source.{Place, place, has_constructor}
 use Rattle.ix_plain.specs.declared.numbers.Next.{Next}
 use Rattle.ix_plain.specs.Counts.{most_counted}
 use Rattle.ix_plain.specs.Members.{next_behind, class_of, own_methods, first_numbers}
 use Rattle.ix_plain.specs.Program as program
 use Rattle.ix_plain.specs.Program.{Tables, Home, tables, overrides, number_of}
 use Rattle.ix_formed.specs.Additions.{AllOf}
-use Rattle.ix_formed.specs.NoErrors.{Agrees, MembersSay, ClassSays, ClassesSay}
+use Rattle.ix_formed.specs.NoErrors.{Agrees, MembersSay, ClassesSay}
 use Rattle.ix_formed.specs.Shape.{IsNext, AllNumbered, ListsFields, ListsMethods, HasMethods, classes_of, AreDefaults, IfElse, IsOneDefault}
 use Rattle.ix_formed.proofs.AllMethods.{program_has}
 use Rattle.ix_formed.proofs.ClaimsFit.{Whenever}

@@ -13,7 +13,7 @@ use Rattle.ix_tree.specs.declared.decl.Unit.{Unit as Source}
 use Rattle.ix_meaning.specs.declared.members.Signature.{Signature}
 use Rattle.ix_meaning.specs.declared.note.Rule.TheVariants as rule
 use Rattle.ix_meaning.specs.Classes.{class_named, first_class, first_or, parents, parents_by, parent, parent_in, parent_in_table, is_cyclic, supers}
-use Rattle.ix_meaning.specs.Limits.{Passed, limit, inheritance_limit, past_inheritance, most_inherited}
+use Rattle.ix_meaning.specs.Limits.{past_inheritance, most_inherited}
 use Rattle.ix_meaning.specs.Members.{World, world, methods}
 use Rattle.ix_meaning.specs.Declarators as declared
 use Rattle.ix_meaning.specs.Resolved.{Names, Accepts}

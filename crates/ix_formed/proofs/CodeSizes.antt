@@ -6,7 +6,7 @@ use Rattle.ix_core.specs.declared.code.Block.{Block, Block-F, ind-Block, map-Blo
 use Rattle.ix_core.specs.declared.code.Cond.{Cond, Cond-F, map-Cond, roll-Cond, fold-roll-Cond}
 use Rattle.ix_core.specs.declared.code.Cond.TheVariants.{rolls-Known, rolls-Compare, rolls-Truth, rolls-Both, rolls-Either, rolls-Opposite}
 use Rattle.ix_core.specs.declared.code.Item as raw
-use Rattle.ix_core.specs.declared.code.Item.{Item, Item-F, map-Item, roll-Item, fold-Item, fold-roll-Item}
+use Rattle.ix_core.specs.declared.code.Item.{Item, Item-F, map-Item, roll-Item, fold-roll-Item}
 use Rattle.ix_core.specs.declared.code.Item.TheVariants.{rolls-Do, rolls-If, rolls-Break, rolls-Continue, rolls-Return, rolls-Throw, rolls-Loop}
 use Rattle.ix_core.specs.Code.{Code, End, Do, If, Break, Continue, Return, Throw, Loop, Condition, Known, Compare, Truth, Both, Either, Opposite, item_code, cond_code, items_code, block_code}
 use Rattle.ix_core.specs.Formed.{code_size, condition_size}

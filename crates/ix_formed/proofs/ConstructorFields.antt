@@ -29,13 +29,13 @@ use Rattle.ix_plain.specs.Members.{next_field}
 use Rattle.ix_plain.specs.Parts.{◌>>=◌, Value}
 use Rattle.ix_plain.specs.Program.{field_initialised, member_initialised, fields_initialised}
 use Rattle.ix_plain.specs.Scope.{declared_type, is_among}
-use Rattle.ix_plain.specs.Statements.{Evaluated, behind_value, init_evaluated, scope_for, assigned_by}
+use Rattle.ix_plain.specs.Statements.{behind_value, init_evaluated, assigned_by}
 use Rattle.ix_plain.specs.Values.{filling}
 use Rattle.ix_formed.specs.Additions.{Makes, AllOf}
 use Rattle.ix_formed.specs.Points.{Known, Keeps, Leads}
 use Rattle.ix_formed.specs.Readable.{is_readable_init}
 use Rattle.ix_formed.specs.Typed as typed
-use Rattle.ix_formed.specs.Typed.{HasMembers, Setting, IsSet, IsHere, Gives, Holds, Fills, FitsFilling}
+use Rattle.ix_formed.specs.Typed.{HasMembers, Setting, IsSet, IsHere, Gives, Holds, Fills}
 use Rattle.ix_formed.specs.TypedStatements.{Ground, IsGround, Says, IsKnown, Within, IsDeclared, Outside}
 use Rattle.ix_formed.specs.Written.{is_written_init}
 use Rattle.ix_formed.proofs.AssignedVariables.{init_assigns_append}

@@ -8,7 +8,7 @@ use Rattle.ix_core.specs.declared.claim.Type_.{Type_}
 use Rattle.ix_core.specs.declared.program.Local.{Local}
 use Rattle.ix_core.specs.declared.program.Method.{Method}
 use Rattle.ix_core.specs.declared.program.Program.{Program}
-use Rattle.ix_core.specs.Formed.{first_type, entry_type, this_type, has_parent, param_type_from, is_target}
+use Rattle.ix_core.specs.Formed.{first_type, entry_type, this_type, has_parent, is_target}
 use Rattle.ix_core.specs.Tables.{class_at, param_slot}
 use Rattle.ix_core.specs.Types.{Point, class_type, is_class}
 use Rattle.ix_tree.specs.declared.decl.MethodDecl.{MethodDecl}
@@ -23,7 +23,7 @@ use Rattle.ix_meaning.specs.Scope.{Scope as Names}
 use Rattle.ix_meaning.specs.Source as source
 use Rattle.ix_meaning.specs.Source.{Place}
 use Rattle.ix_meaning.specs.Values as reading
-use Rattle.ix_plain.specs.Program.{Tables, Home, start, tables, args_or_none, super_call, written_start}
+use Rattle.ix_plain.specs.Program.{start, tables, args_or_none, super_call}
 use Rattle.ix_formed.specs.Additions.{Makes, AllOf}
 use Rattle.ix_formed.specs.Readable.{shape, is_readable_expr, is_readable_stmt, all_fine}
 use Rattle.ix_formed.specs.TypedStatements.{Ground, IsGround, Says, IsKnown, Within, Scoped, Stands}

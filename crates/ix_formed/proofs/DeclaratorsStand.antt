@@ -9,7 +9,7 @@ use Rattle.ix_tree.specs.declared.decl.Member.{Member}
 use Rattle.ix_tree.specs.declared.decl.Member.TheVariants as member
 use Rattle.ix_tree.specs.Placed.{Layout, nothing, node, copy, followed, row, annot_piece, base_pieces}
 use Rattle.ix_annot.specs.Table.{counted}
-use Rattle.ix_meaning.specs.Declarators.{counting, counting_behind, further, declarators, is_further, annots_before, annots_behind, field_in, first_of, members_behind}
+use Rattle.ix_meaning.specs.Declarators.{counting, counting_behind, further, declarators, is_further, annots_before, annots_behind, first_of, members_behind}
 use Rattle.ix_formed.specs.EachNode.{InText, IfSome, TypeNodes, DeclNodes, MemberNodes}
 use Rattle.ix_formed.proofs.ListsJoin.{all_joined}
 use Rattle.ix_formed.proofs.PiecesLie.{Lies, AllLie}

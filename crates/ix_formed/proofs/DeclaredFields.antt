@@ -25,7 +25,7 @@ use Rattle.ix_meaning.specs.Annotated.{written, element_claims, target_before, o
 use Rattle.ix_meaning.specs.Bodies.{declares_note}
 use Rattle.ix_meaning.specs.Inheritance.{hides}
 use Rattle.ix_meaning.specs.Members as members
-use Rattle.ix_meaning.specs.Members.{World, ClassOf, field_type, constant, is_int_type, literal}
+use Rattle.ix_meaning.specs.Members.{World, field_type, constant, is_int_type, literal}
 use Rattle.ix_meaning.specs.Resolved.{Names}
 use Rattle.ix_meaning.specs.Rules.{duplicate_name}
 use Rattle.ix_meaning.specs.Source as source

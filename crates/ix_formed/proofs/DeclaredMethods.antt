@@ -11,14 +11,14 @@ use Rattle.ix_tree.specs.Parts.{Part}
 use Rattle.ix_meaning.specs.declared.members.Signature.{Signature}
 use Rattle.ix_meaning.specs.declared.note.Note.{Note}
 use Rattle.ix_meaning.specs.declared.note.NameError.{NameError}
-use Rattle.ix_meaning.specs.Annotated.{Declaration, variable, written, element_claims, target_before, given, of_variable, marked}
+use Rattle.ix_meaning.specs.Annotated.{variable, written, element_claims, target_before, given, of_variable, marked}
 use Rattle.ix_meaning.specs.Bodies.{declares_note, all_told, telling}
 use Rattle.ix_meaning.specs.Members.{signature, param_type, result_type}
 use Rattle.ix_meaning.specs.Resolved.{Names}
 use Rattle.ix_meaning.specs.Rules.{duplicate_name}
 use Rattle.ix_meaning.specs.Scope.{Scope}
 use Rattle.ix_meaning.specs.Source as source
-use Rattle.ix_meaning.specs.Source.{Place, place}
+use Rattle.ix_meaning.specs.Source.{Place}
 use Rattle.ix_plain.specs.Scope.{declared_type}
 use Rattle.ix_formed.specs.NoErrors.{Agrees}
 use Rattle.ix_formed.specs.Shape.{types_of}

@@ -34,7 +34,7 @@ use Rattle.ix_formed.specs.Additions.{Makes, AllOf, code_before}
 use Rattle.ix_formed.specs.NoErrors.{Agrees, Say, ClassesSay}
 use Rattle.ix_formed.specs.OwnSlots.{HaveOwnSlots}
 use Rattle.ix_formed.specs.Shape.{IsDefault, IsNext, IsOneDefault, IfElse, AreDefaults}
-use Rattle.ix_formed.specs.TypedStatements.{Ground, IsGround, Says, Scoped, Stands}
+use Rattle.ix_formed.specs.TypedStatements.{Ground, IsGround, Says, Scoped}
 use Rattle.ix_formed.proofs.AcceptedBodies.{ground, is_ground}
 use Rattle.ix_formed.proofs.AcceptedMethods.{class_is}
 use Rattle.ix_formed.proofs.ClassFields.{HasFields, AllHaveFields}

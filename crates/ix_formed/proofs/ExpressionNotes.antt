@@ -19,7 +19,7 @@ use Rattle.ix_tree.specs.declared.expr.Expr.{Expr, Expr-F, ind-Expr, map-Expr, r
 use Rattle.ix_tree.specs.declared.expr.ExprKind.{ExprKind, ExprKind-F, map-ExprKind, roll-ExprKind, fold-ExprKind, fold-roll-ExprKind}
 use Rattle.ix_tree.specs.declared.expr.Init.{Init, Init-F, ind-Init, map-Init, roll-Init, fold-roll-Init}
 use Rattle.ix_tree.specs.Parts as parts
-use Rattle.ix_tree.specs.Parts.{Part, expression, elsewhere, in_type, entries, together, listed, type_parts, base_parts, expr_parts, init_parts}
+use Rattle.ix_tree.specs.Parts.{Part, expression, elsewhere, in_type, together, listed, type_parts, base_parts, expr_parts, init_parts}
 use Rattle.ix_plain.specs.Named.{Names}
 use Rattle.ix_plain.specs.Claims.{Claims}
 use Rattle.ix_plain.specs.AnnotError.{AnnotError}
@@ -38,7 +38,7 @@ use Rattle.ix_meaning.specs.Rules as rules
 use Rattle.ix_meaning.specs.Scope.{Scope, Known, meant, is_pending}
 use Rattle.ix_meaning.specs.Types.{int, boolean, Need, unknown, never, printed, of, need_like, is_reference, element, element_in, Judged, judged, type_note, typed, wrong, wrong_if}
 use Rattle.ix_meaning.specs.Values as values
-use Rattle.ix_meaning.specs.Values.{Reading, KindReading, Filling, Object, no_object, of_class, value, Received, reading, kind_reading, filling, check, null_at, fitted, as_object, valued, valued_and_assigned}
+use Rattle.ix_meaning.specs.Values.{Reading, KindReading, Filling, Object, no_object, of_class, value, reading, kind_reading, filling, check, null_at, fitted, as_object, valued, valued_and_assigned}
 use Rattle.ix_formed.specs.Weights.{total, IsWeighed}
 
 pub total_append : {A : Type 0} (weight : A → ℕ) (xs ys : List A) → total weight (xs ++ ys) ≡ total weight xs + total weight ys

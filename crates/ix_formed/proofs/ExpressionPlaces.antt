@@ -25,7 +25,7 @@ use Rattle.ix_tree.specs.declared.expr.Expr.{Expr, Expr-F, ind-Expr, map-Expr, r
 use Rattle.ix_tree.specs.declared.expr.ExprKind.{ExprKind, ExprKind-F, map-ExprKind, roll-ExprKind, fold-ExprKind, fold-roll-ExprKind}
 use Rattle.ix_tree.specs.declared.expr.Init.{Init, Init-F, ind-Init, map-Init, roll-Init, fold-roll-Init}
 use Rattle.ix_tree.specs.Placed as placed
-use Rattle.ix_tree.specs.Placed.{Layout, nothing, row, piece, expr_piece, init_piece}
+use Rattle.ix_tree.specs.Placed.{Layout, row, piece, expr_piece, init_piece}
 use Rattle.ix_meaning.specs.declared.note.Meaning.{Meaning}
 use Rattle.ix_meaning.specs.declared.note.Meaning.TheVariants as meaning
 use Rattle.ix_meaning.specs.declared.note.Which.TheVariants as which

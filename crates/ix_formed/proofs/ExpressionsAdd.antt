@@ -40,7 +40,7 @@ use Rattle.ix_plain.specs.declared.made.Spot.TheVariants as spot
 use Rattle.ix_plain.specs.Scope.{Scope, slot_of, meaning_at, type_at, head_at, constructor_at, is_among}
 use Rattle.ix_plain.specs.Parts.{Within, ◌>>=◌, Value, Asked, empty, block, with_item, in_place, done, taking, computed, truth_item, truth_value, truth_of, read, write, most_slots}
 use Rattle.ix_plain.specs.Values as values
-use Rattle.ix_plain.specs.Values.{Lowering, Filling, Entries, Arguments, lowering, filling, computes, asks, asked_value, without_value, int_value}
+use Rattle.ix_plain.specs.Values.{Lowering, Filling, Arguments, lowering, filling, computes, asks, asked_value, without_value, int_value}
 use Rattle.ix_formed.specs.Additions.{Makes, AllOf, IsPlain, Rises, Adds, Asks, Grows, Fills}
 use Rattle.ix_formed.proofs.PlainItems.{makes_more, makes_then, plain_none, plain_both, plain_op, plain_block, plain_supers, plain_truth}
 

@@ -1,6 +1,6 @@
 -- The fields of an accepted source's program fit: each has a class and a type of the program, and its claims fit.
 use Rattle.std.proofs.Common.{◌≡◌, ◌≤◌, ◌<◌, ◌^◌, ℕ, ◌+◌, Bool, true, false, List, [], ◌∷◌, ◌++◌, length, Option, Some, None, Ok, refl, sym, ap, subst, ◌∙◌, arith}
-use Rattle.std.specs.Prelude.{if◌then◌else◌, ◌==◌, ◌||◌, ◌&&◌, not, nat_lt}
+use Rattle.std.specs.Prelude.{if◌then◌else◌, ◌==◌, ◌||◌, ◌&&◌, not}
 use Rattle.std.specs.List.{list_all}
 use Rattle.std.proofs.lemmas.Bool.{false≢true, and_parts}
 use Rattle.ix_core.specs.declared.claim.Name.TheVariants as name
@@ -27,7 +27,7 @@ use Rattle.ix_meaning.specs.Members.{World, world}
 use Rattle.ix_meaning.specs.Resolved.{names, Accepts}
 use Rattle.ix_meaning.specs.Scope.{annot_names}
 use Rattle.ix_meaning.specs.Source as source
-use Rattle.ix_meaning.specs.Source.{Place, place, members_in, notes}
+use Rattle.ix_meaning.specs.Source.{place, members_in, notes}
 use Rattle.ix_meaning.specs.Declarators.{with_annots}
 use Rattle.ix_plain.specs.Members.{field_of, first_numbers}
 use Rattle.ix_formed.proofs.FurtherDeclarators.{written_with}

@@ -20,7 +20,7 @@ use Rattle.ix_tree.specs.declared.expr.Init.{Init}
 use Rattle.ix_tree.specs.declared.stmt.Stmt.{Stmt, Stmt-F, ind-Stmt, map-Stmt, roll-Stmt, fold-roll-Stmt}
 use Rattle.ix_tree.specs.declared.stmt.StmtKind.{StmtKind, StmtKind-F, map-StmtKind, roll-StmtKind, fold-StmtKind, fold-roll-StmtKind}
 use Rattle.ix_tree.specs.Parts as parts
-use Rattle.ix_tree.specs.Parts.{Part, together, listed, mods_parts, type_parts, elsewhere, expr_parts, init_parts, decl_parts, stmt_parts, args_parts, member_parts}
+use Rattle.ix_tree.specs.Parts.{Part, together, listed, mods_parts, type_parts, elsewhere, expr_parts, init_parts, decl_parts, stmt_parts, member_parts}
 use Rattle.ix_meaning.specs.declared.note.Which.TheVariants as which
 use Rattle.ix_plain.specs.declared.body.Body.{Body}
 use Rattle.ix_plain.specs.declared.made.Made.{Made}
@@ -30,7 +30,7 @@ use Rattle.ix_plain.specs.Parts.{Within, ◌>>=◌, Value, Asked, empty, done, c
 use Rattle.ix_plain.specs.Assigned.{assigns, init_assigns, all_assign}
 use Rattle.ix_plain.specs.Values.{Arguments, lowering, filling, arguments_from, calling}
 use Rattle.ix_plain.specs.Statements as statements
-use Rattle.ix_plain.specs.Statements.{Running, Run, Inside, Evaluated, Tested, behind, with_last, behind_value, evaluated, init_evaluated, used, ran, all_ran, tested, tested_if, with_free, inside, in_loop, most_loops, scope_for, with_local, no_block}
+use Rattle.ix_plain.specs.Statements.{Running, Run, Inside, Evaluated, Tested, behind, with_last, behind_value, evaluated, init_evaluated, used, ran, all_ran, tested, tested_if, inside, in_loop, most_loops, scope_for, with_local, no_block}
 use Rattle.ix_plain.specs.Members.{next_field}
 use Rattle.ix_plain.specs.Program as program
 use Rattle.ix_plain.specs.Program.{Home, start, args_or_none}

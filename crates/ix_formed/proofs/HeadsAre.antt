@@ -15,7 +15,7 @@ use Rattle.ix_tree.specs.Parts.{unit_parts}
 use Rattle.ix_meaning.specs.declared.members.Signature.{Signature}
 use Rattle.ix_meaning.specs.Limits.{methods_of}
 use Rattle.ix_meaning.specs.Members as members
-use Rattle.ix_meaning.specs.Members.{World, world, signature, param_type, result_type}
+use Rattle.ix_meaning.specs.Members.{world, signature, param_type}
 use Rattle.ix_meaning.specs.Resolved.{Names, names}
 use Rattle.ix_meaning.specs.Source as source
 use Rattle.ix_meaning.specs.Source.{Place, place}

@@ -27,7 +27,7 @@ use Rattle.ix_meaning.specs.Members.{World, world, signature, param_type, result
 use Rattle.ix_meaning.specs.Resolved.{Names, names}
 use Rattle.ix_meaning.specs.Scope.{Scope, annot_names, type_or_void}
 use Rattle.ix_meaning.specs.Source as source
-use Rattle.ix_meaning.specs.Source.{Place, place}
+use Rattle.ix_meaning.specs.Source.{Place}
 use Rattle.ix_plain.specs.Members.{is_static}
 use Rattle.ix_plain.specs.Scope.{declared_type, declared_claims}
 use Rattle.ix_formed.specs.Additions.{AllOf}

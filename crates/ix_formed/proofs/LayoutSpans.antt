@@ -12,7 +12,7 @@ use Rattle.ix_tree.specs.declared.expr.Expr.{Expr, Expr-F, ind-Expr, map-Expr, r
 use Rattle.ix_tree.specs.declared.expr.ExprKind.{ExprKind, ExprKind-F, map-ExprKind, roll-ExprKind, fold-ExprKind, fold-roll-ExprKind}
 use Rattle.ix_tree.specs.declared.expr.Init.{Init, Init-F, ind-Init, map-Init, roll-Init, fold-roll-Init}
 use Rattle.ix_tree.specs.Parts as parts
-use Rattle.ix_tree.specs.Parts.{Part, expression, statement, declaration, in_type, elsewhere, entries, together, listed, expr_parts, init_parts, type_parts}
+use Rattle.ix_tree.specs.Parts.{Part, expression, elsewhere, together, listed, expr_parts, init_parts, type_parts}
 use Rattle.ix_tree.specs.Placed as placed
 use Rattle.ix_tree.specs.Placed.{Layout, nothing, node, copy, LaidOut, followed, row, piece, expr_piece, init_piece}
 use Rattle.ix_plain.specs.Values as values

@@ -23,7 +23,7 @@ use Rattle.ix_meaning.specs.Classes as classes
 use Rattle.ix_meaning.specs.Classes.{parents, supers}
 use Rattle.ix_meaning.specs.Inheritance.{if_instance, overridden, differs_from, some_differ, differ, clashes}
 use Rattle.ix_meaning.specs.Members as members
-use Rattle.ix_meaning.specs.Members.{World, Callee, world, signature, callable_if, own_method, is_method_named, nearest, or_nearest}
+use Rattle.ix_meaning.specs.Members.{World, Callee, world, signature, callable_if, is_method_named, nearest, or_nearest}
 use Rattle.ix_meaning.specs.Resolved.{names}
 use Rattle.ix_meaning.specs.Rules.{duplicate_name}
 use Rattle.ix_meaning.specs.Source.{Place}

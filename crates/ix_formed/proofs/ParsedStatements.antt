@@ -32,7 +32,7 @@ use Rattle.ix_grammar.specs.StmtGrammar as g
 use Rattle.ix_grammar.specs.StmtGrammar.{maybe_expr, run_part, one_run, with_run, one_expr, local_stmt, IsLocal, IsForFirst, IsMaybe, IsUpdate, IsStmt, IsBlockStmt, IsStmts}
 use Rattle.ix_formed.specs.Additions.{AllOf}
 use Rattle.ix_formed.specs.Readable as readable
-use Rattle.ix_formed.specs.Readable.{Statement, stmt_shape, each_fine, is_part, is_readable_expr, is_readable_init, is_readable_decl}
+use Rattle.ix_formed.specs.Readable.{Statement, stmt_shape, each_fine, is_part, is_readable_expr, is_readable_decl}
 use Rattle.ix_formed.specs.Written as written
 use Rattle.ix_formed.specs.Written.{is_written_expr, is_written_init, is_written_type, is_written_decl, is_written_stmt, is_empty, all_true, each_true, maybe_true}
 use Rattle.ix_formed.proofs.NumberLists.{both_true, all_joined}

@@ -22,7 +22,7 @@ use Rattle.ix_meaning.specs.Source.{Place}
 use Rattle.ix_plain.specs.declared.body.Body.{Body}
 use Rattle.ix_plain.specs.Parts.{◌>>=◌}
 use Rattle.ix_plain.specs.Program as program
-use Rattle.ix_plain.specs.Program.{Tables, Home, start, tables, args_or_none}
+use Rattle.ix_plain.specs.Program.{Tables, start, tables, args_or_none}
 use Rattle.ix_plain.specs.Statements.{each, statement}
 use Rattle.ix_formed.specs.Additions.{AllOf}
 use Rattle.ix_formed.specs.LocalTypes.{local_types}

@@ -41,7 +41,7 @@ use Rattle.ix_meaning.specs.Classes as classes
 use Rattle.ix_meaning.specs.Classes.{parents, parent, onward, supers}
 use Rattle.ix_meaning.specs.Inheritance.{if_instance}
 use Rattle.ix_meaning.specs.Members as members
-use Rattle.ix_meaning.specs.Members.{World, Callee, world, signature, is_method_named, nearest, or_nearest}
+use Rattle.ix_meaning.specs.Members.{Callee, world, signature, is_method_named, nearest, or_nearest}
 use Rattle.ix_meaning.specs.Resolved.{names}
 use Rattle.ix_meaning.specs.Scope.{Scope, annot_names}
 use Rattle.ix_meaning.specs.Source as source

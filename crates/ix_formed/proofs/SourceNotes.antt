@@ -22,14 +22,14 @@ use Rattle.ix_tree.specs.declared.expr.Init.{Init}
 use Rattle.ix_tree.specs.declared.stmt.Stmt.{Stmt, Stmt-F, ind-Stmt, map-Stmt, roll-Stmt, fold-roll-Stmt}
 use Rattle.ix_tree.specs.declared.stmt.StmtKind.{StmtKind, StmtKind-F, map-StmtKind, roll-StmtKind, fold-StmtKind, fold-roll-StmtKind}
 use Rattle.ix_tree.specs.Parts as parts
-use Rattle.ix_tree.specs.Parts.{Part, declaration, elsewhere, in_type, together, listed, mods_parts, type_parts, expr_parts, init_parts, decl_parts, stmt_parts, args_parts, method_parts, member_parts, class_parts, unit_parts, other_name}
+use Rattle.ix_tree.specs.Parts.{Part, declaration, elsewhere, together, listed, mods_parts, type_parts, expr_parts, init_parts, decl_parts, stmt_parts, args_parts, method_parts, member_parts, class_parts, unit_parts, other_name}
 use Rattle.ix_meaning.specs.declared.members.Field.{Field}
 use Rattle.ix_meaning.specs.declared.members.Signature.{Signature}
 use Rattle.ix_meaning.specs.declared.note.Meaning.TheVariants.{ClassNamed}
 use Rattle.ix_meaning.specs.declared.note.Note.{Note}
 use Rattle.ix_meaning.specs.declared.note.Rule.TheVariants as rule
 use Rattle.ix_meaning.specs.Annotated as annotated
-use Rattle.ix_meaning.specs.Annotated.{given, aimed, written, variable, static_field, of_variable, marked, of_method, of_result}
+use Rattle.ix_meaning.specs.Annotated.{given, aimed, written, variable, static_field, of_variable, marked, of_result}
 use Rattle.ix_meaning.specs.Bodies as bodies
 use Rattle.ix_meaning.specs.Declarators as joint
 use Rattle.ix_meaning.specs.Declarators.{with_annots, counting, counting_behind, further, declarators, annots_before, annots_behind, field_in, first_of, members_behind}

@@ -15,7 +15,7 @@ use Rattle.ix_tree.specs.declared.expr.Init.{Init}
 use Rattle.ix_tree.specs.declared.stmt.Stmt.{Stmt, Stmt-F, ind-Stmt, map-Stmt, roll-Stmt, fold-roll-Stmt}
 use Rattle.ix_tree.specs.declared.stmt.StmtKind.{StmtKind, StmtKind-F, map-StmtKind, roll-StmtKind, fold-StmtKind, fold-roll-StmtKind}
 use Rattle.ix_tree.specs.Placed as placed
-use Rattle.ix_tree.specs.Placed.{Layout, row, piece, maybe, name_piece, expr_piece, stmt_piece}
+use Rattle.ix_tree.specs.Placed.{Layout, row, piece, maybe, expr_piece, stmt_piece}
 use Rattle.ix_tree.proofs.LayoutParts.{expr_is, kind_row}
 use Rattle.ix_meaning.specs.declared.note.Which.TheVariants as which
 use Rattle.ix_plain.specs.declared.body.Body.{Body}

@@ -13,7 +13,7 @@ use Rattle.ix_tree.specs.declared.expr.Init.{Init}
 use Rattle.ix_tree.specs.declared.stmt.Stmt.{Stmt, Stmt-F, ind-Stmt, map-Stmt, roll-Stmt, fold-roll-Stmt}
 use Rattle.ix_tree.specs.declared.stmt.StmtKind.{StmtKind, StmtKind-F, map-StmtKind, roll-StmtKind, fold-StmtKind, fold-roll-StmtKind}
 use Rattle.ix_tree.specs.Placed as placed
-use Rattle.ix_tree.specs.Placed.{Layout, row, annot_piece, type_piece, expr_piece, init_piece, stmt_piece, shared_pieces, own_pieces, further_pieces}
+use Rattle.ix_tree.specs.Placed.{Layout, row, expr_piece, stmt_piece}
 use Rattle.ix_meaning.specs.declared.note.Rule.TheVariants as rule
 use Rattle.ix_meaning.specs.Annotated.{target_before, of_variable}
 use Rattle.ix_meaning.specs.Bodies as bodies

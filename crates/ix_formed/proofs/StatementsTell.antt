@@ -1,6 +1,6 @@
 -- Every statement tells what it says.
 use Rattle.std.proofs.Common.{◌≡◌, Bool, true, false, List, [], ◌∷◌, ◌++◌, map, Option, Some, None, refl, sym, subst, ◌∙◌}
-use Rattle.std.specs.Prelude.{if◌then◌else◌, ◌&&◌}
+use Rattle.std.specs.Prelude.{◌&&◌}
 use Rattle.std.proofs.lemmas.Bool.{false≢true, and_parts}
 use Rattle.ix_text.specs.declared.span.Span.{Span}
 use Rattle.ix_core.specs.declared.claim.Type_.{Type_}
@@ -8,21 +8,21 @@ use Rattle.ix_tree.specs.declared.expr.Expr.{Expr}
 use Rattle.ix_tree.specs.declared.stmt.Stmt.{Stmt, Stmt-F, ind-Stmt, map-Stmt, roll-Stmt, fold-roll-Stmt}
 use Rattle.ix_tree.specs.declared.stmt.StmtKind.{StmtKind, StmtKind-F, map-StmtKind, roll-StmtKind, fold-StmtKind, fold-roll-StmtKind}
 use Rattle.ix_tree.specs.Parts as parts
-use Rattle.ix_tree.specs.Parts.{Part, stmt_parts, expr_parts, decl_parts, together}
+use Rattle.ix_tree.specs.Parts.{Part, stmt_parts, expr_parts, together}
 use Rattle.ix_tree.specs.Placed as placed
-use Rattle.ix_tree.specs.Placed.{Layout, nothing, node, LaidOut, row, stmt_piece, expr_piece}
+use Rattle.ix_tree.specs.Placed.{Layout, nothing, node, row, stmt_piece}
 use Rattle.ix_meaning.specs.Bodies as bodies
-use Rattle.ix_meaning.specs.Bodies.{Telling, telling, after, all_told}
+use Rattle.ix_meaning.specs.Bodies.{Telling, telling, after}
 use Rattle.ix_meaning.specs.Scope.{Scope as Names}
 use Rattle.ix_plain.specs.Statements as statements
 use Rattle.ix_plain.specs.Statements.{Run, Running}
 use Rattle.ix_formed.specs.LocalTypes.{types_step, stmt_types}
 use Rattle.ix_formed.specs.Readable as readable
-use Rattle.ix_formed.specs.Readable.{Statement, stmt_shape, shape, is_part, is_readable_expr, is_readable_decl, each_fine}
+use Rattle.ix_formed.specs.Readable.{Statement, stmt_shape, shape, is_part, is_readable_expr, each_fine}
 use Rattle.ix_formed.specs.TypedParts.{DoesTell, KeepsNames, IsStatement}
 use Rattle.ix_formed.specs.TypedStatements.{Ground, IsGround, IsKnown}
 use Rattle.ix_formed.specs.Written as written
-use Rattle.ix_formed.specs.Written.{is_written_stmt, is_written_expr, is_written_decl, all_true, each_true, maybe_true}
+use Rattle.ix_formed.specs.Written.{is_written_stmt, is_written_expr, all_true, each_true, maybe_true}
 use Rattle.ix_formed.proofs.TypedExpressions.{all_parted}
 use Rattle.ix_formed.proofs.TypedFor.{AreStatements, block_tells, for_tells}
 use Rattle.ix_formed.proofs.TypedForms.{empty_tells, break_tells, continue_tells, throw_tells, return_tells, run_tells, print_tells, given_back_tells, locals_tell}

@@ -18,9 +18,9 @@ use Rattle.ix_meaning.specs.Annotated.{written, given, names_nothing}
 use Rattle.ix_core.specs.SameClaims.{distinct}
 use Rattle.ix_meaning.specs.Rules as rules
 use Rattle.ix_meaning.specs.Types as types
-use Rattle.ix_meaning.specs.Types.{Judged, judged, type_note, need_like, of, element, element_in}
+use Rattle.ix_meaning.specs.Types.{judged, type_note, of, element, element_in}
 use Rattle.ix_meaning.specs.Values as reading
-use Rattle.ix_meaning.specs.Values.{Reading, KindReading, as_object, check, valued}
+use Rattle.ix_meaning.specs.Values.{Reading, KindReading, check, valued}
 use Rattle.ix_plain.specs.declared.made.Made.{Made}
 use Rattle.ix_plain.specs.declared.made.Spot.TheVariants as spot
 use Rattle.ix_plain.specs.Scope.{type_at, or_void}

@@ -17,7 +17,7 @@ use Rattle.ix_meaning.specs.Rules as rules
 use Rattle.ix_meaning.specs.Types as types
 use Rattle.ix_meaning.specs.Types.{need_like, of}
 use Rattle.ix_meaning.specs.Values as reading
-use Rattle.ix_meaning.specs.Values.{Reading, KindReading, check, valued}
+use Rattle.ix_meaning.specs.Values.{Reading, check, valued}
 use Rattle.ix_plain.specs.declared.made.Made.{Made}
 use Rattle.ix_plain.specs.declared.made.Spot.{Spot}
 use Rattle.ix_plain.specs.declared.made.Spot.TheVariants as spot

@@ -27,7 +27,7 @@ use Rattle.ix_formed.specs.Additions.{Makes, AllOf, code_before}
 use Rattle.ix_formed.specs.Points.{Keeps, Decides}
 use Rattle.ix_formed.specs.Readable.{Statement, is_part}
 use Rattle.ix_formed.specs.TypedParts.{until, IsStatement}
-use Rattle.ix_formed.specs.TypedStatements.{Ground, IsGround, Says, IsKnown, Begins, IsDeclared, DoFit, Scoped, Stands, ways, Passes, Leaves, Adds, Tells, WriteAnswers}
+use Rattle.ix_formed.specs.TypedStatements.{Ground, Says, IsKnown, Begins, IsDeclared, DoFit, Scoped, Stands, ways, Passes, Leaves, Adds, Tells, WriteAnswers}
 use Rattle.ix_formed.proofs.NumberLists.{both_true, all_so}
 use Rattle.ix_formed.proofs.PlainItems.{items_before, makes_then}
 use Rattle.ix_formed.proofs.SameTypes.{same_itself}

@@ -26,7 +26,7 @@ use Rattle.ix_meaning.specs.Rules as rules
 use Rattle.ix_meaning.specs.Scope.{Scope as Names}
 use Rattle.ix_meaning.specs.Types.{Judged, of, typed, type_note, wrong_if, fits, is_reference}
 use Rattle.ix_meaning.specs.Values as values
-use Rattle.ix_meaning.specs.Values.{Reading, KindReading, Object, no_object, of_class, value, Received, check, fitted, null_at, as_object, object_for, object_notes, no_reference, valued, valued_and_assigned}
+use Rattle.ix_meaning.specs.Values.{Reading, KindReading, no_object, value, Received, check, fitted, null_at, as_object, object_for, object_notes, no_reference}
 use Rattle.ix_plain.specs.declared.made.Made.{Made}
 use Rattle.ix_plain.specs.Scope.{Scope, is_among}
 use Rattle.ix_plain.specs.Parts.{Within, ◌>>=◌, Value, Asked, empty, block, truth_item, truth_value, truth_of, most_slots}

@@ -20,7 +20,7 @@ use Rattle.ix_plain.specs.Parts.{default}
 use Rattle.ix_plain.specs.Scope.{slot_of}
 use Rattle.ix_formed.specs.Additions.{AllOf}
 use Rattle.ix_formed.specs.Points.{Known, Keeps, Leads}
-use Rattle.ix_formed.specs.TypedStatements.{Ground, IsGround, Within, type_in, scope_in, IsNamed, HasVariable, Scoped, Stands, Begins, IsDeclared}
+use Rattle.ix_formed.specs.TypedStatements.{Ground, Within, type_in, scope_in, IsNamed, HasVariable, Scoped, Stands, Begins}
 use Rattle.ix_formed.proofs.NumberLists.{both_true, is_itself, is_less, all_joined}
 use Rattle.ix_formed.proofs.ScopedLocals.{get_behind, first_none, locals_both, type_final, stands_more, has_first, variables_more}
 use Rattle.ix_formed.proofs.TypedPoints.{op_leads, reads_known}

@@ -21,7 +21,7 @@ use Rattle.ix_formed.specs.Additions.{Makes, AllOf, IsPlainCondition}
 use Rattle.ix_formed.specs.Points.{Keeps, Decides}
 use Rattle.ix_formed.specs.Readable.{shape, is_readable_init}
 use Rattle.ix_formed.specs.Typed as typed
-use Rattle.ix_formed.specs.Typed.{Tests, Setting, IsSet, IsResult, Fits, Fills}
+use Rattle.ix_formed.specs.Typed.{Tests, Setting, IsSet, IsResult, Fits}
 use Rattle.ix_formed.specs.TypedStatements.{Ground, IsGround, Says, IsKnown, Within, Scoped, Stands, Begins, scope_in}
 use Rattle.ix_formed.specs.Written.{is_written_expr, is_written_init}
 use Rattle.ix_formed.proofs.LayoutSpans.{PartIs}

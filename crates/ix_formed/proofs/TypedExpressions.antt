@@ -1,6 +1,6 @@
 -- Every expression without errors on names becomes operations that fit, and gives a value of its type.
 use Rattle.std.proofs.Common.{◌≡◌, ◌≤◌, ℕ, Bool, true, false, List, [], ◌∷◌, ◌++◌, map, length, Option, Some, None, refl, sym, ap, subst, ◌∙◌, arith}
-use Rattle.std.specs.Prelude.{if◌then◌else◌, ◌&&◌, nat_lt}
+use Rattle.std.specs.Prelude.{◌&&◌, nat_lt}
 use Rattle.std.proofs.lemmas.Bool.{false≢true, and_parts}
 use Rattle.ix_text.specs.declared.span.Span.{Span}
 use Rattle.ix_num.specs.declared.arith.Arith.{Arith}
@@ -33,7 +33,7 @@ use Rattle.ix_formed.proofs.AssignedVariables.{Appends, among_left, among_right,
 use Rattle.ix_formed.proofs.TypedArrays.{AllFit, element_fits, element_target, new_array_fits, new_items_fits, value_filling, items_filling}
 use Rattle.ix_formed.proofs.TypedAssignments.{assignment_fits, compound_fits, step_fits}
 use Rattle.ix_formed.proofs.TypedCalls.{AllFits, bare_fits, dot_fits, new_fits_too}
-use Rattle.ix_formed.proofs.TypedChecks.{Speaks, computes_fits, lowering_at, reading_at}
+use Rattle.ix_formed.proofs.TypedChecks.{computes_fits, lowering_at, reading_at}
 use Rattle.ix_formed.proofs.TypedNames.{int_yields, constant_yields, this_held}
 use Rattle.ix_formed.proofs.TypedOperators.{unary_fits, binary_fits}
 use Rattle.ix_formed.proofs.TypedPoints.{keeps_none}

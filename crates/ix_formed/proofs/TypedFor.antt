@@ -1,6 +1,6 @@
 -- `for` and sequences of statements tell what they say.
 use Rattle.std.proofs.Common.{◌≡◌, ◌≤◌, ◌<◌, ℕ, ◌+◌, max, Bool, true, false, List, [], ◌∷◌, ◌++◌, length, map, Option, Some, None, Ok, Err, refl, sym, ap, subst, ◌∙◌, arith, append_assoc}
-use Rattle.std.specs.Prelude.{if◌then◌else◌, ◌&&◌, nat_lt}
+use Rattle.std.specs.Prelude.{if◌then◌else◌, nat_lt}
 use Rattle.std.proofs.lemmas.Bool.{and_parts}
 use Rattle.std.proofs.lemmas.List.{append-nil}
 use Rattle.ix_text.specs.declared.span.Span.{Span}
@@ -18,19 +18,19 @@ use Rattle.ix_tree.specs.Placed as placed
 use Rattle.ix_tree.specs.Placed.{Layout, nothing, node, LaidOut, row, expr_piece}
 use Rattle.ix_meaning.specs.declared.note.Which.TheVariants as which
 use Rattle.ix_meaning.specs.Bodies as bodies
-use Rattle.ix_meaning.specs.Bodies.{Telling, after, then_told, noted_then, looped, closed, all_told, nothing as telling_nothing}
+use Rattle.ix_meaning.specs.Bodies.{Telling, after, then_told, noted_then, looped, closed, all_told}
 use Rattle.ix_meaning.specs.Scope.{Scope as Names}
 use Rattle.ix_plain.specs.declared.body.Body.{Body}
 use Rattle.ix_plain.specs.declared.made.Made.{Made}
 use Rattle.ix_plain.specs.Parts.{◌>>=◌, empty}
 use Rattle.ix_plain.specs.Statements as statements
-use Rattle.ix_plain.specs.Statements.{Running, Inside, Tested, tested_if, with_last, with_free, branch, inside, all_ran, ran, evaluated, Evaluated, most_loops}
+use Rattle.ix_plain.specs.Statements.{Running, Inside, tested_if, with_last, with_free, branch, inside, all_ran, ran, evaluated, most_loops}
 use Rattle.ix_formed.specs.Additions.{Makes, AllOf, IsPlain}
 use Rattle.ix_formed.specs.LocalTypes.{joined}
 use Rattle.ix_formed.specs.Points.{Keeps, Leads}
 use Rattle.ix_formed.specs.Readable.{Statement, is_part, each_fine, is_readable_expr}
 use Rattle.ix_formed.specs.TypedParts.{IsStatement, until}
-use Rattle.ix_formed.specs.TypedStatements.{Ground, IsGround, Says, IsKnown, Scoped, Stands, Begins, IsDeclared, Passes, Leaves, Adds, Tells}
+use Rattle.ix_formed.specs.TypedStatements.{Ground, IsGround, Says, IsKnown, Scoped, Stands, Begins, IsDeclared, Adds, Tells}
 use Rattle.ix_formed.specs.Written.{is_written_expr, maybe_true, each_true, all_true}
 use Rattle.ix_formed.proofs.LayoutSpans.{laid_parts, laid_up}
 use Rattle.ix_formed.proofs.NumberLists.{all_so}

@@ -23,20 +23,20 @@ use Rattle.ix_tree.specs.declared.expr.Expr.{Expr}
 use Rattle.ix_tree.specs.Parts as parts
 use Rattle.ix_tree.specs.Parts.{Part, expr_parts, init_parts, decl_parts, together, mods_parts, type_parts}
 use Rattle.ix_tree.specs.Placed as placed
-use Rattle.ix_tree.specs.Placed.{Layout, nothing, node, LaidOut, row, expr_piece, own_pieces, further_pieces, shared_pieces, decl_pieces}
+use Rattle.ix_tree.specs.Placed.{Layout, nothing, node, LaidOut, row, expr_piece, own_pieces, further_pieces, shared_pieces}
 use Rattle.ix_meaning.specs.declared.note.NameError.{NameError}
 use Rattle.ix_meaning.specs.declared.note.Note.TheVariants.{Wrong}
 use Rattle.ix_meaning.specs.declared.note.Rule.TheVariants as rule
 use Rattle.ix_meaning.specs.Bodies as bodies
 use Rattle.ix_meaning.specs.Declarators.{with_annots, counting, counting_behind, further, declarators}
 use Rattle.ix_formed.proofs.FurtherDeclarators.{further_written}
-use Rattle.ix_meaning.specs.Bodies.{Telling, after, declared, all_declared, then_told, nothing as telling_nothing, noting}
+use Rattle.ix_meaning.specs.Bodies.{Telling, after, declared, all_declared, then_told, nothing as telling_nothing}
 use Rattle.ix_meaning.specs.Rules as rules
 use Rattle.ix_meaning.specs.Scope.{Scope as Names}
 use Rattle.ix_meaning.specs.Types as kinds
 use Rattle.ix_meaning.specs.Types.{Need, never, printed, of, unknown}
 use Rattle.ix_meaning.specs.Values as reading
-use Rattle.ix_meaning.specs.Values.{Reading, check, fitted, null_at}
+use Rattle.ix_meaning.specs.Values.{check, fitted, null_at}
 use Rattle.ix_plain.specs.declared.body.Body.{Body}
 use Rattle.ix_meaning.specs.declared.note.Which.TheVariants as which
 use Rattle.ix_plain.specs.Assigned.{assigns}
@@ -50,7 +50,7 @@ use Rattle.ix_formed.specs.NoErrors.{Agrees}
 use Rattle.ix_formed.specs.Points.{Known, Keeps}
 use Rattle.ix_formed.specs.Typed.{Tests}
 use Rattle.ix_formed.specs.Readable.{shape, is_readable_decl}
-use Rattle.ix_formed.specs.TypedStatements.{Ground, IsGround, Says, IsKnown, Scoped, Stands, Begins, IsDeclared, ways, Passes, Leaves, WriteAnswers, Adds, Tells}
+use Rattle.ix_formed.specs.TypedStatements.{Ground, IsGround, Says, IsKnown, Scoped, Stands, Begins, ways, Passes, Leaves, WriteAnswers, Adds, Tells}
 use Rattle.ix_formed.specs.Written.{is_written_expr, is_written_decl, is_written_type, is_written_init, maybe_true, each_true}
 use Rattle.ix_formed.proofs.EachMember.{said_parts, not_broken}
 use Rattle.ix_formed.proofs.LayoutSpans.{laid_parts, laid_up, expr_spans}

@@ -14,9 +14,9 @@ use Rattle.ix_core.specs.Types.{Point, is_type, is_of}
 use Rattle.ix_tree.specs.declared.decl.LocalDecl.{LocalDecl}
 use Rattle.ix_tree.specs.declared.expr.Init.{Init}
 use Rattle.ix_tree.specs.Parts as parts
-use Rattle.ix_tree.specs.Parts.{Part, init_parts}
+use Rattle.ix_tree.specs.Parts.{init_parts}
 use Rattle.ix_tree.specs.Placed as placed
-use Rattle.ix_tree.specs.Placed.{Layout, nothing, node, LaidOut, row, init_piece, own_pieces}
+use Rattle.ix_tree.specs.Placed.{nothing, LaidOut, row, init_piece}
 use Rattle.ix_meaning.specs.declared.note.Meaning.TheVariants as meaning
 use Rattle.ix_meaning.specs.declared.note.NameError.{NameError}
 use Rattle.ix_meaning.specs.declared.note.Note.TheVariants.{Wrong}
@@ -32,7 +32,7 @@ use Rattle.ix_meaning.specs.declared.note.Which.TheVariants as which
 use Rattle.ix_plain.specs.Parts.{◌>>=◌, computed, write, default, most_slots}
 use Rattle.ix_plain.specs.Scope.{is_among, slot_of, declared_type, declared_claims}
 use Rattle.ix_plain.specs.Statements as statements
-use Rattle.ix_plain.specs.Statements.{Evaluated, behind_value, init_evaluated, with_last, with_local}
+use Rattle.ix_plain.specs.Statements.{Evaluated, behind_value, init_evaluated, with_last}
 use Rattle.ix_plain.specs.Values.{filling}
 use Rattle.ix_formed.specs.Additions.{Makes, AllOf}
 use Rattle.ix_formed.specs.NoErrors.{Agrees}
@@ -44,7 +44,7 @@ use Rattle.ix_formed.specs.TypedStatements.{Ground, IsGround, Says, IsKnown, Wit
 use Rattle.ix_formed.specs.Written.{is_written_type, is_written_init, maybe_true}
 use Rattle.ix_formed.proofs.EachMember.{said_parts, not_broken, type_known}
 use Rattle.ix_formed.proofs.LayoutSpans.{laid_parts, init_spans, init_single}
-use Rattle.ix_formed.proofs.NumberLists.{both_true, is_itself, is_less}
+use Rattle.ix_formed.proofs.NumberLists.{both_true, is_less}
 use Rattle.ix_formed.proofs.PlainItems.{makes_then}
 use Rattle.ix_formed.proofs.ScopedLocals.{first_none, slot_is_own, scoped_within, scoped_for, stands_for, stands_more, has_first}
 use Rattle.ix_formed.proofs.TypedDeclarations.{scoped_pending, scoped_declared, stands_declared, copy_leads, default_is}

@@ -10,23 +10,23 @@ use Rattle.ix_core.specs.Code.{block_code}
 use Rattle.ix_core.specs.Types.{Point, meeting, point_below}
 use Rattle.ix_tree.specs.declared.expr.Expr.{Expr}
 use Rattle.ix_tree.specs.Parts as parts
-use Rattle.ix_tree.specs.Parts.{Part, expr_parts, together}
+use Rattle.ix_tree.specs.Parts.{Part, expr_parts}
 use Rattle.ix_tree.specs.Placed as placed
-use Rattle.ix_tree.specs.Placed.{Layout, nothing, node, LaidOut, row, expr_piece}
+use Rattle.ix_tree.specs.Placed.{Layout, nothing, LaidOut, row, expr_piece}
 use Rattle.ix_meaning.specs.Bodies as bodies
-use Rattle.ix_meaning.specs.Bodies.{Telling, after, then_told, noted_then, then_noted, looped, or_else, closed, all_told}
+use Rattle.ix_meaning.specs.Bodies.{Telling, after, then_told, noted_then, then_noted, looped, closed}
 use Rattle.ix_meaning.specs.Scope.{Scope as Names}
 use Rattle.ix_meaning.specs.declared.note.Which.TheVariants as which
 use Rattle.ix_plain.specs.declared.body.Body.{Body}
 use Rattle.ix_plain.specs.declared.made.Made.{Made}
 use Rattle.ix_plain.specs.Parts.{◌>>=◌}
 use Rattle.ix_plain.specs.Statements as statements
-use Rattle.ix_plain.specs.Statements.{Running, Inside, Tested, tested, tested_if, with_last, with_free, branch, inside, in_loop, all_ran, ran, evaluated, Evaluated, no_block, most_loops}
+use Rattle.ix_plain.specs.Statements.{Running, Inside, Tested, tested, tested_if, with_last, branch, inside, in_loop, ran, no_block, most_loops}
 use Rattle.ix_formed.specs.Additions.{Makes, AllOf, IsPlainCondition}
 use Rattle.ix_formed.specs.Points.{Keeps, Decides}
 use Rattle.ix_formed.specs.Readable.{shape, Statement, is_part}
 use Rattle.ix_formed.specs.TypedParts.{IsStatement}
-use Rattle.ix_formed.specs.TypedStatements.{Ground, IsGround, Says, IsKnown, Within, Scoped, Stands, Begins, IsDeclared, Passes, Leaves, Adds, Tells}
+use Rattle.ix_formed.specs.TypedStatements.{Ground, IsGround, Says, IsKnown, Scoped, Stands, Begins, Passes, Adds, Tells}
 use Rattle.ix_formed.specs.Written.{is_written_expr}
 use Rattle.ix_formed.proofs.LayoutSpans.{laid_parts, laid_up, expr_spans, expr_single}
 use Rattle.ix_formed.proofs.NumberLists.{all_so}

@@ -25,9 +25,9 @@ use Rattle.ix_tree.specs.declared.expr.UnaryOp.TheVariants as operator
 use Rattle.ix_meaning.specs.declared.note.Rule.TheVariants as rule
 use Rattle.ix_meaning.specs.Rules as rules
 use Rattle.ix_meaning.specs.Types as types
-use Rattle.ix_meaning.specs.Types.{Need, need_like, of, judged}
+use Rattle.ix_meaning.specs.Types.{need_like, of, judged}
 use Rattle.ix_meaning.specs.Values as reading
-use Rattle.ix_meaning.specs.Values.{Reading, KindReading, as_object, check, null_at, valued}
+use Rattle.ix_meaning.specs.Values.{Reading, check, null_at, valued}
 use Rattle.ix_plain.specs.declared.made.Made.{Made}
 use Rattle.ix_plain.specs.Scope.{type_at, or_void}
 use Rattle.ix_plain.specs.Parts.{empty, block, computed}

@@ -8,7 +8,7 @@ use Rattle.ix_core.specs.Posts.{last_done}
 use Rattle.ix_flow.specs.Flow.{Rules, RulesLaws, Anything}
 use Rattle.ix_graph.specs.declared.node.Edge.{Edge}
 use Rattle.ix_graph.specs.Built.{edges_of, edges_to, targets_from, edge_of}
-use Rattle.ix_graph.specs.Graph.{Kind, Starts, Does, Compares, Tells, Joins, Heads, Returns, Ends, Pass, Onward, Through, Testing, Telling, Part, NodePart, EdgePart, method_parts, AreBelow}
+use Rattle.ix_graph.specs.Graph.{Kind, Starts, Does, Compares, Tells, Joins, Heads, Returns, Ends, Pass, Onward, Through, Testing, Telling, Part, NodePart, EdgePart, AreBelow}
 use Rattle.ix_graph.specs.GraphSolutions.{Carries, Settles, label_at}
 use Rattle.ix_graph.specs.Brought.{pass_of, AllBring, Gathers, IsSettled}
 use Rattle.ix_graph.proofs.NodesAsk.{same_or}

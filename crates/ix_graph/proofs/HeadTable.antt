@@ -1,6 +1,5 @@
 -- Where loops are numbered in the order of their heads, each head is found by its loop's number, and what is found for the graph is its least solution.
-use Rattle.std.specs.List.{AllZip}
-use Rattle.std.proofs.Common.{◌≡◌, ◌+◌, ◌<◌, ℕ, zero, suc, List, [], ◌∷◌, slice_get, unwrap_or, arith, refl, sym, ap, subst, ◌∙◌}
+use Rattle.std.proofs.Common.{◌≡◌, ◌+◌, ℕ, suc, List, [], ◌∷◌, slice_get, unwrap_or, arith, sym, ap, ◌∙◌}
 use Rattle.ix_core.specs.Code.{Code}
 use Rattle.ix_flow.specs.Flow.{Rules, RulesLaws, Anything}
 use Rattle.ix_graph.specs.Graph.{Part, NodePart, EdgePart, Starts, Does, Compares, Tells, Joins, Heads, Returns, Ends, behind_code, method_parts}

@@ -1,5 +1,5 @@
 -- Guarded code flows with the stores of what is known along it, by rules that these stores keep.
-use Rattle.std.proofs.Common.{◌≡◌, ℕ, Bool, true, false, Option, Some, None, refl, sym, subst}
+use Rattle.std.proofs.Common.{◌≡◌, ℕ, Bool, true, false, Option, Some, None, sym, subst}
 use Rattle.ix_text.specs.declared.span.Span.{Span}
 use Rattle.ix_core.specs.declared.op.Op.{Op}
 use Rattle.ix_core.specs.declared.op.Test.{Test}
@@ -8,7 +8,7 @@ use Rattle.ix_core.specs.Posts.{last_done, written_answer}
 use Rattle.ix_flow.specs.Flow.{Point, Doing, Returning, Rules, Flows, Asks}
 use Rattle.ix_guard_promise.specs.Known.{Known, Nowhere, Unknown, Inside, Says, behind}
 use Rattle.ix_guard_promise.specs.Guards.{Guarded, GuardedAsked, IsGuarded, IsTest, outside, ends, does, chooses, breaks, continues, returns, throws, loops, tests, certain, compares, reads, both, either, opposite}
-use Rattle.ix_guard_promise.proofs.Saying.{says_itself, says_unknown}
+use Rattle.ix_guard_promise.proofs.Saying.{says_unknown}
 
 -- The rules are kept by the stores of what is known: what stays known is above what each rule gives, at each guarded operation all is fine, and so it is at each
 -- `return` and at the end, whatever is known.

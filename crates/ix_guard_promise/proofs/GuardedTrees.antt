@@ -1,5 +1,5 @@
 -- The tree of a guarded text: it is accepted, stands beside that of its source, and its names mean the same.
-use Rattle.std.proofs.Common.{◌≡◌, ◌≤◌, ℕ, List, length, refl, sym, ap, subst, ◌∙◌}
+use Rattle.std.proofs.Common.{◌≡◌, ◌≤◌, ℕ, List, length, refl, sym, ap, subst}
 use Rattle.ix_core.specs.declared.error.Error.{Error}
 use Rattle.ix_lexer.specs.declared.token.Token.{Token}
 use Rattle.ix_lexer.specs.Tokens.{Tokens, most_tokens}

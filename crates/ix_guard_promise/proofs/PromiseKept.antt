@@ -1,10 +1,8 @@
 -- All bytes have what is promised of their guarded text.
-use Rattle.std.proofs.Common.{◌≡◌, ◌<◌, ℕ, List, [], ◌∷◌, inl, inr, length, refl, sym, subst}
-use Rattle.ix_text.specs.declared.span.Span.{Span}
+use Rattle.std.proofs.Common.{ℕ, List, [], ◌∷◌, inl, inr, refl, sym, subst}
 use Rattle.ix_core.specs.declared.error.Error.{Error}
 use Rattle.ix_core.specs.declared.fact.Profile.{Profile}
 use Rattle.ix_core.specs.declared.program.Program.{Program}
-use Rattle.ix_tree.specs.declared.decl.Unit.{Unit as Source}
 use Rattle.ix_meaning.specs.Resolved.{names}
 use Rattle.ix_formed.specs.Additions.{AllOf}
 use Rattle.ix_meaning.proofs.FewDeclarations.{few_members}
@@ -22,7 +20,7 @@ use Rattle.ix_guard_promise.proofs.GuardedSources.{parsed_guards}
 use Rattle.ix_guard_promise.proofs.GuardedRuns.{guarded_runs_follow}
 use Rattle.ix_guarding.specs.Guarding.{IsGuarded}
 use Rattle.ix_guard_promise.specs.Promise.{HaveProgram, GuardsWell, AvoidsAt, into_guarded}
-use Rattle.ix_guard_promise.proofs.GuardedTrees.{TreesParsed, site, old_parsed, new_parsed, new_accepts, says, meant}
+use Rattle.ix_guard_promise.proofs.GuardedTrees.{TreesParsed, site, old_parsed, new_parsed, says, meant}
 
 all_of_each : {A : Type 0} (P : A → Type 0) (xs : List A) → ((x : A) → IsAmong x xs → P x) → AllOf P xs
 all_of_each P [] each = tt

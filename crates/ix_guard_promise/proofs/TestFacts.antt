@@ -13,7 +13,6 @@ use Rattle.ix_core.specs.declared.op.OpKind.TheVariants as op
 use Rattle.ix_facts.specs.Facts.{IsIn}
 use Rattle.ix_facts.specs.Closure.{Follows, given}
 use Rattle.ix_facts.specs.Bounds
-use Rattle.ix_facts.specs.Bounds.{is_path}
 use Rattle.ix_facts.specs.Exact.{each}
 use Rattle.ix_facts.specs.Forget.{of_slot, without}
 use Rattle.ix_facts.specs.AfterTest.{Below, below_facts, range_part, difference_part, bound_part, length_part, sum_part, at_below, at_above, high_end, low_end, bound_moved, below_by}

@@ -13,9 +13,9 @@ use Rattle.ix_grammar.specs.declared.found.Notes.{Notes}
 use Rattle.ix_grammar.specs.Patterns.{sign}
 use Rattle.ix_grammar.specs.Lists.{IsSeparated, alone, joined}
 use Rattle.ix_grammar.specs.AnnotGrammar as g
-use Rattle.ix_grammar.specs.AnnotGrammar.{IsText, IsValue, IsNamed, IsAnnot, IsNotes, valued, plain_arg, named_arg, annot_to, no_notes, with_note}
+use Rattle.ix_grammar.specs.AnnotGrammar.{IsText, IsValue, IsNamed, IsAnnot, IsNotes, valued, no_notes, with_note}
 use Rattle.ix_grammar.specs.TypeGrammar as t
-use Rattle.ix_grammar.specs.TypeGrammar.{IsBase, IsPairs, IsTypeRest, IsType, based, counted, plain_type, array_of}
+use Rattle.ix_grammar.specs.TypeGrammar.{IsBase, IsPairs, IsTypeRest, IsType, plain_type, array_of}
 use Rattle.ix_guarded_text.specs.Bare.{nowhere, bare_name, bare_arg, bare_annot, bare_base, bare_type}
 use Rattle.ix_guarded_text.specs.Respanned.{Places, next, behind}
 use Rattle.ix_guarded_text.proofs.ListsAgain.{both, same_joined, Stays, repeated, separated}

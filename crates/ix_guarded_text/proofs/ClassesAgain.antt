@@ -21,7 +21,7 @@ use Rattle.ix_grammar.specs.Patterns.{sign, name_token}
 use Rattle.ix_grammar.specs.DeclGrammar.{begins, earlier, member_words, shared}
 use Rattle.ix_grammar.specs.StmtGrammar.{IsBlockStmt}
 use Rattle.ix_grammar.specs.ClassGrammar as g
-use Rattle.ix_grammar.specs.ClassGrammar.{IsBody, IsBehind, IsMember, IsClassWord, IsClassWords, IsParent, IsClass, result_tree, method_of, fields, no_stmts, with_stmt, no_members, with_members, class_of}
+use Rattle.ix_grammar.specs.ClassGrammar.{IsBody, IsBehind, IsMember, IsClassWord, IsClassWords, IsParent, IsClass, result_tree, method_of, fields, no_stmts, with_stmt, no_members, with_members}
 use Rattle.ix_grammar.specs.SourceGrammar.{source_parts}
 use Rattle.ix_guarded_text.specs.Bare.{nowhere, bare_maybe, bare_name, bare_type, bare_mods, bare_expr, bare_decl, bare_stmt, bare_member, bare_class}
 use Rattle.ix_guarded_text.specs.Respanned.{next, behind}

@@ -9,7 +9,7 @@ use Rattle.ix_grammar.specs.Patterns.{sign, name_token}
 use Rattle.ix_grammar.specs.DeclGrammar.{earlier, member_words, shared}
 use Rattle.ix_grammar.specs.StmtGrammar.{IsBlockStmt}
 use Rattle.ix_grammar.specs.ClassGrammar as g
-use Rattle.ix_grammar.specs.ClassGrammar.{IsBody, IsBehind, IsMember, IsClassWord, IsClassWords, IsParent, IsClass, method_of, fields, fields_of, no_stmts, with_stmt, no_members, with_members, class_of}
+use Rattle.ix_grammar.specs.ClassGrammar.{IsBody, IsBehind, IsMember, IsClassWord, IsClassWords, IsParent, IsClass, method_of, fields, no_stmts, with_stmt, no_members, with_members, class_of}
 use Rattle.ix_grammar.specs.SourceGrammar.{source_parts}
 use Rattle.ix_guarded_text.specs.Bare.{bare_maybe as maybe}
 use Rattle.ix_guarded_text.proofs.ClassesAgain.{map_both}

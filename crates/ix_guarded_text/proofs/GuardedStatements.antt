@@ -31,7 +31,7 @@ use Rattle.ix_guard.specs.Tests.{Site, expression_tests}
 use Rattle.ix_guard.specs.Guards as text
 use Rattle.ix_guard.specs.Guards.{Inserting, inserting, opening, closing, together, each_listed}
 use Rattle.ix_guard.specs.Trees as tree
-use Rattle.ix_guard.specs.Trees.{Guarded, guarding, alone, in_list, in_block, each_in_list, statement, untested, with_tests, test_trees, expression_tested, declaration_tested}
+use Rattle.ix_guard.specs.Trees.{Guarded, guarding, alone, in_list, each_in_list, statement, untested, with_tests, test_trees, expression_tested, declaration_tested}
 use Rattle.ix_guarded_text.proofs.NamedAccesses.{AllNamed, names_split, accesses_named, local_named}
 use Rattle.ix_guarded_text.proofs.FirstTokens.{expr_begins, local_begins}
 use Rattle.ix_guarded_text.proofs.Tests.{bytes_of, expression_bytes, declaration_bytes, expression_named, declaration_named, tokens_of, tests_inserted, Listed, no_statements, one_statement, listed_both, tests_listed}

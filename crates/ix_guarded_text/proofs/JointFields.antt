@@ -26,7 +26,7 @@ use Rattle.ix_meaning.specs.Members.{ClassOf, field_type, field_of, next_field, 
 use Rattle.ix_meaning.specs.Rules.{duplicate_name}
 use Rattle.ix_meaning.specs.Scope.{annot_names}
 use Rattle.ix_meaning.specs.Source as source
-use Rattle.ix_meaning.specs.Source.{Place, member_scope, field_declaration, field_notes, member_name, is_taken, one_member, named_member, member_notes}
+use Rattle.ix_meaning.specs.Source.{Place, member_scope, field_declaration, field_notes, is_taken, named_member, member_notes}
 use Rattle.ix_meaning.specs.Types.{wrong_if}
 use Rattle.ix_meaning.specs.Inheritance.{hides}
 use Rattle.ix_formed.specs.Additions.{AllOf}

@@ -28,7 +28,7 @@ use Rattle.ix_grammar.specs.ExprNodes.{created_type}
 use Rattle.ix_grammar.specs.ExprGrammar as g
 use Rattle.ix_grammar.specs.ExprGrammar.{Kind, IsExpr, IsExprs, IsArgs, IsInit, IsInits, IsItems}
 use Rattle.ix_grammar.specs.DeclGrammar as d
-use Rattle.ix_grammar.specs.DeclGrammar.{shared, IsDecl, IsDecls, one_decl, with_decl}
+use Rattle.ix_grammar.specs.DeclGrammar.{shared, IsDecl, IsDecls}
 use Rattle.ix_grammar.specs.StmtGrammar as s
 use Rattle.ix_grammar.specs.StmtGrammar.{IsLocal}
 use Rattle.ix_guarded_text.specs.Names.{IsName, HaveNames}

@@ -1,5 +1,5 @@
 -- A statement with its tests in a block: the tokens that are put around it, and what they are.
-use Rattle.std.proofs.Common.{◌≡◌, ℕ, Bool, false, List, [], ◌∷◌, ◌++◌, map, refl, sym, ap, subst, append_assoc, append-nil}
+use Rattle.std.proofs.Common.{◌≡◌, ℕ, Bool, false, List, [], ◌∷◌, ◌++◌, refl, sym, ap, subst, append_assoc, append-nil}
 use Rattle.std.specs.Prelude.{codes}
 use Rattle.ix_text.specs.declared.span.Span.{Span}
 use Rattle.ix_lexer.specs.declared.token.Token.{Token}
@@ -8,7 +8,7 @@ use Rattle.ix_tree.specs.declared.stmt.StmtKind.TheVariants as s
 use Rattle.ix_grammar.specs.declared.found.FoundStmt.{FoundStmt}
 use Rattle.ix_grammar.specs.Nodes.{across}
 use Rattle.ix_grammar.specs.StmtGrammar as g
-use Rattle.ix_grammar.specs.StmtGrammar.{IsStmt, IsStmts}
+use Rattle.ix_grammar.specs.StmtGrammar.{IsStmt}
 use Rattle.ix_guarded_text.specs.Bare.{nowhere, bare_stmt}
 use Rattle.ix_guarded_text.proofs.StmtsAgain.{node_same, block_same}
 use Rattle.ix_guarded_text.specs.Woven.{Added, is_word_like, Woven, done, keep, before, behind}

@@ -17,14 +17,14 @@ use Rattle.ix_core.proofs.WorldTables.{IsThere, there}
 use Rattle.ix_core.proofs.Entered.{none_some}
 use Rattle.ix_core.specs.declared.program.Method.{Method}
 use Rattle.ix_core.specs.Machine.{Super, Instance, New}
-use Rattle.ix_core.specs.Objects.{IsInput, This, Named, Promised, Names, PostsName, post_names, claim_names}
+use Rattle.ix_core.specs.Objects.{IsInput, This, Named, Promised, Names, PostsName, claim_names}
 use Rattle.ix_core.specs.Objects.{HasField}
 use Rattle.ix_core.specs.Heap.{ObjectOf}
 use Rattle.ix_core.specs.Tables.{body_of}
 use Rattle.ix_core.specs.Tasks.{Empty, code_then}
 use Rattle.ix_core.specs.Waits.{FitsCall}
 use Rattle.ix_instance.specs.Facts.{IsFresh, Fact, NotNegative, Below, IsIn, AreLow, Proves}
-use Rattle.ix_instance.specs.Rules.{MayAssign, IsGiven, constant, copy, load, read, store, write, of_fresh, of_path, of_slot, Fine, ends, returns, does, prints, enters, chooses, asks, decides, knows}
+use Rattle.ix_instance.specs.Rules.{MayAssign, IsGiven, constant, copy, load, read, store, write, of_fresh, of_path, of_slot, Fine, ends, returns, does, enters, chooses, asks, decides, knows}
 use Rattle.ix_instance.specs.Rules as rules
 use Rattle.ix_instance.specs.Counter.{counter_world, counter_fields, facts_at_entry}
 

@@ -28,7 +28,7 @@ use Rattle.ix_core.specs.World.{World, tables_in}
 use Rattle.ix_core.proofs.Kept.{done_keeps}
 use Rattle.ix_core.proofs.Waiting.{later_refl}
 use Rattle.ix_instance.specs.Facts.{IsFresh, Fact, Below, IsLength, Holds, held_through, IsTrue, AllTrue, IsIn, AreLow, Proves}
-use Rattle.ix_instance.specs.Rules.{IsCall, IsGiven, facts_behind, facts_from, Follows, of_fresh, of_path, of_slot, Step, constant, copy, load, read, store, write, Fine, ends, returns, does, prints, enters, chooses, asks, decides, knows}
+use Rattle.ix_instance.specs.Rules.{IsGiven, facts_from, Follows, of_fresh, of_path, of_slot, Step, constant, copy, load, read, store, write, Fine, ends, returns, does, prints, enters, chooses, asks, decides, knows}
 use Rattle.ix_instance.specs.Rules as rules
 use Rattle.ix_instance.proofs.Truths.{in_true, proves_true}
 use Rattle.ix_instance.proofs.StepsKeep.{IsGood, operation_good}

@@ -2,7 +2,6 @@
 use Rattle.std.proofs.Common.{◌≡◌, ◌≤◌, ℕ, ◌+◌, Bool, true, false, List, [], length, map, Option, Some, None, Ok, Err, refl, sym, subst, ◌∙◌, arith}
 use Rattle.std.specs.Prelude.{◌&&◌, if◌then◌else◌, max, nat_lt}
 use Rattle.ix_core.specs.declared.code.Cond.TheVariants as cond
-use Rattle.ix_core.specs.declared.code.Item.{Item}
 use Rattle.ix_core.specs.declared.code.Item as item
 use Rattle.ix_core.specs.Code.{Known}
 use Rattle.ix_core.specs.Heap.{Held}
@@ -20,7 +19,7 @@ use Rattle.ix_source_meaning.specs.Runs.{Now, Gives, Action, ◌>>=◌, gives}
 use Rattle.ix_source_meaning.specs.Context.{Members, Calls}
 use Rattle.ix_source_meaning.specs.Values.{evaluation}
 use Rattle.ix_source_meaning.specs.Statements as source
-use Rattle.ix_source_meaning.specs.Statements.{Execution, Completion, Normal, chosen, head, turn, normally, tested_first, tested_last}
+use Rattle.ix_source_meaning.specs.Statements.{Execution, Completion, Normal, chosen, turn, normally, tested_first, tested_last}
 use Rattle.ix_kept_runs.specs.Seen.{at}
 use Rattle.ix_kept_runs.specs.Along.{Setting, Along}
 use Rattle.ix_kept_runs.specs.Kept.{Makes, nothing_known, Asks}

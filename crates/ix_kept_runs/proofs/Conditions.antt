@@ -10,7 +10,7 @@ use Rattle.ix_core.specs.declared.code.Cond.TheVariants as cond
 use Rattle.ix_core.specs.declared.op.Literal.TheVariants as literal
 use Rattle.ix_core.specs.declared.op.OpKind.TheVariants as op
 use Rattle.ix_core.specs.declared.op.Test.{Test}
-use Rattle.ix_core.specs.Code.{Code, End, If, Condition, Truth, Compare, item_code, cond_code, items_code, block_code}
+use Rattle.ix_core.specs.Code.{Code, End, If, Condition, Truth, Compare, item_code, cond_code, block_code}
 use Rattle.ix_core.specs.Code as code
 use Rattle.ix_core.specs.Heap.{Held, Boolean, value_at}
 use Rattle.ix_core.specs.Machine.{is_true, test_of}
@@ -20,11 +20,11 @@ use Rattle.ix_meaning.specs.declared.note.Which.TheVariants as which
 use Rattle.ix_plain.specs.declared.made.Made.{Made}
 use Rattle.ix_plain.specs.Scope.{type_at}
 use Rattle.ix_plain.specs.Parts.{Within, ◌>>=◌ as ◌then◌, Value, Asked, empty, block, done, truth_item, truth_value, truth_of, most_slots}
-use Rattle.ix_plain.specs.Values.{Lowering, asked_value}
+use Rattle.ix_plain.specs.Values.{Lowering}
 use Rattle.ix_plain.specs.Values as values
 use Rattle.ix_source_meaning.specs.Runs.{Now, Result as Ended, Gives, Stops, Cuts, Action, go_on, ◌>>=◌, gives}
 use Rattle.ix_source_meaning.specs.Context.{Members, Calls}
-use Rattle.ix_source_meaning.specs.Values.{Evaluation, is_it_true, as_value, without_value}
+use Rattle.ix_source_meaning.specs.Values.{Evaluation, is_it_true, as_value}
 use Rattle.ix_source_meaning.specs.Values as source
 use Rattle.ix_kept_runs.specs.Seen.{Leads, Frame, at, Decides}
 use Rattle.ix_kept_runs.specs.Along.{Setting, IsSet, Agrees, Along}

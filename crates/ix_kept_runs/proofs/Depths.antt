@@ -21,7 +21,7 @@ use Rattle.ix_plain.specs.declared.body.Body.{Body}
 use Rattle.ix_plain.specs.Members.{first_numbers, constructors, heads, is_static, slot_behind, constructor_in}
 use Rattle.ix_plain.specs.Parts.{Within, ◌>>=◌ as ◌then◌}
 use Rattle.ix_plain.specs.Program as program
-use Rattle.ix_plain.specs.Program.{Tables, Home, tables, home, site, start, written_head, default_head, written_body, first_param}
+use Rattle.ix_plain.specs.Program.{Tables, Home, tables, home, site, start, written_head, default_head, first_param}
 use Rattle.ix_plain.specs.Scope.{Site, constructor_at}
 use Rattle.ix_plain.specs.Statements as plain
 use Rattle.ix_plain.specs.Statements.{statement}
@@ -33,7 +33,7 @@ use Rattle.ix_source_meaning.specs.Runs.{Variables, Now, Result as Ended, Gives,
 use Rattle.ix_source_meaning.specs.Context.{Context, Calls, declared_at}
 use Rattle.ix_source_meaning.specs.Values.{evaluation}
 use Rattle.ix_source_meaning.specs.Statements as source
-use Rattle.ix_source_meaning.specs.Statements.{Completion, Returns, Execution, execution, each, normally}
+use Rattle.ix_source_meaning.specs.Statements.{Completion, Returns, execution, each, normally}
 use Rattle.ix_source_meaning.specs.Bodies as bodies
 use Rattle.ix_source_meaning.specs.Bodies.{Whole, Written, Class, fields_in, parent_constructed, fields_initialised, whole, written, members, variables, back, with_own, given_back, method_run, construct_run, context_of, no_calls, calls_within}
 use Rattle.ix_kept_runs.specs.Seen.{at}

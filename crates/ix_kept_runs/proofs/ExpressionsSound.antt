@@ -19,7 +19,7 @@ use Rattle.ix_formed.specs.Additions.{AllOf}
 use Rattle.ix_formed.specs.Readable as readable
 use Rattle.ix_formed.specs.Readable.{Shape, shape, is_readable_init, all_fine}
 use Rattle.ix_formed.specs.Typed as typed
-use Rattle.ix_formed.specs.Typed.{IsHere, Fits, FitsTarget}
+use Rattle.ix_formed.specs.Typed.{IsHere}
 use Rattle.ix_formed.specs.Written as written
 use Rattle.ix_formed.specs.Written.{is_written_expr, is_written_init, all_true}
 use Rattle.ix_formed.proofs.AssignedVariables.{Appends, assigns_append, init_assigns_append, none_appends, both_append}

@@ -29,7 +29,7 @@ use Rattle.ix_source_meaning.specs.Runs.{Now, Result as Ended, Gives, Stops, Cut
 use Rattle.ix_source_meaning.specs.Context.{Context, Members, Calls, type_declared}
 use Rattle.ix_source_meaning.specs.Values.{evaluation, initial, of_this, put_field, without_value}
 use Rattle.ix_source_meaning.specs.Statements as source
-use Rattle.ix_source_meaning.specs.Statements.{Completion, normally}
+use Rattle.ix_source_meaning.specs.Statements.{normally}
 use Rattle.ix_source_meaning.specs.Bodies.{Field, fields_in, field_initialised, fields_initialised, parent_constructed}
 use Rattle.ix_kept_runs.specs.Seen.{Frame, at}
 use Rattle.ix_kept_runs.specs.Along.{Setting, IsSet, Along}

@@ -22,7 +22,7 @@ use Rattle.ix_plain.specs.Values.{Lowering}
 use Rattle.ix_plain.specs.Values as values
 use Rattle.ix_source_meaning.specs.Runs.{Now, Gives, Action, ◌>>=◌, gives, held_by}
 use Rattle.ix_source_meaning.specs.Context.{Context, Members, Calls}
-use Rattle.ix_source_meaning.specs.Values.{Evaluation, Target, Variable, result_at, of_variable, load, is_it_true, assign, without_value}
+use Rattle.ix_source_meaning.specs.Values.{Evaluation, Variable, result_at, of_variable, load, assign}
 use Rattle.ix_source_meaning.specs.Values as source
 use Rattle.ix_kept_runs.specs.Seen.{Frame, at}
 use Rattle.ix_kept_runs.specs.Along.{Setting, IsSet, Agrees, Along}

@@ -7,7 +7,6 @@ use Rattle.ix_core.specs.declared.program.Method.{Method}
 use Rattle.ix_core.specs.declared.program.Program.{Program}
 use Rattle.ix_core.specs.Heap.{Held}
 use Rattle.ix_core.specs.Tables as core
-use Rattle.ix_core.specs.Tables.{param_slot}
 use Rattle.ix_core.specs.Types.{is_class}
 use Rattle.ix_tree.specs.declared.decl.MethodDecl.{MethodDecl}
 use Rattle.ix_tree.specs.declared.decl.Unit.{Unit as Source}

@@ -8,7 +8,7 @@ use Rattle.ix_core.specs.declared.op.OpKind.{OpKind}
 use Rattle.ix_core.specs.declared.op.OpKind.TheVariants as op
 use Rattle.ix_core.specs.Code.{Code}
 use Rattle.ix_core.specs.Heap.{Held, Num, Boolean, Null, At, Heap, ArrayOf, value_at, array_at, cell_default}
-use Rattle.ix_core.specs.Machine.{State, Effect, Done as Did, NullUsed, Negative, no_limits, operate, int_at}
+use Rattle.ix_core.specs.Machine.{State, Effect, Done as Did, NullUsed, Negative, no_limits, int_at}
 use Rattle.ix_core.specs.Machine as machine
 use Rattle.ix_core.specs.Tasks.{Tasks, code_then}
 use Rattle.ix_source_meaning.specs.Which.TheVariants as which

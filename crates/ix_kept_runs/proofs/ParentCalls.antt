@@ -20,7 +20,7 @@ use Rattle.ix_plain.specs.Parts.{Value, ◌>>=◌ as ◌then◌}
 use Rattle.ix_plain.specs.Program.{parent_call}
 use Rattle.ix_plain.specs.Statements.{assigned_by, behind}
 use Rattle.ix_plain.specs.Values as values
-use Rattle.ix_plain.specs.Values.{Lowering, Arguments, lowering}
+use Rattle.ix_plain.specs.Values.{Arguments, lowering}
 use Rattle.ix_source_meaning.specs.Runs.{Now, Result as Ended, Gives, Stops, Cuts, Action, ◌>>=◌, go_on, gives}
 use Rattle.ix_source_meaning.specs.Context.{Context, Members, Calls}
 use Rattle.ix_source_meaning.specs.Values as source

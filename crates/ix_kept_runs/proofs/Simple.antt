@@ -8,7 +8,7 @@ use Rattle.ix_core.specs.declared.code.Item.{Item}
 use Rattle.ix_core.specs.declared.code.Item.TheVariants as item
 use Rattle.ix_core.specs.declared.op.Literal.TheVariants as literal
 use Rattle.ix_core.specs.declared.op.OpKind.TheVariants as op
-use Rattle.ix_core.specs.Code.{Code, End, item_code, cond_code, block_code}
+use Rattle.ix_core.specs.Code.{Code, End, item_code, cond_code}
 use Rattle.ix_core.specs.Code as code
 use Rattle.ix_core.specs.Heap.{Held, Boolean, value_at}
 use Rattle.ix_core.specs.Machine.{Thrown, is_true}

@@ -24,7 +24,7 @@ use Rattle.ix_formed.proofs.TypedChecks.{parted, kept, Tabled, reading_at}
 use Rattle.ix_formed.proofs.TypedNames.{there_is}
 use Rattle.ix_kept_runs.specs.Along.{Setting}
 use Rattle.ix_kept_runs.specs.Sound as sound
-use Rattle.ix_kept_runs.specs.Sound.{Soundness, used, all_used}
+use Rattle.ix_kept_runs.specs.Sound.{Soundness, used}
 use Rattle.ix_kept_runs.specs.WellNamed.{View, viewed, IsSeen, IsSound}
 use Rattle.ix_kept_runs.proofs.SoundParts.{AllAre, given_used, computed_sound}
 use Rattle.ix_kept_runs.proofs.SoundNames.{this_is}

@@ -15,7 +15,7 @@ use Rattle.ix_meaning.specs.Rules as rules
 use Rattle.ix_meaning.specs.Scope.{Known as Variable, meant, is_pending}
 use Rattle.ix_meaning.specs.Types.{judged, type_note}
 use Rattle.ix_meaning.specs.Values as reading
-use Rattle.ix_meaning.specs.Values.{Reading, KindReading, no_object, of_class, value, as_object, object_notes}
+use Rattle.ix_meaning.specs.Values.{Reading, KindReading, of_class, value, as_object, object_notes}
 use Rattle.ix_plain.specs.Scope.{slot_of, meaning_at, is_among}
 use Rattle.ix_plain.specs.Assigned.{with_slot}
 use Rattle.ix_formed.specs.Additions.{AllOf}
@@ -26,7 +26,6 @@ use Rattle.ix_formed.proofs.TypedChecks.{parted, unbroken, kept, reading_at}
 use Rattle.ix_formed.proofs.TypedNames.{variable_is, IsCovered}
 use Rattle.ix_kept_runs.specs.Along.{Setting}
 use Rattle.ix_kept_runs.specs.Sound as sound
-use Rattle.ix_kept_runs.specs.Sound.{Soundness}
 use Rattle.ix_kept_runs.specs.WellNamed.{View, viewed, IsSeen, IsSound, IsSoundTarget}
 
 -- what is so of each variable is so of the one that a name means

@@ -11,16 +11,16 @@ use Rattle.ix_core.specs.Tasks.{Tasks, code_then}
 use Rattle.ix_tree.specs.declared.expr.Expr.{Expr}
 use Rattle.ix_meaning.specs.declared.note.Which.TheVariants as which
 use Rattle.ix_plain.specs.declared.body.Body.{Body}
-use Rattle.ix_plain.specs.Parts.{Within, ◌>>=◌ as ◌then◌, Value, Asked, empty, default, most_slots, computed}
+use Rattle.ix_plain.specs.Parts.{◌>>=◌ as ◌then◌, Value, Asked, most_slots}
 use Rattle.ix_plain.specs.Assigned.{assigns}
 use Rattle.ix_plain.specs.Values.{lowering}
 use Rattle.ix_plain.specs.Statements as plain
-use Rattle.ix_plain.specs.Statements.{Running, Evaluated, Tested, Inside, assigned_by, scope_for, behind, behind_value, with_last, with_free, answer_item}
+use Rattle.ix_plain.specs.Statements.{Evaluated, assigned_by, scope_for, behind, with_last, with_free, answer_item}
 use Rattle.ix_source_meaning.specs.Runs.{Now, Result as Ended, Gives, Stops, Cuts, Action, ◌>>=◌, go_on, gives}
 use Rattle.ix_source_meaning.specs.Context.{Members, Calls}
 use Rattle.ix_source_meaning.specs.Values.{evaluation}
 use Rattle.ix_source_meaning.specs.Statements as source
-use Rattle.ix_source_meaning.specs.Statements.{Execution, Completion, Normal, Returns, chosen, head, turn, normally, tested_first, tested_last}
+use Rattle.ix_source_meaning.specs.Statements.{Execution, Completion, Normal, Returns, turn, normally}
 use Rattle.ix_kept_runs.specs.Seen.{Frame, at}
 use Rattle.ix_kept_runs.specs.Along.{Along}
 use Rattle.ix_kept_runs.specs.Kept.{Makes, code_before, nothing_known, anything, IsIn, Done, Answers, Kept}

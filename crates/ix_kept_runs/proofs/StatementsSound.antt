@@ -8,7 +8,7 @@ use Rattle.ix_tree.specs.declared.expr.Expr.{Expr}
 use Rattle.ix_tree.specs.declared.stmt.Stmt.{Stmt, Stmt-F, ind-Stmt, map-Stmt, roll-Stmt, fold-roll-Stmt}
 use Rattle.ix_tree.specs.declared.stmt.StmtKind.{StmtKind, StmtKind-F, map-StmtKind, roll-StmtKind, fold-StmtKind, fold-roll-StmtKind}
 use Rattle.ix_tree.specs.Parts as parts
-use Rattle.ix_tree.specs.Parts.{Part, stmt_parts, expr_parts, decl_parts, together}
+use Rattle.ix_tree.specs.Parts.{Part, stmt_parts, expr_parts, together}
 use Rattle.ix_tree.specs.Placed as placed
 use Rattle.ix_tree.specs.Placed.{Layout, nothing, node, LaidOut, row, stmt_piece, expr_piece}
 use Rattle.ix_meaning.specs.Bodies as bodies
@@ -22,10 +22,10 @@ use Rattle.ix_plain.specs.Statements.{Run, Running, Inside, Tested, statement, b
 use Rattle.ix_plain.specs.Values.{lowering}
 use Rattle.ix_formed.specs.Additions.{Makes, AllOf}
 use Rattle.ix_formed.specs.Readable as readable
-use Rattle.ix_formed.specs.Readable.{Statement, stmt_shape, shape, is_part, is_readable_expr, is_readable_decl, each_fine}
+use Rattle.ix_formed.specs.Readable.{Statement, stmt_shape, shape, is_part, is_readable_expr, each_fine}
 use Rattle.ix_formed.specs.TypedStatements.{Ground, IsGround, Says, IsKnown, Scoped}
 use Rattle.ix_formed.specs.Written as written
-use Rattle.ix_formed.specs.Written.{is_written_stmt, is_written_expr, is_written_decl, all_true, each_true, maybe_true}
+use Rattle.ix_formed.specs.Written.{is_written_stmt, is_written_expr, all_true, each_true, maybe_true}
 use Rattle.ix_formed.proofs.LayoutSpans.{laid_parts, laid_up, expr_single}
 use Rattle.ix_formed.proofs.NumberLists.{both_true}
 use Rattle.ix_formed.proofs.PlainItems.{makes_more, makes_then}
@@ -36,7 +36,7 @@ use Rattle.ix_formed.proofs.TypedForms.{parted}
 use Rattle.ix_formed.proofs.TypedLoops.{read_there, restarted}
 use Rattle.ix_kept_runs.specs.Running as running
 use Rattle.ix_kept_runs.specs.SoundStatements as sound
-use Rattle.ix_kept_runs.specs.SoundStatements.{StatementSoundness, statement_soundness, running_of, where_made, used_at, ran_at, all_ran_at, used_if, begun, part_sound, part_if, each_sound}
+use Rattle.ix_kept_runs.specs.SoundStatements.{StatementSoundness, statement_soundness, where_made, used_at, ran_at, all_ran_at, used_if, begun, part_sound, each_sound}
 use Rattle.ix_kept_runs.proofs.DeclarationsSound.{makes_any, so_always, locals_sound}
 use Rattle.ix_kept_runs.proofs.SoundEvaluations.{Sight, seen_ground, condition_sound, run_sound, printed_sound, returned_sound}
 use Rattle.ix_kept_runs.proofs.SoundLists.{made_so, StandsAt, stands_same, stands_within, stands_inside, DoesSound, IsSoundStatement, AllSound, BehindPart, part_sounds, each_sounds}

@@ -20,7 +20,7 @@ use Rattle.ix_plain.specs.Scope.{declared_type}
 use Rattle.ix_formed.specs.Additions.{AllOf}
 use Rattle.ix_formed.specs.Shape.{IsMethod, IsDefault, field_count}
 use Rattle.ix_source_meaning.specs.Bodies as bodies
-use Rattle.ix_source_meaning.specs.Bodies.{Whole, Written, Class, Field, written, own_fields, fields_in}
+use Rattle.ix_source_meaning.specs.Bodies.{Written, Class, Field, written, fields_in}
 
 -- What is so of each written method of a class, and of a class without a written constructor.
 module _ (tables : Tables) (Q : Home → MethodDecl → Type 0) (R : Home → Span → Type 0) where

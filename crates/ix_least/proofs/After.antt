@@ -1,5 +1,5 @@
 -- After an operation that is no call and touches no field, and after a copy, all facts are within.
-use Rattle.std.specs.Prelude.{◌≡◌, ℕ, false, refl, List, [], ◌∷◌, ◌++◌}
+use Rattle.std.specs.Prelude.{◌≡◌, ℕ, false, refl, List}
 use Rattle.ix_core.specs.declared.claim.Type_.{Type_}
 use Rattle.ix_core.specs.declared.fact.Path.{Path}
 use Rattle.ix_core.specs.declared.fact.Path.TheVariants.{Slot, FieldOf}

@@ -21,7 +21,7 @@ use Rattle.ix_facts.specs.Bounds
 use Rattle.ix_facts.specs.Bounds.{is_path}
 use Rattle.ix_facts.specs.Exact.{if_so, each, each_path, named_ints, named_arrays, range_facts, class_facts, class_number, low_facts, exact_range, exact_unary, table_class, fits}
 use Rattle.ix_facts.specs.AfterOperation as after
-use Rattle.ix_facts.specs.AfterOperation.{is_int, is_array, copied_by, claimed_by, loaded_facts}
+use Rattle.ix_facts.specs.AfterOperation.{is_int, is_array, copied_by, loaded_facts}
 use Rattle.ix_facts.specs.After.{finished_by}
 use Rattle.ix_facts.specs.Finish as finish
 use Rattle.ix_facts.proofs.Tests.{off}

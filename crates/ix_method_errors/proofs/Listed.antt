@@ -1,5 +1,5 @@
 -- The lists of an operation's errors have exactly those of the rules.
-use Rattle.std.specs.Prelude.{◌≡◌, ◌↔◌, ◌⊎◌, ℕ, suc, pos, ◌+◌, Bool, true, false, not, ◌&&◌, slice_get, None, Some, List, [], ◌∷◌, ◌++◌, refl}
+use Rattle.std.specs.Prelude.{◌≡◌, ◌↔◌, ◌⊎◌, ℕ, suc, pos, ◌+◌, Bool, true, false, not, ◌&&◌, slice_get, None, Some, List, [], ◌∷◌, refl}
 use Rattle.std.proofs.Common.{zero, arith, inl, inr, sym, subst}
 use Rattle.std.proofs.lemmas.Bool.{false≢true}
 use Rattle.ix_text.specs.declared.span.Span.{Span}

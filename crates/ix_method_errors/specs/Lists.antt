@@ -3,8 +3,6 @@ use Rattle.std.specs.Prelude.{ℕ, suc, pos, Bool, cond, not, ◌&&◌, List, []
 use Rattle.ix_text.specs.declared.span.Span.{Span}
 use Rattle.ix_num.specs.Ints.{least_int}
 use Rattle.ix_core.specs.declared.claim.Claim.{Claim}
-use Rattle.ix_core.specs.declared.claim.Name.{Name}
-use Rattle.ix_core.specs.declared.claim.Off.{Off}
 use Rattle.ix_core.specs.declared.claim.Type_.{Type_}
 use Rattle.ix_core.specs.declared.error.Subject.TheVariants.{Element}
 use Rattle.ix_core.specs.declared.fact.Path.{Path}

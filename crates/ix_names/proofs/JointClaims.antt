@@ -1,6 +1,6 @@
 -- The claims of a declaration are counted at its first declarator: the others have those annotations of it that count.
-use Rattle.std.proofs.Common.{◌≡◌, ◌≤◌, ◌<◌, ℕ, zero, suc, ◌+◌, Bool, true, false, cond, nat_lt, Option, Some, None, List, [], ◌∷◌, ◌++◌, map, length, drop, get_or, refl, sym, ◌∙◌, ap, subst, arith}
-use Rattle.std.proofs.lemmas.Bool.{ltb-false, ltb-true}
+use Rattle.std.proofs.Common.{◌≡◌, ◌≤◌, ◌<◌, ℕ, ◌+◌, Bool, true, false, cond, nat_lt, Option, Some, None, List, [], ◌∷◌, ◌++◌, map, length, drop, get_or, refl, sym, ◌∙◌, ap, subst, arith}
+use Rattle.std.proofs.lemmas.Bool.{ltb-false}
 use Rattle.std.proofs.lemmas.List.{at_drop_more}
 use Rattle.ix_tree.specs.declared.annot.Annot.{Annot}
 use Rattle.ix_tree.specs.declared.decl.LocalDecl.{LocalDecl}
@@ -9,7 +9,7 @@ use Rattle.ix_tree.specs.declared.decl.Member.TheVariants as member
 use Rattle.ix_annot.specs.Named.{or_else}
 use Rattle.ix_annot.specs.Table.{counted, most_claims}
 use Rattle.ix_meaning.specs.declared.note.Which.TheVariants as which
-use Rattle.ix_meaning.specs.Declarators.{counting, counting_behind, further, declarators, is_further, field_in, member_in, first_of, first_behind, members_behind, members}
+use Rattle.ix_meaning.specs.Declarators.{counting, counting_behind, further, declarators, is_further, field_in, member_in, first_behind, members_behind, members}
 use Rattle.ix_meaning.specs.Limits.{Passed, past_claims_in, past_claims, declared_annots, each_annots, member_annots}
 use Rattle.ix_names.specs.Counted.{counted_on, annots_of}
 use Rattle.ix_names.specs.Shown.{IsFine}

@@ -1,18 +1,17 @@
 -- What the operation that was done last shows of the slots.
-use Rattle.std.specs.Prelude.{◌≡◌, ℕ, ◌==◌, Bool, true, false, not, ◌&&◌, List, Option, None, Some, refl}
-use Rattle.std.proofs.Common.{sym, ap, ◌∙◌, subst}
-use Rattle.std.proofs.lemmas.Bool.{and_parts}
+use Rattle.std.specs.Prelude.{◌≡◌, ℕ, ◌==◌, Bool, not, List, Option, None, Some, refl}
+use Rattle.std.proofs.Common.{sym, ap, ◌∙◌}
 use Rattle.ix_core.specs.declared.op.Literal.TheVariants as literal
 use Rattle.ix_core.specs.declared.op.Op.{Op}
 use Rattle.ix_core.specs.declared.op.OpKind.{OpKind}
 use Rattle.ix_core.specs.declared.op.OpKind.TheVariants as op
 use Rattle.ix_core.specs.declared.program.Program.{Program}
-use Rattle.ix_core.specs.Heap.{Held, Boolean, value_at}
+use Rattle.ix_core.specs.Heap.{Held}
 use Rattle.ix_core.specs.Numbers.{Numbers}
-use Rattle.ix_core.specs.Posts.{answer_of, written_answer}
+use Rattle.ix_core.specs.Posts.{answer_of}
 use Rattle.ix_core.proofs.Cases.{by_test, equal}
 use Rattle.ix_facts.specs.Facts.{AllHold}
-use Rattle.ix_sign.specs.Signs.{told_by, told_facts}
+use Rattle.ix_sign.specs.Signs.{told_by}
 use Rattle.ix_sound.specs.Known.{LastHolds}
 use Rattle.ix_sound.proofs.OperationsKeep.{IsNoCall}
 

@@ -17,7 +17,7 @@ use Rattle.ix_core.specs.declared.program.Field.{Field}
 use Rattle.ix_core.specs.declared.program.Local.{Local as Variable}
 use Rattle.ix_core.specs.declared.program.Method.{Method}
 use Rattle.ix_core.specs.declared.program.Program.{Program}
-use Rattle.ix_core.specs.Formed.{is_formed, claim_fits, offset_fits, is_int_of, is_array_of, named_type, others, params_fit, fields_fit, field_type_of_name, post_fits, posts_fit, has_no_posts}
+use Rattle.ix_core.specs.Formed.{is_formed, claim_fits, offset_fits, is_int_of, is_array_of, named_type, others, params_fit, fields_fit, field_type_of_name, post_fits, has_no_posts}
 use Rattle.ix_core.specs.Objects.{Names, PostsName, post_names, claim_names, offset_names}
 use Rattle.ix_core.specs.SameClaims.{same_name}
 use Rattle.ix_core.specs.Tables.{no_field, field_at, method_at, param_slot, all_fields, is_among}

@@ -13,7 +13,7 @@ use Rattle.ix_core.specs.Machine.{Ended, State, no_limits, step, slots_with, res
 use Rattle.ix_core.specs.Safe as safe
 use Rattle.ix_core.specs.Safe.{Input, input_values, input_heap}
 use Rattle.ix_core.specs.Tables as core
-use Rattle.ix_core.specs.Tables.{method_at, no_method, tables_of, default_result}
+use Rattle.ix_core.specs.Tables.{method_at, no_method, tables_of}
 use Rattle.ix_core.specs.Tasks.{Tasks, Empty, Run, code_then}
 use Rattle.ix_tree.specs.declared.decl.LocalDecl.{LocalDecl}
 use Rattle.ix_tree.specs.declared.decl.Unit.{Unit as Source}
@@ -29,7 +29,7 @@ use Rattle.ix_source_meaning.specs.Context.{type_declared}
 use Rattle.ix_source_meaning.specs.Statements.{Completion, Normal, Breaks, Continues, Returns, each}
 use Rattle.ix_source_meaning.specs.Bodies.{Whole, Written, name_of, whole, written, members, static_of, variables, back, given_back, method_run, context_of, calls_within}
 use Rattle.ix_source_meaning.specs.Source as source
-use Rattle.ix_source_meaning.specs.Source.{shown_by, begun, run_of}
+use Rattle.ix_source_meaning.specs.Source.{shown_by, begun}
 use Rattle.ix_kept_runs.specs.Seen.{Leads, Frame, at, Decides}
 use Rattle.ix_kept_runs.specs.Kept.{code_before}
 use Rattle.ix_kept_runs.specs.Called.{first_slots}

@@ -6,7 +6,7 @@ use Rattle.ix_core.specs.declared.op.OpKind.{OpKind}
 use Rattle.ix_core.specs.declared.op.OpKind.TheVariants as op
 use Rattle.ix_core.specs.Code as code
 use Rattle.ix_core.specs.Heap.{Held, Num, Boolean, Null, At, Heap, value_at, array_at, is_within}
-use Rattle.ix_core.specs.Machine.{Ending, Outside, State, Effect, Stopped, Move, Stop, no_limits, int_at, at_index, effect_then, operate, moved, step, step_from, next_move, run}
+use Rattle.ix_core.specs.Machine.{Ending, Outside, State, Effect, Stopped, Stop, no_limits, int_at, at_index, effect_then, operate, moved, step, step_from, run}
 use Rattle.ix_core.specs.Safe.{IsBad}
 use Rattle.ix_core.specs.Tables.{Tables}
 use Rattle.ix_core.specs.Tasks.{Tasks, Empty, Run, Ask, Decide, DecideTruth, Head, Again, Out, code_then}

@@ -36,7 +36,7 @@ use Rattle.ix_source_meaning.specs.Runs.{Action, ◌>>=◌, gives}
 use Rattle.ix_source_meaning.specs.Context.{Context, declared_at}
 use Rattle.ix_source_meaning.specs.Values.{Evaluation, Initial, kind_step, init_step, evaluation, initial, assign, without_value}
 use Rattle.ix_source_meaning.specs.Statements as statements
-use Rattle.ix_source_meaning.specs.Statements.{Completion, Normal, Returns, Execution, behind, each, all_declare, normally, initially, declaration, declarations, count, all_ran, chosen, tested_first, tested_last, condition_of, declaring, plain, returned, printed, execution}
+use Rattle.ix_source_meaning.specs.Statements.{Normal, Returns, Execution, behind, each, all_declare, normally, initially, declaration, declarations, count, all_ran, chosen, tested_first, tested_last, condition_of, declaring, plain, printed, execution}
 use Rattle.ix_source_meaning.specs.Bodies.{Written, Field as InstanceField, Class, Whole, or_none, written_as, written, written_in, written_from, with_field, fields_in, constructor_in, classes_from, whole}
 use Rattle.ix_source_meaning.specs.Source.{Shown, run_of}
 use Rattle.ix_source_meaning.proofs.Equations as fold

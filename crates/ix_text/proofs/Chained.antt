@@ -1,5 +1,5 @@
 -- Calls behind one another: what each says where it went well, and what they say together. Functions that join calls by `and`, or map an error, cite these, in crates above.
-use Rattle.std.proofs.Common.{◌≡◌, Bool, true, if◌then◌else◌, Result, Ok, Err, sym, subst}
+use Rattle.std.proofs.Common.{◌≡◌, true, if◌then◌else◌, Result, Ok, Err, sym, subst}
 use Rattle.std.specs.Result.{OnOk, IfOk, result_and, is_ok}
 
 cases : {T U E : Type 0} (one : Result T E) (two : Result U E) (A B C : Type 0) → OnOk one A → OnOk two B → (A → B → C) → OnOk (result_and one two) C

@@ -1,5 +1,5 @@
 -- Labels that say the same as flawless ones are accepted.
-use Rattle.std.specs.Prelude.{◌≡◌, ℕ, ◌<◌, List, [], length, map, slice_get, unwrap_or, Some}
+use Rattle.std.specs.Prelude.{◌≡◌, ℕ, ◌<◌, List, [], length, slice_get, unwrap_or, Some}
 use Rattle.std.proofs.Common.{arith, ap, subst, inl, inr, ⊎_elim}
 use Rattle.ix_core.specs.declared.error.Error.{Error}
 use Rattle.ix_core.specs.declared.fact.Profile.{Profile}

@@ -1,5 +1,5 @@
 -- Labels that say the same are judged alike.
-use Rattle.std.specs.Prelude.{◌≡◌, ◌∷◌, ℕ, ◌<◌, List, [], length, map, slice_get, unwrap_or}
+use Rattle.std.specs.Prelude.{◌≡◌, ◌∷◌, ℕ, ◌<◌, List, [], length}
 use Rattle.std.proofs.Common.{arith, sym, subst, inl, inr, ⊎_elim}
 use Rattle.std.proofs.lemmas.Bool.{cases_lt}
 use Rattle.ix_core.specs.declared.error.Error.{Error}

@@ -1,8 +1,7 @@
-use Rattle.std.proofs.Common.{◌≡◌, ◌<◌, length, map, ap, sym, subst, ◌∙◌, ◌++◌, List}
+use Rattle.std.proofs.Common.{◌<◌, length, map, ap, sym, subst, ◌∙◌, ◌++◌}
 use Rattle.std.specs.Option.{ForSome}
 use Rattle.ix_core.specs.declared.program.Method.{Method}
 use Rattle.ix_core.specs.Code.{block_code}
-use Rattle.ix_core.specs.Tables.{method_at}
 use Rattle.ix_method_errors.specs.StoredFacts.{stored}
 use Rattle.ix_method_errors.specs.RuleErrors.{OverridesBy}
 use Rattle.ix_method_errors.specs.Naming.{HasSmallNames}

@@ -1,4 +1,4 @@
-use Rattle.std.proofs.Common.{rules, ◌≡◌, subst, sym, ap, ◌∙◌, inl, refl, [], None}
+use Rattle.std.proofs.Common.{◌≡◌, subst, sym, ◌∙◌, inl, refl, [], None}
 use Rattle.ix_core.specs.declared.fact.Fact.{Fact}
 use Rattle.ix_core.specs.declared.fact.Fact.TheVariants.{Same}
 use Rattle.ix_facts.specs.Facts.{IsIn}

@@ -1,6 +1,5 @@
 use Rattle.std.specs.Prelude.{option_map}
 use Rattle.std.proofs.Common.{drop}
-use Rattle.ix_core.specs.declared.op.Op.{Op}
 use Rattle.ix_core.specs.Code.{items_code}
 use Rattle.ix_method_errors.specs.StoredFacts.{stored}
 use Rattle.ix_audit.specs.Walking.{notes}

@@ -1,9 +1,8 @@
-use Rattle.std.proofs.Common.{◌≡◌, ap, subst}
+use Rattle.std.proofs.Common.{ap, subst}
 use Rattle.std.proofs.lemmas.Result.{IfOk-weaker}
 use Rattle.ix_facts.specs.Stores.{Stored}
 use Rattle.ix_flow.specs.Walk.{Joins}
 use Rattle.ix_method_errors.specs.StoredFacts.{stored}
-use Rattle.ix_audit.specs.declared.walk.Found.{Found}
 use Rattle.ix_audit.specs.Walking.{rules}
 use Rattle.ix_audit.proofs.walk.Walk.again.Goals as goal
 

@@ -1,5 +1,4 @@
 use Rattle.std.proofs.Common.{ap}
-use Rattle.ix_audit.specs.declared.walk.Found.{Found}
 use Rattle.ix_audit.proofs.walk.Walk.behind.Goals as goal
 
 pub returns-clause-found : goal.returns-clause-found

@@ -1,7 +1,6 @@
 use Rattle.std.specs.Prelude.{option_map}
 use Rattle.std.proofs.Common.{true, false}
 use Rattle.ix_method_errors.specs.StoredFacts.{stored}
-use Rattle.ix_core.specs.declared.op.Op.{Op}
 use Rattle.ix_audit.proofs.Stores.{told_least_of}
 use Rattle.ix_audit.proofs.walk.Walk.told.Goals as goal
 
