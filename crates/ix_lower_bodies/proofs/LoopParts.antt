@@ -1,5 +1,5 @@
 -- What loops, choices and blocks become, part by part: the loop's number, the condition, the turn and the update. The answers of the functions that make them cite these.
-use Rattle.std.proofs.Common.{◌≡◌, ℕ, Bool, true, false, List, Option, Some, None, option_map, map, is_err, IfOk, IsErrAnd, OnOk, MatchResult, Result, Ok, Err, sym, ap, ◌∙◌}
+use Rattle.std.proofs.Common.{◌≡◌, ℕ, Bool, true, false, List, Option, Some, None, option_map, map, OnOk, MatchResult, Result, Ok, Err, sym, ap, ◌∙◌}
 use Rattle.ix_core.specs.declared.code.Block.{Block}
 use Rattle.ix_core.specs.declared.code.Cond.{Cond}
 use Rattle.ix_core.specs.declared.code.Item.{Item, Loop}
@@ -19,20 +19,6 @@ use Rattle.ix_plain.specs.Statements.{Run, Running, Inside, kind_step, stmt_step
 
 abbrev kind_run : StmtKind → Span → Run
 kind_run = fold-StmtKind (Span → Run) Running kind_step stmt_step
-
--- want of memory is no limit
-pub no_limit : {T A : Type 0} (P : T → Type 0) (r : Result T Stop) (which : Which) (x y : A) → MatchResult r P (λ cause. cause ≡ stop.Memory) → r ≡ Err (stop.Limit which) → x ≡ y
-no_limit P (Ok added) which x y given is = cc
-no_limit P (Err cause) which x y given is = cc
-
--- an error that is handed on is the same limit
-pub same_limit : {T U : Type 0} (r : Result T Stop) (cause : Stop) (which : Which) → IsErrAnd r (λ given. given ≡ cause) → r ≡ Err (stop.Limit which) → ◌≡◌ {A = Result U Stop} (Err cause) (Err (stop.Limit which))
-same_limit (Ok made) cause which same is = cc
-same_limit (Err given) cause which same is = cc
-
-pub not_made : {T : Type 0} (r : Result T Stop) (P : T → Type 0) → is_err r ≡ true → IfOk r P
-not_made (Ok made) P err = let never : ⊥ = cc in absurd never
-not_made (Err given) P err = tt
 
 -- the last item is pushed
 pub pushed : {T : Type 0} (r : Result T Stop) (whole : Within Body) (body after : Body) (item : Item) → whole ≡ Ok (with_last body item)

@@ -1,5 +1,5 @@
--- What is handed on from a part of an expression, and what an element becomes, part by part. The answers of the functions that make them cite these.
-use Rattle.std.proofs.Common.{◌≡◌, ℕ, true, Result, Ok, Err, is_err, IfOk, IsErrAnd, sym, ap, ◌∙◌}
+-- What the last part of an expression gives, and what an element becomes, part by part. The answers of the functions that make them cite these.
+use Rattle.std.proofs.Common.{◌≡◌, ℕ, Result, Ok, Err, IfOk, sym, ap, ◌∙◌}
 use Rattle.ix_core.specs.declared.op.OpKind.TheVariants as op
 use Rattle.ix_meaning.specs.declared.note.Which.{Which}
 use Rattle.ix_text.specs.declared.span.Span.{Span}
@@ -9,20 +9,10 @@ use Rattle.ix_tree.specs.declared.expr.ExprKind.TheVariants as kind
 use Rattle.ix_tree.specs.declared.expr.ExprKind.TheVariants.{rolls-Index}
 use Rattle.ix_plain.specs.declared.made.Made.{Made}
 use Rattle.ix_plain.specs.declared.made.Stop.{Stop}
-use Rattle.ix_plain.specs.declared.made.Stop.TheVariants as stop
 use Rattle.ix_plain.specs.Parts.{Within, Value, in_place, computed, ◌>>=◌}
 use Rattle.ix_plain.specs.Scope.{Scope, type_at}
 use Rattle.ix_plain.specs.Values.{Lowering, Filling, kind_step, init_step, expr_step, lowering, element}
 use Rattle.ix_lower_values.proofs.InTurn.{span_is}
-
--- an error that is handed on is the same limit
-pub same_limit : {T U : Type 0} (r : Result T Stop) (cause : Stop) (which : Which) → IsErrAnd r (λ given. given ≡ cause) → r ≡ Err (stop.Limit which) → ◌≡◌ {A = Result U Stop} (Err cause) (Err (stop.Limit which))
-same_limit (Ok made) cause which same is = cc
-same_limit (Err given) cause which same is = cc
-
-pub not_made : {T : Type 0} (r : Result T Stop) (P : T → Type 0) → is_err r ≡ true → IfOk r P
-not_made (Ok made) P err = let never : ⊥ = cc in absurd never
-not_made (Err given) P err = tt
 
 -- what the last part gives is what the whole gives
 pub carried : {A : Type 0} {whole rest : Within Value} (answer : A → Within Value) (r : Result A Stop) → whole ≡ rest → IfOk r (λ at. rest ≡ answer at) → IfOk r (λ at. whole ≡ answer at)

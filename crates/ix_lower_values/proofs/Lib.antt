@@ -1,3 +1,4 @@
+pub mod HandedOn
 pub mod InTurn
 pub mod Calls
 pub mod Assignments

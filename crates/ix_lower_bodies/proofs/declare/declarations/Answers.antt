@@ -1,7 +1,7 @@
 use Rattle.std.proofs.Common.{◌≡◌, Ok, refl, rules}
 use Rattle.ix_plain.specs.Statements.{declaration, declarations}
 use Rattle.ix_lower_values.specs.Shown.{shown_site}
-use Rattle.ix_lower_bodies.proofs.LoopParts.{same_limit, not_made}
+use Rattle.ix_lower_values.proofs.HandedOn.{same_error, not_made}
 use Rattle.ix_lower_bodies.proofs.OneByOne.{next, refused, none_left}
 use Rattle.ix_lower_bodies.proofs.declare.declarations.Goals as goal
 
@@ -23,6 +23,6 @@ returns-in_err-declaration c = record {
   limit = λ which is.
       refused (λ decl. declaration decl (shown_site c.args.site.now) c.args.end) (λ decls. declarations decls (shown_site c.args.site.now) c.args.end) (λ made. refl) (λ decl rest made. refl)
       c.args.decls.now c.loop-decl.decl-index (declarations c.args.decls.now (shown_site c.args.site.now) c.args.end c.args.body.now)
-      c.decl-item.result c.loop-decl.body which c.loop-decl-test.true c.decl-item.is c.loop-decl.invariant (c.in_err-declaration.ensures.limit which (same_limit c.from_residual.result c.in_err-declaration.field-0.0 which c.from_residual.ensures.1 is));
-  body = not_made c.from_residual.result (λ _. declarations c.args.decls.now (shown_site c.args.site.now) c.args.end c.args.body.now ≡ Ok c.declaration.new.body) c.from_residual.ensures.0;
+      c.decl-item.result c.loop-decl.body which c.loop-decl-test.true c.decl-item.is c.loop-decl.invariant (c.in_err-declaration.ensures.limit which (same_error c.from_residual.result c.from_residual.ensures.1 is));
+  body = not_made c.from_residual.result _ c.from_residual.ensures.0;
 }

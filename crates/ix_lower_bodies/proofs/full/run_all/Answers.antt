@@ -1,7 +1,7 @@
 use Rattle.std.proofs.Common.{◌≡◌, Ok, refl, rules}
 use Rattle.ix_plain.specs.Statements.{ran, all_ran}
 use Rattle.ix_lower_values.specs.Shown.{shown_site}
-use Rattle.ix_lower_bodies.proofs.LoopParts.{same_limit, not_made}
+use Rattle.ix_lower_values.proofs.HandedOn.{same_error, not_made}
 use Rattle.ix_lower_bodies.proofs.OneByOne.{next, refused, none_left}
 use Rattle.ix_lower_bodies.proofs.full.run_all.Goals as goal
 
@@ -23,6 +23,6 @@ returns-in_err-run c = record {
   limit = λ which is.
       refused (λ expr. ran (shown_site c.args.site.now) expr) (λ exprs. all_ran exprs (shown_site c.args.site.now)) (λ made. refl) (λ expr rest made. refl)
       c.args.exprs.now c.loop-expr.expr-index (all_ran c.args.exprs.now (shown_site c.args.site.now) c.args.body.now)
-      c.expr-item.result c.loop-expr.body which c.loop-expr-test.true c.expr-item.is c.loop-expr.invariant (c.in_err-run.ensures.limit which (same_limit c.from_residual.result c.in_err-run.field-0.0 which c.from_residual.ensures.1 is));
-  body = not_made c.from_residual.result (λ _. all_ran c.args.exprs.now (shown_site c.args.site.now) c.args.body.now ≡ Ok c.run.new.body) c.from_residual.ensures.0;
+      c.expr-item.result c.loop-expr.body which c.loop-expr-test.true c.expr-item.is c.loop-expr.invariant (c.in_err-run.ensures.limit which (same_error c.from_residual.result c.from_residual.ensures.1 is));
+  body = not_made c.from_residual.result _ c.from_residual.ensures.0;
 }

@@ -5,7 +5,8 @@ use Rattle.ix_lower_values.specs.Shown.{shown_scope, all_given, all_initial}
 use Rattle.ix_lower_values.proofs.Assignments.{target_refused, value_refused, value_written, read_refused, operand_refused, operands_made, stepped_refused, step_behind_target}
 use Rattle.ix_lower_values.proofs.Calls.{before_refused, arguments_refused, call_made, class_is, call_is}
 use Rattle.ix_lower_values.proofs.Creations.{size_refused, array_made, given_refused, object_refused}
-use Rattle.ix_lower_values.proofs.Elements.{same_limit, not_made, carried, array_refused, cell_array_refused, index_refused, cell_index_refused, element_made}
+use Rattle.ix_lower_values.proofs.Elements.{carried, array_refused, cell_array_refused, index_refused, cell_index_refused, element_made}
+use Rattle.ix_lower_values.proofs.HandedOn.{same_error, not_made}
 use Rattle.ix_lower_values.proofs.InTurn.{next_argument, argument_refused, all_arguments, next_entry, entry_refused, all_entries}
 use Rattle.ix_lower_values.proofs.expression.+lowering.Goals as goal
 
@@ -37,15 +38,15 @@ entries-returns t c = record {
 pub arguments-returns-in_err-slot : goal.arguments-returns-in_err-slot
 arguments-returns-in_err-slot t c = record {
   limit = λ which is. argument_refused c.args.exprs.now c.loop-expr.expr-index (shown_scope c.args.scope.now) c.expr-item.result c.loop-expr.args c.loop-expr.made which
-      (all_given c.args.scope.now c.args.exprs.now c.args.made.now) c.loop-expr-test.true c.expr-item.is c.loop-expr.invariant (c.in_err-slot.ensures.limit which (same_limit c.from_residual.result c.in_err-slot.field-0.0 which c.from_residual.ensures.1 is));
-  made = not_made c.from_residual.result (λ args. all_given c.args.scope.now c.args.exprs.now c.args.made.now ≡ Ok (record { made = c.value.new.made; args = args })) c.from_residual.ensures.0;
+      (all_given c.args.scope.now c.args.exprs.now c.args.made.now) c.loop-expr-test.true c.expr-item.is c.loop-expr.invariant (c.in_err-slot.ensures.limit which (same_error c.from_residual.result c.from_residual.ensures.1 is));
+  made = not_made c.from_residual.result _ c.from_residual.ensures.0;
 }
 
 pub entries-returns-in_err-slot : goal.entries-returns-in_err-slot
 entries-returns-in_err-slot t c = record {
   limit = λ which is. entry_refused c.args.inits.now c.loop-init.init-index (shown_scope c.args.scope.now) c.args.cell.now c.init-item.result c.loop-init.slots c.loop-init.made which
-      (all_initial c.args.scope.now c.args.inits.now c.args.cell.now c.args.made.now) c.loop-init-test.true c.init-item.is c.loop-init.invariant (c.in_err-slot.ensures.limit which (same_limit c.from_residual.result c.in_err-slot.field-0.0 which c.from_residual.ensures.1 is));
-  made = not_made c.from_residual.result (λ slots. all_initial c.args.scope.now c.args.inits.now c.args.cell.now c.args.made.now ≡ Ok (record { made = c.filling.new.made; slots = slots })) c.from_residual.ensures.0;
+      (all_initial c.args.scope.now c.args.inits.now c.args.cell.now c.args.made.now) c.loop-init-test.true c.init-item.is c.loop-init.invariant (c.in_err-slot.ensures.limit which (same_error c.from_residual.result c.from_residual.ensures.1 is));
+  made = not_made c.from_residual.result _ c.from_residual.ensures.0;
 }
 
 pub called-returns-in_err-o-in-Call : goal.called-returns-in_err-o-in-Call
@@ -53,8 +54,8 @@ called-returns-in_err-o-in-Call t c =
     let unrolled = call_is c.args.expr.now c.in-Call.object c.in-Call.name c.in-Call.args (shown_scope c.args.scope.now) c.args.made.now c.meaning_at.result c.method_number-method.result
     c.head_at-head.result c.in-Call.is c.meaning_at.ensures c.method_number-method.ensures c.head_at-head.ensures in
     record {
-      limit = λ which is. unrolled ∙ before_refused c.head_at-head.result (option_map lowering c.in-Call.object) c.method_number-method.result (object_class (option_map lowering c.in-Call.object) (shown_scope c.args.scope.now)) (map lowering c.in-Call.args) c.in-Call.name.span (shown_scope c.args.scope.now) c.args.made.now refl which (c.in_err-o-in-Call.ensures.limit which (same_limit c.from_residual.result c.in_err-o-in-Call.field-0.0 which c.from_residual.ensures.1 is));
-      made = not_made c.from_residual.result (λ at. (lowering c.args.expr.now).value (shown_scope c.args.scope.now) c.args.made.now ≡ in_place c.receiver.new.made at) c.from_residual.ensures.0;
+      limit = λ which is. unrolled ∙ before_refused c.head_at-head.result (option_map lowering c.in-Call.object) c.method_number-method.result (object_class (option_map lowering c.in-Call.object) (shown_scope c.args.scope.now)) (map lowering c.in-Call.args) c.in-Call.name.span (shown_scope c.args.scope.now) c.args.made.now refl which (c.in_err-o-in-Call.ensures.limit which (same_error c.from_residual.result c.from_residual.ensures.1 is));
+      made = not_made c.from_residual.result _ c.from_residual.ensures.0;
     }
 
 pub called-returns-in_err-args-in-Call : goal.called-returns-in_err-args-in-Call
@@ -63,8 +64,8 @@ called-returns-in_err-args-in-Call t c =
     c.head_at-head.result c.in-Call.is c.meaning_at.ensures c.method_number-method.ensures c.head_at-head.ensures in
     record {
       limit = λ which is. unrolled ∙ arguments_refused c.head_at-head.result (option_map lowering c.in-Call.object) c.method_number-method.result (object_class (option_map lowering c.in-Call.object) (shown_scope c.args.scope.now)) (map lowering c.in-Call.args) c.in-Call.name.span (shown_scope c.args.scope.now) c.args.made.now refl c.receiver.new.made c.in_ok-o-in-Call.o which c.in_ok-o-in-Call.ensures.made
-          (ap (λ exprs. arguments_from [] (map lowering exprs) (shown_scope c.args.scope.now) c.receiver.new.made) (sym c.as_slice.ensures) ∙ c.in_err-args-in-Call.ensures.limit which (same_limit c.from_residual-in_err-args-in-Call.result c.in_err-args-in-Call.field-0.0 which c.from_residual-in_err-args-in-Call.ensures.1 is));
-      made = not_made c.from_residual-in_err-args-in-Call.result (λ at. (lowering c.args.expr.now).value (shown_scope c.args.scope.now) c.args.made.now ≡ in_place c.arguments.new.made at) c.from_residual-in_err-args-in-Call.ensures.0;
+          (ap (λ exprs. arguments_from [] (map lowering exprs) (shown_scope c.args.scope.now) c.receiver.new.made) (sym c.as_slice.ensures) ∙ c.in_err-args-in-Call.ensures.limit which (same_error c.from_residual-in_err-args-in-Call.result c.from_residual-in_err-args-in-Call.ensures.1 is));
+      made = not_made c.from_residual-in_err-args-in-Call.result _ c.from_residual-in_err-args-in-Call.ensures.0;
     }
 
 pub called-returns : goal.called-returns
@@ -81,8 +82,8 @@ called-returns t c =
 
 pub assigned-returns-in_err-spot-in-Step : goal.assigned-returns-in_err-spot-in-Step
 assigned-returns-in_err-spot-in-Step t c = record {
-  limit = λ which is. stepped_refused c.args.expr.now (shown_scope c.args.scope.now) c.args.made.now c.in-Step.up c.in-Step.after c.in-Step.place c.get-in-Step.result.now which c.in-Step.is c.get-in-Step.ensures (c.in_err-spot-in-Step.ensures.limit which (same_limit c.from_residual-in_err-spot-in-Step.result c.in_err-spot-in-Step.field-0.0 which c.from_residual-in_err-spot-in-Step.ensures.1 is));
-  made = not_made c.from_residual-in_err-spot-in-Step.result (λ at. (lowering c.args.expr.now).value (shown_scope c.args.scope.now) c.args.made.now ≡ in_place c.target-in-Step.new.made at) c.from_residual-in_err-spot-in-Step.ensures.0;
+  limit = λ which is. stepped_refused c.args.expr.now (shown_scope c.args.scope.now) c.args.made.now c.in-Step.up c.in-Step.after c.in-Step.place c.get-in-Step.result.now which c.in-Step.is c.get-in-Step.ensures (c.in_err-spot-in-Step.ensures.limit which (same_error c.from_residual-in_err-spot-in-Step.result c.from_residual-in_err-spot-in-Step.ensures.1 is));
+  made = not_made c.from_residual-in_err-spot-in-Step.result _ c.from_residual-in_err-spot-in-Step.ensures.0;
 }
 
 pub assigned-returns-in_ok-spot-in-Step : goal.assigned-returns-in_ok-spot-in-Step
@@ -95,14 +96,14 @@ assigned-returns-in_ok-spot-in-Step t c =
 
 pub assigned-returns-in_err-spot-in-Assign : goal.assigned-returns-in_err-spot-in-Assign
 assigned-returns-in_err-spot-in-Assign t c = record {
-  limit = λ which is. target_refused c.args.expr.now (shown_scope c.args.scope.now) c.args.made.now c.in-Assign.operator c.in-Assign.place c.in-Assign.from c.get.result.now which c.in-Assign.is c.get.ensures (c.in_err-spot-in-Assign.ensures.limit which (same_limit c.from_residual.result c.in_err-spot-in-Assign.field-0.0 which c.from_residual.ensures.1 is));
-  made = not_made c.from_residual.result (λ at. (lowering c.args.expr.now).value (shown_scope c.args.scope.now) c.args.made.now ≡ in_place c.target.new.made at) c.from_residual.ensures.0;
+  limit = λ which is. target_refused c.args.expr.now (shown_scope c.args.scope.now) c.args.made.now c.in-Assign.operator c.in-Assign.place c.in-Assign.from c.get.result.now which c.in-Assign.is c.get.ensures (c.in_err-spot-in-Assign.ensures.limit which (same_error c.from_residual.result c.from_residual.ensures.1 is));
+  made = not_made c.from_residual.result _ c.from_residual.ensures.0;
 }
 
 pub assigned-returns-in_err-v-in-None : goal.assigned-returns-in_err-v-in-None
 assigned-returns-in_err-v-in-None t c = record {
-  limit = λ which is. value_refused c.args.expr.now (shown_scope c.args.scope.now) c.args.made.now c.in-Assign.operator c.in-Assign.place c.in-Assign.from c.get.result.now c.in_ok-spot-in-Assign.spot c.target.new.made c.in-Assign.is c.get.ensures c.in_ok-spot-in-Assign.ensures.made c.get-in-None.result.now which c.in-None.is c.get-in-None.ensures (c.in_err-v-in-None.ensures.limit which (same_limit c.from_residual-in_err-v-in-None.result c.in_err-v-in-None.field-0.0 which c.from_residual-in_err-v-in-None.ensures.1 is));
-  made = not_made c.from_residual-in_err-v-in-None.result (λ at. (lowering c.args.expr.now).value (shown_scope c.args.scope.now) c.args.made.now ≡ in_place c.value.new.made at) c.from_residual-in_err-v-in-None.ensures.0;
+  limit = λ which is. value_refused c.args.expr.now (shown_scope c.args.scope.now) c.args.made.now c.in-Assign.operator c.in-Assign.place c.in-Assign.from c.get.result.now c.in_ok-spot-in-Assign.spot c.target.new.made c.in-Assign.is c.get.ensures c.in_ok-spot-in-Assign.ensures.made c.get-in-None.result.now which c.in-None.is c.get-in-None.ensures (c.in_err-v-in-None.ensures.limit which (same_error c.from_residual-in_err-v-in-None.result c.from_residual-in_err-v-in-None.ensures.1 is));
+  made = not_made c.from_residual-in_err-v-in-None.result _ c.from_residual-in_err-v-in-None.ensures.0;
 }
 
 pub assigned-returns-in_ok-v-in-None : goal.assigned-returns-in_ok-v-in-None
@@ -115,14 +116,14 @@ assigned-returns-in_ok-v-in-None t c =
 
 pub assigned-returns-in_err-y-in-Some : goal.assigned-returns-in_err-y-in-Some
 assigned-returns-in_err-y-in-Some t c = record {
-  limit = λ which is. read_refused c.args.expr.now (shown_scope c.args.scope.now) c.args.made.now c.in-Assign.operator c.in-Assign.place c.in-Assign.from c.get.result.now c.in_ok-spot-in-Assign.spot c.target.new.made c.in-Assign.is c.get.ensures c.in_ok-spot-in-Assign.ensures.made c.in-Some.arith c.get-in-Some.result.now which c.in-Some.is c.get-in-Some.ensures (c.in_err-y-in-Some.ensures.limit which (same_limit c.from_residual-in_err-y-in-Some.result c.in_err-y-in-Some.field-0.0 which c.from_residual-in_err-y-in-Some.ensures.1 is));
-  made = not_made c.from_residual-in_err-y-in-Some.result (λ at. (lowering c.args.expr.now).value (shown_scope c.args.scope.now) c.args.made.now ≡ in_place c.read.new.made at) c.from_residual-in_err-y-in-Some.ensures.0;
+  limit = λ which is. read_refused c.args.expr.now (shown_scope c.args.scope.now) c.args.made.now c.in-Assign.operator c.in-Assign.place c.in-Assign.from c.get.result.now c.in_ok-spot-in-Assign.spot c.target.new.made c.in-Assign.is c.get.ensures c.in_ok-spot-in-Assign.ensures.made c.in-Some.arith c.get-in-Some.result.now which c.in-Some.is c.get-in-Some.ensures (c.in_err-y-in-Some.ensures.limit which (same_error c.from_residual-in_err-y-in-Some.result c.from_residual-in_err-y-in-Some.ensures.1 is));
+  made = not_made c.from_residual-in_err-y-in-Some.result _ c.from_residual-in_err-y-in-Some.ensures.0;
 }
 
 pub assigned-returns-in_err-z-in-Some : goal.assigned-returns-in_err-z-in-Some
 assigned-returns-in_err-z-in-Some t c = record {
-  limit = λ which is. operand_refused c.args.expr.now (shown_scope c.args.scope.now) c.args.made.now c.in-Assign.operator c.in-Assign.place c.in-Assign.from c.get.result.now c.in_ok-spot-in-Assign.spot c.target.new.made c.in-Assign.is c.get.ensures c.in_ok-spot-in-Assign.ensures.made c.in-Some.arith c.get-in-Some.result.now c.get-in-Some-2.result.now c.read.new.made c.in_ok-y-in-Some.y which c.in-Some.is c.get-in-Some.ensures c.get-in-Some-2.ensures c.in_ok-y-in-Some.ensures.made (c.in_err-z-in-Some.ensures.limit which (same_limit c.from_residual-in_err-z-in-Some.result c.in_err-z-in-Some.field-0.0 which c.from_residual-in_err-z-in-Some.ensures.1 is));
-  made = not_made c.from_residual-in_err-z-in-Some.result (λ at. (lowering c.args.expr.now).value (shown_scope c.args.scope.now) c.args.made.now ≡ in_place c.value-in-Some.new.made at) c.from_residual-in_err-z-in-Some.ensures.0;
+  limit = λ which is. operand_refused c.args.expr.now (shown_scope c.args.scope.now) c.args.made.now c.in-Assign.operator c.in-Assign.place c.in-Assign.from c.get.result.now c.in_ok-spot-in-Assign.spot c.target.new.made c.in-Assign.is c.get.ensures c.in_ok-spot-in-Assign.ensures.made c.in-Some.arith c.get-in-Some.result.now c.get-in-Some-2.result.now c.read.new.made c.in_ok-y-in-Some.y which c.in-Some.is c.get-in-Some.ensures c.get-in-Some-2.ensures c.in_ok-y-in-Some.ensures.made (c.in_err-z-in-Some.ensures.limit which (same_error c.from_residual-in_err-z-in-Some.result c.from_residual-in_err-z-in-Some.ensures.1 is));
+  made = not_made c.from_residual-in_err-z-in-Some.result _ c.from_residual-in_err-z-in-Some.ensures.0;
 }
 
 pub assigned-returns-in_ok-z-in-Some : goal.assigned-returns-in_ok-z-in-Some
@@ -135,14 +136,14 @@ assigned-returns-in_ok-z-in-Some t c =
 
 pub selected-returns-in_err-a-in-Index : goal.selected-returns-in_err-a-in-Index
 selected-returns-in_err-a-in-Index t c = record {
-  limit = λ which is. array_refused c.args.expr.now (shown_scope c.args.scope.now) c.args.made.now c.in-Index.array c.in-Index.index c.get-in-Index.result.now c.in-Index.is c.get-in-Index.ensures which (c.in_err-a-in-Index.ensures.limit which (same_limit c.from_residual-in_err-a-in-Index.result c.in_err-a-in-Index.field-0.0 which c.from_residual-in_err-a-in-Index.ensures.1 is));
-  made = not_made c.from_residual-in_err-a-in-Index.result (λ at. (lowering c.args.expr.now).value (shown_scope c.args.scope.now) c.args.made.now ≡ in_place c.value-in-Index.new.made at) c.from_residual-in_err-a-in-Index.ensures.0;
+  limit = λ which is. array_refused c.args.expr.now (shown_scope c.args.scope.now) c.args.made.now c.in-Index.array c.in-Index.index c.get-in-Index.result.now c.in-Index.is c.get-in-Index.ensures which (c.in_err-a-in-Index.ensures.limit which (same_error c.from_residual-in_err-a-in-Index.result c.from_residual-in_err-a-in-Index.ensures.1 is));
+  made = not_made c.from_residual-in_err-a-in-Index.result _ c.from_residual-in_err-a-in-Index.ensures.0;
 }
 
 pub selected-returns-in_err-i-in-Index : goal.selected-returns-in_err-i-in-Index
 selected-returns-in_err-i-in-Index t c = record {
-  limit = λ which is. index_refused c.args.expr.now (shown_scope c.args.scope.now) c.args.made.now c.in-Index.array c.in-Index.index c.get-in-Index.result.now c.in-Index.is c.get-in-Index.ensures c.value-in-Index.new.made c.in_ok-a-in-Index.a c.get-in-Index-2.result.now c.in_ok-a-in-Index.ensures.made c.get-in-Index-2.ensures which (c.in_err-i-in-Index.ensures.limit which (same_limit c.from_residual-in_err-i-in-Index.result c.in_err-i-in-Index.field-0.0 which c.from_residual-in_err-i-in-Index.ensures.1 is));
-  made = not_made c.from_residual-in_err-i-in-Index.result (λ at. (lowering c.args.expr.now).value (shown_scope c.args.scope.now) c.args.made.now ≡ in_place c.value-in-Index-2.new.made at) c.from_residual-in_err-i-in-Index.ensures.0;
+  limit = λ which is. index_refused c.args.expr.now (shown_scope c.args.scope.now) c.args.made.now c.in-Index.array c.in-Index.index c.get-in-Index.result.now c.in-Index.is c.get-in-Index.ensures c.value-in-Index.new.made c.in_ok-a-in-Index.a c.get-in-Index-2.result.now c.in_ok-a-in-Index.ensures.made c.get-in-Index-2.ensures which (c.in_err-i-in-Index.ensures.limit which (same_error c.from_residual-in_err-i-in-Index.result c.from_residual-in_err-i-in-Index.ensures.1 is));
+  made = not_made c.from_residual-in_err-i-in-Index.result _ c.from_residual-in_err-i-in-Index.ensures.0;
 }
 
 pub selected-returns-in_ok-i-in-Index : goal.selected-returns-in_ok-i-in-Index
@@ -155,32 +156,32 @@ selected-returns-in_ok-i-in-Index t c =
 
 pub selected_target-returns-in_err-a-in-Index : goal.selected_target-returns-in_err-a-in-Index
 selected_target-returns-in_err-a-in-Index t c = record {
-  limit = λ which is. cell_array_refused c.args.expr.now (shown_scope c.args.scope.now) c.args.made.now c.in-Index.array c.in-Index.index c.get-in-Index.result.now c.in-Index.is c.get-in-Index.ensures which (c.in_err-a-in-Index.ensures.limit which (same_limit c.from_residual-in_err-a-in-Index.result c.in_err-a-in-Index.field-0.0 which c.from_residual-in_err-a-in-Index.ensures.1 is));
-  made = not_made c.from_residual-in_err-a-in-Index.result (λ spot. (lowering c.args.expr.now).target (shown_scope c.args.scope.now) c.args.made.now ≡ Ok (record { made = c.value-in-Index.new.made; spot = spot })) c.from_residual-in_err-a-in-Index.ensures.0;
+  limit = λ which is. cell_array_refused c.args.expr.now (shown_scope c.args.scope.now) c.args.made.now c.in-Index.array c.in-Index.index c.get-in-Index.result.now c.in-Index.is c.get-in-Index.ensures which (c.in_err-a-in-Index.ensures.limit which (same_error c.from_residual-in_err-a-in-Index.result c.from_residual-in_err-a-in-Index.ensures.1 is));
+  made = not_made c.from_residual-in_err-a-in-Index.result _ c.from_residual-in_err-a-in-Index.ensures.0;
 }
 
 pub selected_target-returns-in_err-i-in-Index : goal.selected_target-returns-in_err-i-in-Index
 selected_target-returns-in_err-i-in-Index t c = record {
-  limit = λ which is. cell_index_refused c.args.expr.now (shown_scope c.args.scope.now) c.args.made.now c.in-Index.array c.in-Index.index c.get-in-Index.result.now c.in-Index.is c.get-in-Index.ensures c.value-in-Index.new.made c.in_ok-a-in-Index.a c.get-in-Index-2.result.now c.in_ok-a-in-Index.ensures.made c.get-in-Index-2.ensures which (c.in_err-i-in-Index.ensures.limit which (same_limit c.from_residual-in_err-i-in-Index.result c.in_err-i-in-Index.field-0.0 which c.from_residual-in_err-i-in-Index.ensures.1 is));
-  made = not_made c.from_residual-in_err-i-in-Index.result (λ spot. (lowering c.args.expr.now).target (shown_scope c.args.scope.now) c.args.made.now ≡ Ok (record { made = c.value-in-Index-2.new.made; spot = spot })) c.from_residual-in_err-i-in-Index.ensures.0;
+  limit = λ which is. cell_index_refused c.args.expr.now (shown_scope c.args.scope.now) c.args.made.now c.in-Index.array c.in-Index.index c.get-in-Index.result.now c.in-Index.is c.get-in-Index.ensures c.value-in-Index.new.made c.in_ok-a-in-Index.a c.get-in-Index-2.result.now c.in_ok-a-in-Index.ensures.made c.get-in-Index-2.ensures which (c.in_err-i-in-Index.ensures.limit which (same_error c.from_residual-in_err-i-in-Index.result c.from_residual-in_err-i-in-Index.ensures.1 is));
+  made = not_made c.from_residual-in_err-i-in-Index.result _ c.from_residual-in_err-i-in-Index.ensures.0;
 }
 
 pub selected_target-returns-in_err-o-in-Select : goal.selected_target-returns-in_err-o-in-Select
 selected_target-returns-in_err-o-in-Select t c = record {
-  limit = λ which is. object_refused c.args.expr.now (shown_scope c.args.scope.now) c.args.made.now c.in-Select.object c.get.result.now c.in-Select.name which c.in-Select.is c.get.ensures (c.in_err-o-in-Select.ensures.limit which (same_limit c.from_residual.result c.in_err-o-in-Select.field-0.0 which c.from_residual.ensures.1 is));
-  made = not_made c.from_residual.result (λ spot. (lowering c.args.expr.now).target (shown_scope c.args.scope.now) c.args.made.now ≡ Ok (record { made = c.value.new.made; spot = spot })) c.from_residual.ensures.0;
+  limit = λ which is. object_refused c.args.expr.now (shown_scope c.args.scope.now) c.args.made.now c.in-Select.object c.get.result.now c.in-Select.name which c.in-Select.is c.get.ensures (c.in_err-o-in-Select.ensures.limit which (same_error c.from_residual.result c.from_residual.ensures.1 is));
+  made = not_made c.from_residual.result _ c.from_residual.ensures.0;
 }
 
 pub created-returns-in_err-args-in-New : goal.created-returns-in_err-args-in-New
 created-returns-in_err-args-in-New t c = record {
-  limit = λ which is. given_refused c.args.expr.now (shown_scope c.args.scope.now) c.args.made.now c.in-New.name c.in-New.args c.as_slice.result.now which c.in-New.is c.as_slice.ensures (c.in_err-args-in-New.ensures.limit which (same_limit c.from_residual.result c.in_err-args-in-New.field-0.0 which c.from_residual.ensures.1 is));
-  made = not_made c.from_residual.result (λ at. (lowering c.args.expr.now).value (shown_scope c.args.scope.now) c.args.made.now ≡ in_place c.arguments.new.made at) c.from_residual.ensures.0;
+  limit = λ which is. given_refused c.args.expr.now (shown_scope c.args.scope.now) c.args.made.now c.in-New.name c.in-New.args c.as_slice.result.now which c.in-New.is c.as_slice.ensures (c.in_err-args-in-New.ensures.limit which (same_error c.from_residual.result c.from_residual.ensures.1 is));
+  made = not_made c.from_residual.result _ c.from_residual.ensures.0;
 }
 
 pub created-returns-in_err-n-in-NewArray : goal.created-returns-in_err-n-in-NewArray
 created-returns-in_err-n-in-NewArray t c = record {
-  limit = λ which is. size_refused c.args.expr.now (shown_scope c.args.scope.now) c.args.made.now c.in-NewArray.field-0 c.in-NewArray.size c.get.result.now which c.in-NewArray.is c.get.ensures (c.in_err-n-in-NewArray.ensures.limit which (same_limit c.from_residual-in_err-n-in-NewArray.result c.in_err-n-in-NewArray.field-0.0 which c.from_residual-in_err-n-in-NewArray.ensures.1 is));
-  made = not_made c.from_residual-in_err-n-in-NewArray.result (λ at. (lowering c.args.expr.now).value (shown_scope c.args.scope.now) c.args.made.now ≡ in_place c.value.new.made at) c.from_residual-in_err-n-in-NewArray.ensures.0;
+  limit = λ which is. size_refused c.args.expr.now (shown_scope c.args.scope.now) c.args.made.now c.in-NewArray.field-0 c.in-NewArray.size c.get.result.now which c.in-NewArray.is c.get.ensures (c.in_err-n-in-NewArray.ensures.limit which (same_error c.from_residual-in_err-n-in-NewArray.result c.from_residual-in_err-n-in-NewArray.ensures.1 is));
+  made = not_made c.from_residual-in_err-n-in-NewArray.result _ c.from_residual-in_err-n-in-NewArray.ensures.0;
 }
 
 pub created-returns-in_ok-n-in-NewArray : goal.created-returns-in_ok-n-in-NewArray
