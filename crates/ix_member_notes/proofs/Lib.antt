@@ -2,3 +2,4 @@ mod MethodNotes
 pub mod NewLocals
 pub mod Prefix
 pub mod Told
+mod StatementsTold

@@ -1,17 +1,13 @@
 -- What a statement tells, read off what its parts tell.
-use Rattle.std.proofs.Common.{◌≡◌, ◌++◌, ◌+◌, ℕ, List, length, take, map, ◌∙◌, ap, append_assoc, arith}
+use Rattle.std.proofs.Common.{◌≡◌, ◌++◌, ◌+◌, ℕ, List, length, take, map, Result, Ok, Err, OnOk, ◌<◌, ◌^◌, ◌∙◌, ap, sym, subst, append_assoc, arith}
 use Rattle.ix_meaning.specs.declared.note.Note.{Note}
 use Rattle.ix_meaning.specs.Scope.{Scope}
-use Rattle.ix_meaning.specs.Bodies.{Telling, after, then_told, noted_then, closed}
+use Rattle.ix_meaning.specs.Bodies.{Telling, after, then_told, noted_then, then_noted, closed}
 use Rattle.ix_values.specs.declared.scope.Scopes.{Scopes}
-use Rattle.ix_values.specs.Here.{names, local_known, param_known, Extends}
+use Rattle.ix_values.specs.Here.{here, names, local_known, param_known, Extends}
+use Rattle.ix_world.specs.declared.world.World.{World as Tables}
+use Rattle.ix_member_notes.specs.Told.{Told}
 use Rattle.ix_member_notes.proofs.Prefix.{extends_same, extends_trans, take_extended}
-
--- The notes and the scope behind, of what leads from one scope to another; `here` is what the names in scope mean.
-pub record Told (here : Scopes → Scope) (t : Telling) (s u : Scopes) (n m : List Note) : Type 0 where
-  pub notes : m ≡ n ++ t.notes (here s)
-  pub scope : here u ≡ after t (here s)
-  pub keeps : Extends s u
 
 counted : (a b c : ℕ) → (a + b) + c ≡ a + (b + c)
 counted a b c = omega arith
@@ -37,6 +33,9 @@ module _ {here : Scopes → Scope} where
   pub told_before : {t : Telling} {s u : Scopes} {n m o : List Note} (f : Scope → List Note) → m ≡ n ++ f (here s) → Told here t s u m o → Told here (noted_then f t) s u n o
   told_before {t} {s} {u} {n} f noted a = record { notes = joined n (f (here s)) (t.notes (here s)) noted a.notes; scope = a.scope; keeps = a.keeps }
 
+  pub told_behind : {t : Telling} {s u : Scopes} {n m o : List Note} (f : Scope → List Note) → Told here t s u n m → o ≡ m ++ f (here u) → Told here (then_noted t f) s u n o
+  told_behind f a noted = record { notes = then_notes f a noted; scope = a.scope; keeps = a.keeps }
+
   pub told_closed : {t : Telling} {s u v : Scopes} {n m : List Note} → Told here t s u n m → v.params ≡ u.params
       → v.locals.entries ≡ take (length s.locals.entries) u.locals.entries → (v.params ≡ s.params → v.locals.entries ≡ s.locals.entries → (here v).names ≡ (here s).names)
       → here v ≡ record (here u) { names = (here v).names } → Told here (closed t) s v n m
@@ -48,3 +47,14 @@ module _ {here : Scopes → Scope} where
         scope = rest ∙ ap (λ (h : Scope). record h { names = (here v).names }) a.scope ∙ ap (λ ks. record (after t (here s)) { names = ks }) (same same_params same_locals);
         keeps = extends_same s v same_params same_locals;
       }
+
+pub told_if : (here : Scopes → Scope) (t : Telling) (s u : Scopes) (n m : List Note) {T E : Type 0} (r : Result T E)
+    → OnOk r (m ≡ n ++ t.notes (here s)) → OnOk r (here u ≡ after t (here s)) → OnOk r (Extends s u) → OnOk r (Told here t s u n m)
+told_if here t s u n m (Ok made) notes scope keeps = record { notes = notes; scope = scope; keeps = keeps }
+told_if here t s u n m (Err cause) notes scope keeps = tt
+
+-- what comes next has room
+pub room_behind : (w : Tables) (t v : Telling) (s u : Scopes) (n m : List Note) → Told (here w) t s u n m → s.next + (then_told t v).declares < 2 ^ 32 → u.next + v.declares < 2 ^ 32
+room_behind w t v s u n m told room =
+    let next : u.next ≡ s.next + t.declares = ap (λ (h : Scope). h.next) told.scope in
+    subst (λ (k : ℕ). k + v.declares < 2 ^ 32) (sym next) (subst (λ (k : ℕ). k < 2 ^ 32) (sym (counted s.next t.declares v.declares)) room)

@@ -6,6 +6,7 @@ ghost use Rattle.ix_meaning.specs.Declarators as declared;
 ghost use Rattle.ix_meaning.specs.Rules as rules;
 ghost use Rattle.ix_values.specs.Begun.{Begins};
 ghost use Rattle.ix_values.specs.Here.{here, Extends};
+ghost use Rattle.ix_member_notes.specs.Told.{Told};
 
 use crate::locals::declare;
 use ix_meaning::{Note, Rule};
@@ -106,11 +107,7 @@ fn declare_further<'a>(
     decls: &'a [LocalDecl],
 ) -> Result<(), AllocError>
     requires { scopes.old.next + (spec.all_declared (map (declared.further first.now) decls.now)).declares < 2 ^ 32 }
-    ensures { record {
-      notes : OnOk result (notes.new ≡ notes.old ++ (spec.all_declared (map (declared.further first.now) decls.now)).notes (here world.now scopes.old));
-      scope : OnOk result (here world.now scopes.new ≡ spec.after (spec.all_declared (map (declared.further first.now) decls.now)) (here world.now scopes.old));
-      keeps : OnOk result (Extends scopes.old scopes.new);
-    } }
+    ensures { OnOk result (Told (here world.now) (spec.all_declared (map (declared.further first.now) decls.now)) scopes.old scopes.new notes.old notes.new) }
 {
     let begun = begin_with(alloc, first)?;
     for decl in decls {
@@ -131,11 +128,7 @@ fn declare_one_more<'a>(
       begins : Begins begun.now;
       room : scopes.old.next + 1 < 2 ^ 32;
     } }
-    ensures { record {
-      notes : OnOk result (notes.new ≡ notes.old ++ (spec.declared (declared.further begun.now.first.now decl.now)).notes (here world.now scopes.old));
-      scope : OnOk result (here world.now scopes.new ≡ spec.after (spec.declared (declared.further begun.now.first.now decl.now)) (here world.now scopes.old));
-      keeps : OnOk result (Extends scopes.old scopes.new);
-    } }
+    ensures { OnOk result (Told (here world.now) (spec.declared (declared.further begun.now.first.now decl.now)) scopes.old scopes.new notes.old notes.new) }
 {
     let own = further_annotations(alloc, begun, decl)?;
     declare(alloc, world, scopes, notes, &own, decl)
@@ -149,11 +142,7 @@ fn declare_first<'a>(
     decl: &'a LocalDecl,
 ) -> Result<(), AllocError>
     requires { scopes.old.next + 1 < 2 ^ 32 }
-    ensures { record {
-      notes : OnOk result (notes.new ≡ notes.old ++ (spec.declared decl.now).notes (here world.now scopes.old));
-      scope : OnOk result (here world.now scopes.new ≡ spec.after (spec.declared decl.now) (here world.now scopes.old));
-      keeps : OnOk result (Extends scopes.old scopes.new);
-    } }
+    ensures { OnOk result (Told (here world.now) (spec.declared decl.now) scopes.old scopes.new notes.old notes.new) }
 {
     let own = own_annotations(alloc, decl)?;
     declare(alloc, world, scopes, notes, &own, decl)
@@ -168,9 +157,7 @@ fn declare_all<'a>(
     decls: &'a [LocalDecl],
 ) -> Result<(), AllocError>
     requires { scopes.old.next + (spec.all_declared (declared.declarators decls.now)).declares < 2 ^ 32 }
-    ensures notes { OnOk result (notes.new ≡ notes.old ++ (spec.all_declared (declared.declarators decls.now)).notes (here world.now scopes.old)) }
-    ensures scope { OnOk result (here world.now scopes.new ≡ spec.after (spec.all_declared (declared.declarators decls.now)) (here world.now scopes.old)) }
-    ensures keeps { OnOk result (Extends scopes.old scopes.new) }
+    ensures { OnOk result (Told (here world.now) (spec.all_declared (declared.declarators decls.now)) scopes.old scopes.new notes.old notes.new) }
 {
     match decls {
         [] => Ok(()),
@@ -223,6 +210,25 @@ pub fn statements<'a>(
     Ok(())
 }
 
+/// The statements of a block, whose locals end with it.
+#[cycle(statements)]
+#[tactic(auto, using(crate::proofs::Prefix::extends))]
+fn block<'a>(
+    alloc: Global,
+    world: &World,
+    scopes: &mut Scopes<'a>,
+    notes: &mut List<Note>,
+    ss: &'a [Stmt],
+) -> Result<(), AllocError>
+    requires { scopes.old.next + (spec.all_told (map spec.telling ss.now)).declares < 2 ^ 32 }
+    ensures { OnOk result (Told (here world.now) (spec.closed (spec.all_told (map spec.telling ss.now))) scopes.old scopes.new notes.old notes.new) }
+{
+    let mark = scopes.locals.len();
+    let told = statements(alloc, world, scopes, notes, ss);
+    scopes.leave(mark);
+    told
+}
+
 /// The body of a loop.
 #[cycle(statements)]
 #[tactic(auto, using(crate::proofs::Prefix::extends))]
@@ -234,17 +240,29 @@ fn looped<'a>(
     s: &'a Stmt,
 ) -> Result<(), AllocError>
     requires { scopes.old.next + (spec.telling s.now).declares < 2 ^ 32 }
-    ensures { record {
-      notes : OnOk result (notes.new ≡ notes.old ++ (spec.looped (spec.telling s.now)).notes (here world.now scopes.old));
-      scope : OnOk result (here world.now scopes.new ≡ spec.after (spec.looped (spec.telling s.now)) (here world.now scopes.old));
-      keeps : OnOk result (Extends scopes.old scopes.new);
-    } }
+    ensures { OnOk result (Told (here world.now) (spec.looped (spec.telling s.now)) scopes.old scopes.new notes.old notes.new) }
 {
     let outside = scopes.in_loop;
     scopes.in_loop = true;
-    statement(alloc, world, scopes, notes, s)?;
+    let told = statement(alloc, world, scopes, notes, s);
     scopes.in_loop = outside;
-    Ok(())
+    told
+}
+
+/// What stands in a `for` beside its first part and its body.
+fn condition_and_updates(
+    alloc: Global,
+    world: &World,
+    scopes: &Scopes<'_>,
+    notes: &mut List<Note>,
+    e: &Option<Expr>,
+    updates: &[Expr],
+) -> Result<(), AllocError>
+    ensures { OnOk result (notes.new ≡ notes.old ++ (spec.condition_or_none e.now (here world.now scopes.now) ++ spec.all_run updates.now (here world.now scopes.now))) }
+{
+    condition_or_none(alloc, world, scopes, notes, e).and(run_all(
+        alloc, world, scopes, notes, updates,
+    ))
 }
 
 fn break_outside(
@@ -274,17 +292,10 @@ fn statement_kind<'a>(
     span: Span,
 ) -> Result<(), AllocError>
     requires { scopes.old.next + (spec.kind_telling k.now span).declares < 2 ^ 32 }
-    ensures notes { OnOk result (notes.new ≡ notes.old ++ (spec.kind_telling k.now span).notes (here world.now scopes.old)) }
-    ensures scope { OnOk result (here world.now scopes.new ≡ spec.after (spec.kind_telling k.now span) (here world.now scopes.old)) }
-    ensures keeps { OnOk result (Extends scopes.old scopes.new) }
+    ensures { OnOk result (Told (here world.now) (spec.kind_telling k.now span) scopes.old scopes.new notes.old notes.new) }
 {
     match k {
-        StmtKind::Block(ss) => {
-            let mark = scopes.locals.len();
-            statements(alloc, world, scopes, notes, ss.as_slice())?;
-            scopes.leave(mark);
-            Ok(())
-        }
+        StmtKind::Block(ss) => block(alloc, world, scopes, notes, ss.as_slice()),
         StmtKind::Empty => Ok(()),
         StmtKind::Local(decls) => declare_all(alloc, world, scopes, notes, decls.as_slice()),
         StmtKind::If(e, then, other) => {
@@ -296,30 +307,38 @@ fn statement_kind<'a>(
             }
         }
         StmtKind::While(e, body) => {
-            condition(alloc, world, scopes, notes, e)?;
-            looped(alloc, world, scopes, notes, body.get())
+            condition(alloc, world, scopes, notes, e).and(looped(
+                alloc,
+                world,
+                scopes,
+                notes,
+                body.get(),
+            ))
         }
         StmtKind::Do(body, e) => {
-            looped(alloc, world, scopes, notes, body.get())?;
-            condition(alloc, world, scopes, notes, e)
+            looped(alloc, world, scopes, notes, body.get()).and(condition(
+                alloc, world, scopes, notes, e,
+            ))
         }
         StmtKind::For(first, e, next, body) => {
             let mark = scopes.locals.len();
             statements(alloc, world, scopes, notes, first.as_slice())?;
-            condition_or_none(alloc, world, scopes, notes, e)?;
-            run_all(alloc, world, scopes, notes, next.as_slice())?;
-            looped(alloc, world, scopes, notes, body.get())?;
+            let updates = next.as_slice();
+            let told = condition_and_updates(alloc, world, scopes, notes, e, updates).and(looped(
+                alloc,
+                world,
+                scopes,
+                notes,
+                body.get(),
+            ));
             scopes.leave(mark);
-            Ok(())
+            told
         }
         StmtKind::Break => break_outside(scopes, notes, span, 5),
         StmtKind::Continue => break_outside(scopes, notes, span, 8),
         StmtKind::Return(e) => returned(alloc, world, scopes, notes, e, span),
         StmtKind::Throw(_) => Ok(()),
         StmtKind::Print(e) => check(alloc, world, scopes, notes, e, Need::Printed),
-        StmtKind::Run(e) => {
-            value(alloc, world, scopes, notes, e)?;
-            Ok(())
-        }
+        StmtKind::Run(e) => value(alloc, world, scopes, notes, e).and(Ok(())),
     }
 }
