@@ -1,7 +1,9 @@
 //! The declarations of locals (JLS 14.4).
 
 ghost use Rattle.std.specs.Prelude.{◌≡◌, ◌++◌, ◌∷◌, [], None, ◌+◌, ◌<◌, ◌^◌, if◌then◌else◌, is_some, IfOk, OnOk};
+ghost use Rattle.ix_meaning.specs.Annotated as claimed;
 ghost use Rattle.ix_meaning.specs.Bodies as spec;
+ghost use Rattle.ix_meaning.specs.Rules.{duplicate_name};
 ghost use Rattle.ix_meaning.specs.Scope.{meant};
 ghost use Rattle.indexmap.specs.IndexMap.{get_by_text};
 ghost use Rattle.ix_member_notes.specs.Added.{AddsLast};
@@ -9,10 +11,10 @@ ghost use Rattle.ix_values.specs.Begun.{annotated};
 ghost use Rattle.ix_values.specs.Here.{here, names, local_known_as, Extends};
 
 use indexmap::IndexMap;
-use ix_core::{Name, Type_};
+use ix_core::{Claim, Name, Type_};
 use ix_meaning::{Note, Rule};
 use ix_text::List;
-use ix_tree::{Init, LocalDecl};
+use ix_tree::{Ident, Init, LocalDecl};
 use ix_values::{
     Annotations, Declaration, InAnnotation, Local, Scopes, World, fill, note_declared, of_variable,
     variable, wrong_if,
@@ -104,6 +106,28 @@ fn bind(alloc: Global, scopes: &mut Scopes<'_>, name: &str, local: Local) -> Res
     insert(alloc, &mut scopes.locals, name, local)
 }
 
+/// Notes what a declarator says before its initialiser.
+fn note_local(
+    alloc: Global,
+    world: &World,
+    scopes: &Scopes<'_>,
+    notes: &mut List<Note>,
+    name: &Ident,
+    ty: &Option<Type_>,
+    claims: List<Claim>,
+) -> Result<(), AllocError>
+    ensures { OnOk result (notes.new ≡ notes.old ++ (duplicate_name (spec.is_taken (here world.now scopes.now) name.now) name.now.span ++ spec.declares_note name.now.span ty.now (claimed.of_variable claims))) }
+{
+    let is_taken = scopes.meant(name.text.as_str()).is_some();
+    wrong_if(notes, is_taken, Rule::DuplicateName, name.span).and(note_declared(
+        alloc,
+        notes,
+        name.span,
+        ty,
+        of_variable(alloc, claims),
+    ))
+}
+
 /// A declarator with its annotations: its type, its claims, its initialiser, and then its name in scope.
 pub fn declare<'a>(
     alloc: Global,
@@ -121,23 +145,16 @@ pub fn declare<'a>(
     } }
 {
     let Declaration { ty, claims } = local_declaration(alloc, world, scopes, notes, own, decl)?;
+    let noted = note_local(alloc, world, scopes, notes, &decl.name, &ty, claims);
     let name = decl.name.text.as_str();
-    let span = decl.name.span;
-    wrong_if(
-        notes,
-        scopes.meant(name).is_some(),
-        Rule::DuplicateName,
-        span,
-    )?;
-    let claims = of_variable(alloc, claims);
-    note_declared(alloc, notes, span, &ty, claims)?;
     let outside = scopes.pending;
     scopes.pending = Some(name);
-    initialiser(alloc, world, scopes, notes, &decl.init, &ty)?;
+    let filled = initialiser(alloc, world, scopes, notes, &decl.init, &ty);
     scopes.pending = outside;
     let is_fixed = decl.mods.get().is_final && decl.init.is_some();
     let number = scopes.next;
-    bind(
+    scopes.next = number + 1;
+    noted.and(filled).and(bind(
         alloc,
         scopes,
         name,
@@ -146,7 +163,5 @@ pub fn declare<'a>(
             ty,
             is_fixed,
         },
-    )?;
-    scopes.next = number + 1;
-    Ok(())
+    ))
 }
