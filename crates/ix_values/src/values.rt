@@ -101,6 +101,20 @@ pub fn check(
     type_mismatch(world, notes, need, &ty, e.span)
 }
 
+/// An expression at a place that needs an int.
+#[cycle(values)]
+fn check_int(
+    alloc: Global,
+    world: &World,
+    scopes: &Scopes<'_>,
+    notes: &mut List<Note>,
+    e: &Expr,
+) -> Result<(), AllocError>
+    ensures { OnOk result (notes.new ≡ notes.old ++ (spec.check (spec.reading e.now) (here world.now scopes.now) (types.of types.int)).notes) }
+{
+    check(alloc, world, scopes, notes, e, Need::Of(&INT))
+}
+
 /// An operand of `==` or `!=`.
 #[cycle(values)]
 fn operand(
@@ -488,8 +502,8 @@ fn sized(
       notes : OnOk result (notes.new ≡ notes.old ++ (spec.sized (spec.reading size.now) (here world.now scopes.now) (spec.created (here world.now scopes.now) tree.now)).notes);
     } }
 {
-    let ty = created(alloc, &world.table, notes, tree)?;
-    check(alloc, world, scopes, notes, size, Need::Of(&INT)).and(Ok(ty))
+    let ty = created(alloc, &world.table, notes, tree);
+    check_int(alloc, world, scopes, notes, size).and(ty)
 }
 
 /// A new array with these entries (JLS 15.10.1).
@@ -557,8 +571,8 @@ fn kind(
             selection(alloc, world, scopes, notes, object.get(), name, false)
         }
         ExprKind::Index(array, index) => {
-            let ty = array_part(alloc, world, scopes, notes, array.get())?;
-            check(alloc, world, scopes, notes, index.get(), Need::Of(&INT)).and(Ok(ty))
+            let ty = array_part(alloc, world, scopes, notes, array.get());
+            check_int(alloc, world, scopes, notes, index.get()).and(ty)
         }
         ExprKind::Call(None, name, args) => bare_call(
             alloc,
@@ -599,8 +613,8 @@ fn kind(
             check(alloc, world, scopes, notes, source.get(), need_like(&ty)).and(Ok(ty))
         }
         ExprKind::Assign(Some(_), target, source) => {
-            let ty = counted(alloc, world, scopes, notes, target.get())?;
-            check(alloc, world, scopes, notes, source.get(), Need::Of(&INT)).and(Ok(ty))
+            let ty = counted(alloc, world, scopes, notes, target.get());
+            check_int(alloc, world, scopes, notes, source.get()).and(ty)
         }
         ExprKind::Step {
             up: _,
