@@ -8,3 +8,4 @@ pub mod SomeStart
 pub mod ManySteps
 pub mod Leading
 mod Accesses
+mod CallStops

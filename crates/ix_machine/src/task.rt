@@ -1,19 +1,19 @@
 //! A step of one frame: its innermost task.
 //! The step itself is inlined where steps are made; an operation alone isn't, since most are done in a row (`straight`).
-ghost use Rattle.std.specs.Prelude.{◌≡◌, ◌+◌, ◌<◌, ◌≤◌, ◌++◌, ◌∷◌, [], ℕ, Bool, if◌then◌else◌, length, reverse, Option, Some, None};
+ghost use Rattle.std.specs.Prelude.{◌≡◌, ◌+◌, ◌<◌, ◌≤◌, ◌++◌, ◌∷◌, [], ℕ, Bool, if◌then◌else◌, length, reverse, Option, Some, None, IfSome, IfNone};
 ghost use Rattle.ix_core.specs.Code.{Do, If, Loop, items_code, item_code, cond_code, block_code};
 ghost use Rattle.ix_core.specs.Heap as cells;
-ghost use Rattle.ix_core.specs.Heap.{value_at};
+ghost use Rattle.ix_core.specs.Heap.{value_at, Heap as Heap_};
 ghost use Rattle.ix_num.specs.declared.rel.Rel.{Rel as Rel_};
 ghost use Rattle.ix_core.specs.Machine.{step_code, step_tasks, with_limits, test_of, is_true, is_same, int_test, same_test};
 ghost use Rattle.ix_core.specs.Machine as model;
-ghost use Rattle.ix_core.specs.Tables.{tables_of};
+ghost use Rattle.ix_core.specs.Tables.{tables_of, Tables};
 ghost use Rattle.ix_core.specs.Tasks.{Empty, Ask, code_then};
 ghost use Rattle.ix_heap.specs.Rows.{held_of};
 ghost use Rattle.ix_heap.specs.View.{heap_of};
 ghost use Rattle.ix_frames.specs.Frames.{slots_of};
 ghost use Rattle.ix_frames.specs.Fits.{IsFree, IsFreeFor};
-ghost use Rattle.ix_frames.specs.Places.{outer, tasks_open, loop_tasks};
+ghost use Rattle.ix_frames.specs.Places.{IsTask, around, outer, tasks_of, tasks_open, loop_tasks};
 ghost use Rattle.ix_frames.specs.declared.places.Place.TheVariants as place;
 ghost use Rattle.ix_machine.specs.Moves.{move_of, KeepsValues, IsBack, IsCall};
 
@@ -131,9 +131,11 @@ fn do_op<'p>(
     ensures values { KeepsValues result → (slots_of frame.new ≡ slots_of frame.old) × (heap_of heap.new ≡ heap_of heap.old) }
     ensures back { IsBack result → tasks_open frame.new.stack.places.items ≡ code_then (items_code items.now) (tasks_open (outer frame.old.stack.places.items)) }
     ensures call { IsCall result frame.new.stack.room (tasks_open frame.new.stack.places.items) (code_then (items_code items.now) (tasks_open (outer frame.old.stack.places.items))) (length frame.new.stack.places.items) }
-    ensures method { frame.new.method ≡ frame.old.method }
-    ensures room { frame.new.stack.room ≡ frame.old.stack.room }
-    ensures most { heap.new.most ≡ heap.old.most }
+    ensures kept { record {
+      method : frame.new.method ≡ frame.old.method;
+      room : frame.new.stack.room ≡ frame.old.stack.room;
+      most : heap.new.most ≡ heap.old.most;
+    } }
 {
     if let Some(call) = call_in(&op.kind) {
         frame.stack.close();
@@ -220,9 +222,11 @@ fn run_item<'p>(
     ensures values { KeepsValues result → (slots_of frame.new ≡ slots_of frame.old) × (heap_of heap.new ≡ heap_of heap.old) }
     ensures back { IsBack result → tasks_open frame.new.stack.places.items ≡ code_then (items_code items.now) (tasks_open (outer frame.old.stack.places.items)) }
     ensures call { IsCall result frame.new.stack.room (tasks_open frame.new.stack.places.items) (code_then (items_code items.now) (tasks_open (outer frame.old.stack.places.items))) (length frame.new.stack.places.items) }
-    ensures method { frame.new.method ≡ frame.old.method }
-    ensures room { frame.new.stack.room ≡ frame.old.stack.room }
-    ensures most { heap.new.most ≡ heap.old.most }
+    ensures kept { record {
+      method : frame.new.method ≡ frame.old.method;
+      room : frame.new.stack.room ≡ frame.old.stack.room;
+      most : heap.new.most ≡ heap.old.most;
+    } }
 {
     match item {
         Item::Do(op) => do_op(rows, frame, heap, op, items, rest),
@@ -278,13 +282,57 @@ fn run_items<'p>(
     ensures values { KeepsValues result → (slots_of frame.new ≡ slots_of frame.old) × (heap_of heap.new ≡ heap_of heap.old) }
     ensures back { IsBack result → tasks_open frame.new.stack.places.items ≡ code_then (items_code items.now) (tasks_open (outer frame.old.stack.places.items)) }
     ensures call { IsCall result frame.new.stack.room (tasks_open frame.new.stack.places.items) (code_then (items_code items.now) (tasks_open (outer frame.old.stack.places.items))) (length frame.new.stack.places.items) }
-    ensures method { frame.new.method ≡ frame.old.method }
-    ensures room { frame.new.stack.room ≡ frame.old.stack.room }
-    ensures most { heap.new.most ≡ heap.old.most }
+    ensures kept { record {
+      method : frame.new.method ≡ frame.old.method;
+      room : frame.new.stack.room ≡ frame.old.stack.room;
+      most : heap.new.most ≡ heap.old.most;
+    } }
 {
     match items {
         [item, rest @ ..] => run_item(rows, frame, heap, item, items, rest),
         [] => unreachable!(),
+    }
+}
+
+/// Does a task that is taken off the open places. What is left of a block isn't done yet, but is the answer.
+#[inline(always)]
+fn do_task<'p>(frame: &mut Frame<'p>, task: Place<'p>) -> Option<&'p [Item]>
+    requires task { IsTask task }
+    requires free { IsFree (length (around task frame.old.stack.places.items)) frame.old.stack.room task }
+    ensures { record {
+      done : IfNone result ((limits : model.Limits) (tables : Tables) (heap : Heap_) → step_tasks limits tables (slots_of frame.old) heap (tasks_of (task.entry ∷ reverse (around task.entry frame.old.stack.places.items)))
+          ≡ model.Go (tasks_open frame.new.stack.places.items) (slots_of frame.new) heap);
+      items : IfSome result (λ items. (task.entry ≡ place.Rest items) × (frame.new ≡ frame.old));
+      method : frame.new.method ≡ frame.old.method;
+      room : frame.new.stack.room ≡ frame.old.stack.room;
+    } }
+{
+    match task {
+        Place::Rest(items) => Some(items),
+        Place::Ask(cond) => {
+            frame.stack.ask(cond);
+            None
+        }
+        Place::Decide(test) => {
+            let answer = tested(test, frame.value(test.left), frame.value(test.right));
+            frame.stack.decided(answer);
+            None
+        }
+        Place::DecideTruth(slot) => {
+            let answer = is_truth(frame.value(slot));
+            frame.stack.decided(answer);
+            None
+        }
+        Place::Head(turn) => {
+            frame.stack.begin_turn(turn);
+            None
+        }
+        Place::Again(turn) => {
+            frame.stack.come_back(turn);
+            None
+        }
+        Place::Out => None,
+        _ => unreachable!(),
     }
 }
 
@@ -302,32 +350,9 @@ pub fn advance<'p>(rows: &Rows<'p>, frame: &mut Frame<'p>, heap: &mut Heap<'p>) 
 {
     match frame.stack.next() {
         None => Move::Left(None),
-        Some(place) => match place {
-            Place::Rest(items) => run_items(rows, frame, heap, items),
-            Place::Ask(cond) => {
-                frame.stack.ask(cond);
-                Move::Went
-            }
-            Place::Decide(test) => {
-                let answer = tested(test, frame.value(test.left), frame.value(test.right));
-                frame.stack.decided(answer);
-                Move::Went
-            }
-            Place::DecideTruth(slot) => {
-                let answer = is_truth(frame.value(slot));
-                frame.stack.decided(answer);
-                Move::Went
-            }
-            Place::Head(turn) => {
-                frame.stack.begin_turn(turn);
-                Move::Went
-            }
-            Place::Again(turn) => {
-                frame.stack.come_back(turn);
-                Move::Went
-            }
-            Place::Out => Move::Went,
-            _ => unreachable!(),
+        Some(task) => match do_task(frame, task) {
+            Some(items) => run_items(rows, frame, heap, items),
+            None => Move::Went,
         },
     }
 }

@@ -49,9 +49,11 @@ fn begin_call<'p>(
         ≡ after result (state_with (frame_of frame.new) (waits_of pool.new.below.items) (heap_of heap.new) wrapped) }
     ensures quiet { IsQuiet result }
     ensures fits { HasRoom pool.new.room frame.new }
-    ensures room { pool.new.room ≡ pool.old.room }
-    ensures most { pool.new.most ≡ pool.old.most }
-    ensures cells { heap.new.most ≡ heap.old.most }
+    ensures kept { record {
+      room : pool.new.room ≡ pool.old.room;
+      most : pool.new.most ≡ pool.old.most;
+      cells : heap.new.most ≡ heap.old.most;
+    } }
 {
     match method_of(rows, frame, pool, heap, call, place) {
         Ok(method) => {

@@ -1,12 +1,13 @@
-use Rattle.std.proofs.Common.{◌<◌, arith, map, refl, length, ◌∙◌, [], ◌∷◌}
-use Rattle.std.proofs.lemmas.List.{map-append}
+use Rattle.std.proofs.Common.{◌<◌, arith, map, refl, length, ap, ◌∙◌, [], ◌∷◌}
+use Rattle.std.proofs.lemmas.List.{map-append, length-map}
 use Rattle.std.proofs.lemmas.Option.{slice_get_read}
+use Rattle.ix_core.specs.Heap.{cells_used}
 use Rattle.ix_core.specs.Safe.{input_heap}
 use Rattle.ix_heap.specs.Rows.{held_of}
 use Rattle.ix_heap.specs.View.{heap_of}
 use Rattle.ix_inputs.specs.Shown.{input_of}
 use Rattle.ix_inputs.proofs.Parameters.{shown_at}
-use Rattle.ix_machine.proofs.Begun.{too_large, made_step, values_step}
+use Rattle.ix_machine.proofs.Begun.{too_large, made_step, values_step, none_left, no_value_left}
 use Rattle.ix_machine.proofs.start.values_of.Goals as goal
 
 pub returns-in_default-clause-large : goal.returns-in_default-clause-large
@@ -31,3 +32,19 @@ loop-number-preserved c =
       fits = omega (arith, c.in-Some.ensures.fits, c.in-Some.ensures.most);
       most = c.in-Some.ensures.most ∙ c.loop-number.invariant.most;
     }
+
+pub returns-clause-values : goal.returns-clause-values
+returns-clause-values c =
+    no_value_left (map held_of c.loop-number.values.items) _ (map input_of c.args.inputs.now) (length (heap_of c.loop-number.heap)) c.loop-number.number
+    (omega (arith, length-map c.args.inputs.now input_of, c.loop-number-test.false, c.requires.count)) c.loop-number.invariant.values
+
+pub returns-clause-made : goal.returns-clause-made
+returns-clause-made c =
+    none_left (heap_of c.loop-number.heap) _ (map input_of c.args.inputs.now) c.args.types.now c.loop-number.number
+    (omega (arith, length-map c.args.inputs.now input_of, c.loop-number-test.false, c.requires.count)) c.loop-number.invariant.made
+
+pub returns-clause-fits : goal.returns-clause-fits
+returns-clause-fits c =
+    let made = none_left (heap_of c.loop-number.heap) _ (map input_of c.args.inputs.now) c.args.types.now c.loop-number.number
+    (omega (arith, length-map c.args.inputs.now input_of, c.loop-number-test.false, c.requires.count)) c.loop-number.invariant.made in
+    omega (arith, ap cells_used made, c.loop-number.invariant.fits, c.loop-number.invariant.most)

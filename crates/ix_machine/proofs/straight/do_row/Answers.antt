@@ -1,4 +1,4 @@
-use Rattle.std.proofs.Common.{rules, refl, length, ◌∙◌}
+use Rattle.std.proofs.Common.{rules, refl, arith, length, ◌∙◌}
 use Rattle.ix_core.specs.Code.{items_code}
 use Rattle.ix_core.specs.Tables.{tables_of}
 use Rattle.ix_heap.specs.View.{heap_of}
@@ -22,3 +22,6 @@ loop-made-preserved c =
       stack = went.stack ∙ inv.stack;
       most = went.most ∙ inv.most;
     }
+
+pub overflow_add-made : goal.overflow_add-made
+overflow_add-made c = omega (arith, c.loop-made-test.true, c.ranges.most)
