@@ -1,5 +1,5 @@
 -- Methods, fields, classes and parameters are made one after the other: what one more gives, and one that is refused. The loops over them cite these.
-use Rattle.std.proofs.Common.{true, false, is_err, IfOk, IsErrAnd, OnOk, MatchResult, ◌≡◌, ℕ, suc, ◌+◌, ◌<◌, ◌≤◌, List, [], ◌∷◌, ◌++◌, drop, get_or, length, Option, arith, sym, ap, ◌∙◌}
+use Rattle.std.proofs.Common.{true, false, OnOk, MatchResult, ◌≡◌, ℕ, suc, ◌+◌, ◌<◌, ◌≤◌, List, [], ◌∷◌, ◌++◌, drop, get_or, length, Option, arith, sym, ap, ◌∙◌}
 use Rattle.std.specs.Prelude.{Result, Ok, Err}
 use Rattle.std.proofs.Math.Seq.{drop-cons}
 use Rattle.std.proofs.lemmas.List.{drop_all}
@@ -19,8 +19,6 @@ use Rattle.ix_meaning.specs.Resolved.{Names}
 use Rattle.ix_meaning.specs.Source.{has_constructor}
 use Rattle.ix_meaning.specs.declared.note.Which.{Which}
 use Rattle.ix_plain.specs.declared.body.Body.{Body}
-use Rattle.ix_plain.specs.declared.made.Stop.{Stop}
-use Rattle.ix_plain.specs.declared.made.Stop.TheVariants as stop
 use Rattle.ix_plain.specs.declared.numbers.Next.{Next}
 use Rattle.ix_plain.specs.Counts.{one}
 use Rattle.ix_plain.specs.Members.{next_behind, next_field, class_of, classes_from, params_from, param_types_from}
@@ -38,20 +36,6 @@ first_left all place first within is =
 
 abbrev pub Methods : Type 0
 Methods = Result (List Method) Passed
-
--- an error that is handed on is the same limit
-pub same_limit : {T U : Type 0} (r : Result T LowerError) (cause : LowerError) (which : Which) (place : ℕ) → IsErrAnd r (λ given. given ≡ cause) → r ≡ Err (error.Limit which place)
-    → ◌≡◌ {A = Result U LowerError} (Err cause) (Err (error.Limit which place))
-same_limit (Ok made) cause which place same is = cc
-same_limit (Err given) cause which place same is = cc
-
-pub same_stop : {T U : Type 0} (r : Result T Stop) (cause : Stop) (which : Which) → IsErrAnd r (λ given. given ≡ cause) → r ≡ Err (stop.Limit which) → ◌≡◌ {A = Result U Stop} (Err cause) (Err (stop.Limit which))
-same_stop (Ok made) cause which same is = cc
-same_stop (Err given) cause which same is = cc
-
-pub not_made : {T E : Type 0} (r : Result T E) (P : T → Type 0) → is_err r ≡ true → IfOk r P
-not_made (Ok made) P err = let never : ⊥ = cc in absurd never
-not_made (Err given) P err = tt
 
 -- ---- the methods of classes
 

@@ -1,7 +1,8 @@
-use Rattle.std.proofs.Common.{◌≡◌, ◌+◌, ◌∙◌, Ok, Err, ap, drop, sym}
+use Rattle.std.proofs.Common.{◌+◌, ◌∙◌, Ok, Err, ap, drop, sym}
 use Rattle.ix_plain.specs.Program.{methods_from}
 use Rattle.ix_lower.specs.Homes.{shown_tables, shown_home}
-use Rattle.ix_lower.proofs.OneByOne.{same_limit, not_made, class_written}
+use Rattle.ix_lower_bodies.proofs.HandedOn.{same_error, not_made}
+use Rattle.ix_lower.proofs.OneByOne.{class_written}
 use Rattle.ix_lower.proofs.source.add_all_methods.Goals as goal
 
 pub loop-decl-preserved : goal.loop-decl-preserved
@@ -14,6 +15,6 @@ pub returns-in_err-add_methods : goal.returns-in_err-add_methods
 returns-in_err-add_methods c = record {
   limit = λ which place is.
       class_written (shown_tables c.args.tables.now) c.args.decls.now c.loop-decl.decl-index c.decl-item.result c.loop-decl.next (shown_home c.home-home.result) c.loop-decl.methods (Err (record { which = which; place = place }))
-      (methods_from (shown_tables c.args.tables.now) c.args.first c.args.decls.now c.args.methods.now) c.loop-decl-test.true c.decl-item.is c.home-home.ensures (c.in_err-add_methods.ensures.limit which place (same_limit c.from_residual.result c.in_err-add_methods.field-0.0 which place c.from_residual.ensures.1 is)) c.loop-decl.invariant;
-  methods = not_made c.from_residual.result (λ _. methods_from (shown_tables c.args.tables.now) c.args.first c.args.decls.now c.args.methods.now ≡ Ok c.add_methods.new.methods) c.from_residual.ensures.0;
+      (methods_from (shown_tables c.args.tables.now) c.args.first c.args.decls.now c.args.methods.now) c.loop-decl-test.true c.decl-item.is c.home-home.ensures (c.in_err-add_methods.ensures.limit which place (same_error c.from_residual.result c.from_residual.ensures.1 is)) c.loop-decl.invariant;
+  methods = not_made c.from_residual.result _ c.from_residual.ensures.0;
 }
