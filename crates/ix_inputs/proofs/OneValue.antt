@@ -1,8 +1,8 @@
 -- A word is the word of one value of its type alone, and a list of words of one list of values.
-use Rattle.std.specs.Prelude.{◌≡◌, ℕ, suc, zero, ◌<◌, ◌≤◌, ◌==◌, ◌^◌, ◌+◌, ℤ, pos, negsuc, Bool, true, false, List, [], ◌∷◌, ◌++◌, map, length, take, slice_get, Option, None, Some, refl}
+use Rattle.std.specs.Prelude.{◌≡◌, ℕ, suc, zero, ◌<◌, ◌==◌, ◌^◌, ◌+◌, ℤ, pos, negsuc, Bool, true, false, List, [], ◌∷◌, ◌++◌, map, length, take, slice_get, Some, refl}
 use Rattle.std.specs.Fmt.{decimal, signed_decimal}
 use Rattle.std.specs.List.{slice_split}
-use Rattle.std.proofs.Common.{arith, sym, subst, ◌∙◌, ap, ◌≢◌, ◌⊎◌, inl, inr}
+use Rattle.std.proofs.Common.{arith, sym, subst, ◌∙◌, ap}
 use Rattle.std.proofs.lemmas.Fmt.{decimal_nonempty, signed_decimal_injective}
 use Rattle.std.proofs.lemmas.Int.{ints}
 use lib.Signed.{mag}
@@ -14,7 +14,7 @@ use Rattle.ix_core.specs.declared.claim.Type_.TheVariants as type
 use Rattle.ix_core.specs.Inputs.{IsValueOf, word_of, with_commas}
 use Rattle.ix_core.specs.Safe.{Input, Whole, Flag, Ints, AreInts, HasType}
 use Rattle.ix_inputs.specs.Words.{AreValues, IsFirstWrong}
-use Rattle.ix_inputs.proofs.Pieces.{cut, inside, behind_first}
+use Rattle.ix_inputs.proofs.Pieces.{cut, inside}
 
 -- ---- ints
 

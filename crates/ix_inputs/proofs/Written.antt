@@ -10,7 +10,6 @@ use Rattle.std.proofs.lemmas.Int.{ints}
 use Rattle.std.proofs.lemmas.Slice.Eq.{slice_eq-Decides}
 use Rattle.std.proofs.lemmas.Bool.Decides.{Decides-eqb}
 use Rattle.std.specs.Cmp.Lexicographic.{pointwise}
-use lib.Signed.{mag}
 use native.Mathlib.Numerals.{unary_clauses}
 use Rattle.ix_num.specs.Ints.{IsInt}
 use Rattle.ix_core.specs.Safe.{AreInts}

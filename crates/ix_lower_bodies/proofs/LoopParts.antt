@@ -1,5 +1,5 @@
 -- What loops, choices and blocks become, part by part: the loop's number, the condition, the turn and the update. The answers of the functions that make them cite these.
-use Rattle.std.proofs.Common.{◌≡◌, ℕ, Bool, true, false, List, Option, Some, None, option_map, map, OnOk, MatchResult, Result, Ok, Err, sym, ap, ◌∙◌}
+use Rattle.std.proofs.Common.{◌≡◌, ℕ, true, false, List, Option, Some, None, option_map, map, OnOk, MatchResult, Result, Ok, Err, sym, ap, ◌∙◌}
 use Rattle.ix_core.specs.declared.code.Block.{Block}
 use Rattle.ix_core.specs.declared.code.Cond.{Cond}
 use Rattle.ix_core.specs.declared.code.Item.{Item, Loop}

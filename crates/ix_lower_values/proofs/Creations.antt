@@ -1,5 +1,5 @@
 -- What a new object, a new array and the target of a field become, part by part. The answers of the functions that make them cite these.
-use Rattle.std.proofs.Common.{◌≡◌, ℕ, List, [], map, Option, Ok, Err, sym, ap, ◌∙◌}
+use Rattle.std.proofs.Common.{◌≡◌, ℕ, List, [], map, Err, sym, ap, ◌∙◌}
 use Rattle.ix_core.specs.declared.op.OpKind.TheVariants as op
 use Rattle.ix_meaning.specs.Ident.{Ident}
 use Rattle.ix_meaning.specs.declared.note.Which.{Which}
@@ -10,9 +10,9 @@ use Rattle.ix_tree.specs.declared.expr.ExprKind.{ExprKind, ExprKind-F, fold-Expr
 use Rattle.ix_tree.specs.declared.expr.ExprKind.TheVariants as kind
 use Rattle.ix_tree.specs.declared.expr.ExprKind.TheVariants.{rolls-New, rolls-NewArray, rolls-Select}
 use Rattle.ix_plain.specs.declared.made.Made.{Made}
-use Rattle.ix_plain.specs.Parts.{Within, Value, in_place, computed, ◌>>=◌}
+use Rattle.ix_plain.specs.Parts.{in_place, computed}
 use Rattle.ix_plain.specs.Scope.{Scope, type_at}
-use Rattle.ix_plain.specs.Values.{Lowering, Filling, Arguments, kind_step, init_step, expr_step, lowering, new_array, new_object, selection, arguments_from}
+use Rattle.ix_plain.specs.Values.{Lowering, Filling, kind_step, init_step, expr_step, lowering, new_array, new_object, selection, arguments_from}
 use Rattle.ix_lower_values.proofs.InTurn.{span_is}
 
 abbrev kind_lowering : ExprKind → Span → Lowering

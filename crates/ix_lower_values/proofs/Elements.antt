@@ -9,7 +9,7 @@ use Rattle.ix_tree.specs.declared.expr.ExprKind.TheVariants as kind
 use Rattle.ix_tree.specs.declared.expr.ExprKind.TheVariants.{rolls-Index}
 use Rattle.ix_plain.specs.declared.made.Made.{Made}
 use Rattle.ix_plain.specs.declared.made.Stop.{Stop}
-use Rattle.ix_plain.specs.Parts.{Within, Value, in_place, computed, ◌>>=◌}
+use Rattle.ix_plain.specs.Parts.{Within, Value, in_place, computed}
 use Rattle.ix_plain.specs.Scope.{Scope, type_at}
 use Rattle.ix_plain.specs.Values.{Lowering, Filling, kind_step, init_step, expr_step, lowering, element}
 use Rattle.ix_lower_values.proofs.InTurn.{span_is}

@@ -1,10 +1,10 @@
 -- The access of the innermost task.
-use Rattle.std.proofs.Common.{◌≡◌, ℕ, List, Option, None, refl, ap, ◌∙◌}
+use Rattle.std.proofs.Common.{◌≡◌, List, None, refl, ap, ◌∙◌}
 use Rattle.ix_core.specs.declared.op.Op.{Op}
 use Rattle.ix_core.specs.Code.{Code, End, Do, If, Break, Continue, Return, Throw, Loop}
 use Rattle.ix_core.specs.Heap.{Held, Heap}
 use Rattle.ix_core.specs.Tasks.{Tasks, code_then}
-use Rattle.ix_core.specs.Traces.{Access, op_access, task_access}
+use Rattle.ix_core.specs.Traces.{op_access, task_access}
 use Rattle.ix_machine.specs.Accesses.{IsOp, IsNoOp}
 
 module _ (slots : List Held) (heap : Heap) where

@@ -1,9 +1,9 @@
 -- Steps that print nothing, one after another.
-use Rattle.std.proofs.Common.{◌≡◌, ℕ, zero, ◌+◌, Bool, true, List, [], ◌++◌, append-nil, Option, None, refl, ap, sym, ◌∙◌, subst, arith}
+use Rattle.std.proofs.Common.{◌≡◌, ℕ, ◌+◌, Bool, true, List, [], ◌++◌, append-nil, Option, None, refl, ap, sym, ◌∙◌, subst, arith}
 use Rattle.ix_core.specs.declared.op.Op.{Op}
 use Rattle.ix_core.specs.Code.{Code, Do}
 use Rattle.ix_core.specs.Heap.{Held, Heap}
-use Rattle.ix_core.specs.Machine.{Limits, State, Frame, Waiting, Ending, Effect, Done, Wrapped, with_limits, frame, operate, effect_then, moved, move_event, event_from, event_values, step, step_event, run, printed, printed_from, Event}
+use Rattle.ix_core.specs.Machine.{Limits, State, Frame, Waiting, Ending, Effect, Done, Wrapped, with_limits, frame, operate, effect_then, moved, event_from, event_values, step, step_event, run, printed, printed_from, Event}
 use Rattle.ix_core.specs.Tables.{Tables}
 use Rattle.ix_core.specs.Tasks.{Tasks, code_then}
 use Rattle.ix_frames.specs.declared.room.Room.{Room}

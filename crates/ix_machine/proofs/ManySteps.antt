@@ -1,6 +1,5 @@
 -- So many steps, and then more.
-use Rattle.std.proofs.Common.{◌≡◌, ℕ, zero, suc, ◌+◌, List, [], ◌∷◌, ◌++◌, append_assoc, Option, None, Some, refl, ap, sym, ◌∙◌, arith}
-use Rattle.ix_core.specs.Heap.{Held}
+use Rattle.std.proofs.Common.{◌≡◌, ℕ, zero, suc, ◌+◌, [], ◌++◌, append_assoc, Option, None, Some, refl, ap, sym, ◌∙◌, arith}
 use Rattle.ix_core.specs.Machine.{Limits, State, Ending, step, step_event, run, printed, printed_from, event_values}
 use Rattle.ix_core.specs.Tables.{Tables}
 

@@ -1,4 +1,4 @@
-use Rattle.std.proofs.Common.{◌≡◌, Ok, refl, rules}
+use Rattle.std.proofs.Common.{refl, rules}
 use Rattle.ix_plain.specs.Statements.{ran, all_ran}
 use Rattle.ix_lower_values.specs.Shown.{shown_site}
 use Rattle.ix_lower_values.proofs.HandedOn.{same_error, not_made}

@@ -1,7 +1,7 @@
-use Rattle.std.proofs.Common.{◌≡◌, ◌∙◌, Ok, Err, ap, map, refl, rules, sym, true, false}
+use Rattle.std.proofs.Common.{Ok, Err, ap, map, refl, rules, true, false}
 use Rattle.ix_core.specs.declared.code.Block.{Block}
 use Rattle.ix_core.specs.declared.code.Item.{Loop}
-use Rattle.ix_plain.specs.Statements.{each, statement, with_last, with_free}
+use Rattle.ix_plain.specs.Statements.{each, statement, with_free}
 use Rattle.ix_lower_values.specs.Shown.{shown_site}
 use Rattle.ix_lower_values.proofs.HandedOn.{same_error, not_made, no_limit}
 use Rattle.ix_lower_bodies.proofs.LoopParts.{pushed, while_not_begun, while_not_tested, while_not_turned, while_made, do_not_begun, do_not_turned, do_not_tested, do_made, for_not_opened, for_not_begun, for_not_tested, for_not_turned, for_not_updated, for_made, choice_not_asked, choice_not_held, choice_not_failed, block_done}

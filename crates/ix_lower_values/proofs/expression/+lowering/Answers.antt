@@ -1,4 +1,4 @@
-use Rattle.std.proofs.Common.{◌≡◌, ◌∙◌, Ok, [], ap, map, option_map, refl, rules, sym}
+use Rattle.std.proofs.Common.{◌∙◌, [], ap, map, option_map, refl, rules, sym}
 use Rattle.ix_plain.specs.Parts.{in_place}
 use Rattle.ix_plain.specs.Values.{lowering, object_class, arguments_from}
 use Rattle.ix_lower_values.specs.Shown.{shown_scope, all_given, all_initial}
