@@ -1,5 +1,5 @@
 -- The texts of errors on names, as bytes. A line ends with LF, which is 10.
-use Rattle.std.specs.Prelude.{ℕ, ◌≤◌, Bool, ◌&&◌, ◌==◌, List, [], ◌∷◌, ◌++◌, length, codes, decimal}
+use Rattle.std.specs.Prelude.{ℕ, ◌≤◌, Bool, ◌&&◌, ◌==◌, List, [], ◌∷◌, ◌++◌, length, flat_map, codes, decimal}
 use Rattle.std.specs.List.{All}
 use Rattle.std.specs.Str.{bytes_eq}
 use Rattle.ix_text.specs.Lines.{place}
@@ -48,8 +48,7 @@ error_line file text error =
     file ++ codes ":" ++ decimal (place text error.span.from).0 ++ codes ":" ++ decimal (place text error.span.from).1 ++ codes ": " ++ key error.rule ++ 10 ∷ []
 
 abbrev pub error_lines : List ℕ → List ℕ → List NameError → List ℕ
-error_lines file text [] = []
-error_lines file text (error ∷ errors) = error_line file text error ++ error_lines file text errors
+error_lines file text errors = flat_map (error_line file text) errors
 
 -- ---- each line once
 
