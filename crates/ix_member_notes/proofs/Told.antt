@@ -1,5 +1,5 @@
 -- What a statement tells, read off what its parts tell.
-use Rattle.std.proofs.Common.{◌≡◌, ◌++◌, ◌+◌, ℕ, List, length, take, map, Result, Ok, Err, OnOk, ◌<◌, ◌^◌, ◌∙◌, ap, sym, subst, append_assoc, arith}
+use Rattle.std.proofs.Common.{◌≡◌, ◌++◌, ◌∷◌, [], ◌+◌, ℕ, List, length, take, map, Result, Ok, Err, OnOk, ◌<◌, ◌^◌, ◌∙◌, ap, sym, subst, append_assoc, arith}
 use Rattle.ix_meaning.specs.declared.note.Note.{Note}
 use Rattle.ix_meaning.specs.Scope.{Scope}
 use Rattle.ix_meaning.specs.Bodies.{Telling, after, then_told, noted_then, then_noted, closed}
@@ -36,16 +36,22 @@ module _ {here : Scopes → Scope} where
   pub told_behind : {t : Telling} {s u : Scopes} {n m o : List Note} (f : Scope → List Note) → Told here t s u n m → o ≡ m ++ f (here u) → Told here (then_noted t f) s u n o
   told_behind f a noted = record { notes = then_notes f a noted; scope = a.scope; keeps = a.keeps }
 
-  pub told_closed : {t : Telling} {s u v : Scopes} {n m : List Note} → Told here t s u n m → v.params ≡ u.params
-      → v.locals.entries ≡ take (length s.locals.entries) u.locals.entries → (v.params ≡ s.params → v.locals.entries ≡ s.locals.entries → (here v).names ≡ (here s).names)
-      → here v ≡ record (here u) { names = (here v).names } → Told here (closed t) s v n m
-  told_closed {t} {s} {u} {v} a params locals same rest =
-      let same_params : v.params ≡ s.params = params ∙ a.keeps.params in
-      let same_locals : v.locals.entries ≡ s.locals.entries = locals ∙ take_extended s u a.keeps in
+  -- `e` is the scope that was opened, and `u` what stood there before it was left
+  pub told_closed : {t : Telling} {s e u v : Scopes} {n m : List Note} → Told here t e u n m → here e ≡ here s → e.params ≡ s.params → e.locals.entries ≡ s.locals.entries
+      → e.marks.items ≡ s.marks.items ++ length s.locals.entries ∷ [] → v.params ≡ u.params
+      → ((outer : List ℕ) (mark : ℕ) → u.marks.items ≡ outer ++ mark ∷ [] → v.locals.entries ≡ take mark u.locals.entries)
+      → ((outer : List ℕ) (mark : ℕ) → u.marks.items ≡ outer ++ mark ∷ [] → v.marks.items ≡ outer)
+      → (v.params ≡ s.params → v.locals.entries ≡ s.locals.entries → (here v).names ≡ (here s).names) → here v ≡ record (here u) { names = (here v).names } → Told here (closed t) s v n m
+  told_closed {t} {s} {e} {u} {v} {n} a entered from_params from_locals marked params locals marks same rest =
+      let top : u.marks.items ≡ s.marks.items ++ length s.locals.entries ∷ [] = a.keeps.marks ∙ marked in
+      let same_params : v.params ≡ s.params = params ∙ a.keeps.params ∙ from_params in
+      let count : length s.locals.entries ≡ length e.locals.entries = ap (λ l. length l) (sym from_locals) in
+      let same_locals : v.locals.entries ≡ s.locals.entries =
+      locals s.marks.items (length s.locals.entries) top ∙ ap (λ (k : ℕ). take k u.locals.entries) count ∙ take_extended e u a.keeps ∙ from_locals in
       record {
-        notes = a.notes;
-        scope = rest ∙ ap (λ (h : Scope). record h { names = (here v).names }) a.scope ∙ ap (λ ks. record (after t (here s)) { names = ks }) (same same_params same_locals);
-        keeps = extends_same s v same_params same_locals;
+        notes = a.notes ∙ ap (λ (h : Scope). n ++ t.notes h) entered;
+        scope = rest ∙ ap (λ (h : Scope). record h { names = (here v).names }) (a.scope ∙ ap (λ (h : Scope). after t h) entered) ∙ ap (λ ks. record (after t (here s)) { names = ks }) (same same_params same_locals);
+        keeps = extends_same s v same_params same_locals (marks s.marks.items (length s.locals.entries) top);
       }
 
 pub told_if : (here : Scopes → Scope) (t : Telling) (s u : Scopes) (n m : List Note) {T E : Type 0} (r : Result T E)

@@ -223,9 +223,9 @@ fn block<'a>(
     requires { scopes.old.next + (spec.all_told (map spec.telling ss.now)).declares < 2 ^ 32 }
     ensures { OnOk result (Told (here world.now) (spec.closed (spec.all_told (map spec.telling ss.now))) scopes.old scopes.new notes.old notes.new) }
 {
-    let mark = scopes.locals.len();
+    scopes.enter()?;
     let told = statements(alloc, world, scopes, notes, ss);
-    scopes.leave(mark);
+    scopes.leave();
     told
 }
 
@@ -321,7 +321,7 @@ fn statement_kind<'a>(
             ))
         }
         StmtKind::For(first, e, next, body) => {
-            let mark = scopes.locals.len();
+            scopes.enter()?;
             statements(alloc, world, scopes, notes, first.as_slice())?;
             let updates = next.as_slice();
             let told = condition_and_updates(alloc, world, scopes, notes, e, updates).and(looped(
@@ -331,7 +331,7 @@ fn statement_kind<'a>(
                 notes,
                 body.get(),
             ));
-            scopes.leave(mark);
+            scopes.leave();
             told
         }
         StmtKind::Break => break_outside(scopes, notes, span, 5),

@@ -22,6 +22,7 @@ use ix_tree::{ClassDecl, MethodDecl};
 use ix_types::{Need, need_like};
 use ix_values::{Scopes, wrong_if};
 use ix_world::{World, clashes, differs, method_of};
+use smallvec::SmallVec;
 use std::alloc::{AllocError, Global};
 
 fn note_constructor(
@@ -88,6 +89,7 @@ fn head_scopes<'a>(
         pending: None,
         params,
         locals: IndexMap::new(alloc),
+        marks: SmallVec::new(alloc),
         next: 0,
     })
 }

@@ -9,6 +9,7 @@ ghost use Rattle.ix_member_notes.specs.Declarations.{member_scope};
 use indexmap::IndexMap;
 use ix_text::List;
 use ix_values::Scopes;
+use smallvec::SmallVec;
 use std::alloc::Global;
 
 /// The scope of a member of that class that declares no parameters.
@@ -25,6 +26,7 @@ pub fn member_scopes<'a>(alloc: Global, class: u32, has_object: bool) -> Scopes<
         pending: None,
         params: List::new(alloc),
         locals: IndexMap::new(alloc),
+        marks: SmallVec::new(alloc),
         next: 0,
     }
 }

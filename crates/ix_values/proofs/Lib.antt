@@ -1,1 +1,2 @@
 pub mod MeantNames
+pub mod LastMark

@@ -57,11 +57,12 @@ here w s = record {
   names_fields = s.names_fields;
 }
 
--- The parameters stay, and the locals known before are the first of those known after.
+-- The parameters stay, the same scopes are open, and the locals known before are the first of those known after.
 pub record Extends (old new : Scopes) : Type 0 where
   pub params : new.params ≡ old.params
   pub more : List (String Global × Local)
   pub locals : new.locals.entries ≡ old.locals.entries ++ more
+  pub marks : new.marks.items ≡ old.marks.items
 
 -- ---- what an annotation may name
 

@@ -1,6 +1,6 @@
 //! The parameters and locals in scope (JLS 6.3, 6.4).
 
-ghost use Rattle.std.specs.Prelude.{◌≡◌, ◌++◌, ◌∷◌, [], None, option_copied, option_map, map, take};
+ghost use Rattle.std.specs.Prelude.{◌≡◌, ◌++◌, ◌-◌, ◌∷◌, [], ℕ, None, Some, option_copied, option_map, map, take, length, slice_get, OnOk};
 ghost use Rattle.ix_meaning.specs.Scope as scope;
 ghost use Rattle.ix_values.specs.Here as spec;
 
@@ -9,6 +9,7 @@ use ix_core::Type_;
 use ix_meaning::Meaning;
 use ix_text::List;
 use ix_types::Need;
+use smallvec::SmallVec;
 use std::alloc::{AllocError, Global};
 
 /// A parameter.
@@ -58,6 +59,8 @@ pub struct Scopes<'a> {
     pub pending: Option<&'a str>,
     pub params: List<Param<'a>>,
     pub locals: IndexMap<String, Local>,
+    /// Of each open scope, the outermost first, how many locals were known where it was opened.
+    pub marks: SmallVec<usize, 8>,
     /// The number of the next local.
     pub next: u32,
 }
@@ -121,10 +124,11 @@ impl<'a> Scopes<'a> {
         }
     }
 
-    /// Leaves the scopes that were opened after `mark` locals were known.
-    pub fn leave(&mut self, mark: usize)
+    /// Opens a scope. The one error is want of memory.
+    pub fn enter(&mut self) -> Result<(), AllocError>
         ensures { record {
-          locals : self.new.locals.entries ≡ take mark self.old.locals.entries;
+          marks : OnOk result (self.new.marks.items ≡ self.old.marks.items ++ length self.old.locals.entries ∷ []);
+          locals : self.new.locals ≡ self.old.locals;
           params : self.new.params ≡ self.old.params;
           next : self.new.next ≡ self.old.next;
           class : self.new.class ≡ self.old.class;
@@ -136,6 +140,30 @@ impl<'a> Scopes<'a> {
           pending : self.new.pending ≡ self.old.pending;
         } }
     {
-        self.locals.truncate(mark);
+        let known = self.locals.len();
+        self.marks.push(known)?;
+        Ok(())
+    }
+
+    /// Leaves the scope that was opened last: the locals that it brought are known no more.
+    #[tactic(auto, using(crate::proofs::LastMark::last_mark, crate::proofs::LastMark::other_marks))]
+    pub fn leave(&mut self)
+        ensures { record {
+          locals : (outer : List ℕ) (mark : ℕ) → self.old.marks.items ≡ outer ++ mark ∷ [] → self.new.locals.entries ≡ take mark self.old.locals.entries;
+          marks : (outer : List ℕ) (mark : ℕ) → self.old.marks.items ≡ outer ++ mark ∷ [] → self.new.marks.items ≡ outer;
+          params : self.new.params ≡ self.old.params;
+          next : self.new.next ≡ self.old.next;
+          class : self.new.class ≡ self.old.class;
+          has_object : self.new.has_object ≡ self.old.has_object;
+          in_constructor : self.new.in_constructor ≡ self.old.in_constructor;
+          in_loop : self.new.in_loop ≡ self.old.in_loop;
+          names_fields : self.new.names_fields ≡ self.old.names_fields;
+          result : self.new.result ≡ self.old.result;
+          pending : self.new.pending ≡ self.old.pending;
+        } }
+    {
+        if let Some(mark) = self.marks.pop() {
+            self.locals.truncate(mark);
+        }
     }
 }

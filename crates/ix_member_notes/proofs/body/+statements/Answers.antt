@@ -1,4 +1,4 @@
-use Rattle.std.proofs.Common.{◌≡◌, ◌++◌, ◌∙◌, ℕ, length, take, map, refl, ap}
+use Rattle.std.proofs.Common.{◌≡◌, ◌++◌, map, refl, ap}
 use Rattle.std.proofs.lemmas.Result.{on_ok_weaker}
 use Rattle.ix_text.proofs.Chained.{both_ok}
 use Rattle.ix_meaning.specs.Bodies as spec
@@ -11,15 +11,17 @@ use Rattle.ix_member_notes.proofs.body.+statements.Goals as goal
 pub block-returns : goal.block-returns
 block-returns t c =
     let w = c.args.world.now in
+    let into = c.enter.ensures in
     let left = c.leave.ensures in
-    let marked : c.leave.new.self.locals.entries ≡ take (length c.args.scopes.now.locals.entries) c.statements-told.new.scopes.locals.entries =
-    left.locals ∙ ap (λ (k : ℕ). take k c.statements-told.new.scopes.locals.entries) c.len-mark.ensures.len in
+    let locals : c.enter.new.self.locals.entries ≡ c.args.scopes.now.locals.entries = ap (λ l. l.entries) into.locals in
+    let entered : here w c.enter.new.self ≡ here w c.args.scopes.now =
+    rw (into.class, into.has_object, into.in_constructor, into.in_loop, into.names_fields, into.result, into.pending, into.next, into.params, into.locals) refl in
     let rest : here w c.leave.new.self ≡ record (here w c.statements-told.new.scopes) { names = names c.leave.new.self } =
     rw (left.class, left.has_object, left.in_constructor, left.in_loop, left.names_fields, left.result, left.pending, left.next) refl in
     on_ok_weaker c.statements-told.result
-    (λ (told : Told (here w) (spec.all_told (map spec.telling c.args.ss.now)) c.args.scopes.now c.statements-told.new.scopes c.args.notes.now c.statements-told.new.notes).
-    told_closed told left.params marked (same_names c.args.scopes.now c.leave.new.self) rest)
-    (told_if (here w) (spec.all_told (map spec.telling c.args.ss.now)) c.args.scopes.now c.statements-told.new.scopes c.args.notes.now c.statements-told.new.notes c.statements-told.result c.statements-told.ensures.notes c.statements-told.ensures.scope c.statements-told.ensures.keeps)
+    (λ (told : Told (here w) (spec.all_told (map spec.telling c.args.ss.now)) c.enter.new.self c.statements-told.new.scopes c.args.notes.now c.statements-told.new.notes).
+    told_closed told entered into.params locals c.in_ok-enter.ensures.marks left.params left.locals left.marks (same_names c.args.scopes.now c.leave.new.self) rest)
+    (told_if (here w) (spec.all_told (map spec.telling c.args.ss.now)) c.enter.new.self c.statements-told.new.scopes c.args.notes.now c.statements-told.new.notes c.statements-told.result c.statements-told.ensures.notes c.statements-told.ensures.scope c.statements-told.ensures.keeps)
 
 pub statement_kind-returns-in-Block : goal.statement_kind-returns-in-Block
 statement_kind-returns-in-Block t c =
@@ -55,11 +57,13 @@ statement_kind-returns-in-Some t c =
 pub statement_kind-returns-in_ok-statements-in-For : goal.statement_kind-returns-in_ok-statements-in-For
 statement_kind-returns-in_ok-statements-in-For t c =
     let w = c.args.world.now in
-    let first : Told (here w) (spec.all_told (map spec.telling c.as_slice-in-For.result.now)) c.args.scopes.now c.statements.new.scopes c.args.notes.now c.statements.new.notes =
+    let first : Told (here w) (spec.all_told (map spec.telling c.as_slice-in-For.result.now)) c.enter.new.self c.statements.new.scopes c.args.notes.now c.statements.new.notes =
     record { notes = c.in_ok-statements-in-For.ensures.notes; scope = c.in_ok-statements-in-For.ensures.scope; keeps = c.in_ok-statements-in-For.ensures.keeps } in
+    let into = c.enter.ensures in
     let left = c.leave.ensures in
-    let marked : c.leave.new.self.locals.entries ≡ take (length c.args.scopes.now.locals.entries) c.looped-in-For.new.scopes.locals.entries =
-    left.locals ∙ ap (λ (k : ℕ). take k c.looped-in-For.new.scopes.locals.entries) c.len-mark.ensures.len in
+    let locals : c.enter.new.self.locals.entries ≡ c.args.scopes.now.locals.entries = ap (λ l. l.entries) into.locals in
+    let entered : here w c.enter.new.self ≡ here w c.args.scopes.now =
+    rw (into.class, into.has_object, into.in_constructor, into.in_loop, into.names_fields, into.result, into.pending, into.next, into.params, into.locals) refl in
     let rest : here w c.leave.new.self ≡ record (here w c.looped-in-For.new.scopes) { names = names c.leave.new.self } =
     rw (left.class, left.has_object, left.in_constructor, left.in_loop, left.names_fields, left.result, left.pending, left.next) refl in
     both_ok c.condition_and_updates.result c.looped-in-For.result c.and-told.result _ _ _ c.and-told.ensures c.condition_and_updates.ensures c.looped-in-For.ensures
@@ -67,4 +71,4 @@ statement_kind-returns-in_ok-statements-in-For t c =
     for_told c.args.k.now c.args.span c.in-For.first c.as_slice-in-For.result.now c.in-For.e c.in-For.next c.as_slice-updates.result.now c.in-For.body c.get-in-For.result.now
     c.in-For.is c.as_slice-in-For.ensures c.as_slice-updates.ensures c.get-in-For.ensures
     (told_closed (told_then first (told_before (λ s. spec.condition_or_none c.in-For.e s ++ spec.all_run c.as_slice-updates.result.now s) asked loop))
-    left.params marked (same_names c.args.scopes.now c.leave.new.self) rest))
+    entered into.params locals c.in_ok-enter-in-For.ensures.marks left.params left.locals left.marks (same_names c.args.scopes.now c.leave.new.self) rest))
