@@ -10,6 +10,7 @@ ghost use Rattle.ix_member_notes.specs.World.{shown};
 ghost use Rattle.ix_written.specs.Begun.{AllBegin, first_shown};
 ghost use Rattle.ix_member_notes.specs.Places.{at};
 
+use indexmap::IndexMap;
 use ix_meaning::{Meaning, Note, Rule};
 use ix_member_notes::{World, field, implicit_super, method, wrong, wrong_if};
 use ix_text::List;
@@ -17,7 +18,6 @@ use ix_tree::{ClassDecl, Ident, Member};
 use ix_types::{is_cyclic, note_first};
 use ix_written::{Begun, declaration_of, field_annotations};
 use std::alloc::{AllocError, Global};
-use std::collections::HashMap;
 
 fn member_name(member: &Member) -> &Ident
     ensures { result.now ≡ spec.member_name member.now }
@@ -28,11 +28,11 @@ fn member_name(member: &Member) -> &Ident
     }
 }
 
-fn noted_members(alloc: Global, members: &[Member]) -> Result<HashMap<String, u32>, AllocError>
+fn noted_members(alloc: Global, members: &[Member]) -> Result<IndexMap<String, u32>, AllocError>
     requires { length members.now < 2 ^ 32 }
     ensures { IfOk result (λ table. (n : Elements ℕ) → get_by_text table n ≡ spec.member_named members.now n) }
 {
-    let mut table = HashMap::new(alloc);
+    let mut table = IndexMap::new(alloc);
     for (i, member) in members.iter().enumerate() {
         note_first(
             alloc,
@@ -45,7 +45,7 @@ fn noted_members(alloc: Global, members: &[Member]) -> Result<HashMap<String, u3
 }
 
 /// The place of the first member of each name.
-fn member_table(alloc: Global, members: &[Member]) -> Result<HashMap<String, u32>, AllocError>
+fn member_table(alloc: Global, members: &[Member]) -> Result<IndexMap<String, u32>, AllocError>
     requires { length members.now < 2 ^ 32 }
     ensures { IfOk result (λ table. get_by_text table ≡ spec.member_named members.now) }
 {
@@ -128,7 +128,7 @@ fn named_member<'a>(
     notes: &mut List<Note>,
     number: u32,
     class: &ClassDecl,
-    table: &HashMap<String, u32>,
+    table: &IndexMap<String, u32>,
     i: u32,
     next: u32,
     begun: &Option<Begun<'a>>,
@@ -190,7 +190,7 @@ fn members(
     notes: &mut List<Note>,
     number: u32,
     class: &ClassDecl,
-    table: &HashMap<String, u32>,
+    table: &IndexMap<String, u32>,
     first: u32,
     members: &[Member],
 ) -> Result<u32, AllocError>

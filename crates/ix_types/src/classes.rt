@@ -5,18 +5,18 @@ ghost use Rattle.std.specs.List.{AllZip};
 ghost use Rattle.std.specs.HashMap.{get_by_text};
 ghost use Rattle.ix_meaning.specs.Classes as spec;
 
+use indexmap::IndexMap;
 use ix_text::List;
 use ix_tree::{ClassDecl, Ident};
 use std::alloc::{AllocError, Global};
-use std::collections::HashMap;
 
 /// The classes by their names.
-pub type ClassTable = HashMap<String, u32>;
+pub type ClassTable = IndexMap<String, u32>;
 
 /// Notes that the name means that number, unless it means one already.
 pub fn note_first(
     alloc: Global,
-    classes: &mut HashMap<String, u32>,
+    classes: &mut IndexMap<String, u32>,
     name: &str,
     number: u32,
 ) -> Result<(), AllocError>
@@ -30,11 +30,11 @@ pub fn note_first(
     Ok(())
 }
 
-fn noted_classes(alloc: Global, classes: &[ClassDecl]) -> Result<HashMap<String, u32>, AllocError>
+fn noted_classes(alloc: Global, classes: &[ClassDecl]) -> Result<IndexMap<String, u32>, AllocError>
     requires { length classes.now < 2 ^ 32 }
     ensures { IfOk result (λ table. (n : Elements ℕ) → get_by_text table n ≡ spec.class_named classes.now n) }
 {
-    let mut table = HashMap::new(alloc);
+    let mut table = IndexMap::new(alloc);
     for (i, class) in classes.iter().enumerate() {
         note_first(alloc, &mut table, class.name.text.as_str(), i as u32)?;
     }
@@ -42,14 +42,17 @@ fn noted_classes(alloc: Global, classes: &[ClassDecl]) -> Result<HashMap<String,
 }
 
 /// The class that each name means.
-pub fn class_table(alloc: Global, classes: &[ClassDecl]) -> Result<HashMap<String, u32>, AllocError>
+pub fn class_table(
+    alloc: Global,
+    classes: &[ClassDecl],
+) -> Result<IndexMap<String, u32>, AllocError>
     requires { length classes.now < 2 ^ 32 }
     ensures { IfOk result (λ table. get_by_text table ≡ spec.class_named classes.now) }
 {
     noted_classes(alloc, classes)
 }
 
-fn parent_named(table: &HashMap<String, u32>, parent: &Option<Ident>) -> Option<u32>
+fn parent_named(table: &IndexMap<String, u32>, parent: &Option<Ident>) -> Option<u32>
     ensures { result ≡ spec.parent_in_table (get_by_text table.now) parent.now }
 {
     match parent {
@@ -61,7 +64,7 @@ fn parent_named(table: &HashMap<String, u32>, parent: &Option<Ident>) -> Option<
 /// Of each class the class that it extends.
 pub fn parents(
     alloc: Global,
-    table: &HashMap<String, u32>,
+    table: &IndexMap<String, u32>,
     classes: &[ClassDecl],
 ) -> Result<List<Option<u32>>, AllocError>
     ensures { IfOk result (λ parents. parents ≡ spec.parents_by (get_by_text table.now) classes.now) }

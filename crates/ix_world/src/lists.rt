@@ -8,6 +8,7 @@ ghost use Rattle.ix_written.specs.Declarators as declared;
 ghost use Rattle.ix_written.specs.Begun.{AllBegin, annotated, first_shown};
 
 use crate::constant::constant;
+use indexmap::IndexMap;
 use ix_core::Type_;
 use ix_text::{List, Text};
 use ix_tree::{ClassDecl, LocalDecl, Member, MethodDecl};
@@ -17,11 +18,10 @@ use ix_written::{
     target_before, written_type,
 };
 use std::alloc::{AllocError, Global};
-use std::collections::HashMap;
 
 fn field_type(
     alloc: Global,
-    classes: &HashMap<String, u32>,
+    classes: &IndexMap<String, u32>,
     own: &Annotations<'_>,
     decl: &LocalDecl,
 ) -> Result<Option<Type_>, AllocError>
@@ -51,7 +51,7 @@ fn field_meaning(next: u32, decl: &LocalDecl) -> Option<Meaning>
 /// A field of the class, with these annotations. If it is an instance field, its number is `next`.
 pub fn field_of(
     alloc: Global,
-    classes: &HashMap<String, u32>,
+    classes: &IndexMap<String, u32>,
     class: u32,
     next: u32,
     own: &Annotations<'_>,
@@ -76,7 +76,7 @@ pub fn field_of(
 /// A field behind one of a declaration that began so, or behind none.
 fn next_field_of<'a>(
     alloc: Global,
-    classes: &HashMap<String, u32>,
+    classes: &IndexMap<String, u32>,
     class: u32,
     next: u32,
     begun: &Option<Begun<'a>>,
@@ -92,7 +92,7 @@ fn next_field_of<'a>(
 /// Adds the fields of a class, and answers the number of the next instance field.
 fn push_fields(
     alloc: Global,
-    classes: &HashMap<String, u32>,
+    classes: &IndexMap<String, u32>,
     class: u32,
     first: u32,
     members: &[Member],
@@ -128,7 +128,7 @@ fn push_fields(
 /// All fields and constants.
 pub fn fields(
     alloc: Global,
-    classes: &HashMap<String, u32>,
+    classes: &IndexMap<String, u32>,
     decls: &[ClassDecl],
 ) -> Result<List<Field>, AllocError>
     requires { record {
@@ -155,7 +155,7 @@ pub fn fields(
 /// The type of a parameter; none where its class is unknown.
 pub fn param_type(
     alloc: Global,
-    classes: &HashMap<String, u32>,
+    classes: &IndexMap<String, u32>,
     decl: &LocalDecl,
 ) -> Result<Option<Type_>, AllocError>
     ensures { IfOk result (λ ty. ty ≡ spec.param_type (get_by_text classes.now) decl.now) }
@@ -168,7 +168,7 @@ pub fn param_type(
 
 fn param_types(
     alloc: Global,
-    classes: &HashMap<String, u32>,
+    classes: &IndexMap<String, u32>,
     params: &[LocalDecl],
 ) -> Result<List<Option<Type_>>, AllocError>
     ensures { IfOk result (λ types. types ≡ map (spec.param_type (get_by_text classes.now)) params.now) }
@@ -183,7 +183,7 @@ fn param_types(
 
 fn result_type(
     alloc: Global,
-    classes: &HashMap<String, u32>,
+    classes: &IndexMap<String, u32>,
     decl: &MethodDecl,
 ) -> Result<Option<Type_>, AllocError>
     ensures { IfOk result (λ ty. ty ≡ spec.result_type (get_by_text classes.now) decl.now.mods.annots decl.now.result) }
@@ -208,7 +208,7 @@ fn is_static(decl: &MethodDecl) -> bool
 /// A method or a constructor of the class.
 pub fn method_of(
     alloc: Global,
-    classes: &HashMap<String, u32>,
+    classes: &IndexMap<String, u32>,
     class: u32,
     decl: &MethodDecl,
 ) -> Result<Signature, AllocError>
@@ -232,7 +232,7 @@ pub fn method_of(
 /// Adds the methods and constructors of a class.
 fn push_methods(
     alloc: Global,
-    classes: &HashMap<String, u32>,
+    classes: &IndexMap<String, u32>,
     class: u32,
     members: &[Member],
     methods: &mut List<Signature>,
@@ -251,7 +251,7 @@ fn push_methods(
 /// All methods and constructors.
 pub fn methods(
     alloc: Global,
-    classes: &HashMap<String, u32>,
+    classes: &IndexMap<String, u32>,
     decls: &[ClassDecl],
 ) -> Result<List<Signature>, AllocError>
     requires { length decls.now < 2 ^ 32 }

@@ -5,20 +5,20 @@ ghost use Rattle.std.specs.HashMap.{get_by_text};
 ghost use Rattle.ix_types.specs.Members.{is_method_named, is_constructor_named};
 ghost use Rattle.ix_world.specs.First.{first_where, is_field_named};
 
+use indexmap::IndexMap;
 use ix_types::{Field, Signature, note_first};
 use std::alloc::{AllocError, Global};
-use std::collections::HashMap;
 
 /// The numbers of a class's fields by their names. Of two with one name the first is meant.
 pub fn own_fields(
     alloc: Global,
     fields: &[Field],
     class: u32,
-) -> Result<HashMap<String, u32>, AllocError>
+) -> Result<IndexMap<String, u32>, AllocError>
     requires { length fields.now < 2 ^ 32 }
     ensures { IfOk result (λ table. (name : Elements ℕ) → get_by_text table name ≡ first_where (is_field_named class name) None 0 fields.now) }
 {
-    let mut table = HashMap::new(alloc);
+    let mut table = IndexMap::new(alloc);
     for (k, field) in fields.iter().enumerate() {
         if field.class == class {
             note_first(alloc, &mut table, field.name.as_str(), k as u32)?;
@@ -32,11 +32,11 @@ pub fn own_methods(
     alloc: Global,
     methods: &[Signature],
     class: u32,
-) -> Result<HashMap<String, u32>, AllocError>
+) -> Result<IndexMap<String, u32>, AllocError>
     requires { length methods.now < 2 ^ 32 }
     ensures { IfOk result (λ table. (name : Elements ℕ) → get_by_text table name ≡ first_where (is_method_named class name) None 0 methods.now) }
 {
-    let mut table = HashMap::new(alloc);
+    let mut table = IndexMap::new(alloc);
     for (k, method) in methods.iter().enumerate() {
         if method.class == class && !method.constructor {
             note_first(alloc, &mut table, method.name.as_str(), k as u32)?;

@@ -9,12 +9,12 @@ ghost use Rattle.ix_world.specs.World as spec;
 
 use crate::lists::{fields, methods};
 use crate::named::{own_constructor, own_fields, own_methods};
+use indexmap::IndexMap;
 use ix_core::Type_;
 use ix_text::List;
 use ix_tree::ClassDecl;
 use ix_types::{Field, Signature, class_table, parent, parents, supers};
 use std::alloc::{AllocError, Global};
-use std::collections::HashMap;
 
 /// What one class declares and extends: the numbers of its members by their names.
 #[derive(Drop)]
@@ -22,8 +22,8 @@ pub struct ClassWorld {
     pub parent: Option<u32>,
     /// The superclasses, the direct one first.
     pub supers: List<u32>,
-    pub fields: HashMap<String, u32>,
-    pub methods: HashMap<String, u32>,
+    pub fields: IndexMap<String, u32>,
+    pub methods: IndexMap<String, u32>,
     pub constructor: Option<u32>,
 }
 
@@ -31,7 +31,7 @@ pub struct ClassWorld {
 #[derive(Drop)]
 pub struct World {
     /// The classes by their names.
-    pub table: HashMap<String, u32>,
+    pub table: IndexMap<String, u32>,
     pub classes: List<ClassWorld>,
     pub fields: List<Field>,
     pub methods: List<Signature>,

@@ -9,12 +9,12 @@ ghost use Rattle.ix_written.specs.Parts.{behind_base};
 use crate::claims::{Nowhere, distinct, given};
 use crate::part::{Part, gathered};
 use crate::types::{note_class_use, target_before, written_type};
+use indexmap::IndexMap;
 use ix_core::{Claim, Name, Type_};
 use ix_meaning::{Found, Names, Naming, Note, Target};
 use ix_text::List;
 use ix_tree::{Annot, BaseTree, TypeTree};
 use std::alloc::{AllocError, Global};
-use std::collections::HashMap;
 
 /// What a declaration says.
 #[derive(Drop)]
@@ -101,7 +101,7 @@ fn claims_before<N: Names>(
 /// What a declaration says. `first` is what an annotation before its type stands on, and `second` what one behind its base does.
 fn declared_on<N: Names>(
     alloc: Global,
-    classes: &HashMap<String, u32>,
+    classes: &IndexMap<String, u32>,
     notes: &mut List<Note>,
     names: &N,
     first: Target,
@@ -132,7 +132,7 @@ fn declared_on<N: Names>(
 /// What the declaration of a local, a parameter, an instance field or a result says.
 pub fn variable<N: Names>(
     alloc: Global,
-    classes: &HashMap<String, u32>,
+    classes: &IndexMap<String, u32>,
     notes: &mut List<Note>,
     names: &N,
     before: &[&Annot],
@@ -162,7 +162,7 @@ pub fn variable<N: Names>(
 /// What the declaration of a static field says, on which no annotation may stand.
 pub fn static_field(
     alloc: Global,
-    classes: &HashMap<String, u32>,
+    classes: &IndexMap<String, u32>,
     notes: &mut List<Note>,
     before: &[&Annot],
     behind: &[&Annot],
@@ -194,7 +194,7 @@ fn created_target(ty: &TypeTree) -> Target
 /// The type of an array that is created (JLS 15.10), with the claims on its elements.
 pub fn created(
     alloc: Global,
-    classes: &HashMap<String, u32>,
+    classes: &IndexMap<String, u32>,
     notes: &mut List<Note>,
     ty: &TypeTree,
 ) -> Result<Option<Type_>, AllocError>

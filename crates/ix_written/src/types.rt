@@ -6,12 +6,12 @@ ghost use Rattle.ix_meaning.specs.Annotated as spec;
 ghost use Rattle.ix_meaning.specs.Types.{shaped};
 ghost use Rattle.ix_written.specs.ClassTypes.{class_type};
 
+use indexmap::IndexMap;
 use ix_core::{Base, Claim, Type_};
 use ix_meaning::{Meaning, NameError, Note, Rule, Target};
 use ix_text::{List, Span};
 use ix_tree::{BaseTree, TypeTree};
 use std::alloc::AllocError;
-use std::collections::HashMap;
 
 /// What an annotation before the type stands on.
 pub fn target_before(ty: &TypeTree) -> Target
@@ -50,7 +50,7 @@ fn class_type(class: Option<u32>, depth: u32, element: List<Claim>) -> Option<Ty
 /// The type, with these claims on its elements; none where its class is unknown.
 #[tactic(auto, using(crate::proofs::ClassUses::class_use_type))]
 pub fn written_type(
-    classes: &HashMap<String, u32>,
+    classes: &IndexMap<String, u32>,
     ty: &TypeTree,
     element: List<Claim>,
 ) -> Option<Type_>
@@ -85,7 +85,7 @@ fn note_class(notes: &mut List<Note>, class: Option<u32>, span: Span) -> Result<
 
 /// Notes the class that the type names, or RULE unknown.name.
 pub fn note_class_use(
-    classes: &HashMap<String, u32>,
+    classes: &IndexMap<String, u32>,
     notes: &mut List<Note>,
     ty: &TypeTree,
 ) -> Result<(), AllocError>
