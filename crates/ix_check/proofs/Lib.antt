@@ -1,3 +1,4 @@
+mod LoopsInOrder
 mod Listed
 mod ListedErrors
 mod Listing

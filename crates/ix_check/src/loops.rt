@@ -8,10 +8,11 @@ ghost use Rattle.ix_labels.specs.Graph.{behind_code};
 ghost use Rattle.ix_labels.specs.LoopLabels.{AreLoopLabels};
 ghost use Rattle.ix_labels.specs.Visits.{VisitsWithin};
 
+use crate::laws::loops_are_in_order;
 use ix_core::{Method, Profile, Program};
 use ix_labels::{Store, loop_labels};
 use ix_solve::Steps;
-use ix_sound::{loops_are_in_order, names_are_small};
+use ix_sound::names_are_small;
 use std::alloc::{AllocError, Global};
 use std::marker::Brand;
 use std::sync::ledger::{Blank, Ledger};

@@ -36,6 +36,5 @@ mod Moves
 mod Dispatched
 pub mod NoErrorsAreSafe
 mod SharedSlots
-mod LoopsInOrder
 mod NamesInRange
 pub mod Ready

@@ -8,38 +8,34 @@ use Rattle.std.proofs.lemmas.Option.{slice_get_past}
 use Rattle.ix_core.specs.declared.claim.Type_.{Type_}
 use Rattle.ix_core.specs.declared.program.Method.{Method}
 use Rattle.ix_core.specs.declared.program.Program.{Program}
-use Rattle.ix_core.specs.Code.{block_code}
 use Rattle.ix_core.specs.Formed.{Formed, at_most, params_fit, locals_fit, result_fits, constructor_fits, overrides_fit, same_numbers, loop_numbers, numbers_from, code_size, super_calls_fit, body_fits, entry_type, is_there}
 use Rattle.ix_core.specs.Tables.{no_method, method_at, body_of, param_slots}
 use Rattle.ix_core.specs.Types.{is_class}
 use Rattle.ix_core.proofs.Cases.{by_test}
 use Rattle.ix_core.proofs.FormedParts.{locals_of, method_is, posts_are, fields_all}
-use Rattle.ix_graph.specs.Graph.{method_parts}
-use Rattle.ix_graph.specs.Heads.{AreInOrder}
 use Rattle.ix_sound.specs.Naming.{HasSmallNames, HaveSmallNames}
 use Rattle.ix_sound.specs.Few.{HasFew}
-use Rattle.ix_sound.proofs.LoopsInOrder.{body_in_order}
 use Rattle.ix_sound.proofs.NamesInRange.{params_small, locals_small, result_small, promises_small, as_many_types, few_params, fields_small}
 
 module _ (program : Program) (formed : Formed program) where
-  abbrev at : ℕ → Method
+  abbrev pub at : ℕ → Method
   at number = method_at program number
 
-  abbrev types_at : ℕ → List Type_
+  abbrev pub types_at : ℕ → List Type_
   types_at number = locals_of program formed.0 formed.1 number
 
   -- what is asked of a method
-  record Parts (number : ℕ) : Type 0 where
-    params : params_fit program (at number) 0 (at number).params (at number).param_types ≡ true
-    room : at_most (param_slots (at number)) (at number).slots ≡ true
-    few : at_most (at number).slots 512 ≡ true
-    locals : locals_fit program (at number) (types_at number) 0 (at number).locals (types_at number) ≡ true
-    result : result_fits program (at number) ≡ true
-    overrides : overrides_fit program (at number) (at number).overrides ≡ true
-    loops : same_numbers (loop_numbers (body_of (at number))) (numbers_from 0 (length (loop_numbers (body_of (at number))))) ≡ true
-    body : body_fits program (at number) (types_at number) ≡ true
+  pub record Parts (number : ℕ) : Type 0 where
+    pub params : params_fit program (at number) 0 (at number).params (at number).param_types ≡ true
+    pub room : at_most (param_slots (at number)) (at number).slots ≡ true
+    pub few : at_most (at number).slots 512 ≡ true
+    pub locals : locals_fit program (at number) (types_at number) 0 (at number).locals (types_at number) ≡ true
+    pub result : result_fits program (at number) ≡ true
+    pub overrides : overrides_fit program (at number) (at number).overrides ≡ true
+    pub loops : same_numbers (loop_numbers (body_of (at number))) (numbers_from 0 (length (loop_numbers (body_of (at number))))) ≡ true
+    pub body : body_fits program (at number) (types_at number) ≡ true
 
-  parts : (number : ℕ) → number < length program.methods → Parts number
+  pub parts : (number : ℕ) → number < length program.methods → Parts number
   parts number lt =
       let method = at number in
       let types = types_at number in
@@ -104,10 +100,3 @@ module _ (program : Program) (formed : Formed program) where
           let there = (and_parts (is_there program.methods over) _ fits).0 in
           let lt : over < length program.methods = grind (arith, nat_tests) in
           subst (λ n. n < length program.methods) (ap (λ (o : Option ℕ). unwrap_or o over) is) lt
-
-  -- ---- loops
-
-  pub loops_in_order : (number : ℕ) → number < length program.methods → AreInOrder 0 (method_parts (block_code (at number).body))
-  loops_in_order number lt =
-      let has = parts number lt in
-      body_in_order program (at number) (types_at number) (body_of (at number)) (Some (entry_type program (at number))) has.body has.loops

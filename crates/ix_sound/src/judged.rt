@@ -3,11 +3,8 @@
 ghost use Rattle.std.specs.Prelude.{ℕ, ◌<◌, length};
 ghost use Rattle.std.specs.Option.{ForSome};
 ghost use Rattle.ix_core.specs.declared.program.Program.{Program};
-ghost use Rattle.ix_core.specs.Code.{block_code};
 ghost use Rattle.ix_core.specs.Formed.{Formed};
 ghost use Rattle.ix_core.specs.Tables.{method_at};
-ghost use Rattle.ix_graph.specs.Graph.{method_parts};
-ghost use Rattle.ix_graph.specs.Heads.{AreInOrder};
 ghost use Rattle.ix_sound.specs.Few.{HasFew};
 ghost use Rattle.ix_sound.specs.Naming.{HaveSmallNames};
 
@@ -19,9 +16,4 @@ pub fn names_are_small()
 /// A method of a formed program overrides one that is there.
 pub fn overridden_is_there()
     ensures there { (program : Program) → Formed program → (number : ℕ) → number < length program.methods → ForSome (method_at program number).overrides (λ over. over < length program.methods) }
-{}
-
-/// The loops of each method of a formed program are numbered in the order of their heads.
-pub fn loops_are_in_order()
-    ensures in_order { (program : Program) → Formed program → (number : ℕ) → number < length program.methods → AreInOrder 0 (method_parts (block_code (method_at program number).body)) }
 {}

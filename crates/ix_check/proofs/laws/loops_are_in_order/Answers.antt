@@ -1,5 +1,5 @@
-use Rattle.ix_sound.proofs.Ready.{loops_in_order}
-use Rattle.ix_sound.proofs.judged.loops_are_in_order.Goals as goal
+use Rattle.ix_check.proofs.LoopsInOrder.{loops_in_order}
+use Rattle.ix_check.proofs.laws.loops_are_in_order.Goals as goal
 
 -- src/laws.rt
 pub returns : goal.returns

@@ -1,5 +1,5 @@
 -- The loops of a formed body are numbered in the order of their heads.
-use Rattle.std.specs.Prelude.{◌≡◌, ℕ, zero, suc, ◌+◌, ◌==◌, Bool, true, false, ◌&&◌, List, [], ◌∷◌, ◌++◌, length, refl}
+use Rattle.std.specs.Prelude.{◌≡◌, ℕ, zero, suc, ◌+◌, ◌<◌, ◌==◌, Bool, true, false, ◌&&◌, Some, List, [], ◌∷◌, ◌++◌, length, refl}
 use Rattle.std.specs.Cmp.Derive.{both_true}
 use Rattle.std.proofs.Common.{arith, subst}
 use Rattle.std.proofs.lemmas.Bool.{and_parts, false≢true}
@@ -7,12 +7,14 @@ use Rattle.std.proofs.lemmas.List.{length-append}
 use Rattle.ix_core.specs.declared.claim.Type_.{Type_}
 use Rattle.ix_core.specs.declared.program.Method.{Method}
 use Rattle.ix_core.specs.declared.program.Program.{Program}
-use Rattle.ix_core.specs.Code.{Code, End, Do, If, Break, Continue, Return, Throw, Loop, Condition, Known, Compare, Truth, Both, Either, Opposite}
-use Rattle.ix_core.specs.Formed.{loop_numbers, numbers_from, same_numbers, is_straight, is_straight_condition, code_ways, condition_ways, body_start}
+use Rattle.ix_core.specs.Code.{block_code, Code, End, Do, If, Break, Continue, Return, Throw, Loop, Condition, Known, Compare, Truth, Both, Either, Opposite}
+use Rattle.ix_core.specs.Formed.{Formed, entry_type, loop_numbers, numbers_from, same_numbers, is_straight, is_straight_condition, code_ways, condition_ways, body_start}
+use Rattle.ix_core.specs.Tables.{method_at, body_of}
 use Rattle.ix_core.specs.Types.{Point, meeting, point_below}
 use Rattle.ix_core.proofs.Cases.{equal}
 use Rattle.ix_graph.specs.Graph.{Part, Source, Unreached, From, Through, Onward, leads, code_parts, condition_parts, method_parts}
 use Rattle.ix_graph.specs.Heads.{AreInOrder}
+use Rattle.ix_sound.proofs.Ready.{types_at, parts}
 
 -- ---- numbers in order
 
@@ -177,3 +179,10 @@ module _ (program : Program) (method : Method) (locals : List Type_) where
 
   pub body_in_order : (body : Code) (types : Point) → (code_ways program method locals false body types).fits ≡ true → same_numbers (loop_numbers body) (numbers_from 0 (length (loop_numbers body))) ≡ true → AreInOrder 0 (method_parts body)
   body_in_order body types fits same = code_in_order body false types 0 2 (From 0 Onward) 1 1 1 [] fits (same_next 0 (length (loop_numbers body)) (loop_numbers body) same) tt
+
+-- the loops of each method of a formed program
+pub loops_in_order : (program : Program) → Formed program → (number : ℕ) → number < length program.methods → AreInOrder 0 (method_parts (block_code (method_at program number).body))
+loops_in_order program formed number lt =
+    let has = parts program formed number lt in
+    let method = method_at program number in
+    body_in_order program method (types_at program formed number) (body_of method) (Some (entry_type program method)) has.body has.loops
