@@ -134,6 +134,8 @@ pub fn inputs_of<S: Source>(
     ensures opened { IfOk result (λ inputs. IsOpened (opened_by (shown command.now) (seen inputs.finding)) (second_given (S.given files.old) (S.given files.new))) }
     ensures asks { (text : List ℕ) → second_given (S.given files.old) (S.given files.new) ≡ Some text
         → spec.NeedsCert (shown command.now) (first_given (S.given files.old) (S.given files.new)) }
+    ensures first { (file text : List ℕ) (held : Files) → spec.file_in (shown command.now) ≡ Some file → second_given (S.given files.old) (S.given files.new) ≡ Some text
+        → S.files files.old ≡ Some held → IsAllOrPast most_bytes (bytes_under file held) (first_given (S.given files.old) (S.given files.new)) }
     ensures calm { OnOk result (S.faults files.new ≡ S.faults files.old) }
     ensures file_failed { IsErrOf result Unread.File
         → WasUnread (S.IsSure files.old) (S.faults files.old) (S.faults files.new) (spec.file_in (shown command.now)) × (second_given (S.given files.old) (S.given files.new) ≡ None) }

@@ -7,7 +7,7 @@ use Rattle.ix_core.specs.Traces.{Observation}
 use Rattle.ix_source_meaning.specs.Source.{Shown}
 use Rattle.ix_core.specs.Traces.{seen_from}
 use Rattle.ix_kept_runs.specs.Seen.{seen}
-use Rattle.ix_source.specs.Whole.{Same, Begins, Keeps, Meets}
+use Rattle.ix_source.specs.Whole.{Same, BeginsWith, Keeps, Meets}
 use Rattle.ix_kept_runs.proofs.Paths.{more, run_more, seen_more}
 
 some_none : {G : Type 0} (e : Ending) → Some e ≡ None → G
@@ -77,7 +77,7 @@ module _ (tables : Tables) where
             let there = same_end start m.steps steps found le m_ended in
             record { ended = is; source_ended = sym some ∙ (sym m_ended ∙ ap (λ (s : State). s.ended) (sym there.0) ∙ is); wrapped = ap (λ (s : State). s.wrapped) there.0 ∙ m.wrapped; shown = there.1 ∙ m.shown }
 
-    shown_at : (steps : ℕ) (found : Option Ending) → found ≡ (source (suc steps)).ending → Begins (source (suc steps)).events (seen tables steps start)
+    shown_at : (steps : ℕ) (found : Option Ending) → found ≡ (source (suc steps)).ending → BeginsWith (source (suc steps)).events (seen tables steps start)
     shown_at steps None none =
         let m = meets (suc steps) in
         let far : suc steps ≤ m.steps = m.far (sym none) in
@@ -85,7 +85,7 @@ module _ (tables : Tables) where
         record { rest = rest; is = sym m.shown ∙ is }
     shown_at steps (Some found) some = let m = meets (suc steps) in go m (m.ended ∙ sym some) (either_way steps m.steps)
       where
-        go : (m : Meets tables start source (suc steps) (source (suc steps)).ending) → (run no_limits tables m.steps start).ended ≡ Some found → (steps ≤ m.steps) ⊎ (m.steps ≤ steps) → Begins (source (suc steps)).events (seen tables steps start)
+        go : (m : Meets tables start source (suc steps) (source (suc steps)).ending) → (run no_limits tables m.steps start).ended ≡ Some found → (steps ≤ m.steps) ⊎ (m.steps ≤ steps) → BeginsWith (source (suc steps)).events (seen tables steps start)
         go m m_ended (inl le) = let (rest, is) = begins_later start steps m.steps le in record { rest = rest; is = sym m.shown ∙ is }
         go m m_ended (inr le) = let there = same_end start m.steps steps found le m_ended in record { rest = []; is = sym m.shown ∙ sym there.1 ∙ sym (append-nil (seen tables steps start)) }
 

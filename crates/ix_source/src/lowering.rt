@@ -1,13 +1,16 @@
 //! Lowering, with what it keeps.
-ghost use Rattle.std.specs.Prelude.{◌≡◌, ◌+◌, ◌<◌, ◌^◌, ℕ, Ok, Err, length, IfOk, IsErrOf};
+ghost use Rattle.std.specs.Prelude.{◌≡◌, ◌+◌, ◌<◌, ◌^◌, ℕ, List, Ok, Err, length, IfOk, IsErrOf};
+ghost use Rattle.ix_core.specs.declared.fact.Profile.{Profile};
 ghost use Rattle.ix_core.specs.Formed.{Formed};
+ghost use Rattle.ix_core.specs.Safe.{Input, Begins};
 ghost use Rattle.ix_formed.specs.Parsed.{IsParsed};
 ghost use Rattle.ix_lower.specs.declared.source.LowerError.TheVariants as error;
 ghost use Rattle.ix_meaning.specs.declared.note.Which.{Which};
 ghost use Rattle.ix_meaning.specs.Resolved.{Accepts, names};
 ghost use Rattle.ix_meaning.specs.Source.{members_in};
 ghost use Rattle.ix_plain.specs.Program as spec;
-ghost use Rattle.ix_source.specs.Whole.{IsKept};
+ghost use Rattle.ix_source.specs.Whole.{IsKept, SafeUnlimited};
+ghost use Rattle.ix_source_meaning.specs.Promise.{Enters, SafeSource};
 ghost use Rattle.ix_table.specs.Numbered.{shown};
 
 use ix_core::Program;
@@ -27,6 +30,12 @@ pub fn lower_kept(alloc: Global, unit: &Unit, table: &Table) -> Result<Program, 
     ensures limit { (which : Which) (place : ℕ) → IsErrOf result (error.Limit which place) → spec.program (shown table.now) unit.now.classes ≡ Err (record { which = which; place = place }) }
     ensures formed { IsParsed unit.now → Accepts unit.now → shown table.now ≡ names unit.now → IfOk result (λ program. Formed program) }
     ensures kept { IsParsed unit.now → Accepts unit.now → shown table.now ≡ names unit.now → IfOk result (λ program. IsKept unit.now program) }
+
+    // So the promise in the source's words says no less than that on the machine: what begins there enters the source, and where the source is safe, no run without limits is bad.
+    ensures entered { IsParsed unit.now → Accepts unit.now → shown table.now ≡ names unit.now
+        → IfOk result (λ program. (method : ℕ) (inputs : List Input) → Begins program method inputs → Enters unit.now method inputs) }
+    ensures safe_machine { IsParsed unit.now → Accepts unit.now → shown table.now ≡ names unit.now
+        → IfOk result (λ program. (profile : Profile) → SafeSource profile unit.now → SafeUnlimited program profile) }
 {
     lower(alloc, unit, table)
 }

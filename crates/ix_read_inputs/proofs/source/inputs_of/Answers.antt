@@ -279,3 +279,33 @@ returns-clause-asks g c = λ text given.
     let two : ReadTwo command name before after last = read_two command (seen c.in-Ok-of_bytes.finding) name before after last c.in-Some.ensures c.source_of.ensures.given c.read_file.ensures.given in
     let found : Found (source_bytes command (first_given before after)) (seen c.in-Ok-of_bytes.finding) = subst (λ bytes. Found bytes (seen c.in-Ok-of_bytes.finding)) (c.deref.ensures.value ∙ c.in-Ok.ensures.bytes) c.in-Ok-of_bytes.ensures.right in
     of_source command name before after last two (NeedsCert command) (needs_cert command (first_given before after) (seen c.in-Ok-of_bytes.finding) name (sym c.in-Some.ensures) found)
+
+pub returns-in-Ok-read_file-clause-first : goal.returns-in-Ok-read_file-clause-first
+returns-in-Ok-read_file-clause-first g c = λ file text held named given told.
+    let command = shown c.args.command.now in
+    let name = c.in-Some.name.now in
+    let before = g.S.Source.given c.args.files.now in
+    let after = g.S.Source.given c.source_of.new.files in
+    let last = g.S.Source.given c.read_file.new.files in
+    let two : ReadTwo command name before after last = read_two command (seen c.in-Ok-of_bytes.finding) name before after last c.in-Some.ensures c.source_of.ensures.given c.read_file.ensures.given in
+    of_source command name before after last two (IsAllOrPast most_bytes (bytes_under file held)) (c.in-Ok.ensures.whole file held named told)
+
+pub returns-in-Err-Failed-read_file-clause-first : goal.returns-in-Err-Failed-read_file-clause-first
+returns-in-Err-Failed-read_file-clause-first g c = λ file text held named given told.
+    let command = shown c.args.command.now in
+    let name = c.in-Some.name.now in
+    let before = g.S.Source.given c.args.files.now in
+    let after = g.S.Source.given c.source_of.new.files in
+    let last = g.S.Source.given c.read_file.new.files in
+    let two : ReadTwo command name before after last = read_two command (seen c.in-Ok-of_bytes.finding) name before after last c.in-Some.ensures c.source_of.ensures.given c.read_file.ensures.given in
+    of_source command name before after last two (IsAllOrPast most_bytes (bytes_under file held)) (c.in-Ok.ensures.whole file held named told)
+
+pub returns-clause-first : goal.returns-clause-first
+returns-clause-first g c = λ file text held named given told.
+    let command = shown c.args.command.now in
+    let name = c.in-Some.name.now in
+    let before = g.S.Source.given c.args.files.now in
+    let after = g.S.Source.given c.source_of.new.files in
+    let last = g.S.Source.given c.read_file.new.files in
+    let two : ReadTwo command name before after last = read_two command (seen c.in-Ok-of_bytes.finding) name before after last c.in-Some.ensures c.source_of.ensures.given c.read_file.ensures.given in
+    of_source command name before after last two (IsAllOrPast most_bytes (bytes_under file held)) (c.in-Ok.ensures.whole file held named told)
