@@ -53,7 +53,7 @@ use Rattle.ix_command_inputs.proofs.OneFinding.{one_finding}
 use Rattle.ix_command_inputs.proofs.FoundPrograms.{found_formed, tree_parsed}
 use Rattle.ix_command_inputs.proofs.SafeSources.{safe_source}
 use Rattle.ix_command_inputs.specs.Findings.{HasFormed}
-use Rattle.ix_command_inputs.specs.Judged.{CanCheck}
+use Rattle.ix_core.specs.Ready.{CanCheck}
 use Rattle.ix_playing.proofs.OneRun.{runs_one, start_answers}
 use Rattle.ix_replies.proofs.Verdicts.{verdict_answers as verdict_said, bench_answers}
 use Rattle.ix_answering.proofs.Verifiable.{can_verify}

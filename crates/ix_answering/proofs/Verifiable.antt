@@ -1,7 +1,7 @@
 -- The program that is found of bytes can be verified by a certificate.
 use Rattle.ix_core.specs.declared.program.Program.{Program}
 use Rattle.ix_core.specs.Formed.{Formed}
-use Rattle.ix_command_inputs.specs.Judged.{CanCheck}
+use Rattle.ix_core.specs.Ready.{CanCheck}
 use Rattle.ix_certify.proofs.Ready.{ready, upper_in_range}
 use Rattle.ix_certify.specs.Verdicts.{CanVerify}
 

@@ -7,7 +7,7 @@ ghost use Rattle.ix_command_inputs.specs.Found.{Finding as FoundOf, Found, TooLo
 ghost use Rattle.ix_certify.specs.CertError.TheVariants as CertError;
 ghost use Rattle.ix_command_inputs.specs.Findings.{seen, IsPlaced, HasFormed};
 ghost use Rattle.ix_command_inputs.specs.CodePlaces.{PlacesWithin};
-ghost use Rattle.ix_command_inputs.specs.Judged.{CanCheck};
+ghost use Rattle.ix_core.specs.Ready.{CanCheck};
 ghost use Rattle.ix_core.specs.Formed.{Formed};
 ghost use Rattle.ix_answering.specs.Promises.{PromisesWhole, PromisesOn, Promises, SafeProgram};
 ghost use Rattle.ix_command_inputs.specs.Opened.{IsOpened, opened_by};

@@ -4,7 +4,7 @@ ghost use Rattle.ix_answer.specs.Replies.{shown};
 ghost use Rattle.ix_core.specs.Formed.{Formed};
 ghost use Rattle.ix_command_inputs.specs.Found.{Found, TooLong, Whole};
 ghost use Rattle.ix_command_inputs.specs.Findings.{seen, IsPlaced, HasFormed};
-ghost use Rattle.ix_command_inputs.specs.Judged.{CanCheck};
+ghost use Rattle.ix_core.specs.Ready.{CanCheck};
 ghost use Rattle.ix_answering.specs.Answers as spec;
 ghost use Rattle.ix_words.specs.Commands.{Guard};
 ghost use Rattle.ix_answering.specs.Judgements.{profile_of};

@@ -16,8 +16,7 @@ use Rattle.ix_core.specs.Tables.{no_method, method_at, param_slots}
 use Rattle.ix_core.specs.Types.{is_class, is_type}
 use Rattle.ix_core.proofs.Cases.{by_test, equal}
 use Rattle.ix_core.proofs.FormedParts.{locals_of, method_is}
-use Rattle.ix_steps.specs.MachineSteps.{local_slot}
-use Rattle.ix_sound.specs.Sound.{LocalsApart}
+use Rattle.ix_core.specs.Ready.{local_slot, LocalsApart}
 use Rattle.ix_formed.specs.OwnSlots.{HaveOwnSlots, AllOwnSlots}
 use Rattle.ix_apart.proofs.TypedNames.{HasType, names_typed}
 

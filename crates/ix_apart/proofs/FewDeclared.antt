@@ -32,7 +32,7 @@ use Rattle.ix_formed.proofs.Numbering.{fields_counted}
 use Rattle.ix_formed.proofs.PlainItems.{made_is}
 use Rattle.ix_formed.proofs.ProgramsHaveShape.{written_length}
 use Rattle.ix_formed.proofs.SmallSources.{few_fields}
-use Rattle.ix_sound.specs.Few.{HasFew}
+use Rattle.ix_core.specs.Ready.{HasFew}
 use Rattle.ix_apart.proofs.LocalsCounted.{Keeps, written_body_counted, constructor_keeps}
 
 -- ---- locals

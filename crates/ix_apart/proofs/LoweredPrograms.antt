@@ -9,8 +9,7 @@ use Rattle.ix_meaning.proofs.FewDeclarations.{few_members}
 use Rattle.ix_formed.specs.Parsed.{IsParsed}
 use Rattle.ix_formed.proofs.FieldsFit.{IsAccepted}
 use Rattle.ix_formed.proofs.FormedSources.{formed_source, source_apart}
-use Rattle.ix_sound.specs.Few.{HasFew}
-use Rattle.ix_sound.specs.Sound.{LocalsApart}
+use Rattle.ix_core.specs.Ready.{HasFew, LocalsApart}
 use Rattle.ix_apart.proofs.ApartLocals.{own_slots_apart}
 use Rattle.ix_apart.proofs.FewDeclared.{few_methods, few_locals_and_fields}
 

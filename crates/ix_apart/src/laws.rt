@@ -6,8 +6,7 @@ ghost use Rattle.ix_tree.specs.declared.decl.Unit.{Unit as Source};
 ghost use Rattle.ix_meaning.specs.Resolved.{Accepts, names};
 ghost use Rattle.ix_plain.specs.Program.{program};
 ghost use Rattle.ix_formed.specs.Parsed.{IsParsed};
-ghost use Rattle.ix_sound.specs.Few.{HasFew};
-ghost use Rattle.ix_sound.specs.Sound.{LocalsApart};
+ghost use Rattle.ix_core.specs.Ready.{HasFew, LocalsApart};
 
 /// A claim on a local names locals in scope, and each of these has a slot of its own.
 pub fn lowered_locals_are_apart()

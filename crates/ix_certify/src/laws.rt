@@ -2,7 +2,7 @@
 
 ghost use Rattle.ix_core.specs.declared.program.Program.{Program};
 ghost use Rattle.ix_core.specs.Formed.{Formed};
-ghost use Rattle.ix_check.specs.Judged.{CanCheck};
+ghost use Rattle.ix_core.specs.Ready.{CanCheck};
 ghost use Rattle.ix_verify.specs.Verdicts.{CanVerify};
 
 use ix_check::{names_are_small, overridden_is_there};

@@ -3,7 +3,7 @@
 ghost use Rattle.std.specs.Prelude.{◌≡◌, ◌<◌, ℕ, List, length, slice_get, Some, IfOk, IfSome, IfNone};
 ghost use Rattle.ix_core.specs.declared.error.Error.{Error as Found};
 ghost use Rattle.ix_core.specs.Formed.{Formed};
-ghost use Rattle.ix_check.specs.Judged.{CanCheck};
+ghost use Rattle.ix_core.specs.Ready.{CanCheck};
 ghost use Rattle.ix_check.specs.MethodErrors.{IsError};
 ghost use Rattle.ix_core.specs.Tables.{method_at};
 ghost use Rattle.ix_check.specs.LoopLabels.{AreLoopLabels};

@@ -6,11 +6,11 @@ use Rattle.ix_core.specs.declared.program.Program.{Program}
 use Rattle.ix_core.specs.Formed.{Formed, is_formed}
 use Rattle.ix_core.specs.Safe.{Safe}
 use Rattle.ix_core.specs.declared.claim.Type_.{Type_}
-use Rattle.ix_sound.specs.Judged.{CanCheck}
+use Rattle.ix_core.specs.Ready.{CanCheck, LocalsApart}
 use Rattle.ix_check.specs.MethodErrors.{HaveNone}
 use Rattle.ix_method_errors.specs.Ranked.{Ranked}
 use Rattle.ix_method_errors.specs.Exactly.{AreExactly}
-use Rattle.ix_sound.specs.Sound.{LocalsApart, HasNoErrors}
+use Rattle.ix_sound.specs.Sound.{HasNoErrors}
 use Rattle.ix_method_errors.specs.ErrorList.{IsErrorList, In}
 use Rattle.ix_method_errors.proofs.Lists.{same_list, none_listed}
 

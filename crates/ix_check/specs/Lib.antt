@@ -12,7 +12,6 @@ pub mod Visits
 pub mod Signatures
 -- Passed on from ix_sound.
 pub use Rattle.ix_sound.specs.Sound
-pub use Rattle.ix_sound.specs.Judged
 -- Passed on from ix_method_errors.
 pub use Rattle.ix_method_errors.specs.Ranked
 pub use Rattle.ix_method_errors.specs.Names

@@ -3,7 +3,7 @@ ghost use Rattle.std.specs.Prelude.{◌≡◌, ◌+◌, ◌≤◌, ◌<◌, leng
 ghost use Rattle.ix_core.specs.Code.{block_code};
 ghost use Rattle.ix_core.specs.Formed.{Formed};
 ghost use Rattle.ix_core.specs.Tables.{method_at};
-ghost use Rattle.ix_sound.specs.Judged.{CanCheck};
+ghost use Rattle.ix_core.specs.Ready.{CanCheck};
 ghost use Rattle.ix_labels.specs.Graph.{behind_code};
 ghost use Rattle.ix_labels.specs.LoopLabels.{AreLoopLabels};
 ghost use Rattle.ix_labels.specs.Visits.{VisitsWithin};

@@ -4,7 +4,7 @@ ghost use Rattle.std.specs.List.{All};
 ghost use Rattle.ix_core.specs.CodePlaces.{PlacesWithin};
 ghost use Rattle.ix_core.specs.Formed.{Formed};
 ghost use Rattle.ix_core.specs.Safe.{Safe};
-ghost use Rattle.ix_sound.specs.Judged.{CanCheck};
+ghost use Rattle.ix_core.specs.Ready.{CanCheck};
 ghost use Rattle.ix_check.specs.MethodErrors.{IsError, nodes_below};
 ghost use Rattle.ix_check.specs.Visits.{AllVisitsWithin};
 ghost use Rattle.ix_method_errors.specs.ErrorList.{IsErrorList};

@@ -3,6 +3,7 @@
 ghost use Rattle.std.specs.Prelude.{◌≡◌, ◌+◌, ◌<◌, ◌^◌};
 ghost use Rattle.ix_core.specs.Objects.{claim_names, offset_names};
 ghost use Rattle.ix_core.specs.Tables as tables;
+ghost use Rattle.ix_core.specs.Ready as ready;
 ghost use Rattle.ix_steps.specs.MachineSteps as steps;
 ghost use Rattle.ix_claim_facts.specs.Names as names;
 ghost use Rattle.ix_claim_facts.specs.Naming.{path_by, IsSmallName, AreSmallNames};
@@ -20,7 +21,7 @@ pub fn param_slot(method: &Method, number: u32) -> u32
 
 /// The slot of a local; 0 where the method has no such local.
 fn local_slot(method: &Method, number: u32) -> u32
-    ensures { result ≡ steps.local_slot method.now number }
+    ensures { result ≡ ready.local_slot method.now number }
 {
     match method.locals.as_slice().get(number as usize) {
         Some(local) => local.0.slot,

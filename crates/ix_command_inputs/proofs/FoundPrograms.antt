@@ -2,7 +2,7 @@
 use Rattle.std.proofs.Common.{◌≡◌, ℕ, ◌≤◌, List, length, Ok, Err, refl, sym, subst}
 use Rattle.ix_core.specs.declared.program.Program.{Program}
 use Rattle.ix_core.specs.Formed.{Formed}
-use Rattle.ix_apart.specs.Judged.{CanCheck}
+use Rattle.ix_core.specs.Ready.{CanCheck}
 use Rattle.ix_lexer.specs.declared.token.Token.{Token}
 use Rattle.ix_lexer.specs.Spans.{InOrder}
 use Rattle.ix_lexer.specs.Tokens.{Tokens, most_tokens}

@@ -2,7 +2,7 @@
 use Rattle.std.specs.Prelude.{ℕ, ◌≤◌}
 use Rattle.ix_core.specs.Formed.{Formed}
 use Rattle.ix_core.specs.CodePlaces.{PlacesWithin}
-use Rattle.ix_apart.specs.Judged.{CanCheck}
+use Rattle.ix_core.specs.Ready.{CanCheck}
 use Rattle.ix_report.specs.Names.{StartWithin}
 use Rattle.ix_command_inputs.specs.declared.finding.Finding.{Finding as Seen}
 use Rattle.ix_command_inputs.specs.declared.finding.Finding.TheVariants as code

@@ -7,4 +7,3 @@ pub mod Promise
 pub mod Findings
 -- What is passed on of what is asked of a program that is found.
 pub use Rattle.ix_core.specs.CodePlaces
-pub use Rattle.ix_apart.specs.Judged

@@ -32,3 +32,5 @@ pub use Rattle.ix_text.specs.declared.span.Span
 -- What holds of the places in a program, and of the place where a run stops.
 pub mod CodePlaces
 pub mod EndingPlaces
+-- What is asked of a program that is checked.
+pub mod Ready

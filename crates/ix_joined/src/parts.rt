@@ -4,7 +4,7 @@ ghost use Rattle.ix_core.specs.declared.error.Error.{Error as Found};
 ghost use Rattle.ix_core.specs.Formed.{Formed};
 ghost use Rattle.ix_core.specs.Tables.{method_at};
 ghost use Rattle.ix_check.specs.Exactly.{AreExactly};
-ghost use Rattle.ix_check.specs.Judged.{CanCheck};
+ghost use Rattle.ix_core.specs.Ready.{CanCheck};
 ghost use Rattle.ix_check.specs.MethodErrors.{IsReady, IsError};
 ghost use Rattle.ix_joined.specs.Parts as spec;
 ghost use Rattle.ix_joined.specs.Parts.{IsErrorOfPart, IsErrorBefore, IsErrorBehind};

@@ -20,7 +20,8 @@ use Rattle.ix_core.specs.Types.{is_type}
 use Rattle.ix_core.proofs.Cases.{by_test}
 use Rattle.ix_core.proofs.FormedParts.{locals_of, method_is, field_listed, flat_parts}
 use Rattle.ix_core.proofs.TypedCalls.{method_has, params_count}
-use Rattle.ix_steps.specs.MachineSteps.{own_path, local_slot}
+use Rattle.ix_steps.specs.MachineSteps.{own_path}
+use Rattle.ix_core.specs.Ready.{local_slot}
 use Rattle.ix_claim_facts.specs.Names.{object_path}
 use Rattle.ix_least.specs.Within.{is_inside}
 use Rattle.ix_least.proofs.Claims.{AllNamed}

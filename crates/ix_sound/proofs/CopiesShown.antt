@@ -27,13 +27,13 @@ use Rattle.ix_core.proofs.FormedParts.{locals_of, method_is}
 use Rattle.ix_facts.specs.Facts.{AllHold}
 use Rattle.ix_facts.specs.Forget.{SameBut, of_slot}
 use Rattle.ix_facts.specs.Stores.{Stored, Meets}
-use Rattle.ix_steps.specs.MachineSteps.{on_paths, own_path, reading_at, local_slot}
+use Rattle.ix_steps.specs.MachineSteps.{on_paths, own_path, reading_at}
+use Rattle.ix_core.specs.Ready.{local_slot, LocalsApart}
 use Rattle.ix_sign.specs.Names.{variable_at, param_in, local_in, or_else}
 use Rattle.ix_sign.specs.SignErrors.{Refuses}
 use Rattle.ix_sign.specs.Signs.{claims_facts}
 use Rattle.ix_sign.specs.MethodRules.{variable_claims, copied_claims}
 use Rattle.ix_sign.specs.RuleErrors.{AssignClaim, subject_of}
-use Rattle.ix_sound.specs.Sound.{LocalsApart}
 use Rattle.ix_sound.proofs.ClaimTruths.{claims_hold, each_true, none_fails}
 use Rattle.ix_sound.proofs.NamedClaims.{HasType, MayName, claims_named, param_names, count_params, other_type, no_type}
 use Rattle.ix_sound.proofs.Stable.{unrefused}

@@ -52,7 +52,7 @@ use Rattle.ix_sound.specs.Direct.{direct}
 use Rattle.ix_sound.specs.Errors.{NoErrors}
 use Rattle.ix_sound.specs.Known.{Here, LastHolds, MeetsHere, knowledge}
 use Rattle.ix_sound.specs.Making.{Stage, with_types, StageFits, StageStays}
-use Rattle.ix_sound.specs.Sound.{LocalsApart}
+use Rattle.ix_core.specs.Ready.{LocalsApart}
 use Rattle.ix_sound.proofs.CallMoves.{static_shown, instance_shown, new_shown, super_shown}
 use Rattle.ix_sound.proofs.ChainMoves.{code_flowing, if_flowing, condition_flowing, head_flowing, again_flowing, loop_flowing}
 use Rattle.ix_sound.proofs.LastDone.{nothing_done, written_by}

@@ -33,7 +33,8 @@ use Rattle.ix_sound.specs.Clean.{IsClean}
 use Rattle.ix_sound.specs.Direct.{direct}
 use Rattle.ix_sound.specs.Errors.{NoErrors}
 use Rattle.ix_sound.specs.Known.{Known, Anything, Here, Behind, FineFrom, HoldsFor, known_at, knowledge, stage_behind}
-use Rattle.ix_sound.specs.Sound.{HasNoErrors, LocalsApart}
+use Rattle.ix_sound.specs.Sound.{HasNoErrors}
+use Rattle.ix_core.specs.Ready.{LocalsApart}
 use Rattle.ix_sound.proofs.AfterCalls.{behind_holds}
 use Rattle.ix_sound.proofs.ChainMoves.{code_flowing}
 use Rattle.ix_sound.proofs.CleanTexts.{each_clean}

@@ -38,7 +38,7 @@ use Rattle.ix_sound.specs.Errors.{NoErrors, NoKindErrors}
 use Rattle.ix_sound.specs.Known.{Here, LastHolds, MeetsHere, FineHere, knowledge}
 use Rattle.ix_sound.specs.Making.{Stage, Plain, Making, with_types, MakingFits, StageFits, StageHolds}
 use Rattle.ix_sound.specs.Shown.{Takes}
-use Rattle.ix_sound.specs.Sound.{LocalsApart}
+use Rattle.ix_core.specs.Ready.{LocalsApart}
 use Rattle.ix_sound.proofs.FormedOperations.{takes, ints_only}
 use Rattle.ix_sound.proofs.LastDone.{no_call_tells, written_by}
 use Rattle.ix_sound.proofs.OperationShown.{shown_of}

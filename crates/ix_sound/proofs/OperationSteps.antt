@@ -32,7 +32,7 @@ use Rattle.ix_sign.specs.MethodRules.{KindGives, copied_claims}
 use Rattle.ix_sound.specs.Direct.{direct}
 use Rattle.ix_sound.specs.Errors.{NoKindErrors}
 use Rattle.ix_sound.specs.Shown.{Takes}
-use Rattle.ix_sound.specs.Sound.{LocalsApart}
+use Rattle.ix_core.specs.Ready.{LocalsApart}
 use Rattle.ix_sound.proofs.CopiesShown.{copied_hold}
 use Rattle.ix_sound.proofs.FieldsShown.{adds_hold, read_holds, write_holds, not_own}
 use Rattle.ix_sound.proofs.OperationShown.{not_final}

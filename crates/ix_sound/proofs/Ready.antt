@@ -14,7 +14,7 @@ use Rattle.ix_core.specs.Types.{is_class}
 use Rattle.ix_core.proofs.Cases.{by_test}
 use Rattle.ix_core.proofs.FormedParts.{locals_of, method_is, posts_are, fields_all}
 use Rattle.ix_sound.specs.Naming.{HasSmallNames, HaveSmallNames}
-use Rattle.ix_sound.specs.Few.{HasFew}
+use Rattle.ix_core.specs.Ready.{HasFew}
 use Rattle.ix_sound.proofs.NamesInRange.{params_small, locals_small, result_small, promises_small, as_many_types, few_params, fields_small}
 
 module _ (program : Program) (formed : Formed program) where

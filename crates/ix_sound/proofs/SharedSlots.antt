@@ -19,7 +19,7 @@ use Rattle.ix_core.specs.declared.program.Program.{Program}
 use Rattle.ix_core.specs.Formed.{is_formed}
 use Rattle.ix_core.specs.Machine.{no_limits}
 use Rattle.ix_core.specs.Safe.{Ints, Begins, Safe}
-use Rattle.ix_sound.specs.Sound.{LocalsApart}
+use Rattle.ix_core.specs.Ready.{LocalsApart}
 use Rattle.ix_core.proofs.Programs.{span, int, int_array, block, does, does_with, param, local, static_method, constructor_of, class_of, program}
 
 -- static int f(int @MinLen(2) [] a) { int x = 0; @LTLengthOf(value = "a", offset = "x") int y = 1; return a[y + y]; }, with x and y in one slot

@@ -14,9 +14,5 @@ pub mod Known
 -- The promise.
 pub mod Sound
 pub mod Stands
--- What a formed program lacks.
-pub mod Few
--- What is asked of a program that is judged.
-pub mod Judged
 -- Passed on from ix_sign.
 pub use Rattle.ix_sign.specs.Naming

@@ -5,7 +5,7 @@ ghost use Rattle.std.specs.Option.{ForSome};
 ghost use Rattle.ix_core.specs.declared.program.Program.{Program};
 ghost use Rattle.ix_core.specs.Formed.{Formed};
 ghost use Rattle.ix_core.specs.Tables.{method_at};
-ghost use Rattle.ix_sound.specs.Few.{HasFew};
+ghost use Rattle.ix_core.specs.Ready.{HasFew};
 ghost use Rattle.ix_sound.specs.Naming.{HaveSmallNames};
 
 /// The claims of a formed program name parameters that are there, and parameters can be counted with 32 bits; so can locals and fields, where this is told.

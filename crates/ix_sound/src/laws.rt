@@ -6,7 +6,8 @@ ghost use Rattle.ix_core.specs.declared.fact.Profile.{Profile};
 ghost use Rattle.ix_core.specs.declared.program.Program.{Program};
 ghost use Rattle.ix_core.specs.Formed.{is_formed};
 ghost use Rattle.ix_core.specs.Safe.{Safe};
-ghost use Rattle.ix_sound.specs.Sound.{HasNoErrors, LocalsApart};
+ghost use Rattle.ix_sound.specs.Sound.{HasNoErrors};
+ghost use Rattle.ix_core.specs.Ready.{LocalsApart};
 
 /// A formed program in which the rules derive no error of any method is safe: no run of it indexes outside an array or makes one of negative length. The plain form doesn't ask that a
 /// claim on a local names no other local of the same slot; the promise does, and every program that comes of a source has it.

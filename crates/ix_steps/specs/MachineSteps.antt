@@ -1,5 +1,5 @@
 -- What ties the machine to the rules: when an operation is a step between the numbers of paths, and which claim on paths a claim is.
-use Rattle.std.specs.Prelude.{◌≡◌, ◌⊎◌, ℕ, ◌<◌, ◌==◌, unsigned_abs, Bool, true, ◌&&◌, List, [], length, slice_get, option_map, unwrap_or}
+use Rattle.std.specs.Prelude.{◌≡◌, ◌⊎◌, ℕ, ◌<◌, ◌==◌, unsigned_abs, Bool, true, ◌&&◌, List, [], length, slice_get}
 use Rattle.ix_core.specs.declared.claim.Claim.{Claim}
 use Rattle.ix_core.specs.declared.claim.Claim.TheVariants as claim
 use Rattle.ix_core.specs.declared.claim.Name.{Name}
@@ -22,6 +22,7 @@ use Rattle.ix_core.specs.Machine.{int_at}
 use Rattle.ix_core.specs.Numbers.{Numbers}
 use Rattle.ix_core.specs.Objects.{kind_claims}
 use Rattle.ix_facts.specs.AfterOperation.{loaded_claims}
+use Rattle.ix_core.specs.Ready.{local_slot}
 use Rattle.ix_core.specs.Tables.{param_slot}
 
 -- ---- operations
@@ -74,10 +75,6 @@ on_paths path (claim.Less name constant) = path_claim.Less (path name) constant
 on_paths path (claim.Upper array offset constant) = path_claim.Upper (path array) (path_offset path offset) constant
 on_paths path (claim.Search array) = path_claim.Search (path array)
 on_paths path (claim.Negative array) = path_claim.Negative (path array)
-
--- the slot of a local; 0 where the method has no such local
-abbrev pub local_slot : Method → ℕ → ℕ
-local_slot method number = unwrap_or (option_map (λ local. local.0.slot) (slice_get method.locals number)) 0
 
 -- Inside a method a parameter and a local have their own slots, and a field is one of the object in slot 0.
 abbrev pub own_path : Method → Name → Path

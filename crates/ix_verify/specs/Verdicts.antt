@@ -7,7 +7,7 @@ use Rattle.ix_core.specs.declared.program.Method.{Method}
 use Rattle.ix_core.specs.declared.program.Program.{Program}
 use Rattle.ix_facts.specs.Stores.{Stored}
 use Rattle.ix_cert.specs.Labellings.{IsLabelling, loops_of}
-use Rattle.ix_audit.specs.Sound.{LocalsApart}
+use Rattle.ix_core.specs.Ready.{LocalsApart}
 use Rattle.ix_audit.specs.declared.answer.Audit.TheVariants as audit
 use Rattle.ix_audit.specs.Audited.{CanAudit, IsAudit}
 use Rattle.ix_verify.specs.declared.answer.CertError.{CertError}
